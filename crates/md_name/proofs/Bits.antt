@@ -1,0 +1,106 @@
+-- What the code's steps on a word do to the set of its letters.
+use Rattle.std.proofs.Common.{◌≡◌, ◌≢◌, ℕ, ◌-◌, ◌*◌, ◌/◌, ◌%◌, ◌^◌, ◌<◌, Bool, true, false, ◌&&◌, ◌||◌, not, refl, sym, ap, ◌∙◌, arith, ⊎_elim}
+use Rattle.std.specs.Prelude.{◌==◌, nat_eq, min, bit_or, bit_and}
+use Rattle.std.proofs.lemmas.Bool.Decides.{nat_tests, eqb_tells}
+use Rattle.std.proofs.lemmas.Nat.Bits.{bit_at-zero, bit_at-lt, bit_at_or, bit_at_and, bit_at_not, shr_and_one, bit_at_set_same, bit_at_set_other}
+use Rattle.std.proofs.lemmas.Nat.{pow_below}
+use Rattle.std.proofs.Math.Nat.{mod-le}
+use Rattle.std.specs.Int.{bit_at, bit_not, w64}
+use Rattle.std.specs.Ordering.{nat_cmp}
+use Rattle.std.specs.Cmp.{nat_cmp_total, unsigned_tied}
+use Rattle.std.specs.FinSet as set
+use Rattle.md_name.specs.Letters.{is_letter, Set}
+use Rattle.md_name.specs.Words.{place_of, letters_in, contains-letters_in}
+
+same_set : (s t : Set) → ((c : ℕ) → set.contains s c ≡ set.contains t c) → s ≡ t
+same_set s t = set.same_set nat_cmp_total set.nat_cmp-IsAntisymmetric s t
+
+-- ---- no bits
+
+empty_bits : (c : ℕ) → (is_letter c && (bit_at 0 (place_of c) == 1)) ≡ false
+empty_bits c = let z = bit_at-zero (place_of c) in grind (arith, nat_tests)
+
+pub letters_in-zero : letters_in 0 ≡ set.empty
+letters_in-zero = same_set _ _ (λ c. contains-letters_in 0 c ∙ empty_bits c ∙ sym (set.contains-empty nat_cmp c))
+
+-- ---- the bits of two words
+
+or_bits : (a b c : ℕ) → (is_letter c && (bit_at (bit_or a b) (place_of c) == 1)) ≡ ((is_letter c && (bit_at a (place_of c) == 1)) || (is_letter c && (bit_at b (place_of c) == 1)))
+or_bits a b c =
+    let z = bit_at_or a b (place_of c) in
+    let l = bit_at-lt a (place_of c) in
+    let m = bit_at-lt b (place_of c) in
+    grind (arith, nat_tests)
+
+pub letters_in-or : (a b : ℕ) → letters_in (bit_or a b) ≡ set.union (letters_in a) (letters_in b)
+letters_in-or a b = same_set _ _ (λ c.
+    contains-letters_in (bit_or a b) c ∙ or_bits a b c
+    ∙ sym (set.contains-union nat_cmp_total (letters_in a) (letters_in b) c ∙ (λ i. contains-letters_in a c i || contains-letters_in b c i)))
+
+-- ---- the bits that another word lacks
+
+letter_place : (c : ℕ) → is_letter c ≡ true → place_of c < 64
+letter_place c e = grind (arith, nat_tests)
+
+kept : (x y z : ℕ) → x < 2 → y < 2 → z ≡ min x (1 - y) → (z == 1) ≡ ((x == 1) && not (y == 1))
+kept x y z h k e = grind (arith, nat_tests)
+
+kept_if : (l : Bool) (x y z : ℕ) → x < 2 → y < 2 → (l ≡ true → z ≡ min x (1 - y)) → (l && (z == 1)) ≡ ((l && (x == 1)) && not (l && (y == 1)))
+kept_if true x y z h k e = kept x y z h k (e refl)
+kept_if false x y z h k e = refl
+
+not_bits : (a b c : ℕ) → b < 2 ^ 64 → (is_letter c && (bit_at (bit_and a (bit_not w64 b)) (place_of c) == 1)) ≡ ((is_letter c && (bit_at a (place_of c) == 1)) && not (is_letter c && (bit_at b (place_of c) == 1)))
+not_bits a b c h =
+    kept_if (is_letter c) (bit_at a (place_of c)) (bit_at b (place_of c)) (bit_at (bit_and a (bit_not w64 b)) (place_of c))
+    (bit_at-lt a (place_of c)) (bit_at-lt b (place_of c))
+    (λ e. bit_at_and a (bit_not w64 b) (place_of c) ∙ ap (min (bit_at a (place_of c))) (bit_at_not w64 b (place_of c) h (letter_place c e)))
+
+pub letters_in-and_not : (a b : ℕ) → b < 2 ^ 64 → letters_in (bit_and a (bit_not w64 b)) ≡ set.difference (letters_in a) (letters_in b)
+letters_in-and_not a b h = same_set _ _ (λ c.
+    contains-letters_in (bit_and a (bit_not w64 b)) c ∙ not_bits a b c h
+    ∙ sym (set.contains-difference nat_cmp_total (letters_in a) (letters_in b) c ∙ (λ i. contains-letters_in a c i && not (contains-letters_in b c i))))
+
+-- ---- the bit of one letter
+
+pub has_bit : (w k c : ℕ) → true ≡ is_letter c → k ≡ place_of c → nat_eq (bit_and (w / 2 ^ k) 1) 1 ≡ (is_letter c && (bit_at w (place_of c) == 1))
+has_bit w k c is e =
+    ap (λ b. nat_eq b 1) (shr_and_one w k) ∙ ap (λ i. nat_eq (bit_at w i) 1) e ∙ ap (λ b. b && (bit_at w (place_of c) == 1)) is
+
+pub no_letter : (b : Bool) (w c : ℕ) → false ≡ is_letter c → b ≡ false → b ≡ (is_letter c && (bit_at w (place_of c) == 1))
+no_letter b w c other e = e ∙ ap (λ t. t && (bit_at w (place_of c) == 1)) other
+
+place_apart : (q c : ℕ) → is_letter q ≡ true → is_letter c ≡ true → q ≢ c → place_of q ≢ place_of c
+place_apart q c a b ne e = grind (arith, nat_tests)
+
+-- ---- a word with the bit of one letter more
+
+-- the word of the letter c alone
+abbrev pub bit_of : ℕ → ℕ
+bit_of c = 1 * 2 ^ place_of c % 2 ^ 64
+
+same_letter : (w c : ℕ) → is_letter c ≡ true → (is_letter c && (bit_at (bit_or w (bit_of c)) (place_of c) == 1)) ≡ true
+same_letter w c e =
+    ap (λ b. b && (bit_at (bit_or w (bit_of c)) (place_of c) == 1)) e
+    ∙ ap (λ n. n == 1) (bit_at_set_same w64 w (place_of c) (letter_place c e))
+
+other_letter : (w c q : ℕ) (b : Bool) → is_letter q ≡ b → is_letter c ≡ true → q ≢ c
+    → (b && (bit_at (bit_or w (bit_of c)) (place_of q) == 1)) ≡ (b && (bit_at w (place_of q) == 1))
+other_letter w c q false a e ne = refl
+other_letter w c q true a e ne = ap (λ n. n == 1) (bit_at_set_other w64 w (place_of c) (letter_place c e) (place_of q) (place_apart q c a e ne))
+
+insert_bits : (w c q : ℕ) → is_letter c ≡ true
+    → (is_letter q && (bit_at (bit_or w (bit_of c)) (place_of q) == 1)) ≡ (nat_eq q c || (is_letter q && (bit_at w (place_of q) == 1)))
+insert_bits w c q e =
+    ⊎_elim
+    (λ h. ap (λ x. is_letter x && (bit_at (bit_or w (bit_of c)) (place_of x) == 1)) h.1 ∙ same_letter w c e
+    ∙ sym (ap (λ t. t || (is_letter q && (bit_at w (place_of q) == 1))) h.0))
+    (λ h. other_letter w c q (is_letter q) refl e h.1 ∙ sym (ap (λ t. t || (is_letter q && (bit_at w (place_of q) == 1))) h.0))
+    (eqb_tells q c)
+
+pub letters_in-insert : (w c : ℕ) → is_letter c ≡ true → letters_in (bit_or w (bit_of c)) ≡ set.insert (letters_in w) c
+letters_in-insert w c e = same_set _ _ (λ q.
+    contains-letters_in (bit_or w (bit_of c)) q ∙ insert_bits w c q e
+    ∙ sym (set.contains-insert nat_cmp_total (letters_in w) c q ∙ (λ i. unsigned_tied q c i || contains-letters_in w q i)))
+
+pub bit_of-within : (k : ℕ) → k < 52 → 1 * 2 ^ k % 2 ^ 64 < 2 ^ 52
+bit_of-within k h = let small = pow_below k 52 h in let part = mod-le (1 * 2 ^ k) (2 ^ 64) in omega arith

@@ -1,0 +1,7 @@
+pub mod Bits
+pub mod Colons
+pub mod Digits
+pub mod Flagged
+pub mod Hosts
+pub mod Made
+pub mod Sets

@@ -1,0 +1,4 @@
+pub mod Letters
+pub mod Names
+pub mod Made
+pub mod Words

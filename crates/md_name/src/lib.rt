@@ -1,0 +1,21 @@
+//! The names of the files of a maildir.
+//!
+//! A name in `new` or `cur` is a unique name and, after a colon, the info: `1000.M5P7Q1.host:2,FS` is
+//! the message `1000.M5P7Q1.host`, flagged and seen. This crate reads such names, writes them, makes
+//! unique names for new messages, and keeps the flags of a message as a set of letters in one word.
+//! The rules are those of maildir(5) of qmail and of "Using maildir format".
+#![tactic(auto)]
+
+mod error;
+mod flags;
+mod info;
+pub mod laws;
+mod unique;
+
+pub use error::NameError;
+pub use flags::Flags;
+pub use info::{Info, split, with_flags};
+pub use unique::{UniqueParts, is_unique_name, make_unique};
+
+#[cfg(test)]
+mod tests;
