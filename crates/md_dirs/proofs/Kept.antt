@@ -1,0 +1,121 @@
+-- What the calls leave of rows in order, and of what they mean.
+use Rattle.std.proofs.Common.{ℕ, ◌≡◌, ◌≢◌, List, [], Option, Some, None, Bool, true, false, cond, not, IsTrue, Ok, Err, insert, remove, refl, sym, ap, subst, ◌∙◌, length}
+use Rattle.std.specs.Ordering.{eq_by_cmp}
+use Rattle.std.specs.Cmp.{eq_by_cmp_equiv}
+use Rattle.std.specs.FinMap as finmap
+use Rattle.std.specs.FinMap.{find, is_sorted, same_map, same_entries_map, get-from_sorted, entries-from_sorted, entries-insert, get-remove, from_sorted, empty_of_len, len-entries}
+use Rattle.std.specs.FinMap.Entries.{put, where_key, is_sorted-put, is_sorted-where_key, find-where_key}
+use Rattle.md_dirs.specs.Path.{path_cmp}
+use Rattle.md_dirs.specs.Plain.{IsAt, IsGap}
+use Rattle.md_dirs.specs.State.{State, IsSound, file_at, bare}
+use Rattle.md_dirs.specs.Calls.{Ask, Obeys, released, swept}
+use Rattle.md_dirs.specs.Plain.{IsWhole, state_of}
+use Rattle.md_dirs.specs.declared.paths.Path.{Path}
+use Rattle.md_dirs.specs.declared.paths.File.{File}
+use Rattle.md_dirs.specs.declared.calls.DirError.{DirError}
+use Rattle.md_dirs.specs.declared.calls.DirError.TheVariants.{Exists, NotFound, Fault, NoMemory}
+use Rattle.md_dirs.proofs.PathOrder.{path_total, path_exact}
+use Rattle.md_dirs.proofs.Sorted.{holds, is_true}
+use Rattle.md_dirs.proofs.Sound.{sound-bare}
+
+abbrev Sorted : List (Path × ℕ) → Type 0
+Sorted es = IsTrue (is_sorted path_cmp es)
+
+pub sorted-insert : (rows : List (Path × ℕ)) (p : Path) (i n : ℕ) → Sorted rows → IsGap rows p i → Sorted (insert rows i (p, n))
+sorted-insert rows p i n sorted gap = subst Sorted (gap.placed n) (is_true _ (is_sorted-put path_cmp path_total p n rows (holds _ sorted)))
+
+pub names-insert : (rows : List (Path × ℕ)) (p : Path) (i n : ℕ) → Sorted rows → IsGap rows p i → from_sorted {R = path_cmp} (insert rows i (p, n)) ≡ finmap.insert (from_sorted rows) p n
+names-insert rows p i n sorted gap =
+    same_entries_map _ _ (entries-from_sorted path_cmp _ (holds _ (sorted-insert rows p i n sorted gap)) ∙ sym (gap.placed n)
+    ∙ ap (put path_cmp p n) (sym (entries-from_sorted path_cmp rows (holds _ sorted))) ∙ sym (entries-insert path_total (from_sorted rows) p n))
+
+pub sorted-remove : (rows : List (Path × ℕ)) (p : Path) (i : ℕ) → Sorted rows → IsAt rows p i → Sorted (remove rows i)
+sorted-remove rows p i sorted at = subst Sorted at.taken_out (is_true _ (is_sorted-where_key path_cmp (λ q. not (eq_by_cmp path_cmp p q)) rows (holds _ sorted)))
+
+turned : (b : Bool) (x y : Option ℕ) → cond (not b) x y ≡ cond b y x
+turned true x y = refl
+turned false x y = refl
+
+pub at-names : (rows : List (Path × ℕ)) (p : Path) → Sorted rows → finmap.get (from_sorted {R = path_cmp} rows) p ≡ find path_cmp p rows
+at-names rows p sorted = get-from_sorted path_cmp rows p (holds _ sorted)
+
+find-other : (p q : Path) (rows : List (Path × ℕ)) → find path_cmp q (where_key path_cmp (λ x. not (eq_by_cmp path_cmp p x)) rows) ≡ cond (eq_by_cmp path_cmp q p) None (find path_cmp q rows)
+find-other p q rows =
+    find-where_key path_cmp (λ x. not (eq_by_cmp path_cmp p x)) q (λ x h. ap (λ y. not (eq_by_cmp path_cmp p y)) (sym (path_exact q x h))) rows
+    ∙ turned (eq_by_cmp path_cmp p q) (find path_cmp q rows) None
+    ∙ ap (λ b. cond b None (find path_cmp q rows)) ((eq_by_cmp_equiv path_total).symm p q)
+
+pub names-remove : (rows : List (Path × ℕ)) (p : Path) (i : ℕ) → Sorted rows → IsAt rows p i → from_sorted {R = path_cmp} (remove rows i) ≡ finmap.remove (from_sorted rows) p
+names-remove rows p i sorted at =
+    same_map path_total path_exact _ _ (λ q.
+    get-from_sorted path_cmp (remove rows i) q (holds _ (sorted-remove rows p i sorted at)) ∙ ap (find path_cmp q) (sym at.taken_out)
+    ∙ find-other p q rows ∙ ap (λ o. cond (eq_by_cmp path_cmp q p) None o) (sym (at-names rows q sorted)) ∙ sym (get-remove path_total (from_sorted rows) p q))
+
+-- a call that is refused
+pub refused : {T : Type 0} (ask : Ask) (old : State) (f : ℕ) (e : DirError) → ask.refusal old ≡ Some e → e ≢ Fault → e ≢ NoMemory → Obeys {T = T} ask old f (Err e) old f
+refused ask old f e is not_fault not_memory = record {
+  accepted = tt;
+  done = tt;
+  exists = λ h. let g : e ≡ Exists = cc in is ∙ ap Some g;
+  not_found = λ h. let g : e ≡ NotFound = cc in is ∙ ap Some g;
+  no_memory = λ h. let g : e ≡ NoMemory = cc in absurd (not_memory g);
+  unchanged = refl;
+  failed = λ h. let g : e ≡ Fault = cc in absurd (not_fault g);
+  not_failed = λ _. refl;
+}
+
+-- a call that found no memory
+pub wanting : {T : Type 0} (ask : Ask) (old : State) (f : ℕ) → ask.refusal old ≡ None → Obeys {T = T} ask old f (Err NoMemory) old f
+wanting ask old f is = record {
+  accepted = tt;
+  done = tt;
+  exists = λ h. cc;
+  not_found = λ h. cc;
+  no_memory = λ h. is;
+  unchanged = refl;
+  failed = λ h. cc;
+  not_failed = λ _. refl;
+}
+
+-- a call that is made
+pub made : {T : Type 0} (ask : Ask) (old : State) (f : ℕ) (x : T) (new : State) → ask.refusal old ≡ None → new ≡ ask.after old → Obeys ask old f (Ok x) new f
+made ask old f x new is after = record {
+  accepted = is;
+  done = after;
+  exists = λ h. cc;
+  not_found = λ h. cc;
+  no_memory = λ h. is;
+  unchanged = tt;
+  failed = λ h. cc;
+  not_failed = λ _. refl;
+}
+
+-- what the rows of a whole state say of a path
+pub found : (folders : ℕ) (rows : List (Path × ℕ)) (files : List (Option File)) (p : Path) → IsWhole folders rows files → file_at (state_of folders rows files) p ≡ find path_cmp p rows
+found folders rows files p whole = at-names rows p whole.sorted
+
+-- rows and files that are a sound state
+pub whole-of : (folders : ℕ) (rows : List (Path × ℕ)) (files : List (Option File)) (s : State) → Sorted rows → state_of folders rows files ≡ s → IsSound s → IsWhole folders rows files
+whole-of folders rows files s sorted is sound = record { sorted = sorted; sound = subst IsSound (sym is) sound }
+
+-- giving a file back, as the rows have it
+pub released-is : (folders : ℕ) (rows : List (Path × ℕ)) (files : List (Option File)) (o : Option ℕ) → Sorted rows → state_of folders rows (released rows o files) ≡ swept o (state_of folders rows files)
+released-is folders rows files o sorted =
+    (λ k. record { folders = folders; names = from_sorted rows; files = released (sym (entries-from_sorted path_cmp rows (holds _ sorted)) k) o files })
+
+-- no row
+pub state_of-none : (folders : ℕ) → state_of folders [] [] ≡ bare folders
+state_of-none folders =
+    let none : finmap.entries (from_sorted {R = path_cmp} []) ≡ [] = entries-from_sorted path_cmp [] tt in
+    (λ i. record { folders = folders; names = empty_of_len (from_sorted {R = path_cmp} []) (len-entries (from_sorted {R = path_cmp} []) ∙ ap length none) i; files = [] })
+
+pub whole-none : (folders : ℕ) → IsWhole folders [] []
+whole-none folders = whole-of folders [] [] (bare folders) refl (state_of-none folders) (sound-bare folders)
+
+pub sorted-put : (rows : List (Path × ℕ)) (p : Path) (n : ℕ) → Sorted rows → Sorted (put path_cmp p n rows)
+sorted-put rows p n sorted = is_true _ (is_sorted-put path_cmp path_total p n rows (holds _ sorted))
+
+pub names-put : (rows : List (Path × ℕ)) (p : Path) (n : ℕ) → Sorted rows → from_sorted {R = path_cmp} (put path_cmp p n rows) ≡ finmap.insert (from_sorted rows) p n
+names-put rows p n sorted =
+    same_entries_map _ _ (entries-from_sorted path_cmp _ (holds _ (sorted-put rows p n sorted))
+    ∙ ap (put path_cmp p n) (sym (entries-from_sorted path_cmp rows (holds _ sorted))) ∙ sym (entries-insert path_total (from_sorted rows) p n))

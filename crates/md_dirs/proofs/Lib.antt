@@ -1,0 +1,10 @@
+pub mod PathOrder
+pub mod Maps
+pub mod Among
+pub mod Sorted
+pub mod Sound
+pub mod Kept
+pub mod Steps
+pub mod Rowed
+pub mod Filled
+pub mod Lawful

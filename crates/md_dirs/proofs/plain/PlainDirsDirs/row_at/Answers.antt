@@ -1,0 +1,22 @@
+use Rattle.std.proofs.Common.{sym}
+use Rattle.md_dirs.proofs.Rowed.{row-filed, none-shown, some-shown}
+use Rattle.md_dirs.proofs.plain.PlainDirsDirs.row_at.Goals as goal
+
+pub returns-in_err-row : goal.returns-in_err-row
+returns-in_err-row c =
+    let s = c.self.inside in
+    let none = rw c.deref.ensures.value at c.in_err-row.ensures in
+    rw (c.from_residual.ensures, ← c.self.view_is) (none-shown s.folders s.rows.items s.files.items c.args.folder c.args.place c.args.at c.self.invariant (sym none))
+
+pub row_of-requires : goal.row_of-requires
+row_of-requires c =
+    let s = c.self.inside in
+    let some = rw c.deref.ensures.value at c.in_ok-row.ensures in
+    rw c.deref-2.ensures.value (row-filed s.folders s.rows.items s.files.items c.args.folder c.args.place c.args.at c.self.invariant c.in_ok-row.row.now (sym some))
+
+pub returns : goal.returns
+returns c =
+    let s = c.self.inside in
+    let some = rw c.deref.ensures.value at c.in_ok-row.ensures in
+    rw (c.row_of.ensures, c.deref-2.ensures.value, ← c.self.view_is)
+    (some-shown s.folders s.rows.items s.files.items c.args.folder c.args.place c.args.at c.self.invariant c.in_ok-row.row.now (sym some))

@@ -1,0 +1,130 @@
+-- The six directory calls, each as its refusal and the state after it.
+use Rattle.std.specs.Prelude.{ℕ, ◌≡◌, ◌+◌, ◌==◌, List, [], ◌∷◌, ◌++◌, Option, Some, None, Bool, false, Result, OnOk, OnErr, IsErrOf, if◌then◌else◌, nat_lt, slice_set, length, is_some}
+use Rattle.std.specs.List.{list_any}
+use Rattle.std.specs.FinMap as finmap
+use Rattle.md_dirs.specs.State.{State, file_at, file_by, has_folder}
+use Rattle.md_dirs.specs.declared.paths.Path.{Path}
+use Rattle.md_dirs.specs.declared.paths.Place.{Place}
+use Rattle.md_dirs.specs.declared.paths.File.{File}
+use Rattle.md_dirs.specs.declared.calls.DirError.{DirError}
+use Rattle.md_dirs.specs.declared.calls.DirError.TheVariants.{Exists, NotFound, Fault, NoMemory}
+
+-- A directory call: where it is refused, and the state after it where it is not.
+pub record Ask : Type 0 where
+  pub refusal : State → Option DirError
+  pub after : State → State
+
+-- What a call may answer, and what it then leaves. A failure of the directories and a want of memory may stand in place of its answer.
+pub record Obeys {T : Type 0} (ask : Ask) (old : State) (failures : ℕ) (answer : Result T DirError) (new : State) (failures' : ℕ) : Type 0 where
+  pub accepted : OnOk answer (ask.refusal old ≡ None)
+  pub done : OnOk answer (new ≡ ask.after old)
+  pub exists : IsErrOf answer Exists → ask.refusal old ≡ Some Exists
+  pub not_found : IsErrOf answer NotFound → ask.refusal old ≡ Some NotFound
+  -- want of memory comes after the other checks
+  pub no_memory : IsErrOf answer NoMemory → ask.refusal old ≡ None
+  pub unchanged : OnErr answer (new ≡ old)
+  -- a fault is a new failure, and nothing else is
+  pub failed : IsErrOf answer Fault → failures' ≡ failures + 1
+  pub not_failed : (IsErrOf answer Fault → ⊥) → failures' ≡ failures
+
+-- the state with a new file, under its first name
+abbrev pub placed : Path → File → State → State
+placed p file s = record s { names = finmap.insert s.names p (length s.files); files = s.files ++ Some file ∷ [] }
+
+-- a new file: NotFound without the folder, Exists at a name that is there
+abbrev pub make : Path → File → Ask
+make p file = record {
+  refusal = λ s. if has_folder s p then (if is_some (file_at s p) then Some Exists else None) else Some NotFound;
+  after = placed p file;
+}
+
+-- a file with no bytes
+abbrev pub empty_file : ℕ → File
+empty_file now = record { bytes = []; stamp = now }
+
+abbrev pub created : Path → ℕ → State → State
+created p now = placed p (empty_file now)
+
+-- POSIX open with O_CREAT and O_EXCL: ENOENT without the folder, EEXIST at a name that is there; else a new empty file
+abbrev pub create : Path → ℕ → Ask
+create p now = make p (empty_file now)
+
+-- a file with more bytes at its end
+abbrev pub grown : List ℕ → ℕ → Option File → Option File
+grown more now None = None
+grown more now (Some file) = Some (record { bytes = file.bytes ++ more; stamp = now })
+
+-- the state with more bytes in the file of a number
+abbrev pub appended : List ℕ → ℕ → State → Option ℕ → State
+appended more now s None = s
+appended more now s (Some n) = record s { files = slice_set s.files n (grown more now (file_by s.files n)) }
+
+-- POSIX open with O_APPEND and write, by name: ENOENT without the name; else the bytes stand at the file's end
+abbrev pub append : Path → List ℕ → ℕ → Ask
+append p more now = record {
+  refusal = λ s. if is_some (file_at s p) then None else Some NotFound;
+  after = λ s. appended more now s (file_at s p);
+}
+
+-- the state with a path for the file of a number
+abbrev pub named : Path → State → Option ℕ → State
+named p s None = s
+named p s (Some n) = record s { names = finmap.insert s.names p n }
+
+-- POSIX link: ENOENT without the old name or the new folder, EEXIST at a new name that is there; else both name one file
+abbrev pub link : Path → Path → Ask
+link o n = record {
+  refusal = λ s. if is_some (file_at s o) then (if has_folder s n then (if is_some (file_at s n) then Some Exists else None) else Some NotFound) else Some NotFound;
+  after = λ s. named n s (file_at s o);
+}
+
+-- whether one of the paths names the file of a number
+abbrev pub is_named : List (Path × ℕ) → ℕ → Bool
+is_named names n = list_any (λ e. e.1 == n) names
+
+-- the files, without that of a number where no path names it
+abbrev pub released : List (Path × ℕ) → Option ℕ → List (Option File) → List (Option File)
+released names None files = files
+released names (Some n) files = if is_named names n then files else slice_set files n None
+
+-- the state, with the file of a number given back where no path names it
+abbrev pub swept : Option ℕ → State → State
+swept number s = record s { files = released (finmap.entries s.names) number s.files }
+
+-- the state without a path, and with all files
+abbrev pub unnamed : Path → State → State
+unnamed p s = record s { names = finmap.remove s.names p }
+
+-- whether both are the number of one file
+abbrev pub is_one_file : Option ℕ → Option ℕ → Bool
+is_one_file (Some a) (Some b) = a == b
+is_one_file a b = false
+
+-- o is gone and n names its file, and no longer the file that it named. Where both named one file, nothing changes
+abbrev pub moved : Path → Path → State → State
+moved o n s = if is_one_file (file_at s o) (file_at s n) then s else swept (file_at s n) (named n (unnamed o s) (file_at s o))
+
+-- POSIX rename: ENOENT without the old name or the new folder. It replaces its target
+abbrev pub rename : Path → Path → Ask
+rename o n = record {
+  refusal = λ s. if is_some (file_at s o) then (if has_folder s n then None else Some NotFound) else Some NotFound;
+  after = moved o n;
+}
+
+-- the state without a path, and without its file where that was the last
+abbrev pub without : Path → State → State
+without p s = swept (file_at s p) (unnamed p s)
+
+-- POSIX unlink: ENOENT without the name; else the name is gone, and with its last name the file
+abbrev pub unlink : Path → Ask
+unlink p = record {
+  refusal = λ s. if is_some (file_at s p) then None else Some NotFound;
+  after = without p;
+}
+
+-- POSIX opendir and readdir, at one moment: ENOENT without the folder. It changes nothing
+abbrev pub list : ℕ → Place → Ask
+list folder place = record {
+  refusal = λ s. if nat_lt folder s.folders then None else Some NotFound;
+  after = λ s. s;
+}

@@ -1,0 +1,32 @@
+-- What a directory shows: its names in order, each with its file's stamp and size.
+use Rattle.std.specs.Prelude.{ℕ, List, Option, Some, None, Bool, ◌==◌, ◌&&◌, map, filter, length}
+use Rattle.std.specs.FinMap as finmap
+use Rattle.md_dirs.specs.Path.{place_index}
+use Rattle.md_dirs.specs.State.{State, file_by}
+use Rattle.md_dirs.specs.declared.paths.Path.{Path}
+use Rattle.md_dirs.specs.declared.paths.Place.{Place}
+use Rattle.md_dirs.specs.declared.paths.File.{File}
+use Rattle.md_dirs.specs.declared.rows.Row.{Row}
+use Rattle.md_dirs.specs.declared.rows.RowRef.{RowRef}
+
+-- a row whose name was lent
+abbrev pub row_shown : RowRef → Row
+row_shown r = record { name = r.name.now; stamp = r.stamp; size = r.size }
+
+-- the row of a name and its file. A name without a file is in no sound state
+abbrev pub row_by : List ℕ → Option File → Row
+row_by name None = record { name = name; stamp = 0; size = 0 }
+row_by name (Some file) = record { name = name; stamp = file.stamp; size = length file.bytes }
+
+-- the row of a path and the number of its file
+abbrev pub row_of : List (Option File) → Path × ℕ → Row
+row_of files e = row_by e.0.name (file_by files e.1)
+
+-- whether a path is in a directory
+abbrev pub is_in : ℕ → Place → Path → Bool
+is_in folder place p = p.folder == folder && place_index p.place == place_index place
+
+-- the rows of a directory, in order of the bytes of their names
+abbrev pub rows_of : State → ℕ → Place → List Row
+rows_of s folder place =
+    map (row_of s.files) (filter (λ e. is_in folder place e.0) (finmap.entries s.names))
