@@ -1,0 +1,129 @@
+-- One group more of a header section.
+use Rattle.std.proofs.Common.{◌≡◌, ℕ, Bool, true, false, List, [], ◌∷◌, ◌++◌, get_or, take, drop, Option, Some, None, refl, sym, ap, ◌∙◌, ⊎_elim, append-nil, cond}
+use Rattle.std.proofs.lemmas.Bool.{cases_Bool, false≢true}
+use Rattle.std.proofs.lemmas.List.Sums.{take_while-cons}
+use Rattle.std.specs.Prelude.{option_map}
+use Rattle.std.specs.Str.{str_eq_ignore_ascii_case}
+use Rattle.std.specs.List.{AllPass, take_while}
+use Rattle.md_head.specs.Header.{is_blank, is_some_line, is_continuation, lines_of, header_section}
+use Rattle.md_head.specs.Computed.{Grouped, grouped, groups_of, field_of, value_if, value_of, or_later, first_value, field_value}
+use Rattle.md_head.specs.Bodies.{body_value, or_this}
+use Rattle.md_head.specs.Scan.{EndsGroup}
+use Rattle.md_head.specs.declared.body.FieldBody.{FieldBody}
+use Rattle.md_head.proofs.Scans.{first_continues}
+use Rattle.md_head.proofs.Sections.{section_is, some_first}
+use Rattle.md_head.proofs.Groups.{grouped_nil, grouped_new, grouped_all, grouped_group}
+use Rattle.md_head.proofs.Firsts.{value_is, first_cons, first_nil}
+use Rattle.md_head.proofs.FieldLines.{no_field}
+use Rattle.md_head.proofs.GroupValues.{value_in, group_value}
+use Rattle.md_head.proofs.Alls.{pass_head, pass_tail, pass_cons}
+
+pub groups_is : (text : List ℕ) → groups_of text ≡ (grouped (header_section text)).groups
+unfolding groups_of
+groups_is text = refl
+
+-- a continuation isn't empty
+pub section_continues : (lines more : List (List ℕ)) → AllPass is_continuation lines → take_while is_some_line (lines ++ more) ≡ lines ++ take_while is_some_line more
+section_continues [] more h = refl
+section_continues ([] ∷ lines) more h = absurd (false≢true (pass_head is_continuation [] lines h))
+section_continues ((b ∷ line) ∷ lines) more h =
+    some_first b line (lines ++ more) ∙ ap (λ ls. (b ∷ line) ∷ ls) (section_continues lines more (pass_tail is_continuation (b ∷ line) lines h))
+
+-- the section of a text that begins with some lines, of which the first isn't empty
+section_group : (text rest first : List ℕ) (continuations : List (List ℕ)) → lines_of text ≡ (first ∷ continuations) ++ lines_of rest
+    → (header_section text ≡ [] → ⊥) → AllPass is_continuation continuations → header_section text ≡ first ∷ (continuations ++ header_section rest)
+section_group text rest [] continuations cut some h =
+    absurd (some (section_is text ∙ ap (take_while is_some_line) cut ∙ take_while-cons is_some_line [] (continuations ++ lines_of rest)))
+section_group text rest (b ∷ first) continuations cut some h =
+    section_is text ∙ ap (take_while is_some_line) cut ∙ some_first b first (continuations ++ lines_of rest)
+    ∙ ap (λ ls. (b ∷ first) ∷ ls) (section_continues continuations (lines_of rest) h ∙ sym (ap (λ ls. continuations ++ ls) (section_is rest)))
+
+-- a section that begins with no continuation has nothing in front of its groups
+pub nothing_in_front : (rest : List ℕ) → is_blank (get_or rest 0 0) ≡ false → (grouped (header_section rest)).front ≡ []
+nothing_in_front rest over = ap (λ ls. (grouped ls).front) (section_is rest) ∙ go (lines_of rest) refl
+  where
+    none : (lines : List (List ℕ)) → lines ≡ [] → (grouped lines).front ≡ []
+    none lines e = ap (λ ls. (grouped ls).front) e ∙ ap (λ (g : Grouped). g.front) grouped_nil
+
+    go : (lines : List (List ℕ)) → lines_of rest ≡ lines → (grouped (take_while is_some_line lines)).front ≡ []
+    go [] is = none [] refl
+    go ([] ∷ lines) is = none (take_while is_some_line ([] ∷ lines)) (take_while-cons is_some_line [] lines)
+    go ((b ∷ line) ∷ lines) is =
+        ap (λ ls. (grouped ls).front) (some_first b line lines)
+        ∙ ap (λ (g : Grouped). g.front) (grouped_new (b ∷ line) (take_while is_some_line lines) (first_continues rest (b ∷ line) lines is ∙ over))
+
+-- the groups of a section that begins with one, or with continuations of nothing
+value_step : (name first : List ℕ) (continuations lines : List (List ℕ)) → AllPass is_continuation continuations → (grouped lines).front ≡ []
+    → first_value name (grouped (first ∷ (continuations ++ lines))).groups
+    ≡ or_later (value_of name (record { first = first; continuations = continuations })) (first_value name (grouped lines).groups)
+value_step name first continuations lines h front =
+    ⊎_elim
+    (λ goes_on.
+    ap (λ (g : Grouped). first_value name g.groups) (grouped_all (first ∷ continuations) lines (pass_cons is_continuation first continuations goes_on h))
+    ∙ sym (ap (λ v. or_later v (first_value name (grouped lines).groups)) (no_value goes_on)))
+    (λ begins.
+    ap (λ (g : Grouped). first_value name g.groups) (grouped_group first continuations lines begins h)
+    ∙ ap (λ (ls : List (List ℕ)). first_value name (record { first = first; continuations = ls } ∷ (grouped lines).groups))
+    (ap (λ ls. continuations ++ ls) front ∙ append-nil continuations)
+    ∙ first_cons name (record { first = first; continuations = continuations }) (grouped lines).groups)
+    (cases_Bool (is_continuation first))
+  where
+    no_value : is_continuation first ≡ true → value_of name (record { first = first; continuations = continuations }) ≡ None
+    no_value goes_on = value_is name (record { first = first; continuations = continuations }) ∙ ap (value_if name continuations) (no_field first goes_on)
+
+-- the first value of a name, by the bytes of the first group
+pub step : (name text : List ℕ) (n : ℕ) → (header_section text ≡ [] → ⊥) → EndsGroup text n
+    → field_value name text ≡ or_later (value_in name (field_of (take n text))) (field_value name (drop n text))
+step name text n some ends =
+    let one = ends.one in
+    let rest = drop n text in
+    let cut = ends.cut ∙ ap (λ ls. ls ++ lines_of rest) one.all_lines in
+    let front = nothing_in_front rest ends.over in
+    ap (first_value name) (groups_is text)
+    ∙ ap (λ ls. first_value name (grouped ls).groups) (section_group text rest one.first one.continuations cut some one.goes_on)
+    ∙ value_step name one.first one.continuations (header_section rest) one.goes_on front
+    ∙ ap (λ v. or_later v (first_value name (grouped (header_section rest)).groups)) (group_value (take n text) one.first one.continuations name one.all_lines)
+    ∙ sym (ap (λ gs. or_later (value_in name (field_of (take n text))) (first_value name gs)) (groups_is rest))
+
+-- ---- what the loop over groups keeps of a name
+
+found_more : (found : Option FieldBody) (named : Bool) (body : FieldBody) (later : Option (List ℕ))
+    → or_later (option_map body_value (or_this found named body)) later ≡ or_later (option_map body_value found) (or_later (cond named (Some (body_value body)) None) later)
+found_more (Some found) named body later = refl
+found_more None true body later = refl
+found_more None false body later = refl
+
+-- a field more
+pub kept_field : (name message text rest : List ℕ) (n : ℕ) (found : Option FieldBody) (here : List ℕ) (body : FieldBody) → (header_section text ≡ [] → ⊥) → EndsGroup text n
+    → rest ≡ drop n text → Some (here, body.folded.now) ≡ field_of (take n text)
+    → or_later (option_map body_value found) (field_value name text) ≡ field_value name message
+    → or_later (option_map body_value (or_this found (str_eq_ignore_ascii_case here name) body)) (field_value name rest) ≡ field_value name message
+kept_field name message text rest n found here body some ends left field kept =
+    found_more found (str_eq_ignore_ascii_case here name) body (field_value name rest)
+    ∙ ap (λ t. or_later (option_map body_value found) (or_later (value_in name (Some (here, body.folded.now))) (field_value name t))) left
+    ∙ ap (λ f. or_later (option_map body_value found) (or_later (value_in name f) (field_value name (drop n text)))) field
+    ∙ sym (ap (or_later (option_map body_value found)) (step name text n some ends))
+    ∙ kept
+
+-- lines more that are none
+pub kept_none : (name message text rest : List ℕ) (n : ℕ) (found : Option FieldBody) → (header_section text ≡ [] → ⊥) → EndsGroup text n
+    → rest ≡ drop n text → None ≡ field_of (take n text)
+    → or_later (option_map body_value found) (field_value name text) ≡ field_value name message
+    → or_later (option_map body_value found) (field_value name rest) ≡ field_value name message
+kept_none name message text rest n found some ends left field kept =
+    ap (λ t. or_later (option_map body_value found) (field_value name t)) left
+    ∙ ap (λ f. or_later (option_map body_value found) (or_later (value_in name f) (field_value name (drop n text)))) field
+    ∙ sym (ap (or_later (option_map body_value found)) (step name text n some ends))
+    ∙ kept
+
+-- the end of the section
+pub kept_over : (name message text : List ℕ) (found : Option FieldBody) → header_section text ≡ []
+    → or_later (option_map body_value found) (field_value name text) ≡ field_value name message → option_map body_value found ≡ field_value name message
+kept_over name message text found over kept =
+    let none : field_value name text ≡ None =
+    ap (first_value name) (groups_is text ∙ ap (λ ls. (grouped ls).groups) over ∙ ap (λ (g : Grouped). g.groups) grouped_nil) ∙ first_nil name in
+    sym (last (option_map body_value found)) ∙ ap (or_later (option_map body_value found)) (sym none) ∙ kept
+  where
+    last : (v : Option (List ℕ)) → or_later v None ≡ v
+    last None = refl
+    last (Some value) = refl

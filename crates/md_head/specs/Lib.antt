@@ -1,0 +1,9 @@
+pub mod Header
+pub mod Values
+pub mod Dates
+pub mod Computed
+pub mod Bodies
+pub mod Scan
+pub mod Summaries
+pub mod Laws
+pub use Rattle.jiff_fmt.specs.Rfc2822

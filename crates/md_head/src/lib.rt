@@ -1,0 +1,26 @@
+//! A summary of a mail message's header: the values of its Subject, From, Message-ID and Date fields, and the instant of the date.
+//!
+//! The header is read by the rules of RFC 5322, its obsolete syntax included, and no message is refused: what is no field is passed over.
+//! Values are bytes, as they stand in the message: encoded words and charsets are left as they are.
+#![tactic(auto)]
+
+mod body;
+mod date;
+mod error;
+mod field;
+mod header;
+pub mod laws;
+mod line;
+mod read;
+mod shown;
+mod value;
+
+pub use body::FieldBody;
+pub use error::HeadError;
+pub use header::{HeaderFields, header_fields};
+pub use read::summary;
+pub use shown::Summary;
+pub use value::FieldValue;
+
+#[cfg(test)]
+mod tests;

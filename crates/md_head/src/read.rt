@@ -1,0 +1,54 @@
+// The summary of a message.
+ghost use Rattle.std.specs.Prelude.{◌≡◌, option_map, IfOk};
+ghost use Rattle.std.specs.Option.{option_copied};
+ghost use Rattle.md_head.specs.Bodies.{body_value};
+ghost use Rattle.md_head.specs.Dates.{seconds_of};
+ghost use Rattle.md_head.specs.Summaries.{IsSummary, summary_of};
+
+use crate::body::FieldBody;
+use crate::date::seconds_of;
+use crate::error::HeadError;
+use crate::header::header_fields;
+use crate::shown::Summary;
+use crate::value::FieldValue;
+use std::alloc::Global;
+
+fn value_of(alloc: Global, body: Option<FieldBody<'_>>) -> Result<Option<FieldValue>, HeadError>
+    ensures { IfOk result (λ value. value ≡ option_map body_value body.entry) }
+{
+    match body {
+        Some(body) => Ok(Some(body.value(alloc)?)),
+        None => Ok(None),
+    }
+}
+
+fn instant_of(date: Option<&FieldValue>) -> Option<i64>
+    ensures { result ≡ seconds_of (option_copied date.entry) }
+{
+    match date {
+        Some(date) => seconds_of(date.as_slice()),
+        None => None,
+    }
+}
+
+/// The summary of a message, which reads its header section alone.
+///
+/// No message is refused. The one refusal is want of memory.
+pub fn summary(alloc: Global, message: &[u8]) -> Result<Summary, HeadError>
+    ensures by_rules { IfOk result (IsSummary message.now) }
+    ensures value { IfOk result (λ shown. shown ≡ summary_of message.now) }
+{
+    let fields = header_fields(message);
+    let subject = value_of(alloc, fields.subject)?;
+    let from = value_of(alloc, fields.from)?;
+    let message_id = value_of(alloc, fields.message_id)?;
+    let date = value_of(alloc, fields.date)?;
+    let seconds = instant_of(date.as_ref());
+    Ok(Summary {
+        subject,
+        from,
+        message_id,
+        date,
+        seconds,
+    })
+}
