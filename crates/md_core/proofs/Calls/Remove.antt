@@ -1,0 +1,71 @@
+-- A message taken away.
+use Rattle.std.proofs.Common.{ℕ, ◌≡◌, ◌≢◌, inr, List, Option, Some, None, true, refl, sym, ap, ◌∙◌}
+use Rattle.std.specs.FinMap as finmap
+use Rattle.md_dirs.specs.State.{State, file_at, IsSound}
+use Rattle.md_dirs.specs.Calls.{unnamed, without}
+use Rattle.md_dirs.specs.declared.paths.Path.{Path}
+use Rattle.md_dirs.proofs.PathOrder.{path_total, path_exact}
+use Rattle.md_dirs.proofs.Maps as maps
+use Rattle.md_dirs.proofs.Sound.{by_path, swept-kept, sound-without}
+use Rattle.md_name.specs.Names.{unique_of}
+use Rattle.md_core.specs.Mailbox.{mailbox_of, is_message, bytes_of, HasOnePath}
+use Rattle.md_core.specs.History.{names_of}
+use Rattle.md_core.proofs.Good.{bytes_at, HoldsWhole}
+use Rattle.md_core.proofs.Changes.{Drops, one-drops}
+use Rattle.md_core.proofs.Frames.{Frame, message-key, other_key}
+use Rattle.md_core.proofs.Spares.{Spares, spares-one}
+use Rattle.md_core.proofs.Named.{names-at}
+use Rattle.md_core.proofs.NameChanges.{same_names, size-none, size-same}
+
+module _ (s : State) (p : Path) (k : ℕ) (one : HasOnePath s) (message : is_message p ≡ true) (at : file_at s p ≡ Some k) where
+  abbrev after : State
+  after = without p s
+
+  beside : (q : Path) → q ≢ p → file_at after q ≡ file_at s q
+  beside q not = maps.beside_drop path_total path_exact s.names p q not
+
+  here : (q : Path) → q ≡ p → file_at after q ≡ None
+  here q is = maps.at_drop path_total path_exact s.names p q is
+
+  before : (q : Path) (m : ℕ) → file_at after q ≡ Some m → file_at s q ≡ Some m
+  before q m there = by_path q p (λ is. let h = here q is in cc) (λ not. sym (beside q not) ∙ there)
+
+  -- the file of another path is kept
+  bytes : (q : Path) (m : ℕ) → q ≢ p → file_at s q ≡ Some m → bytes_at after m ≡ bytes_at s m
+  bytes q m not there = ap bytes_of (swept-kept (file_at s p) (unnamed p s) q m (beside q not ∙ there))
+
+  not_by : (q : Path) → unique_of q.name ≢ unique_of p.name → q ≢ p
+  not_by q not is = not (ap (λ (x : Path). unique_of x.name) is)
+
+  pub remove-drops : Drops s after (unique_of p.name)
+  remove-drops = record {
+    gone = λ q m is. by_path q p (here q) (λ not. by q m is not (file_at after q) refl);
+    others = λ q m not. beside q (not_by q not);
+    bytes = λ q m not j there. bytes q j (not_by q not) there;
+  }
+    where
+      by : (q : Path) → is_message q ≡ true → unique_of q.name ≡ unique_of p.name → q ≢ p → (o : Option ℕ) → file_at after q ≡ o → file_at after q ≡ None
+      by q m is not None there = there
+      by q m is not (Some j) there = absurd (not (one q p j k (before q j there) at m message is))
+
+  pub remove-frame : Frame s after (unique_of p.name)
+  remove-frame = record {
+    names = λ q not. beside q (other_key q p (unique_of p.name) (message-key p message) not);
+    bytes = λ q m not there. bytes q m (other_key q p (unique_of p.name) (message-key p message) not) there;
+    origin = λ q m is there. inr (q, is, before q m there);
+  }
+
+  pub remove-sound : IsSound s → IsSound after
+  remove-sound sound = sound-without s sound p
+
+  pub remove-spares : Spares s after
+  remove-spares = spares-one s after p refl beside (inr (here p refl)) (inr message)
+
+  pub remove-whole : (whole : List ℕ) → HoldsWhole after (unique_of p.name) whole
+  remove-whole whole q m other is there = let none = remove-drops.gone q other is in cc
+
+  pub remove-names : names_of (mailbox_of after) ≡ finmap.remove (names_of (mailbox_of s)) p
+  remove-names = same_names _ _ (λ q. names-at after (one-drops s after (unique_of p.name) one remove-drops) q ∙ by_path q p
+      (λ is. size-none after q (λ m. here q is) ∙ sym (maps.at_drop path_total path_exact (names_of (mailbox_of s)) p q is))
+      (λ not. size-same s after q (λ m j there. bytes q j not there) (λ m. beside q not) ∙ sym (names-at s one q)
+      ∙ sym (maps.beside_drop path_total path_exact (names_of (mailbox_of s)) p q not)))

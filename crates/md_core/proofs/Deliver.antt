@@ -1,0 +1,4 @@
+pub mod Replies
+pub mod Bytes
+pub mod Does
+pub mod Turns

@@ -1,0 +1,87 @@
+-- A run with one more event or call is a run, and so are its first events and a beginning.
+use Rattle.std.proofs.Common.{ℕ, zero, suc, ◌≡◌, ◌≢◌, ◌+◌, ◌++◌, List, [], ◌∷◌, Some, None, true, refl, sym, ap, ◌∙◌, length, slice_get, arith}
+use Rattle.std.proofs.lemmas.List.{take_at, take-append-le}
+use Rattle.std.proofs.lemmas.Option.{slice_get_within}
+use Rattle.std.specs.FinMap as finmap
+use Rattle.md_dirs.specs.State.{State, IsSound}
+use Rattle.md_core.specs.declared.jobs.call.Call.{Call}
+use Rattle.md_core.specs.declared.jobs.task.Job.{Job}
+use Rattle.md_core.specs.Machine.{Machine, Marked, job_at, job_left, new_job}
+use Rattle.md_core.specs.Runs.{Run, moment, machine_of, jobs_of, and_event, and_call, step_refusal, steps_left, left_of}
+use Rattle.md_core.specs.Submitting.{submit_refusal, is_delivery}
+use Rattle.md_core.specs.Interleaving.{IsRun}
+use Rattle.md_core.proofs.Places.{at_end, get-from_take, get-pushed}
+use Rattle.md_core.proofs.Events.{unanswered, goes_on-exact, job_at-more}
+use Rattle.md_core.proofs.Runs.{moment-end, moment-and_event, moment-and_call, moment-first_events, machine-and_call, first_events, length-jobs_of}
+
+pub is_run-beginning : (image : State) → IsSound image → image.names ≡ finmap.empty → IsRun (record { image = image; calls = []; events = [] })
+is_run-beginning image sound bare = record {
+  sound = sound;
+  bare = bare;
+  accepted = λ i call at. cc;
+  deliveries = λ i call at. cc;
+  taken = λ k e at. cc;
+}
+
+pub is_run-and_event : (r : Run) (e : Marked) → IsRun r → step_refusal (job_at (jobs_of r) e.event.job) ≡ None → IsRun (and_event r e)
+is_run-and_event r e run goes = record {
+  sound = run.sound;
+  bare = run.bare;
+  accepted = run.accepted;
+  deliveries = run.deliveries;
+  taken = λ k f at. at_end r.events e k f at
+      (λ early. ap (λ (m : Machine). step_refusal (job_at m.jobs f.event.job)) (moment-and_event r e k (let h = slice_get_within r.events k f early in omega arith)) ∙ run.taken k f early)
+      (λ last is.
+      let now : moment (and_event r e) k ≡ machine_of r = ap (moment (and_event r e)) last ∙ moment-and_event r e (length r.events) (omega arith) ∙ moment-end r in
+      ap (λ (m : Machine). step_refusal (job_at m.jobs f.event.job)) now ∙ ap (λ (x : Marked). step_refusal (job_at (jobs_of r) x.event.job)) is ∙ goes);
+}
+
+pub is_run-and_call : (r : Run) (call : Call) → IsRun r → submit_refusal r call ≡ None → is_delivery call ≡ true → IsRun (and_call r call)
+is_run-and_call r call run accepted delivery = record {
+  sound = run.sound;
+  bare = run.bare;
+  accepted = λ i c at. at_end r.calls call i c at
+      (λ early. ap (λ (cs : List Call). submit_refusal (record r { calls = cs }) c) (take-append-le i r.calls (call ∷ []) (let h = slice_get_within r.calls i c early in omega arith)) ∙ run.accepted i c early)
+      (λ last is. ap (λ (cs : List Call). submit_refusal (record r { calls = cs }) c) (take_at r.calls (call ∷ []) i (sym last)) ∙ ap (submit_refusal r) is ∙ accepted);
+  deliveries = λ i c at. at_end r.calls call i c at (run.deliveries i c) (λ last is. ap is_delivery is ∙ delivery);
+  taken = λ k e at.
+      let goes = (goes_on-exact (job_at (moment r k).jobs e.event.job)).0 (run.taken k e at) in
+      let there : job_at (moment (and_call r call) k).jobs e.event.job ≡ Some (unanswered goes.0) = ap (λ (m : Machine). job_at m.jobs e.event.job) (moment-and_call r run call k) ∙ job_at-more (moment r k).jobs (new_job call ∷ []) e.event.job (unanswered goes.0) goes.1 in
+      (goes_on-exact (job_at (moment (and_call r call) k).jobs e.event.job)).1 (goes.0, there);
+}
+
+-- the first events of a run are a run
+pub is_run-first_events : (r : Run) (k : ℕ) → IsRun r → IsRun (first_events r k)
+is_run-first_events r k run = record {
+  sound = run.sound;
+  bare = run.bare;
+  accepted = run.accepted;
+  deliveries = run.deliveries;
+  taken = λ j e at.
+      let there = get-from_take k r.events j e at in
+      ap (λ (m : Machine). step_refusal (job_at m.jobs e.event.job)) (moment-first_events r k j (omega (arith, there.0))) ∙ run.taken j e there.1;
+}
+
+-- what is left of each job after a submit: all of the new one, and of the others what was left
+module _ (r : Run) (run : IsRun r) (call : Call) where
+  jobs-and_call : jobs_of (and_call r call) ≡ jobs_of r ++ new_job call ∷ []
+  jobs-and_call = ap (λ (m : Machine). m.jobs) (machine-and_call r run call)
+
+  pub steps_left-new : steps_left (and_call r call) (length r.calls + 1) ≡ job_left (new_job call)
+  steps_left-new =
+      let e : length r.calls + 1 ≡ suc (length r.calls) = omega arith in
+      let last : job_at (jobs_of r ++ new_job call ∷ []) (suc (length r.calls)) ≡ Some (new_job call) = ap (λ n. slice_get (jobs_of r ++ new_job call ∷ []) n) (sym (length-jobs_of r run)) ∙ get-pushed (jobs_of r) (new_job call) in
+      ap (λ n. steps_left (and_call r call) n) e ∙ ap (λ (js : List Job). left_of (job_at js (suc (length r.calls)))) jobs-and_call ∙ ap left_of last
+
+  pub steps_left-others : (number : ℕ) → number ≢ length r.calls + 1 → steps_left (and_call r call) number ≡ steps_left r number
+  steps_left-others number other = ap (λ (js : List Job). left_of (job_at js number)) jobs-and_call ∙ ap left_of (same number other)
+    where
+      at : (js : List Job) (i : ℕ) → i ≢ length js → slice_get (js ++ new_job call ∷ []) i ≡ slice_get js i
+      at [] zero other = absurd (other refl)
+      at [] (suc i) other = refl
+      at (j ∷ js) zero other = refl
+      at (j ∷ js) (suc i) other = at js i (λ is. other (ap suc is))
+
+      same : (n : ℕ) → n ≢ length r.calls + 1 → job_at (jobs_of r ++ new_job call ∷ []) n ≡ job_at (jobs_of r) n
+      same zero other = refl
+      same (suc i) other = at (jobs_of r) i (λ is. other (let h = length-jobs_of r run in omega arith))

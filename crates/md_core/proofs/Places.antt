@@ -1,0 +1,64 @@
+-- Elements of lists by their places: in a list that is longer, in the first of it, and after a change.
+use Rattle.std.proofs.Common.{ℕ, zero, suc, ◌≡◌, ◌<◌, ◌≤◌, ◌+◌, inl, inr, List, [], ◌∷◌, ◌++◌, Option, Some, None, refl, ap, ◌∙◌, length, take, slice_get, slice_set, arith}
+use Rattle.std.proofs.lemmas.Bool.{cases_lt}
+
+pub get-more : {X : Type 0} (xs ys : List X) (i : ℕ) (x : X) → slice_get xs i ≡ Some x → slice_get (xs ++ ys) i ≡ Some x
+get-more [] ys i x is = cc
+get-more (z ∷ xs) ys zero x is = is
+get-more (z ∷ xs) ys (suc i) x is = get-more xs ys i x is
+
+pub get-pushed : {X : Type 0} (xs : List X) (x : X) → slice_get (xs ++ x ∷ []) (length xs) ≡ Some x
+get-pushed [] x = refl
+get-pushed (z ∷ xs) x = get-pushed xs x
+
+-- an element of a longer list is one of the list, or the last
+pub at_end : {X C : Type 0} (xs : List X) (new : X) (i : ℕ) (x : X) → slice_get (xs ++ new ∷ []) i ≡ Some x → (slice_get xs i ≡ Some x → C) → (i ≡ length xs → x ≡ new → C) → C
+at_end [] new zero x is early last = last refl cc
+at_end [] new (suc i) x is early last = cc
+at_end (z ∷ xs) new zero x is early last = early is
+at_end (z ∷ xs) new (suc i) x is early last = at_end xs new i x is early (λ e. last (ap suc e))
+
+-- the elements of the first k are those at the places below k
+pub get-take : {X : Type 0} (k : ℕ) (xs : List X) (i : ℕ) → i < k → slice_get (take k xs) i ≡ slice_get xs i
+get-take zero xs i below = absurd (omega arith)
+get-take (suc k) [] i below = refl
+get-take (suc k) (z ∷ xs) zero below = refl
+get-take (suc k) (z ∷ xs) (suc i) below = get-take k xs i (omega arith)
+
+pub get-from_take : {X : Type 0} (k : ℕ) (xs : List X) (i : ℕ) (x : X) → slice_get (take k xs) i ≡ Some x → (i < k) × (slice_get xs i ≡ Some x)
+get-from_take zero xs i x is = cc
+get-from_take (suc k) [] i x is = cc
+get-from_take (suc k) (z ∷ xs) zero x is = (omega arith, is)
+get-from_take (suc k) (z ∷ xs) (suc i) x is = let rest = get-from_take k xs i x is in (omega (arith, rest.0), rest.1)
+
+take-suc : {X : Type 0} (xs : List X) (k : ℕ) (x : X) → slice_get xs k ≡ Some x → take (suc k) xs ≡ take k xs ++ x ∷ []
+take-suc [] k x is = cc
+take-suc (z ∷ xs) zero x is = let same : z ≡ x = cc in ap (λ w. w ∷ []) same
+take-suc (z ∷ xs) (suc k) x is = ap (λ ws. z ∷ ws) (take-suc xs k x is)
+
+-- the first k + 1 are the first k and the element at k
+pub take-one_more : {X : Type 0} (xs : List X) (k : ℕ) (x : X) → slice_get xs k ≡ Some x → take (k + 1) xs ≡ take k xs ++ x ∷ []
+take-one_more xs k x is = let e : k + 1 ≡ suc k = omega arith in ap (λ n. take n xs) e ∙ take-suc xs k x is
+
+-- a place in a list, or past its end
+pub at_place : {X C : Type 0} (xs : List X) (k : ℕ) → ((x : X) → slice_get xs k ≡ Some x → C) → (length xs ≤ k → C) → C
+at_place {X = X} {C = C} xs k here past = by (slice_get xs k) refl
+  where
+    by : (o : Option X) → slice_get xs k ≡ o → C
+    by (Some x) is = here x is
+    by None is = elim (cases_lt k (length xs)) [ inl within ↦ absurd (inside xs k within is) | inr beyond ↦ past beyond ]
+      where
+        inside : (ys : List X) (i : ℕ) → i < length ys → slice_get ys i ≡ None → ⊥
+        inside [] i within is = omega arith
+        inside (y ∷ ys) zero within is = cc
+        inside (y ∷ ys) (suc i) within is = inside ys i (omega arith) is
+
+pub set-more : {X : Type 0} (xs : List X) (new : X) (i : ℕ) (x : X) → i < length xs → slice_set (xs ++ new ∷ []) i x ≡ slice_set xs i x ++ new ∷ []
+set-more [] new i x within = absurd (omega arith)
+set-more (z ∷ xs) new zero x within = refl
+set-more (z ∷ xs) new (suc i) x within = ap (λ ws. z ∷ ws) (set-more xs new i x (omega arith))
+
+pub length-changed : {X : Type 0} (xs : List X) (i : ℕ) (x : X) → length (slice_set xs i x) ≡ length xs
+length-changed [] i x = refl
+length-changed (z ∷ xs) zero x = refl
+length-changed (z ∷ xs) (suc i) x = ap suc (length-changed xs i x)

@@ -1,0 +1,96 @@
+-- A call alone on a mailbox makes no bytes: each message after it has those that it had, or those that the call delivers.
+use Rattle.std.proofs.Common.{ℕ, ◌≡◌, ◌⊎◌, inl, inr, List, Option, Some, None, Bool, true, false, cond, refl, sym, subst, ◌∙◌}
+use Rattle.std.specs.FinMap as finmap
+use Rattle.std.specs.FinSet as set
+use Rattle.std.proofs.lemmas.Cmp.{nat_list_cmp_total}
+use Rattle.std.proofs.lemmas.Map.Lookups.{exact_bytes}
+use Rattle.md_name.specs.Letters.{Set}
+use Rattle.md_dirs.specs.declared.paths.Place.TheVariants.{New, Cur}
+use Rattle.md_dirs.proofs.Maps.{by_key, at_put, beside_put, at_drop, beside_drop}
+use Rattle.md_core.specs.declared.jobs.answer.Answer.{Answer}
+use Rattle.md_core.specs.declared.jobs.call.Call.{Call}
+use Rattle.md_core.specs.declared.jobs.call.Call.TheVariants.{Deliver, Seen, Flag, Move, Expunge, Clean}
+use Rattle.md_core.specs.Mailbox.{Entry, Mailbox}
+use Rattle.md_core.specs.Alone.{Outcome, alone, such, is_in_place, is_in_folder, is_same_set, info_with, flags_in, delivered, seen, seen_by, flag, flag_by, moved, expunged, expunge_by}
+use Rattle.md_core.specs.Interleaving.{Brings}
+
+-- a message of the name had these bytes
+abbrev pub Had : Mailbox → List ℕ → List ℕ → Type 0
+Had m u bytes = (b : Entry) × (finmap.get m u ≡ Some b) × (b.bytes ≡ bytes)
+
+-- each message after has its bytes from before, or from the call
+abbrev pub IsWholeAfter : Call → Mailbox → Mailbox → Type 0
+IsWholeAfter call m m' = (u : List ℕ) (e : Entry) → finmap.get m' u ≡ Some e → Brings u e.bytes call ⊎ Had m u e.bytes
+
+whole-same : (call : Call) (m : Mailbox) → IsWholeAfter call m m
+whole-same call m u e at = inr (e, at, refl)
+
+whole-put : (call : Call) (m : Mailbox) (k : List ℕ) (x : Entry) → Brings k x.bytes call ⊎ Had m k x.bytes → IsWholeAfter call m (finmap.insert m k x)
+whole-put call m k x from u e at = by_key nat_list_cmp_total exact_bytes u k
+    (λ same.
+    let is : x ≡ e = (let h = at_put nat_list_cmp_total exact_bytes m k u x same in cc) in
+    subst (λ (v : List ℕ). Brings v e.bytes call ⊎ Had m v e.bytes) (sym same) (subst (λ (y : Entry). Brings k y.bytes call ⊎ Had m k y.bytes) is from))
+    (λ other. inr (e, sym (beside_put nat_list_cmp_total exact_bytes m k u x other) ∙ at, refl))
+
+whole-drop : (call : Call) (m : Mailbox) (k : List ℕ) → IsWholeAfter call m (finmap.remove m k)
+whole-drop call m k u e at = by_key nat_list_cmp_total exact_bytes u k
+    (λ same. let h = at_drop nat_list_cmp_total exact_bytes m k u same in cc)
+    (λ other. inr (e, sym (beside_drop nat_list_cmp_total exact_bytes m k u other) ∙ at, refl))
+
+-- an entry that passes a test is there
+such-there : (test : Entry → Bool) (o : Option Entry) (e : Entry) → such test o ≡ Some e → o ≡ Some e
+such-there test None e is = cc
+such-there test (Some x) e is = by (test x) is
+  where
+    by : (b : Bool) → cond b (Some x) None ≡ Some e → Some x ≡ Some e
+    by true h = h
+    by false h = cc
+
+module _ (call : Call) (m : Mailbox) (k : List ℕ) where
+  whole-seen : (given : Set) (o : Option Entry) → ((e : Entry) → o ≡ Some e → finmap.get m k ≡ Some e) → IsWholeAfter call m (seen m k given o).after
+  whole-seen given None there = whole-same call m
+  whole-seen given (Some e) there = by (flags_in e)
+    where
+      by : (had : Option Set) → IsWholeAfter call m (seen_by m k given e had).after
+      by None = whole-same call m
+      by (Some had) = whole-put call m k _ (inr (e, there e refl, refl))
+
+  whole-flag : (add remove : Set) (o : Option Entry) → ((e : Entry) → o ≡ Some e → finmap.get m k ≡ Some e) → IsWholeAfter call m (flag m k add remove o).after
+  whole-flag add remove None there = whole-same call m
+  whole-flag add remove (Some e) there = by (flags_in e)
+    where
+      same_or : (b : Bool) (had : Set) (a a' : Answer) → IsWholeAfter call m (cond {A = Outcome} b (record { answer = a; after = m }) (record { answer = a'; after = finmap.insert m k (record e { info = info_with (set.difference (set.union had add) remove) }) })).after
+      same_or true had a a' = whole-same call m
+      same_or false had a a' = whole-put call m k _ (inr (e, there e refl, refl))
+
+      by : (had : Option Set) → IsWholeAfter call m (flag_by m k add remove e had).after
+      by None = whole-same call m
+      by (Some had) = same_or (is_same_set had (set.difference (set.union had add) remove)) had _ _
+
+  whole-moved : (to : ℕ) (o : Option Entry) → ((e : Entry) → o ≡ Some e → finmap.get m k ≡ Some e) → IsWholeAfter call m (moved m k to o).after
+  whole-moved to None there = whole-same call m
+  whole-moved to (Some e) there = whole-put call m k _ (inr (e, there e refl, refl))
+
+  whole-expunged : (o : Option Entry) → IsWholeAfter call m (expunged m k o).after
+  whole-expunged None = whole-same call m
+  whole-expunged (Some e) = by (flags_in e)
+    where
+      if_trashed : (b : Bool) (a a' : Answer) → IsWholeAfter call m (cond {A = Outcome} b (record { answer = a; after = finmap.remove m k }) (record { answer = a'; after = m })).after
+      if_trashed true a a' = whole-drop call m k
+      if_trashed false a a' = whole-same call m
+
+      by : (had : Option Set) → IsWholeAfter call m (expunge_by m k had).after
+      by None = whole-same call m
+      by (Some had) = if_trashed (set.contains had 84) _ _
+
+whole-delivered : (m : Mailbox) (folder : ℕ) (k body : List ℕ) (chunk : ℕ) (o : Option Entry) → IsWholeAfter (Deliver folder k body chunk) m (delivered m folder k body o).after
+whole-delivered m folder k body chunk None = whole-put (Deliver folder k body chunk) m k _ (inl (refl, refl))
+whole-delivered m folder k body chunk (Some e) = whole-same (Deliver folder k body chunk) m
+
+pub whole-alone : (call : Call) (m : Mailbox) → IsWholeAfter call m (alone call m).after
+whole-alone (Deliver folder u body chunk) m = whole-delivered m folder u body chunk (finmap.get m u)
+whole-alone (Seen folder u flags tries) m = whole-seen (Seen folder u flags tries) m u flags (such (is_in_place New folder) (finmap.get m u)) (such-there (is_in_place New folder) (finmap.get m u))
+whole-alone (Flag folder u add remove tries) m = whole-flag (Flag folder u add remove tries) m u add remove (such (is_in_place Cur folder) (finmap.get m u)) (such-there (is_in_place Cur folder) (finmap.get m u))
+whole-alone (Move folder u to tries) m = whole-moved (Move folder u to tries) m u to (such (is_in_folder folder) (finmap.get m u)) (such-there (is_in_folder folder) (finmap.get m u))
+whole-alone (Expunge folder u tries) m = whole-expunged (Expunge folder u tries) m u (such (is_in_place Cur folder) (finmap.get m u))
+whole-alone (Clean folder) m = whole-same (Clean folder) m

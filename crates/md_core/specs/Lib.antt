@@ -1,0 +1,11 @@
+pub mod Mailbox
+pub mod Alone
+pub mod History
+pub mod Turn
+pub mod Machines
+pub mod Machine
+pub mod Runs
+pub mod Used
+pub mod Submitting
+pub mod Interleaving
+pub mod Worlds

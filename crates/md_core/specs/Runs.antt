@@ -1,0 +1,92 @@
+-- A run: directories at the beginning, the calls that were submitted, and the events since. All else of a world is a function of these.
+use Rattle.std.specs.Prelude.{ℕ, ◌≡◌, List, [], ◌∷◌, ◌++◌, Option, Some, None, map, max, take, if◌then◌else◌, is_some, fold}
+use Rattle.std.specs.FinMap as finmap
+use Rattle.md_dirs.specs.State.{State, file_by}
+use Rattle.md_dirs.specs.declared.paths.File.{File}
+use Rattle.md_core.specs.declared.error.CoreError.{CoreError}
+use Rattle.md_core.specs.declared.error.CoreError.TheVariants as core
+use Rattle.md_core.specs.declared.jobs.answer.Answer.{Answer}
+use Rattle.md_core.specs.declared.jobs.call.Call.{Call}
+use Rattle.md_core.specs.declared.jobs.effect.Effect.{Effect}
+use Rattle.md_core.specs.declared.jobs.step.Event.{Event}
+use Rattle.md_core.specs.declared.jobs.task.Job.{Job}
+use Rattle.md_core.specs.Machine.{Machine, Marked, happens, new_job, job_at, job_left}
+
+pub record Run : Type 0 where
+  pub image : State
+  pub calls : List Call
+  pub events : List Marked
+
+abbrev pub stamp_of : Option File → ℕ
+stamp_of None = 0
+stamp_of (Some file) = file.stamp
+
+-- the greatest stamp of all files that have a name, or 0
+abbrev pub first_clock : State → ℕ
+first_clock s = fold (λ clock e. max clock (stamp_of (file_by s.files e.1))) 0 (finmap.entries s.names)
+
+-- the machine before the first event, with all jobs
+abbrev pub beginning : State → List Call → Machine
+beginning image calls = record { dirs = image; clock = first_clock image; jobs = map new_job calls; effects = [] }
+
+-- one event after another
+unfoldable pub run_from : Machine → List Marked → Machine
+run_from m [] = m
+run_from m (e ∷ es) = run_from (happens m e) es
+
+-- moment k of a run: the machine after the first k events
+abbrev pub moment : Run → ℕ → Machine
+moment r k = run_from (beginning r.image r.calls) (take k r.events)
+
+-- the machine after all events
+abbrev pub machine_of : Run → Machine
+machine_of r = run_from (beginning r.image r.calls) r.events
+
+abbrev pub dirs_of : Run → State
+dirs_of r = (machine_of r).dirs
+
+abbrev pub clock_of : Run → ℕ
+clock_of r = (machine_of r).clock
+
+abbrev pub jobs_of : Run → List Job
+jobs_of r = (machine_of r).jobs
+
+abbrev pub effects_of : Run → List Effect
+effects_of r = (machine_of r).effects
+
+-- jobs and moments, without the marks
+abbrev pub log_of : Run → List Event
+log_of r = map (λ e. e.event) r.events
+
+-- a run with one more event, and with more events
+abbrev pub and_event : Run → Marked → Run
+and_event r e = record r { events = r.events ++ e ∷ [] }
+
+abbrev pub and_events : Run → List Marked → Run
+and_events r es = record r { events = r.events ++ es }
+
+-- a run with one more call
+abbrev pub and_call : Run → Call → Run
+and_call r call = record r { calls = r.calls ++ call ∷ [] }
+
+abbrev pub answer_of : Option Job → Option Answer
+answer_of None = None
+answer_of (Some job) = job.answer
+
+-- how many steps a job takes at most from here to its answer
+abbrev pub left_of : Option Job → ℕ
+left_of None = 0
+left_of (Some job) = job_left job
+
+abbrev pub steps_left : Run → ℕ → ℕ
+steps_left r job = left_of (job_at (jobs_of r) job)
+
+-- where a step of a job is refused, want of memory aside: no such job, or it has its answer
+abbrev pub step_refusal : Option Job → Option CoreError
+step_refusal None = Some core.NoJob
+step_refusal (Some job) = if is_some job.answer then Some core.Answered else None
+
+-- an error is this refusal; where there is none, it is want of memory
+abbrev pub IsRefusal : Option CoreError → CoreError → Type 0
+IsRefusal None e = e ≡ core.NoMemory
+IsRefusal (Some refusal) e = e ≡ refusal

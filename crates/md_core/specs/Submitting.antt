@@ -1,0 +1,74 @@
+-- What is checked of a call when it is submitted, and in which order.
+use Rattle.std.specs.Prelude.{ℕ, List, [], ◌∷◌, Option, Some, None, Bool, true, false, ◌&&◌, ◌||◌, ◌==◌, not, nat_lt, nat_le, if◌then◌else◌, length}
+use Rattle.std.specs.List.{list_any}
+use Rattle.std.specs.Str.{bytes_eq}
+use Rattle.std.specs.FinMap as finmap
+use Rattle.md_dirs.specs.declared.paths.Path.{Path}
+use Rattle.md_name.specs.Names.{unique_of, is_unique_name}
+use Rattle.md_core.specs.declared.error.CoreError.{CoreError}
+use Rattle.md_core.specs.declared.error.CoreError.TheVariants as core
+use Rattle.md_core.specs.declared.jobs.call.Call.{Call}
+use Rattle.md_core.specs.declared.jobs.call.Call.TheVariants.{Deliver, Seen, Flag, Move, Expunge, Clean}
+use Rattle.md_core.specs.Mailbox.{is_tmp, is_message}
+use Rattle.md_core.specs.Runs.{Run}
+
+-- a body has at most 16 MiB
+abbrev pub most_bytes : ℕ
+most_bytes = 16777216
+
+abbrev pub most_jobs : ℕ
+most_jobs = 10000
+
+abbrev pub most_tries : ℕ
+most_tries = 16
+
+-- the name that a path uses up: all of it in tmp, and the unique part of a message
+abbrev pub uses : List ℕ → Path → Bool
+uses u p = if is_tmp p.place then bytes_eq p.name u else is_message p && bytes_eq (unique_of p.name) u
+
+-- whether a call delivers under the name
+abbrev pub delivers : List ℕ → Call → Bool
+delivers u (Deliver folder unique body chunk) = bytes_eq unique u
+delivers u call = false
+
+-- a name is used from the submit of its delivery on, for good, and so are those of the directories at the beginning
+abbrev pub is_used : Run → List ℕ → Bool
+is_used r u = list_any (λ e. uses u e.0) (finmap.entries r.image.names) || list_any (delivers u) r.calls
+
+-- the error of the first check that fails
+abbrev pub first_met : List (Bool × CoreError) → Option CoreError
+first_met [] = None
+first_met (check ∷ checks) = if check.0 then Some check.1 else first_met checks
+
+abbrev pub no_folder : Run → ℕ → Bool
+no_folder r folder = nat_le r.image.folders folder
+
+abbrev pub bad_tries : ℕ → Bool
+bad_tries tries = tries == 0 || nat_lt most_tries tries
+
+abbrev pub too_many : Run → Bool
+too_many r = nat_le most_jobs (length r.calls)
+
+-- the checks of a call, in their order, each with the error that it gives where it is met
+abbrev pub checks : Run → Call → List (Bool × CoreError)
+checks r (Deliver folder unique body chunk) =
+    (no_folder r folder, core.NoFolder) ∷ (not (is_unique_name unique), core.BadUnique) ∷ (chunk == 0, core.BadChunk)
+    ∷ (nat_lt most_bytes (length body), core.BodyTooLong) ∷ (too_many r, core.TooManyJobs) ∷ (is_used r unique, core.NameUsed) ∷ []
+checks r (Seen folder unique flags tries) =
+    (no_folder r folder, core.NoFolder) ∷ (not (is_unique_name unique), core.BadUnique) ∷ (bad_tries tries, core.BadTries) ∷ (too_many r, core.TooManyJobs) ∷ []
+checks r (Flag folder unique add remove tries) =
+    (no_folder r folder, core.NoFolder) ∷ (not (is_unique_name unique), core.BadUnique) ∷ (bad_tries tries, core.BadTries) ∷ (too_many r, core.TooManyJobs) ∷ []
+checks r (Move folder unique to tries) =
+    (no_folder r folder || no_folder r to, core.NoFolder) ∷ (to == folder, core.SameFolder) ∷ (not (is_unique_name unique), core.BadUnique) ∷ (bad_tries tries, core.BadTries)
+    ∷ (too_many r, core.TooManyJobs) ∷ []
+checks r (Expunge folder unique tries) =
+    (no_folder r folder, core.NoFolder) ∷ (not (is_unique_name unique), core.BadUnique) ∷ (bad_tries tries, core.BadTries) ∷ (too_many r, core.TooManyJobs) ∷ []
+checks r (Clean folder) = (no_folder r folder, core.NoFolder) ∷ (too_many r, core.TooManyJobs) ∷ []
+
+-- where a call is refused, want of memory aside
+abbrev pub submit_refusal : Run → Call → Option CoreError
+submit_refusal r call = first_met (checks r call)
+
+abbrev pub is_delivery : Call → Bool
+is_delivery (Deliver folder unique body chunk) = true
+is_delivery call = false

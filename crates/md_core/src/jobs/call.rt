@@ -1,0 +1,50 @@
+// What callers ask.
+use md_dirs::Bytes;
+use md_name::Flags;
+
+/// The number of a job. Jobs are numbered from 1.
+pub type JobId = u64;
+
+/// What a caller asks of the store. Folders are numbered from 0.
+#[derive(Debug, Drop)]
+pub enum Call {
+    /// Delivers a message, written in pieces of `chunk` bytes.
+    Deliver {
+        folder: u32,
+        unique: Bytes,
+        body: Bytes,
+        chunk: u64,
+    },
+    /// Takes a new message to cur, its flags joined by these.
+    Seen {
+        folder: u32,
+        unique: Bytes,
+        flags: Flags,
+        tries: u64,
+    },
+    /// Adds and removes flags of a message in cur.
+    Flag {
+        folder: u32,
+        unique: Bytes,
+        add: Flags,
+        remove: Flags,
+        tries: u64,
+    },
+    /// Takes a message to another folder.
+    Move {
+        folder: u32,
+        unique: Bytes,
+        to: u32,
+        tries: u64,
+    },
+    /// Removes a message of cur that has the flag T.
+    Expunge {
+        folder: u32,
+        unique: Bytes,
+        tries: u64,
+    },
+    /// Removes files of tmp that have not been used for 36 hours.
+    Clean {
+        folder: u32,
+    },
+}

@@ -1,0 +1,232 @@
+// A delivery: "Using maildir format", steps 3 to 6.
+ghost use Rattle.std.specs.Prelude.{◌≡◌, ◌+◌, ◌^◌, ◌<◌, length, IfOk, IfErr, OnErr, is_some};
+ghost use Rattle.md_core.specs.Turn.{Takes};
+ghost use Rattle.md_core.specs.Machines.Deliver.{new_delivery, after_create, after_append, after_link, create_turn, append_turn, link_turn, unlink_turn, delivery_turn, delivery_effect, piece_len as piece_len_of, piece as piece_of, target as target_of};
+
+use crate::error::CoreError;
+use crate::jobs::answer::Answer;
+use crate::jobs::call::JobId;
+use crate::jobs::effect::{Change, Effect};
+use crate::jobs::step::{DirCall, DirReply};
+use crate::jobs::turn::{Turned, reply_of};
+use md_dirs::{Bytes, Dirs, Path, Place};
+use std::alloc::{AllocError, Global};
+
+/// How far a delivery has come.
+#[derive(Clone, Copy, Debug)]
+pub enum Stage {
+    /// Nothing was done.
+    Start,
+    /// The file is in tmp and has so many bytes.
+    Writing(u64),
+    /// The message is in new.
+    Linked,
+    /// The file in tmp goes, and then the job has this answer.
+    Undo(Answer),
+}
+
+/// A delivery of a body, in pieces of `chunk` bytes, by way of a file in tmp.
+#[derive(Debug, Drop)]
+pub struct Delivery {
+    pub tmp: Path,
+    pub body: Bytes,
+    pub chunk: u64,
+    pub stage: Stage,
+}
+
+impl Delivery {
+    /// A delivery that has not begun.
+    pub(crate) fn new(folder: u32, unique: Bytes, body: Bytes, chunk: u64) -> Delivery
+        ensures { result ≡ new_delivery folder unique body chunk }
+    {
+        Delivery {
+            tmp: Path {
+                folder,
+                place: Place::Tmp,
+                name: unique,
+            },
+            body,
+            chunk,
+            stage: Stage::Start,
+        }
+    }
+
+    /// Takes the next turn. After a refusal nothing has changed.
+    pub(crate) fn turn<D: Dirs>(
+        &mut self,
+        alloc: Global,
+        dirs: &mut D,
+        job: JobId,
+        clock: u64,
+    ) -> Result<Turned, CoreError>
+        ensures ok { IfOk result (λ t. Takes (delivery_turn job self.old clock) (D.state dirs.old) (D.failures dirs.old) t.out t.effect self.new (D.state dirs.new) (D.failures dirs.new)) }
+        ensures memory { IfErr result (λ e. e ≡ CoreError.NoMemory) }
+        ensures task { OnErr result (self.new ≡ self.old) }
+        ensures dirs { OnErr result ((D.state dirs.new ≡ D.state dirs.old) × (D.failures dirs.new ≡ D.failures dirs.old)) }
+    {
+        match self.stage {
+            Stage::Start => self.create(dirs, clock),
+            Stage::Writing(written) => {
+                if written < self.body.len() as u64 {
+                    self.append(dirs, clock, written)
+                } else {
+                    self.link(alloc, dirs, job)
+                }
+            }
+            Stage::Linked => self.unlink(dirs, Answer::Delivered),
+            Stage::Undo(answer) => self.unlink(dirs, answer),
+        }
+    }
+
+    fn create<D: Dirs>(&mut self, dirs: &mut D, clock: u64) -> Result<Turned, CoreError>
+        ensures ok { IfOk result (λ t. Takes (create_turn self.old clock) (D.state dirs.old) (D.failures dirs.old) t.out t.effect self.new (D.state dirs.new) (D.failures dirs.new)) }
+        ensures memory { IfErr result (λ e. e ≡ CoreError.NoMemory) }
+        ensures task { OnErr result (self.new ≡ self.old) }
+        ensures dirs { OnErr result ((D.state dirs.new ≡ D.state dirs.old) × (D.failures dirs.new ≡ D.failures dirs.old)) }
+    {
+        let reply = reply_of(dirs.create(&self.tmp, clock))?;
+        let answer = self.created(reply);
+        Ok(Turned::plain(DirCall::Create, reply, answer))
+    }
+
+    fn append<D: Dirs>(
+        &mut self,
+        dirs: &mut D,
+        clock: u64,
+        written: u64,
+    ) -> Result<Turned, CoreError>
+        requires { written < length self.old.body }
+        ensures ok { IfOk result (λ t. Takes (append_turn self.old clock written) (D.state dirs.old) (D.failures dirs.old) t.out t.effect self.new (D.state dirs.new) (D.failures dirs.new)) }
+        ensures memory { IfErr result (λ e. e ≡ CoreError.NoMemory) }
+        ensures task { OnErr result (self.new ≡ self.old) }
+        ensures dirs { OnErr result ((D.state dirs.new ≡ D.state dirs.old) × (D.failures dirs.new ≡ D.failures dirs.old)) }
+    {
+        let piece = self.piece(written);
+        let len = piece.len() as u64;
+        let reply = reply_of(dirs.append(&self.tmp, piece, clock))?;
+        let answer = self.appended(written + len, reply);
+        Ok(Turned::plain(DirCall::Append(len), reply, answer))
+    }
+
+    // The name is copied before the call, since a link that was made can't be refused any more.
+    fn link<D: Dirs>(
+        &mut self,
+        alloc: Global,
+        dirs: &mut D,
+        job: JobId,
+    ) -> Result<Turned, CoreError>
+        ensures ok { IfOk result (λ t. Takes (link_turn job self.old) (D.state dirs.old) (D.failures dirs.old) t.out t.effect self.new (D.state dirs.new) (D.failures dirs.new)) }
+        ensures memory { IfErr result (λ e. e ≡ CoreError.NoMemory) }
+        ensures task { OnErr result (self.new ≡ self.old) }
+        ensures dirs { OnErr result ((D.state dirs.new ≡ D.state dirs.old) × (D.failures dirs.new ≡ D.failures dirs.old)) }
+    {
+        let target = self.target(alloc)?;
+        let reply = reply_of(dirs.link(&self.tmp, &target))?;
+        let effect = self.effect(job, target);
+        // At the link the message is delivered. Whatever comes now, it stays so.
+        Ok(self.linked(reply, effect))
+    }
+
+    // Takes the name in tmp away, whatever the reply is.
+    fn unlink<D: Dirs>(&mut self, dirs: &mut D, answer: Answer) -> Result<Turned, CoreError>
+        ensures ok { IfOk result (λ t. Takes (unlink_turn self.old answer) (D.state dirs.old) (D.failures dirs.old) t.out t.effect self.new (D.state dirs.new) (D.failures dirs.new)) }
+        ensures memory { IfErr result (λ e. e ≡ CoreError.NoMemory) }
+        ensures task { self.new ≡ self.old }
+        ensures dirs { OnErr result ((D.state dirs.new ≡ D.state dirs.old) × (D.failures dirs.new ≡ D.failures dirs.old)) }
+    {
+        let reply = reply_of(dirs.unlink(&self.tmp))?;
+        Ok(Turned::plain(DirCall::Unlink, reply, Some(answer)))
+    }
+
+    // The bytes that are written next, after so many.
+    fn piece(&self, written: u64) -> &[u8]
+        requires { written < length self.now.body }
+        ensures bytes { result.now ≡ piece_of self.now written }
+        ensures len { length result.now ≡ piece_len_of self.now written }
+        ensures fits { written + length result.now < 2 ^ 64 }
+    {
+        let left = &self.body.as_slice()[written as usize..];
+        let len = self.chunk.min(left.len() as u64) as usize;
+        &left[..len]
+    }
+
+    // Where the message is delivered.
+    fn target(&self, alloc: Global) -> Result<Path, AllocError>
+        ensures { IfOk result (λ path. path ≡ target_of self.now) }
+    {
+        Ok(Path {
+            folder: self.tmp.folder,
+            place: Place::New,
+            name: self.tmp.name.again(alloc)?,
+        })
+    }
+
+    // The effect that a link to the target is.
+    fn effect(&self, job: JobId, target: Path) -> Effect
+        requires { target ≡ target_of self.now }
+        ensures { result ≡ delivery_effect job self.now }
+    {
+        Effect {
+            job,
+            answer: Answer::Delivered,
+            change: Change::Add {
+                folder: target.folder,
+                name: target.name,
+                size: self.body.len() as u64,
+            },
+        }
+    }
+
+    fn created(&mut self, reply: DirReply) -> Option<Answer>
+        ensures { after_create self.old reply ≡ record { task = self.new; answer = result; effect = None } }
+    {
+        match reply {
+            DirReply::Ok => {
+                self.stage = Stage::Writing(0);
+                None
+            }
+            DirReply::Exists => Some(Answer::NameTaken),
+            DirReply::NotFound => Some(Answer::Fault),
+            DirReply::Fault => Some(Answer::Fault),
+        }
+    }
+
+    fn appended(&mut self, written: u64, reply: DirReply) -> Option<Answer>
+        ensures { (k : _) → written ≡ k + piece_len_of self.old k → after_append self.old k reply ≡ record { task = self.new; answer = result; effect = None } }
+    {
+        match reply {
+            DirReply::Ok => {
+                self.stage = Stage::Writing(written);
+                None
+            }
+            DirReply::Exists => Some(Answer::Fault),
+            DirReply::NotFound => Some(Answer::TmpGone),
+            DirReply::Fault => {
+                self.stage = Stage::Undo(Answer::Fault);
+                None
+            }
+        }
+    }
+
+    fn linked(&mut self, reply: DirReply, effect: Effect) -> Turned
+        ensures follows { (job : _) → effect ≡ delivery_effect job self.old → after_link job self.old reply ≡ record { task = self.new; answer = result.out.answer; effect = result.effect } }
+        ensures shown { (result.out.call ≡ DirCall.Link) × (result.out.reply ≡ reply) }
+        ensures effect { result.out.effect ≡ is_some result.effect }
+    {
+        match reply {
+            DirReply::Ok => {
+                self.stage = Stage::Linked;
+                Turned::acted(DirCall::Link, reply, effect)
+            }
+            DirReply::Exists => {
+                self.stage = Stage::Undo(Answer::NameTaken);
+                Turned::plain(DirCall::Link, reply, None)
+            }
+            DirReply::NotFound => Turned::plain(DirCall::Link, reply, Some(Answer::TmpGone)),
+            DirReply::Fault => {
+                self.stage = Stage::Undo(Answer::Fault);
+                Turned::plain(DirCall::Link, reply, None)
+            }
+        }
+    }
+}

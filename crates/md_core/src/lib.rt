@@ -1,0 +1,21 @@
+//! Jobs on directories of mail: one directory call of one job at a step, and the log of the steps.
+#![tactic(auto)]
+
+mod error;
+mod jobs;
+#[cfg(test)]
+mod tests;
+mod used;
+mod world;
+
+pub use error::CoreError;
+pub use jobs::answer::Answer;
+pub use jobs::call::{Call, JobId};
+pub use jobs::deliver::{Delivery, Stage};
+pub use jobs::effect::{Change, Effect};
+pub use jobs::step::{DirCall, DirReply, Event, StepOut};
+pub use jobs::task::{Job, Task};
+pub use world::World;
+pub use world::load::LoadRefused;
+pub use world::run::RunStop;
+pub use world::submit::SubmitRefused;

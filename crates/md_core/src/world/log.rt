@@ -1,0 +1,52 @@
+// The log of steps: events, which of them faulted, and effects.
+ghost use Rattle.std.specs.Prelude.{◌≡◌, ◌++◌, ◌∷◌, [], OnOk};
+ghost use Rattle.std.specs.Option.{option_to_list};
+ghost use Rattle.md_core.specs.Worlds.{HasRoom};
+
+use crate::jobs::effect::Effect;
+use crate::jobs::step::Event;
+use std::alloc::{AllocError, Global};
+
+/// The steps so far, and the effects among them.
+#[derive(Drop)]
+pub(crate) struct Log {
+    pub(crate) events: Vec<Event>,
+    pub(crate) marks: Vec<bool>,
+    pub(crate) effects: Vec<Effect>,
+}
+
+impl Log {
+    pub(crate) fn new(alloc: Global) -> Log
+        ensures { (result.events.items ≡ []) × (result.marks.items ≡ []) × (result.effects.items ≡ []) }
+    {
+        Log {
+            events: Vec::new(alloc),
+            marks: Vec::new(alloc),
+            effects: Vec::new(alloc),
+        }
+    }
+
+    /// Makes room for one more step.
+    pub(crate) fn reserve(&mut self) -> Result<(), AllocError>
+        ensures same { (self.new.events.items ≡ self.old.events.items) × (self.new.marks.items ≡ self.old.marks.items) × (self.new.effects.items ≡ self.old.effects.items) }
+        ensures room { OnOk result (HasRoom self.new) }
+    {
+        self.events.reserve(1)?;
+        self.marks.reserve(1)?;
+        self.effects.reserve(1)
+    }
+
+    /// Adds a step, for which there is room.
+    pub(crate) fn push(&mut self, event: Event, faulted: bool, effect: Option<Effect>)
+        requires { HasRoom self.old }
+        ensures events { self.new.events.items ≡ self.old.events.items ++ event ∷ [] }
+        ensures marks { self.new.marks.items ≡ self.old.marks.items ++ faulted ∷ [] }
+        ensures effects { self.new.effects.items ≡ self.old.effects.items ++ option_to_list effect }
+    {
+        self.events.push_reserved(event);
+        self.marks.push_reserved(faulted);
+        if let Some(effect) = effect {
+            self.effects.push_reserved(effect);
+        }
+    }
+}

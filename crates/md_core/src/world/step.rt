@@ -1,0 +1,58 @@
+// One step of a job.
+ghost use Rattle.std.specs.Prelude.{◌≡◌, ◌≢◌, ◌+◌, ◌<◌, length, MatchResult, Some, None, IfOk, OnOk, OnErr};
+ghost use Rattle.md_core.specs.Turn.{is_fault};
+ghost use Rattle.md_core.specs.Machine.{marked, shown, job_at};
+ghost use Rattle.md_core.specs.Runs.{machine_of, jobs_of, and_event, step_refusal, steps_left, IsRefusal};
+ghost use Rattle.md_core.specs.Interleaving.{Interleaves, TakesEffect};
+
+use crate::error::CoreError;
+use crate::jobs::call::JobId;
+use crate::jobs::step::{Event, StepOut};
+use crate::jobs::task::Job;
+use crate::world::World;
+use md_dirs::Dirs;
+
+// Where a job stands that is there and has no answer.
+fn unanswered(jobs: &[Job], job: JobId) -> Result<usize, CoreError>
+    ensures refused { MatchResult result (λ _. step_refusal (job_at jobs.now job) ≡ None) (λ e. step_refusal (job_at jobs.now job) ≡ Some e) }
+    ensures place { IfOk result (λ at. (at + 1 ≡ job) × (at < length jobs.now)) }
+{
+    if job == 0 || job > jobs.len() as u64 {
+        return Err(CoreError::NoJob);
+    }
+    let at = (job - 1) as usize;
+    match &jobs[at].answer {
+        Some(_) => Err(CoreError::Answered),
+        None => Ok(at),
+    }
+}
+
+impl<D: Dirs> World<D> {
+    /// Makes the next directory call of a job, at a moment in seconds: the clock becomes the greater of itself and `now`, and is the
+    /// moment of the call.
+    ///
+    /// It is refused as `NoJob` where there is no such job, and as `Answered` where the job has its answer; then, where a growth is
+    /// refused, as `NoMemory`. A refusal took no step, and nothing has changed.
+    pub fn step(&mut self, job: JobId, now: u64) -> Result<StepOut, CoreError>
+        // The run goes on by this one event, and by nothing else.
+        ensures event { IfOk result (λ out. self.new ≡ and_event self.old (marked job now (is_fault out.reply))) }
+        ensures shown { IfOk result (λ out. shown (machine_of self.old) (marked job now (is_fault out.reply)) ≡ Some out) }
+        ensures alone { IfOk result (λ out. TakesEffect self.old self.new job out.effect) }
+        ensures refused { MatchResult result (λ _. step_refusal (job_at (jobs_of self.old) job) ≡ None) (IsRefusal (step_refusal (job_at (jobs_of self.old) job))) }
+        ensures unchanged { OnErr result (self.new ≡ self.old) }
+        // Each step leaves its job fewer steps, and the other jobs as many.
+        ensures nearer { OnOk result (steps_left self.new job < steps_left self.old job) }
+        ensures others { OnOk result ((n : _) → n ≢ job → steps_left self.new n ≡ steps_left self.old n) }
+        ensures theorem { OnOk result (Interleaves self.new) }
+    {
+        let at = unanswered(&self.jobs, job)?;
+        self.log.reserve()?;
+        let clock = self.clock.max(now);
+        let turned = self.jobs[at].turn(self.alloc, &mut self.dirs, job, clock)?;
+        self.clock = clock;
+        let event = Event { job, now };
+        self.log
+            .push(event, turned.out.reply.is_fault(), turned.effect);
+        Ok(turned.out)
+    }
+}
