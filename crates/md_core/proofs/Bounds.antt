@@ -122,11 +122,3 @@ module _ (r : Run) (run : IsRun r) (turns : EachTurn) where
         by : (n : ℕ) → n ≢ e.event.job → left_of (job_at (happens (machine_of r) e).jobs n) ≡ left_of (job_at (jobs_of r) n)
         by zero differ = refl
         by (suc j) differ = ap left_of (goes-others (machine_of r) (happens (machine_of r) e) e.event.job going j (λ same. differ (ap suc same ∙ sym going.number_is)))
-
--- a job that has taken all its steps has its answer
-pub answered-machine : (r : Run) → IsRun r → EachTurn → (number : ℕ) (call : Call) (job : Job) → call_at r.calls number ≡ Some call → job_at (jobs_of r) number ≡ Some job → steps_of r number ≡ job_left (new_job call) → (a : Answer) × (job.answer ≡ Some a)
-answered-machine r run turns number call job from at all = by job.answer (let h = bounded-machine r run turns number call job from at in omega arith)
-  where
-    by : (a : Option Answer) → cond (is_some a) 0 (task_left job.task) ≤ 0 → (b : Answer) × (a ≡ Some b)
-    by None none = let some = left-some job.task in absurd (omega arith)
-    by (Some a) none = (a, refl)

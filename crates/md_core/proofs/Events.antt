@@ -67,18 +67,6 @@ module _ (m : Machine) (e : Marked) (task : Task) (at : job_at m.jobs e.event.jo
   pub shown-turned : shown m e ≡ Some (shown_by turn m.dirs (reply_of turn.ask m.dirs e.faulted))
   shown-turned = ap (shown_of m e) at
 
--- of no job, or one that has its answer, an event is nothing
-pub happens-nothing : (m : Machine) (e : Marked) → ((task : Task) → job_at m.jobs e.event.job ≡ Some (unanswered task) → ⊥) → happens m e ≡ m
-happens-nothing m e none = by (job_at m.jobs e.event.job) none
-  where
-    of : (task : Task) (a : Option Answer) → (a ≡ None → ⊥) → met m e.event.job (max m.clock e.event.now) e.faulted (Some (record { task = task; answer = a })) ≡ m
-    of task None h = absurd (h refl)
-    of task (Some a) h = refl
-
-    by : (o : Option Job) → ((task : Task) → o ≡ Some (unanswered task) → ⊥) → met m e.event.job (max m.clock e.event.now) e.faulted o ≡ m
-    by None h = refl
-    by (Some job) h = of job.task job.answer (λ is. h job.task (λ i. Some (record { task = job.task; answer = is i })))
-
 -- a machine with one more job
 abbrev pub with_job : Machine → Job → Machine
 with_job m new = record { dirs = m.dirs; clock = m.clock; jobs = m.jobs ++ new ∷ []; effects = m.effects }

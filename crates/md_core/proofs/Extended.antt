@@ -1,4 +1,4 @@
--- A run with one more event or call is a run, and so are its first events and a beginning.
+-- A run with one more event or call is a run, and so is a beginning.
 use Rattle.std.proofs.Common.{ℕ, zero, suc, ◌≡◌, ◌≢◌, ◌+◌, ◌++◌, List, [], ◌∷◌, Some, None, true, refl, sym, ap, ◌∙◌, length, slice_get, arith}
 use Rattle.std.proofs.lemmas.List.{take_at, take-append-le}
 use Rattle.std.proofs.lemmas.Option.{slice_get_within}
@@ -10,9 +10,9 @@ use Rattle.md_core.specs.Machine.{Machine, Marked, job_at, job_left, new_job}
 use Rattle.md_core.specs.Runs.{Run, moment, machine_of, jobs_of, and_event, and_call, step_refusal, steps_left, left_of}
 use Rattle.md_core.specs.Submitting.{submit_refusal, is_delivery}
 use Rattle.md_core.specs.Interleaving.{IsRun}
-use Rattle.md_core.proofs.Places.{at_end, get-from_take, get-pushed}
+use Rattle.md_core.proofs.Places.{at_end, get-pushed}
 use Rattle.md_core.proofs.Events.{unanswered, goes_on-exact, job_at-more}
-use Rattle.md_core.proofs.Runs.{moment-end, moment-and_event, moment-and_call, moment-first_events, machine-and_call, first_events, length-jobs_of}
+use Rattle.md_core.proofs.Runs.{moment-end, moment-and_event, moment-and_call, machine-and_call, length-jobs_of}
 
 pub is_run-beginning : (image : State) → IsSound image → image.names ≡ finmap.empty → IsRun (record { image = image; calls = []; events = [] })
 is_run-beginning image sound bare = record {
@@ -48,18 +48,6 @@ is_run-and_call r call run accepted delivery = record {
       let goes = (goes_on-exact (job_at (moment r k).jobs e.event.job)).0 (run.taken k e at) in
       let there : job_at (moment (and_call r call) k).jobs e.event.job ≡ Some (unanswered goes.0) = ap (λ (m : Machine). job_at m.jobs e.event.job) (moment-and_call r run call k) ∙ job_at-more (moment r k).jobs (new_job call ∷ []) e.event.job (unanswered goes.0) goes.1 in
       (goes_on-exact (job_at (moment (and_call r call) k).jobs e.event.job)).1 (goes.0, there);
-}
-
--- the first events of a run are a run
-pub is_run-first_events : (r : Run) (k : ℕ) → IsRun r → IsRun (first_events r k)
-is_run-first_events r k run = record {
-  sound = run.sound;
-  bare = run.bare;
-  accepted = run.accepted;
-  deliveries = run.deliveries;
-  taken = λ j e at.
-      let there = get-from_take k r.events j e at in
-      ap (λ (m : Machine). step_refusal (job_at m.jobs e.event.job)) (moment-first_events r k j (omega (arith, there.0))) ∙ run.taken j e there.1;
 }
 
 -- what is left of each job after a submit: all of the new one, and of the others what was left

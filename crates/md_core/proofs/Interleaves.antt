@@ -1,5 +1,5 @@
 -- The interleaving theorem of a run, from what each turn does.
-use Rattle.std.proofs.Common.{ℕ, zero, suc, ◌≡◌, ◌≢◌, ◌<◌, ◌≤◌, ◌+◌, List, [], ◌∷◌, Option, Some, None, true, false, cond, is_some, IfSome, IsSome, refl, sym, ap, subst, ◌∙◌, length, take, slice_get, arith}
+use Rattle.std.proofs.Common.{ℕ, zero, suc, ◌≡◌, ◌≢◌, ◌≤◌, ◌+◌, List, [], ◌∷◌, Option, Some, None, true, false, cond, is_some, IfSome, IsSome, refl, sym, ap, subst, ◌∙◌, length, take, slice_get, arith}
 use Rattle.std.specs.Option.{option_to_list}
 use Rattle.std.proofs.lemmas.Option.{MatchOption-at_some}
 use Rattle.md_dirs.specs.State.{State, file_at}
@@ -13,12 +13,12 @@ use Rattle.md_core.specs.declared.jobs.task.Task.{Task}
 use Rattle.md_core.specs.Mailbox.{mailbox_of, is_tmp, is_message}
 use Rattle.md_core.specs.History.{Names, names_of}
 use Rattle.md_core.specs.Machine.{Machine, Marked, job_at, job_left, task_left, new_job, call_of}
-use Rattle.md_core.specs.Runs.{Run, effects_of, moment, machine_of, jobs_of}
+use Rattle.md_core.specs.Runs.{Run, moment, machine_of, jobs_of}
 use Rattle.md_core.specs.Interleaving.{IsRun, call_at, AsAlone, Simulates, NoneOverwritten, IsSafe, effects_by, is_success, is_past_link, steps_of, most_steps, KeepsItsWord, Interleaves}
 use Rattle.md_core.proofs.Good.{EachTurn, AnswerFits, own_effect}
 use Rattle.md_core.proofs.Places.{at_place}
 use Rattle.md_core.proofs.Events.{goes_on-exact}
-use Rattle.md_core.proofs.Runs.{moment-more, moment-over, length-jobs_of}
+use Rattle.md_core.proofs.Runs.{moment-more, moment-over}
 use Rattle.md_core.proofs.Going.{Goes, goes}
 use Rattle.md_core.proofs.GoodRuns.{good-moment, good-machine, kept-moment, kept-machine}
 use Rattle.md_core.proofs.Effects.{own-job, own-success, own-failure, own-link}
@@ -138,7 +138,3 @@ interleaves turns r run = record {
   end = (tells turns r run).end;
   jobs = keeps turns r run;
 }
-
--- each effect is of a call that was submitted
-pub effects-called : EachTurn → (r : Run) → IsRun r → (i : ℕ) (e : Effect) → slice_get (effects_of r) i ≡ Some e → (0 < e.job) × (e.job ≤ length r.calls)
-effects-called turns r run i e at = let there = (tells turns r run).there i e at in (there.0, subst (λ (n : ℕ). e.job ≤ n) (length-jobs_of r run) there.1)

@@ -11,7 +11,6 @@ pub mod NameChanges
 pub mod Pieces
 pub mod Nowhere
 pub mod MessageFits
-pub mod SameCall
 pub mod Calls
 pub mod Quiet
 pub mod Deliver

@@ -11,7 +11,7 @@ use Rattle.md_name.specs.Names.{unique_of}
 use Rattle.md_core.specs.Mailbox.{mailbox_of, is_message, HasOnePath}
 use Rattle.md_core.specs.History.{Names, names_of}
 use Rattle.md_core.proofs.Good.{bytes_at, HasNoMessage}
-use Rattle.md_core.proofs.Changes.{Keeps, Puts, BytesStay, by_name, one-keeps, one-puts}
+use Rattle.md_core.proofs.Changes.{Puts, BytesStay, by_name, one-puts}
 use Rattle.md_core.proofs.Named.{sized, size_at, names-at}
 
 -- names are one if each path has the same
@@ -34,9 +34,6 @@ size-same s s' p bytes same = by (is_message p) (file_at s p) refl refl
     by false o m at = refl
     by true None m at = ap (sized s') (same m ∙ at) ∙ ap (sized s) (sym at)
     by true (Some n) m at = ap (sized s') (same m ∙ at) ∙ ap (λ xs. Some (length xs)) (bytes m n at) ∙ ap (sized s) (sym at)
-
-pub names-keeps : (s s' : State) → HasOnePath s → Keeps s s' → names_of (mailbox_of s') ≡ names_of (mailbox_of s)
-names-keeps s s' one k = same_names _ _ (λ p. names-at s' (one-keeps s s' one k) p ∙ size-same s s' p (k.bytes p) (k.names p) ∙ sym (names-at s one p))
 
 -- a message of a name that none had
 pub names-puts : (s s' : State) (p : Path) (n : ℕ) → HasOnePath s → Puts s s' p n → HasNoMessage s (unique_of p.name) →

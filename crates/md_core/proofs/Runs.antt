@@ -1,7 +1,6 @@
 -- Runs event by event: their moments, and that a call which is submitted later changes nothing of them.
 use Rattle.std.proofs.Common.{ℕ, zero, suc, ◌≡◌, ◌≤◌, ◌+◌, ◌++◌, List, [], ◌∷◌, Some, refl, sym, ap, subst, ◌∙◌, take, length, slice_get, arith}
-use Rattle.std.proofs.lemmas.List.{map-append, length-map, take-take, take_all, take-append-le}
-use Rattle.md_dirs.specs.State.{State}
+use Rattle.std.proofs.lemmas.List.{map-append, length-map, take_all, take-append-le}
 use Rattle.md_core.specs.declared.jobs.call.Call.{Call}
 use Rattle.md_core.specs.declared.jobs.task.Task.{Task}
 use Rattle.md_core.specs.Machine.{Machine, Marked, job_at, new_job, happens}
@@ -30,10 +29,6 @@ moment-start r = run_from-none (beginning r.image r.calls)
 pub moment-more : (r : Run) (k : ℕ) (e : Marked) → slice_get r.events k ≡ Some e → moment r (k + 1) ≡ happens (moment r k) e
 moment-more r k e at = ap (run_from (beginning r.image r.calls)) (take-one_more r.events k e at) ∙ run_from-more_event (beginning r.image r.calls) (take k r.events) e
 
--- a run with no events is at its beginning
-pub machine-start : (image : State) (calls : List Call) → machine_of (record { image = image; calls = calls; events = [] }) ≡ beginning image calls
-machine-start image calls = run_from-none (beginning image calls)
-
 -- after the last event there is no other moment
 pub moment-past : (r : Run) (k : ℕ) → length r.events ≤ k → moment r k ≡ machine_of r
 moment-past r k past = ap (run_from (beginning r.image r.calls)) (take_all k r.events past)
@@ -56,13 +51,6 @@ moment-and_event r e k within = ap (run_from (beginning r.image r.calls)) (take-
 
 pub moment-and_events : (r : Run) (es : List Marked) (k : ℕ) → k ≤ length r.events → moment (and_events r es) k ≡ moment r k
 moment-and_events r es k within = ap (run_from (beginning r.image r.calls)) (take-append-le k r.events es within)
-
--- the run of the first k events
-abbrev pub first_events : Run → ℕ → Run
-first_events r k = record r { events = take k r.events }
-
-pub moment-first_events : (r : Run) (k j : ℕ) → j ≤ k → moment (first_events r k) j ≡ moment r j
-moment-first_events r k j within = ap (run_from (beginning r.image r.calls)) (take-take j k r.events within)
 
 -- What holds at the beginning, and is kept by each event of a job that is there and has no answer, holds at each moment.
 module _ (r : Run) (run : IsRun r) (P : List Marked → Machine → Type 0) (start : P [] (beginning r.image r.calls))

@@ -1,15 +1,11 @@
 -- Many steps, one after another.
-use Rattle.std.proofs.Common.{ℕ, ◌≡◌, ◌+◌, ◌++◌, ◌∙◌, List, [], ◌∷◌, Some, Bool, refl, sym, ap, take, slice_get, arith, append_assoc, length-append}
-use Rattle.std.proofs.lemmas.List.{append-nil}
+use Rattle.std.proofs.Common.{ℕ, ◌≡◌, ◌+◌, ◌++◌, ◌∙◌, List, [], ◌∷◌, Some, Bool, sym, ap, take, slice_get, arith, append_assoc, length-append}
 use Rattle.md_core.specs.declared.jobs.step.Event.{Event}
 use Rattle.md_core.specs.Machine.{marked}
 use Rattle.md_core.specs.Runs.{Run, and_event}
 use Rattle.md_core.specs.Worlds.{TakesAll, marked_events}
 use Rattle.md_core.proofs.Places.{take-one_more}
 use Rattle.md_core.proofs.Stepping.{marked-push}
-
-pub takes-none : (es : List Event) (r : Run) → TakesAll (take 0 es) r r
-takes-none es r = ([], refl, (λ i. record r { events = sym (append-nil r.events) i }))
 
 pub takes-more : (es : List Event) (i : ℕ) (r r' r'' : Run) (e : Event) (b : Bool) → slice_get es i ≡ Some e → TakesAll (take i es) r r' → r'' ≡ and_event r' (marked e.job e.now b) → TakesAll (take (i + 1) es) r r''
 takes-more es i r r' r'' e b at taken is =
