@@ -1,0 +1,155 @@
+-- Steps of one job until it is answered.
+use Rattle.std.proofs.Common.{ℕ, zero, suc, ◌≡◌, ◌<◌, ◌≤◌, ◌+◌, ◌++◌, List, [], ◌∷◌, inl, inr, Option, Some, None, Bool, true, false, cond, is_some, Result, Ok, Err, refl, sym, ap, subst, ◌∙◌, length, arith, append_assoc, append-nil}
+use Rattle.std.proofs.lemmas.Option.{slice_get_cases}
+use Rattle.md_core.specs.declared.error.CoreError.{CoreError}
+use Rattle.md_core.specs.declared.error.CoreError.TheVariants.{Answered}
+use Rattle.md_core.specs.declared.jobs.answer.Answer.{Answer}
+use Rattle.md_core.specs.declared.jobs.task.Job.{Job}
+use Rattle.md_core.specs.Machine.{Machine, Marked, job_at}
+use Rattle.md_core.specs.Runs.{Run, machine_of, jobs_of, and_event, answer_of, step_refusal, steps_left}
+use Rattle.md_core.proofs.Bounds.{left-exact}
+use Rattle.md_core.proofs.Events.{job_at-within, goes_on-exact, happens-turned}
+use Rattle.md_core.proofs.Places.{length-changed}
+use Rattle.md_core.proofs.Runs.{machine-and_event}
+use Rattle.md_script.specs.declared.refusal.LineRefusal.{LineRefusal}
+use Rattle.md_script.specs.declared.refusal.Stop.{Stop}
+use Rattle.md_script.specs.declared.refusal.Stop.TheVariants.{NoMemory, Refused}
+use Rattle.md_script.specs.Step.{Steps}
+use Rattle.md_script.specs.Sessions.{unless_refused, stepped, finished, steps_of, before, at_moment, step_text}
+use Rattle.md_script.proofs.Acts.{is_done, was_done, refused_too}
+
+abbrev job_in : Run → ℕ → Option Job
+job_in r job = job_at (jobs_of r) job
+
+-- there is a job of this number
+pub record IsThere (r : Run) (job : ℕ) : Type 0 where
+  pub from : 0 < job
+  pub within : job ≤ length (jobs_of r)
+
+job_of : (jobs : List Job) (number : ℕ) → 0 < number → number ≤ length jobs → (job : Job) × (job_at jobs number ≡ Some job)
+job_of jobs zero from within = absurd (omega arith)
+job_of jobs (suc i) from within = elim (slice_get_cases jobs i).1 [ inl is ↦ (is.0, is.2) | inr past ↦ absurd (let beyond = past.0 in omega arith) ]
+
+-- a job that is there goes on where it has no answer, and is refused where it has
+waits-by : (o : Option Job) (job : Job) → o ≡ Some job → answer_of o ≡ None → step_refusal o ≡ None
+waits-by None job is none = cc
+waits-by (Some other) job is none = ap (λ (a : Option Answer). cond {A = Option CoreError} (is_some a) (Some Answered) None) none
+
+pub waits : (r : Run) (job : ℕ) → IsThere r job → answer_of (job_in r job) ≡ None → step_refusal (job_in r job) ≡ None
+waits r job there none = let at = job_of (jobs_of r) job there.from there.within in waits-by (job_in r job) at.0 at.1 none
+
+ends-by : (o : Option Job) (a : Answer) → answer_of o ≡ Some a → step_refusal o ≡ Some Answered
+ends-by None a is = cc
+ends-by (Some job) a is = ap (λ (b : Option Answer). cond {A = Option CoreError} (is_some b) (Some Answered) None) is
+
+-- a job that goes on is there, and stays there
+there-here : (r : Run) (job : ℕ) → step_refusal (job_in r job) ≡ None → IsThere r job
+there-here r job goes_on =
+    let task = (goes_on-exact (job_in r job)).0 goes_on in
+    let at = job_at-within (jobs_of r) job _ task.1 in
+    record { from = at.0; within = at.1 }
+
+there-after : (r : Run) (job now : ℕ) → step_refusal (job_in r job) ≡ None → IsThere (and_event r (at_moment job now)) job
+there-after r job now goes_on =
+    let task = (goes_on-exact (job_in r job)).0 goes_on in
+    let here = there-here r job goes_on in
+    let as_many : length (jobs_of (and_event r (at_moment job now))) ≡ length (jobs_of r) =
+    ap (λ (m : Machine). length m.jobs) (machine-and_event r (at_moment job now) ∙ happens-turned (machine_of r) (at_moment job now) task.0 task.1) ∙ length-changed (jobs_of r) _ _ in
+    record { from = here.from; within = omega (arith, as_many, here.within) }
+
+-- what a step that was taken says
+pub record Stepped (r : Run) (job now : ℕ) (r' : Run) (text : List ℕ) : Type 0 where
+  pub goes_on : step_refusal (job_in r job) ≡ None
+  pub run : and_event r (at_moment job now) ≡ r'
+  pub text_is : step_text r job now ≡ text
+
+pub stepped-is : (r : Run) (job now : ℕ) (r' : Run) (text : List ℕ) → stepped r job now ≡ Ok (r', text) → Stepped r job now r' text
+unfolding stepped
+stepped-is r job now r' text is =
+    let done = was_done (step_refusal (job_in r job)) _ (r', text) is in
+    record { goes_on = done.0; run = ap (λ (x : Run × List ℕ). x.0) done.1; text_is = ap (λ (x : Run × List ℕ). x.1) done.1 }
+
+-- one step, and then the others
+step-more : (more : ℕ) (r : Run) (job now : ℕ) (r' : Run) (text : List ℕ) → Stepped r job now r' text → steps_of (suc more) r job now ≡ before text (steps_of more r' job now)
+unfolding steps_of
+step-more more r job now r' text s =
+    let goes_on : is_some (step_refusal (job_in r job)) ≡ false = ap is_some s.goes_on in
+    rw goes_on (λ i. before (s.text_is i) (steps_of more (s.run i) job now))
+
+-- no step
+step-none : (more : ℕ) (r : Run) (job now : ℕ) (e : CoreError) → step_refusal (job_in r job) ≡ Some e → steps_of more r job now ≡ (r, [])
+unfolding steps_of
+step-none zero r job now e refused = refl
+step-none (suc more) r job now e refused = let is : is_some (step_refusal (job_in r job)) ≡ true = ap is_some refused in rw is refl
+
+-- The steps since run r led to r' and printed this text, and what is left of them goes on from there.
+pub record Finishes (r : Run) (job now : ℕ) (r' : Run) (text : List ℕ) : Type 0 where
+  pub goes_on : step_refusal (job_in r job) ≡ None
+  pub there : IsThere r' job
+  pub more : ℕ
+  pub enough : steps_left r' job ≤ more
+  pub rest : steps_of (steps_left r job) r job now ≡ before text (steps_of more r' job now)
+
+some_left : (r : Run) (job : ℕ) → step_refusal (job_in r job) ≡ None → 0 < steps_left r job
+some_left r job goes_on = (left-exact (job_in r job)).0 goes_on
+
+one_more : (n : ℕ) → 0 < n → (m : ℕ) × (n ≡ suc m)
+one_more zero some = absurd (omega arith)
+one_more (suc m) some = (m, refl)
+
+there-stepped : (r : Run) (job now : ℕ) (r' : Run) (text : List ℕ) → Stepped r job now r' text → IsThere r' job
+there-stepped r job now r' text s = subst (λ (x : Run). IsThere x job) s.run (there-after r job now s.goes_on)
+
+-- so many steps, of which the first is this
+first-of : (n : ℕ) (r : Run) (job now : ℕ) (r' : Run) (text : List ℕ) → Stepped r job now r' text → 0 < n → steps_left r' job < n
+    → (more : ℕ) × (steps_left r' job ≤ more) × (steps_of n r job now ≡ before text (steps_of more r' job now))
+first-of zero r job now r' text s some less = absurd (omega arith)
+first-of (suc more) r job now r' text s some less = (more, omega arith, step-more more r job now r' text s)
+
+pub finishes-start : (r : Run) (job now : ℕ) (r' : Run) (text : List ℕ) → stepped r job now ≡ Ok (r', text) → steps_left r' job < steps_left r job → Finishes r job now r' text
+finishes-start r job now r' text is less =
+    let s = stepped-is r job now r' text is in
+    let first = first-of (steps_left r job) r job now r' text s (some_left r job s.goes_on) less in
+    record { goes_on = s.goes_on; there = there-stepped r job now r' text s; more = first.0; enough = first.1; rest = first.2 }
+
+pub finishes-more : (r : Run) (job now : ℕ) (r' : Run) (text : List ℕ) (r'' : Run) (next : List ℕ) → Finishes r job now r' text → stepped r' job now ≡ Ok (r'', next) → steps_left r'' job < steps_left r' job → Finishes r job now r'' (text ++ next)
+finishes-more r job now r' text r'' next f is less =
+    let s = stepped-is r' job now r'' next is in
+    let some = some_left r' job s.goes_on in
+    let first = first-of f.more r' job now r'' next s (omega (arith, some, f.enough)) (omega (arith, less, f.enough)) in
+    record {
+      goes_on = f.goes_on;
+      there = there-stepped r' job now r'' next s;
+      more = first.0;
+      enough = first.1;
+      rest = f.rest ∙ ap (before text) first.2 ∙ (let last = steps_of first.0 r'' job now in λ i. (last.0, sym (append_assoc text next last.1) i));
+    }
+
+pub finishes-end : (r : Run) (job now : ℕ) (r' : Run) (text : List ℕ) → Finishes r job now r' text → is_some (answer_of (job_in r' job)) ≡ true → finished r job now ≡ Ok (r', text)
+unfolding finished
+finishes-end r job now r' text f answered =
+    let a = answer_by (answer_of (job_in r' job)) answered in
+    let last = step-none f.more r' job now Answered (ends-by (job_in r' job) a.0 a.1) in
+    is_done (step_refusal (job_in r job)) _ f.goes_on ∙ ap Ok (f.rest ∙ ap (before text) last ∙ λ i. (r', append-nil text i))
+  where
+    answer_by : (o : Option Answer) → is_some o ≡ true → (a : Answer) × (o ≡ Some a)
+    answer_by None is = cc
+    answer_by (Some a) is = (a, refl)
+
+-- a job that has no answer after some steps is not refused: memory ran out
+pub finishes-unrefused : {S : Type 0} (r : Run) (job now : ℕ) (r' : Run) (text : List ℕ) → Finishes r job now r' text → is_some (answer_of (job_in r' job)) ≡ false
+    → (step : Result (S × List ℕ) LineRefusal) (s : S) (t : Run) (more before after : List ℕ) (stop : Stop) → Steps (stepped r' job now) t more after (Err stop) → Steps step s before after (Err stop)
+unfolding stepped
+finishes-unrefused r job now r' text f unanswered step s t more before after NoMemory is = tt
+finishes-unrefused r job now r' text f unanswered step s t more before after (Refused e) is =
+    let goes_on = waits r' job f.there (none_by (answer_of (job_in r' job)) unanswered) in
+    let done = is_done (step_refusal (job_in r' job)) (and_event r' (at_moment job now), step_text r' job now) goes_on in
+    absurd (let no = is.0 in cc)
+  where
+    none_by : (o : Option Answer) → is_some o ≡ false → o ≡ None
+    none_by None is = refl
+    none_by (Some a) is = cc
+
+pub finishes-refused : (r : Run) (job now : ℕ) (s t : Run) (text text' : List ℕ) (stop : Stop) → Steps (stepped r job now) s text text' (Err stop) → Steps (finished r job now) t text text' (Err stop)
+unfolding stepped finished
+finishes-refused r job now s t text text' stop is = refused_too (step_refusal (job_in r job)) (and_event r (at_moment job now), step_text r job now) (steps_of (steps_left r job) r job now) s t text text' stop is

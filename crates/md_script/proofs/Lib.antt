@@ -1,0 +1,14 @@
+pub mod Firsts
+pub mod Cuts
+pub mod Chunks
+pub mod Places
+pub mod Escaping
+pub mod Numbers
+pub mod Runs
+pub mod Acts
+pub mod Finishing
+pub mod Gathering
+pub mod MadeOf
+pub mod PutEach
+pub mod Said
+pub mod InOrder

@@ -1,0 +1,16 @@
+use Rattle.std.proofs.Common.{◌≡◌, ◌∙◌, sym, ap, Some}
+use Rattle.md_script.specs.Folders.{place_of}
+use Rattle.md_script.proofs.Places.{place_of-names_of}
+use Rattle.md_script.proofs.folders.Folders.place.Goals as goal
+
+pub returns-in_err-at : goal.returns-in_err-at
+returns-in_err-at c =
+    let held = rw c.deref.ensures.value at c.position.ensures.value ∙ place_of-names_of c.self.inside.names.items c.args.name.now in
+    let place : c.position.result ≡ place_of c.args.self.now c.args.name.now = rw (← c.self.view_is) held in
+    cc (c.in_err-at.was, c.from_residual.ensures, place)
+
+pub returns : goal.returns
+returns c =
+    let held = rw c.deref.ensures.value at c.position.ensures.value ∙ place_of-names_of c.self.inside.names.items c.args.name.now in
+    let place : c.position.result ≡ place_of c.args.self.now c.args.name.now = rw (← c.self.view_is) held in
+    sym c.in_ok-at.was ∙ place

@@ -1,0 +1,13 @@
+use Rattle.std.proofs.Common.{◌≡◌, ◌+◌, ◌≤◌, length}
+use Rattle.md_script.specs.Lines.{lines_of}
+use Rattle.md_script.specs.Transcript.{run_from, printed, transcript_of}
+use Rattle.md_script.proofs.run.run.Given as goal
+
+abbrev pub invariant-loop-first : goal.invariant-loop-first
+invariant-loop-first g l = record {
+  counted : l.line + length l.left ≤ length l.fn.script + 1;
+  same : printed l.text.items (run_from g.S.Session.step l.line l.session (lines_of l.left)) ≡ transcript_of g.S.Session.step l.fn.session l.fn.script;
+}
+
+abbrev pub decreases-loop-first : goal.decreases-loop-first
+decreases-loop-first g l = length l.left

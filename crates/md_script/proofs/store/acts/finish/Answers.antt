@@ -1,0 +1,37 @@
+use Rattle.std.proofs.Common.{◌++◌, ◌∙◌, ap, sym, is_some, append_assoc}
+use Rattle.md_script.specs.Sessions.{finished}
+use Rattle.md_script.proofs.Acts.{passes}
+use Rattle.md_script.proofs.Finishing.{finishes-start, finishes-more, finishes-end, finishes-unrefused, finishes-refused}
+use Rattle.md_script.proofs.store.acts.finish.Goals as goal
+
+pub loop-alloc-init : goal.loop-alloc-init
+loop-alloc-init c =
+    let step = c.in_ok-step.ensures.step in
+    (step.0, step.2, finishes-start _ _ _ _ _ step.1 c.in_ok-step.ensures.nearer)
+
+pub loop-alloc-preserved : goal.loop-alloc-preserved
+loop-alloc-preserved c =
+    let so_far = c.loop-alloc.invariant in
+    let step = c.in_ok-step-2.ensures.step in (
+      so_far.0 ++ step.0,
+      step.2 ∙ ap (λ text. text ++ step.0) so_far.1 ∙ append_assoc c.args.out.now.items so_far.0 step.0,
+      finishes-more _ _ _ _ _ _ _ so_far.2 step.1 c.in_ok-step-2.ensures.nearer,
+    )
+
+pub returns : goal.returns
+returns c =
+    let so_far = c.loop-alloc.invariant in
+    (so_far.0, finishes-end _ _ _ _ _ so_far.2 (ap is_some (sym c.answer.ensures) ∙ c.loop-alloc-test.ensures), so_far.1)
+
+pub returns-in_err-step : goal.returns-in_err-step
+returns-in_err-step c =
+    passes _ _ _ _ _ _ c.from_residual.ensures.1
+    (finishes-refused c.args.world.now c.args.job c.args.now c.step.new.world c.step.new.world c.args.out.now.items c.step.new.out.items c.in_err-step.field-0.0 c.in_err-step.ensures.step)
+
+pub returns-in_err-step-2 : goal.returns-in_err-step-2
+returns-in_err-step-2 c =
+    passes (finished c.args.world.now c.args.job c.args.now) c.step-in-loop-alloc.new.world c.args.out.now.items c.step-in-loop-alloc.new.out.items c.in_err-step-2.field-0.0 _
+    c.from_residual-in_err-step-2.ensures.1
+    (finishes-unrefused c.args.world.now c.args.job c.args.now c.loop-alloc.world c.loop-alloc.invariant.0 c.loop-alloc.invariant.2 (ap is_some (sym c.answer.ensures) ∙ c.loop-alloc-test.ensures)
+    (finished c.args.world.now c.args.job c.args.now) c.step-in-loop-alloc.new.world c.step-in-loop-alloc.new.world c.loop-alloc.out.items c.args.out.now.items c.step-in-loop-alloc.new.out.items
+    c.in_err-step-2.field-0.0 c.in_err-step-2.ensures.step)

@@ -1,0 +1,10 @@
+use Rattle.std.proofs.Common.{◌≡◌, ◌++◌, ℕ, List}
+use Rattle.md_core.specs.Runs.{steps_left}
+use Rattle.md_script.proofs.Finishing.{Finishes}
+use Rattle.md_script.proofs.store.acts.finish.Given as goal
+
+abbrev pub invariant-loop-alloc : goal.invariant-loop-alloc
+invariant-loop-alloc l = (text : List ℕ) × (l.out.items ≡ l.fn.out.items ++ text) × Finishes l.fn.world l.job l.now l.world text
+
+abbrev pub decreases-loop-alloc : goal.decreases-loop-alloc
+decreases-loop-alloc l = steps_left l.world l.job

@@ -1,0 +1,17 @@
+pub mod Bind
+pub mod Stops
+pub mod Lines
+pub mod Escapes
+pub mod Words
+pub mod Step
+pub mod Transcript
+pub mod Printed
+pub mod Reading
+pub mod Kinds
+pub mod Play
+pub mod Folders
+pub mod Verb
+pub mod Commands
+pub mod Seen
+pub mod Sessions
+pub mod Listing

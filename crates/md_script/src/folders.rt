@@ -1,0 +1,95 @@
+//! The folders that a script names.
+ghost use Rattle.std.specs.Prelude.{◌≡◌, ◌<◌, ◌≤◌, ◌++◌, ◌∷◌, [], ℕ, List, length, vec_len, OnOk, OnErr, IfSome, position};
+ghost use Rattle.std.specs.List.{list_any};
+ghost use Rattle.std.specs.Str.{bytes_eq};
+ghost use Rattle.md_script.specs.Folders.{names_of, place_of, can_add, is_barred, most_folders};
+
+use std::alloc::{AllocError, Global};
+use std::marker::Model;
+
+/// The most folders that a script may name.
+pub const MOST_FOLDERS: usize = 64;
+
+/// The longest name of a folder, in bytes.
+pub const LONGEST_NAME: usize = 100;
+
+const DOT: u8 = b'.';
+
+/// The names of a script's folders, at most `MOST_FOLDERS`, in the order in which they were named.
+#[derive(Drop)]
+pub struct Folders {
+    alloc: Global,
+    names: Vec<Vec<u8>>,
+}
+
+impl Model for Folders {
+    ghost Value = { List (List ℕ) };
+
+    ghost view = { λ f. names_of f.names.items };
+
+    ghost invariant = { λ f. vec_len f.names ≤ most_folders };
+}
+
+impl Folders {
+    /// No folder.
+    pub fn new(alloc: Global) -> Self
+        ensures { result ≡ [] }
+    {
+        Folders {
+            alloc,
+            names: Vec::new(alloc),
+        }
+    }
+
+    /// How many folders there are.
+    pub fn count(&self) -> u32
+        ensures { result ≡ length self.now }
+    {
+        self.names.len() as u32
+    }
+
+    /// The number of the folder with this name, counted from 0.
+    pub fn place(&self, name: &[u8]) -> Option<u32>
+        ensures { result ≡ place_of self.now name.now }
+    {
+        let at = position(&self.names, name)?;
+        Some(at as u32)
+    }
+
+    /// Whether a folder can be made under this name: it has at most `LONGEST_NAME` bytes, none of them a slash, a
+    /// NUL or a carriage return, and doesn't begin with a dot, no folder has it, and there is room for one more.
+    pub fn can_add(&self, name: &[u8]) -> bool
+        ensures { result ≡ can_add self.now name.now }
+    {
+        if name.len() > LONGEST_NAME || has_barred(name) {
+            return false;
+        }
+        if !name.is_empty() && name[0] == DOT {
+            return false;
+        }
+        self.place(name).is_none() && self.names.len() < MOST_FOLDERS
+    }
+
+    /// Adds a folder behind the others.
+    pub fn add(&mut self, name: &[u8]) -> Result<(), AllocError>
+        requires { length self.old < MOST_FOLDERS }
+        ensures ok { OnOk result (self.new ≡ self.old ++ name.now ∷ []) }
+        ensures err { OnErr result (self.new ≡ self.old) }
+    {
+        self.names.push(Vec::from_slice(self.alloc, name)?)?;
+        Ok(())
+    }
+}
+
+fn position(names: &[Vec<u8>], name: &[u8]) -> Option<usize>
+    ensures value { result ≡ position (λ other. bytes_eq other.items name.now) names.now }
+    ensures within { IfSome result (λ at. at < length names.now) }
+{
+    names.iter().position(|other| other.as_slice() == name)
+}
+
+fn has_barred(name: &[u8]) -> bool
+    ensures { result ≡ list_any is_barred name.now }
+{
+    name.iter().any(|b| *b == b'/' || *b == 0 || *b == b'\r')
+}

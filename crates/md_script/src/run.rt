@@ -1,0 +1,62 @@
+//! The lines of a script, one after another.
+ghost use Rattle.std.specs.Prelude.{◌≡◌, ◌≤◌, length, IfOk};
+ghost use Rattle.md_script.specs.Step.{Steps, line_step};
+ghost use Rattle.md_script.specs.Transcript.{transcript_of};
+ghost use Rattle.md_script.specs.Printed.{shown};
+
+use crate::lines::cut_line;
+use crate::reading::MOST_BYTES;
+use crate::refusal::{LineRefusal, Stop};
+use crate::session::Session;
+use std::alloc::{AllocError, Global};
+
+/// The byte that a line begins with that is passed over.
+const COMMENT: u8 = b'#';
+
+/// What a script printed, and the line that was refused, counted from 1.
+#[derive(Drop)]
+pub(crate) struct Printed {
+    pub text: Vec<u8>,
+    pub refusal: Option<(u64, LineRefusal)>,
+}
+
+/// Runs the lines of a script up to the first that is refused. The only error is want of memory.
+pub(crate) fn run<S: Session>(
+    alloc: Global,
+    session: &mut S,
+    script: &[u8],
+) -> Result<Printed, AllocError>
+    requires { length script.now ≤ MOST_BYTES }
+    ensures { IfOk result (λ printed. shown printed ≡ transcript_of S.step session.old script.now) }
+{
+    let mut text = Vec::new(alloc);
+    let mut left = script;
+    let mut line = 1u64;
+    while let Some((first, others)) = cut_line(left) {
+        match run_line(session, first, &mut text) {
+            Ok(()) => {}
+            Err(Stop::NoMemory) => return Err(AllocError),
+            Err(Stop::Refused(refusal)) => {
+                let refusal = Some((line, refusal));
+                return Ok(Printed { text, refusal });
+            }
+        }
+        left = others;
+        line += 1;
+    }
+    Ok(Printed {
+        text,
+        refusal: None,
+    })
+}
+
+/// Runs a line, unless it is passed over.
+#[tactic(auto, unfolding(crate::specs::Step::line_step))]
+fn run_line<S: Session>(session: &mut S, line: &[u8], out: &mut Vec<u8>) -> Result<(), Stop>
+    ensures { Steps (line_step S.step session.old line.now) session.new out.old.items out.new.items result }
+{
+    if line.is_empty() || line[0] == COMMENT {
+        return Ok(());
+    }
+    session.run_line(line, out)
+}

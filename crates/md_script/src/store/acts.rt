@@ -1,0 +1,82 @@
+//! What commands do to a store, and what they print.
+ghost use Rattle.std.specs.Prelude.{◌≡◌, ◌<◌, true, OnOk};
+ghost use Rattle.md_core.specs.Runs.{steps_left};
+ghost use Rattle.md_core.specs.Submitting.{is_delivery};
+ghost use Rattle.md_script.specs.Step.{Steps};
+ghost use Rattle.md_script.specs.Sessions.{submitted, stepped, finished, listing_of};
+
+use crate::listing::push_listing;
+use crate::refusal::Stop;
+use crate::store::printing::{push_job, push_step};
+use md_core::{Call, JobId, World};
+use md_dirs::PlainDirs;
+use std::alloc::Global;
+
+/// Submits a call, and prints the number of its job.
+pub(super) fn submit(
+    alloc: Global,
+    world: &mut World<PlainDirs>,
+    call: Call,
+    out: &mut Vec<u8>,
+) -> Result<(), Stop>
+    requires { is_delivery call ≡ true }
+    ensures { Steps (submitted world.old call) world.new out.old.items out.new.items result }
+{
+    let job = world.submit(call)?;
+    push_job(alloc, out, job)?;
+    Ok(())
+}
+
+/// Takes one step of a job, at a moment in seconds, and prints it.
+pub(super) fn step(
+    alloc: Global,
+    world: &mut World<PlainDirs>,
+    job: JobId,
+    now: u64,
+    out: &mut Vec<u8>,
+) -> Result<(), Stop>
+    ensures step { Steps (stepped world.old job now) world.new out.old.items out.new.items result }
+    ensures nearer { OnOk result (steps_left world.new job < steps_left world.old job) }
+{
+    // The kit's borrow checker refuses a `?` here, where no signature names `Answer`.
+    let shown = match world.step(job, now) {
+        Ok(shown) => shown,
+        Err(error) => return Err(Stop::from(error)),
+    };
+    // Plain directories never fail, so that no step is marked.
+    world.marks();
+    push_step(alloc, out, job, shown)?;
+    Ok(())
+}
+
+/// Takes steps of a job until it is answered, all at one moment in seconds, and prints them. A job that has its answer
+/// is refused.
+pub(super) fn finish(
+    alloc: Global,
+    world: &mut World<PlainDirs>,
+    job: JobId,
+    now: u64,
+    out: &mut Vec<u8>,
+) -> Result<(), Stop>
+    ensures { Steps (finished world.old job now) world.new out.old.items out.new.items result }
+{
+    step(alloc, world, job, now, out)?;
+    while world.answer(job).is_none() {
+        step(alloc, world, job, now, out)?;
+    }
+    Ok(())
+}
+
+/// Prints the messages of a folder.
+#[tactic(auto, unfolding(crate::specs::Sessions::listing_of))]
+pub(super) fn list(
+    alloc: Global,
+    world: &World<PlainDirs>,
+    folder: u32,
+    out: &mut Vec<u8>,
+) -> Result<(), Stop>
+    ensures { Steps (listing_of world.now folder) world.now out.old.items out.new.items result }
+{
+    push_listing(alloc, world, folder, out)?;
+    Ok(())
+}

@@ -1,0 +1,119 @@
+//! What jobs and their steps print.
+ghost use Rattle.std.specs.Prelude.{◌≡◌, ◌++◌, Some, OnOk};
+ghost use Rattle.std.specs.Fmt.{decimal};
+ghost use Rattle.md_script.specs.Sessions.{job_text, call_text, reply_text, answer_text, answer_line, out_text};
+
+use crate::listing::{place_text, push_letters};
+use md_core::{Answer, DirCall, DirReply, JobId, StepOut};
+use std::alloc::{AllocError, Global};
+
+/// `job J`, for a job that was submitted.
+pub(super) fn push_job(alloc: Global, out: &mut Vec<u8>, job: JobId) -> Result<(), AllocError>
+    ensures { OnOk result (out.new.items ≡ out.old.items ++ job_text job) }
+{
+    out.extend_from_slice(b"job ")?;
+    push_number(alloc, out, job)?;
+    out.push(b'\n')?;
+    Ok(())
+}
+
+/// `J CALL REPLY`, for a step of the job, and `J answer A` where it answers the job.
+pub(super) fn push_step(
+    alloc: Global,
+    out: &mut Vec<u8>,
+    job: JobId,
+    step: StepOut,
+) -> Result<(), AllocError>
+    ensures { OnOk result (out.new.items ≡ out.old.items ++ out_text job step) }
+{
+    push_number(alloc, out, job)?;
+    out.push(b' ')?;
+    push_call(alloc, out, step.call)?;
+    out.push(b' ')?;
+    out.extend_from_slice(reply_text(step.reply))?;
+    out.push(b'\n')?;
+    match step.answer {
+        None => Ok(()),
+        Some(answer) => push_answer_line(alloc, out, job, answer),
+    }
+}
+
+// `J answer A`
+fn push_answer_line(
+    alloc: Global,
+    out: &mut Vec<u8>,
+    job: JobId,
+    answer: Answer,
+) -> Result<(), AllocError>
+    ensures { OnOk result (out.new.items ≡ out.old.items ++ answer_line job (Some answer)) }
+{
+    push_number(alloc, out, job)?;
+    out.extend_from_slice(b" answer ")?;
+    push_answer(alloc, out, answer)?;
+    out.push(b'\n')?;
+    Ok(())
+}
+
+fn push_call(alloc: Global, out: &mut Vec<u8>, call: DirCall) -> Result<(), AllocError>
+    ensures { OnOk result (out.new.items ≡ out.old.items ++ call_text call) }
+{
+    match call {
+        DirCall::Create => out.extend_from_slice(b"create"),
+        DirCall::Append(count) => {
+            out.extend_from_slice(b"append ")?;
+            push_number(alloc, out, count)
+        }
+        DirCall::Link => out.extend_from_slice(b"link"),
+        DirCall::Rename => out.extend_from_slice(b"rename"),
+        DirCall::Unlink => out.extend_from_slice(b"unlink"),
+        DirCall::List(place) => {
+            out.extend_from_slice(b"list ")?;
+            out.extend_from_slice(place_text(place))
+        }
+    }
+}
+
+fn reply_text(reply: DirReply) -> &'static [u8]
+    ensures { result.now ≡ reply_text reply }
+{
+    match reply {
+        DirReply::Ok => b"ok",
+        DirReply::Exists => b"exists",
+        DirReply::NotFound => b"notfound",
+        DirReply::Fault => b"fault",
+    }
+}
+
+fn push_answer(alloc: Global, out: &mut Vec<u8>, answer: Answer) -> Result<(), AllocError>
+    ensures { OnOk result (out.new.items ≡ out.old.items ++ answer_text answer) }
+{
+    match answer {
+        Answer::Delivered => out.extend_from_slice(b"delivered"),
+        Answer::Flags(flags) => {
+            out.extend_from_slice(b"flags ")?;
+            push_letters(alloc, out, flags)
+        }
+        Answer::Moved => out.extend_from_slice(b"moved"),
+        Answer::Expunged => out.extend_from_slice(b"expunged"),
+        Answer::Cleaned(count) => {
+            out.extend_from_slice(b"cleaned ")?;
+            push_number(alloc, out, count)
+        }
+        Answer::NotThere => out.extend_from_slice(b"notthere"),
+        Answer::NotTrashed => out.extend_from_slice(b"nottrashed"),
+        Answer::OtherInfo => out.extend_from_slice(b"otherinfo"),
+        Answer::Lost => out.extend_from_slice(b"lost"),
+        Answer::TimedOut => out.extend_from_slice(b"timedout"),
+        Answer::TmpGone => out.extend_from_slice(b"tmpgone"),
+        Answer::NameTaken => out.extend_from_slice(b"nametaken"),
+        Answer::Fault => out.extend_from_slice(b"fault"),
+    }
+}
+
+// A number in decimal.
+fn push_number(alloc: Global, out: &mut Vec<u8>, number: u64) -> Result<(), AllocError>
+    ensures { OnOk result (out.new.items ≡ out.old.items ++ decimal number) }
+{
+    let digits = format!(in alloc; "{number}")?;
+    out.extend_from_slice(digits.as_bytes())
+}

@@ -1,0 +1,117 @@
+//! A session, readers and writers for tests.
+ghost use Rattle.std.specs.Prelude.{◌-◌, ◌++◌, ◌∷◌, [], ◌==◌, Ok, Err, if◌then◌else◌};
+ghost use Rattle.md_script.specs.declared.refusal.LineRefusal.TheVariants.{TooLate};
+ghost use Rattle.md_script.specs.Escapes.{escaped};
+
+use crate::{LineRefusal, Session, Stop, push_escaped};
+use std::io;
+use std::io::{ErrorKind, Read, Write};
+
+/// Prints each line that it is given, with escapes, and refuses those after the first `left`.
+#[derive(Drop)]
+pub(super) struct Echo {
+    pub left: u64,
+}
+
+impl Session for Echo {
+    ghost step = { λ s line. if s.left == 0 then Err TooLate else Ok (record { left = s.left - 1 }, escaped line ++ 10 ∷ []) };
+
+    fn run_line(&mut self, line: &[u8], out: &mut Vec<u8>) -> Result<(), Stop> {
+        if self.left == 0 {
+            return Err(Stop::Refused(LineRefusal::TooLate));
+        }
+        push_escaped(out, line)?;
+        out.push(b'\n')?;
+        self.left -= 1;
+        Ok(())
+    }
+}
+
+/// Gives one byte over and over, so many at a time.
+#[derive(Drop)]
+pub(super) struct Stream {
+    pub byte: u8,
+    pub left: u64,
+    pub at_once: usize,
+}
+
+impl Read for Stream {
+    fn read(&mut self, buf: &mut [u8]) -> io::Result<usize> {
+        let count = buf.len().min(self.at_once).min(self.left as usize);
+        buf[..count].fill(self.byte);
+        self.left -= count as u64;
+        Ok(count)
+    }
+}
+
+/// Gives a number sign at each of the first reads, and then fails.
+#[derive(Drop)]
+pub(super) struct Broken {
+    pub good: u32,
+    pub kind: ErrorKind,
+}
+
+impl Read for Broken {
+    fn read(&mut self, buf: &mut [u8]) -> io::Result<usize> {
+        if self.good == 0 || buf.is_empty() {
+            return Err(io::Error::from(self.kind));
+        }
+        self.good -= 1;
+        buf[0] = b'#';
+        Ok(1)
+    }
+}
+
+/// Gives a script a byte at a time, and is interrupted before each.
+#[derive(Drop)]
+pub(super) struct Interrupted<'a> {
+    pub script: &'a [u8],
+    pub is_next: bool,
+}
+
+impl Read for Interrupted<'_> {
+    fn read(&mut self, buf: &mut [u8]) -> io::Result<usize> {
+        self.is_next = !self.is_next;
+        if self.is_next {
+            return Err(io::Error::from(ErrorKind::Interrupted));
+        }
+        if buf.is_empty() {
+            return Ok(0);
+        }
+        self.script.read(&mut buf[..1])
+    }
+}
+
+/// Takes a byte at each of the first writes, and then fails.
+#[derive(Drop)]
+pub(super) struct Full {
+    pub good: u32,
+}
+
+impl Write for Full {
+    fn write(&mut self, buf: &[u8]) -> io::Result<usize> {
+        if self.good == 0 {
+            return Err(io::Error::from(ErrorKind::StorageFull));
+        }
+        self.good -= 1;
+        Ok(buf.len().min(1))
+    }
+
+    fn flush(&mut self) -> io::Result<()> {
+        Ok(())
+    }
+}
+
+/// Takes all, and fails to pass it on.
+#[derive(Drop)]
+pub(super) struct Unflushed;
+
+impl Write for Unflushed {
+    fn write(&mut self, buf: &[u8]) -> io::Result<usize> {
+        Ok(buf.len())
+    }
+
+    fn flush(&mut self) -> io::Result<()> {
+        Err(io::Error::from(ErrorKind::StorageFull))
+    }
+}

@@ -1,0 +1,72 @@
+//! The limits on a script's bytes and reads.
+
+use super::fakes::{Echo, Stream};
+use crate::{PlayError, PlayKind, play_session};
+
+fn unnumbered(kind: PlayKind) -> Result<(), PlayError> {
+    Err(PlayError { line: 0, kind })
+}
+
+#[test]
+fn a_script_takes_at_most_so_many_reads(rt: HostRuntime) {
+    let cases = [
+        (1_048_575, Ok(())),
+        (1_048_576, unnumbered(PlayKind::TooManyReads)),
+    ];
+    for (left, want) in cases {
+        let mut script = Stream {
+            byte: b'\n',
+            left,
+            at_once: 1,
+        };
+        let mut out = Vec::new(rt.alloc());
+        assert_eq!(rt;
+            play_session(rt.alloc(), Echo { left: 0 }, &mut script, &mut out),
+            want,
+            "{left}"
+        );
+        assert_eq!(rt; out.len(), 0);
+    }
+}
+
+#[test]
+fn an_endless_script_is_refused(rt: HostRuntime) {
+    let cases = [
+        (1, PlayKind::TooManyReads),
+        (64, PlayKind::TooManyReads),
+        (65, PlayKind::TooLong),
+        (4_096, PlayKind::TooLong),
+    ];
+    for (at_once, kind) in cases {
+        let mut script = Stream {
+            byte: b'a',
+            left: u64::MAX,
+            at_once,
+        };
+        let mut out = Vec::new(rt.alloc());
+        let answer = play_session(rt.alloc(), Echo { left: 1 }, &mut script, &mut out);
+        assert_eq!(rt; answer, unnumbered(kind), "{at_once}");
+        assert_eq!(rt; out.len(), 0);
+    }
+}
+
+#[test]
+fn a_script_has_at_most_so_many_bytes(rt: HostRuntime) {
+    let cases = [
+        (67_108_864, Ok(())),
+        (67_108_865, unnumbered(PlayKind::TooLong)),
+    ];
+    for (left, want) in cases {
+        let mut script = Stream {
+            byte: b'#',
+            left,
+            at_once: 1_000_000,
+        };
+        let mut out = Vec::new(rt.alloc());
+        assert_eq!(rt;
+            play_session(rt.alloc(), Echo { left: 0 }, &mut script, &mut out),
+            want,
+            "{left}"
+        );
+    }
+}

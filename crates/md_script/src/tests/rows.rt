@@ -1,0 +1,339 @@
+//! Scripts of known transcripts.
+
+use crate::{PlayError, PlayKind, play};
+use std::io;
+use std::io::Write;
+use std::test::Fail;
+
+/// A script and what it prints.
+struct Row {
+    shows: &'static str,
+    script: &'static [u8],
+    prints: &'static [u8],
+}
+
+const ROWS: [Row; 8] = [
+    Row {
+        shows: "a delivery is written in pieces, linked, and listed",
+        script: b"folder inbox\njob deliver inbox 1000.M1P7Q1.a 4 hello\\n\nfinish 1 1000\nlist inbox\n",
+        prints: b"job 1\n1 create ok\n1 append 4 ok\n1 append 2 ok\n1 link ok\n1 unlink ok\n1 answer delivered\nnew 1000.M1P7Q1.a - 6\n",
+    },
+    Row {
+        shows: "an empty body takes no append",
+        script: b"folder i\njob deliver i u 4\nfinish 1 5\nlist i\n",
+        prints: b"job 1\n1 create ok\n1 link ok\n1 unlink ok\n1 answer delivered\nnew u - 0\n",
+    },
+    Row {
+        shows: "a message that is written and not linked is not seen",
+        script: b"folder i\njob deliver i u 9 hi\nstep 1 1000\nstep 1 1000\nlist i\n",
+        prints: b"job 1\n1 create ok\n1 append 2 ok\n",
+    },
+    Row {
+        shows: "a file that has a name in tmp and one in new is listed once",
+        script: b"folder i\njob deliver i u 9 hi\nstep 1 1000\nstep 1 1000\nlist i\nstep 1 1000\nlist i\nstep 1 1000\n",
+        prints: b"job 1\n1 create ok\n1 append 2 ok\n1 link ok\nnew u - 2\n1 unlink ok\n1 answer delivered\n",
+    },
+    Row {
+        shows: "two deliveries go on between one another's steps",
+        script: b"folder i\njob deliver i a 1 x\njob deliver i b 1 yy\nstep 1 1\nstep 2 1\nstep 2 1\nstep 1 1\nstep 1 1\nlist i\nfinish 2 1\n",
+        prints: b"job 1\njob 2\n1 create ok\n2 create ok\n2 append 1 ok\n1 append 1 ok\n1 link ok\nnew a - 1\n2 append 1 ok\n2 link ok\n2 unlink ok\n2 answer delivered\n",
+    },
+    Row {
+        shows: "a script that ends before a delivery does",
+        script: b"folder inbox\njob deliver inbox 1000.M1P7Q1.a 4",
+        prints: b"job 1\n",
+    },
+    Row {
+        shows: "a last line without its line feed",
+        script: b"folder inbox\njob deliver inbox 1000.M1P7Q1.a 4 hello\\n\nfinish 1 10",
+        prints: b"job 1\n1 create ok\n1 append 4 ok\n1 append 2 ok\n1 link ok\n1 unlink ok\n1 answer delivered\n",
+    },
+    Row {
+        shows: "the empty script prints nothing",
+        script: b"",
+        prints: b"",
+    },
+];
+
+#[test]
+fn scripts_print_their_transcripts(rt: HostRuntime) {
+    for row in &ROWS {
+        let mut script: &[u8] = row.script;
+        let mut out = Vec::new(rt.alloc());
+        let answer = play(rt.alloc(), &mut script, &mut out);
+        assert_eq!(rt; answer, Ok(()), "{}", row.shows);
+        assert_eq!(rt; out.as_slice(), row.prints, "{}", row.shows);
+    }
+}
+
+/// A script that is refused: what it prints before, and the refusal.
+struct Refused {
+    script: &'static [u8],
+    prints: &'static [u8],
+    text: &'static str,
+}
+
+const REFUSED: [Refused; 30] = [
+    Refused {
+        script: b"folder i\njob deliver i u 4 a\njob deliver i u 4 b\n",
+        prints: b"job 1\n",
+        text: "line 3: name used",
+    },
+    Refused {
+        script: b"folder i\njob deliver i u\n",
+        prints: b"",
+        text: "line 2: bad command",
+    },
+    Refused {
+        script: b"folder inbox\njob deliver inbox 1000.M1P7Q1.a 4 hello\\",
+        prints: b"",
+        text: "line 2: bad escape",
+    },
+    Refused {
+        script: b"folder inbox\njob deliver inbox 1000.M1P7Q1.a 4 hello\\n\nfinish 1 1000\nlist inb",
+        prints: b"job 1\n1 create ok\n1 append 4 ok\n1 append 2 ok\n1 link ok\n1 unlink ok\n1 answer delivered\n",
+        text: "line 4: unknown folder",
+    },
+    Refused {
+        script: b"folder inbox\njob deliver inbox 1000.M1P7Q1.a 4 hello\\n\nfinish 1 1000\nlis",
+        prints: b"job 1\n1 create ok\n1 append 4 ok\n1 append 2 ok\n1 link ok\n1 unlink ok\n1 answer delivered\n",
+        text: "line 4: bad command",
+    },
+    Refused {
+        script: b"folder i\njob deliver i u 0 x\n",
+        prints: b"",
+        text: "line 2: bad chunk",
+    },
+    Refused {
+        script: b"folder i\njob deliver i .u 1 x\n",
+        prints: b"",
+        text: "line 2: bad unique",
+    },
+    Refused {
+        script: b"folder i\nstep 1 1\n",
+        prints: b"",
+        text: "line 2: no job",
+    },
+    Refused {
+        script: b"finish 0 1",
+        prints: b"",
+        text: "line 1: no job",
+    },
+    // A job that has its answer is refused, and prints nothing.
+    Refused {
+        script: b"folder i\njob deliver i u 4\nfinish 1 5\nfinish 1 5\n",
+        prints: b"job 1\n1 create ok\n1 link ok\n1 unlink ok\n1 answer delivered\n",
+        text: "line 4: answered",
+    },
+    Refused {
+        script: b"folder i\njob deliver i u 4\nfinish 1 5\nstep 1 5\nstep x\n",
+        prints: b"job 1\n1 create ok\n1 link ok\n1 unlink ok\n1 answer delivered\n",
+        text: "line 4: answered",
+    },
+    Refused {
+        script: b"folder i\nstep one 1\n",
+        prints: b"",
+        text: "line 2: bad number",
+    },
+    Refused {
+        script: b"folder a/b\n",
+        prints: b"",
+        text: "line 1: bad folder",
+    },
+    // A folder's name is judged as its word is read, before the words too many.
+    Refused {
+        script: b"folder .i x\n",
+        prints: b"",
+        text: "line 1: bad folder",
+    },
+    // Once the store is open, no folder is added, whatever its words.
+    Refused {
+        script: b"folder i\nlist i\nfolder\n",
+        prints: b"",
+        text: "line 3: too late",
+    },
+    Refused {
+        script: b"folder i\nlist i\nfolder k x\n",
+        prints: b"",
+        text: "line 3: too late",
+    },
+    // A command that a script of this version has not is none, then too.
+    Refused {
+        script: b"folder i\nlist i\nfile i new u 0\n",
+        prints: b"",
+        text: "line 3: bad command",
+    },
+    Refused {
+        script: b"folder i\njob delive i u 4\n",
+        prints: b"",
+        text: "line 2: bad command",
+    },
+    Refused {
+        script: b"folder i\nlist i x\n",
+        prints: b"",
+        text: "line 2: bad command",
+    },
+    Refused {
+        script: b"folder i\nlist k x\n",
+        prints: b"",
+        text: "line 2: unknown folder",
+    },
+    // A word too many comes after the words, and before the store is asked.
+    Refused {
+        script: b"folder i\nstep 7 1 0\n",
+        prints: b"",
+        text: "line 2: bad command",
+    },
+    // The words of a delivery are read before the store judges them.
+    Refused {
+        script: b"folder i\njob deliver i .u 0 \\x\n",
+        prints: b"",
+        text: "line 2: bad escape",
+    },
+    Refused {
+        script: b"folder i\njob deliver i .u 0\n",
+        prints: b"",
+        text: "line 2: bad unique",
+    },
+    Refused {
+        script: b"folder i\nlist i \n",
+        prints: b"",
+        text: "line 2: bad command",
+    },
+    Refused {
+        script: b"folder i\nlist  i\n",
+        prints: b"",
+        text: "line 2: bad command",
+    },
+    Refused {
+        script: b"folder i\nlist\ti\n",
+        prints: b"",
+        text: "line 2: bad command",
+    },
+    Refused {
+        script: b"folder i\n #\n",
+        prints: b"",
+        text: "line 2: bad command",
+    },
+    Refused {
+        script: b"folder i\n\r",
+        prints: b"",
+        text: "line 2: bad command",
+    },
+    Refused {
+        script: b"folder i\nlist i\r",
+        prints: b"",
+        text: "line 2: unknown folder",
+    },
+    Refused {
+        script: b"# a comment\n\nfolder i\r\nlist k",
+        prints: b"",
+        text: "line 4: unknown folder",
+    },
+];
+
+#[test]
+fn a_refused_line_ends_the_transcript(rt: HostRuntime) -> Result<(), Fail> {
+    for row in &REFUSED {
+        let mut script: &[u8] = row.script;
+        let mut out = Vec::new(rt.alloc());
+        match play(rt.alloc(), &mut script, &mut out) {
+            Ok(()) => assert!(rt; false, "{}", row.text),
+            Err(error) => {
+                let text = format!(in rt.alloc(); "{error}")?;
+                assert_eq!(rt; text.as_str(), row.text);
+            }
+        }
+        assert_eq!(rt; out.as_slice(), row.prints, "{}", row.text);
+    }
+    Ok(())
+}
+
+#[test]
+fn a_store_takes_at_most_10000_jobs(rt: HostRuntime) -> Result<(), Fail> {
+    let mut text = format!(in rt.alloc(); "folder i\n")?.into_bytes();
+    for job in 0..10_001u32 {
+        let line = format!(in rt.alloc(); "job deliver i u{job} 1\n")?;
+        text.extend_from_slice(line.as_bytes())?;
+    }
+    let mut script: &[u8] = &text;
+    let mut out = Vec::new(rt.alloc());
+    match play(rt.alloc(), &mut script, &mut out) {
+        Ok(()) => assert!(rt; false),
+        Err(error) => {
+            let text = format!(in rt.alloc(); "{error}")?;
+            assert_eq!(rt; text.as_str(), "line 10002: too many jobs");
+        }
+    }
+    // `job 1` to `job 10000`, a line each.
+    assert_eq!(rt;
+        out.len(),
+        10_000 * 5 + 9 + 90 * 2 + 900 * 3 + 9_000 * 4 + 5
+    );
+    Ok(())
+}
+
+#[test]
+fn a_body_has_at_most_16_mebibytes(rt: HostRuntime) -> Result<(), Fail> {
+    let mut text = Vec::from_slice(rt.alloc(), b"folder i\njob deliver i u 16777216 ")?;
+    for _ in 0..16_777_217u32 {
+        text.push(b'x')?;
+    }
+    let mut script: &[u8] = &text;
+    let mut out = Vec::new(rt.alloc());
+    match play(rt.alloc(), &mut script, &mut out) {
+        Ok(()) => assert!(rt; false),
+        Err(error) => {
+            let text = format!(in rt.alloc(); "{error}")?;
+            assert_eq!(rt; text.as_str(), "line 2: body too long");
+        }
+    }
+    assert_eq!(rt; out.len(), 0);
+    Ok(())
+}
+
+/// Keeps what is written in room that it has from the start.
+#[derive(Drop)]
+struct Room {
+    bytes: [u8; 200],
+    len: usize,
+}
+
+impl Write for Room {
+    fn write(&mut self, buf: &[u8]) -> io::Result<usize> {
+        if self.len >= self.bytes.len() || buf.is_empty() {
+            return Ok(0);
+        }
+        self.bytes[self.len] = buf[0];
+        self.len += 1;
+        Ok(1)
+    }
+
+    fn flush(&mut self) -> io::Result<()> {
+        Ok(())
+    }
+}
+
+#[test]
+fn where_memory_runs_out_nothing_is_written(rt: HostRuntime) {
+    let row = &ROWS[0];
+    let mut script: &[u8] = row.script;
+    let mut room = Room {
+        bytes: [0; 200],
+        len: 0,
+    };
+    let no_memory = PlayError {
+        line: 0,
+        kind: PlayKind::NoMemory,
+    };
+    match play(rt.alloc(), &mut script, &mut room) {
+        Ok(()) => {
+            let len = room.len.min(room.bytes.len());
+            assert_eq!(rt; &room.bytes[..len], row.prints);
+        }
+        Err(error) => {
+            assert_eq!(rt; error, no_memory);
+            assert_eq!(rt; room.len, 0);
+        }
+    }
+}
