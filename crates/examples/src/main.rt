@@ -1,15 +1,14 @@
-//! Plays each script of the folder `data` and compares what it prints with the text beside it.
+//! Plays each script of the folder that it runs in, and compares what it prints with the text beside it: `NAME.script` with `NAME.out`.
 #![tactic(auto)]
 
-use md_script::play;
+use md_script::transcript;
 use std::{fs, io};
 
-/// The scripts, without their endings.
-const NAMES: [&str; 3] = ["deliver", "two-deliverers", "written-not-seen"];
-
 fn main(rt: HostRuntime) -> io::Result<()> {
-    for name in NAMES {
-        let verdict = if is_as_expected(&rt, name)? {
+    let mut names = script_names(&rt)?;
+    names.sort()?;
+    for name in &names {
+        let verdict = if is_as_expected(&rt, name.as_str())? {
             "as expected"
         } else {
             "DIFFERS"
@@ -19,13 +18,24 @@ fn main(rt: HostRuntime) -> io::Result<()> {
     Ok(())
 }
 
+// The scripts, without their endings.
+fn script_names(rt: &HostRuntime) -> io::Result<Vec<String>> {
+    let mut names = Vec::new(rt.alloc());
+    for entry in fs::read_dir(rt, ".")? {
+        let entry = entry?;
+        if let Some(name) = entry.file_name().strip_suffix(".script") {
+            names.push(String::from_str(rt.alloc(), name)?)?;
+        }
+    }
+    Ok(names)
+}
+
 // Whether a script prints the text beside it, and runs to its end.
 fn is_as_expected(rt: &HostRuntime, name: &str) -> io::Result<bool> {
     let script = format!(in rt.alloc(); "{name}.script")?;
     let expected = format!(in rt.alloc(); "{name}.out")?;
     let script = fs::read(rt, script.as_str())?;
     let expected = fs::read(rt, expected.as_str())?;
-    let mut printed = Vec::new(rt.alloc());
-    let played = play(rt.alloc(), &mut script.as_slice(), &mut printed).is_ok();
-    Ok(played && printed.as_slice() == expected.as_slice())
+    let printed = transcript(rt.alloc(), &script)?;
+    Ok(printed.refusal.is_none() && printed.text.as_slice() == expected.as_slice())
 }

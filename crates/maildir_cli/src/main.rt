@@ -1,10 +1,18 @@
 //! `maildir_cli play` runs the script on standard input and prints its transcript on standard output.
 //!
-//! It ends with status 0 where the script ran to its end, with 1 where a line was refused or reading, writing or memory failed, and
-//! then with one line `line N: TEXT` on standard error, and with 2 where its arguments are any others.
+//! It ends with status 0 where the script ran to its end or help was asked for; with 1 where a line was refused or reading, writing or
+//! memory failed, and then with one line `line N: TEXT` on standard error; and with 2 where its words are wrong, and then with one line
+//! that says so.
 #![tactic(auto)]
 
-use md_script::{PlayError, play};
+mod command;
+mod options;
+#[cfg(test)]
+mod tests;
+mod words;
+
+use command::{CliFault, Run, command};
+use md_script::{PlayError, PlayKind, Reader, Writer, play};
 use std::alloc::AllocGlobal;
 use std::process::ExitCode;
 use std::{env, io};
@@ -12,33 +20,61 @@ use std::{env, io};
 /// The status of a refused script.
 const REFUSED: u8 = 1;
 
-/// The status of refused arguments.
-const BAD_ARGUMENTS: u8 = 2;
+/// The status of refused words.
+const BAD_WORDS: u8 = 2;
 
-fn main(rt: HostRuntime) -> io::Result<ExitCode> {
-    if !asks_to_play(&rt)? {
-        return Ok(ExitCode::from(BAD_ARGUMENTS));
-    }
-    let mut reader = rt.reader();
-    let mut writer = io::writer(&rt);
-    match play(rt.alloc(), &mut reader, &mut writer) {
-        Ok(()) => Ok(ExitCode::SUCCESS),
-        Err(error) => {
-            report(&rt, error)?;
-            Ok(ExitCode::from(REFUSED))
-        }
-    }
-}
+const NO_MEMORY: PlayError = PlayError {
+    line: 0,
+    kind: PlayKind::NoMemory,
+};
 
-// Whether the one word after the program's name is `play`.
-fn asks_to_play(rt: &HostRuntime) -> io::Result<bool> {
-    let mut words = env::args(rt)?.skip(1);
-    let Some(first) = words.next() else {
-        return Ok(false);
+fn main(rt: HostRuntime) -> ExitCode {
+    let Ok(args) = env::args(&rt) else {
+        return refuse(&rt, NO_MEMORY);
     };
-    Ok(first.as_str() == "play" && words.next().is_none())
+    let Ok(args) = args.skip(1).collect::<Vec<String>>(rt.alloc()) else {
+        return refuse(&rt, NO_MEMORY);
+    };
+    let Ok(words) = args
+        .iter()
+        .map(|arg| arg.as_str())
+        .collect::<Vec<&str>>(rt.alloc())
+    else {
+        return refuse(&rt, NO_MEMORY);
+    };
+    match command(rt.alloc(), &words) {
+        Ok(Run::Play) => play_input(&rt),
+        Ok(Run::Threads(_) | Run::Index(_)) => {
+            refuse_words(&rt, "this subcommand is still to come")
+        }
+        Err(CliFault::Shown(text)) => show(&rt, &text),
+        Err(CliFault::Refused(text)) => refuse_words(&rt, &text),
+        Err(CliFault::NoMemory) => refuse(&rt, NO_MEMORY),
+    }
 }
 
-fn report(rt: &HostRuntime, error: PlayError) -> io::Result<()> {
-    eprintln!(rt; "{error}")
+fn play_input(rt: &HostRuntime) -> ExitCode {
+    let mut reader = Reader::new(rt.reader());
+    let mut writer = Writer::new(io::writer(rt));
+    match play(rt.alloc(), &mut reader, &mut writer) {
+        Ok(()) => ExitCode::SUCCESS,
+        Err(error) => refuse(rt, error),
+    }
+}
+
+fn show(rt: &HostRuntime, text: &str) -> ExitCode {
+    match print!(rt; "{text}") {
+        Ok(()) => ExitCode::SUCCESS,
+        Err(_) => ExitCode::from(REFUSED),
+    }
+}
+
+fn refuse(rt: &HostRuntime, error: PlayError) -> ExitCode {
+    let _ = eprintln!(rt; "{error}");
+    ExitCode::from(REFUSED)
+}
+
+fn refuse_words(rt: &HostRuntime, text: &str) -> ExitCode {
+    let _ = eprintln!(rt; "maildir_cli: {text}; try 'maildir_cli --help'");
+    ExitCode::from(BAD_WORDS)
 }

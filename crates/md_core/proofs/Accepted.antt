@@ -1,5 +1,5 @@
--- What an accepted delivery is: each check, as a fact.
-use Rattle.std.proofs.Common.{ℕ, zero, suc, ◌≡◌, ◌<◌, ◌≤◌, ◌+◌, List, [], ◌∷◌, Option, Some, None, Bool, true, false, cond, not, ◌&&◌, refl, ap, ◌∙◌, length, take, slice_get, arith, nat_lt, nat_le, ◌==◌}
+-- What an accepted call is: each check, as a fact.
+use Rattle.std.proofs.Common.{ℕ, zero, suc, ◌≡◌, ◌≢◌, ◌<◌, ◌≤◌, ◌+◌, List, [], ◌∷◌, Option, Some, None, Bool, true, false, cond, not, ◌&&◌, ◌||◌, refl, ap, ◌∙◌, length, take, slice_get, arith, nat_lt, nat_le, ◌==◌}
 use Rattle.std.specs.List.{list_any, position_or_len, after_first}
 use Rattle.std.specs.FinMap as finmap
 use Rattle.std.proofs.lemmas.Bool.{and_parts, and_from, or_parts, not-true, not-false}
@@ -10,10 +10,10 @@ use Rattle.md_name.specs.Names.{is_colon, is_slash, is_terminator, begins_with_d
 use Rattle.md_core.specs.declared.error.CoreError.{CoreError}
 use Rattle.md_core.specs.declared.error.CoreError.TheVariants as core
 use Rattle.md_core.specs.declared.jobs.call.Call.{Call}
-use Rattle.md_core.specs.declared.jobs.call.Call.TheVariants.{Deliver}
+use Rattle.md_core.specs.declared.jobs.call.Call.TheVariants.{Deliver, Seen, Flag, Move, Expunge, Copy, Clean}
 use Rattle.md_core.specs.Runs.{Run}
-use Rattle.md_core.specs.Submitting.{submit_refusal, no_folder, too_many, is_used, uses, delivers, most_bytes, most_jobs}
-use Rattle.md_core.proofs.Good.{IsUniqueName}
+use Rattle.md_core.specs.Submitting.{most_tries, submit_refusal, first_met, checks_of_look_up, no_folder, bad_tries, too_many, is_used, uses, makes, most_bytes, most_jobs}
+use Rattle.md_core.proofs.Good.{IsUniqueName, Makes}
 
 -- no colon in a name: all of it is its unique part
 no_colon-length : (u : List ℕ) → list_any is_colon u ≡ false → position_or_len is_colon u ≡ length u
@@ -51,12 +51,13 @@ unmet false e later none = (refl, none)
 -- an accepted delivery
 pub record IsAccepted (r : Run) (folder : ℕ) (unique body : List ℕ) (chunk : ℕ) : Type 0 where
   pub in_folder : folder < r.image.folders
+  pub valid : is_unique_name unique ≡ true
   pub name : IsUniqueName unique
   pub chunked : 0 < chunk
   pub short : length body ≤ most_bytes
   pub few : length r.calls < most_jobs
   pub unused : list_any (λ e. uses unique e.0) (finmap.entries r.image.names) ≡ false
-  pub undelivered : list_any (delivers unique) r.calls ≡ false
+  pub unmade : list_any (makes unique) r.calls ≡ false
 
 pub accepted : (r : Run) (folder : ℕ) (unique body : List ℕ) (chunk : ℕ) → submit_refusal r (Deliver folder unique body chunk) ≡ None → IsAccepted r folder unique body chunk
 accepted r folder unique body chunk none =
@@ -66,15 +67,16 @@ accepted r folder unique body chunk none =
     let d = unmet (nat_lt most_bytes (length body)) core.BodyTooLong (cond (too_many r) (Some core.TooManyJobs) last) c.1 in
     let e = unmet (too_many r) core.TooManyJobs last d.1 in
     let f = unmet (is_used r unique) core.NameUsed None e.1 in
-    let used = or_parts (list_any (λ e. uses unique e.0) (finmap.entries r.image.names)) (list_any (delivers unique) r.calls) f.0 in
+    let used = or_parts (list_any (λ e. uses unique e.0) (finmap.entries r.image.names)) (list_any (makes unique) r.calls) f.0 in
     record {
       in_folder = grind (arith, nat_tests, a.0);
+      valid = not-false (is_unique_name unique) b.0;
       name = unique_name unique (not-false (is_unique_name unique) b.0);
       chunked = grind (arith, nat_tests, c.0);
       short = grind (arith, nat_tests, d.0);
       few = grind (arith, nat_tests, e.0);
       unused = used.0;
-      undelivered = used.1;
+      unmade = used.1;
     }
   where
     last : Option CoreError
@@ -83,14 +85,109 @@ accepted r folder unique body chunk none =
     late : Option CoreError
     late = cond (nat_lt most_bytes (length body)) (Some core.BodyTooLong) (cond (too_many r) (Some core.TooManyJobs) last)
 
--- no call before is a delivery of the name
-pub undelivered-at : (unique : List ℕ) (calls : List Call) (i folder : ℕ) (u body : List ℕ) (chunk : ℕ) → list_any (delivers unique) calls ≡ false → slice_get calls i ≡ Some (Deliver folder u body chunk) → u ≡ unique → ⊥
-undelivered-at unique [] i folder u body chunk none at same = cc
-undelivered-at unique (c ∷ calls) zero folder u body chunk none at same =
-    let is : c ≡ Deliver folder u body chunk = cc in
-    let parts = or_parts (delivers unique c) (list_any (delivers unique) calls) none in
-    let yes : delivers unique c ≡ true = ap (delivers unique) is ∙ (bytes_eq-Decides u unique).1 same in
+-- an accepted move
+pub record IsAcceptedMove (r : Run) (folder : ℕ) (unique : List ℕ) (to tries : ℕ) : Type 0 where
+  pub in_folder : folder < r.image.folders
+  pub to_folder : to < r.image.folders
+  pub differ : folder ≢ to
+  pub valid : is_unique_name unique ≡ true
+  pub tried : 0 < tries
+
+pub accepted-move : (r : Run) (folder : ℕ) (unique : List ℕ) (to tries : ℕ) → submit_refusal r (Move folder unique to tries) ≡ None → IsAcceptedMove r folder unique to tries
+accepted-move r folder unique to tries none =
+    let a = unmet (no_folder r folder || no_folder r to) core.NoFolder (cond (to == folder) (Some core.SameFolder) (cond (not (is_unique_name unique)) (Some core.BadUnique) last)) none in
+    let b = unmet (to == folder) core.SameFolder (cond (not (is_unique_name unique)) (Some core.BadUnique) last) a.1 in
+    let c = unmet (not (is_unique_name unique)) core.BadUnique last b.1 in
+    let d = unmet (bad_tries tries) core.BadTries (cond (too_many r) (Some core.TooManyJobs) None) c.1 in
+    let folders = or_parts (no_folder r folder) (no_folder r to) a.0 in
+    let some = or_parts (tries == 0) (nat_lt most_tries tries) d.0 in
+    record {
+      in_folder = grind (arith, nat_tests, folders.0);
+      to_folder = grind (arith, nat_tests, folders.1);
+      differ = λ same. let no = b.0 in grind (arith, nat_tests);
+      valid = not-false (is_unique_name unique) c.0;
+      tried = grind (arith, nat_tests, some.0);
+    }
+  where
+    last : Option CoreError
+    last = cond (bad_tries tries) (Some core.BadTries) (cond (too_many r) (Some core.TooManyJobs) None)
+
+-- an accepted copy
+pub record IsAcceptedCopy (r : Run) (folder : ℕ) (unique : List ℕ) (to : ℕ) (fresh : List ℕ) (tries : ℕ) : Type 0 where
+  pub in_folder : folder < r.image.folders
+  pub to_folder : to < r.image.folders
+  pub valid : is_unique_name unique ≡ true
+  pub fresh_valid : is_unique_name fresh ≡ true
+  pub tried : 0 < tries
+  pub unused : list_any (λ e. uses fresh e.0) (finmap.entries r.image.names) ≡ false
+  pub unmade : list_any (makes fresh) r.calls ≡ false
+
+pub accepted-copy : (r : Run) (folder : ℕ) (unique : List ℕ) (to : ℕ) (fresh : List ℕ) (tries : ℕ) → submit_refusal r (Copy folder unique to fresh tries) ≡ None →
+    IsAcceptedCopy r folder unique to fresh tries
+accepted-copy r folder unique to fresh tries none =
+    let a = unmet (no_folder r folder || no_folder r to) core.NoFolder (cond (not (is_unique_name unique) || not (is_unique_name fresh)) (Some core.BadUnique) (cond (bad_tries tries) (Some core.BadTries) late)) none in
+    let b = unmet (not (is_unique_name unique) || not (is_unique_name fresh)) core.BadUnique (cond (bad_tries tries) (Some core.BadTries) late) a.1 in
+    let c = unmet (bad_tries tries) core.BadTries late b.1 in
+    let d = unmet (too_many r) core.TooManyJobs last c.1 in
+    let e = unmet (is_used r fresh) core.NameUsed None d.1 in
+    let folders = or_parts (no_folder r folder) (no_folder r to) a.0 in
+    let names = or_parts (not (is_unique_name unique)) (not (is_unique_name fresh)) b.0 in
+    let some = or_parts (tries == 0) (nat_lt most_tries tries) c.0 in
+    let used = or_parts (list_any (λ e. uses fresh e.0) (finmap.entries r.image.names)) (list_any (makes fresh) r.calls) e.0 in
+    record {
+      in_folder = grind (arith, nat_tests, folders.0);
+      to_folder = grind (arith, nat_tests, folders.1);
+      valid = not-false (is_unique_name unique) names.0;
+      fresh_valid = not-false (is_unique_name fresh) names.1;
+      tried = grind (arith, nat_tests, some.0);
+      unused = used.0;
+      unmade = used.1;
+    }
+  where
+    last : Option CoreError
+    last = cond (is_used r fresh) (Some core.NameUsed) None
+
+    late : Option CoreError
+    late = cond (too_many r) (Some core.TooManyJobs) last
+
+-- an accepted call that looks for one message
+pub record IsLookUp (r : Run) (folder : ℕ) (unique : List ℕ) (tries : ℕ) : Type 0 where
+  pub in_folder : folder < r.image.folders
+  pub valid : is_unique_name unique ≡ true
+  pub some : 0 < tries
+
+pub accepted-look_up : (r : Run) (folder : ℕ) (unique : List ℕ) (tries : ℕ) → first_met (checks_of_look_up r folder unique tries) ≡ None → IsLookUp r folder unique tries
+accepted-look_up r folder unique tries none =
+    let a = unmet (no_folder r folder) core.NoFolder (cond (not (is_unique_name unique)) (Some core.BadUnique) late) none in
+    let b = unmet (not (is_unique_name unique)) core.BadUnique late a.1 in
+    let c = unmet (bad_tries tries) core.BadTries (cond (too_many r) (Some core.TooManyJobs) None) b.1 in
+    let d = or_parts (tries == 0) (nat_lt most_tries tries) c.0 in
+    record {
+      in_folder = grind (arith, nat_tests, a.0);
+      valid = not-false (is_unique_name unique) b.0;
+      some = grind (arith, nat_tests, d.0);
+    }
+  where
+    late : Option CoreError
+    late = cond (bad_tries tries) (Some core.BadTries) (cond (too_many r) (Some core.TooManyJobs) None)
+
+makes-true : (asked : Call) (u : List ℕ) → Makes asked u → makes u asked ≡ true
+makes-true (Deliver folder v body chunk) u is = (bytes_eq-Decides v u).1 is
+makes-true (Copy folder v to fresh tries) u is = (bytes_eq-Decides fresh u).1 is
+makes-true (Seen a b c d) u is = absurd is
+makes-true (Flag a b c d e) u is = absurd is
+makes-true (Move a b c d) u is = absurd is
+makes-true (Expunge a b c) u is = absurd is
+makes-true (Clean a) u is = absurd is
+
+-- no call before makes the name
+pub unmade-at : (u : List ℕ) (calls : List Call) (i : ℕ) (asked : Call) → list_any (makes u) calls ≡ false → slice_get calls i ≡ Some asked → Makes asked u → ⊥
+unmade-at u [] i asked none at mine = cc
+unmade-at u (c ∷ calls) zero asked none at mine =
+    let is : c ≡ asked = cc in
+    let parts = or_parts (makes u c) (list_any (makes u) calls) none in
+    let yes : makes u c ≡ true = ap (makes u) is ∙ makes-true asked u mine in
     cc
-undelivered-at unique (c ∷ calls) (suc i) folder u body chunk none at same =
-    let parts = or_parts (delivers unique c) (list_any (delivers unique) calls) none in
-    undelivered-at unique calls i folder u body chunk parts.1 at same
+unmade-at u (c ∷ calls) (suc i) asked none at mine =
+    let parts = or_parts (makes u c) (list_any (makes u) calls) none in
+    unmade-at u calls i asked parts.1 at mine

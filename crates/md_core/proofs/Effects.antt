@@ -1,85 +1,59 @@
--- Effects of tasks: whose they are, when they may happen, and which names they leave alone.
-use Rattle.std.proofs.Common.{ℕ, ◌≡◌, ◌≢◌, ◌++◌, List, [], ◌∷◌, Option, Some, None, Bool, true, false, cond, MatchBool, refl, sym, ap, subst, ◌∙◌, inl, inr, length, take, arith}
+-- Effects: whether one is allowed after a history, and which names one leaves nowhere.
+use Rattle.std.proofs.Common.{ℕ, ◌≡◌, ◌≢◌, ◌++◌, List, [], ◌∷◌, Option, Some, None, refl, sym, ap, subst, ◌∙◌, inl, inr, length, take, arith}
 use Rattle.std.proofs.lemmas.List.{take-append-le, take_all, length_push}
 use Rattle.std.proofs.lemmas.Bool.{cases_lt}
-use Rattle.md_name.specs.Names.{unique_of}
-use Rattle.md_dirs.specs.State.{State}
-use Rattle.md_dirs.specs.declared.paths.Path.{Path}
-use Rattle.md_dirs.specs.declared.paths.Place.TheVariants.{New}
-use Rattle.md_dirs.proofs.Maps.{beside_put}
-use Rattle.md_dirs.proofs.PathOrder.{path_total, path_exact}
-use Rattle.md_dirs.proofs.Sound.{by_path}
+use Rattle.std.proofs.lemmas.Cmp.{nat_list_cmp_total}
+use Rattle.std.proofs.lemmas.Map.Lookups.{exact_bytes}
+use Rattle.std.specs.FinMap as finmap
+use Rattle.md_name.specs.Names.{unique_of, flagged}
+use Rattle.md_name.proofs.Flagged.{unique_of-flagged, colonless-unique_of}
+use Rattle.md_dirs.specs.declared.paths.Place.{Place}
+use Rattle.md_dirs.proofs.Maps.{beside_put, beside_drop, at_drop}
 use Rattle.md_core.specs.declared.jobs.answer.Answer.{Answer}
 use Rattle.md_core.specs.declared.jobs.answer.Answer.TheVariants as answer
-use Rattle.md_core.specs.declared.jobs.call.Call.{Call}
-use Rattle.md_core.specs.declared.jobs.call.Call.TheVariants as call
+use Rattle.md_core.specs.declared.jobs.effect.Change.{Change}
+use Rattle.md_core.specs.declared.jobs.effect.Change.TheVariants as change
 use Rattle.md_core.specs.declared.jobs.effect.Effect.{Effect}
-use Rattle.md_core.specs.declared.jobs.task.Task.{Task}
-use Rattle.md_core.specs.declared.jobs.task.Task.TheVariants.{Deliver}
-use Rattle.md_dirs.specs.Path.{path_of as path}
-use Rattle.md_core.specs.History.{Names, changed, after, IsNowhere, WasNowhere, MayHappen}
-use Rattle.md_core.specs.Machine.{new_job}
-use Rattle.md_core.specs.Machines.Deliver.{delivery_effect}
-use Rattle.md_core.specs.Interleaving.{is_linked, is_past_link, is_success}
-use Rattle.md_core.proofs.Good.{TaskFits, AnswerFits, Makes, own_effect}
+use Rattle.md_core.specs.History.{Names, Listed, changed, after, IsThere, IsNowhere, WasNowhere, IsAllowed}
+use Rattle.md_core.proofs.Changes.{by_name}
 
-if_some : {X : Type 0} (b : Bool) (x y : X) → cond b (Some x) None ≡ Some y → (b ≡ true) × (x ≡ y)
-if_some true x y is = (refl, cc)
-if_some false x y is = cc
+-- what may be fresh is told by more
+pub allowed-fresh : (folders : ℕ) (m : Names) (P Q : List ℕ → Type 0) → ((u : List ℕ) → P u → Q u) → (a : Answer) (c : Change) → IsAllowed folders m P a c → IsAllowed folders m Q a c
+allowed-fresh folders m P Q more answer.Delivered (change.Add folder place name size) h = (h.0, h.1, h.2, h.3, h.4, more name h.5)
+allowed-fresh folders m P Q more answer.Copied (change.Add folder place name size) h = (h.0, h.1, h.2, h.3, more (unique_of name) h.4)
+allowed-fresh folders m P Q more (answer.Flags s) (change.Rename folder place name to_folder to_place to_name) h = h
+allowed-fresh folders m P Q more (answer.Flags s) change.Same h = h
+allowed-fresh folders m P Q more answer.Moved (change.Rename folder place name to_folder to_place to_name) h = h
+allowed-fresh folders m P Q more answer.Expunged (change.Remove folder place name) h = h
+allowed-fresh folders m P Q more a c h = absurd h
 
--- the effect of a task is of its job
-pub own-job : (number : ℕ) (task : Task) (e : Effect) → own_effect number task ≡ Some e → e.job ≡ number
-own-job number (Deliver d) e is = let same = if_some (is_linked d.stage) (delivery_effect number d) e is in ap (λ (x : Effect). x.job) (sym same.1)
+-- a name that is there is not nowhere
+there-other : (m : Names) (folder : ℕ) (place : Place) (name u : List ℕ) → IsThere m folder place name → IsNowhere m u → u ≢ unique_of name
+there-other m folder place name u there none is = let h : finmap.get m (unique_of name) ≡ None = ap (finmap.get m) (sym is) ∙ none in let at = there.at in cc
 
--- a task that answers as one that took effect has that effect, and no other answer has one
-pub own-success : (number : ℕ) (task : Task) (a : Answer) → AnswerFits task a → is_success a ≡ true → (e : Effect) × (own_effect number task ≡ Some e) × (e.answer ≡ a)
-own-success number (Deliver d) a fits success = by (is_linked d.stage) fits
-  where
-    by : (b : Bool) → MatchBool b (a ≡ answer.Delivered) (is_success a ≡ false) → (e : Effect) × (cond b (Some (delivery_effect number d)) None ≡ Some e) × (e.answer ≡ a)
-    by true is = (delivery_effect number d, refl, sym is)
-    by false is = cc
+-- a name that is given another of its unique name
+renamed-other : (m : Names) (old new u : List ℕ) (x : Listed) → new ≡ old → u ≢ old → IsNowhere m u → IsNowhere (finmap.insert (finmap.remove m old) new x) u
+renamed-other m old new u x is other none =
+    beside_put nat_list_cmp_total exact_bytes (finmap.remove m old) new u x (λ same. other (same ∙ is))
+    ∙ beside_drop nat_list_cmp_total exact_bytes m old u other ∙ none
 
-pub own-failure : (number : ℕ) (task : Task) (a : Answer) → AnswerFits task a → is_success a ≡ false → own_effect number task ≡ None
-own-failure number (Deliver d) a fits failure = by (is_linked d.stage) fits
-  where
-    by : (b : Bool) → MatchBool b (a ≡ answer.Delivered) (is_success a ≡ false) → cond {A = Option Effect} b (Some (delivery_effect number d)) None ≡ None
-    by true is = let success : is_success a ≡ true = ap is_success is in cc
-    by false is = refl
-
--- a job at its beginning has no effect
-pub own-new : (number : ℕ) (call : Call) → own_effect number (new_job call).task ≡ None
-own-new number (call.Deliver folder u body chunk) = refl
-own-new number (call.Seen a b c d) = refl
-own-new number (call.Flag a b c d e) = refl
-own-new number (call.Move a b c d) = refl
-own-new number (call.Expunge a b c) = refl
-own-new number (call.Clean a) = refl
-
--- the effect of a delivery is its link
-pub own-link : (number : ℕ) (task : Task) → own_effect number task ≢ None → is_past_link task ≡ true
-own-link number (Deliver d) some = by (is_linked d.stage) some
-  where
-    by : (b : Bool) → cond {A = Option Effect} b (Some (delivery_effect number d)) None ≢ None → b ≡ true
-    by true h = refl
-    by false h = absurd (h refl)
-
--- what a task that fits its directories does may happen where its name was nowhere
-pub own-may_happen : (s : State) (number : ℕ) (task : Task) (e : Effect) (opening : Names) (history : List Effect) → own_effect number task ≡ Some e → TaskFits s task → ((u : List ℕ) → Makes task u → WasNowhere opening history u) →
-    MayHappen s.folders opening history e.answer e.change
-own-may_happen s number (Deliver d) e opening history is fits nowhere =
-    let same = if_some (is_linked d.stage) (delivery_effect number d) e is in
-    subst (λ (x : Effect). MayHappen s.folders opening history x.answer x.change) same.1 (fits.in_folder, fits.name.message, fits.name.plain, fits.name.bare, nowhere d.tmp.name refl)
-
--- and leaves each other name nowhere where it was nowhere
-pub own-nowhere : (s : State) (number : ℕ) (task : Task) (e : Effect) (m : Names) (u : List ℕ) → own_effect number task ≡ Some e → TaskFits s task → (Makes task u → ⊥) → IsNowhere m u → IsNowhere (changed m e.change) u
-own-nowhere s number (Deliver d) e m u is fits other nowhere =
-    let same = if_some (is_linked d.stage) (delivery_effect number d) e is in
-    subst (λ (x : Effect). IsNowhere (changed m x.change) u) same.1 (λ p named. by_path p added
-    (λ at. absurd (other (sym fits.name.plain ∙ ap (λ (q : Path). unique_of q.name) (sym at) ∙ named)))
-    (λ beside. beside_put path_total path_exact m added p (length d.body) beside ∙ nowhere p named))
-  where
-    added : Path
-    added = path d.tmp.folder New d.tmp.name
+-- an effect leaves each name nowhere that was so and is none that its job makes
+pub nowhere-kept : (folders : ℕ) (m : Names) (P : List ℕ → Type 0) (a : Answer) (c : Change) (u : List ℕ) → IsAllowed folders m P a c → (P u → ⊥) → IsNowhere m u → IsNowhere (changed m c) u
+nowhere-kept folders m P answer.Delivered (change.Add folder place name size) u h other none = by_name u (unique_of name)
+    (λ is. absurd (other (subst P (sym h.3 ∙ sym is) h.5)))
+    (λ not. beside_put nat_list_cmp_total exact_bytes m (unique_of name) u _ not ∙ none)
+nowhere-kept folders m P answer.Copied (change.Add folder place name size) u h other none = by_name u (unique_of name)
+    (λ is. absurd (other (subst P (sym is) h.4)))
+    (λ not. beside_put nat_list_cmp_total exact_bytes m (unique_of name) u _ not ∙ none)
+nowhere-kept folders m P (answer.Flags s) (change.Rename folder place name to_folder to_place to_name) u h other none =
+    renamed-other m (unique_of name) (unique_of to_name) u _ (ap unique_of h.3 ∙ unique_of-flagged (unique_of name) s (colonless-unique_of name)) (there-other m folder place name u h.4 none) none
+nowhere-kept folders m P (answer.Flags s) change.Same u h other none = none
+nowhere-kept folders m P answer.Moved (change.Rename folder place name to_folder to_place to_name) u h other none =
+    renamed-other m (unique_of name) (unique_of to_name) u _ (ap unique_of h.4) (there-other m folder place name u h.5 none) none
+nowhere-kept folders m P answer.Expunged (change.Remove folder place name) u h other none = by_name u (unique_of name)
+    (λ is. at_drop nat_list_cmp_total exact_bytes m (unique_of name) u is)
+    (λ not. beside_drop nat_list_cmp_total exact_bytes m (unique_of name) u not ∙ none)
+nowhere-kept folders m P a c u h other none = absurd h
 
 -- the names after one more effect, and names that were nowhere before it
 pub after-push : (m : Names) (history : List Effect) (e : Effect) → after m (history ++ e ∷ []) ≡ changed (after m history) e.change

@@ -6,13 +6,17 @@ use Rattle.md_dirs.specs.declared.paths.Place.{Place}
 use Rattle.md_dirs.specs.declared.paths.Place.TheVariants.{Tmp, New, Cur}
 use Rattle.md_name.specs.Names.{unique_of, is_message_name}
 use Rattle.md_core.specs.Mailbox.{is_message, is_tmp}
-use Rattle.md_core.proofs.Good.{key_of, bytes_at, IsUnused, HasNoMessage, IsAlone, HoldsWhole, StageFits, DeliveryFits, TaskFits, Makes}
+use Rattle.md_core.proofs.Good.{key_of, bytes_at, IsUnused, HasNoMessage, IsAlone, StageFits, DeliveryFits, MarkingFits, MovingFits, CopyingFits, TaskFits, Makes}
 use Rattle.md_core.proofs.Changes.{by_name}
+use Rattle.md_core.specs.declared.jobs.call.Call.{Call}
 use Rattle.md_core.specs.declared.jobs.deliver.Delivery.{Delivery}
 use Rattle.md_core.specs.declared.jobs.deliver.Stage.{Stage}
 use Rattle.md_core.specs.declared.jobs.deliver.Stage.TheVariants.{Start, Writing, Linked, Undo}
+use Rattle.md_core.specs.declared.jobs.mark.Marking.{Marking}
 use Rattle.md_core.specs.declared.jobs.task.Task.{Task}
-use Rattle.md_core.specs.declared.jobs.task.Task.TheVariants.{Deliver}
+use Rattle.md_core.specs.declared.jobs.copying.Copying.{Copying}
+use Rattle.md_core.specs.declared.jobs.moving.Moving.{Moving}
+use Rattle.md_core.specs.declared.jobs.task.Task.TheVariants.{Deliver, Mark, Move, Copy}
 
 pub message-key : (p : Path) → is_message p ≡ true → key_of p ≡ unique_of p.name
 message-key p m = by p.place m
@@ -33,11 +37,11 @@ not_tmp q p in_tmp m is =
 pub other_key : (q p : Path) (u : List ℕ) → key_of p ≡ u → key_of q ≢ u → q ≢ p
 other_key q p u is not same = not (ap key_of same ∙ is)
 
--- only paths of the name v change, and only bytes of their files; a file of such a path is new, or was one's before
+-- only paths of the name v change, and only bytes of their files; a file of such a path is new, or was one's before, or a message's
 pub record Frame (s s' : State) (v : List ℕ) : Type 0 where
   pub names : (q : Path) → key_of q ≢ v → file_at s' q ≡ file_at s q
   pub bytes : (q : Path) (m : ℕ) → key_of q ≢ v → file_at s q ≡ Some m → bytes_at s' m ≡ bytes_at s m
-  pub origin : (q : Path) (m : ℕ) → key_of q ≡ v → file_at s' q ≡ Some m → ((r : Path) → file_at s r ≢ Some m) ⊎ ((r : Path) × (key_of r ≡ v) × (file_at s r ≡ Some m))
+  pub origin : (q : Path) (m : ℕ) → key_of q ≡ v → file_at s' q ≡ Some m → ((r : Path) → file_at s r ≢ Some m) ⊎ ((r : Path) × ((key_of r ≡ v) ⊎ (is_message r ≡ true)) × (file_at s r ≡ Some m))
 
 module _ (s s' : State) (u v : List ℕ) (differ : u ≢ v) (f : Frame s s' v) where
   mine : (p : Path) → key_of p ≡ u → key_of p ≢ v
@@ -49,35 +53,37 @@ module _ (s s' : State) (u v : List ℕ) (differ : u ≢ v) (f : Frame s s' v) w
   pub no_message-frame : HasNoMessage s u → HasNoMessage s' u
   no_message-frame h p m is = f.names p (mine p (message-key p m ∙ is)) ∙ h p m is
 
-  pub whole-frame : (bytes : List ℕ) → HoldsWhole s u bytes → HoldsWhole s' u bytes
-  whole-frame bytes h p n m is there =
-      let other = mine p (message-key p m ∙ is) in
-      let before = sym (f.names p other) ∙ there in
-      f.bytes p n other before ∙ h p n m is before
-
-  pub alone-frame : (p : Path) (bytes : List ℕ) → key_of p ≡ u → IsAlone s p bytes → IsAlone s' p bytes
-  alone-frame p bytes is h = record {
+  pub alone-frame : (p : Path) (bytes : List ℕ) → p.place ≡ Tmp → key_of p ≡ u → IsAlone s p bytes → IsAlone s' p bytes
+  alone-frame p bytes in_tmp is h = record {
     holds = λ n there. let before = sym (f.names p (mine p is)) ∙ there in f.bytes p n (mine p is) before ∙ h.holds n before;
     only = λ n q there at.
         let before = sym (f.names p (mine p is)) ∙ there in
         by_name (key_of q) v
         (λ same. elim (f.origin q n same at) [
           | inl none ↦ absurd (none p before)
-          | inr one ↦ absurd (mine p is (ap key_of (sym (h.only n one.0 before one.2)) ∙ one.1))
+          | inr one ↦ let itself : one.0 ≡ p = h.only n one.0 before one.2 in elim one.1 [
+            | inl key ↦ absurd (mine p is (ap key_of (sym itself) ∙ key))
+            | inr message ↦ absurd (not_tmp one.0 p in_tmp message itself)
+          ]
         ])
         (λ other. h.only n q before (sym (f.names q other) ∙ at));
   }
 
 -- a delivery of another name
 module _ (s s' : State) (d : Delivery) (v : List ℕ) (differ : d.tmp.name ≢ v) (f : Frame s s' v) where
-  pub stage-frame : (stage : Stage) → d.tmp.place ≡ Tmp → StageFits s d stage → StageFits s' d stage
+  stage-frame : (stage : Stage) → d.tmp.place ≡ Tmp → StageFits s d stage → StageFits s' d stage
   stage-frame Start place h = unused-frame s s' d.tmp.name v differ f h
-  stage-frame (Writing k) place h = (h.0, no_message-frame s s' d.tmp.name v differ f h.1, alone-frame s s' d.tmp.name v differ f d.tmp (take k d.body) (tmp-key d.tmp place) h.2)
-  stage-frame Linked place h = whole-frame s s' d.tmp.name v differ f d.body h
+  stage-frame (Writing start k) place h = (
+    h.0,
+    no_message-frame s s' d.tmp.name v differ f h.1,
+    alone-frame s s' d.tmp.name v differ f d.tmp (take k d.body) place (tmp-key d.tmp place) h.2,
+  )
+  stage-frame Linked place h = tt
   stage-frame (Undo a) place h = (no_message-frame s s' d.tmp.name v differ f h.0, h.1)
 
-  pub delivery-frame : s'.folders ≡ s.folders → DeliveryFits s d → DeliveryFits s' d
-  delivery-frame folders h = record {
+  pub delivery-frame : (asked : Call) → s'.folders ≡ s.folders → DeliveryFits s asked d → DeliveryFits s' asked d
+  delivery-frame asked folders h = record {
+    of = h.of;
     in_tmp = h.in_tmp;
     in_folder = subst (λ (n : ℕ). d.tmp.folder < n) (sym folders) h.in_folder;
     name = h.name;
@@ -85,6 +91,87 @@ module _ (s s' : State) (d : Delivery) (v : List ℕ) (differ : d.tmp.name ≢ v
     stage = stage-frame d.stage h.in_tmp h.stage;
   }
 
--- a task that doesn't make the name. A later call adds its line
-pub task-frame : (s s' : State) (v : List ℕ) → Frame s s' v → s'.folders ≡ s.folders → (task : Task) → (Makes task v → ⊥) → TaskFits s task → TaskFits s' task
-task-frame s s' v f folders (Deliver d) apart h = delivery-frame s s' d v apart f folders h
+-- no path uses the name, so no message has it
+pub unused-no_message : (s : State) (u : List ℕ) → IsUnused s u → HasNoMessage s u
+unused-no_message s u unused p message is = unused p (message-key p message ∙ is)
+
+-- a delivery of any name, where a message has the name whose paths change
+module _ (s s' : State) (d : Delivery) (v : List ℕ) (f : Frame s s' v) (some : HasNoMessage s v → ⊥) where
+  other : HasNoMessage s d.tmp.name → d.tmp.name ≢ v
+  other none is = some (subst (HasNoMessage s) is none)
+
+  stage-stays : (stage : Stage) → d.tmp.place ≡ Tmp → StageFits s d stage → StageFits s' d stage
+  stage-stays Start place h = stage-frame s s' d v (other (unused-no_message s d.tmp.name h)) f Start place h
+  stage-stays (Writing start k) place h = stage-frame s s' d v (other h.1) f (Writing start k) place h
+  stage-stays Linked place h = tt
+  stage-stays (Undo a) place h = stage-frame s s' d v (other h.0) f (Undo a) place h
+
+  pub delivery-stays : (asked : Call) → s'.folders ≡ s.folders → DeliveryFits s asked d → DeliveryFits s' asked d
+  delivery-stays asked folders h = record {
+    of = h.of;
+    in_tmp = h.in_tmp;
+    in_folder = subst (λ (n : ℕ). d.tmp.folder < n) (sym folders) h.in_folder;
+    name = h.name;
+    chunked = h.chunked;
+    stage = stage-stays d.stage h.in_tmp h.stage;
+  }
+
+-- a move, whatever changes
+pub moving-stays : (s s' : State) (m : Moving) (asked : Call) → s'.folders ≡ s.folders → MovingFits s asked m → MovingFits s' asked m
+moving-stays s s' m asked folders h = record {
+  tries = h.tries;
+  of = h.of;
+  in_folder = subst (λ (n : ℕ). m.folder < n) (sym folders) h.in_folder;
+  to_folder = subst (λ (n : ℕ). m.to < n) (sym folders) h.to_folder;
+  differ = h.differ;
+  valid = h.valid;
+  stage = h.stage;
+}
+
+-- a copy, where its fresh name has no message still
+pub copying-refit : (s s' : State) (c : Copying) (asked : Call) → s'.folders ≡ s.folders → (HasNoMessage s c.fresh → HasNoMessage s' c.fresh) → CopyingFits s asked c → CopyingFits s' asked c
+copying-refit s s' c asked folders none h = record {
+  tries = h.tries;
+  of = h.of;
+  in_folder = subst (λ (n : ℕ). c.folder < n) (sym folders) h.in_folder;
+  to_folder = subst (λ (n : ℕ). c.to < n) (sym folders) h.to_folder;
+  valid = h.valid;
+  fresh = h.fresh;
+  none = none h.none;
+  stage = h.stage;
+}
+
+-- the fresh name of a copy is one that its call makes
+pub makes-copy : (s : State) (asked : Call) (c : Copying) → CopyingFits s asked c → Makes asked c.fresh
+makes-copy s asked c fits = subst (λ (x : Call). Makes x c.fresh) (sym fits.of) refl
+
+-- the name of a delivery is one that its call makes
+pub makes-delivery : (s : State) (asked : Call) (d : Delivery) → DeliveryFits s asked d → Makes asked d.tmp.name
+makes-delivery s asked d fits = subst (λ (c : Call). Makes c d.tmp.name) (sym fits.of) refl
+
+-- a marking asks nothing of directories but its folder
+marking-frame : (s s' : State) → s'.folders ≡ s.folders → (asked : Call) (m : Marking) → MarkingFits s asked m → MarkingFits s' asked m
+marking-frame s s' folders asked m h = record {
+  tries = h.tries;
+  of = h.of;
+  in_folder = subst (λ (n : ℕ). m.folder < n) (sym folders) h.in_folder;
+  valid = h.valid;
+  stage = h.stage;
+}
+
+-- a task of a call that doesn't make the name. A later call adds its line
+pub task-frame : (s s' : State) (v : List ℕ) → Frame s s' v → s'.folders ≡ s.folders → (asked : Call) (task : Task) → (Makes asked v → ⊥) → TaskFits s asked task → TaskFits s' asked task
+task-frame s s' v f folders asked (Deliver d) apart h =
+    delivery-frame s s' d v (λ is. apart (subst (Makes asked) is (makes-delivery s asked d h))) f asked folders h
+task-frame s s' v f folders asked (Move m) apart h = moving-stays s s' m asked folders h
+task-frame s s' v f folders asked (Copy c) apart h =
+    copying-refit s s' c asked folders (no_message-frame s s' c.fresh v (λ is. apart (subst (Makes asked) is (makes-copy s asked c h))) f) h
+task-frame s s' v f folders asked (Mark m) apart h = marking-frame s s' folders asked m h
+
+-- A task of any call, where a message has the name. A later call adds its line
+pub task-stays : (s s' : State) (v : List ℕ) → Frame s s' v → s'.folders ≡ s.folders → (HasNoMessage s v → ⊥) → (asked : Call) (task : Task) → TaskFits s asked task → TaskFits s' asked task
+task-stays s s' v f folders some asked (Deliver d) h = delivery-stays s s' d v f some asked folders h
+task-stays s s' v f folders some asked (Move m) h = moving-stays s s' m asked folders h
+task-stays s s' v f folders some asked (Copy c) h =
+    copying-refit s s' c asked folders (λ none. no_message-frame s s' c.fresh v (λ is. some (subst (HasNoMessage s) is none)) f none) h
+task-stays s s' v f folders some asked (Mark m) h = marking-frame s s' folders asked m h

@@ -1,34 +1,40 @@
--- The history of a run: it is legal, its end is the names of the mailbox, and it has the effect of each job that is past it.
-use Rattle.std.proofs.Common.{ℕ, zero, suc, ◌≡◌, ◌≢◌, ◌<◌, ◌≤◌, length, ◌++◌, List, [], ◌∷◌, Option, Some, None, Bool, true, false, cond, MatchOption, refl, sym, ap, subst, ◌∙◌, filter, slice_get, arith, ◌==◌}
-use Rattle.std.specs.Option.{option_to_list}
+-- The history of a run: it is legal, it gives the names of the mailbox, and it has the effect of each job that had one.
+use Rattle.std.proofs.Common.{ℕ, zero, suc, ◌≡◌, ◌≢◌, ◌<◌, ◌≤◌, length, ◌++◌, List, [], ◌∷◌, Option, Some, None, Bool, true, false, cond, MatchBool, MatchOption, IfSome, refl, sym, ap, subst, ◌∙◌, filter, slice_get, arith, ◌==◌}
+use Rattle.std.specs.Option.{option_to_list, option_or}
 use Rattle.std.proofs.lemmas.Bool.Decides.{nat_tests}
 use Rattle.std.proofs.lemmas.List.{append-nil, take-append-le, take_at, take_all}
 use Rattle.std.proofs.lemmas.List.Elements.{filter-append}
-use Rattle.std.proofs.lemmas.Option.{slice_get_within, MatchOption-at_some, MatchOption-at_none}
+use Rattle.std.proofs.lemmas.Option.{slice_get_within}
+use Rattle.std.specs.FinMap as finmap
+use Rattle.md_name.specs.Names.{is_unique_name}
+use Rattle.md_core.specs.declared.jobs.answer.Answer.{Answer}
+use Rattle.md_core.specs.declared.jobs.answer.Answer.TheVariants as answer
+use Rattle.md_core.specs.declared.jobs.call.Call.{Call}
 use Rattle.md_core.specs.declared.jobs.effect.Effect.{Effect}
-use Rattle.md_core.specs.declared.jobs.task.Job.{Job}
-use Rattle.md_core.specs.Mailbox.{mailbox_of}
-use Rattle.md_core.specs.History.{Names, names_of, changed, after, IsNowhere, WasNowhere, MayHappen, IsLegal}
-use Rattle.md_core.specs.Machine.{Machine, call_of}
-use Rattle.md_core.specs.Runs.{Run, beginning}
-use Rattle.md_core.specs.Interleaving.{IsRun, AsAlone}
-use Rattle.md_core.proofs.Good.{IsGood, Makes, own_effect}
-use Rattle.md_core.proofs.Places.{at_end, length-changed}
-use Rattle.md_core.proofs.Events.{unanswered}
-use Rattle.md_core.proofs.Going.{Goes, goes-cases}
-use Rattle.md_core.proofs.GoodRuns.{new_at}
-use Rattle.md_core.proofs.Bare.{nowhere-bare}
-use Rattle.md_core.proofs.Effects.{own-job, own-new, own-may_happen, own-nowhere, after-push, now-nowhere, was_nowhere-push}
+use Rattle.md_core.specs.declared.jobs.task.Task.{Task}
+use Rattle.md_core.specs.Mailbox.{Mailbox, mailbox_of}
+use Rattle.md_core.specs.History.{Names, names_of, changed, after, IsNowhere, WasNowhere, IsAllowed, IsAllowedAfter, IsLegal}
+use Rattle.md_core.specs.Machine.{Machine, Standing, working, answered, standing_of, Done}
+use Rattle.md_core.specs.Interleaving.{AsAlone, is_success}
+use Rattle.md_core.proofs.Good.{IsGood, Makes, own_effect, Affects, Settles}
+use Rattle.md_core.proofs.Places.{at_end}
+use Rattle.md_core.proofs.Going.{Goes, AllApart, goes-cases, goes-as_many, still-working}
+use Rattle.md_core.proofs.Effects.{allowed-fresh, nowhere-kept, after-push, now-nowhere, was_nowhere-push}
+
+-- the effects that a job has had, by how it stands
+abbrev pub Has : ℕ → Standing → List Effect → Type 0
+Has number (working task) es = es ≡ option_to_list (own_effect number task)
+Has number (answered a) es = MatchBool (is_success a) ((e : Effect) × (es ≡ e ∷ []) × (e.answer ≡ a)) (es ≡ [])
 
 -- the history of a machine, from the names at the opening
-pub record Tells (folders : ℕ) (opening : Names) (m : Machine) : Type 0 where
+pub record Tells (folders : ℕ) (opening : Names) (calls : List Call) (m : Machine) : Type 0 where
   pub folders_stay : m.dirs.folders ≡ folders
   pub legal : IsLegal folders opening m.effects
-  pub end : after opening m.effects ≡ names_of (mailbox_of m.dirs)
+  pub names : after opening m.effects ≡ names_of (mailbox_of m.dirs)
   -- a name that a job without an effect makes was nowhere
-  pub nowhere : (j : ℕ) (job : Job) (u : List ℕ) → slice_get m.jobs j ≡ Some job → own_effect (suc j) job.task ≡ None → Makes job.task u → WasNowhere opening m.effects u
-  -- a job has the one effect of its task, or none
-  pub own : (j : ℕ) (job : Job) → slice_get m.jobs j ≡ Some job → filter (λ e. e.job == suc j) m.effects ≡ option_to_list (own_effect (suc j) job.task)
+  pub nowhere : (j : ℕ) (asked : Call) (task : Task) (u : List ℕ) → slice_get calls j ≡ Some asked → slice_get m.jobs j ≡ Some (working task) → own_effect (suc j) task ≡ None → Makes asked u → WasNowhere opening m.effects u
+  -- a job has the one effect that it had, or none
+  pub own : (j : ℕ) (job : Standing) → slice_get m.jobs j ≡ Some job → Has (suc j) job (filter (λ e. e.job == suc j) m.effects)
   -- each effect is of a job that is there
   pub there : (i : ℕ) (e : Effect) → slice_get m.effects i ≡ Some e → (0 < e.job) × (e.job ≤ length m.jobs)
 
@@ -48,69 +54,104 @@ same_number n = grind (arith, nat_tests)
 other_number : (n k : ℕ) → n ≢ k → (n == k) ≡ false
 other_number n k differ = grind (arith, nat_tests)
 
-module _ (folders : ℕ) (opening : Names) (m m' : Machine) (number : ℕ) (g : Goes m m' number) (good : IsGood m) (tells : Tells folders opening m) where
-  abbrev at_number : suc g.place ≡ number
+-- how a job stands after a turn that leaves it with this effect, or none
+has-standing : (number : ℕ) (task : Task) (o : Option Answer) (had : Option Effect) → MatchOption o (own_effect number task ≡ had) (Settles had) → Has number (standing_of task o) (option_to_list had)
+has-standing number task None had is = ap option_to_list (sym is)
+has-standing number task (Some a) had settles = by (is_success a) settles
+  where
+    by : (b : Bool) → MatchBool b ((e : Effect) × (had ≡ Some e) × (e.answer ≡ a)) (had ≡ None) → MatchBool b ((e : Effect) × (option_to_list had ≡ e ∷ []) × (e.answer ≡ a)) (option_to_list had ≡ [])
+    by true h = (h.0, ap option_to_list h.1, h.2)
+    by false h = ap option_to_list h
+
+module _ (folders : ℕ) (opening : Names) (calls : List Call) (apart : AllApart calls) (m m' : Machine) (what : Done) (g : Goes calls m m' what) (good : IsGood calls m) (tells : Tells folders opening calls m) where
+  abbrev number : ℕ
+  number = what.job
+
+  at_number : suc g.place ≡ number
   at_number = sym g.number_is
 
   as_many : length m'.jobs ≡ length m.jobs
-  as_many = ap length g.jobs ∙ length-changed m.jobs g.place _
+  as_many = goes-as_many calls m m' what g
+
+  -- the effects of the job before
+  mine-before : filter (λ (e : Effect). e.job == number) m.effects ≡ option_to_list (own_effect number g.task)
+  mine-before = subst (λ (n : ℕ). filter (λ (e : Effect). e.job == n) m.effects ≡ option_to_list (own_effect n g.task)) at_number (tells.own g.place (working g.task) g.there)
+
+  -- the job that took its turn is as it should be, if its effects are these
+  own-here : (es : List Effect) (j : ℕ) (job : Standing) → j ≡ g.place → job ≡ standing_of g.task' what.answer →
+      filter (λ (e : Effect). e.job == number) es ≡ option_to_list (option_or what.effect (own_effect number g.task)) → Has (suc j) job (filter (λ (e : Effect). e.job == suc j) es)
+  own-here es j job same is all =
+      let n : number ≡ suc j = sym (ap suc same ∙ at_number) in
+      subst (λ (k : ℕ). Has k job (filter (λ (e : Effect). e.job == k) es)) n
+      (subst (λ (x : Standing). Has number x (filter (λ (e : Effect). e.job == number) es)) (sym is)
+      (subst (Has number (standing_of g.task' what.answer)) (sym all) (has-standing number g.task' what.answer (option_or what.effect (own_effect number g.task)) g.does.settles)))
+
+  -- a job that works on without an effect was without one before
+  before : {C : Type 0} (j : ℕ) (asked : Call) (task : Task) → slice_get calls j ≡ Some asked → slice_get m'.jobs j ≡ Some (working task) → own_effect (suc j) task ≡ None →
+      ((t : Task) → slice_get m.jobs j ≡ Some (working t) → own_effect (suc j) t ≡ None → (j ≡ g.place → what.effect ≡ None) → C) → C
+  before j asked task of at without then = goes-cases calls m m' what g j (working task) at
+      (λ same is.
+      let on = still-working task g.task' what.answer is in
+      let n : suc j ≡ number = ap suc same ∙ at_number in
+      let kept : own_effect number g.task' ≡ option_or what.effect (own_effect number g.task) = subst (λ (o : Option Answer). MatchOption o (own_effect number g.task' ≡ option_or what.effect (own_effect number g.task)) (Settles (option_or what.effect (own_effect number g.task)))) on.0 g.does.settles in
+      let none : option_or what.effect (own_effect number g.task) ≡ None = sym kept ∙ ap (own_effect number) (sym on.1) ∙ ap (λ k. own_effect k task) (sym n) ∙ without in
+      let both = neither what.effect (own_effect number g.task) none in
+      then g.task (ap (slice_get m.jobs) same ∙ g.there) (ap (λ k. own_effect k g.task) n ∙ both.1) (λ _. both.0))
+      (λ differ was. then task was without (λ same. absurd (differ same)))
+    where
+      neither : (a b : Option Effect) → option_or a b ≡ None → (a ≡ None) × (b ≡ None)
+      neither None b is = (refl, is)
+      neither (Some e) b is = cc
 
   -- a turn that is no effect
-  module _ (none : g.after.effect ≡ None) where
+  module _ (none : what.effect ≡ None) where
     effects-same : m'.effects ≡ m.effects
     effects-same = g.effects ∙ ap (λ o. m.effects ++ option_to_list o) none ∙ append-nil m.effects
 
-    own-same : own_effect number g.after.task ≡ own_effect number g.task
-    own-same = MatchOption-at_none (own_effect number g.after.task ≡ own_effect number g.task) (λ e. (own_effect number g.task ≡ None) × (own_effect number g.after.task ≡ Some e)) none g.does.effect
-
     mailbox-same : mailbox_of m'.dirs ≡ mailbox_of m.dirs
-    mailbox-same = subst (λ (o : Option Effect). AsAlone (Some (call_of g.task)) o (mailbox_of m.dirs) (mailbox_of m'.dirs)) none g.does.as_alone
+    mailbox-same = subst (λ (o : Option Effect). AsAlone g.asked o (mailbox_of m.dirs) (mailbox_of m'.dirs)) none g.does.as_alone
 
-    -- each job had its effect before, and makes the name that it made
-    before : {C : Type 0} (j : ℕ) (job : Job) → slice_get m'.jobs j ≡ Some job → ((b : Job) → slice_get m.jobs j ≡ Some b → own_effect (suc j) job.task ≡ own_effect (suc j) b.task → ((u : List ℕ) → Makes job.task u → Makes b.task u) → C) → C
-    before j job at then = goes-cases m m' number g j job at
-        (λ same is. then (unanswered g.task) (ap (slice_get m.jobs) same ∙ g.there)
-        (ap (λ (x : Job). own_effect (suc j) x.task) is ∙ ap (λ n. own_effect n g.after.task) (ap suc same ∙ at_number) ∙ own-same ∙ ap (λ n. own_effect n g.task) (sym (ap suc same ∙ at_number)))
-        (λ u makes. g.does.same_name u (subst (λ (x : Job). Makes x.task u) is makes)))
-        (λ differ was. then job was refl (λ u makes. makes))
-
-    pub tells-quiet : Tells folders opening m'
+    pub tells-quiet : Tells folders opening calls m'
     tells-quiet = record {
       folders_stay = g.does.folders ∙ tells.folders_stay;
       legal = subst (IsLegal folders opening) (sym effects-same) tells.legal;
-      end = ap (after opening) effects-same ∙ tells.end ∙ ap names_of (sym mailbox-same);
-      nowhere = λ j job u at without makes. before j job at (λ b was own name. subst (λ (es : List Effect). WasNowhere opening es u) (sym effects-same) (tells.nowhere j b u was (sym own ∙ without) (name u makes)));
-      own = λ j job at. before j job at (λ b was own name. ap (filter (λ (e : Effect). e.job == suc j)) effects-same ∙ tells.own j b was ∙ ap option_to_list (sym own));
+      names = ap (after opening) effects-same ∙ tells.names ∙ ap names_of (sym mailbox-same);
+      nowhere = λ j asked task u of at without makes. before j asked task of at without
+          (λ t was own _. subst (λ (es : List Effect). WasNowhere opening es u) (sym effects-same) (tells.nowhere j asked t u of was own makes));
+      own = λ j job at. goes-cases calls m m' what g j job at
+          (λ same is. own-here m'.effects j job same is (ap (filter (λ (e : Effect). e.job == number)) effects-same ∙ mine-before ∙ ap (λ o. option_to_list (option_or o (own_effect number g.task))) (sym none)))
+          (λ differ was. subst (λ (es : List Effect). Has (suc j) job (filter (λ (e : Effect). e.job == suc j) es)) (sym effects-same) (tells.own j job was));
       there = λ i e at. let was = tells.there i e (ap (λ (es : List Effect). slice_get es i) (sym effects-same) ∙ at) in (was.0, omega (arith, was.1, as_many));
     }
 
   -- a turn that is an effect
-  module _ (e : Effect) (some : g.after.effect ≡ Some e) where
+  module _ (e : Effect) (some : what.effect ≡ Some e) where
     effects-more : m'.effects ≡ m.effects ++ e ∷ []
     effects-more = g.effects ∙ ap (λ o. m.effects ++ option_to_list o) some
 
-    own-both : (own_effect number g.task ≡ None) × (own_effect number g.after.task ≡ Some e)
-    own-both = MatchOption-at_some (own_effect number g.after.task ≡ own_effect number g.task) (λ x. (own_effect number g.task ≡ None) × (own_effect number g.after.task ≡ Some x)) e some g.does.effect
+    affects : Affects number g.asked m.dirs.folders (mailbox_of m.dirs) (mailbox_of m'.dirs) e
+    affects = subst (λ (o : Option Effect). IfSome o (Affects number g.asked m.dirs.folders (mailbox_of m.dirs) (mailbox_of m'.dirs))) some g.does.effect
 
-    is_of : e.job ≡ number
-    is_of = own-job number g.after.task e own-both.1
-
-    changes : names_of (mailbox_of m'.dirs) ≡ changed (names_of (mailbox_of m.dirs)) e.change
-    changes = subst (λ (o : Option Effect). MatchOption o (Unit {0}) (λ x. names_of (mailbox_of m'.dirs) ≡ changed (names_of (mailbox_of m.dirs)) x.change)) some g.does.change
-
-    own-before : own_effect (suc g.place) g.task ≡ None
-    own-before = ap (λ n. own_effect n g.task) at_number ∙ own-both.0
+    first : own_effect number g.task ≡ None
+    first = subst (λ (o : Option Effect). IfSome o (λ _. own_effect number g.task ≡ None)) some g.does.first
 
     -- no effect before is of this job
     no_earlier : filter (λ (x : Effect). x.job == number) m.effects ≡ []
-    no_earlier = subst (λ (n : ℕ). filter (λ (x : Effect). x.job == n) m.effects ≡ []) at_number (tells.own g.place (unanswered g.task) g.there ∙ ap option_to_list own-before)
+    no_earlier = mine-before ∙ ap option_to_list first
 
     is_first : (i : ℕ) (x : Effect) → slice_get m.effects i ≡ Some x → x.job ≡ e.job → ⊥
-    is_first i x at same = none_passes (λ (y : Effect). y.job == number) m.effects i x no_earlier at (ap (λ n. n == number) (same ∙ is_of) ∙ same_number number)
+    is_first i x at same = none_passes (λ (y : Effect). y.job == number) m.effects i x no_earlier at (ap (λ n. n == number) (same ∙ affects.of) ∙ same_number number)
 
-    may_happen : MayHappen folders opening m.effects e.answer e.change
-    may_happen = subst (λ (n : ℕ). MayHappen n opening m.effects e.answer e.change) (g.does.folders ∙ tells.folders_stay)
-        (own-may_happen m'.dirs number g.after.task e opening m.effects own-both.1 g.does.fits (λ u makes. tells.nowhere g.place (unanswered g.task) u g.there own-before (g.does.same_name u makes)))
+    -- it is allowed among the names of the history so far, and its job makes only names that were nowhere
+    allowed-now : IsAllowed folders (after opening m.effects) (Makes g.asked) e.answer e.change
+    allowed-now = subst (λ (n : Names). IsAllowed folders n (Makes g.asked) e.answer e.change) (sym tells.names)
+        (subst (λ (n : ℕ). IsAllowed n (names_of (mailbox_of m.dirs)) (Makes g.asked) e.answer e.change) tells.folders_stay affects.allowed)
+
+    fresh : (u : List ℕ) → Makes g.asked u → WasNowhere opening m.effects u
+    fresh u makes = tells.nowhere g.place g.asked g.task u g.of g.there (ap (λ n. own_effect n g.task) at_number ∙ first) makes
+
+    allowed : IsAllowedAfter folders opening m.effects e
+    allowed = allowed-fresh folders (after opening m.effects) (Makes g.asked) (WasNowhere opening m.effects) fresh e.answer e.change allowed-now
 
     legal-more : IsLegal folders opening (m.effects ++ e ∷ [])
     legal-more = record {
@@ -123,71 +164,51 @@ module _ (folders : ℕ) (opening : Names) (m m' : Machine) (number : ℕ) (g : 
           (λ earlyb. absurd (is_first j b earlyb (sym same ∙ ap (λ (x : Effect). x.job) isa)))
           (λ endb isb. enda ∙ sym endb));
       each = λ i x at. at_end m.effects e i x at
-          (λ early. subst (λ (es : List Effect). MayHappen folders opening es x.answer x.change) (sym (take-append-le i m.effects (e ∷ []) (let h = slice_get_within m.effects i x early in omega arith))) (tells.legal.each i x early))
-          (λ end is. subst (λ (es : List Effect). MayHappen folders opening es x.answer x.change) (sym (take_at m.effects (e ∷ []) i (sym end))) (subst (λ (y : Effect). MayHappen folders opening m.effects y.answer y.change) (sym is) may_happen));
+          (λ early. subst (λ (es : List Effect). IsAllowedAfter folders opening es x) (sym (take-append-le i m.effects (e ∷ []) (let h = slice_get_within m.effects i x early in omega arith))) (tells.legal.each i x early))
+          (λ end is. subst (λ (es : List Effect). IsAllowedAfter folders opening es x) (sym (take_at m.effects (e ∷ []) i (sym end))) (subst (IsAllowedAfter folders opening m.effects) (sym is) allowed));
     }
 
-    end-more : after opening (m.effects ++ e ∷ []) ≡ names_of (mailbox_of m'.dirs)
-    end-more = after-push opening m.effects e ∙ ap (λ (n : Names). changed n e.change) tells.end ∙ sym changes
+    names-more : after opening (m.effects ++ e ∷ []) ≡ names_of (mailbox_of m'.dirs)
+    names-more = after-push opening m.effects e ∙ ap (λ (n : Names). changed n e.change) tells.names ∙ sym affects.changes
 
-    -- the names of other jobs
-    nowhere-more : (j : ℕ) (job : Job) (u : List ℕ) → slice_get m'.jobs j ≡ Some job → own_effect (suc j) job.task ≡ None → Makes job.task u → WasNowhere opening (m.effects ++ e ∷ []) u
-    nowhere-more j job u at without makes = goes-cases m m' number g j job at
-        (λ same is.
-        let now : own_effect (suc j) job.task ≡ Some e = ap (λ (x : Job). own_effect (suc j) x.task) is ∙ ap (λ n. own_effect n g.after.task) (ap suc same ∙ at_number) ∙ own-both.1 in
-        cc)
-        (λ differ was.
-        let nowhere = tells.nowhere j job u was without makes in
-        was_nowhere-push opening m.effects e u nowhere
-        (own-nowhere m'.dirs number g.after.task e (after opening m.effects) u own-both.1 g.does.fits
-        (λ mine. differ (good.apart j g.place job (unanswered g.task) u was g.there makes (g.does.same_name u mine)))
-        (now-nowhere opening m.effects u nowhere)))
+    own-other : (j : ℕ) → j ≢ g.place → filter (λ (x : Effect). x.job == suc j) (m.effects ++ e ∷ []) ≡ filter (λ (x : Effect). x.job == suc j) m.effects
+    own-other j differ =
+        let other : e.job ≢ suc j = (λ is. differ (let h : suc g.place ≡ suc j = at_number ∙ sym affects.of ∙ is in omega arith)) in
+        filter-append (λ (x : Effect). x.job == suc j) m.effects (e ∷ [])
+        ∙ ap (λ b. filter (λ (x : Effect). x.job == suc j) m.effects ++ cond b (e ∷ []) []) (other_number e.job (suc j) other)
+        ∙ append-nil (filter (λ (x : Effect). x.job == suc j) m.effects)
 
-    own-more : (j : ℕ) (job : Job) → slice_get m'.jobs j ≡ Some job → filter (λ (x : Effect). x.job == suc j) (m.effects ++ e ∷ []) ≡ option_to_list (own_effect (suc j) job.task)
-    own-more j job at = filter-append (λ (x : Effect). x.job == suc j) m.effects (e ∷ []) ∙ goes-cases m m' number g j job at
-        (λ same is.
-        let n : suc j ≡ number = ap suc same ∙ at_number in
-        ap (λ k. filter (λ (x : Effect). x.job == k) m.effects ++ filter (λ (x : Effect). x.job == k) (e ∷ [])) n
+    mine-after : filter (λ (x : Effect). x.job == number) (m.effects ++ e ∷ []) ≡ e ∷ []
+    mine-after =
+        filter-append (λ (x : Effect). x.job == number) m.effects (e ∷ [])
         ∙ ap (λ es. es ++ filter (λ (x : Effect). x.job == number) (e ∷ [])) no_earlier
-        ∙ ap (λ b. cond b (e ∷ []) []) (ap (λ k. k == number) is_of ∙ same_number number)
-        ∙ ap option_to_list (sym (ap (λ (x : Job). own_effect (suc j) x.task) is ∙ ap (λ k. own_effect k g.after.task) n ∙ own-both.1)))
-        (λ differ was.
-        let other : e.job ≢ suc j = (λ is. differ (let h : suc g.place ≡ suc j = at_number ∙ sym is_of ∙ is in omega arith)) in
-        ap (λ b. filter (λ (x : Effect). x.job == suc j) m.effects ++ cond b (e ∷ []) []) (other_number e.job (suc j) other)
-        ∙ append-nil (filter (λ (x : Effect). x.job == suc j) m.effects) ∙ tells.own j job was)
+        ∙ ap (λ b. cond b (e ∷ []) []) (ap (λ k. k == number) affects.of ∙ same_number number)
 
-    there-more : (i : ℕ) (x : Effect) → slice_get (m.effects ++ e ∷ []) i ≡ Some x → (0 < x.job) × (x.job ≤ length m'.jobs)
-    there-more i x at = at_end m.effects e i x at
-        (λ early. let was = tells.there i x early in (was.0, omega (arith, was.1, as_many)))
-        (λ end is.
-        let job : x.job ≡ suc g.place = ap (λ (y : Effect). y.job) is ∙ is_of ∙ g.number_is in
-        let within = slice_get_within m.jobs g.place (unanswered g.task) g.there in
-        (omega (arith, job), omega (arith, job, within, as_many)))
-
-    pub tells-loud : Tells folders opening m'
+    pub tells-loud : Tells folders opening calls m'
     tells-loud = record {
       folders_stay = g.does.folders ∙ tells.folders_stay;
       legal = subst (IsLegal folders opening) (sym effects-more) legal-more;
-      end = ap (after opening) effects-more ∙ end-more;
-      nowhere = λ j job u at without makes. subst (λ (es : List Effect). WasNowhere opening es u) (sym effects-more) (nowhere-more j job u at without makes);
-      own = λ j job at. ap (filter (λ (x : Effect). x.job == suc j)) effects-more ∙ own-more j job at;
-      there = λ i x at. there-more i x (ap (λ (es : List Effect). slice_get es i) (sym effects-more) ∙ at);
+      names = ap (after opening) effects-more ∙ names-more;
+      nowhere = λ j asked task u of at without makes. before j asked task of at without (λ t was own mine.
+          let nowhere = tells.nowhere j asked t u of was own makes in
+          let other : j ≢ g.place = (λ same. let h = mine same in cc) in
+          subst (λ (es : List Effect). WasNowhere opening es u) (sym effects-more)
+          (was_nowhere-push opening m.effects e u nowhere
+          (nowhere-kept folders (after opening m.effects) (Makes g.asked) e.answer e.change u allowed-now (λ its. apart g.place j g.asked asked (λ same. other (sym same)) g.of of u its makes) (now-nowhere opening m.effects u nowhere))));
+      own = λ j job at. goes-cases calls m m' what g j job at
+          (λ same is. own-here m'.effects j job same is (ap (filter (λ (x : Effect). x.job == number)) effects-more ∙ mine-after ∙ ap (λ o. option_to_list (option_or o (own_effect number g.task))) (sym some)))
+          (λ differ was. subst (Has (suc j) job) (sym (ap (filter (λ (x : Effect). x.job == suc j)) effects-more ∙ own-other j differ)) (tells.own j job was));
+      there = λ i x at. at_end m.effects e i x (ap (λ (es : List Effect). slice_get es i) (sym effects-more) ∙ at)
+          (λ early. let was = tells.there i x early in (was.0, omega (arith, was.1, as_many)))
+          (λ end is.
+          let job : x.job ≡ suc g.place = ap (λ (y : Effect). y.job) is ∙ affects.of ∙ g.number_is in
+          let within = slice_get_within m.jobs g.place (working g.task) g.there in
+          (omega (arith, job), omega (arith, job, within, as_many)));
     }
 
-  pub tells-more : Tells folders opening m'
-  tells-more = by g.after.effect refl
+  pub tells-more : Tells folders opening calls m'
+  tells-more = by what.effect refl
     where
-      by : (o : Option Effect) → g.after.effect ≡ o → Tells folders opening m'
+      by : (o : Option Effect) → what.effect ≡ o → Tells folders opening calls m'
       by None none = tells-quiet none
       by (Some e) some = tells-loud e some
-
--- at the beginning nothing has happened
-pub tells-start : (r : Run) → IsRun r → Tells r.image.folders (names_of (mailbox_of r.image)) (beginning r.image r.calls)
-tells-start r run = record {
-  folders_stay = refl;
-  legal = record { once = λ i j a b ata atb same. cc; each = λ i e at. cc };
-  end = refl;
-  nowhere = λ j job u at without makes k. subst (λ (es : List Effect). IsNowhere (after (names_of (mailbox_of r.image)) es) u) (sym (take_all k [] (omega arith))) (nowhere-bare r.image run.bare u);
-  own = λ j job at. let new = new_at r.calls j job at in ap option_to_list (sym (ap (λ (x : Job). own_effect (suc j) x.task) new.2 ∙ own-new (suc j) new.0));
-  there = λ i e at. cc;
-}

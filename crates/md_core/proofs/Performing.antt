@@ -1,10 +1,11 @@
 -- A directory call that obeys, and that is the one of a turn, takes the turn.
 use Rattle.std.proofs.Common.{ℕ, ◌≡◌, ◌+◌, Option, Some, None, Result, Ok, Err, cond, refl, sym, ap, subst, ◌∙◌, OnOk, OnErr, IsErrOf, is_some}
 use Rattle.md_dirs.specs.State.{State}
-use Rattle.md_dirs.specs.Calls.{Ask, Obeys}
+use Rattle.md_dirs.specs.Calls.{Ask, Obeys, calls_after}
 use Rattle.md_dirs.specs.declared.calls.DirError.{DirError}
 use Rattle.md_dirs.specs.declared.calls.DirError.TheVariants.{Exists, NotFound, Fault, NoMemory}
-use Rattle.md_core.specs.Turn.{Turn, After, Takes, reply_from, reply_by, reply_of, state_by, is_fault}
+use Rattle.md_core.specs.Turn.{Turn, After, Device, Takes, ask_of, shown_call, rows_for, reply_from, reply_by, reply_of, state_by, is_fault}
+use Rattle.md_core.specs.declared.jobs.step.Moment.{Moment}
 use Rattle.md_core.specs.declared.jobs.effect.Effect.{Effect}
 use Rattle.md_core.specs.declared.jobs.step.DirReply.{DirReply}
 use Rattle.md_core.specs.declared.jobs.step.DirReply.TheVariants as reply
@@ -34,18 +35,28 @@ answers {X} ask old f answer new f' r obeys replied =
         renamed reply.Fault (cc) (record { replied = refl; state = unchanged; failed = failed refl })
     by (Err NoMemory) accepted done exists not_found unchanged failed not_failed h = cc
 
+-- a call that was made is one
+pub counted : {X : Type 0} (n : ℕ) (answer : Result X DirError) (r : DirReply) → reply_from answer ≡ Some r → calls_after answer n ≡ n + 1
+counted n (Ok x) r is = refl
+counted n (Err Exists) r is = refl
+counted n (Err NotFound) r is = refl
+counted n (Err Fault) r is = refl
+counted n (Err NoMemory) r is = cc
+
 -- A turn whose call was made, and that shows its reply, was taken.
-pub takes : {X T : Type 0} (turn : Turn T) (old : State) (f : ℕ) (answer : Result X DirError) (new : State) (f' : ℕ) (r : DirReply) (out : StepOut) (effect : Option Effect) (task : T)
-    → Obeys turn.ask old f answer new f' → reply_from answer ≡ Some r → (out.call ≡ turn.call) → out.reply ≡ r
-    → (let after : After T = record { task = task; answer = out.answer; effect = effect } in turn.follows r (turn.rows old) ≡ after) → out.effect ≡ is_some effect
-    → Takes turn old f out effect task new f'
-takes turn old f answer new f' r out effect task obeys replied call shown after is_effect =
-    let a = answers turn.ask old f answer new f' r obeys replied in
+pub takes : {X T : Type 0} (turn : Turn T) (at : Moment) (old : Device) (answer : Result X DirError) (new : Device) (r : DirReply) (out : StepOut) (effect : Option Effect) (task : T)
+    → Obeys (ask_of turn.asked at.clock) old.state old.failures answer new.state new.failures → new.calls ≡ calls_after answer old.calls → reply_from answer ≡ Some r
+    → (out.call ≡ shown_call turn.asked) → out.reply ≡ r
+    → (let after : After T = record { task = task; answer = out.answer; effect = effect } in turn.follows r (rows_for turn.asked old.state) ≡ after) → out.effect ≡ is_some effect
+    → Takes turn at old out effect task new
+takes turn at old answer new r out effect task obeys calls replied call shown after is_effect =
+    let a = answers (ask_of turn.asked at.clock) old.state old.failures answer new.state new.failures r obeys replied in
     record {
       call = call;
-      replied = shown ∙ a.replied ∙ ap (λ q. reply_of turn.ask old (is_fault q)) (sym shown);
-      state = a.state ∙ ap (state_by turn.ask old) (sym shown);
-      failed = a.failed ∙ ap (λ q. cond (is_fault q) (f + 1) f) (sym shown);
-      after = ap (λ q. turn.follows q (turn.rows old)) shown ∙ after;
+      called = calls ∙ counted old.calls answer r replied;
+      replied = shown ∙ a.replied ∙ ap (λ q. reply_of (ask_of turn.asked at.clock) old.state (is_fault q)) (sym shown);
+      state = a.state ∙ ap (state_by (ask_of turn.asked at.clock) old.state) (sym shown);
+      failed = a.failed ∙ ap (λ q. cond (is_fault q) (old.failures + 1) old.failures) (sym shown);
+      after = ap (λ q. turn.follows q (rows_for turn.asked old.state)) shown ∙ after;
       is_effect = is_effect;
     }

@@ -1,5 +1,5 @@
 -- A call that changes no message: all that it does to directories, by the name whose paths it acts on.
-use Rattle.std.proofs.Common.{ℕ, ◌≡◌, inr, List, Some, refl}
+use Rattle.std.proofs.Common.{ℕ, ◌≡◌, ◌<◌, inl, inr, List, Some, refl}
 use Rattle.md_dirs.specs.State.{State, IsSound, file_at}
 use Rattle.md_dirs.specs.Calls.{created, appended, without}
 use Rattle.md_dirs.specs.declared.paths.Path.{Path}
@@ -21,17 +21,17 @@ pub record Quiet (s s' : State) (u : List ℕ) : Type 0 where
 -- nothing changes
 pub quiet-stays : (s : State) (u : List ℕ) → IsSound s → Quiet s s u
 quiet-stays s u sound = record {
-  frame = record { names = λ q not. refl; bytes = λ q m not at. refl; origin = λ q m is at. inr (q, is, at) };
+  frame = record { names = λ q not. refl; bytes = λ q m not at. refl; origin = λ q m is at. inr (q, inl is, at) };
   sound = sound;
   spares = spares-all s s refl (λ q. refl);
   keeps = record { names = λ q m. refl; bytes = λ q message m at. refl };
 }
 
 module _ (s : State) (tmp : Path) (in_tmp : tmp.place ≡ Tmp) (sound : IsSound s) where
-  pub quiet-create : (now : ℕ) → IsUnused s tmp.name → Quiet s (created tmp now s) tmp.name
-  quiet-create now unused = record {
+  pub quiet-create : (now : ℕ) → tmp.folder < s.folders → IsUnused s tmp.name → Quiet s (created tmp now s) tmp.name
+  quiet-create now within unused = record {
     frame = create-frame s tmp now in_tmp sound unused;
-    sound = create-sound s tmp now in_tmp sound unused;
+    sound = create-sound s tmp now in_tmp sound unused within;
     spares = create-spares s tmp now in_tmp sound unused;
     keeps = create-keeps s tmp now in_tmp sound unused;
   }

@@ -3,11 +3,11 @@ use Rattle.std.proofs.Common.{ℕ, zero, suc, ◌≡◌, ◌≤◌, ◌+◌, ◌
 use Rattle.std.proofs.lemmas.List.{map-append, length-map, take_all, take-append-le}
 use Rattle.md_core.specs.declared.jobs.call.Call.{Call}
 use Rattle.md_core.specs.declared.jobs.task.Task.{Task}
-use Rattle.md_core.specs.Machine.{Machine, Marked, job_at, new_job, happens}
+use Rattle.md_core.specs.Machine.{Machine, working, Marked, job_at, new_job, happens}
 use Rattle.md_core.specs.Runs.{Run, beginning, run_from, moment, machine_of, jobs_of, and_event, and_events, and_call}
 use Rattle.md_core.specs.Interleaving.{IsRun}
 use Rattle.md_core.proofs.Places.{at_place, take-one_more, length-changed}
-use Rattle.md_core.proofs.Events.{unanswered, goes_on-exact, happens-turned, with_job, happens-with_job}
+use Rattle.md_core.proofs.Events.{goes_on-exact, happens-turned, with_job, happens-with_job}
 
 pub run_from-append : (m : Machine) (es fs : List Marked) → run_from m (es ++ fs) ≡ run_from (run_from m es) fs
 unfolding run_from
@@ -54,7 +54,7 @@ moment-and_events r es k within = ap (run_from (beginning r.image r.calls)) (tak
 
 -- What holds at the beginning, and is kept by each event of a job that is there and has no answer, holds at each moment.
 module _ (r : Run) (run : IsRun r) (P : List Marked → Machine → Type 0) (start : P [] (beginning r.image r.calls))
-    (step : (es : List Marked) (m : Machine) (e : Marked) (task : Task) → job_at m.jobs e.event.job ≡ Some (unanswered task) → P es m → P (es ++ e ∷ []) (happens m e)) where
+    (step : (es : List Marked) (m : Machine) (e : Marked) (task : Task) → job_at m.jobs e.event.job ≡ Some (working task) → P es m → P (es ++ e ∷ []) (happens m e)) where
   pub at_moment : (k : ℕ) → P (take k r.events) (moment r k)
   at_moment zero = subst (P []) (sym (moment-start r)) start
   at_moment (suc k) =
@@ -72,7 +72,7 @@ module _ (r : Run) (run : IsRun r) (P : List Marked → Machine → Type 0) (sta
   at_last = subst (λ (es : List Marked). P es (run_from (beginning r.image r.calls) es)) (take_all (length r.events) r.events (omega arith)) (at_moment (length r.events))
 
 -- each call has its job
-length-met : (m : Machine) (e : Marked) (task : Task) → job_at m.jobs e.event.job ≡ Some (unanswered task) → length (happens m e).jobs ≡ length m.jobs
+length-met : (m : Machine) (e : Marked) (task : Task) → job_at m.jobs e.event.job ≡ Some (working task) → length (happens m e).jobs ≡ length m.jobs
 length-met m e task at = ap (λ (x : Machine). length x.jobs) (happens-turned m e task at) ∙ length-changed m.jobs _ _
 
 pub length-jobs : (r : Run) → IsRun r → (k : ℕ) → length (moment r k).jobs ≡ length r.calls
@@ -96,8 +96,8 @@ module _ (r : Run) (run : IsRun r) (call : Call) where
   goes-start : Goes [] (beginning r.image r.calls)
   goes-start = run_from-none start' ∙ start-with_job
 
-  goes-more : (es : List Marked) (m : Machine) (e : Marked) (task : Task) → job_at m.jobs e.event.job ≡ Some (unanswered task) → Goes es m → Goes (es ++ e ∷ []) (happens m e)
-  goes-more es m e task at is = run_from-more_event start' es e ∙ ap (λ (x : Machine). happens x e) is ∙ happens-with_job m (new_job call) (unanswered task) e at
+  goes-more : (es : List Marked) (m : Machine) (e : Marked) (task : Task) → job_at m.jobs e.event.job ≡ Some (working task) → Goes es m → Goes (es ++ e ∷ []) (happens m e)
+  goes-more es m e task at is = run_from-more_event start' es e ∙ ap (λ (x : Machine). happens x e) is ∙ happens-with_job m (new_job call) (working task) e at
 
   pub moment-and_call : (k : ℕ) → moment (and_call r call) k ≡ with_job (moment r k) (new_job call)
   moment-and_call = at_moment r run Goes goes-start goes-more

@@ -14,11 +14,11 @@ module _ (c : ℕ) (cs : List ℕ) where
   first true t = ap (λ b. cond (not b) (1 + position_or_len is_colon cs) 0) t
   first false t = let e : 1 + position_or_len is_colon cs ≡ suc (position_or_len is_colon cs) = omega arith in ap (λ b. cond (not b) (1 + position_or_len is_colon cs) 0) t ∙ e
 
-  before : (b : Bool) → is_colon c ≡ b → before_first is_colon (c ∷ cs) ≡ cond b [] (c ∷ before_first is_colon cs)
+  pub before : (b : Bool) → is_colon c ≡ b → before_first is_colon (c ∷ cs) ≡ cond b [] (c ∷ before_first is_colon cs)
   before true t = ap (λ n. take n (c ∷ cs)) (first true t)
   before false t = ap (λ n. take n (c ∷ cs)) (first false t)
 
-  after : (b : Bool) → is_colon c ≡ b → after_first is_colon (c ∷ cs) ≡ cond b cs (after_first is_colon cs)
+  pub after : (b : Bool) → is_colon c ≡ b → after_first is_colon (c ∷ cs) ≡ cond b cs (after_first is_colon cs)
   after true t = ap (λ n. drop (n + 1) (c ∷ cs)) (first true t)
   after false t =
       let n = position_or_len is_colon cs in

@@ -1,5 +1,5 @@
 -- A call alone on a mailbox makes no bytes: each message after it has those that it had, or those that the call delivers.
-use Rattle.std.proofs.Common.{ℕ, ◌≡◌, ◌⊎◌, inl, inr, List, Option, Some, None, Bool, true, false, cond, refl, sym, subst, ◌∙◌}
+use Rattle.std.proofs.Common.{ℕ, ◌≡◌, ◌⊎◌, inl, inr, List, Option, Some, None, Bool, true, false, cond, refl, sym, ap, subst, ◌∙◌}
 use Rattle.std.specs.FinMap as finmap
 use Rattle.std.specs.FinSet as set
 use Rattle.std.proofs.lemmas.Cmp.{nat_list_cmp_total}
@@ -9,27 +9,34 @@ use Rattle.md_dirs.specs.declared.paths.Place.TheVariants.{New, Cur}
 use Rattle.md_dirs.proofs.Maps.{by_key, at_put, beside_put, at_drop, beside_drop}
 use Rattle.md_core.specs.declared.jobs.answer.Answer.{Answer}
 use Rattle.md_core.specs.declared.jobs.call.Call.{Call}
-use Rattle.md_core.specs.declared.jobs.call.Call.TheVariants.{Deliver, Seen, Flag, Move, Expunge, Clean}
+use Rattle.md_core.specs.declared.jobs.call.Call.TheVariants.{Deliver, Seen, Flag, Move, Expunge, Copy, Clean}
 use Rattle.md_core.specs.Mailbox.{Entry, Mailbox}
-use Rattle.md_core.specs.Alone.{Outcome, alone, such, is_in_place, is_in_folder, is_same_set, info_with, flags_in, delivered, seen, seen_by, flag, flag_by, moved, expunged, expunge_by}
-use Rattle.md_core.specs.Interleaving.{Brings}
+use Rattle.md_core.specs.Alone.{Outcome, alone, such, is_in_place, is_in_folder, is_same_set, info_with, flags_in, delivered, seen, seen_by, flag, flag_by, moved, expunged, expunge_by, copied, copy_by, info_copied}
+use Rattle.md_core.specs.declared.jobs.effect.Effect.{Effect}
+use Rattle.md_core.specs.Interleaving.{AsAlone, IsDeliveryOf}
 
 -- a message of the name had these bytes
 abbrev pub Had : Mailbox → List ℕ → List ℕ → Type 0
 Had m u bytes = (b : Entry) × (finmap.get m u ≡ Some b) × (b.bytes ≡ bytes)
 
+-- the call gives a message of the name these bytes: it delivers them, or copies them
+abbrev pub Gives : Call → Mailbox → List ℕ → List ℕ → Type 0
+Gives (Deliver folder unique body chunk) m u bytes = IsDeliveryOf u bytes (Deliver folder unique body chunk)
+Gives (Copy folder unique to fresh tries) m u bytes = (fresh ≡ u) × Had m unique bytes
+Gives other m u bytes = ⊥
+
 -- each message after has its bytes from before, or from the call
 abbrev pub IsWholeAfter : Call → Mailbox → Mailbox → Type 0
-IsWholeAfter call m m' = (u : List ℕ) (e : Entry) → finmap.get m' u ≡ Some e → Brings u e.bytes call ⊎ Had m u e.bytes
+IsWholeAfter call m m' = (u : List ℕ) (e : Entry) → finmap.get m' u ≡ Some e → Gives call m u e.bytes ⊎ Had m u e.bytes
 
 whole-same : (call : Call) (m : Mailbox) → IsWholeAfter call m m
 whole-same call m u e at = inr (e, at, refl)
 
-whole-put : (call : Call) (m : Mailbox) (k : List ℕ) (x : Entry) → Brings k x.bytes call ⊎ Had m k x.bytes → IsWholeAfter call m (finmap.insert m k x)
+whole-put : (call : Call) (m : Mailbox) (k : List ℕ) (x : Entry) → Gives call m k x.bytes ⊎ Had m k x.bytes → IsWholeAfter call m (finmap.insert m k x)
 whole-put call m k x from u e at = by_key nat_list_cmp_total exact_bytes u k
     (λ same.
     let is : x ≡ e = (let h = at_put nat_list_cmp_total exact_bytes m k u x same in cc) in
-    subst (λ (v : List ℕ). Brings v e.bytes call ⊎ Had m v e.bytes) (sym same) (subst (λ (y : Entry). Brings k y.bytes call ⊎ Had m k y.bytes) is from))
+    subst (λ (v : List ℕ). Gives call m v e.bytes ⊎ Had m v e.bytes) (sym same) (subst (λ (y : Entry). Gives call m k y.bytes ⊎ Had m k y.bytes) is from))
     (λ other. inr (e, sym (beside_put nat_list_cmp_total exact_bytes m k u x other) ∙ at, refl))
 
 whole-drop : (call : Call) (m : Mailbox) (k : List ℕ) → IsWholeAfter call m (finmap.remove m k)
@@ -87,10 +94,25 @@ whole-delivered : (m : Mailbox) (folder : ℕ) (k body : List ℕ) (chunk : ℕ)
 whole-delivered m folder k body chunk None = whole-put (Deliver folder k body chunk) m k _ (inl (refl, refl))
 whole-delivered m folder k body chunk (Some e) = whole-same (Deliver folder k body chunk) m
 
+whole-copied : (m : Mailbox) (folder to tries : ℕ) (k fresh : List ℕ) (o : Option Entry) → ((e : Entry) → o ≡ Some e → finmap.get m k ≡ Some e) → IsWholeAfter (Copy folder k to fresh tries) m (copied m to fresh o).after
+whole-copied m folder to tries k fresh None there = whole-same (Copy folder k to fresh tries) m
+whole-copied m folder to tries k fresh (Some e) there = by (flags_in e) (finmap.get m fresh)
+  where
+    by : (had : Option Set) (o : Option Entry) → IsWholeAfter (Copy folder k to fresh tries) m (copy_by m to fresh e had o).after
+    by None o = whole-same (Copy folder k to fresh tries) m
+    by (Some had) (Some other) = whole-same (Copy folder k to fresh tries) m
+    by (Some had) None = whole-put (Copy folder k to fresh tries) m fresh _ (inl (refl, (e, there e refl, refl)))
+
 pub whole-alone : (call : Call) (m : Mailbox) → IsWholeAfter call m (alone call m).after
 whole-alone (Deliver folder u body chunk) m = whole-delivered m folder u body chunk (finmap.get m u)
 whole-alone (Seen folder u flags tries) m = whole-seen (Seen folder u flags tries) m u flags (such (is_in_place New folder) (finmap.get m u)) (such-there (is_in_place New folder) (finmap.get m u))
 whole-alone (Flag folder u add remove tries) m = whole-flag (Flag folder u add remove tries) m u add remove (such (is_in_place Cur folder) (finmap.get m u)) (such-there (is_in_place Cur folder) (finmap.get m u))
 whole-alone (Move folder u to tries) m = whole-moved (Move folder u to tries) m u to (such (is_in_folder folder) (finmap.get m u)) (such-there (is_in_folder folder) (finmap.get m u))
 whole-alone (Expunge folder u tries) m = whole-expunged (Expunge folder u tries) m u (such (is_in_place Cur folder) (finmap.get m u))
+whole-alone (Copy folder u to fresh tries) m = whole-copied m folder to tries u fresh (such (is_in_folder folder) (finmap.get m u)) (such-there (is_in_folder folder) (finmap.get m u))
 whole-alone (Clean folder) m = whole-same (Clean folder) m
+
+-- an effect leaves the mailbox as the call does alone
+pub as_alone-after : (asked : Call) (effect : Option Effect) (m m' : Mailbox) → AsAlone asked effect m m' → IsWholeAfter asked m m'
+as_alone-after asked None m m' same = λ u e at. inr (e, ap (λ (x : Mailbox). finmap.get x u) (sym same) ∙ at, refl)
+as_alone-after asked (Some x) m m' is = subst (IsWholeAfter asked m) (ap (λ (o : Outcome). o.after) is) (whole-alone asked m)

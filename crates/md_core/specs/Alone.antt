@@ -8,7 +8,7 @@ use Rattle.md_dirs.specs.declared.paths.Place.TheVariants.{New, Cur}
 use Rattle.md_name.specs.Letters.{Set, spelling}
 use Rattle.md_name.specs.Names.{info_by, flags_of}
 use Rattle.md_core.specs.declared.jobs.call.Call.{Call}
-use Rattle.md_core.specs.declared.jobs.call.Call.TheVariants.{Deliver, Seen, Flag, Move, Expunge, Clean}
+use Rattle.md_core.specs.declared.jobs.call.Call.TheVariants.{Deliver, Seen, Flag, Move, Expunge, Copy, Clean}
 use Rattle.md_core.specs.declared.jobs.answer.Answer.{Answer}
 use Rattle.md_core.specs.declared.jobs.answer.Answer.TheVariants as answer
 use Rattle.md_core.specs.Mailbox.{Entry, Mailbox}
@@ -87,6 +87,21 @@ abbrev pub expunged : Mailbox → List ℕ → Option Entry → Outcome
 expunged m u None = refused answer.NotThere m
 expunged m u (Some e) = expunge_by m u (flags_in e)
 
+-- Copy: a message gets a second one, under a new name in the same place of a folder, with its flags and its bytes
+abbrev pub info_copied : Option (List ℕ) → Set → Option (List ℕ)
+info_copied None had = None
+info_copied (Some info) had = info_with had
+
+abbrev pub copy_by : Mailbox → ℕ → List ℕ → Entry → Option Set → Option Entry → Outcome
+copy_by m to fresh e None there = refused answer.OtherInfo m
+copy_by m to fresh e (Some had) (Some other) = refused answer.NameTaken m
+copy_by m to fresh e (Some had) None =
+    record { answer = answer.Copied; after = finmap.insert m fresh (record { folder = to; place = e.place; info = info_copied e.info had; bytes = e.bytes }) }
+
+abbrev pub copied : Mailbox → ℕ → List ℕ → Option Entry → Outcome
+copied m to fresh None = refused answer.NotThere m
+copied m to fresh (Some e) = copy_by m to fresh e (flags_in e) (finmap.get m fresh)
+
 -- What a call answers alone on a mailbox, and the mailbox after it. What Clean counts isn't the mailbox's matter.
 abbrev pub alone : Call → Mailbox → Outcome
 alone (Deliver folder u body chunk) m = delivered m folder u body (finmap.get m u)
@@ -94,4 +109,5 @@ alone (Seen folder u flags tries) m = seen m u flags (such (is_in_place New fold
 alone (Flag folder u add remove tries) m = flag m u add remove (such (is_in_place Cur folder) (finmap.get m u))
 alone (Move folder u to tries) m = moved m u to (such (is_in_folder folder) (finmap.get m u))
 alone (Expunge folder u tries) m = expunged m u (such (is_in_place Cur folder) (finmap.get m u))
+alone (Copy folder u to fresh tries) m = copied m to fresh (such (is_in_folder folder) (finmap.get m u))
 alone (Clean folder) m = refused (answer.Cleaned 0) m

@@ -1,5 +1,5 @@
 -- What holds of every run, whatever the order of its events and whichever directory calls fault.
-use Rattle.std.specs.Prelude.{ℕ, ◌≡◌, ◌≢◌, ◌+◌, ◌≤◌, ◌++◌, ◌∷◌, ◌⊎◌, List, [], Option, Some, None, Bool, true, false, ◌==◌, filter, length, take, slice_get, zero, suc, IfSome, IsSome, count_by}
+use Rattle.std.specs.Prelude.{ℕ, ◌≡◌, ◌≢◌, ◌+◌, ◌*◌, ◌≤◌, ◌<◌, ◌++◌, ◌∷◌, ◌⊎◌, List, [], Option, Some, None, Bool, true, false, ◌==◌, filter, length, take, slice_get, zero, suc, IfSome, is_some, count_by}
 use Rattle.std.specs.Option.{option_to_list}
 use Rattle.std.specs.FinMap as finmap
 use Rattle.md_dirs.specs.State.{State, IsSound, file_at}
@@ -7,28 +7,33 @@ use Rattle.md_dirs.specs.declared.paths.Path.{Path}
 use Rattle.md_core.specs.declared.jobs.answer.Answer.{Answer}
 use Rattle.md_core.specs.declared.jobs.answer.Answer.TheVariants as answer
 use Rattle.md_core.specs.declared.jobs.call.Call.{Call}
-use Rattle.md_core.specs.declared.jobs.call.Call.TheVariants.{Deliver}
+use Rattle.md_core.specs.declared.jobs.call.Call.TheVariants as call
 use Rattle.md_core.specs.declared.jobs.deliver.Stage.{Stage}
 use Rattle.md_core.specs.declared.jobs.deliver.Stage.TheVariants.{Linked}
 use Rattle.md_core.specs.declared.jobs.effect.Effect.{Effect}
-use Rattle.md_core.specs.declared.jobs.task.Job.{Job}
+use Rattle.md_core.specs.declared.jobs.step.DirReply.{DirReply}
+use Rattle.md_core.specs.declared.jobs.step.DirReply.TheVariants as reply
+use Rattle.md_core.specs.declared.jobs.step.StepOut.{StepOut}
 use Rattle.md_core.specs.declared.jobs.task.Task.{Task}
 use Rattle.md_core.specs.declared.jobs.task.Task.TheVariants as task
 use Rattle.md_core.specs.Mailbox.{Entry, Mailbox, mailbox_of, is_tmp, is_message, HasOnePath}
 use Rattle.md_core.specs.Alone.{alone}
 use Rattle.md_core.specs.History.{names_of, after, IsLegal}
+use Rattle.md_core.specs.Turn.{Asked, create, append, link, rename, unlink, list}
 use Rattle.md_core.specs.Machines.Deliver.{pieces}
-use Rattle.md_core.specs.Machine.{Marked, job_at, job_left}
-use Rattle.md_core.specs.Runs.{Run, moment, dirs_of, jobs_of, effects_of, step_refusal}
-use Rattle.md_core.specs.Submitting.{submit_refusal, is_delivery}
+use Rattle.md_core.specs.Machine.{Machine, Standing, working, answered, Marked, Done, step_out, job_at, job_left}
+use Rattle.md_core.specs.Machine.{done as done_of}
+use Rattle.md_core.specs.Runs.{Run, moment, machine_of, done_at, jobs_of, effects_of, answer_of, step_refusal}
+use Rattle.md_core.specs.Loading.{load_refusal}
+use Rattle.md_core.specs.Submitting.{submit_refusal, has_machine}
 
--- The runs of a world: sound directories with no name at the beginning, each call accepted by the checks when it was submitted, and
--- each event of a job that was there and had no answer.
+-- The runs of a world: sound directories at the beginning, with no fault; each call accepted by the checks when it was submitted; and each
+-- event of a job that was there and had no answer.
 pub record IsRun (r : Run) : Type 0 where
   pub sound : IsSound r.image
-  pub bare : r.image.names ≡ finmap.empty
+  pub loaded : load_refusal r.image ≡ None
   pub accepted : (i : ℕ) (call : Call) → slice_get r.calls i ≡ Some call → submit_refusal (record r { calls = take i r.calls }) call ≡ None
-  pub deliveries : (i : ℕ) (call : Call) → slice_get r.calls i ≡ Some call → is_delivery call ≡ true
+  pub deliveries : (i : ℕ) (call : Call) → slice_get r.calls i ≡ Some call → has_machine call ≡ true
   pub taken : (k : ℕ) (e : Marked) → slice_get r.events k ≡ Some e → step_refusal (job_at (moment r k).jobs e.event.job) ≡ None
 
 -- calls are numbered as their jobs, from 1
@@ -37,49 +42,91 @@ call_at calls zero = None
 call_at calls (suc i) = slice_get calls i
 
 -- At an effect the call answers as it would alone on the mailbox, and leaves it so. At no other step does the mailbox change.
-abbrev pub AsAlone : Option Call → Option Effect → Mailbox → Mailbox → Type 0
-AsAlone None effect m m' = ⊥
-AsAlone (Some call) None m m' = m' ≡ m
-AsAlone (Some call) (Some effect) m m' = alone call m ≡ record { answer = effect.answer; after = m' }
+abbrev pub AsAlone : Call → Option Effect → Mailbox → Mailbox → Type 0
+AsAlone call None m m' = m' ≡ m
+AsAlone call (Some effect) m m' = alone call m ≡ record { answer = effect.answer; after = m' }
 
-abbrev pub mailbox_at : Run → ℕ → Mailbox
-mailbox_at r k = mailbox_of (moment r k).dirs
+-- Whether a step is where its call takes effect: a link of Deliver or Copy, a rename of Seen, Flag or Move, an unlink of Expunge that is done; or the
+-- look-up of a Flag that answers, since the flags are as they should be.
+abbrev pub is_effect_at : Call → Asked → DirReply → Option Answer → Bool
+is_effect_at (call.Deliver f u body chunk) (link old new) reply.Ok a = true
+is_effect_at (call.Seen f u flags tries) (rename old new) reply.Ok a = true
+is_effect_at (call.Flag f u add remove tries) (rename old new) reply.Ok a = true
+is_effect_at (call.Flag f u add remove tries) (list folder place) reply.Ok (Some (answer.Flags s)) = true
+is_effect_at (call.Move f u to tries) (rename old new) reply.Ok a = true
+is_effect_at (call.Expunge f u tries) (unlink p) reply.Ok a = true
+is_effect_at (call.Copy f u to fresh tries) (link old new) reply.Ok a = true
+is_effect_at call asked r a = false
 
--- event k simulates the one-at-a-time mailbox, and the history grows by its effect, if it is one
-pub record Simulates (r : Run) (k : ℕ) (e : Marked) : Type 0 where
-  pub effect : Option Effect
-  pub own : IfSome effect (λ x. x.job ≡ e.event.job)
-  pub history : (moment r (k + 1)).effects ≡ (moment r k).effects ++ option_to_list effect
-  pub as_alone : AsAlone (call_at r.calls e.event.job) effect (mailbox_at r k) (mailbox_at r (k + 1))
+abbrev pub box : Machine → Mailbox
+box m = mailbox_of m.dirs
 
--- What one step of a job makes of a run, by whether it is an effect: the history grows by one effect of that job, which is what its call does
--- alone; or history and mailbox stay.
-abbrev pub TakesEffect : Run → Run → ℕ → Bool → Type 0
-TakesEffect r r' job true =
-    (e : Effect) × (effects_of r' ≡ effects_of r ++ e ∷ []) × (e.job ≡ job)
-    × AsAlone (call_at r.calls job) (Some e) (mailbox_of (dirs_of r)) (mailbox_of (dirs_of r'))
-TakesEffect r r' job false = (effects_of r' ≡ effects_of r) × (mailbox_of (dirs_of r') ≡ mailbox_of (dirs_of r))
+-- What was done of a call simulates the one-at-a-time mailbox, between the machines before and after it: the history grows by its effect, if it
+-- is one, and the mailbox is as the call alone would leave it.
+pub record Simulates (call : Call) (d : Done) (m m' : Machine) : Type 0 where
+  pub history : m'.effects ≡ m.effects ++ option_to_list d.effect
+  pub own : IfSome d.effect (λ x. x.job ≡ d.job)
+  pub is_effect : is_some d.effect ≡ is_effect_at call d.asked d.reply d.answer
+  pub as_alone : AsAlone call d.effect (box m) (box m')
+
+-- event k was done, and simulates its call
+pub record Happened (r : Run) (k : ℕ) : Type 0 where
+  pub what : Done
+  pub at : done_at r k ≡ Some what
+  pub call : Call
+  pub of : call_at r.calls what.job ≡ Some call
+  pub simulates : Simulates call what (moment r k) (moment r (k + 1))
+
+-- A step of a world shows what its event did, and that simulates the call of its job.
+pub record ShowsStep (r r' : Run) (e : Marked) (out : StepOut) : Type 0 where
+  pub what : Done
+  pub at : done_of (machine_of r) e ≡ Some what
+  pub shown : out ≡ step_out what
+  pub call : Call
+  pub of : call_at r.calls what.job ≡ Some call
+  pub simulates : Simulates call what (machine_of r) (machine_of r')
 
 -- no path names another file than before: nothing is overwritten
 abbrev pub NoneOverwritten : State → State → Type 0
 NoneOverwritten s s' = (p : Path) (m n : ℕ) → file_at s p ≡ Some m → file_at s' p ≡ Some n → n ≡ m
 
 -- the call delivers these bytes under the name
-abbrev pub Brings : List ℕ → List ℕ → Call → Type 0
-Brings u bytes (Deliver folder unique body chunk) = (unique ≡ u) × (body ≡ bytes)
-Brings u bytes call = ⊥
+abbrev pub IsDeliveryOf : List ℕ → List ℕ → Call → Type 0
+IsDeliveryOf u bytes (call.Deliver folder unique body chunk) = (unique ≡ u) × (body ≡ bytes)
+IsDeliveryOf u bytes call = ⊥
 
--- the bytes are whole: the body of the delivery of the name, or what the message had at the beginning
-abbrev pub IsWhole : Run → List ℕ → List ℕ → Type 0
-IsWhole r u bytes =
-    ((i : ℕ) × (call : Call) × (slice_get r.calls i ≡ Some call) × Brings u bytes call)
-    ⊎ ((e : Entry) × (finmap.get (mailbox_of r.image) u ≡ Some e) × (e.bytes ≡ bytes))
+-- the call copies the message of a unique name to this name
+abbrev pub IsCopyTo : List ℕ → List ℕ → Call → Type 0
+IsCopyTo unique u (call.Copy folder v to fresh tries) = (v ≡ unique) × (fresh ≡ u)
+IsCopyTo unique u call = ⊥
+
+-- an event before moment k was the effect of a copy to the name, whose message had these bytes then
+pub record IsCopied (r : Run) (k : ℕ) (u bytes : List ℕ) : Type 0 where
+  pub event : ℕ
+  pub before : event < k
+  pub what : Done
+  pub at : done_at r event ≡ Some what
+  pub is_effect : is_some what.effect ≡ true
+  pub call : Call
+  pub of : call_at r.calls what.job ≡ Some call
+  pub unique : List ℕ
+  pub copies : IsCopyTo unique u call
+  pub source : Entry
+  pub had : finmap.get (box (moment r event)) unique ≡ Some source
+  pub same : source.bytes ≡ bytes
+
+-- The bytes are whole at moment k: the body of the delivery of the name, or what the message had at the beginning, or what the message
+-- had that was copied to the name.
+abbrev pub IsWhole : Run → ℕ → List ℕ → List ℕ → Type 0
+IsWhole r k u bytes =
+    ((i : ℕ) × (call : Call) × (slice_get r.calls i ≡ Some call) × IsDeliveryOf u bytes call)
+    ⊎ (((e : Entry) × (finmap.get (mailbox_of r.image) u ≡ Some e) × (e.bytes ≡ bytes)) ⊎ IsCopied r k u bytes)
 
 -- what is safe at moment k
 pub record IsSafe (r : Run) (k : ℕ) : Type 0 where
   pub sound : IsSound (moment r k).dirs
   pub one_path : HasOnePath (moment r k).dirs
-  pub whole : (u : List ℕ) (e : Entry) → finmap.get (mailbox_at r k) u ≡ Some e → IsWhole r u e.bytes
+  pub whole : (u : List ℕ) (e : Entry) → finmap.get (box (moment r k)) u ≡ Some e → IsWhole r k u e.bytes
   -- names in new and cur that are no messages stay as they were
   pub others : (p : Path) → is_tmp p.place ≡ false → is_message p ≡ false → file_at (moment r k).dirs p ≡ file_at r.image p
 
@@ -89,6 +136,7 @@ is_success answer.Delivered = true
 is_success (answer.Flags s) = true
 is_success answer.Moved = true
 is_success answer.Expunged = true
+is_success answer.Copied = true
 is_success a = false
 
 abbrev pub is_linked : Stage → Bool
@@ -98,36 +146,50 @@ is_linked stage = false
 -- a delivery past its link
 abbrev pub is_past_link : Task → Bool
 is_past_link (task.Deliver d) = is_linked d.stage
+is_past_link (task.Mark m) = false
+is_past_link (task.Move m) = false
+is_past_link (task.Copy c) = false
 
 -- the effects of a job
 abbrev pub effects_by : Run → ℕ → List Effect
 effects_by r job = filter (λ e. e.job == job) (effects_of r)
 
+-- where an answer of a job says that its call took effect, the history has one effect of the job, with that answer
+abbrev pub Succeeds : Run → ℕ → Option Answer → Type 0
+Succeeds r job None = Unit {0}
+Succeeds r job (Some a) = is_success a ≡ true → (e : Effect) × (effects_by r job ≡ e ∷ []) × (e.answer ≡ a)
+
 -- how many steps a job has taken
 abbrev pub steps_of : Run → ℕ → ℕ
 steps_of r job = count_by (λ e. e.event.job == job) r.events
 
--- The most steps that a call takes: a delivery takes one for each piece of its body, and three more. The other calls take none so far.
+-- The most steps that a call takes: a delivery takes one for each piece of its body, and three more; a seen and a flag take two for each
+-- try, a move and a copy three. Only Expunge and Clean are still to come, and take none.
 abbrev pub most_steps : Call → ℕ
-most_steps (Deliver folder unique body chunk) = pieces (length body) chunk + 3
+most_steps (call.Deliver folder unique body chunk) = pieces (length body) chunk + 3
+most_steps (call.Seen folder unique flags tries) = 2 * tries
+most_steps (call.Flag folder unique add remove tries) = 2 * tries
+most_steps (call.Move folder unique to tries) = 3 * tries
+most_steps (call.Copy folder unique to fresh tries) = 3 * tries
 most_steps call = 0
 
--- What is promised of each job and its call.
-pub record KeepsItsWord (r : Run) (number : ℕ) (call : Call) (job : Job) : Type 0 where
+-- What is promised of each job and its call, by how the job stands.
+pub record JobLaw (r : Run) (number : ℕ) (call : Call) (job : Standing) : Type 0 where
   pub once : length (effects_by r number) ≤ 1
-  pub success : (a : Answer) → job.answer ≡ Some a → is_success a ≡ true → (e : Effect) × (effects_by r number ≡ e ∷ []) × (e.answer ≡ a)
-  pub failure : (a : Answer) → job.answer ≡ Some a → is_success a ≡ false → effects_by r number ≡ []
-  pub unanswered : job.answer ≡ None → effects_by r number ≢ [] → is_past_link job.task ≡ true
-  -- those steps that it has taken, and those that it may still take, are together no more than its call takes
+  pub success : (a : Answer) → job ≡ answered a → is_success a ≡ true → (e : Effect) × (effects_by r number ≡ e ∷ []) × (e.answer ≡ a)
+  pub failure : (a : Answer) → job ≡ answered a → is_success a ≡ false → effects_by r number ≡ []
+  pub unanswered : (t : Task) → job ≡ working t → effects_by r number ≢ [] → is_past_link t ≡ true
+  -- the steps that it has taken, and those that it may still take, are together no more than its call takes
   pub bounded : steps_of r number + job_left job ≤ most_steps call
   -- given that many steps it has its answer, whatever the replies were
-  pub answered : most_steps call ≤ steps_of r number → IsSome job.answer
+  pub ends : most_steps call ≤ steps_of r number → (a : Answer) × (job ≡ answered a)
 
 -- The interleaving theorem of a run.
 pub record Interleaves (r : Run) : Type 0 where
-  pub simulates : (k : ℕ) (e : Marked) → slice_get r.events k ≡ Some e → Simulates r k e
+  pub happened : (k : ℕ) → k < length r.events → Happened r k
   pub none_overwritten : (k : ℕ) → NoneOverwritten (moment r k).dirs (moment r (k + 1)).dirs
   pub safe : (k : ℕ) → IsSafe r k
   pub legal : IsLegal r.image.folders (names_of (mailbox_of r.image)) (effects_of r)
-  pub end : after (names_of (mailbox_of r.image)) (effects_of r) ≡ names_of (mailbox_of (dirs_of r))
-  pub jobs : (number : ℕ) (call : Call) (job : Job) → call_at r.calls number ≡ Some call → job_at (jobs_of r) number ≡ Some job → KeepsItsWord r number call job
+  -- the history gives the names of the mailbox at every moment
+  pub names : (k : ℕ) → after (names_of (mailbox_of r.image)) (moment r k).effects ≡ names_of (box (moment r k))
+  pub jobs : (number : ℕ) (call : Call) (job : Standing) → call_at r.calls number ≡ Some call → job_at (jobs_of r) number ≡ Some job → JobLaw r number call job

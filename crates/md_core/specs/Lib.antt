@@ -4,8 +4,12 @@ pub mod History
 pub mod Turn
 pub mod Machines
 pub mod Machine
+pub mod Standing
 pub mod Runs
 pub mod Used
+pub mod Loading
 pub mod Submitting
 pub mod Interleaving
 pub mod Worlds
+pub mod Looking
+pub mod Reading

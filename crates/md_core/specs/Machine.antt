@@ -1,100 +1,156 @@
 -- The jobs as machines over the directories: at an event one job takes its turn.
-use Rattle.std.specs.Prelude.{ℕ, ◌-◌, List, [], ◌++◌, Option, Some, None, Bool, max, is_some, if◌then◌else◌, slice_get, slice_set, zero, suc}
-use Rattle.std.specs.Option.{option_to_list}
+use Rattle.std.specs.Prelude.{ℕ, ◌-◌, List, [], ◌++◌, Option, Some, None, Bool, true, false, max, is_some, slice_get, slice_set, unwrap_or, zero, suc}
+use Rattle.std.specs.Option.{option_to_list, option_map}
 use Rattle.md_dirs.specs.State.{State}
-use Rattle.md_core.specs.Turn.{Turn, reply_of, state_by}
+use Rattle.md_core.specs.Turn.{Asked, Turn, After, ask_of, shown_call, rows_for, reply_of, state_by}
 use Rattle.md_core.specs.Machines.Deliver.{new_delivery, delivery_turn, delivery_left}
+use Rattle.md_core.specs.Machines.Mark.{new_marking, marking_turn, marking_left}
+use Rattle.md_core.specs.Machines.Move.{new_moving, moving_turn, moving_left}
+use Rattle.md_core.specs.Machines.Copy.{new_copying, copying_turn, copying_left}
 use Rattle.md_core.specs.declared.jobs.call.Call.{Call}
 use Rattle.md_core.specs.declared.jobs.call.Call.TheVariants as call
+use Rattle.md_core.specs.declared.jobs.answer.Answer.{Answer}
 use Rattle.md_core.specs.declared.jobs.answer.Answer.TheVariants as answer
 use Rattle.md_core.specs.declared.jobs.effect.Effect.{Effect}
 use Rattle.md_core.specs.declared.jobs.step.DirReply.{DirReply}
 use Rattle.md_core.specs.declared.jobs.step.Event.{Event}
+use Rattle.md_core.specs.declared.jobs.step.Moment.{Moment}
 use Rattle.md_core.specs.declared.jobs.step.StepOut.{StepOut}
+use Rattle.md_core.specs.declared.jobs.mark.Mark.TheVariants as mark
 use Rattle.md_core.specs.declared.jobs.task.Task.{Task}
-use Rattle.md_core.specs.declared.jobs.task.Task.TheVariants.{Deliver}
-use Rattle.md_core.specs.declared.jobs.task.Job.{Job}
+use Rattle.md_core.specs.declared.jobs.task.Task.TheVariants.{Deliver, Mark, Move, Copy}
 
--- a turn of one kind of job, as a turn of a job
+-- a turn of one kind of task, as a turn of a task
 abbrev pub as_task : {T : Type 0} → (T → Task) → Turn T → Turn Task
-as_task wrap t = record { call = t.call; ask = t.ask; rows = t.rows; follows = λ r rows. record { task = wrap (t.follows r rows).task; answer = (t.follows r rows).answer; effect = (t.follows r rows).effect } }
+as_task wrap t = record {
+  asked = t.asked;
+  follows = λ r rows. let after = t.follows r rows in record { task = wrap after.task; answer = after.answer; effect = after.effect };
+}
 
--- The turn of a job that has no answer, by its number and the clock. A later call adds its line.
-abbrev pub turn_of : ℕ → Task → ℕ → Turn Task
-turn_of job (Deliver d) clock = as_task Deliver (delivery_turn job d clock)
+-- The turn of a task, by the number of its job and the moment. A later call adds its line.
+abbrev pub turn_of : ℕ → Task → Moment → Turn Task
+turn_of job (Deliver d) at = as_task Deliver (delivery_turn job d at)
+turn_of job (Mark m) at = as_task Mark (marking_turn job m)
+turn_of job (Move m) at = as_task Move (moving_turn job m)
+turn_of job (Copy c) at = as_task Copy (copying_turn job c)
 
--- how many turns a job takes at most from here to its answer
+-- how many turns a task takes at most from here to its answer
 abbrev pub task_left : Task → ℕ
 task_left (Deliver d) = delivery_left d
+task_left (Mark m) = marking_left m
+task_left (Move m) = moving_left m
+task_left (Copy c) = copying_left c
 
-abbrev pub job_left : Job → ℕ
-job_left job = if is_some job.answer then 0 else task_left job.task
+-- How a job stands: at work, or answered. One that is answered holds nothing but its answer.
+pub data Standing : Type 0 where
+  working : (task : Task) → Standing
+  answered : (answer : Answer) → Standing
 
--- the call that a job came from
-abbrev pub call_of : Task → Call
-call_of (Deliver d) = call.Deliver d.tmp.folder d.tmp.name d.body d.chunk
+abbrev pub is_working : Standing → Bool
+is_working (working task) = true
+is_working (answered a) = false
 
--- A job at its beginning. Only deliveries are accepted so far: a call whose machine is still to come stands for a job that has ended.
-abbrev pub new_job : Call → Job
-new_job (call.Deliver folder unique body chunk) = record { task = Deliver (new_delivery folder unique body chunk); answer = None }
-new_job other = record { task = Deliver (new_delivery 0 [] [] 0); answer = Some answer.Fault }
+-- A job at its beginning, of a delivery, a seen, a flag, a move or a copy. Only Expunge and Clean are still to come: they stand for jobs that
+-- have ended.
+abbrev pub new_job : Call → Standing
+new_job (call.Deliver folder unique body chunk) = working (Deliver (new_delivery folder unique body chunk))
+new_job (call.Seen folder unique flags tries) = working (Mark (new_marking folder unique (mark.Seen flags) tries))
+new_job (call.Flag folder unique add remove tries) = working (Mark (new_marking folder unique (mark.Flag add remove) tries))
+new_job (call.Move folder unique to tries) = working (Move (new_moving folder unique to tries))
+new_job (call.Copy folder unique to fresh tries) = working (Copy (new_copying folder unique to fresh tries))
+new_job other = answered answer.Fault
+
+abbrev pub job_left : Standing → ℕ
+job_left (working task) = task_left task
+job_left (answered a) = 0
 
 pub record Machine : Type 0 where
   pub dirs : State
   -- in seconds
   pub clock : ℕ
-  pub jobs : List Job
+  pub jobs : List Standing
   pub effects : List Effect
 
 -- jobs are numbered from 1
-abbrev pub job_at : List Job → ℕ → Option Job
+abbrev pub job_at : List Standing → ℕ → Option Standing
 job_at jobs zero = None
 job_at jobs (suc i) = slice_get jobs i
+
+-- the task of a job that is there and has no answer
+abbrev pub task_of : Option Standing → Option Task
+task_of None = None
+task_of (Some (working task)) = Some task
+task_of (Some (answered a)) = None
 
 -- an event, and whether its directory call faulted
 pub record Marked : Type 0 where
   pub event : Event
   pub faulted : Bool
 
-abbrev pub marked : ℕ → ℕ → Bool → Marked
-marked job now faulted = record { event = record { job = job; now = now }; faulted = faulted }
+abbrev pub marked : ℕ → ℕ → Option ℕ → Bool → Marked
+marked job now own faulted = record { event = record { job = job; now = now; own = own }; faulted = faulted }
+
+-- The moment of an event: the clock is the greater of itself and the event's moment. A job that has no own moment goes by the clock.
+abbrev pub moment_of : ℕ → Event → Moment
+moment_of clock e = record { clock = max clock e.now; own = unwrap_or e.own (max clock e.now) }
+
+-- how a job stands once it may have an answer
+abbrev pub settled : Standing → Option Answer → Standing
+settled job None = job
+settled job (Some a) = answered a
+
+-- how a job stands after a turn
+abbrev pub standing_of : Task → Option Answer → Standing
+standing_of task a = settled (working task) a
 
 -- the machine after a turn of the job of a number, and this reply
-abbrev pub taken : Machine → ℕ → ℕ → Turn Task → DirReply → Machine
-taken m number clock turn r =
-    let after = turn.follows r (turn.rows m.dirs) in
+abbrev pub taken : Machine → ℕ → Moment → Turn Task → DirReply → Machine
+taken m number at turn r =
+    let after = turn.follows r (rows_for turn.asked m.dirs) in
     record {
-      dirs = state_by turn.ask m.dirs r;
-      clock = clock;
-      jobs = slice_set m.jobs (number - 1) (record { task = after.task; answer = after.answer });
+      dirs = state_by (ask_of turn.asked at.clock) m.dirs r;
+      clock = at.clock;
+      jobs = slice_set m.jobs (number - 1) (standing_of after.task after.answer);
       effects = m.effects ++ option_to_list after.effect;
     }
 
--- the machine after a turn, by whether the directory call faults
-abbrev pub turned : Machine → ℕ → ℕ → Bool → Turn Task → Machine
-turned m number clock faulted turn = taken m number clock turn (reply_of turn.ask m.dirs faulted)
+-- what the directories reply to a turn, by whether the call faults
+abbrev pub replied : Machine → Moment → Turn Task → Bool → DirReply
+replied m at turn faulted = reply_of (ask_of turn.asked at.clock) m.dirs faulted
 
 -- nothing happens without such a job, nor where it has its answer
-abbrev pub met : Machine → ℕ → ℕ → Bool → Option Job → Machine
-met m number clock faulted None = m
-met m number clock faulted (Some job) = if is_some job.answer then m else turned m number clock faulted (turn_of number job.task clock)
+abbrev pub met : Machine → Marked → Option Task → Machine
+met m e None = m
+met m e (Some task) =
+    let at = moment_of m.clock e.event in
+    let turn = turn_of e.event.job task at in
+    taken m e.event.job at turn (replied m at turn e.faulted)
 
--- One event: the clock is the greater of itself and the event's moment, and the job takes its turn.
+-- One event: the job takes its turn at the event's moment.
 abbrev pub happens : Machine → Marked → Machine
-happens m e = met m e.event.job (max m.clock e.event.now) e.faulted (job_at m.jobs e.event.job)
+happens m e = met m e (task_of (job_at m.jobs e.event.job))
 
--- what a turn shows
-abbrev pub shown_by : Turn Task → State → DirReply → StepOut
-shown_by turn s r =
-    let after = turn.follows r (turn.rows s) in
-    record { call = turn.call; reply = r; answer = after.answer; effect = is_some after.effect }
+-- What an event did: its job, the directory call and its reply, the moment, the job's answer where it has one now, and its effect where it is one.
+pub record Done : Type 0 where
+  pub job : ℕ
+  pub asked : Asked
+  pub reply : DirReply
+  pub at : Moment
+  pub answer : Option Answer
+  pub effect : Option Effect
 
-abbrev pub shown_of : Machine → Marked → Option Job → Option StepOut
-shown_of m e None = None
-shown_of m e (Some job) =
-    let turn = turn_of e.event.job job.task (max m.clock e.event.now) in
-    Some (shown_by turn m.dirs (reply_of turn.ask m.dirs e.faulted))
+abbrev pub done_by : Machine → Marked → Task → Done
+done_by m e task =
+    let at = moment_of m.clock e.event in
+    let turn = turn_of e.event.job task at in
+    let reply = replied m at turn e.faulted in
+    let after = turn.follows reply (rows_for turn.asked m.dirs) in
+    record { job = e.event.job; asked = turn.asked; reply = reply; at = at; answer = after.answer; effect = after.effect }
 
--- What an event shows of a job that is there and has no answer.
-abbrev pub shown : Machine → Marked → Option StepOut
-shown m e = shown_of m e (job_at m.jobs e.event.job)
+-- What an event does, where its job is there and has no answer.
+abbrev pub done : Machine → Marked → Option Done
+done m e = option_map (done_by m e) (task_of (job_at m.jobs e.event.job))
+
+-- what a step shows of what it did
+abbrev pub step_out : Done → StepOut
+step_out d = record { call = shown_call d.asked; reply = d.reply; answer = d.answer; effect = is_some d.effect }

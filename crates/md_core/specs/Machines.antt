@@ -1,1 +1,5 @@
 pub mod Deliver
+pub mod Mark
+pub mod Search
+pub mod Move
+pub mod Copy

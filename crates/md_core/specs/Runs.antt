@@ -1,5 +1,6 @@
 -- A run: directories at the beginning, the calls that were submitted, and the events since. All else of a world is a function of these.
-use Rattle.std.specs.Prelude.{ℕ, ◌≡◌, List, [], ◌∷◌, ◌++◌, Option, Some, None, map, max, take, if◌then◌else◌, is_some, fold}
+use Rattle.std.specs.Prelude.{ℕ, ◌≡◌, ◌+◌, List, [], ◌∷◌, ◌++◌, Option, Some, None, map, max, take, fold, slice_get, length, count_by}
+use Rattle.std.specs.Option.{option_and_then}
 use Rattle.std.specs.FinMap as finmap
 use Rattle.md_dirs.specs.State.{State, file_by}
 use Rattle.md_dirs.specs.declared.paths.File.{File}
@@ -9,13 +10,21 @@ use Rattle.md_core.specs.declared.jobs.answer.Answer.{Answer}
 use Rattle.md_core.specs.declared.jobs.call.Call.{Call}
 use Rattle.md_core.specs.declared.jobs.effect.Effect.{Effect}
 use Rattle.md_core.specs.declared.jobs.step.Event.{Event}
-use Rattle.md_core.specs.declared.jobs.task.Job.{Job}
-use Rattle.md_core.specs.Machine.{Machine, Marked, happens, new_job, job_at, job_left}
+use Rattle.md_core.specs.Machine.{Machine, Standing, working, answered, Marked, Done, happens, done, new_job, job_at, job_left}
 
 pub record Run : Type 0 where
+  -- the directories at the beginning
   pub image : State
+  -- how often these had failed by then, and how many calls were made of them
+  pub failures : ℕ
+  pub calls_made : ℕ
+  -- the calls of the jobs
   pub calls : List Call
   pub events : List Marked
+
+-- a run of no call and no event
+abbrev pub new_run : State → ℕ → ℕ → Run
+new_run image failures calls_made = record { image = image; failures = failures; calls_made = calls_made; calls = []; events = [] }
 
 abbrev pub stamp_of : Option File → ℕ
 stamp_of None = 0
@@ -42,17 +51,28 @@ moment r k = run_from (beginning r.image r.calls) (take k r.events)
 abbrev pub machine_of : Run → Machine
 machine_of r = run_from (beginning r.image r.calls) r.events
 
+-- what event k did
+abbrev pub done_at : Run → ℕ → Option Done
+done_at r k = option_and_then (done (moment r k)) (slice_get r.events k)
+
 abbrev pub dirs_of : Run → State
 dirs_of r = (machine_of r).dirs
 
 abbrev pub clock_of : Run → ℕ
 clock_of r = (machine_of r).clock
 
-abbrev pub jobs_of : Run → List Job
+abbrev pub jobs_of : Run → List Standing
 jobs_of r = (machine_of r).jobs
 
 abbrev pub effects_of : Run → List Effect
 effects_of r = (machine_of r).effects
+
+-- how often the directories have failed, and how many calls were made of them: one at each event
+abbrev pub failures_of : Run → ℕ
+failures_of r = r.failures + count_by (λ e. e.faulted) r.events
+
+abbrev pub calls_made_of : Run → ℕ
+calls_made_of r = r.calls_made + length r.events
 
 -- jobs and moments, without the marks
 abbrev pub log_of : Run → List Event
@@ -69,12 +89,13 @@ and_events r es = record r { events = r.events ++ es }
 abbrev pub and_call : Run → Call → Run
 and_call r call = record r { calls = r.calls ++ call ∷ [] }
 
-abbrev pub answer_of : Option Job → Option Answer
+abbrev pub answer_of : Option Standing → Option Answer
 answer_of None = None
-answer_of (Some job) = job.answer
+answer_of (Some (working task)) = None
+answer_of (Some (answered a)) = Some a
 
 -- how many steps a job takes at most from here to its answer
-abbrev pub left_of : Option Job → ℕ
+abbrev pub left_of : Option Standing → ℕ
 left_of None = 0
 left_of (Some job) = job_left job
 
@@ -82,9 +103,10 @@ abbrev pub steps_left : Run → ℕ → ℕ
 steps_left r job = left_of (job_at (jobs_of r) job)
 
 -- where a step of a job is refused, want of memory aside: no such job, or it has its answer
-abbrev pub step_refusal : Option Job → Option CoreError
+abbrev pub step_refusal : Option Standing → Option CoreError
 step_refusal None = Some core.NoJob
-step_refusal (Some job) = if is_some job.answer then Some core.Answered else None
+step_refusal (Some (working task)) = None
+step_refusal (Some (answered a)) = Some core.Answered
 
 -- an error is this refusal; where there is none, it is want of memory
 abbrev pub IsRefusal : Option CoreError → CoreError → Type 0

@@ -8,7 +8,7 @@ use Rattle.md_name.specs.Names.{unique_of, is_unique_name}
 use Rattle.md_core.specs.declared.error.CoreError.{CoreError}
 use Rattle.md_core.specs.declared.error.CoreError.TheVariants as core
 use Rattle.md_core.specs.declared.jobs.call.Call.{Call}
-use Rattle.md_core.specs.declared.jobs.call.Call.TheVariants.{Deliver, Seen, Flag, Move, Expunge, Clean}
+use Rattle.md_core.specs.declared.jobs.call.Call.TheVariants.{Deliver, Seen, Flag, Move, Expunge, Copy, Clean}
 use Rattle.md_core.specs.Mailbox.{is_tmp, is_message}
 use Rattle.md_core.specs.Runs.{Run}
 
@@ -26,14 +26,15 @@ most_tries = 16
 abbrev pub uses : List ℕ → Path → Bool
 uses u p = if is_tmp p.place then bytes_eq p.name u else is_message p && bytes_eq (unique_of p.name) u
 
--- whether a call delivers under the name
-abbrev pub delivers : List ℕ → Call → Bool
-delivers u (Deliver folder unique body chunk) = bytes_eq unique u
-delivers u call = false
+-- whether a call makes a message of the name: a delivery or a copy
+abbrev pub makes : List ℕ → Call → Bool
+makes u (Deliver folder unique body chunk) = bytes_eq unique u
+makes u (Copy folder unique to fresh tries) = bytes_eq fresh u
+makes u call = false
 
--- a name is used from the submit of its delivery on, for good, and so are those of the directories at the beginning
+-- a name is used from the submit of its delivery or copy on, for good, and so are those of the directories at the beginning
 abbrev pub is_used : Run → List ℕ → Bool
-is_used r u = list_any (λ e. uses u e.0) (finmap.entries r.image.names) || list_any (delivers u) r.calls
+is_used r u = list_any (λ e. uses u e.0) (finmap.entries r.image.names) || list_any (makes u) r.calls
 
 -- the error of the first check that fails
 abbrev pub first_met : List (Bool × CoreError) → Option CoreError
@@ -49,26 +50,37 @@ bad_tries tries = tries == 0 || nat_lt most_tries tries
 abbrev pub too_many : Run → Bool
 too_many r = nat_le most_jobs (length r.calls)
 
+-- the checks of a call that looks for one message and acts on it
+abbrev pub checks_of_look_up : Run → ℕ → List ℕ → ℕ → List (Bool × CoreError)
+checks_of_look_up r folder unique tries =
+    (no_folder r folder, core.NoFolder) ∷ (not (is_unique_name unique), core.BadUnique) ∷ (bad_tries tries, core.BadTries)
+    ∷ (too_many r, core.TooManyJobs) ∷ []
+
 -- the checks of a call, in their order, each with the error that it gives where it is met
 abbrev pub checks : Run → Call → List (Bool × CoreError)
 checks r (Deliver folder unique body chunk) =
     (no_folder r folder, core.NoFolder) ∷ (not (is_unique_name unique), core.BadUnique) ∷ (chunk == 0, core.BadChunk)
     ∷ (nat_lt most_bytes (length body), core.BodyTooLong) ∷ (too_many r, core.TooManyJobs) ∷ (is_used r unique, core.NameUsed) ∷ []
-checks r (Seen folder unique flags tries) =
-    (no_folder r folder, core.NoFolder) ∷ (not (is_unique_name unique), core.BadUnique) ∷ (bad_tries tries, core.BadTries) ∷ (too_many r, core.TooManyJobs) ∷ []
-checks r (Flag folder unique add remove tries) =
-    (no_folder r folder, core.NoFolder) ∷ (not (is_unique_name unique), core.BadUnique) ∷ (bad_tries tries, core.BadTries) ∷ (too_many r, core.TooManyJobs) ∷ []
+checks r (Seen folder unique flags tries) = checks_of_look_up r folder unique tries
+checks r (Flag folder unique add remove tries) = checks_of_look_up r folder unique tries
 checks r (Move folder unique to tries) =
-    (no_folder r folder || no_folder r to, core.NoFolder) ∷ (to == folder, core.SameFolder) ∷ (not (is_unique_name unique), core.BadUnique) ∷ (bad_tries tries, core.BadTries)
-    ∷ (too_many r, core.TooManyJobs) ∷ []
-checks r (Expunge folder unique tries) =
-    (no_folder r folder, core.NoFolder) ∷ (not (is_unique_name unique), core.BadUnique) ∷ (bad_tries tries, core.BadTries) ∷ (too_many r, core.TooManyJobs) ∷ []
+    (no_folder r folder || no_folder r to, core.NoFolder) ∷ (to == folder, core.SameFolder) ∷ (not (is_unique_name unique), core.BadUnique)
+    ∷ (bad_tries tries, core.BadTries) ∷ (too_many r, core.TooManyJobs) ∷ []
+checks r (Expunge folder unique tries) = checks_of_look_up r folder unique tries
+checks r (Copy folder unique to fresh tries) =
+    (no_folder r folder || no_folder r to, core.NoFolder) ∷ (not (is_unique_name unique) || not (is_unique_name fresh), core.BadUnique)
+    ∷ (bad_tries tries, core.BadTries) ∷ (too_many r, core.TooManyJobs) ∷ (is_used r fresh, core.NameUsed) ∷ []
 checks r (Clean folder) = (no_folder r folder, core.NoFolder) ∷ (too_many r, core.TooManyJobs) ∷ []
 
 -- where a call is refused, want of memory aside
 abbrev pub submit_refusal : Run → Call → Option CoreError
 submit_refusal r call = first_met (checks r call)
 
-abbrev pub is_delivery : Call → Bool
-is_delivery (Deliver folder unique body chunk) = true
-is_delivery call = false
+-- whether the machine of a call is there: only Expunge and Clean are still to come
+abbrev pub has_machine : Call → Bool
+has_machine (Deliver folder unique body chunk) = true
+has_machine (Seen folder unique flags tries) = true
+has_machine (Flag folder unique add remove tries) = true
+has_machine (Move folder unique to tries) = true
+has_machine (Copy folder unique to fresh tries) = true
+has_machine call = false

@@ -1,28 +1,68 @@
 -- A turn of a job: the one directory call that it makes next, and what follows each reply.
-use Rattle.std.specs.Prelude.{ℕ, ◌≡◌, ◌+◌, List, Option, Some, None, Result, Ok, Err, Bool, true, false, is_some, if◌then◌else◌}
+use Rattle.std.specs.Prelude.{ℕ, ◌≡◌, ◌+◌, List, [], length, Option, Some, None, Result, Ok, Err, Bool, true, false, is_some, if◌then◌else◌}
 use Rattle.md_dirs.specs.State.{State}
+use Rattle.md_dirs.specs.Rows.{rows_of, row_named}
 use Rattle.md_dirs.specs.Calls.{Ask}
+use Rattle.md_dirs.specs.Calls as dirs
+use Rattle.md_dirs.specs.declared.paths.Path.{Path}
+use Rattle.md_dirs.specs.declared.paths.Place.{Place}
 use Rattle.md_dirs.specs.declared.rows.Row.{Row}
 use Rattle.md_dirs.specs.declared.calls.DirError.{DirError}
 use Rattle.md_dirs.specs.declared.calls.DirError.TheVariants.{Exists, NotFound, Fault, NoMemory}
 use Rattle.md_core.specs.declared.jobs.answer.Answer.{Answer}
 use Rattle.md_core.specs.declared.jobs.effect.Effect.{Effect}
 use Rattle.md_core.specs.declared.jobs.step.DirCall.{DirCall}
+use Rattle.md_core.specs.declared.jobs.step.DirCall.TheVariants as call
 use Rattle.md_core.specs.declared.jobs.step.DirReply.{DirReply}
 use Rattle.md_core.specs.declared.jobs.step.DirReply.TheVariants as reply
+use Rattle.md_core.specs.declared.jobs.step.Moment.{Moment}
 use Rattle.md_core.specs.declared.jobs.step.StepOut.{StepOut}
 
--- How a job of the kind T stands after a reply: its answer, where it has one now, and its effect, where this step is one.
+-- a directory call, with its paths
+pub data Asked : Type 0 where
+  create : (p : Path) → Asked
+  append : (p : Path) (bytes : List ℕ) → Asked
+  link : (old new : Path) → Asked
+  rename : (old new : Path) → Asked
+  unlink : (p : Path) → Asked
+  list : (folder : ℕ) (place : Place) → Asked
+
+-- where the call is refused and what it leaves, at a clock
+abbrev pub ask_of : Asked → ℕ → Ask
+ask_of (create p) clock = dirs.create p clock
+ask_of (append p bytes) clock = dirs.append p bytes clock
+ask_of (link old new) clock = dirs.link old new
+ask_of (rename old new) clock = dirs.rename old new
+ask_of (unlink p) clock = dirs.unlink p
+ask_of (list folder place) clock = dirs.list folder place
+
+-- what a step shows of the call
+abbrev pub shown_call : Asked → DirCall
+shown_call (create p) = call.Create
+shown_call (append p bytes) = call.Append (length bytes)
+shown_call (link old new) = call.Link
+shown_call (rename old new) = call.Rename
+shown_call (unlink p) = call.Unlink
+shown_call (list folder place) = call.List place
+
+-- the rows that a listing reads, and none for other calls
+abbrev pub rows_for : Asked → State → List Row
+rows_for (list folder place) s = rows_of s folder place
+rows_for (create p) s = []
+rows_for (append p bytes) s = []
+rows_for (link old new) s = []
+rows_for (rename old new) s = []
+rows_for (unlink p) s = []
+
+-- How a job of the kind T stands after a reply: its task, its answer, where it has one now, and its effect, where this step is one.
 pub record After (T : Type 0) : Type 0 where
   pub task : T
   pub answer : Option Answer
   pub effect : Option Effect
 
+-- the directory call that a job makes next, and how it stands after each reply
 pub record Turn (T : Type 0) : Type 0 where
-  pub call : DirCall
-  pub ask : Ask
-  -- the rows that a listing reads, and none for other calls
-  pub rows : State → List Row
+  pub asked : Asked
   pub follows : DirReply → List Row → After T
 
 -- the job goes on, with no answer and no effect
@@ -36,6 +76,10 @@ ends t a = record { task = t; answer = Some a; effect = None }
 -- the job goes on, and this step is its effect
 abbrev pub acts : {T : Type 0} → T → Effect → After T
 acts t e = record { task = t; answer = None; effect = Some e }
+
+-- the job ends with the answer of its effect, which this step is
+abbrev pub ends_by : {T : Type 0} → T → Effect → After T
+ends_by t e = record { task = t; answer = Some e.answer; effect = Some e }
 
 abbrev pub reply_by : Option DirError → DirReply
 reply_by None = reply.Ok
@@ -64,12 +108,36 @@ reply_from (Err NotFound) = Some reply.NotFound
 reply_from (Err Fault) = Some reply.Fault
 reply_from (Err NoMemory) = None
 
--- A turn was taken: its one directory call was made, and the job stands as the turn says. The failures of the directories
+-- what contracts see of directories: their state, how often they failed, and how many calls were made of them
+pub record Device : Type 0 where
+  pub state : State
+  pub failures : ℕ
+  pub calls : ℕ
+
+abbrev pub device : State → ℕ → ℕ → Device
+device state failures calls = record { state = state; failures = failures; calls = calls }
+
+-- A look-up was made: one directory was listed, and where the listing was done, the row of the unique name was kept.
+pub record Looks (folder : ℕ) (place : Place) (unique : List ℕ) (old : Device) (r : DirReply) (row : Option Row) (new : Device) : Type 0 where
+  pub replied : r ≡ reply_of (dirs.list folder place) old.state (is_fault r)
+  pub state : new.state ≡ old.state
+  pub failed : new.failures ≡ (if is_fault r then old.failures + 1 else old.failures)
+  pub called : new.calls ≡ old.calls + 1
+  pub found : r ≡ reply.Ok → row ≡ row_named unique (rows_of old.state folder place)
+
+-- directories that are as they were, and of which no call was made
+pub record IsUntouched (old new : Device) : Type 0 where
+  pub state : new.state ≡ old.state
+  pub failures : new.failures ≡ old.failures
+  pub calls : new.calls ≡ old.calls
+
+-- A turn was taken: its one directory call was made and no other, and the job stands as the turn says. The failures of the directories
 -- rose by one where that call faulted, and at no other call.
-pub record Takes {T : Type 0} (turn : Turn T) (old : State) (failures : ℕ) (out : StepOut) (effect : Option Effect) (task : T) (new : State) (failures' : ℕ) : Type 0 where
-  pub call : out.call ≡ turn.call
-  pub replied : out.reply ≡ reply_of turn.ask old (is_fault out.reply)
-  pub state : new ≡ state_by turn.ask old out.reply
-  pub failed : failures' ≡ (if is_fault out.reply then failures + 1 else failures)
-  pub after : turn.follows out.reply (turn.rows old) ≡ record { task = task; answer = out.answer; effect = effect }
+pub record Takes {T : Type 0} (turn : Turn T) (at : Moment) (old : Device) (out : StepOut) (effect : Option Effect) (task : T) (new : Device) : Type 0 where
+  pub call : out.call ≡ shown_call turn.asked
+  pub replied : out.reply ≡ reply_of (ask_of turn.asked at.clock) old.state (is_fault out.reply)
+  pub state : new.state ≡ state_by (ask_of turn.asked at.clock) old.state out.reply
+  pub failed : new.failures ≡ (if is_fault out.reply then old.failures + 1 else old.failures)
+  pub called : new.calls ≡ old.calls + 1
+  pub after : turn.follows out.reply (rows_for turn.asked old.state) ≡ record { task = task; answer = out.answer; effect = effect }
   pub is_effect : out.effect ≡ is_some effect

@@ -1,12 +1,13 @@
 -- What a world keeps beside its run, and how that is told from the run.
-use Rattle.std.specs.Prelude.{ℕ, ◌≡◌, ◌+◌, ◌<◌, List, [], ◌∷◌, Some, Bool, length, count_by, map, take, slice_get, vec_len, vec_capacity}
-use Rattle.md_dirs.specs.State.{State}
+use Rattle.std.specs.Prelude.{ℕ, ◌≡◌, ◌<◌, List, [], ◌∷◌, Some, Bool, length, map, take, slice_get, vec_len, vec_capacity}
 use Rattle.md_core.specs.declared.error.CoreError.{CoreError}
 use Rattle.md_core.specs.declared.jobs.step.Event.{Event}
-use Rattle.md_core.specs.declared.jobs.task.Job.{Job}
+use Rattle.md_core.specs.declared.jobs.effect.Effect.{Effect}
 use Rattle.md_core.specs.declared.world.log.Log.{Log}
-use Rattle.md_core.specs.Machine.{Machine, Marked, call_of, job_at}
-use Rattle.md_core.specs.Runs.{Run, machine_of, jobs_of, and_events, step_refusal, IsRefusal}
+use Rattle.md_core.specs.Turn.{Device}
+use Rattle.md_core.specs.Machine.{Machine, Marked, job_at}
+use Rattle.md_core.specs.Standing.{JobView, standings}
+use Rattle.md_core.specs.Runs.{Run, machine_of, jobs_of, failures_of, calls_made_of, and_events, step_refusal, IsRefusal}
 use Rattle.md_core.specs.Submitting.{is_used}
 use Rattle.md_core.specs.Used.{is_among}
 use Rattle.md_core.specs.Interleaving.{IsRun}
@@ -23,16 +24,27 @@ pub record HasRoom (log : Log) : Type 0 where
   pub marks : vec_len log.marks < vec_capacity log.marks
   pub effects : vec_len log.effects < vec_capacity log.effects
 
--- the run: the image, the calls of the jobs, and the marked events
-abbrev pub run_of : State → List Job → List Event → List Bool → Run
-run_of image jobs events marks = record { image = image; calls = map (λ job. call_of job.task) jobs; events = marked_events events marks }
+-- the run: the directories at the beginning, the calls of the jobs, and the marked events
+abbrev pub run_of : Device → List JobView → List Event → List Bool → Run
+run_of first jobs events marks = record {
+  image = first.state;
+  failures = first.failures;
+  calls_made = first.calls;
+  calls = map (λ job. job.call) jobs;
+  events = marked_events events marks;
+}
+
+-- the machine that directories, a clock, jobs and effects are
+abbrev pub machine_by : Device → ℕ → List JobView → List Effect → Machine
+machine_by now clock jobs effects = record { dirs = now.state; clock = clock; jobs = standings jobs; effects = effects }
 
 -- The directories, clock, jobs and effects that a world keeps are those of its run. Its directories failed as often since the
--- beginning as the run has marks, and its used names are those of the run.
-pub record IsWorld (r : Run) (kept : Machine) (failures failures' : ℕ) (used : List (List ℕ)) (events : List Event) (marks : List Bool) : Type 0 where
+-- beginning as the run has marks, as many calls of them were made as the run has events, and its used names are those of the run.
+pub record IsWorld (r : Run) (kept : Machine) (held : Device) (used : List (List ℕ)) (events : List Event) (marks : List Bool) : Type 0 where
   pub run : IsRun r
   pub now : kept ≡ machine_of r
-  pub failed : failures' ≡ failures + count_by (λ e. e.faulted) r.events
+  pub failed : held.failures ≡ failures_of r
+  pub called : held.calls ≡ calls_made_of r
   pub names : (u : List ℕ) → is_among u used ≡ is_used r u
   pub as_many : length marks ≡ length events
 

@@ -1,8 +1,13 @@
 // What callers ask, how their jobs stand, and what a step shows.
 pub mod answer;
 pub mod call;
+pub mod copying;
 pub mod deliver;
 pub mod effect;
+pub(crate) mod job;
+pub mod mark;
+pub mod moving;
+pub mod search;
 pub mod step;
 pub mod task;
 pub(crate) mod turn;

@@ -2,6 +2,7 @@
 #![tactic(auto)]
 
 mod error;
+mod image;
 mod jobs;
 #[cfg(test)]
 mod tests;
@@ -11,10 +12,8 @@ mod world;
 pub use error::CoreError;
 pub use jobs::answer::Answer;
 pub use jobs::call::{Call, JobId};
-pub use jobs::deliver::{Delivery, Stage};
 pub use jobs::effect::{Change, Effect};
 pub use jobs::step::{DirCall, DirReply, Event, StepOut};
-pub use jobs::task::{Job, Task};
 pub use world::World;
 pub use world::load::LoadRefused;
 pub use world::run::RunStop;

@@ -1,14 +1,16 @@
 // What no clause says: worked runs, each refusal once, growths that are refused, faults of the directories, and what may cross
 // threads. One refused allocation anywhere leaves each test passing: the refused call changed nothing, and is made again.
+mod copies;
 mod faults;
+mod loads;
 mod memory;
+mod moves;
 mod runs;
 mod small;
 mod submits;
 
 ghost use Rattle.std.specs.Prelude.{◌≡◌, true, IfOk};
-ghost use Rattle.std.specs.FinMap.{empty};
-ghost use Rattle.md_core.specs.Submitting.{is_delivery};
+ghost use Rattle.md_core.specs.Submitting.{has_machine};
 
 use crate::{Call, CoreError, Event, JobId, RunStop, StepOut, SubmitRefused, World};
 use md_dirs::{Bytes, Dirs, Place, PlainDirs};
@@ -33,7 +35,7 @@ fn delivery(
     body: Bytes,
     chunk: u64,
 ) -> Result<Call, AllocError>
-    ensures { IfOk result (λ call. is_delivery call ≡ true) }
+    ensures { IfOk result (λ call. has_machine call ≡ true) }
 {
     Ok(Call::Deliver {
         folder,
@@ -43,9 +45,7 @@ fn delivery(
     })
 }
 
-fn load<D: Dirs + Drop>(alloc: Global, dirs: D) -> Result<World<D>, CoreError>
-    requires { (D.state dirs).names ≡ empty }
-{
+fn load<D: Dirs + Drop>(alloc: Global, dirs: D) -> Result<World<D>, CoreError> {
     match World::load(alloc, dirs) {
         Ok(world) => Ok(world),
         Err(refused) => World::load(alloc, refused.dirs).map_err(|refused| refused.error),
@@ -57,7 +57,7 @@ fn submit<D: Dirs>(
     world: &mut World<D>,
     call: Call,
 ) -> Result<JobId, SubmitRefused>
-    requires { is_delivery call ≡ true }
+    requires { has_machine call ≡ true }
 {
     let jobs = world.jobs();
     match world.submit(call) {
@@ -81,14 +81,14 @@ fn step<D: Dirs>(
     let events = world.log().len();
     let effects = world.effects().len();
     let answer = world.answer(job);
-    match world.step(job, now) {
+    match world.step(job, now, None) {
         Ok(out) => Ok(out),
         Err(error) => {
             assert_eq!(rt; world.log().len(), events);
             assert_eq!(rt; world.effects().len(), effects);
             assert_eq!(rt; world.answer(job), answer);
             if error == CoreError::NoMemory {
-                return world.step(job, now);
+                return world.step(job, now, None);
             }
             Err(error)
         }
@@ -115,9 +115,7 @@ fn one_delivery<D: Dirs + Drop>(
     rt: &impl Abort,
     alloc: Global,
     dirs: D,
-) -> Result<World<D>, CoreError>
-    requires { (D.state dirs).names ≡ empty }
-{
+) -> Result<World<D>, CoreError> {
     let mut world = load(alloc, dirs)?;
     let call = delivery(alloc, 0, NAME, copied(alloc, BODY)?, 4)?;
     let job = submit(rt, &mut world, call).map_err(|refused| refused.error)?;

@@ -1,46 +1,47 @@
-// The names that are used up, looked up by their order.
-ghost use Rattle.std.specs.Prelude.{◌≡◌, ◌||◌, [], OnOk, OnErr};
+// The names that are used up, looked up by their hash.
+ghost use Rattle.std.specs.Prelude.{◌≡◌, ◌||◌, ◌++◌, [], OnOk, OnErr};
 ghost use Rattle.std.specs.Str.{bytes_eq};
 ghost use Rattle.md_core.specs.Used.{is_among};
 
 use std::alloc::{AllocError, Global};
-use std::collections::BTreeSet;
+use std::collections::HashSet;
+use std::hash::{BuildHasherDefault, FoldHasher};
 use std::marker::Model;
 
 /// Names, each once.
 #[derive(Drop)]
-pub(crate) struct UsedNames {
+pub(crate) struct NameSet {
     alloc: Global,
-    names: BTreeSet<Vec<u8>, Global>,
+    names: HashSet<Vec<u8>, BuildHasherDefault<FoldHasher>, Global>,
 }
 
-impl Model for UsedNames {
+impl Model for NameSet {
     ghost use Rattle.std.specs.Prelude.{List, ℕ, map};
 
     ghost Value = { List (List ℕ) };
 
-    ghost view = { λ u. map (λ name. name.items) u.names.keys };
+    ghost view = { λ s. map (λ name. name.items) s.names.keys };
 }
 
-impl UsedNames {
+impl NameSet {
     /// No name.
-    pub(crate) fn new(alloc: Global) -> UsedNames
+    pub(crate) fn new(alloc: Global) -> NameSet
         ensures { result ≡ [] }
     {
-        UsedNames {
+        NameSet {
             alloc,
-            names: BTreeSet::new(alloc),
+            names: HashSet::new(alloc),
         }
     }
 
-    /// Whether a name is used.
+    /// Whether a name is among these.
     pub(crate) fn contains(&self, name: &[u8]) -> bool
         ensures { result ≡ is_among name.now self.now }
     {
         self.names.contains(name)
     }
 
-    /// Uses a name. After a refusal nothing has changed.
+    /// Adds a name. After a refusal nothing has changed.
     pub(crate) fn insert(&mut self, name: &[u8]) -> Result<(), AllocError>
         ensures ok { OnOk result ((u : _) → is_among u self.new ≡ (bytes_eq name.now u || is_among u self.old)) }
         ensures err { OnErr result (self.new ≡ self.old) }
@@ -48,5 +49,52 @@ impl UsedNames {
         let name = Vec::from_slice(self.alloc, name)?;
         let _is_new = self.names.insert(name)?;
         Ok(())
+    }
+}
+
+/// The names that are used up: those of messages and of deliveries, and beside them those of files in tmp, as a file in tmp may
+/// have the name of a message.
+#[derive(Drop)]
+pub(crate) struct UsedNames {
+    messages: NameSet,
+    tmp: NameSet,
+}
+
+impl Model for UsedNames {
+    ghost use Rattle.std.specs.Prelude.{List, ℕ, ◌++◌};
+
+    ghost Value = { List (List ℕ) };
+
+    ghost view = { λ u. u.messages ++ u.tmp };
+}
+
+impl UsedNames {
+    /// The names of messages and of files in tmp.
+    pub(crate) fn of(messages: NameSet, tmp: NameSet) -> UsedNames
+        ensures { result ≡ messages ++ tmp }
+    {
+        UsedNames { messages, tmp }
+    }
+
+    /// No name.
+    pub(crate) fn new(alloc: Global) -> UsedNames
+        ensures { result ≡ [] }
+    {
+        UsedNames::of(NameSet::new(alloc), NameSet::new(alloc))
+    }
+
+    /// Whether a name is used.
+    pub(crate) fn contains(&self, name: &[u8]) -> bool
+        ensures { result ≡ is_among name.now self.now }
+    {
+        self.messages.contains(name) || self.tmp.contains(name)
+    }
+
+    /// Uses a name. After a refusal nothing has changed.
+    pub(crate) fn insert(&mut self, name: &[u8]) -> Result<(), AllocError>
+        ensures ok { OnOk result ((u : _) → is_among u self.new ≡ (bytes_eq name.now u || is_among u self.old)) }
+        ensures err { OnErr result (self.new ≡ self.old) }
+    {
+        self.messages.insert(name)
     }
 }

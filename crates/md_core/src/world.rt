@@ -1,15 +1,18 @@
-// The world: directories, the jobs on them, and the log of their steps.
-use crate::jobs::task::Job;
+//! The world: directories, the jobs on them, and the log of their steps.
+use crate::image::Image;
+use crate::jobs::job::Job;
 use crate::used::UsedNames;
 use log::Log;
 use md_dirs::Dirs;
 use std::alloc::Global;
 use std::marker::Model;
-use std::snapshot::Snapshot;
 
+pub(crate) mod checks;
 pub(crate) mod load;
 pub(crate) mod log;
+pub(crate) mod looking;
 pub(crate) mod looks;
+pub(crate) mod reading;
 pub(crate) mod run;
 pub(crate) mod step;
 pub(crate) mod submit;
@@ -21,7 +24,7 @@ pub(crate) mod submit;
 #[derive(Drop)]
 pub struct World<D: Dirs> {
     alloc: Global,
-    image: Snapshot<D>,
+    image: Image<D>,
     dirs: D,
     // In seconds.
     clock: u64,
@@ -32,8 +35,8 @@ pub struct World<D: Dirs> {
 
 impl<D: Dirs> Model for World<D> {
     ghost use Rattle.md_core.specs.Runs.{Run};
-    ghost use Rattle.md_core.specs.Machine.{Marked};
-    ghost use Rattle.md_core.specs.Worlds.{IsWorld, run_of};
+    ghost use Rattle.md_core.specs.Turn.{device};
+    ghost use Rattle.md_core.specs.Worlds.{IsWorld, run_of, machine_by};
     ghost use Rattle.std.specs.Coded.{codes};
     ghost use Rattle.md_dirs.specs.State.{state_code};
     ghost use Rattle.md_name.specs.contracts.flags.Flags as flags;
@@ -42,25 +45,31 @@ impl<D: Dirs> Model for World<D> {
 
     ghost coded = { Prim.hlevel (codes, state_code, flags.the_row.coded) };
 
-    ghost view = { λ w. run_of (D.state w.image.value) w.jobs.items w.log.events.items w.log.marks.items };
+    ghost view = { λ w. run_of (device (D.state w.image.value) (D.failures w.image.value) (D.calls w.image.value)) w.jobs.items w.log.events.items w.log.marks.items };
 
-    ghost invariant = { λ w. IsWorld (run_of (D.state w.image.value) w.jobs.items w.log.events.items w.log.marks.items) (record { dirs = D.state w.dirs; clock = w.clock; jobs = w.jobs.items; effects = w.log.effects.items }) (D.failures w.image.value) (D.failures w.dirs) w.used w.log.events.items w.log.marks.items };
+    ghost invariant = { λ w.
+        let first = device (D.state w.image.value) (D.failures w.image.value) (D.calls w.image.value) in
+        let now = device (D.state w.dirs) (D.failures w.dirs) (D.calls w.dirs) in
+        IsWorld (run_of first w.jobs.items w.log.events.items w.log.marks.items) (machine_by now w.clock w.jobs.items w.log.effects.items) now w.used w.log.events.items w.log.marks.items };
 }
 
 impl<D: Dirs> World<D> {
-    ghost use Rattle.std.specs.Prelude.{◌≡◌, ◌+◌, count_by};
-    ghost use Rattle.md_core.specs.Interleaving.{Interleaves};
+    ghost use Rattle.std.specs.Prelude.{◌≡◌};
+    ghost use Rattle.md_core.specs.Interleaving.{IsRun, Interleaves};
+    ghost use Rattle.md_core.specs.Runs.{dirs_of, failures_of, calls_made_of};
 
     /// The interleaving theorem, of any world: whatever calls were submitted, and whatever order their steps came in.
     pub fn interleaves(&self)
-        ensures { Interleaves self.now }
+        ensures run { IsRun self.now }
+        ensures theorem { Interleaves self.now }
     {
         let _kept = &self.clock;
     }
 
-    /// As many steps are marked as the directories have failed since the beginning. So directories that never fail leave no mark.
-    pub fn marks(&self)
-        ensures { (first : D) × (now : D) × (D.failures now ≡ D.failures first + count_by (λ e. e.faulted) self.now.events) }
+    /// The directories of a world are in the state of its run. They have failed as often as the run has marks since the beginning, and as many
+    /// calls of them were made as the run has events. So directories that never fail leave no mark.
+    pub fn counts(&self)
+        ensures { (now : D) × (D.state now ≡ dirs_of self.now) × (D.failures now ≡ failures_of self.now) × (D.calls now ≡ calls_made_of self.now) }
     {
         let _kept = &self.clock;
     }

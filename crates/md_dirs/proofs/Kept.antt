@@ -39,7 +39,7 @@ turned false x y = refl
 pub at-names : (rows : List (Path × ℕ)) (p : Path) → Sorted rows → finmap.get (from_sorted {R = path_cmp} rows) p ≡ find path_cmp p rows
 at-names rows p sorted = get-from_sorted path_cmp rows p (holds _ sorted)
 
-find-other : (p q : Path) (rows : List (Path × ℕ)) → find path_cmp q (where_key path_cmp (λ x. not (eq_by_cmp path_cmp p x)) rows) ≡ cond (eq_by_cmp path_cmp q p) None (find path_cmp q rows)
+pub find-other : (p q : Path) (rows : List (Path × ℕ)) → find path_cmp q (where_key path_cmp (λ x. not (eq_by_cmp path_cmp p x)) rows) ≡ cond (eq_by_cmp path_cmp q p) None (find path_cmp q rows)
 find-other p q rows =
     find-where_key path_cmp (λ x. not (eq_by_cmp path_cmp p x)) q (λ x h. ap (λ y. not (eq_by_cmp path_cmp p y)) (sym (path_exact q x h))) rows
     ∙ turned (eq_by_cmp path_cmp p q) (find path_cmp q rows) None

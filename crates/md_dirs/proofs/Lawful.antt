@@ -1,5 +1,6 @@
 -- The laws of the calls.
-use Rattle.std.proofs.Common.{ℕ, ◌≡◌, ◌++◌, List, [], ◌∷◌, Option, Some, None, Bool, true, false, cond, is_some, refl, sym, ap, subst, ◌∙◌, length, slice_set}
+use Rattle.std.proofs.Common.{ℕ, ◌≡◌, ◌++◌, List, [], ◌∷◌, Option, Some, None, Bool, true, false, cond, is_some, refl, sym, ap, subst, ◌∙◌, length, slice_set, ◌<◌, nat_lt, arith}
+use Rattle.std.proofs.lemmas.Bool.Decides.{nat_tests}
 use Rattle.md_dirs.specs.State.{State, IsSound, file_at, has_folder}
 use Rattle.md_dirs.specs.Calls.{create, append, link, rename, named, make, created, appended, grown, empty_file}
 use Rattle.md_dirs.specs.Image.{put, state_with, refusal_with}
@@ -19,6 +20,13 @@ free-of true None is = refl
 free-of true (Some n) is = cc
 free-of false o is = cc
 
+within-of : (a b : ℕ) (other : Option DirError) → cond (nat_lt a b) other (Some NotFound) ≡ None → a < b
+within-of a b other is = by (nat_lt a b) refl is
+  where
+    by : (t : Bool) → nat_lt a b ≡ t → cond t other (Some NotFound) ≡ None → a < b
+    by true below h = grind (arith, nat_tests)
+    by false below h = cc
+
 there-of : (o : Option ℕ) (other : Option DirError) → cond (is_some o) other (Some NotFound) ≡ None → (n : ℕ) × (o ≡ Some n)
 there-of None other is = cc
 there-of (Some n) other is = (n, refl)
@@ -28,18 +36,19 @@ rest-of None other is = cc
 rest-of (Some n) other is = is
 
 pub make-sound : (p : Path) (file : File) → KeepsSound (make p file)
-make-sound p file s sound accepted = sound-placed s sound p file (free-of (has_folder s p) (file_at s p) accepted)
+make-sound p file s sound accepted = sound-placed s sound p file (within-of p.folder s.folders _ accepted) (free-of (has_folder s p) (file_at s p) accepted)
 
 pub link-sound : (o n : Path) → KeepsSound (link o n)
 link-sound o n s sound accepted =
     let old = there-of (file_at s o) _ accepted in
-    let free = free-of (has_folder s n) (file_at s n) (rest-of (file_at s o) _ accepted) in
-    subst (λ (x : Option ℕ). IsSound (named n s x)) (sym old.1) (sound-named s sound n o old.0 free old.1)
+    let rest = rest-of (file_at s o) _ accepted in
+    let free = free-of (has_folder s n) (file_at s n) rest in
+    subst (λ (x : Option ℕ). IsSound (named n s x)) (sym old.1) (sound-named s sound n o old.0 (within-of n.folder s.folders _ rest) free old.1)
 
 pub rename-sound : (o n : Path) → KeepsSound (rename o n)
 rename-sound o n s sound accepted =
     let old = there-of (file_at s o) _ accepted in
-    sound-moved s sound o n old.0 old.1
+    sound-moved s sound o n old.0 (within-of n.folder s.folders None (rest-of (file_at s o) _ accepted)) old.1
 
 pub with-sound : (s : State) (files : List ImageFile) → IsSound s → refusal_with s files ≡ None → IsSound (state_with s files)
 with-sound s [] sound accepted = sound

@@ -1,3 +1,4 @@
+pub mod NoMemory
 pub mod PathOrder
 pub mod Maps
 pub mod Among
@@ -8,3 +9,9 @@ pub mod Steps
 pub mod Rowed
 pub mod Filled
 pub mod Lawful
+pub mod Counted
+pub mod Hashed
+pub mod NameRows
+pub mod Renamed
+pub mod Zones
+pub mod Directories

@@ -1,5 +1,5 @@
 -- Rows of a directory, by position.
-use Rattle.std.proofs.Common.{ℕ, zero, suc, ◌≡◌, ◌⊎◌, inl, inr, ◌<◌, List, [], ◌∷◌, Option, Some, None, Bool, true, false, cond, refl, sym, ap, ◌∙◌, map, filter, slice_get, length, IsSome, get_or, arith}
+use Rattle.std.proofs.Common.{ℕ, zero, suc, ◌≡◌, ◌⊎◌, inl, inr, ◌<◌, ◌≤◌, List, [], ◌∷◌, Option, Some, None, Bool, true, false, cond, refl, sym, ap, ◌∙◌, map, filter, slice_get, length, IsSome, get_or, arith}
 use Rattle.std.specs.Option.{option_map, option_and_then}
 use Rattle.std.specs.FinMap.{find, from_sorted, entries, entries-from_sorted}
 use Rattle.md_dirs.specs.Path.{path_cmp}
@@ -65,3 +65,18 @@ module _ (folders : ℕ) (rows : List (Path × ℕ)) (files : List (Option File)
   pub some-bytes : (p : Path) (n : ℕ) (file : File) → find path_cmp p rows ≡ Some n → file_by files n ≡ Some file → Some file.bytes ≡ bytes_at_path (state_of folders rows files) p
   some-bytes p n file is filed =
       sym (ap (λ o. option_map (λ (f : File). f.bytes) (option_and_then (file_by files) o)) (at-names rows p whole.sorted ∙ is) ∙ ap (option_map (λ (f : File). f.bytes)) filed)
+
+filter_within : {X : Type 0} (p : X → Bool) (xs : List X) → length (filter p xs) ≤ length xs
+filter_within p [] = omega arith
+filter_within p (x ∷ xs) =
+    let rest = filter_within p xs in
+    elim (p x) as (λ b. length (cond b (x ∷ filter p xs) (filter p xs)) ≤ length (x ∷ xs)) [ true ↦ omega arith | false ↦ omega arith ]
+
+get_within : {X : Type 0} (xs : List X) (i : ℕ) (x : X) → slice_get xs i ≡ Some x → i < length xs
+get_within [] i x is = cc
+get_within (y ∷ xs) zero x is = omega arith
+get_within (y ∷ xs) (suc i) x is = omega (arith, get_within xs i x is)
+
+-- a row of a directory is at a position below the number of all rows
+pub within-rows : {X : Type 0} (p : X → Bool) (rows : List X) (i : ℕ) (x : X) → slice_get (filter p rows) i ≡ Some x → i < length rows
+within-rows p rows i x is = omega (arith, get_within (filter p rows) i x is, filter_within p rows)

@@ -1,4 +1,4 @@
--- Each call keeps directories sound: what a path names is there, and what is there has a path.
+-- Each call keeps directories sound: what a path names is there, in a folder that is there, and what is there has a path.
 use Rattle.std.proofs.Common.{ℕ, zero, suc, ◌≡◌, ◌≢◌, ◌<◌, ◌==◌, ◌||◌, ◌++◌, inl, inr, List, [], ◌∷◌, Option, Some, None, Bool, true, false, cond, nat_eq, refl, sym, ap, subst, ◌∙◌, arith, length, slice_get, slice_set, IsSome, is_some}
 use Rattle.std.proofs.lemmas.Bool.Decides.{nat_tests}
 use Rattle.std.proofs.lemmas.Option.{slice_get_within}
@@ -145,8 +145,10 @@ swept-there (Some n) s m is = by (is_named (entries s.names) n) refl is
         (λ not. (subst (λ (f : Option File). IsSome f) (file_by-set_other s.files n m None not) h, λ same. absurd (not (sym cc))))
 
 -- where all is sound but for one number without a path, giving that back makes it sound
-pub sound-swept : (o : Option ℕ) (s : State) → ((p : Path) (m : ℕ) → file_at s p ≡ Some m → IsSome (file_by s.files m)) → ((m : ℕ) → o ≢ Some m → IsSome (file_by s.files m) → (q : Path) × (file_at s q ≡ Some m)) → IsSound (swept o s)
-sound-swept o s filed has_path = record {
+pub sound-swept : (o : Option ℕ) (s : State) → ((p : Path) (m : ℕ) → file_at s p ≡ Some m → IsSome (file_by s.files m)) → ((m : ℕ) → o ≢ Some m → IsSome (file_by s.files m) → (q : Path) × (file_at s q ≡ Some m))
+    → ((p : Path) (m : ℕ) → file_at s p ≡ Some m → p.folder < s.folders) → IsSound (swept o s)
+sound-swept o s filed has_path housed = record {
+  housed = housed;
   filed = λ p m at. subst (λ (f : Option File). IsSome f) (sym (swept-kept o s p m at)) (filed p m at);
   has_path = λ m is. let before = swept-there o s m is in by o m before.1 (λ not. has_path m not before.0);
 }
@@ -159,6 +161,7 @@ pub sound-bare : (folders : ℕ) → IsSound (bare folders)
 sound-bare folders = record {
   filed = λ p n is. let h : file_at (bare folders) p ≡ None = get-empty path_cmp p in cc;
   has_path = λ n is. cc;
+  housed = λ p n is. let h : file_at (bare folders) p ≡ None = get-empty path_cmp p in cc;
 }
 
 module _ (s : State) (sound : IsSound s) where
@@ -169,8 +172,15 @@ module _ (s : State) (sound : IsSound s) where
   pub new_number : (q : Path) → file_at s q ≢ Some (length s.files)
   new_number q at = let h = number-within q (length s.files) at in absurd (omega arith)
 
-  pub sound-placed : (p : Path) (file : File) → file_at s p ≡ None → IsSound (placed p file s)
-  sound-placed p file none = record {
+  -- one more path, in a folder that is there
+  housed-put : (p : Path) (k : ℕ) → p.folder < s.folders → (q : Path) (m : ℕ) → finmap.get (finmap.insert s.names p k) q ≡ Some m → q.folder < s.folders
+  housed-put p k within q m at = by_path q p
+      (λ is. subst (λ (x : Path). x.folder < s.folders) (sym is) within)
+      (λ not. sound.housed q m (sym (maps.beside_put path_total path_exact s.names p q k not) ∙ at))
+
+  pub sound-placed : (p : Path) (file : File) → p.folder < s.folders → file_at s p ≡ None → IsSound (placed p file s)
+  sound-placed p file within none = record {
+    housed = housed-put p (length s.files) within;
     filed = λ q m at. by_path q p
         (λ is.
         let number : m ≡ length s.files = (let h = maps.at_put path_total path_exact s.names p q (length s.files) is in cc) in
@@ -187,8 +197,8 @@ module _ (s : State) (sound : IsSound s) where
         (had.0, maps.beside_put path_total path_exact s.names p had.0 (length s.files) (λ same. let h : file_at s p ≡ Some m = ap (file_at s) (sym same) ∙ had.1 in cc) ∙ had.1));
   }
 
-  pub sound-created : (p : Path) (now : ℕ) → file_at s p ≡ None → IsSound (created p now s)
-  sound-created p now none = sound-placed p (empty_file now) none
+  pub sound-created : (p : Path) (now : ℕ) → p.folder < s.folders → file_at s p ≡ None → IsSound (created p now s)
+  sound-created p now = sound-placed p (empty_file now)
 
   pub sound-appended : (more : List ℕ) (now : ℕ) (o : Option ℕ) → IsSound (appended more now s o)
   sound-appended more now None = sound
@@ -196,6 +206,7 @@ module _ (s : State) (sound : IsSound s) where
     where
       by : (o : Option File) → file_by s.files n ≡ o → IsSound (record s { files = slice_set s.files n (grown more now o) })
       by None is = record {
+        housed = sound.housed;
         filed = λ q m at. by_number m n
             (λ same. let h = sound.filed q m at in let none : is_some (file_by s.files m) ≡ false = ap (λ (i : ℕ). is_some (file_by s.files i)) same ∙ ap is_some is in cc)
             (λ not. subst (λ (f : Option File). IsSome f) (sym (file_by-set_other s.files n m None not)) (sound.filed q m at));
@@ -204,6 +215,7 @@ module _ (s : State) (sound : IsSound s) where
             (λ not. sound.has_path m (subst (λ (f : Option File). IsSome f) (file_by-set_other s.files n m None not) there));
       }
       by (Some file) is = record {
+        housed = sound.housed;
         filed = λ q m at. by_number m n
             (λ same. let h = ap (file_by (slice_set s.files n (Some longer))) same ∙ file_by-set_same s.files n (Some longer) (file-within s.files n (is_there _ file is)) in is_there _ longer h)
             (λ not. subst (λ (f : Option File). IsSome f) (sym (file_by-set_other s.files n m (Some longer) not)) (sound.filed q m at));
@@ -215,8 +227,9 @@ module _ (s : State) (sound : IsSound s) where
           longer : File
           longer = record { bytes = file.bytes ++ more; stamp = now }
 
-  pub sound-named : (p q : Path) (n : ℕ) → file_at s p ≡ None → file_at s q ≡ Some n → IsSound (named p s (Some n))
-  sound-named p q n none at = record {
+  pub sound-named : (p q : Path) (n : ℕ) → p.folder < s.folders → file_at s p ≡ None → file_at s q ≡ Some n → IsSound (named p s (Some n))
+  sound-named p q n within none at = record {
+    housed = housed-put p n within;
     filed = λ r m there. by_path r p
         (λ is. let number : n ≡ m = (let h = maps.at_put path_total path_exact s.names p r n is in cc) in sound.filed q m (at ∙ ap Some number))
         (λ not. sound.filed r m (sym (maps.beside_put path_total path_exact s.names p r n not) ∙ there));
@@ -238,9 +251,10 @@ module _ (s : State) (sound : IsSound s) where
   sound-without p = sound-swept (file_at s p) (unnamed p s)
       (λ q m at. sound.filed q m (before-unnamed p q m at))
       (λ m not is. let had = sound.has_path m is in (had.0, other-stays p had.0 m not had.1))
+      (λ q m at. sound.housed q m (before-unnamed p q m at))
 
-  pub sound-moved : (o n : Path) (k : ℕ) → file_at s o ≡ Some k → IsSound (moved o n s)
-  sound-moved o n k at = by (is_one_file (file_at s o) (file_at s n))
+  pub sound-moved : (o n : Path) (k : ℕ) → n.folder < s.folders → file_at s o ≡ Some k → IsSound (moved o n s)
+  sound-moved o n k within at = by (is_one_file (file_at s o) (file_at s n))
     where
       shifted : State
       shifted = record s { names = finmap.insert (finmap.remove s.names o) n k }
@@ -261,6 +275,9 @@ module _ (s : State) (sound : IsSound s) where
           (λ differ.
           let had = sound.has_path m is in
           (had.0, beside had.0 (λ same. not (ap (file_at s) (sym same) ∙ had.1)) ∙ other-stays o had.0 m (λ h. differ (let e : Some k ≡ Some m = sym at ∙ h in cc)) had.1)))
+          (λ q m there. by_path q n
+          (λ is. subst (λ (x : Path). x.folder < s.folders) (sym is) within)
+          (λ not. sound.housed q m (before-unnamed o q m (sym (beside q not) ∙ there))))
 
       by : (b : Bool) → IsSound (cond b s (swept (file_at s n) (named n (unnamed o s) (file_at s o))))
       by true = sound

@@ -20,7 +20,7 @@ use Rattle.std.specs.Option.{option_flatten}
 use Rattle.std.specs.FinMap.{is_sorted}
 use Rattle.std.specs.FinMap.Entries.{put}
 
-lt_true : (a b : ℕ) → a < b → nat_lt a b ≡ true
+pub lt_true : (a b : ℕ) → a < b → nat_lt a b ≡ true
 lt_true a b h = grind (arith, nat_tests)
 
 lt_false : (a b : ℕ) → b ≤ a → nat_lt a b ≡ false
@@ -42,7 +42,7 @@ row-file rows p i e at is =
     at.found.2 ∙ ap (λ (x : Path × ℕ). Some x.1) one
 
 -- what the making of a file answers, by whether the folder and the path are there
-make-refusal : (p : Path) (file : File) (s : State) (b : Bool) (o : Option ℕ) → has_folder s p ≡ b → file_at s p ≡ o → (make p file).refusal s ≡ cond b (cond (is_some o) (Some Exists) None) (Some NotFound)
+pub make-refusal : (p : Path) (file : File) (s : State) (b : Bool) (o : Option ℕ) → has_folder s p ≡ b → file_at s p ≡ o → (make p file).refusal s ≡ cond b (cond (is_some o) (Some Exists) None) (Some NotFound)
 make-refusal p file s b o hb ho = λ i. cond (hb i) (cond (is_some (ho i)) (Some Exists) None) (Some NotFound)
 
 module _ (folders : ℕ) (rows : List (Path × ℕ)) (files : List (Option File)) (p : Path) (whole : IsWhole folders rows files) where
@@ -66,9 +66,9 @@ module _ (folders : ℕ) (rows : List (Path × ℕ)) (files : List (Option File)
       made _ _ _ _ _ (make-refusal p file (state_of folders rows files) true _ (lt_true _ _ within) (found folders rows files p whole ∙ gap.absent))
       (made-is file i gap)
 
-  pub whole-made : (file : File) (i : ℕ) → IsGap rows p i → IsWhole folders (insert rows i (p, length files)) (files ++ Some file ∷ [])
-  whole-made file i gap = whole-of folders _ _ _ (sorted-insert rows p i (length files) whole.sorted gap) (made-is file i gap)
-      (sound-placed (state_of folders rows files) whole.sound p file (found folders rows files p whole ∙ gap.absent))
+  pub whole-made : (file : File) (i : ℕ) → p.folder < folders → IsGap rows p i → IsWhole folders (insert rows i (p, length files)) (files ++ Some file ∷ [])
+  whole-made file i within gap = whole-of folders _ _ _ (sorted-insert rows p i (length files) whole.sorted gap) (made-is file i gap)
+      (sound-placed (state_of folders rows files) whole.sound p file within (found folders rows files p whole ∙ gap.absent))
 
   missing : (ask : Ask) (other : Option DirError) → ((o : Option ℕ) → file_at (state_of folders rows files) p ≡ o → ask.refusal (state_of folders rows files) ≡ cond (is_some o) other (Some NotFound)) → find path_cmp p rows ≡ None → Obeys {T = Unit {0}} ask (state_of folders rows files) 0 (Err NotFound) (state_of folders rows files) 0
   missing ask other at none =
@@ -122,7 +122,7 @@ module _ (folders : ℕ) (rows : List (Path × ℕ)) (files : List (Option File)
   whole-unlinked i n at is = whole-of folders _ _ _ (sorted-remove rows p i whole.sorted at) (unlinked-is i n at is)
       (sound-without (state_of folders rows files) whole.sound p)
 
-link-refusal : (o n : Path) (s : State) (x : Option ℕ) (b : Bool) (y : Option ℕ) → file_at s o ≡ x → has_folder s n ≡ b → file_at s n ≡ y → (link o n).refusal s ≡ cond (is_some x) (cond b (cond (is_some y) (Some Exists) None) (Some NotFound)) (Some NotFound)
+pub link-refusal : (o n : Path) (s : State) (x : Option ℕ) (b : Bool) (y : Option ℕ) → file_at s o ≡ x → has_folder s n ≡ b → file_at s n ≡ y → (link o n).refusal s ≡ cond (is_some x) (cond b (cond (is_some y) (Some Exists) None) (Some NotFound)) (Some NotFound)
 link-refusal o n s x b y hx hb hy = λ i. cond (is_some (hx i)) (cond (hb i) (cond (is_some (hy i)) (Some Exists) None) (Some NotFound)) (Some NotFound)
 
 module _ (folders : ℕ) (rows : List (Path × ℕ)) (files : List (Option File)) (o n : Path) (whole : IsWhole folders rows files) where
@@ -152,11 +152,11 @@ module _ (folders : ℕ) (rows : List (Path × ℕ)) (files : List (Option File)
       made _ _ _ _ _ (answers (Some file) true _ is (lt_true _ _ within) gap.absent)
       (linked-is file i gap ∙ sym (ap (named n at_start) (found folders rows files o whole ∙ is)))
 
-  pub whole-linked : (file i : ℕ) → find path_cmp o rows ≡ Some file → IsGap rows n i → IsWhole folders (insert rows i (n, file)) files
-  whole-linked file i is gap = whole-of folders _ _ _ (sorted-insert rows n i file whole.sorted gap) (linked-is file i gap)
-      (sound-named at_start whole.sound n o file (found folders rows files n whole ∙ gap.absent) (found folders rows files o whole ∙ is))
+  pub whole-linked : (file i : ℕ) → find path_cmp o rows ≡ Some file → n.folder < folders → IsGap rows n i → IsWhole folders (insert rows i (n, file)) files
+  whole-linked file i is within gap = whole-of folders _ _ _ (sorted-insert rows n i file whole.sorted gap) (linked-is file i gap)
+      (sound-named at_start whole.sound n o file within (found folders rows files n whole ∙ gap.absent) (found folders rows files o whole ∙ is))
 
-rename-refusal : (o n : Path) (s : State) (x : Option ℕ) (b : Bool) → file_at s o ≡ x → has_folder s n ≡ b → (rename o n).refusal s ≡ cond (is_some x) (cond b None (Some NotFound)) (Some NotFound)
+pub rename-refusal : (o n : Path) (s : State) (x : Option ℕ) (b : Bool) → file_at s o ≡ x → has_folder s n ≡ b → (rename o n).refusal s ≡ cond (is_some x) (cond b None (Some NotFound)) (Some NotFound)
 rename-refusal o n s x b hx hb = λ i. cond (is_some (hx i)) (cond (hb i) None (Some NotFound)) (Some NotFound)
 
 module _ (folders : ℕ) (rows : List (Path × ℕ)) (files : List (Option File)) (o n : Path) (whole : IsWhole folders rows files) where
@@ -200,6 +200,6 @@ module _ (folders : ℕ) (rows : List (Path × ℕ)) (files : List (Option File)
   pub rename-made : (k i : ℕ) → find path_cmp o rows ≡ Some k → n.folder < folders → IsAt rows o i → is_one_file (Some k) (find path_cmp n rows) ≡ false → Obeys {T = Unit {0}} (rename o n) at_first 0 (Ok tt) (state_of folders (rows_moved k i) (released (rows_moved k i) (find path_cmp n rows) files)) 0
   rename-made k i is within at differ = made _ _ _ _ _ (says (Some k) true is (lt_true _ _ within)) (moved-is k i is at differ)
 
-  pub whole-moved : (k i : ℕ) → find path_cmp o rows ≡ Some k → IsAt rows o i → is_one_file (Some k) (find path_cmp n rows) ≡ false → IsWhole folders (rows_moved k i) (released (rows_moved k i) (find path_cmp n rows) files)
-  whole-moved k i is at differ = whole-of folders _ _ _ (sorted-moved k i at) (moved-is k i is at differ)
-      (sound-moved at_first whole.sound o n k (found folders rows files o whole ∙ is))
+  pub whole-moved : (k i : ℕ) → find path_cmp o rows ≡ Some k → n.folder < folders → IsAt rows o i → is_one_file (Some k) (find path_cmp n rows) ≡ false → IsWhole folders (rows_moved k i) (released (rows_moved k i) (find path_cmp n rows) files)
+  whole-moved k i is within at differ = whole-of folders _ _ _ (sorted-moved k i at) (moved-is k i is at differ)
+      (sound-moved at_first whole.sound o n k within (found folders rows files o whole ∙ is))

@@ -1,5 +1,5 @@
 -- The six directory calls, each as its refusal and the state after it.
-use Rattle.std.specs.Prelude.{ℕ, ◌≡◌, ◌+◌, ◌==◌, List, [], ◌∷◌, ◌++◌, Option, Some, None, Bool, false, Result, OnOk, OnErr, IsErrOf, if◌then◌else◌, nat_lt, slice_set, length, is_some}
+use Rattle.std.specs.Prelude.{ℕ, ◌≡◌, ◌+◌, ◌==◌, List, [], ◌∷◌, ◌++◌, Option, Some, None, Bool, false, Result, Ok, Err, OnOk, OnErr, IsErrOf, if◌then◌else◌, nat_lt, slice_set, length, is_some}
 use Rattle.std.specs.List.{list_any}
 use Rattle.std.specs.FinMap as finmap
 use Rattle.md_dirs.specs.State.{State, file_at, file_by, has_folder}
@@ -26,6 +26,14 @@ pub record Obeys {T : Type 0} (ask : Ask) (old : State) (failures : ℕ) (answer
   -- a fault is a new failure, and nothing else is
   pub failed : IsErrOf answer Fault → failures' ≡ failures + 1
   pub not_failed : (IsErrOf answer Fault → ⊥) → failures' ≡ failures
+
+-- how many calls there were after a call with this answer: one more, but for a want of memory, which is no call
+abbrev pub calls_after : {T : Type 0} → Result T DirError → ℕ → ℕ
+calls_after (Ok x) calls = calls + 1
+calls_after (Err Exists) calls = calls + 1
+calls_after (Err NotFound) calls = calls + 1
+calls_after (Err Fault) calls = calls + 1
+calls_after (Err NoMemory) calls = calls
 
 -- the state with a new file, under its first name
 abbrev pub placed : Path → File → State → State

@@ -5,3 +5,7 @@ pub mod Rows
 pub mod Image
 pub mod Laws
 pub mod Plain
+pub mod Failing
+pub mod Index
+pub mod Files
+pub mod Find

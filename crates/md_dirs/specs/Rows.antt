@@ -1,5 +1,6 @@
 -- What a directory shows: its names in order, each with its file's stamp and size.
-use Rattle.std.specs.Prelude.{ℕ, List, Option, Some, None, Bool, ◌==◌, ◌&&◌, map, filter, length}
+use Rattle.std.specs.Prelude.{ℕ, List, [], ◌∷◌, Option, Some, None, Bool, true, ◌==◌, ◌&&◌, nat_eq, map, filter, find, length, drop}
+use Rattle.std.specs.List.{starts_with}
 use Rattle.std.specs.FinMap as finmap
 use Rattle.md_dirs.specs.Path.{place_index}
 use Rattle.md_dirs.specs.State.{State, file_by}
@@ -30,3 +31,16 @@ is_in folder place p = p.folder == folder && place_index p.place == place_index 
 abbrev pub rows_of : State → ℕ → Place → List Row
 rows_of s folder place =
     map (row_of s.files) (filter (λ e. is_in folder place e.0) (finmap.entries s.names))
+
+-- whether a unique name ends where this begins: at the end of the name, or at a colon
+abbrev pub ends_unique : List ℕ → Bool
+ends_unique [] = true
+ends_unique (b ∷ bs) = b == 58
+
+-- maildir(5), "unique:info": whether a name is a unique name, or a unique name, a colon and more
+abbrev pub is_named : List ℕ → List ℕ → Bool
+is_named unique name = starts_with nat_eq name unique && ends_unique (drop (length unique) name)
+
+-- the first row of a directory that has the unique name
+abbrev pub row_named : List ℕ → List Row → Option Row
+row_named unique rows = find (λ row. is_named unique row.name) rows

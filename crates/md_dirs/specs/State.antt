@@ -1,5 +1,5 @@
 -- The state of directories: a number of folders, a finite map from paths to the numbers of files, and the files in the order of their making.
-use Rattle.std.specs.Prelude.{ℕ, zero, suc, ◌≡◌, refl, List, [], Option, Some, Bool, nat_lt, slice_get, IsSome}
+use Rattle.std.specs.Prelude.{ℕ, zero, suc, ◌≡◌, ◌<◌, refl, List, [], Option, Some, Bool, nat_lt, slice_get, IsSome}
 use Rattle.std.specs.Option.{option_flatten, option_map, option_and_then}
 use Rattle.std.specs.Coded.{Coded, code_by, coded×, coded_ℕ, coded_list, coded_option}
 use Rattle.std.specs.FinMap as finmap
@@ -37,10 +37,11 @@ file_by files n = option_flatten (slice_get files n)
 abbrev pub bytes_at_path : State → Path → Option (List ℕ)
 bytes_at_path s p = option_map (λ (f : File). f.bytes) (option_and_then (file_by s.files) (file_at s p))
 
--- Each path names a file that is there, and each file that is there has a path.
+-- Each path lies in a folder that is there and names a file that is there, and each file that is there has a path.
 pub record IsSound (s : State) : Type 0 where
   pub filed : (p : Path) (n : ℕ) → file_at s p ≡ Some n → IsSome (file_by s.files n)
   pub has_path : (n : ℕ) → IsSome (file_by s.files n) → (p : Path) × (file_at s p ≡ Some n)
+  pub housed : (p : Path) (n : ℕ) → file_at s p ≡ Some n → p.folder < s.folders
 
 -- What follows writes a state as tuples of numbers and lists, as a type that contracts see as a state asks for it.
 abbrev pub place_by : ℕ → Place
@@ -61,3 +62,11 @@ file_code = code_by (List ℕ × ℕ) (coded× (coded_list coded_ℕ) coded_ℕ)
 
 abbrev pub state_code : Coded State
 state_code = code_by (ℕ × (finmap.FinMap path_cmp ℕ × List (Option File))) (coded× coded_ℕ (coded× (finmap.code path_code coded_ℕ) (coded_list (coded_option file_code)))) (λ s. (s.folders, (s.names, s.files))) (λ t. record { folders = t.0; names = t.1.0; files = t.1.1 }) (λ _. refl)
+
+-- What contracts see of plain directories: their state, and how many calls there were.
+pub record Counted : Type 0 where
+  pub state : State
+  pub calls : ℕ
+
+abbrev pub counted_code : Coded Counted
+counted_code = code_by (State × ℕ) (coded× state_code coded_ℕ) (λ c. (c.state, c.calls)) (λ t. record { state = t.0; calls = t.1 }) (λ _. refl)

@@ -1,14 +1,14 @@
 // The directory calls and looks.
-ghost use Rattle.std.specs.Prelude.{◌≡◌, ℕ, IsErrOf, IfOk, slice_get};
+ghost use Rattle.std.specs.Prelude.{◌≡◌, ◌+◌, ◌^◌, ◌<◌, ℕ, IsErrOf, IfOk, IfSome, slice_get};
 ghost use Rattle.std.specs.Option.{option_map};
 ghost use Rattle.md_dirs.specs.Path.{path_of};
 ghost use Rattle.md_dirs.specs.State.{State, IsSound, bytes_at_path};
-ghost use Rattle.md_dirs.specs.Calls.{Obeys, create, append, link, rename, unlink, list};
-ghost use Rattle.md_dirs.specs.Rows.{rows_of, row_shown};
+ghost use Rattle.md_dirs.specs.Calls.{Obeys, calls_after, create, append, link, rename, unlink, list};
+ghost use Rattle.md_dirs.specs.Rows.{rows_of, row_named, row_shown};
 ghost use Rattle.md_dirs.specs.declared.calls.DirError.TheVariants.{NoMemory};
 
 use crate::paths::{Path, Place};
-use crate::rows::{Row, RowRef};
+use crate::rows::{Row, RowRef, first_named};
 use std::alloc::{AllocError, AllocFailed};
 use thiserror::Error;
 
@@ -47,7 +47,7 @@ impl<T: Drop> From<AllocFailed<T>> for DirError {
 
 /// Directories of mail files: `folders` maildirs, each with its tmp, new and cur.
 ///
-/// Each of the six calls is one atomic step, after POSIX's link, rename and unlink. `now` is the moment of the call in
+/// Each of the calls is one atomic step, after POSIX's link, rename and unlink. `now` is the moment of the call in
 /// seconds. A call may answer `Fault`, where the number of failures has risen by one, and `NoMemory`, after all its other
 /// checks; neither changes anything. The three looks are no steps: they take no memory and never fail.
 pub trait Dirs {
@@ -57,35 +57,57 @@ pub trait Dirs {
     /// How often a call has failed by itself.
     ghost failures: { Self → ℕ };
 
+    /// How many of the six calls were made. One that is refused for want of memory is none, and neither is a look.
+    ghost calls: { Self → ℕ };
+
     /// Makes an empty file, as POSIX's open with O_CREAT and O_EXCL. `NotFound` where the folder is not there, `Exists`
     /// where the name is.
     fn create(&mut self, path: &Path, now: u64) -> Result<(), DirError>
-        ensures { Obeys (create path.now now) (state self.old) (failures self.old) result (state self.new) (failures self.new) };
+        ensures meets { Obeys (create path.now now) (state self.old) (failures self.old) result (state self.new) (failures self.new) }
+        ensures counted { calls self.new ≡ calls_after result (calls self.old) };
 
     /// Adds bytes at a file's end and sets its stamp. `NotFound` where the name is not there: it goes by name.
     fn append(&mut self, path: &Path, bytes: &[u8], now: u64) -> Result<(), DirError>
-        ensures { Obeys (append path.now bytes.now now) (state self.old) (failures self.old) result (state self.new) (failures self.new) };
+        ensures meets { Obeys (append path.now bytes.now now) (state self.old) (failures self.old) result (state self.new) (failures self.new) }
+        ensures counted { calls self.new ≡ calls_after result (calls self.old) };
 
     /// Gives a file a second name, as POSIX's link. `NotFound` where the old name or the folder of the new one is not
     /// there, even if the new name is; otherwise `Exists` where the new name is there.
     fn link(&mut self, old: &Path, new: &Path) -> Result<(), DirError>
-        ensures { Obeys (link old.now new.now) (state self.old) (failures self.old) result (state self.new) (failures self.new) };
+        ensures meets { Obeys (link old.now new.now) (state self.old) (failures self.old) result (state self.new) (failures self.new) }
+        ensures counted { calls self.new ≡ calls_after result (calls self.old) };
 
     /// Gives a file another name in place of one, as POSIX's rename: it replaces its target, and changes nothing where
     /// both are names of one file. `NotFound` where the old name or the folder of the new one is not there.
     fn rename(&mut self, old: &Path, new: &Path) -> Result<(), DirError>
-        ensures { Obeys (rename old.now new.now) (state self.old) (failures self.old) result (state self.new) (failures self.new) };
+        ensures meets { Obeys (rename old.now new.now) (state self.old) (failures self.old) result (state self.new) (failures self.new) }
+        ensures counted { calls self.new ≡ calls_after result (calls self.old) };
 
     /// Takes a name away, as POSIX's unlink: the file goes with its last name. `NotFound` where the name is not there.
     /// It takes no memory.
     fn unlink(&mut self, path: &Path) -> Result<(), DirError>
         ensures meets { Obeys (unlink path.now) (state self.old) (failures self.old) result (state self.new) (failures self.new) }
+        ensures counted { calls self.new ≡ calls_after result (calls self.old) }
         ensures no_memory { IsErrOf result DirError.NoMemory → ⊥ };
 
     /// Lists a directory in order of the bytes of its names, as of one moment. `NotFound` where the folder is not there.
     fn list(&mut self, folder: u32, place: Place) -> Result<Vec<Row>, DirError>
         ensures meets { Obeys (list folder place) (state self.old) (failures self.old) result (state self.new) (failures self.new) }
+        ensures counted { calls self.new ≡ calls_after result (calls self.old) }
         ensures rows { IfOk result (λ rows. rows.items ≡ rows_of (state self.old) folder place) };
+
+    /// Looks for one message of a directory: the first name that is this unique name, or this unique name, a colon and more
+    /// (maildir(5)). It is the listing of that directory, with its refusals, of which one row is kept.
+    fn find(&mut self, folder: u32, place: Place, unique: &[u8]) -> Result<Option<Row>, DirError>
+        ensures meets { Obeys (list folder place) (state self.old) (failures self.old) result (state self.new) (failures self.new) }
+        ensures counted { calls self.new ≡ calls_after result (calls self.old) }
+        ensures row { IfOk result (λ row. row ≡ row_named unique.now (rows_of (state self.old) folder place)) }
+    {
+        match self.list(folder, place) {
+            Ok(rows) => Ok(first_named(rows, unique)),
+            Err(error) => Err(error),
+        }
+    }
 
     /// The number of folders.
     fn folders(&self) -> u32
@@ -93,9 +115,10 @@ pub trait Dirs {
         ensures sound { IsSound (state self.now) };
 
     /// The row at a position, from 0, of a directory in order of the bytes of its names. None past the last, and where
-    /// the folder is not there.
+    /// the folder is not there. There is none at the last position that a `usize` counts.
     fn row_at(&self, folder: u32, place: Place, at: usize) -> Option<RowRef<'_>>
-        ensures { option_map row_shown result ≡ slice_get (rows_of (state self.now) folder place) at };
+        ensures row { option_map row_shown result ≡ slice_get (rows_of (state self.now) folder place) at }
+        ensures few { IfSome result (λ _. at + 1 < 2 ^ 64) };
 
     /// The bytes of the file of a name. None where the name is not there.
     fn read(&self, folder: u32, place: Place, name: &[u8]) -> Option<&[u8]>

@@ -1,8 +1,8 @@
 // A file that directories begin with.
 ghost use Rattle.std.specs.Prelude.{◌≡◌, IfOk};
 
-use crate::bytes::Bytes;
 use crate::paths::Path;
+use md_name::Bytes;
 use std::alloc::{AllocError, Global};
 
 /// A file that directories begin with: its one name, its bytes, and its stamp in seconds.

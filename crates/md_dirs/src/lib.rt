@@ -1,9 +1,12 @@
 //! Directories of mail files: the atomic calls on them, as a trait, and a plain implementation.
 #![tactic(auto)]
 
-mod bytes;
 mod calls;
+mod count;
+mod fail_at;
+mod files;
 mod image;
+mod index;
 pub mod laws;
 mod paths;
 mod plain;
@@ -11,9 +14,11 @@ mod rows;
 #[cfg(test)]
 mod tests;
 
-pub use bytes::Bytes;
 pub use calls::{DirError, Dirs};
+pub use fail_at::FailAt;
 pub use image::ImageFile;
+pub use index::IndexDirs;
+pub use md_name::Bytes;
 pub use paths::{File, Path, Place};
 pub use plain::PlainDirs;
 pub use rows::{Row, RowRef};

@@ -2,7 +2,7 @@
 ghost use Rattle.std.specs.Prelude.{◌≡◌, IfOk};
 ghost use Rattle.md_dirs.specs.Path.{path_cmp, path_of};
 
-use crate::bytes::Bytes;
+use md_name::Bytes;
 use std::alloc::{AllocError, Global};
 use std::cmp::Ordering;
 

@@ -3,13 +3,15 @@ mod changes;
 mod looks;
 mod search;
 
-use crate::bytes::Bytes;
 use crate::calls::{DirError, Dirs};
+use crate::count::Count;
 use crate::image::ImageFile;
 use crate::paths::{File, Path, Place};
 use crate::rows::{Row, RowRef};
-use changes::{add_file, grow, is_same, put_row, release};
+pub(crate) use changes::is_same;
+use changes::{add_file, grow, put_row, release};
 use looks::{nth_row, row_of, rows_in};
+use md_name::Bytes;
 use search::{file_of, find_name, find_row};
 use std::alloc::Global;
 use std::marker::Model;
@@ -25,17 +27,18 @@ pub struct PlainDirs {
     folders: u32,
     rows: Vec<(Path, usize)>,
     files: Vec<Option<File>>,
+    calls: Count,
 }
 
 impl Model for PlainDirs {
-    ghost use Rattle.md_dirs.specs.State.{State, state_code};
+    ghost use Rattle.md_dirs.specs.State.{Counted, counted_code};
     ghost use Rattle.md_dirs.specs.Plain.{IsWhole, state_of};
 
-    ghost Value = { State };
+    ghost Value = { Counted };
 
-    ghost coded = { state_code };
+    ghost coded = { counted_code };
 
-    ghost view = { λ d. state_of d.folders d.rows.items d.files.items };
+    ghost view = { λ d. record { state = state_of d.folders d.rows.items d.files.items; calls = d.calls.value } };
 
     ghost invariant = { λ d. IsWhole d.folders d.rows.items d.files.items };
 }
@@ -49,13 +52,14 @@ impl PlainDirs {
 
     /// Folders with no file. It takes no memory.
     pub fn new(alloc: Global, folders: u32) -> Self
-        ensures { result ≡ bare folders }
+        ensures { result ≡ record { state = bare folders; calls = 0 } }
     {
         PlainDirs {
             alloc,
             folders,
             rows: Vec::new(alloc),
             files: Vec::new(alloc),
+            calls: Count::zero(),
         }
     }
 
@@ -67,7 +71,7 @@ impl PlainDirs {
         image: Vec<ImageFile>,
     ) -> Result<PlainDirs, DirError>
         ensures accepted { IfOk result (λ dirs. image_refusal folders image.items ≡ None) }
-        ensures made { IfOk result (λ dirs. dirs ≡ image_state folders image.items) }
+        ensures made { IfOk result (λ dirs. dirs ≡ record { state = image_state folders image.items; calls = 0 }) }
         ensures refused { IfErr result (λ e. (e ≡ NoMemory) ⊎ (image_refusal folders image.items ≡ Some e)) }
     {
         let mut dirs = PlainDirs::new(alloc, folders);
@@ -79,7 +83,8 @@ impl PlainDirs {
 
     // Makes a file with its bytes.
     fn put_file(&mut self, file: ImageFile) -> Result<(), DirError>
-        ensures { Obeys (put file) self.old 0 result self.new 0 }
+        ensures made { Obeys (put file) self.old.state 0 result self.new.state 0 }
+        ensures calls { self.new.calls ≡ self.old.calls }
     {
         if file.path.folder >= self.folders {
             return Err(DirError::NotFound);
@@ -97,15 +102,19 @@ impl PlainDirs {
 }
 
 impl Dirs for PlainDirs {
-    ghost state = { λ d. d };
+    ghost state = { λ d. d.state };
 
     ghost failures = { λ _. 0 };
 
+    ghost calls = { λ d. d.calls };
+
     fn create(&mut self, path: &Path, now: u64) -> Result<(), DirError> {
         if path.folder >= self.folders {
+            self.calls.raise();
             return Err(DirError::NotFound);
         }
         let Err(at) = find_row(&self.rows, path) else {
+            self.calls.raise();
             return Err(DirError::Exists);
         };
         let name = path.again(self.alloc)?;
@@ -114,65 +123,81 @@ impl Dirs for PlainDirs {
             stamp: now,
         };
         add_file(&mut self.rows, &mut self.files, at, name, file)?;
+        self.calls.raise();
         Ok(())
     }
 
     fn append(&mut self, path: &Path, bytes: &[u8], now: u64) -> Result<(), DirError> {
         let Some(file) = file_of(&self.rows, path) else {
+            self.calls.raise();
             return Err(DirError::NotFound);
         };
         grow(&mut self.files[file], bytes, now)?;
+        self.calls.raise();
         Ok(())
     }
 
     fn link(&mut self, old: &Path, new: &Path) -> Result<(), DirError> {
         let Some(file) = file_of(&self.rows, old) else {
+            self.calls.raise();
             return Err(DirError::NotFound);
         };
         if new.folder >= self.folders {
+            self.calls.raise();
             return Err(DirError::NotFound);
         }
         let Err(at) = find_row(&self.rows, new) else {
+            self.calls.raise();
             return Err(DirError::Exists);
         };
         let name = new.again(self.alloc)?;
         self.rows.insert(at, (name, file))?;
+        self.calls.raise();
         Ok(())
     }
 
     fn rename(&mut self, old: &Path, new: &Path) -> Result<(), DirError> {
         let Ok(from) = find_row(&self.rows, old) else {
+            self.calls.raise();
             return Err(DirError::NotFound);
         };
         if new.folder >= self.folders {
+            self.calls.raise();
             return Err(DirError::NotFound);
         }
         let file = self.rows[from].1;
         let there = file_of(&self.rows, new);
         if is_same(there, file) {
+            self.calls.raise();
             return Ok(());
         }
         let name = new.again(self.alloc)?;
         let _row = self.rows.remove(from);
         put_row(&mut self.rows, name, file)?;
         release(&self.rows, &mut self.files, there);
+        self.calls.raise();
         Ok(())
     }
 
     fn unlink(&mut self, path: &Path) -> Result<(), DirError> {
         let Ok(at) = find_row(&self.rows, path) else {
+            self.calls.raise();
             return Err(DirError::NotFound);
         };
         let row = self.rows.remove(at);
         release(&self.rows, &mut self.files, Some(row.1));
+        self.calls.raise();
         Ok(())
     }
 
     fn list(&mut self, folder: u32, place: Place) -> Result<Vec<Row>, DirError> {
         if folder >= self.folders {
+            self.calls.raise();
             return Err(DirError::NotFound);
         }
-        Ok(rows_in(self.alloc, &self.rows, &self.files, folder, place)?)
+        let rows = rows_in(self.alloc, &self.rows, &self.files, folder, place)?;
+        self.calls.raise();
+        Ok(rows)
     }
 
     fn folders(&self) -> u32 {

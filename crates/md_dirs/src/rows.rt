@@ -1,8 +1,9 @@
 // What a directory shows of a name.
-ghost use Rattle.std.specs.Prelude.{◌≡◌, IfOk};
-ghost use Rattle.md_dirs.specs.Rows.{row_shown};
+ghost use Rattle.std.specs.Prelude.{◌≡◌, IfOk, nat_lt};
+ghost use Rattle.md_dirs.specs.Find.{zone, before_colon};
+ghost use Rattle.md_dirs.specs.Rows.{row_shown, row_named, ends_unique, is_named as is_named_by};
 
-use crate::bytes::Bytes;
+use md_name::Bytes;
 use std::alloc::{AllocError, Global};
 
 /// A name of a directory, with the stamp of its file in seconds and its size in bytes.
@@ -45,4 +46,50 @@ impl RowRef<'_> {
             size: self.size,
         })
     }
+}
+
+// Whether a unique name ends where this begins.
+fn ends_unique_name(rest: &[u8]) -> bool
+    ensures { result ≡ ends_unique rest.now }
+{
+    match rest {
+        [] => true,
+        [first, ..] => *first == b':',
+    }
+}
+
+// Whether a name is a unique name, or a unique name, a colon and more.
+pub fn is_named(name: &[u8], unique: &[u8]) -> bool
+    ensures { result ≡ is_named_by unique.now name.now }
+{
+    name.starts_with(unique) && ends_unique_name(&name[unique.len()..])
+}
+
+// Whether what stands behind a unique name ends, or goes on before a colon.
+fn goes_before_colon(rest: &[u8]) -> bool
+    ensures { result ≡ before_colon rest.now }
+{
+    match rest {
+        [] => true,
+        [first, ..] => *first < b':',
+    }
+}
+
+// Whether a name is below a unique name with a colon.
+pub fn is_below_info(name: &[u8], unique: &[u8]) -> bool
+    ensures { result ≡ nat_lt (zone unique.now name.now) 3 }
+{
+    if name.starts_with(unique) {
+        goes_before_colon(&name[unique.len()..])
+    } else {
+        name.cmp(unique).is_lt()
+    }
+}
+
+// The first row that has the unique name.
+pub fn first_named(rows: Vec<Row>, unique: &[u8]) -> Option<Row>
+    ensures { result ≡ row_named unique.now rows.items }
+{
+    rows.into_iter()
+        .find(|row| is_named(row.name.as_slice(), unique))
 }

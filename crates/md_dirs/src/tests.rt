@@ -1,4 +1,5 @@
 // What no clause says: calls and answers from a file system, the texts of errors, and that values may cross threads.
+mod alike;
 mod calls;
 mod image;
 mod values;

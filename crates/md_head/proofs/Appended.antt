@@ -5,11 +5,11 @@ use Rattle.std.proofs.lemmas.List.{take_more}
 use Rattle.std.proofs.lemmas.List.Sums.{take_while-cons}
 use Rattle.std.specs.Prelude.{codes, All, Contains, slice_index_or}
 use Rattle.std.specs.List.{take_while}
-use Rattle.md_head.specs.Header.{is_some_line, is_continuation, lines_of, header_section}
+use Rattle.md_head.specs.Header.{is_some_line, is_continuation, lines_of, header_section, IsWholeLines}
 use Rattle.md_head.specs.Computed.{Grouped, grouped, field_of, value_if, value_of, or_later, first_value, field_value}
 use Rattle.md_head.specs.Dates.{seconds_of}
 use Rattle.md_head.specs.Summaries.{summary_of}
-use Rattle.md_head.specs.Laws.{IsWholeLines, IsPassedOver}
+use Rattle.md_head.specs.Laws.{IsPassedOver}
 use Rattle.md_head.proofs.Lines.{lines_nil}
 use Rattle.md_head.proofs.Texts.{lines_append}
 use Rattle.md_head.proofs.Sections.{section_is, some_first}
@@ -66,14 +66,16 @@ body_not_read header body h over =
 
 -- ---- lines that are no fields
 
-no_value : (name line : List ℕ) (continuations : List (List ℕ)) → IsPassedOver line → value_of name (record { first = line; continuations = continuations }) ≡ None
+no_value : (name line : List ℕ) (continuations : List (List ℕ)) → IsPassedOver line
+    → value_of name (record { first = line; continuations = continuations }) ≡ None
 no_value name line continuations p = value_is name (record { first = line; continuations = continuations }) ∙ go (field_of line) refl
   where
     go : (f : Option (List ℕ × List ℕ)) → field_of line ≡ f → value_if name continuations (field_of line) ≡ None
     go None is = ap (value_if name continuations) is
     go (Some (found, body)) is = absurd (p.no_field found body (line_from line found body is))
 
-passed_values : (name : List ℕ) (front lines : List (List ℕ)) → All IsPassedOver front → first_value name (grouped (front ++ lines)).groups ≡ first_value name (grouped lines).groups
+passed_values : (name : List ℕ) (front lines : List (List ℕ)) → All IsPassedOver front
+    → first_value name (grouped (front ++ lines)).groups ≡ first_value name (grouped lines).groups
 passed_values name [] lines h = refl
 passed_values name (line ∷ front) lines h =
     let rest = passed_values name front lines (all_tail IsPassedOver line front h) in

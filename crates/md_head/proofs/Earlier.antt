@@ -4,11 +4,11 @@ use Rattle.std.proofs.lemmas.Bool.{cases_Bool, false≢true}
 use Rattle.std.proofs.lemmas.List.Sums.{take_while-cons}
 use Rattle.std.specs.Prelude.{codes, IsSome}
 use Rattle.std.specs.List.{take_while}
-use Rattle.md_head.specs.Header.{is_blank, is_some_line, is_continuation, lines_of, Group}
+use Rattle.md_head.specs.Header.{is_blank, is_some_line, is_continuation, lines_of, IsWholeLines, Group}
 use Rattle.md_head.specs.Computed.{Grouped, grouped, value_of, or_later, first_value, field_value}
 use Rattle.md_head.specs.Dates.{seconds_of}
 use Rattle.md_head.specs.Summaries.{summary_of}
-use Rattle.md_head.specs.Laws.{IsWholeLines, KeepsValues}
+use Rattle.md_head.specs.Laws.{KeepsValues}
 use Rattle.md_head.proofs.Sections.{section_is, some_first}
 use Rattle.md_head.proofs.Groups.{made, grouped_nil, grouped_on, grouped_new}
 use Rattle.md_head.proofs.Firsts.{first_cons, first_nil}
@@ -16,7 +16,8 @@ use Rattle.md_head.proofs.Steps.{nothing_in_front}
 use Rattle.md_head.proofs.Appended.{value_in_section, section_append}
 
 -- lines before a line that begins a group
-pub grouped_append : (front lines : List (List ℕ)) → (grouped lines).front ≡ [] → grouped (front ++ lines) ≡ made (grouped front).front ((grouped front).groups ++ (grouped lines).groups)
+pub grouped_append : (front lines : List (List ℕ)) → (grouped lines).front ≡ []
+    → grouped (front ++ lines) ≡ made (grouped front).front ((grouped front).groups ++ (grouped lines).groups)
 grouped_append [] lines e = ap (λ ls. made ls (grouped lines).groups) e ∙ sym (ap (λ (g : Grouped). made g.front (g.groups ++ (grouped lines).groups)) grouped_nil)
 grouped_append (line ∷ front) lines e =
     let rest = grouped_append front lines e in
@@ -31,7 +32,8 @@ grouped_append (line ∷ front) lines e =
     ∙ sym (ap (λ (g : Grouped). made g.front (g.groups ++ behind)) (grouped_new line front begins)))
     (cases_Bool (is_continuation line))
 
-pub first_append : (name : List ℕ) (front groups : List Group) → first_value name (front ++ groups) ≡ or_later (first_value name front) (first_value name groups)
+pub first_append : (name : List ℕ) (front groups : List Group)
+    → first_value name (front ++ groups) ≡ or_later (first_value name front) (first_value name groups)
 first_append name [] groups = sym (ap (λ v. or_later v (first_value name groups)) (first_nil name))
 first_append name (g ∷ front) groups =
     first_cons name g (front ++ groups) ∙ ap (or_later (value_of name g)) (first_append name front groups)
@@ -73,7 +75,8 @@ keeps_first name header later h begins is_there =
     wins None later h = absurd (false≢true h)
     wins (Some x) later h = refl
 
-pub values_kept : (header later : List ℕ) → IsWholeLines header → is_blank (get_or later 0 0) ≡ false → KeepsValues (summary_of header) (summary_of (header ++ later))
+pub values_kept : (header later : List ℕ) → IsWholeLines header → is_blank (get_or later 0 0) ≡ false
+    → KeepsValues (summary_of header) (summary_of (header ++ later))
 unfolding summary_of
 values_kept header later h begins =
     let keeps = λ (name : List ℕ) (is_there : IsSome (field_value name header)). keeps_first name header later h begins is_there in

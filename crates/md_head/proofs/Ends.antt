@@ -23,7 +23,8 @@ spans_ascii b bytes off l =
 
 -- ---- at the front: where what is left begins
 
-front_len : (bytes : List ℕ) (off : ℕ) → kept_start is_blank (off + length bytes) (spans_from off (pieces bytes)) + length (trimmed_front bytes) ≡ off + length bytes
+front_len : (bytes : List ℕ) (off : ℕ)
+    → kept_start is_blank (off + length bytes) (spans_from off (pieces bytes)) + length (trimmed_front bytes) ≡ off + length bytes
 front_len [] off =
     let stops : kept_start is_blank (off + length {A = ℕ} []) (spans_from off (pieces [])) ≡ off + length {A = ℕ} [] =
     ap (kept_start is_blank (off + 0)) (spans-nil [] off refl) ∙ kept-nil is_blank (off + 0) in
@@ -88,7 +89,8 @@ end_ascii b a off [] = ⊎_elim
 end_ascii b a off (c ∷ left) = omega arith
 
 -- trimming keeps bytes of which the last isn't blank
-end_keeps : (bytes more : List ℕ) → 0 < length bytes → is_blank (get_or bytes (length bytes - 1) 0) ≡ false → trimmed_end (bytes ++ more) ≡ bytes ++ trimmed_end more
+end_keeps : (bytes more : List ℕ) → 0 < length bytes → is_blank (get_or bytes (length bytes - 1) 0) ≡ false
+    → trimmed_end (bytes ++ more) ≡ bytes ++ trimmed_end more
 end_keeps [] more h e = absurd (omega arith)
 end_keeps (b ∷ []) more h e = end_cons b more ∙ onto (trimmed_end more)
   where
@@ -106,7 +108,8 @@ end_past a off [] left h = absurd (omega arith)
 end_past a off (b ∷ front) [] h = omega (arith, length-append front [])
 end_past a off (b ∷ front) (c ∷ left) h = omega (arith, length-append front (c ∷ left))
 
-kept_end_is : (fuel : ℕ) (bytes : List ℕ) (a off : ℕ) → length bytes ≤ fuel → kept_end is_blank a (spans_from off (pieces bytes)) ≡ end_at a off (trimmed_end bytes)
+kept_end_is : (fuel : ℕ) (bytes : List ℕ) (a off : ℕ) → length bytes ≤ fuel
+    → kept_end is_blank a (spans_from off (pieces bytes)) ≡ end_at a off (trimmed_end bytes)
 kept_end_is fuel [] a off h = ap (kept_end is_blank a) (spans-nil [] off refl) ∙ kept_end-nil is_blank a ∙ sym (ap (end_at a off) end_nil)
 kept_end_is zero (b ∷ bytes) a off h = absurd (omega arith)
 kept_end_is (suc fuel) (b ∷ bytes) a off h = ⊎_elim

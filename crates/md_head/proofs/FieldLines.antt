@@ -65,7 +65,8 @@ record BothPass (name : List ℕ) (n : ℕ) (body : List ℕ) (name' body' : Lis
 both_pass : (name : List ℕ) (n : ℕ) (body name' body' : List ℕ) → from_parts name n body ≡ Some (name', body') → BothPass name n body name' body'
 both_pass name n body name' body' e = go (nat_lt 0 n) (nat_eq (get_or body 0 0) 58) refl refl e
   where
-    go : (s t : Bool) → nat_lt 0 n ≡ s → nat_eq (get_or body 0 0) 58 ≡ t → cond {A = Option (List ℕ × List ℕ)} (s && t) (Some (name, drop 1 body)) None ≡ Some (name', body')
+    go : (s t : Bool) → nat_lt 0 n ≡ s → nat_eq (get_or body 0 0) 58 ≡ t
+        → cond {A = Option (List ℕ × List ℕ)} (s && t) (Some (name, drop 1 body)) None ≡ Some (name', body')
         → BothPass name n body name' body'
     go true true some colon is =
         record {

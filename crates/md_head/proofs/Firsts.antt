@@ -91,6 +91,7 @@ first_is (g ∷ groups) name = subst (IsFirstValue (g ∷ groups) name) (sym (fi
     behind_other e None h = All-cons (IsOther name) g groups (other_found g name e) h
     behind_other e (Some value) h = (g ∷ h.0, h.1, h.2, ap (λ gs. g ∷ gs) h.3, All-cons (IsOther name) g h.0 (other_found g name e) h.4, h.5)
 
-    here : (v : Option (List ℕ)) → value_of name g ≡ v → IsFirstValue groups name (first_value name groups) → IsFirstValue (g ∷ groups) name (or_later v (first_value name groups))
+    here : (v : Option (List ℕ)) → value_of name g ≡ v → IsFirstValue groups name (first_value name groups)
+        → IsFirstValue (g ∷ groups) name (or_later v (first_value name groups))
     here None e rest = behind_other e (first_value name groups) rest
     here (Some value) e rest = ([], g, groups, refl, All-nil (IsOther name), field_found g name value e)

@@ -83,7 +83,8 @@ some_front [] rest h = absurd (omega arith)
 some_front (b ∷ name) rest h = omega arith
 
 -- the group's field, where its bytes begin with one
-group_field : (bytes first : List ℕ) (continuations : List (List ℕ)) (name found body : List ℕ) → lines_of bytes ≡ first ∷ continuations → IsFieldLine bytes found body
+group_field : (bytes first : List ℕ) (continuations : List (List ℕ)) (name found body : List ℕ) → lines_of bytes ≡ first ∷ continuations
+    → IsFieldLine bytes found body
     → value_of name (record { first = first; continuations = continuations }) ≡ value_in name (Some (found, body))
 group_field bytes first continuations name found body e f = go (lines_of body) refl (sym all ∙ e)
   where
@@ -104,7 +105,8 @@ group_field bytes first continuations name found body e f = go (lines_of body) r
     is_line : (b : List ℕ) → IsFieldLine (front ++ b) found b
     is_line b = record { spacing = f.spacing; parts = split b; some_name = f.some_name; name_bytes = f.name_bytes; spacing_blank = f.spacing_blank }
 
-    value_at : (b : List ℕ) (others : List (List ℕ)) (lines : List (List ℕ)) → lines_of body ≡ lines → front ++ b ≡ first → others ≡ continuations → b ++ concat others ≡ concat lines
+    value_at : (b : List ℕ) (others : List (List ℕ)) (lines : List (List ℕ)) → lines_of body ≡ lines → front ++ b ≡ first → others ≡ continuations
+        → b ++ concat others ≡ concat lines
         → value_of name (record { first = first; continuations = continuations }) ≡ value_in name (Some (found, body))
     value_at b others lines is at_first at_others joins =
         value_is name (record { first = first; continuations = continuations })

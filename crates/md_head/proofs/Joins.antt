@@ -3,10 +3,8 @@ use Rattle.std.proofs.Common.{◌≡◌, ℕ, ◌<◌, false, List, [], ◌∷�
 use Rattle.std.proofs.lemmas.Bool.{cases_Bool}
 use Rattle.std.proofs.lemmas.Bool.Decides.{nat_tests}
 use Rattle.std.specs.Prelude.{nat_eq}
-use Rattle.std.specs.List.{concat}
-use Rattle.md_head.specs.Header.{is_blank, lines_of}
+use Rattle.md_head.specs.Header.{is_blank}
 use Rattle.md_head.specs.Computed.{trimmed_front}
-use Rattle.md_head.proofs.Lines.{lines_nil}
 use Rattle.md_head.proofs.Trims.{front_blank, front_stop, front_nil}
 
 -- what was joined so far, and what is still to come
@@ -34,10 +32,6 @@ join_more (b ∷ bytes) line more h = append_assoc (b ∷ bytes) line more
 pub join_none : (bytes : List ℕ) → onto_joined bytes [] ≡ bytes
 join_none [] = front_nil
 join_none (b ∷ bytes) = append-nil (b ∷ bytes)
-
-pub no_lines : (text : List ℕ) → length text ≡ 0 → concat (lines_of text) ≡ []
-no_lines [] h = ap concat lines_nil
-no_lines (b ∷ text) h = absurd (omega arith)
 
 pub some_if : (n : ℕ) → false ≡ nat_eq n 0 → 0 < n
 some_if n h = grind (arith, nat_tests)

@@ -18,5 +18,6 @@ pub mod GroupValues
 pub mod Steps
 pub mod Appended
 pub mod Earlier
+pub mod Places
 pub mod Endings
 pub mod Renamed

@@ -1,15 +1,15 @@
 -- The search for the end of a line and its continuations.
-use Rattle.std.proofs.Common.{◌≡◌, ◌≢◌, ℕ, ◌+◌, ◌-◌, ◌<◌, ◌≤◌, true, false, List, [], ◌∷◌, ◌++◌, length, get_or, take, drop, sym, ap, ◌∙◌, arith, ⊎_elim, ◌⊎◌, inr, append-nil, take-append-drop, get_or-take, get_or-drop, length-take-le, length-drop, take_all}
-use Rattle.std.proofs.lemmas.Bool.{cases_lt, eqb-true, false≢true}
+use Rattle.std.proofs.Common.{◌≡◌, ◌≢◌, ℕ, ◌+◌, ◌-◌, ◌<◌, ◌≤◌, true, false, List, [], ◌∷◌, ◌++◌, length, get_or, take, drop, sym, ap, ◌∙◌, arith, subst, ⊎_elim, ◌⊎◌, inr, append-nil, take-append-drop, get_or-take, get_or-drop, length-take-le, length-drop, take_all}
+use Rattle.std.proofs.lemmas.Bool.{cases_lt, eq-eqb, eqb-true, false≢true}
 use Rattle.std.proofs.lemmas.List.{drop_all, get_or_past, take_more}
 use Rattle.std.proofs.Math.Seq.{take-add}
 use Rattle.memchr.specs.Find.{Nowhere, NoneBefore, Passes, is_byte}
-use Rattle.md_head.specs.Header.{is_blank, is_continuation, lines_of}
+use Rattle.md_head.specs.Header.{is_blank, is_continuation, lines_of, IsWholeLines}
 use Rattle.md_head.specs.Scan.{IsOneGroup, EndsGroup}
 use Rattle.md_head.proofs.Lines.{lines_nil}
-use Rattle.md_head.proofs.Texts.{lines_append}
+use Rattle.md_head.proofs.Texts.{lines_append, whole_feed}
 use Rattle.md_head.proofs.Alls.{pass_nil, pass_cons, pass_append}
-use Rattle.md_head.proofs.Cuts.{absent, rest_whole}
+use Rattle.md_head.proofs.Cuts.{rest_whole}
 use Rattle.md_head.proofs.Scans.{OneLine, one_line, first_continues}
 
 -- The search has passed some lines: none yet, or a line with its continuations, behind which another stands.
@@ -28,6 +28,9 @@ ends_feed : (text : List ℕ) (n : ℕ) → 0 < n → n ≤ length text → get_
 ends_feed text n some within feed =
     let one : n ≡ (n - 1) + 1 = omega arith in
     ap (λ k. take k text) one ∙ take_more text (n - 1) 0 (omega arith) ∙ ap (λ b. take (n - 1) text ++ b ∷ []) feed
+
+front_whole : (text : List ℕ) (n : ℕ) → 0 < n → n ≤ length text → get_or text (n - 1) 0 ≡ 10 → IsWholeLines (take n text)
+front_whole text n some within feed = subst IsWholeLines (sym (ends_feed text n some within feed)) (whole_feed (take (n - 1) text))
 
 lines_behind : (text more : List ℕ) (n : ℕ) → 0 < n → n ≤ length text → get_or text (n - 1) 0 ≡ 10
     → lines_of (take n text ++ more) ≡ lines_of (take n text) ++ lines_of more
@@ -69,7 +72,8 @@ next_line text bytes part m s within whole l blank =
     }
 
 -- one line more, which reaches from m up to n
-group_more : (text : List ℕ) (m n : ℕ) → Passed text m → m < n → n ≤ length text → ((j : ℕ) → m ≤ j → j + 1 < n → get_or text j 0 ≢ 10) → IsOneGroup (take n text)
+group_more : (text : List ℕ) (m n : ℕ) → Passed text m → m < n → n ≤ length text → ((j : ℕ) → m ≤ j → j + 1 < n → get_or text j 0 ≢ 10)
+    → IsOneGroup (take n text)
 group_more text m n p less within none =
     let part = take (n - m) (drop m text) in
     let rest_len = length-drop m text in
@@ -83,6 +87,11 @@ group_more text m n p less within none =
     let here : get_or part 0 0 ≡ get_or text m 0 = at 0 (omega arith) ∙ ap (λ k. get_or text k 0) (omega arith) in
     next_line text (take n text) part m s p.within whole line (ap is_blank here ∙ s.more))
     p.passed
+
+-- ---- what the search says
+
+absent : (b : ℕ) (text : List ℕ) (i : ℕ) → Nowhere (Passes (is_byte b) text) 0 i → (k : ℕ) → k < i → get_or text k 0 ≢ b
+absent b text i none k l e = none k (omega arith) l (eq-eqb (get_or text k 0) b e)
 
 -- the search found a line feed behind the place m
 pub record Found (text : List ℕ) (m n : ℕ) : Type 0 where
@@ -123,11 +132,13 @@ ends_at text m n p f over = record {
   within = f.within;
   one = group_more text m n p f.later f.within f.none;
   cut = cut_at_feed text n (omega (arith, f.later)) f.within f.feed;
+  line_ends = λ _. front_whole text n (omega (arith, f.later)) f.within f.feed;
   over = ap is_blank (get_or-drop n text 0 0 ∙ ap (λ k. get_or text k 0) (omega arith)) ∙ over;
 }
 
 -- the search found none
-pub ends_text : (text hay : List ℕ) (m : ℕ) → hay ≡ drop m text → 0 < length text → Passed text m → Nowhere (Passes (is_byte 10) hay) 0 (length hay) → EndsGroup text (length text)
+pub ends_text : (text hay : List ℕ) (m : ℕ) → hay ≡ drop m text → 0 < length text → Passed text m → Nowhere (Passes (is_byte 10) hay) 0 (length hay)
+    → EndsGroup text (length text)
 ends_text text hay m same some p nowhere =
     let n = length text in
     let len = ap length same in
@@ -148,6 +159,7 @@ ends_text text hay m same some p nowhere =
           (λ j low l e. absent 10 hay (length hay) nowhere (j - m) (omega arith) (reads (j - m) ∙ ap (λ k. get_or text k 0) (omega arith) ∙ e));
       cut = sym (append-nil (lines_of text)) ∙ sym (ap (λ ls. lines_of text ++ ls) (ap lines_of nil ∙ lines_nil))
           ∙ sym (ap (λ t. lines_of t ++ lines_of (drop n text)) (take_all n text (omega arith)));
+      line_ends = λ some. absurd (omega (arith, ap length nil));
       over = ap (λ t. is_blank (get_or t 0 0)) nil;
     }
 

@@ -7,10 +7,9 @@ use Rattle.std.proofs.lemmas.Slice.Eq.{bytes_eq-Decides}
 use Rattle.std.specs.Char.{to_ascii_lowercase}
 use Rattle.std.specs.Str.{str_eq_ignore_ascii_case, str_to_ascii_lowercase, bytes_eq}
 use Rattle.std.specs.List.{AllPass, concat, take_while}
-use Rattle.md_head.specs.Header.{is_blank, is_name_byte, is_some_line, is_continuation, lines_of}
+use Rattle.md_head.specs.Header.{is_blank, is_name_byte, is_some_line, is_continuation, lines_of, IsWholeLines}
 use Rattle.md_head.specs.Computed.{Grouped, grouped, field_of, trimmed, value_if, value_of, or_later, first_value}
 use Rattle.md_head.specs.Summaries.{summary_of}
-use Rattle.md_head.specs.Laws.{IsWholeLines}
 use Rattle.md_head.proofs.Sections.{some_first}
 use Rattle.md_head.proofs.Groups.{grouped_on, grouped_new}
 use Rattle.md_head.proofs.Firsts.{value_is, first_cons}
@@ -59,7 +58,8 @@ record NamedLine (name body line : List ℕ) : Type 0 where
   begins : is_continuation line ≡ false
   field : field_of line ≡ Some (name, body)
 
-named_line : (name spacing body : List ℕ) → 0 < length name → AllPass is_name_byte name → AllPass is_blank spacing → NamedLine name body (name ++ (spacing ++ 58 ∷ body))
+named_line : (name spacing body : List ℕ) → 0 < length name → AllPass is_name_byte name → AllPass is_blank spacing
+    → NamedLine name body (name ++ (spacing ++ 58 ∷ body))
 named_line [] spacing body h bytes blank = absurd (omega arith)
 named_line (b ∷ name) spacing body h bytes blank = record {
   some = name ++ (spacing ++ 58 ∷ body);
@@ -96,7 +96,8 @@ record SameValues (name : List ℕ) (lines others : List (List ℕ)) : Type 0 wh
 
 module _ (name found other body line line' : List ℕ) (l : NamedLine found body line) (l' : NamedLine other body line')
     (same : str_eq_ignore_ascii_case found name ≡ str_eq_ignore_ascii_case other name) where
-  same_value : (continuations : List (List ℕ)) → value_of name (record { first = line; continuations = continuations }) ≡ value_of name (record { first = line'; continuations = continuations })
+  same_value : (continuations : List (List ℕ))
+      → value_of name (record { first = line; continuations = continuations }) ≡ value_of name (record { first = line'; continuations = continuations })
   same_value continuations =
       let v = Some (trimmed (body ++ concat continuations)) in
       value_is name (record { first = line; continuations = continuations }) ∙ ap (value_if name continuations) l.field
@@ -112,11 +113,13 @@ module _ (name found other body line line' : List ℕ) (l : NamedLine found body
         ap (λ (r : Grouped). first_value name r.groups) g ∙ first_cons name (record { first = line; continuations = (grouped lines).front }) (grouped lines).groups,
       )
 
-  section_of : (line : List ℕ) (first : ℕ) (some : List ℕ) (lines : List (List ℕ)) → line ≡ first ∷ some → take_while is_some_line (line ∷ lines) ≡ line ∷ take_while is_some_line lines
+  section_of : (line : List ℕ) (first : ℕ) (some : List ℕ) (lines : List (List ℕ)) → line ≡ first ∷ some
+      → take_while is_some_line (line ∷ lines) ≡ line ∷ take_while is_some_line lines
   section_of line first some lines is =
       ap (λ t. take_while is_some_line (t ∷ lines)) is ∙ some_first first some lines ∙ sym (ap (λ t. t ∷ take_while is_some_line lines) is)
 
-  same_values : (front behind : List (List ℕ)) → SameValues name (take_while is_some_line (front ++ line ∷ behind)) (take_while is_some_line (front ++ line' ∷ behind))
+  same_values : (front behind : List (List ℕ))
+      → SameValues name (take_while is_some_line (front ++ line ∷ behind)) (take_while is_some_line (front ++ line' ∷ behind))
   same_values [] behind =
       let rest = take_while is_some_line behind in
       let a = begins_group line rest l.begins in

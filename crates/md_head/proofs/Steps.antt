@@ -1,19 +1,15 @@
 -- One group more of a header section.
-use Rattle.std.proofs.Common.{◌≡◌, ℕ, Bool, true, false, List, [], ◌∷◌, ◌++◌, get_or, take, drop, Option, Some, None, refl, sym, ap, ◌∙◌, ⊎_elim, append-nil, cond}
+use Rattle.std.proofs.Common.{◌≡◌, ℕ, true, false, List, [], ◌∷◌, ◌++◌, get_or, take, drop, None, refl, sym, ap, ◌∙◌, ⊎_elim, append-nil}
 use Rattle.std.proofs.lemmas.Bool.{cases_Bool, false≢true}
 use Rattle.std.proofs.lemmas.List.Sums.{take_while-cons}
-use Rattle.std.specs.Prelude.{option_map}
-use Rattle.std.specs.Str.{str_eq_ignore_ascii_case}
 use Rattle.std.specs.List.{AllPass, take_while}
 use Rattle.md_head.specs.Header.{is_blank, is_some_line, is_continuation, lines_of, header_section}
 use Rattle.md_head.specs.Computed.{Grouped, grouped, groups_of, field_of, value_if, value_of, or_later, first_value, field_value}
-use Rattle.md_head.specs.Bodies.{body_value, or_this}
 use Rattle.md_head.specs.Scan.{EndsGroup}
-use Rattle.md_head.specs.declared.body.FieldBody.{FieldBody}
 use Rattle.md_head.proofs.Scans.{first_continues}
 use Rattle.md_head.proofs.Sections.{section_is, some_first}
 use Rattle.md_head.proofs.Groups.{grouped_nil, grouped_new, grouped_all, grouped_group}
-use Rattle.md_head.proofs.Firsts.{value_is, first_cons, first_nil}
+use Rattle.md_head.proofs.Firsts.{value_is, first_cons}
 use Rattle.md_head.proofs.FieldLines.{no_field}
 use Rattle.md_head.proofs.GroupValues.{value_in, group_value}
 use Rattle.md_head.proofs.Alls.{pass_head, pass_tail, pass_cons}
@@ -23,7 +19,8 @@ unfolding groups_of
 groups_is text = refl
 
 -- a continuation isn't empty
-pub section_continues : (lines more : List (List ℕ)) → AllPass is_continuation lines → take_while is_some_line (lines ++ more) ≡ lines ++ take_while is_some_line more
+pub section_continues : (lines more : List (List ℕ)) → AllPass is_continuation lines
+    → take_while is_some_line (lines ++ more) ≡ lines ++ take_while is_some_line more
 section_continues [] more h = refl
 section_continues ([] ∷ lines) more h = absurd (false≢true (pass_head is_continuation [] lines h))
 section_continues ((b ∷ line) ∷ lines) more h =
@@ -53,7 +50,7 @@ nothing_in_front rest over = ap (λ ls. (grouped ls).front) (section_is rest) �
         ∙ ap (λ (g : Grouped). g.front) (grouped_new (b ∷ line) (take_while is_some_line lines) (first_continues rest (b ∷ line) lines is ∙ over))
 
 -- the groups of a section that begins with one, or with continuations of nothing
-value_step : (name first : List ℕ) (continuations lines : List (List ℕ)) → AllPass is_continuation continuations → (grouped lines).front ≡ []
+pub value_step : (name first : List ℕ) (continuations lines : List (List ℕ)) → AllPass is_continuation continuations → (grouped lines).front ≡ []
     → first_value name (grouped (first ∷ (continuations ++ lines))).groups
     ≡ or_later (value_of name (record { first = first; continuations = continuations })) (first_value name (grouped lines).groups)
 value_step name first continuations lines h front =
@@ -84,46 +81,3 @@ step name text n some ends =
     ∙ value_step name one.first one.continuations (header_section rest) one.goes_on front
     ∙ ap (λ v. or_later v (first_value name (grouped (header_section rest)).groups)) (group_value (take n text) one.first one.continuations name one.all_lines)
     ∙ sym (ap (λ gs. or_later (value_in name (field_of (take n text))) (first_value name gs)) (groups_is rest))
-
--- ---- what the loop over groups keeps of a name
-
-found_more : (found : Option FieldBody) (named : Bool) (body : FieldBody) (later : Option (List ℕ))
-    → or_later (option_map body_value (or_this found named body)) later ≡ or_later (option_map body_value found) (or_later (cond named (Some (body_value body)) None) later)
-found_more (Some found) named body later = refl
-found_more None true body later = refl
-found_more None false body later = refl
-
--- a field more
-pub kept_field : (name message text rest : List ℕ) (n : ℕ) (found : Option FieldBody) (here : List ℕ) (body : FieldBody) → (header_section text ≡ [] → ⊥) → EndsGroup text n
-    → rest ≡ drop n text → Some (here, body.folded.now) ≡ field_of (take n text)
-    → or_later (option_map body_value found) (field_value name text) ≡ field_value name message
-    → or_later (option_map body_value (or_this found (str_eq_ignore_ascii_case here name) body)) (field_value name rest) ≡ field_value name message
-kept_field name message text rest n found here body some ends left field kept =
-    found_more found (str_eq_ignore_ascii_case here name) body (field_value name rest)
-    ∙ ap (λ t. or_later (option_map body_value found) (or_later (value_in name (Some (here, body.folded.now))) (field_value name t))) left
-    ∙ ap (λ f. or_later (option_map body_value found) (or_later (value_in name f) (field_value name (drop n text)))) field
-    ∙ sym (ap (or_later (option_map body_value found)) (step name text n some ends))
-    ∙ kept
-
--- lines more that are none
-pub kept_none : (name message text rest : List ℕ) (n : ℕ) (found : Option FieldBody) → (header_section text ≡ [] → ⊥) → EndsGroup text n
-    → rest ≡ drop n text → None ≡ field_of (take n text)
-    → or_later (option_map body_value found) (field_value name text) ≡ field_value name message
-    → or_later (option_map body_value found) (field_value name rest) ≡ field_value name message
-kept_none name message text rest n found some ends left field kept =
-    ap (λ t. or_later (option_map body_value found) (field_value name t)) left
-    ∙ ap (λ f. or_later (option_map body_value found) (or_later (value_in name f) (field_value name (drop n text)))) field
-    ∙ sym (ap (or_later (option_map body_value found)) (step name text n some ends))
-    ∙ kept
-
--- the end of the section
-pub kept_over : (name message text : List ℕ) (found : Option FieldBody) → header_section text ≡ []
-    → or_later (option_map body_value found) (field_value name text) ≡ field_value name message → option_map body_value found ≡ field_value name message
-kept_over name message text found over kept =
-    let none : field_value name text ≡ None =
-    ap (first_value name) (groups_is text ∙ ap (λ ls. (grouped ls).groups) over ∙ ap (λ (g : Grouped). g.groups) grouped_nil) ∙ first_nil name in
-    sym (last (option_map body_value found)) ∙ ap (or_later (option_map body_value found)) (sym none) ∙ kept
-  where
-    last : (v : Option (List ℕ)) → or_later v None ≡ v
-    last None = refl
-    last (Some value) = refl

@@ -1,7 +1,7 @@
 -- The lines of a text that is put together from parts.
-use Rattle.std.proofs.Common.{◌≡◌, ℕ, ◌<◌, List, [], ◌∷◌, ◌++◌, length, get_or, refl, sym, ap, ◌∙◌, arith}
+use Rattle.std.proofs.Common.{◌≡◌, ℕ, suc, ◌-◌, ◌<◌, List, [], ◌∷◌, ◌++◌, length, get_or, refl, sym, ap, ◌∙◌, arith, length-append}
 use Rattle.std.specs.List.{onto_first}
-use Rattle.md_head.specs.Header.{lines_of}
+use Rattle.md_head.specs.Header.{lines_of, IsWholeLines}
 use Rattle.md_head.proofs.Lines.{lines_nil, step, step_feed, step_return, step_plain}
 use Rattle.md_head.proofs.Lines.Step.{Feed, Return, Plain}
 
@@ -39,6 +39,23 @@ first_of_append (c ∷ bytes) more b = refl
 some_length : (bytes : List ℕ) (b : ℕ) → 0 < length (bytes ++ b ∷ [])
 some_length [] b = omega arith
 some_length (c ∷ bytes) b = omega arith
+
+-- ---- whole lines
+
+whole_more : (b : ℕ) (bytes : List ℕ) → 0 < length bytes → IsWholeLines bytes → IsWholeLines (b ∷ bytes)
+whole_more b [] some h = absurd (omega arith)
+whole_more b (c ∷ bytes) some h = λ _.
+    let last : length (b ∷ c ∷ bytes) - 1 ≡ suc (length (c ∷ bytes) - 1) = omega arith in
+    rw last (h (omega arith))
+
+-- any bytes before whole lines
+pub whole_behind : (bytes more : List ℕ) → 0 < length more → IsWholeLines more → IsWholeLines (bytes ++ more)
+whole_behind [] more some h = h
+whole_behind (b ∷ bytes) more some h =
+    whole_more b (bytes ++ more) (omega (arith, length-append bytes more)) (whole_behind bytes more some h)
+
+pub whole_feed : (bytes : List ℕ) → IsWholeLines (bytes ++ 10 ∷ [])
+whole_feed bytes = whole_behind bytes (10 ∷ []) (omega arith) (λ _. refl)
 
 -- a text that ends with a line feed, and any text behind it
 pub lines_append : (bytes more : List ℕ) → lines_of ((bytes ++ 10 ∷ []) ++ more) ≡ lines_of (bytes ++ 10 ∷ []) ++ lines_of more

@@ -1,6 +1,6 @@
 -- The lines of a message's header section, and the fields that they are, in the words of RFC 5322.
 -- A rule marked 'own' is this library's choice where RFC 5322 leaves one.
-use Rattle.std.specs.Prelude.{◌≡◌, ℕ, ◌<◌, Bool, false, not, ◌&&◌, ◌||◌, ◌==◌, nat_le, nat_lt, List, ◌∷◌, ◌++◌, length, slice_index, All}
+use Rattle.std.specs.Prelude.{◌≡◌, ℕ, ◌-◌, ◌<◌, Bool, false, not, ◌&&◌, ◌||◌, ◌==◌, nat_le, nat_lt, List, ◌∷◌, ◌++◌, length, slice_index, All}
 use Rattle.std.specs.List.{AllPass, flat_map, take_while}
 use Rattle.std.specs.Str.Lines.{lines}
 
@@ -17,6 +17,10 @@ is_name_byte b = nat_le 33 b && nat_le b 126 && not (b == 58)
 -- a byte like any other (own).
 unfoldable pub lines_of : List ℕ → List (List ℕ)
 lines_of text = lines text
+
+-- The text is empty or ends with a line feed.
+abbrev pub IsWholeLines : List ℕ → Type 0
+IsWholeLines text = 0 < length text → slice_index text (length text - 1) ≡ 10
 
 abbrev pub is_some_line : List ℕ → Bool
 is_some_line line = nat_lt 0 (length line)

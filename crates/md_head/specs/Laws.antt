@@ -1,18 +1,14 @@
 -- What a message's summary does not depend on, and what it does.
-use Rattle.std.specs.Prelude.{◌≡◌, ◌≢◌, ℕ, ◌-◌, ◌<◌, ◌==◌, true, false, ◌↔◌, List, [], ◌∷◌, ◌++◌, length, slice_index, All, Contains, IsSome, if◌then◌else◌}
+use Rattle.std.specs.Prelude.{◌≡◌, ◌≢◌, ℕ, ◌<◌, ◌==◌, true, false, ◌↔◌, List, [], ◌∷◌, ◌++◌, length, slice_index, All, Contains, IsSome, if◌then◌else◌}
 use Rattle.std.specs.List.{AllPass, flat_map}
 use Rattle.std.specs.Str.{str_eq_ignore_ascii_case}
-use Rattle.md_head.specs.Header.{is_blank, is_name_byte, lines_of, IsFieldLine}
+use Rattle.md_head.specs.Header.{is_blank, is_name_byte, lines_of, IsWholeLines, IsFieldLine}
 use Rattle.md_head.specs.Summaries.{IsSummary, summary_of}
 use Rattle.md_head.specs.declared.shown.Summary.{Summary}
 
 -- The rules give each text exactly one summary.
 abbrev pub OneSummary : Type 0
 OneSummary = (text : List ℕ) (s : Summary) → IsSummary text s ↔ (s ≡ summary_of text)
-
--- the text is empty or ends with a line feed
-abbrev pub IsWholeLines : List ℕ → Type 0
-IsWholeLines text = 0 < length text → slice_index text (length text - 1) ≡ 10
 
 -- The body isn't read: what stands behind lines of which one is empty changes nothing.
 abbrev pub BodyIsNotRead : Type 0

@@ -1,7 +1,7 @@
 -- What the search from line end to line end says of the bytes that it passes.
 use Rattle.std.specs.Prelude.{◌≡◌, ℕ, ◌<◌, ◌≤◌, false, List, ◌∷◌, ◌++◌, take, drop, length, slice_index}
 use Rattle.std.specs.List.{AllPass}
-use Rattle.md_head.specs.Header.{is_blank, is_continuation, lines_of}
+use Rattle.md_head.specs.Header.{is_blank, is_continuation, lines_of, IsWholeLines}
 
 -- The bytes are one line and continuations of it.
 pub record IsOneGroup (bytes : List ℕ) : Type 0 where
@@ -16,4 +16,5 @@ pub record EndsGroup (text : List ℕ) (n : ℕ) : Type 0 where
   pub within : n ≤ length text
   pub one : IsOneGroup (take n text)
   pub cut : lines_of text ≡ lines_of (take n text) ++ lines_of (drop n text)
+  pub line_ends : 0 < length (drop n text) → IsWholeLines (take n text)
   pub over : is_blank (slice_index (drop n text) 0) ≡ false

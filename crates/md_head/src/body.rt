@@ -1,4 +1,4 @@
-// The body of a field, as it stands in the message.
+//! The body of a field, as it stands in the message.
 ghost use Rattle.std.specs.Prelude.{◌≡◌, IfOk};
 ghost use Rattle.std.specs.List.{concat};
 ghost use Rattle.md_head.specs.Header.{lines_of};
@@ -6,8 +6,8 @@ ghost use Rattle.md_head.specs.Computed.{trimmed_front, trimmed_end};
 
 use crate::error::HeadError;
 use crate::line::cut_line;
-use crate::value::FieldValue;
 use bstr::ByteSlice;
+use md_name::Bytes;
 use std::alloc::{AllocError, Global};
 
 /// The body of a field, folded as it stands in the message: all between the field's colon and the end of its last continuation,
@@ -35,8 +35,7 @@ fn joined(alloc: Global, text: &[u8]) -> Result<Vec<u8>, AllocError>
 {
     let mut bytes = Vec::with_capacity(alloc, text.len())?;
     let mut left = text;
-    while !left.is_empty() {
-        let (line, rest) = cut_line(left);
+    while let Some((line, rest)) = cut_line(left) {
         let line = if bytes.is_empty() {
             trim_front(line)
         } else {
@@ -52,12 +51,12 @@ impl<'a> FieldBody<'a> {
     ghost use Rattle.md_head.specs.Bodies.{body_value};
 
     /// The value: the body unfolded, by leaving out its line ends alone (RFC 5322, 2.2.3), and without the spaces and tabs at both ends.
-    pub fn value(&self, alloc: Global) -> Result<FieldValue, HeadError>
+    pub fn value(&self, alloc: Global) -> Result<Bytes, HeadError>
         ensures { IfOk result (λ value. value ≡ body_value self.now) }
     {
         let mut bytes = joined(alloc, self.folded)?;
         let length = trim_end(&bytes).len();
         bytes.truncate(length);
-        Ok(FieldValue::new(bytes))
+        Ok(Bytes::of(bytes))
     }
 }

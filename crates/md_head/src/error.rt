@@ -1,4 +1,4 @@
-// Why a summary is refused.
+//! Why a summary is refused.
 ghost use Rattle.std.specs.Prelude.{◌≡◌};
 ghost use Rattle.md_head.specs.declared.error.HeadError.TheVariants.{NoMemory};
 

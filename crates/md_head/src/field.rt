@@ -1,4 +1,4 @@
-// One field: its name and its body.
+//! One field: its name and its body.
 ghost use Rattle.std.specs.Prelude.{◌≡◌, ◌≤◌, length, option_map};
 ghost use Rattle.std.specs.List.{prefix_len};
 ghost use Rattle.md_head.specs.Header.{is_blank, is_name_byte};

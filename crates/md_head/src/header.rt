@@ -1,8 +1,7 @@
-// The fields of a message's header that a summary shows.
-ghost use Rattle.std.specs.Prelude.{◌≡◌, codes, option_map};
+//! The fields of a message's header that a summary shows.
+ghost use Rattle.std.specs.Prelude.{◌≡◌, codes};
 ghost use Rattle.std.specs.Str.{str_eq_ignore_ascii_case};
-ghost use Rattle.md_head.specs.Bodies.{body_value, or_this};
-ghost use Rattle.md_head.specs.Computed.{field_value};
+ghost use Rattle.md_head.specs.Bodies.{or_this, IsFirstField};
 
 use crate::body::FieldBody;
 use crate::field::field;
@@ -27,47 +26,48 @@ pub struct HeaderFields<'a> {
 
 /// Reads the header section of a message, in one pass that ends at the first empty line.
 pub fn header_fields(message: &[u8]) -> HeaderFields<'_>
-    ensures subject { option_map body_value result.subject ≡ field_value (codes "subject") message.now }
-    ensures from { option_map body_value result.from ≡ field_value (codes "from") message.now }
-    ensures message_id { option_map body_value result.message_id ≡ field_value (codes "message-id") message.now }
-    ensures date { option_map body_value result.date ≡ field_value (codes "date") message.now }
+    ensures subject { IsFirstField message.now (codes "subject") result.subject }
+    ensures from { IsFirstField message.now (codes "from") result.from }
+    ensures message_id { IsFirstField message.now (codes "message-id") result.message_id }
+    ensures date { IsFirstField message.now (codes "date") result.date }
 {
-    let mut subject = None;
-    let mut from = None;
-    let mut message_id = None;
-    let mut date = None;
+    let mut fields = HeaderFields {
+        subject: None,
+        from: None,
+        message_id: None,
+        date: None,
+    };
     let mut left = message;
     while !ends_section(left) {
         let (group, rest) = left.split_at(group_end(left));
         if let Some((name, folded)) = field(group) {
-            let body = FieldBody { folded };
-            subject = first_of(subject, SUBJECT, name, body);
-            from = first_of(from, FROM, name, body);
-            message_id = first_of(message_id, MESSAGE_ID, name, body);
-            date = first_of(date, DATE, name, body);
+            fields.keep_first(name, FieldBody { folded });
         }
         left = rest;
     }
-    HeaderFields {
-        subject,
-        from,
-        message_id,
-        date,
+    fields
+}
+
+impl<'a> HeaderFields<'a> {
+    /// Keeps the body of a field under its name, where that is one of the four and has no body yet.
+    fn keep_first(&mut self, name: &[u8], body: FieldBody<'a>)
+        ensures subject { self.new.subject ≡ or_this self.old.subject (str_eq_ignore_ascii_case name.now (codes "subject")) body.entry }
+        ensures from { self.new.from ≡ or_this self.old.from (str_eq_ignore_ascii_case name.now (codes "from")) body.entry }
+        ensures message_id { self.new.message_id ≡ or_this self.old.message_id (str_eq_ignore_ascii_case name.now (codes "message-id")) body.entry }
+        ensures date { self.new.date ≡ or_this self.old.date (str_eq_ignore_ascii_case name.now (codes "date")) body.entry }
+    {
+        keep_if(&mut self.subject, SUBJECT, name, body);
+        keep_if(&mut self.from, FROM, name, body);
+        keep_if(&mut self.message_id, MESSAGE_ID, name, body);
+        keep_if(&mut self.date, DATE, name, body);
     }
 }
 
-/// The body that was found before, or else this one, if its field has the name that is looked for.
-fn first_of<'a>(
-    found: Option<FieldBody<'a>>,
-    wanted: &[u8],
-    name: &[u8],
-    body: FieldBody<'a>,
-) -> Option<FieldBody<'a>>
-    ensures { result ≡ or_this found.entry (str_eq_ignore_ascii_case name.now wanted.now) body.entry }
+/// Keeps the body where there is none yet and its field has the name that is looked for.
+fn keep_if<'a>(place: &mut Option<FieldBody<'a>>, wanted: &[u8], name: &[u8], body: FieldBody<'a>)
+    ensures { place.new ≡ or_this place.old (str_eq_ignore_ascii_case name.now wanted.now) body.entry }
 {
-    if found.is_none() && name.eq_ignore_ascii_case(wanted) {
-        Some(body)
-    } else {
-        found
+    if place.is_none() && name.eq_ignore_ascii_case(wanted) {
+        *place = Some(body);
     }
 }

@@ -13,14 +13,13 @@ pub mod laws;
 mod line;
 mod read;
 mod shown;
-mod value;
 
 pub use body::FieldBody;
 pub use error::HeadError;
 pub use header::{HeaderFields, header_fields};
+pub use line::cut_line;
 pub use read::summary;
 pub use shown::Summary;
-pub use value::FieldValue;
 
 #[cfg(test)]
 mod tests;

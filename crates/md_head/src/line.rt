@@ -1,5 +1,6 @@
-// Lines of a text, and the lines that one field takes.
-ghost use Rattle.std.specs.Prelude.{◌≡◌, ◌<◌, ◌↔◌, [], ◌∷◌, length, IsTrue, slice_index};
+//! Lines of a text, and the lines that one field takes.
+ghost use Rattle.std.specs.Prelude.{◌≡◌, ◌<◌, ◌↔◌, [], ◌∷◌, length, IsTrue, IfSome, MatchOption, slice_index};
+ghost use Rattle.std.specs.Str.Lines.{strip_carriage_return};
 ghost use Rattle.md_head.specs.Header.{is_blank, header_section, lines_of};
 ghost use Rattle.md_head.specs.Scan.{EndsGroup};
 
@@ -54,21 +55,27 @@ pub(crate) fn group_end(text: &[u8]) -> usize
     text.len()
 }
 
-/// The first line of a text without its line end, and what stands behind it.
-pub(crate) fn cut_line(text: &[u8]) -> (&[u8], &[u8])
-    requires { 0 < length text.now }
-    ensures first { lines_of text.now ≡ result.0.now ∷ lines_of result.1.now }
-    ensures shorter { length result.1.now < length text.now }
+/// The first line of a text without its end, and what stands behind it; none where nothing is left. A line ends at a line feed, and one
+/// carriage return right before that belongs to the end.
+pub fn cut_line(text: &[u8]) -> Option<(&[u8], &[u8])>
+    ensures lines { MatchOption result (lines_of text.now ≡ []) (λ cut. lines_of text.now ≡ cut.0.now ∷ lines_of cut.1.now) }
+    ensures shorter { IfSome result (λ cut. length cut.1.now < length text.now) }
 {
+    if text.is_empty() {
+        return None;
+    }
     match memchr(LF, text) {
-        None => (text, &text[text.len()..]),
-        Some(at) => {
-            let rest = &text[at + 1..];
-            if at > 0 && text[at - 1] == CR {
-                (&text[..at - 1], rest)
-            } else {
-                (&text[..at], rest)
-            }
-        }
+        None => Some((text, &[])),
+        Some(at) => Some((without_return(&text[..at]), &text[at + 1..])),
+    }
+}
+
+/// The bytes in front of a line feed without the carriage return that belongs to the line's end.
+fn without_return(line: &[u8]) -> &[u8]
+    ensures { result.now ≡ strip_carriage_return line.now }
+{
+    match line {
+        [front @ .., CR] => front,
+        _ => line,
     }
 }

@@ -1,8 +1,6 @@
-// The summary of a message.
+//! The summary of a message.
 ghost use Rattle.std.specs.Prelude.{◌≡◌, option_map, IfOk};
-ghost use Rattle.std.specs.Option.{option_copied};
 ghost use Rattle.md_head.specs.Bodies.{body_value};
-ghost use Rattle.md_head.specs.Dates.{seconds_of};
 ghost use Rattle.md_head.specs.Summaries.{IsSummary, summary_of};
 
 use crate::body::FieldBody;
@@ -10,25 +8,13 @@ use crate::date::seconds_of;
 use crate::error::HeadError;
 use crate::header::header_fields;
 use crate::shown::Summary;
-use crate::value::FieldValue;
+use md_name::Bytes;
 use std::alloc::Global;
 
-fn value_of(alloc: Global, body: Option<FieldBody<'_>>) -> Result<Option<FieldValue>, HeadError>
+fn value_of(alloc: Global, body: Option<FieldBody<'_>>) -> Result<Option<Bytes>, HeadError>
     ensures { IfOk result (λ value. value ≡ option_map body_value body.entry) }
 {
-    match body {
-        Some(body) => Ok(Some(body.value(alloc)?)),
-        None => Ok(None),
-    }
-}
-
-fn instant_of(date: Option<&FieldValue>) -> Option<i64>
-    ensures { result ≡ seconds_of (option_copied date.entry) }
-{
-    match date {
-        Some(date) => seconds_of(date.as_slice()),
-        None => None,
-    }
+    body.map(|body| body.value(alloc)).transpose()
 }
 
 /// The summary of a message, which reads its header section alone.
@@ -43,7 +29,7 @@ pub fn summary(alloc: Global, message: &[u8]) -> Result<Summary, HeadError>
     let from = value_of(alloc, fields.from)?;
     let message_id = value_of(alloc, fields.message_id)?;
     let date = value_of(alloc, fields.date)?;
-    let seconds = instant_of(date.as_ref());
+    let seconds = date.as_ref().and_then(|date| seconds_of(date.as_slice()));
     Ok(Summary {
         subject,
         from,

@@ -10,7 +10,8 @@ use Rattle.std.specs.Ordering.{nat_cmp}
 use Rattle.std.specs.Cmp.{nat_cmp_total, unsigned_tied}
 use Rattle.std.specs.FinSet as set
 use Rattle.md_name.specs.Letters.{is_letter, Set}
-use Rattle.md_name.specs.Words.{place_of, letters_in, contains-letters_in}
+use Rattle.md_name.specs.Words.{place_of, letters_in}
+use Rattle.md_name.specs.WordSets.{contains-letters_in}
 
 same_set : (s t : Set) → ((c : ℕ) → set.contains s c ≡ set.contains t c) → s ≡ t
 same_set s t = set.same_set nat_cmp_total set.nat_cmp-IsAntisymmetric s t
@@ -25,7 +26,8 @@ letters_in-zero = same_set _ _ (λ c. contains-letters_in 0 c ∙ empty_bits c �
 
 -- ---- the bits of two words
 
-or_bits : (a b c : ℕ) → (is_letter c && (bit_at (bit_or a b) (place_of c) == 1)) ≡ ((is_letter c && (bit_at a (place_of c) == 1)) || (is_letter c && (bit_at b (place_of c) == 1)))
+or_bits : (a b c : ℕ)
+    → (is_letter c && (bit_at (bit_or a b) (place_of c) == 1)) ≡ ((is_letter c && (bit_at a (place_of c) == 1)) || (is_letter c && (bit_at b (place_of c) == 1)))
 or_bits a b c =
     let z = bit_at_or a b (place_of c) in
     let l = bit_at-lt a (place_of c) in
@@ -49,7 +51,8 @@ kept_if : (l : Bool) (x y z : ℕ) → x < 2 → y < 2 → (l ≡ true → z ≡
 kept_if true x y z h k e = kept x y z h k (e refl)
 kept_if false x y z h k e = refl
 
-not_bits : (a b c : ℕ) → b < 2 ^ 64 → (is_letter c && (bit_at (bit_and a (bit_not w64 b)) (place_of c) == 1)) ≡ ((is_letter c && (bit_at a (place_of c) == 1)) && not (is_letter c && (bit_at b (place_of c) == 1)))
+not_bits : (a b c : ℕ) → b < 2 ^ 64
+    → (is_letter c && (bit_at (bit_and a (bit_not w64 b)) (place_of c) == 1)) ≡ ((is_letter c && (bit_at a (place_of c) == 1)) && not (is_letter c && (bit_at b (place_of c) == 1)))
 not_bits a b c h =
     kept_if (is_letter c) (bit_at a (place_of c)) (bit_at b (place_of c)) (bit_at (bit_and a (bit_not w64 b)) (place_of c))
     (bit_at-lt a (place_of c)) (bit_at-lt b (place_of c))

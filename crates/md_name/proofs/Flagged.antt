@@ -10,7 +10,7 @@ use Rattle.std.proofs.lemmas.List.{take_all, take_at, drop_at, drop-drop}
 use Rattle.std.proofs.lemmas.List.Folds.{list_any-append}
 use Rattle.md_name.specs.declared.info.Info.TheVariants.{Bare, Two, Opaque}
 use Rattle.md_name.specs.Letters.{is_letter, letters, Set, IsOfLetters, spelling}
-use Rattle.md_name.specs.Words.{list_any-letters}
+use Rattle.md_name.specs.WordSets.{list_any-letters}
 use Rattle.md_name.specs.Names.{is_colon, is_terminator, is_slash, begins_with_dot, unique_of, info_text, info_by, info_of, is_message_name, split_of, flagged, is_maildir_unique}
 use Rattle.md_name.proofs.Digits.{and_first, and_second}
 use Rattle.md_name.proofs.Made.{not_true}
@@ -146,6 +146,11 @@ colonless_before (b ∷ name) =
           ap (λ n. list_any is_colon (take n (b ∷ name))) (one_of (position_or_len is_colon name))
           ∙ ap (λ t. t || list_any is_colon (before_first is_colon name)) is ∙ colonless_before name
     ] refl
+
+-- a unique part has no colon
+pub colonless-unique_of : (name : List ℕ) → list_any is_colon (unique_of name) ≡ false
+unfolding unique_of
+colonless-unique_of name = colonless_before name
 
 dotless_front : (n : ℕ) (name : List ℕ) → begins_with_dot name ≡ false → begins_with_dot (take n name) ≡ false
 dotless_front zero name h = refl

@@ -26,7 +26,8 @@ unfolding escaped
 length-escaped-ge [] = omega arith
 length-escaped-ge (b ∷ host) = omega (arith, length-append (escape b) (escaped host), length-escape-le b, length-escaped-ge host)
 
-pub length-escaped_more : (host : List ℕ) (i : ℕ) → i < length host → length (escaped (take (i + 1) host)) ≡ length (escaped (take i host)) + cond (is_slash (get_or host i 0) || is_colon (get_or host i 0)) 4 1
+pub length-escaped_more : (host : List ℕ) (i : ℕ) → i < length host
+    → length (escaped (take (i + 1) host)) ≡ length (escaped (take i host)) + cond (is_slash (get_or host i 0) || is_colon (get_or host i 0)) 4 1
 length-escaped_more host i h =
     ap length (escaped_more host i h) ∙ length-append (escaped (take i host)) (escape (get_or host i 0))
     ∙ ap (λ n. length (escaped (take i host)) + n) (length-escape (get_or host i 0))
@@ -36,7 +37,8 @@ unfolding escaped
 escaped-nil = refl
 
 -- what was written, with one byte more
-pub escaped_push : (front host : List ℕ) (i : ℕ) → i < length host → (front ++ escaped (take i host)) ++ escape (get_or host i 0) ≡ front ++ escaped (take (i + 1) host)
+pub escaped_push : (front host : List ℕ) (i : ℕ) → i < length host
+    → (front ++ escaped (take i host)) ++ escape (get_or host i 0) ≡ front ++ escaped (take (i + 1) host)
 escaped_push front host i h =
     append_assoc front (escaped (take i host)) (escape (get_or host i 0)) ∙ ap (λ t. front ++ t) (sym (escaped_more host i h))
 

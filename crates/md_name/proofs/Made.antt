@@ -81,7 +81,8 @@ pub not_true : (b : Bool) → not b ≡ true → b ≡ false
 not_true true h = sym h
 not_true false h = refl
 
-all_hold : (a b c d e f : Bool) → a ≡ true → b ≡ false → c ≡ false → d ≡ false → e ≡ true → f ≡ false → (((((a && not b) && not c) && not d) && e) && not f) ≡ true
+all_hold : (a b c d e f : Bool) → a ≡ true → b ≡ false → c ≡ false → d ≡ false → e ≡ true → f ≡ false
+    → (((((a && not b) && not c) && not d) && e) && not f) ≡ true
 all_hold a b c d e f ha hb hc hd he hf = grind (arith, nat_tests)
 
 pub is_unique_name-made_unique : (sec micro pid count : ℕ) (host : List ℕ) → sec < 2 ^ 64 → micro < 1000000 → pid < 2 ^ 64 → count < 2 ^ 64

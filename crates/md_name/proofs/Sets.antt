@@ -8,7 +8,8 @@ use Rattle.std.specs.FinSet as set
 use Rattle.std.proofs.lemmas.Bool.{or_cases}
 use Rattle.std.proofs.lemmas.Bool.Decides.{eqb_tells}
 use Rattle.md_name.specs.Letters.{is_letter, Set, IsOfLetters}
-use Rattle.md_name.specs.Words.{letters_in, contains-letters_in}
+use Rattle.md_name.specs.Words.{letters_in}
+use Rattle.md_name.specs.WordSets.{contains-letters_in}
 use Rattle.md_name.proofs.Digits.{and_first, and_second}
 
 pub IsOfLetters-letters_in : (w : ℕ) → IsOfLetters (letters_in w)

@@ -2,3 +2,4 @@ pub mod Letters
 pub mod Names
 pub mod Made
 pub mod Words
+pub mod WordSets

@@ -18,7 +18,7 @@ const LETTERS: &[u8; 52] = b"ABCDEFGHIJKLMNOPQRSTUVWXYZabcdefghijklmnopqrstuvwxy
 /// maildir(5) gives six of them a meaning: P passed, R replied, S seen, T trashed, D draft, F flagged.
 /// This store keeps each of the 52. Contracts see a set of letters; in memory it's one word.
 #[derive(Clone, Copy, Debug, PartialEq, Eq)]
-#[tactic(auto, using(crate::specs::Words::word_of_seen))]
+#[tactic(auto, using(crate::specs::WordSets::word_of_seen))]
 pub struct Flags {
     word: u64,
 }
@@ -28,7 +28,8 @@ impl Model for Flags {
     ghost use Rattle.std.specs.Ordering.{nat_cmp};
     ghost use Rattle.std.specs.Coded.{coded_ℕ};
     ghost use Rattle.std.specs.FinSet as set;
-    ghost use Rattle.md_name.specs.Words.{letters_in, word_of, word_of_fields};
+    ghost use Rattle.md_name.specs.Words.{letters_in, word_of};
+    ghost use Rattle.md_name.specs.WordSets.{word_of_fields};
 
     ghost Value = { set.FinSet nat_cmp };
 

@@ -6,12 +6,14 @@
 //! The rules are those of maildir(5) of qmail and of "Using maildir format".
 #![tactic(auto)]
 
+mod bytes;
 mod error;
 mod flags;
 mod info;
 pub mod laws;
 mod unique;
 
+pub use bytes::Bytes;
 pub use error::NameError;
 pub use flags::Flags;
 pub use info::{Info, split, with_flags};

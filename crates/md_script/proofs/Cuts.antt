@@ -1,16 +1,16 @@
 -- Where the first line of a script and the first word of a line end.
-use Rattle.std.proofs.Common.{◌≡◌, ℕ, ◌+◌, ◌-◌, ◌<◌, ◌≤◌, List, [], ◌∷◌, length, take, drop, Bool, true, false, Option, None, Some, refl, sym, ap, ◌∙◌, arith}
+use Rattle.std.proofs.Common.{◌≡◌, ℕ, ◌+◌, ◌-◌, ◌<◌, List, [], ◌∷◌, length, take, drop, true, false, None, Some, refl, ap, ◌∙◌, arith}
 use Rattle.std.proofs.lemmas.Bool.Decides.{nat_tests}
 use Rattle.std.proofs.lemmas.List.Elements.{All-get_or}
 use Rattle.std.proofs.lemmas.List.Sums.{position_or_len_is}
 use Rattle.std.proofs.Math.Seq.{take-length}
-use Rattle.std.specs.List.{All, slice_split, before_first, after_first, position_or_len, list_any}
-use Rattle.std.specs.Str.Lines.{lines_of_parts, strip_carriage_return, lines}
+use Rattle.std.specs.List.{All, slice_split, before_first, position_or_len, list_any}
+use Rattle.std.specs.Str.Lines.{lines_of_parts, strip_carriage_return}
 use Rattle.std.proofs.lemmas.List.Splits.{slice_split_first, slice_split_none, length-slice_split}
 use Rattle.std.proofs.lemmas.List.Folds.{list_any_none, list_any_at}
 use Rattle.memchr.specs.Find.{Nowhere, NoneBefore, Passes, is_byte}
 use Rattle.md_script.specs.Lines.{lines_of}
-use Rattle.md_script.specs.Words.{cut_at_space, is_space}
+use Rattle.md_script.specs.Words.{cut_at_space}
 use Rattle.md_script.proofs.Firsts.{absent, first_at, rest_whole}
 
 parts_more : (line : List ℕ) (parts : List (List ℕ)) → 0 < length parts → lines_of_parts (line ∷ parts) ≡ strip_carriage_return line ∷ lines_of_parts parts

@@ -1,70 +1,102 @@
--- One turn of the loop that reads escapes.
-use Rattle.std.proofs.Common.{◌≡◌, ◌≢◌, ℕ, ◌+◌, ◌<◌, ◌≤◌, Bool, true, false, List, [], ◌∷◌, ◌++◌, length, get_or, drop, Result, Ok, Err, refl, sym, ap, subst, ◌∙◌, eqb, arith, add-one, append_assoc, append-nil}
+-- Escapes, read from one backslash to the next, and read back.
+use Rattle.std.proofs.Common.{◌≡◌, ◌≢◌, ℕ, suc, ◌+◌, ◌-◌, ◌<◌, ◌≤◌, Bool, true, false, List, [], ◌∷◌, ◌++◌, length, get_or, take, drop, Result, Ok, Err, refl, sym, ap, subst, ◌∙◌, eqb, arith, add-one, append_assoc, append-nil, length-take-le}
 use Rattle.std.proofs.lemmas.Bool.Decides.{nat_tests}
+use Rattle.std.proofs.lemmas.Bool.{eq-eqb, eqb-true}
+use Rattle.std.proofs.lemmas.List.{take-append-drop, get_or-take}
+use Rattle.std.proofs.lemmas.List.Elements.{All-from_get_or, All-head, All-tail}
 use Rattle.std.proofs.Math.Seq.{drop-cons}
 use Rattle.std.proofs.Math.ListN.{drop_of_length-le}
-use Rattle.md_script.specs.declared.refusal.LineRefusal.{LineRefusal}
-use Rattle.md_script.specs.declared.refusal.LineRefusal.TheVariants.{BadEscape}
+use Rattle.std.specs.List.{All}
+use Rattle.md_script.specs.declared.error.PlayKind.{PlayKind}
+use Rattle.md_script.specs.declared.error.PlayKind.TheVariants.{BadEscape}
 use Rattle.md_script.specs.Bind.{◌>>=◌}
-use Rattle.std.proofs.lemmas.Bool.{eq-eqb, eqb-true}
-use Rattle.md_script.specs.Escapes.{escape, escaped, meant_by, unescaped, unescaped_from}
+use Rattle.md_script.specs.Escapes.{escape, escaped, meant_by, onto, behind, unescaped}
+use Rattle.memchr.specs.Find.{Nowhere, NoneBefore, Passes, is_byte}
+use Rattle.md_script.proofs.Firsts.{refuted, absent, rest_whole}
 
--- more bytes before those that are read
-unfoldable pub with_front : List ℕ → Result (List ℕ) LineRefusal → Result (List ℕ) LineRefusal
-with_front front read = read >>= (λ xs. Ok (front ++ xs))
-
--- bytes in front of one byte that is put before what is read
-front_cons : (out : List ℕ) (x : ℕ) (read : Result (List ℕ) LineRefusal) → with_front (out ++ x ∷ []) read ≡ with_front out (read >>= (λ xs. Ok (x ∷ xs)))
-unfolding with_front
-front_cons out x (Ok xs) = simp append_assoc
-front_cons out x (Err e) = refl
-
-read_plain : (b : ℕ) (bytes : List ℕ) → b ≢ 92 → unescaped_from false (b ∷ bytes) ≡ (unescaped_from false bytes >>= (λ xs. Ok (b ∷ xs)))
-unfolding unescaped_from with_front
-read_plain b bytes e = grind (arith, nat_tests)
-
-read_mark : (b : ℕ) (bytes : List ℕ) → b ≡ 92 → unescaped_from false (b ∷ bytes) ≡ unescaped_from true bytes
-unfolding unescaped_from with_front
-read_mark b bytes e = grind (arith, nat_tests)
-
-read_letter : (c : ℕ) (bytes : List ℕ) → unescaped_from true (c ∷ bytes) ≡ (meant_by c >>= (λ x. unescaped_from false bytes >>= (λ xs. Ok (x ∷ xs))))
-unfolding unescaped_from with_front
-read_letter c bytes = refl
-
-module _ (out text : List ℕ) (i : ℕ) (h : i < length text) where
-  here : drop i text ≡ get_or text i 0 ∷ drop (i + 1) text
-  here = rw add-one (drop-cons text i 0 h)
-
-  pub turn_plain : get_or text i 0 ≢ 92 → with_front (out ++ get_or text i 0 ∷ []) (unescaped_from false (drop (i + 1) text)) ≡ with_front out (unescaped_from false (drop i text))
-  turn_plain e = front_cons out _ _ ∙ ap (with_front out) (sym (read_plain _ _ e)) ∙ ap (λ r. with_front out (unescaped_from false r)) (sym here)
-
-  pub turn_mark : get_or text i 0 ≡ 92 → with_front out (unescaped_from true (drop (i + 1) text)) ≡ with_front out (unescaped_from false (drop i text))
-  turn_mark e = ap (with_front out) (sym (read_mark _ _ e)) ∙ ap (λ r. with_front out (unescaped_from false r)) (sym here)
-
-  pub turn_letter : (x : ℕ) → meant_by (get_or text i 0) ≡ Ok x → with_front (out ++ x ∷ []) (unescaped_from false (drop (i + 1) text)) ≡ with_front out (unescaped_from true (drop i text))
-  turn_letter x e =
-      front_cons out x _
-      ∙ ap (λ r. with_front out (r >>= (λ y. unescaped_from false (drop (i + 1) text) >>= (λ xs. Ok (y ∷ xs))))) (sym e)
-      ∙ ap (with_front out) (sym (read_letter _ _)) ∙ ap (λ r. with_front out (unescaped_from true r)) (sym here)
-
-  pub fails_letter : (k : LineRefusal) → meant_by (get_or text i 0) ≡ Err k → with_front out (unescaped_from true (drop i text)) ≡ Err k
-  unfolding with_front
-  fails_letter k e =
-      ap (λ r. with_front out (unescaped_from true r)) here ∙ ap (with_front out) (read_letter _ _)
-      ∙ ap (λ r. with_front out (r >>= (λ y. unescaped_from false (drop (i + 1) text) >>= (λ xs. Ok (y ∷ xs))))) e
-
-pub at_end : (out text : List ℕ) (i : ℕ) → length text ≤ i → with_front out (unescaped_from false (drop i text)) ≡ Ok out
-unfolding unescaped_from with_front
-at_end out text i h = rw (drop_of_length-le text h) (simp append-nil)
-
-pub at_end_letter : (out text : List ℕ) (i : ℕ) → length text ≤ i → with_front out (unescaped_from true (drop i text)) ≡ Err BadEscape
-unfolding unescaped_from with_front
-at_end_letter out text i h = rw (drop_of_length-le text h) refl
-
-pub front_none : (read : Result (List ℕ) LineRefusal) → with_front [] read ≡ read
-unfolding with_front
+pub front_none : (read : Result (List ℕ) PlayKind) → behind [] read ≡ read
 front_none (Ok xs) = refl
 front_none (Err e) = refl
+
+front_onto : (b : ℕ) (front : List ℕ) (read : Result (List ℕ) PlayKind) → onto b (behind front read) ≡ behind (b ∷ front) read
+front_onto b front (Ok xs) = refl
+front_onto b front (Err e) = refl
+
+-- bytes, and then others, before those that are read
+pub front_front : (out more : List ℕ) (read : Result (List ℕ) PlayKind) → behind (out ++ more) read ≡ behind out (behind more read)
+front_front out more (Ok xs) = simp append_assoc
+front_front out more (Err e) = refl
+
+read_plain : (b : ℕ) (text : List ℕ) → b ≢ 92 → unescaped (b ∷ text) ≡ onto b (unescaped text)
+unfolding unescaped
+read_plain b [] other = grind (arith, nat_tests)
+read_plain b (c ∷ text) other = grind (arith, nat_tests)
+
+pub read_mark : (c : ℕ) (text : List ℕ) → unescaped (92 ∷ c ∷ text) ≡ (meant_by c >>= (λ x. onto x (unescaped text)))
+unfolding unescaped
+read_mark c text = refl
+
+no_mark : (b : ℕ) → is_byte 92 b ≡ false → b ≢ 92
+no_mark b plain is = let marked = eq-eqb b 92 is in cc
+
+-- bytes without a backslash stand for themselves
+pub plain : (front rest : List ℕ) → All (λ x. is_byte 92 x ≡ false) front → unescaped (front ++ rest) ≡ behind front (unescaped rest)
+plain [] rest all = sym (front_none (unescaped rest))
+plain (b ∷ front) rest all =
+    read_plain b (front ++ rest) (no_mark b (All-head (λ x. is_byte 92 x ≡ false) b front all))
+    ∙ ap (onto b) (plain front rest (All-tail (λ x. is_byte 92 x ≡ false) b front all)) ∙ front_onto b front (unescaped rest)
+
+pub all_plain : (text : List ℕ) → Nowhere (Passes (is_byte 92) text) 0 (length text) → unescaped text ≡ Ok text
+unfolding unescaped
+all_plain text none =
+    ap unescaped (sym (append-nil text)) ∙ plain text [] (absent 92 text none) ∙ ap Ok (append-nil text)
+
+module _ (text : List ℕ) (at : ℕ) (found : NoneBefore (Passes (is_byte 92) text) 0 (length text) at × Passes (is_byte 92) text at) where
+  high : at < length text
+  high = found.0.high
+
+  mark : get_or text at 0 ≡ 92
+  mark = eqb-true _ 92 found.1
+
+  before_mark : All (λ x. is_byte 92 x ≡ false) (take at text)
+  before_mark =
+      let long : length (take at text) ≡ at = length-take-le at text (omega (arith, high)) in
+      All-from_get_or (λ x. is_byte 92 x ≡ false) (take at text) 0 (λ i h.
+      let low : i < at = omega (arith, long) in ap (is_byte 92) (get_or-take at text i 0 low) ∙ refuted _ (found.0.before i (omega arith) low))
+
+  parts : take at text ++ 92 ∷ drop (at + 1) text ≡ text
+  parts = rw add-one (ap (λ b. take at text ++ b ∷ drop (suc at) text) (sym mark) ∙ ap (λ xs. take at text ++ xs) (sym (drop-cons text at 0 high)) ∙ take-append-drop at text)
+
+  read_from : unescaped text ≡ behind (take at text) (unescaped (92 ∷ drop (at + 1) text))
+  read_from = ap unescaped (sym parts) ∙ plain (take at text) (92 ∷ drop (at + 1) text) before_mark
+
+  -- a backslash at its end
+  pub read_last : length text ≤ at + 1 → unescaped text ≡ Err BadEscape
+  unfolding unescaped
+  read_last last = read_from ∙ ap (λ xs. behind (take at text) (unescaped (92 ∷ xs))) (drop_of_length-le text last)
+
+  -- an escape in the text
+  module _ (letter : ℕ) (next : letter ≡ at + 1) (more : letter < length text) where
+    rest : List ℕ
+    rest = take (length text - (letter + 1)) (drop (letter + 1) text)
+
+    meaning : Result ℕ PlayKind → Result (List ℕ) PlayKind
+    meaning byte = behind (take at text) (byte >>= (λ x. onto x (unescaped rest)))
+
+    read_escape : unescaped text ≡ meaning (meant_by (get_or text letter 0))
+    unfolding rest meaning
+    read_escape =
+        let cut : drop (at + 1) text ≡ get_or text letter 0 ∷ drop (letter + 1) text = rw (← next, add-one) (drop-cons text letter 0 more) in
+        read_from ∙ ap (λ xs. behind (take at text) (unescaped (92 ∷ xs))) (cut ∙ ap (λ xs. get_or text letter 0 ∷ xs) (sym (rest_whole text (letter + 1))))
+        ∙ ap (behind (take at text)) (read_mark (get_or text letter 0) rest)
+
+    pub read_refused : (kind : PlayKind) → meant_by (get_or text letter 0) ≡ Err kind → unescaped text ≡ Err kind
+    unfolding meaning
+    read_refused kind is = read_escape ∙ ap meaning is
+
+    pub read_meant : (b : ℕ) → meant_by (get_or text letter 0) ≡ Ok b → unescaped text ≡ behind (take at text) (onto b (unescaped (take (length text - (letter + 1)) (drop (letter + 1) text))))
+    unfolding meaning rest
+    read_meant b is = read_escape ∙ ap meaning is
 
 split : (b n : ℕ) (P : Type 0) → (b ≡ n → P) → (b ≢ n → P) → P
 split b n P same other =
@@ -73,22 +105,22 @@ split b n P same other =
     cases (eqb b n) refl
 
 ReadsBack : ℕ → List ℕ → Type 0
-ReadsBack b rest = unescaped_from false (escape b ++ rest) ≡ (unescaped_from false rest >>= (λ xs. Ok (b ∷ xs)))
+ReadsBack b rest = unescaped (escape b ++ rest) ≡ onto b (unescaped rest)
 
 escape_plain : (b : ℕ) → b ≢ 92 → b ≢ 10 → b ≢ 13 → escape b ≡ b ∷ []
 escape_plain b mark feed return = grind (arith, nat_tests)
 
 module _ (rest : List ℕ) where
   reads_mark : ReadsBack 92 rest
-  unfolding ReadsBack unescaped_from meant_by
+  unfolding ReadsBack unescaped meant_by
   reads_mark = refl
 
   reads_feed : ReadsBack 10 rest
-  unfolding ReadsBack unescaped_from meant_by
+  unfolding ReadsBack unescaped meant_by
   reads_feed = refl
 
   reads_return : ReadsBack 13 rest
-  unfolding ReadsBack unescaped_from meant_by
+  unfolding ReadsBack unescaped meant_by
   reads_return = refl
 
   reads_plain : (b : ℕ) → b ≢ 92 → b ≢ 10 → b ≢ 13 → ReadsBack b rest
@@ -104,6 +136,6 @@ module _ (rest : List ℕ) where
 
 -- what is written with escapes reads back
 pub unescaped-escaped : (bytes : List ℕ) → unescaped (escaped bytes) ≡ Ok bytes
-unfolding unescaped_from ReadsBack
+unfolding unescaped ReadsBack
 unescaped-escaped [] = refl
-unescaped-escaped (b ∷ bytes) = reads_back (escaped bytes) b ∙ ap (λ r. r >>= (λ xs. Ok (b ∷ xs))) (unescaped-escaped bytes)
+unescaped-escaped (b ∷ bytes) = reads_back (escaped bytes) b ∙ ap (onto b) (unescaped-escaped bytes)

@@ -1,24 +1,21 @@
 -- Steps of one job until it is answered.
-use Rattle.std.proofs.Common.{ℕ, zero, suc, ◌≡◌, ◌<◌, ◌≤◌, ◌+◌, ◌++◌, List, [], ◌∷◌, inl, inr, Option, Some, None, Bool, true, false, cond, is_some, Result, Ok, Err, refl, sym, ap, subst, ◌∙◌, length, arith, append_assoc, append-nil}
+use Rattle.std.proofs.Common.{ℕ, zero, suc, ◌≡◌, ◌<◌, ◌≤◌, ◌++◌, List, [], inl, inr, Option, Some, None, true, false, cond, is_some, Result, Ok, Err, refl, sym, ap, subst, ◌∙◌, length, arith, append_assoc, append-nil}
 use Rattle.std.proofs.lemmas.Option.{slice_get_cases}
 use Rattle.md_core.specs.declared.error.CoreError.{CoreError}
 use Rattle.md_core.specs.declared.error.CoreError.TheVariants.{Answered}
 use Rattle.md_core.specs.declared.jobs.answer.Answer.{Answer}
-use Rattle.md_core.specs.declared.jobs.task.Job.{Job}
-use Rattle.md_core.specs.Machine.{Machine, Marked, job_at}
+use Rattle.md_core.specs.Machine.{Machine, Standing, working, answered, job_at}
 use Rattle.md_core.specs.Runs.{Run, machine_of, jobs_of, and_event, answer_of, step_refusal, steps_left}
 use Rattle.md_core.proofs.Bounds.{left-exact}
 use Rattle.md_core.proofs.Events.{job_at-within, goes_on-exact, happens-turned}
 use Rattle.md_core.proofs.Places.{length-changed}
 use Rattle.md_core.proofs.Runs.{machine-and_event}
-use Rattle.md_script.specs.declared.refusal.LineRefusal.{LineRefusal}
-use Rattle.md_script.specs.declared.refusal.Stop.{Stop}
-use Rattle.md_script.specs.declared.refusal.Stop.TheVariants.{NoMemory, Refused}
+use Rattle.md_script.specs.declared.error.PlayKind.{PlayKind}
 use Rattle.md_script.specs.Step.{Steps}
-use Rattle.md_script.specs.Sessions.{unless_refused, stepped, finished, steps_of, before, at_moment, step_text}
+use Rattle.md_script.specs.Sessions.{stepped, finished, steps_of, before, at_moment, step_text}
 use Rattle.md_script.proofs.Acts.{is_done, was_done, refused_too}
 
-abbrev job_in : Run → ℕ → Option Job
+abbrev job_in : Run → ℕ → Option Standing
 job_in r job = job_at (jobs_of r) job
 
 -- there is a job of this number
@@ -26,21 +23,23 @@ pub record IsThere (r : Run) (job : ℕ) : Type 0 where
   pub from : 0 < job
   pub within : job ≤ length (jobs_of r)
 
-job_of : (jobs : List Job) (number : ℕ) → 0 < number → number ≤ length jobs → (job : Job) × (job_at jobs number ≡ Some job)
+job_of : (jobs : List Standing) (number : ℕ) → 0 < number → number ≤ length jobs → (job : Standing) × (job_at jobs number ≡ Some job)
 job_of jobs zero from within = absurd (omega arith)
 job_of jobs (suc i) from within = elim (slice_get_cases jobs i).1 [ inl is ↦ (is.0, is.2) | inr past ↦ absurd (let beyond = past.0 in omega arith) ]
 
 -- a job that is there goes on where it has no answer, and is refused where it has
-waits-by : (o : Option Job) (job : Job) → o ≡ Some job → answer_of o ≡ None → step_refusal o ≡ None
+waits-by : (o : Option Standing) (job : Standing) → o ≡ Some job → answer_of o ≡ None → step_refusal o ≡ None
 waits-by None job is none = cc
-waits-by (Some other) job is none = ap (λ (a : Option Answer). cond {A = Option CoreError} (is_some a) (Some Answered) None) none
+waits-by (Some (working task)) job is none = refl
+waits-by (Some (answered a)) job is none = cc
 
 pub waits : (r : Run) (job : ℕ) → IsThere r job → answer_of (job_in r job) ≡ None → step_refusal (job_in r job) ≡ None
 waits r job there none = let at = job_of (jobs_of r) job there.from there.within in waits-by (job_in r job) at.0 at.1 none
 
-ends-by : (o : Option Job) (a : Answer) → answer_of o ≡ Some a → step_refusal o ≡ Some Answered
+ends-by : (o : Option Standing) (a : Answer) → answer_of o ≡ Some a → step_refusal o ≡ Some Answered
 ends-by None a is = cc
-ends-by (Some job) a is = ap (λ (b : Option Answer). cond {A = Option CoreError} (is_some b) (Some Answered) None) is
+ends-by (Some (working task)) a is = cc
+ends-by (Some (answered b)) a is = refl
 
 -- a job that goes on is there, and stays there
 there-here : (r : Run) (job : ℕ) → step_refusal (job_in r job) ≡ None → IsThere r job
@@ -127,8 +126,8 @@ finishes-more r job now r' text r'' next f is less =
 
 pub finishes-end : (r : Run) (job now : ℕ) (r' : Run) (text : List ℕ) → Finishes r job now r' text → is_some (answer_of (job_in r' job)) ≡ true → finished r job now ≡ Ok (r', text)
 unfolding finished
-finishes-end r job now r' text f answered =
-    let a = answer_by (answer_of (job_in r' job)) answered in
+finishes-end r job now r' text f is_answered =
+    let a = answer_by (answer_of (job_in r' job)) is_answered in
     let last = step-none f.more r' job now Answered (ends-by (job_in r' job) a.0 a.1) in
     is_done (step_refusal (job_in r job)) _ f.goes_on ∙ ap Ok (f.rest ∙ ap (before text) last ∙ λ i. (r', append-nil text i))
   where
@@ -138,18 +137,17 @@ finishes-end r job now r' text f answered =
 
 -- a job that has no answer after some steps is not refused: memory ran out
 pub finishes-unrefused : {S : Type 0} (r : Run) (job now : ℕ) (r' : Run) (text : List ℕ) → Finishes r job now r' text → is_some (answer_of (job_in r' job)) ≡ false
-    → (step : Result (S × List ℕ) LineRefusal) (s : S) (t : Run) (more before after : List ℕ) (stop : Stop) → Steps (stepped r' job now) t more after (Err stop) → Steps step s before after (Err stop)
+    → (step : Result (S × List ℕ) PlayKind) (s : S) (t : Run) (more before after : List ℕ) (kind : PlayKind) → Steps (stepped r' job now) t more after (Err kind) → Steps step s before after (Err kind)
 unfolding stepped
-finishes-unrefused r job now r' text f unanswered step s t more before after NoMemory is = tt
-finishes-unrefused r job now r' text f unanswered step s t more before after (Refused e) is =
+finishes-unrefused r job now r' text f unanswered step s t more before after kind is = λ some.
     let goes_on = waits r' job f.there (none_by (answer_of (job_in r' job)) unanswered) in
     let done = is_done (step_refusal (job_in r' job)) (and_event r' (at_moment job now), step_text r' job now) goes_on in
-    absurd (let no = is.0 in cc)
+    absurd (let no = (is some).0 in cc)
   where
     none_by : (o : Option Answer) → is_some o ≡ false → o ≡ None
     none_by None is = refl
     none_by (Some a) is = cc
 
-pub finishes-refused : (r : Run) (job now : ℕ) (s t : Run) (text text' : List ℕ) (stop : Stop) → Steps (stepped r job now) s text text' (Err stop) → Steps (finished r job now) t text text' (Err stop)
+pub finishes-refused : (r : Run) (job now : ℕ) (s t : Run) (text text' : List ℕ) (kind : PlayKind) → Steps (stepped r job now) s text text' (Err kind) → Steps (finished r job now) t text text' (Err kind)
 unfolding stepped finished
-finishes-refused r job now s t text text' stop is = refused_too (step_refusal (job_in r job)) (and_event r (at_moment job now), step_text r job now) (steps_of (steps_left r job) r job now) s t text text' stop is
+finishes-refused r job now s t text text' kind is = refused_too (step_refusal (job_in r job)) (and_event r (at_moment job now), step_text r job now) (steps_of (steps_left r job) r job now) s t text text' kind is

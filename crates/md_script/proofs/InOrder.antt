@@ -14,7 +14,7 @@ use Rattle.md_dirs.specs.declared.paths.File.{File}
 use Rattle.md_dirs.specs.declared.paths.Place.{Place}
 use Rattle.md_dirs.specs.declared.paths.Place.TheVariants.{Tmp, New, Cur}
 use Rattle.md_dirs.proofs.PathOrder.{path_total, path_exact}
-use Rattle.md_name.specs.Names.{unique_of, info_of, flags_of, is_message_name}
+use Rattle.md_name.specs.Names.{unique_of, info_of, is_message_name}
 use Rattle.md_core.specs.Mailbox.{Entry, name_cmp, mailbox_of, bytes_of, is_tmp, entry_of, HasOnePath}
 use Rattle.md_core.proofs.Members.{Has, get-has, has-get}
 use Rattle.md_core.proofs.Found.{map-filter_map}
@@ -23,7 +23,7 @@ use Rattle.md_script.proofs.PutEach.{put_each-sorted, find-put_each, stays, arri
 use Rattle.md_script.proofs.Said.{said, named, sorted-picked, line-named}
 use Rattle.md_core.proofs.Shown.{Shows, mailbox-shows, shows-mailbox}
 use Rattle.md_script.specs.declared.listing.Message.{Message}
-use Rattle.md_script.specs.Sessions.{entries_in, listing_text}
+use Rattle.md_script.specs.Texts.{entries_in, listing_text}
 use Rattle.md_script.specs.Listing.{Named, listed, messages_of, put_each, listed_line}
 
 same_option : {X : Type 0} (a b : Option X) → ((x : X) → a ≡ Some x → b ≡ Some x) → ((x : X) → b ≡ Some x → a ≡ Some x) → a ≡ b
@@ -37,7 +37,7 @@ by_bool f false x = refl
 
 -- what a row of a name lists
 abbrev row_says : Place → List ℕ → Option File → Named
-row_says place name file = (unique_of name, record { place = place; flags = flags_of (info_of name); size = length (bytes_of file) })
+row_says place name file = (unique_of name, record { place = place; info = info_of name; size = length (bytes_of file) })
 
 listed-row : (place : Place) (name : List ℕ) (file : Option File) → listed place (row_by name file) ≡ cond (is_message_name name) (Some (row_says place name file)) None
 listed-row place name None = by_bool _ (is_message_name name) (unique_of name, info_of name)
@@ -100,7 +100,7 @@ module _ (s : State) (folder : ℕ) where
           entry = refl;
         };
         here = folder_is;
-        says = ap (λ (x : Place). record { place = x; flags = flags_of (info_of p.name); size = length (bytes_of (file_by s.files n)) }) place_is ∙ ap (λ (x : Named). x.1) pair;
+        says = ap (λ (x : Place). record { place = x; info = info_of p.name; size = length (bytes_of (file_by s.files n)) }) place_is ∙ ap (λ (x : Named). x.1) pair;
       }
 
   row-lists : (place : Place) → is_tmp place ≡ false → (u : List ℕ) (m : Message) → Has (rows_in place) (u, m) → Lists u m
@@ -121,8 +121,8 @@ module _ (s : State) (folder : ℕ) where
       let file : Option File = file_by s.files l.shows.file in
       let place_is : p.place ≡ place = ap (λ (e : Entry). e.place) l.shows.entry ∙ at in
       let folder_is : p.folder ≡ folder = ap (λ (e : Entry). e.folder) l.shows.entry ∙ l.here in
-      let says : ◌≡◌ {A = Message} (record { place = place; flags = flags_of (info_of p.name); size = length (bytes_of file) }) m =
-      ap (λ (x : Place). record { place = x; flags = flags_of (info_of p.name); size = length (bytes_of file) }) (sym place_is)
+      let says : ◌≡◌ {A = Message} (record { place = place; info = info_of p.name; size = length (bytes_of file) }) m =
+      ap (λ (x : Place). record { place = x; info = info_of p.name; size = length (bytes_of file) }) (sym place_is)
       ∙ ap said l.shows.entry ∙ l.says in
       let lists : listed place (row_of s.files (p, l.shows.file)) ≡ Some (u, m) =
       listed-row place p.name file

@@ -12,3 +12,6 @@ pub mod MadeOf
 pub mod PutEach
 pub mod Said
 pub mod InOrder
+pub mod Spelled
+pub mod Made
+pub mod Printing

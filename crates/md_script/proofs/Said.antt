@@ -2,15 +2,15 @@
 use Rattle.std.proofs.Common.{ℕ, ◌≡◌, List, [], ◌∷◌, ◌++◌, Bool, true, false, cond, T, ◌&&◌, map, filter, length, refl, ap}
 use Rattle.std.specs.List.{flat_map}
 use Rattle.std.specs.FinMap.Entries.{is_sorted, below_all}
-use Rattle.md_name.specs.Names.{info_by, flags_of}
+use Rattle.md_name.specs.Names.{info_by}
 use Rattle.md_core.specs.Mailbox.{Entry, name_cmp}
 use Rattle.md_script.specs.declared.listing.Message.{Message}
-use Rattle.md_script.specs.Sessions.{entry_line}
+use Rattle.md_script.specs.Texts.{entry_line}
 use Rattle.md_script.specs.Listing.{Named, listed_line}
 
 -- what a listing says of an entry
 abbrev pub said : Entry → Message
-said e = record { place = e.place; flags = flags_of (info_by e.info); size = length e.bytes }
+said e = record { place = e.place; info = info_by e.info; size = length e.bytes }
 
 abbrev pub named : List ℕ × Entry → Named
 named e = (e.0, said e.1)

@@ -1,8 +1,8 @@
 -- Readers in sequence: the first that fails names the refusal.
 use Rattle.std.specs.Prelude.{Result, Ok, Err}
-use Rattle.md_script.specs.declared.refusal.LineRefusal.{LineRefusal}
+use Rattle.md_script.specs.declared.error.PlayKind.{PlayKind}
 
 infixl 10 ◌>>=◌
-abbrev pub ◌>>=◌ : {A B : Type 0} → Result A LineRefusal → (A → Result B LineRefusal) → Result B LineRefusal
+abbrev pub ◌>>=◌ : {A B : Type 0} → Result A PlayKind → (A → Result B PlayKind) → Result B PlayKind
 (Ok x) >>= f = f x
-(Err refusal) >>= f = Err refusal
+(Err kind) >>= f = Err kind

@@ -1,8 +1,8 @@
 -- Bytes written in one line, with escapes.
-use Rattle.std.specs.Prelude.{ℕ, Bool, true, false, ◌==◌, List, [], ◌∷◌, Result, Ok, Err, if◌then◌else◌}
+use Rattle.std.specs.Prelude.{ℕ, ◌==◌, List, [], ◌∷◌, ◌++◌, Result, Ok, Err, if◌then◌else◌}
 use Rattle.std.specs.List.{flat_map}
-use Rattle.md_script.specs.declared.refusal.LineRefusal.{LineRefusal}
-use Rattle.md_script.specs.declared.refusal.LineRefusal.TheVariants.{BadEscape}
+use Rattle.md_script.specs.declared.error.PlayKind.{PlayKind}
+use Rattle.md_script.specs.declared.error.PlayKind.TheVariants.{BadEscape}
 use Rattle.md_script.specs.Bind.{◌>>=◌}
 
 -- a backslash, a line feed and a carriage return as two bytes each, and any other byte as it is
@@ -15,21 +15,22 @@ escape b =
 abbrev pub escaped : List ℕ → List ℕ
 escaped bytes = flat_map escape bytes
 
--- the byte that a backslash and a letter stand for
-unfoldable pub meant_by : ℕ → Result ℕ LineRefusal
+-- the byte that a backslash and a letter stand for: `\n` a line feed, `\r` a carriage return, `\\` a backslash
+unfoldable pub meant_by : ℕ → Result ℕ PlayKind
 meant_by letter =
     if letter == 110 then Ok 10
     else (if letter == 114 then Ok 13
     else (if letter == 92 then Ok 92 else Err BadEscape))
 
--- the bytes that a text stands for, behind a backslash or not
-unfoldable pub unescaped_from : Bool → List ℕ → Result (List ℕ) LineRefusal
-unescaped_from false [] = Ok []
-unescaped_from false (b ∷ text) =
-    if b == 92 then unescaped_from true text else (unescaped_from false text >>= (λ bytes. Ok (b ∷ bytes)))
-unescaped_from true [] = Err BadEscape
-unescaped_from true (letter ∷ text) =
-    meant_by letter >>= (λ b. unescaped_from false text >>= (λ bytes. Ok (b ∷ bytes)))
+abbrev pub onto : ℕ → Result (List ℕ) PlayKind → Result (List ℕ) PlayKind
+onto b read = read >>= (λ bytes. Ok (b ∷ bytes))
 
-abbrev pub unescaped : List ℕ → Result (List ℕ) LineRefusal
-unescaped text = unescaped_from false text
+-- the bytes that a text stands for: a backslash and the letter behind it are one byte, and any other byte is itself
+unfoldable pub unescaped : List ℕ → Result (List ℕ) PlayKind
+unescaped [] = Ok []
+unescaped (b ∷ []) = if b == 92 then Err BadEscape else Ok (b ∷ [])
+unescaped (b ∷ c ∷ text) = if b == 92 then (meant_by c >>= (λ x. onto x (unescaped text))) else onto b (unescaped (c ∷ text))
+
+-- bytes before those that a text stands for
+abbrev pub behind : List ℕ → Result (List ℕ) PlayKind → Result (List ℕ) PlayKind
+behind front read = read >>= (λ bytes. Ok (front ++ bytes))

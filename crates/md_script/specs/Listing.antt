@@ -10,7 +10,7 @@ use Rattle.md_dirs.specs.declared.rows.Row.{Row}
 use Rattle.md_name.specs.Names.{split_of, flags_of}
 use Rattle.md_core.specs.Mailbox.{name_cmp}
 use Rattle.md_script.specs.declared.listing.Message.{Message}
-use Rattle.md_script.specs.Sessions.{place_text, flags_text, line_end}
+use Rattle.md_script.specs.Texts.{place_text, flags_text, line_end}
 
 -- a unique name, with what a listing says of its message
 abbrev pub Named : Type 0
@@ -23,7 +23,7 @@ by_name entries = map (λ e. (e.0.now, e.1)) entries
 -- what a row of a directory lists, if it is a message's
 abbrev pub listed : Place → Row → Option Named
 listed place row =
-    option_map (λ parts. (parts.0, record { place = place; flags = flags_of parts.1; size = row.size })) (split_of row.name)
+    option_map (λ parts. (parts.0, record { place = place; info = parts.1; size = row.size })) (split_of row.name)
 
 -- the messages among the rows of a directory
 abbrev pub messages_of : Place → List Row → List Named
@@ -36,4 +36,5 @@ put_each entries (m ∷ messages) = put_each (put name_cmp m.0 m.1 entries) mess
 
 -- `PLACE UNIQUE FLAGS SIZE`
 abbrev pub listed_line : Named → List ℕ
-listed_line m = place_text m.1.place ++ codes " " ++ m.0 ++ codes " " ++ flags_text m.1.flags ++ codes " " ++ decimal m.1.size ++ line_end
+listed_line m =
+    place_text m.1.place ++ codes " " ++ m.0 ++ codes " " ++ flags_text (flags_of m.1.info) ++ codes " " ++ decimal m.1.size ++ line_end

@@ -1,37 +1,39 @@
--- What a whole play answers, and what it leaves in its reader and its writer.
-use Rattle.std.specs.Prelude.{◌≡◌, ℕ, List, length, Option, Some, None, Result, Ok, Err, option_map}
-use Rattle.std.specs.Io.KnownBytes.{Appends, Keeps}
-use Rattle.md_script.specs.declared.play_error.PlayKind.{PlayKind}
-use Rattle.md_script.specs.declared.play_error.PlayKind.TheVariants.{ReadFault, WriteFault, TooLong, TooManyReads, NoMemory}
-use Rattle.md_script.specs.declared.play_error.PlayError.{PlayError}
-use Rattle.md_script.specs.Kinds.{kind_of}
-use Rattle.md_script.specs.Reading.{IsWhole, GivesTooMuch, GoesOn}
-use Rattle.md_script.specs.Transcript.{Transcript}
+-- What a whole play answers, and what it leaves in its source and its sink.
+use Rattle.std.specs.Prelude.{◌≡◌, ℕ, ◌⊎◌, true, List, Option, Some, None, Result, Ok, Err}
+use Rattle.md_script.specs.declared.error.PlayKind.{PlayKind}
+use Rattle.md_script.specs.declared.error.PlayKind.TheVariants.{WriteFault, NoMemory}
+use Rattle.md_script.specs.declared.error.PlayError.{PlayError}
+use Rattle.md_script.specs.Sources.{Source}
+use Rattle.md_script.specs.Sinks.{Sink, Took, Untouched}
+use Rattle.md_script.specs.Reading.{IsWhole, Unread}
+use Rattle.md_script.specs.Sessions.{transcript}
 
 -- A whole script was read, what it prints was written, and this is its refusal.
-abbrev pub Ran : (List ℕ → Transcript) → Option (List ℕ) → Option (List ℕ) → Option (List ℕ) → Option (List ℕ) → Option (ℕ × PlayKind) → Type 0
-Ran transcript left left' held held' refusal =
-    (script : List ℕ) × IsWhole left left' script × Appends held held' (transcript script).text
-    × (option_map (λ at. (at.0, kind_of at.1)) (transcript script).refusal ≡ refusal)
+pub record Ran (old new : Source) (before after : Sink) (refusal : Option PlayError) : Type 0 where
+  pub script : List ℕ
+  pub whole : IsWhole old new script
+  pub written : Took before after (transcript script).text
+  pub refused : (transcript script).refusal ≡ refusal
 
--- Nothing was written, and no line is to blame.
-abbrev pub Stopped : Option (List ℕ) → Option (List ℕ) → ℕ → Type 0
-Stopped held held' line = Keeps held held' × (line ≡ 0)
+-- A whole script was read, and then a write failed.
+pub record Unwritten (old new : Source) (after : Sink) : Type 0 where
+  pub script : List ℕ
+  pub whole : IsWhole old new script
+  pub failed : after.has_failed ≡ true
 
-abbrev pub Refuses : (List ℕ → Transcript) → Option (List ℕ) → Option (List ℕ) → Option (List ℕ) → Option (List ℕ) → ℕ → PlayKind → Type 0
-Refuses transcript left left' held held' line ReadFault = Stopped held held' line
-Refuses transcript left left' held held' line TooLong = Stopped held held' line × GivesTooMuch left left'
-Refuses transcript left left' held held' line TooManyReads = Stopped held held' line × GoesOn left left'
-Refuses transcript left left' held held' line NoMemory = Stopped held held' line
-Refuses transcript left left' held held' line WriteFault = line ≡ 0
-Refuses transcript left left' held held' line kind = Ran transcript left left' held held' (Some (line, kind))
+-- No line is to blame: a write failed; or the script was not read whole, or memory was refused, and nothing was written.
+abbrev pub Stops : Source → Source → Sink → Sink → PlayKind → Type 0
+Stops old new before after WriteFault = Unwritten old new after
+Stops old new before after kind = Untouched before after × Unread old new kind
 
--- The answer of a play, from what its reader had left and its writer held, before and after, where these are known.
-abbrev pub Plays : (List ℕ → Transcript) → Option (List ℕ) → Option (List ℕ) → Option (List ℕ) → Option (List ℕ) → Result (Unit {0}) PlayError → Type 0
-Plays transcript left left' held held' (Ok done) = Ran transcript left left' held held' None
-Plays transcript left left' held held' (Err e) = Refuses transcript left left' held held' e.line e.kind
+-- The answer of a play. Lines are numbered from 1, so that the line 0 is none.
+abbrev pub Plays : Source → Source → Sink → Sink → Result (Unit {0}) PlayError → Type 0
+Plays old new before after (Ok done) = Ran old new before after None
+Plays old new before after (Err e) = Ran old new before after (Some e) ⊎ ((e.line ≡ 0) × Stops old new before after e.kind)
 
--- A text was written whole, or the writer failed.
-abbrev pub Writes : Option (List ℕ) → Option (List ℕ) → List ℕ → Result (Unit {0}) PlayKind → Type 0
-Writes held held' text (Ok done) = Appends held held' text
-Writes held held' text (Err kind) = kind ≡ WriteFault
+-- A text was written, or why it was not.
+abbrev pub Writes : Sink → Sink → List ℕ → Result (Unit {0}) PlayKind → Type 0
+Writes before after text (Ok done) = Took before after text
+Writes before after text (Err WriteFault) = after.has_failed ≡ true
+Writes before after text (Err NoMemory) = Untouched before after
+Writes before after text (Err other) = ⊥

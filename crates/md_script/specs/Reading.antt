@@ -1,9 +1,10 @@
 -- What reading a script whole comes to.
-use Rattle.std.specs.Prelude.{ℕ, ◌<◌, ◌≤◌, List, length, Option, Result, Ok, Err, vec_len}
+use Rattle.std.specs.Prelude.{◌≡◌, ℕ, ◌<◌, ◌≤◌, true, false, List, length, Result, Ok, Err}
 use Rattle.std.specs.Global.{Vec}
 use Rattle.std.specs.Io.KnownBytes.{Consumes, IsAtEnd}
-use Rattle.md_script.specs.declared.reading.ReadRefusal.{ReadRefusal}
-use Rattle.md_script.specs.declared.reading.ReadRefusal.TheVariants.{Fault, TooLong, TooManyReads, NoMemory}
+use Rattle.md_script.specs.declared.error.PlayKind.{PlayKind}
+use Rattle.md_script.specs.declared.error.PlayKind.TheVariants.{ReadFault, TooLong, TooManyReads, NoMemory}
+use Rattle.md_script.specs.Sources.{Source}
 
 -- the most bytes of a script
 abbrev pub most_bytes : ℕ
@@ -13,24 +14,40 @@ most_bytes = 67108864
 abbrev pub most_reads : ℕ
 most_reads = 1048576
 
--- the reader gave a script to its end, within the limit
-pub record IsWhole (old new : Option (List ℕ)) (script : List ℕ) : Type 0 where
-  pub given : Consumes old new script
-  pub ended : IsAtEnd new
+-- no read failed
+abbrev pub Sound : Source → Source → Type 0
+Sound old new = new.has_failed ≡ old.has_failed
+
+-- the source gave a script to its end, within the limit
+pub record IsWhole (old new : Source) (script : List ℕ) : Type 0 where
+  pub given : Consumes old.remaining new.remaining script
+  pub ended : IsAtEnd new.remaining
   pub within : length script ≤ most_bytes
+  pub sound : Sound old new
 
 -- More bytes were given than a script may have.
-abbrev pub GivesTooMuch : Option (List ℕ) → Option (List ℕ) → Type 0
-GivesTooMuch old new = (bytes : List ℕ) × Consumes old new bytes × (most_bytes < length bytes)
+pub record GivesTooMuch (old new : Source) : Type 0 where
+  pub bytes : List ℕ
+  pub given : Consumes old.remaining new.remaining bytes
+  pub beyond : most_bytes < length bytes
+  pub sound : Sound old new
 
--- Each of the reads gave a byte or more, and all of them no more than a script may have.
-abbrev pub GoesOn : Option (List ℕ) → Option (List ℕ) → Type 0
-GoesOn old new = (bytes : List ℕ) × Consumes old new bytes × (most_reads ≤ length bytes) × (length bytes ≤ most_bytes)
+-- So many reads were made without coming to an end: each gave a byte or more, unless one was interrupted.
+pub record GoesOn (old new : Source) : Type 0 where
+  pub bytes : List ℕ
+  pub given : Consumes old.remaining new.remaining bytes
+  pub within : length bytes ≤ most_bytes
+  pub each : new.was_interrupted ≡ false → most_reads ≤ length bytes
+  pub sound : Sound old new
 
--- what was answered, from what the reader had left before and after, where that is known
-abbrev pub ReadsWhole : Option (List ℕ) → Option (List ℕ) → Result (Vec ℕ) ReadRefusal → Type 0
+-- why a script was not read whole
+abbrev pub Unread : Source → Source → PlayKind → Type 0
+Unread old new ReadFault = new.has_failed ≡ true
+Unread old new TooLong = GivesTooMuch old new
+Unread old new TooManyReads = GoesOn old new
+Unread old new NoMemory = Sound old new
+Unread old new other = ⊥
+
+abbrev pub ReadsWhole : Source → Source → Result (Vec ℕ) PlayKind → Type 0
 ReadsWhole old new (Ok script) = IsWhole old new script.items
-ReadsWhole old new (Err Fault) = Unit {0}
-ReadsWhole old new (Err TooLong) = GivesTooMuch old new
-ReadsWhole old new (Err TooManyReads) = GoesOn old new
-ReadsWhole old new (Err NoMemory) = Unit {0}
+ReadsWhole old new (Err kind) = Unread old new kind

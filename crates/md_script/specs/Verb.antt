@@ -1,13 +1,32 @@
--- The first word of a command.
-use Rattle.std.specs.Prelude.{ℕ, List, Option, Some, None, if◌then◌else◌, codes}
+-- The first word of a command, what a line is read for, and whether the command can stand there.
+use Rattle.std.specs.Prelude.{ℕ, not, List, Option, Some, None, Result, Ok, Err, if◌then◌else◌, codes}
 use Rattle.std.specs.Str.{bytes_eq}
-use Rattle.md_script.specs.declared.command.Verb.{Verb}
-use Rattle.md_script.specs.declared.command.Verb.TheVariants.{Folder, Job, Step, Finish, List as Listing}
+use Rattle.md_script.specs.declared.error.PlayKind.{PlayKind}
+use Rattle.md_script.specs.declared.error.PlayKind.TheVariants.{BadCommand, TooLate, NotInThisRun}
+use Rattle.md_script.specs.declared.verb.Verb.{Verb}
+use Rattle.md_script.specs.declared.verb.Verb.TheVariants as verb
+use Rattle.md_script.specs.declared.verb.Mode.{Mode}
+use Rattle.md_script.specs.declared.verb.Mode.TheVariants.{Playing, SettingUp}
+use Rattle.md_script.specs.Words.{require}
 
 unfoldable pub verb_of : List ℕ → Option Verb
 verb_of word =
-    if bytes_eq word (codes "folder") then Some Folder
-    else (if bytes_eq word (codes "job") then Some Job
-    else (if bytes_eq word (codes "step") then Some Step
-    else (if bytes_eq word (codes "finish") then Some Finish
-    else (if bytes_eq word (codes "list") then Some Listing else None))))
+    if bytes_eq word (codes "folder") then Some verb.Folder
+    else (if bytes_eq word (codes "file") then Some verb.File
+    else (if bytes_eq word (codes "job") then Some verb.Job
+    else (if bytes_eq word (codes "step") then Some verb.Step
+    else (if bytes_eq word (codes "finish") then Some verb.Finish
+    else (if bytes_eq word (codes "list") then Some verb.List
+    else (if bytes_eq word (codes "unique") then Some verb.Unique
+    else (if bytes_eq word (codes "summary") then Some verb.Summary else None)))))))
+
+-- A command that can't stand here is refused before its other words are read: a folder is added before the store is loaded alone,
+-- and what only sets a store up has folders, files and, where they are allowed, jobs. A script that is played has no files yet.
+unfoldable pub admitted : Mode → Verb → Result (Unit {0}) PlayKind
+admitted (Playing is_loaded) verb.Folder = require (not is_loaded) TooLate
+admitted (Playing is_loaded) verb.File = Err BadCommand
+admitted (Playing is_loaded) other = Ok tt
+admitted (SettingUp with_jobs) verb.Folder = Ok tt
+admitted (SettingUp with_jobs) verb.File = Ok tt
+admitted (SettingUp with_jobs) verb.Job = require with_jobs NotInThisRun
+admitted (SettingUp with_jobs) other = Err NotInThisRun

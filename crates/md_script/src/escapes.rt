@@ -1,61 +1,81 @@
 //! The escapes of bytes that stand in one line.
-ghost use Rattle.std.specs.Prelude.{◌≡◌, ◌++◌, Ok, OnOk};
+ghost use Rattle.std.specs.Prelude.{◌≡◌, ◌<◌, ◌++◌, true, length, Ok, Err, OnOk, IfOk, IfSome, MatchResult, MatchOption};
 ghost use Rattle.md_script.specs.Words.{Gives};
-ghost use Rattle.md_script.specs.Escapes.{escaped, meant_by, unescaped};
+ghost use Rattle.md_script.specs.Escapes.{escape, escaped, meant_by, onto, behind, unescaped};
+ghost use Rattle.memchr.specs.Find.{is_byte3};
 
-use crate::refusal::{LineRefusal, Stop};
+use crate::error::PlayKind;
+use memchr::{memchr, memchr3};
 use std::alloc::{AllocError, Global};
 
 /// Appends bytes in one line: a backslash, a line feed and a carriage return as `\\`, `\n` and `\r`, and any other
 /// byte as it is. Where memory runs out, some of it may have been appended.
-pub fn push_escaped(out: &mut Vec<u8>, bytes: &[u8]) -> Result<(), AllocError>
-    ensures ok { OnOk result (out.new.items ≡ out.old.items ++ escaped bytes.now) }
-
-    // What is written reads back as the bytes.
-    ensures reads_back { unescaped (escaped bytes.now) ≡ Ok bytes.now }
+pub(crate) fn push_escaped(out: &mut Vec<u8>, bytes: &[u8]) -> Result<(), AllocError>
+    ensures { OnOk result (out.new.items ≡ out.old.items ++ escaped bytes.now) }
 {
-    for b in bytes {
-        match *b {
-            b'\\' => out.extend_from_slice(b"\\\\")?,
-            b'\n' => out.extend_from_slice(b"\\n")?,
-            b'\r' => out.extend_from_slice(b"\\r")?,
-            other => out.push(other)?,
-        }
+    let mut left = bytes;
+    while let Some(at) = memchr3(b'\\', b'\n', b'\r', left) {
+        out.extend_from_slice(&left[..at])?;
+        out.extend_from_slice(escape(left[at]))?;
+        left = &left[at + 1..];
     }
-    Ok(())
+    out.extend_from_slice(left)
+}
+
+/// A backslash, a line feed and a carriage return as two bytes each; other bytes are not written so.
+fn escape(byte: u8) -> &'static [u8]
+    requires { is_byte3 92 10 13 byte ≡ true }
+    ensures { result.now ≡ escape byte }
+{
+    match byte {
+        b'\\' => b"\\\\",
+        b'\n' => b"\\n",
+        _ => b"\\r",
+    }
 }
 
 /// The bytes that a text with escapes stands for.
-pub(crate) fn unescape(alloc: Global, text: &[u8]) -> Result<Vec<u8>, Stop>
+pub(crate) fn unescape(alloc: Global, text: &[u8]) -> Result<Vec<u8>, PlayKind>
     ensures { Gives (λ bytes. bytes.items) result (unescaped text.now) }
 {
     let mut bytes = Vec::with_capacity(alloc, text.len())?;
-    let mut is_letter = false;
-    for b in text {
-        if is_letter {
-            bytes.push(meant_by(*b)?)?;
-            is_letter = false;
-        } else if *b == b'\\' {
-            is_letter = true;
-        } else {
-            bytes.push(*b)?;
-        }
+    let mut left = text;
+    while let Some((plain, byte, others)) = cut_escape(left)? {
+        bytes.extend_from_slice(plain)?;
+        bytes.push(byte)?;
+        left = others;
     }
-    if is_letter {
-        return Err(Stop::Refused(LineRefusal::BadEscape));
-    }
+    bytes.extend_from_slice(left)?;
     Ok(bytes)
+}
+
+/// The bytes before the first escape of a text, the byte that it stands for, and what is left behind it; `None` where there is none.
+fn cut_escape(text: &[u8]) -> Result<Option<(&[u8], u8, &[u8])>, PlayKind>
+    ensures value { MatchResult result
+        (λ cut. MatchOption cut (unescaped text.now ≡ Ok text.now) (λ c. unescaped text.now ≡ behind c.0.now (onto c.1 (unescaped c.2.now))))
+        (λ kind. unescaped text.now ≡ Err kind) }
+    ensures shorter { IfOk result (λ cut. IfSome cut (λ c. length c.2.now < length text.now)) }
+{
+    let Some(at) = memchr(b'\\', text) else {
+        return Ok(None);
+    };
+    let letter = at + 1;
+    if letter >= text.len() {
+        return Err(PlayKind::BadEscape);
+    }
+    let byte = meant_by(text[letter])?;
+    Ok(Some((&text[..at], byte, &text[letter + 1..])))
 }
 
 /// The byte that a backslash and a letter stand for.
 #[tactic(auto, unfolding(crate::specs::Escapes::meant_by))]
-fn meant_by(letter: u8) -> Result<u8, LineRefusal>
+fn meant_by(letter: u8) -> Result<u8, PlayKind>
     ensures { result ≡ meant_by letter }
 {
     match letter {
         b'n' => Ok(b'\n'),
         b'r' => Ok(b'\r'),
         b'\\' => Ok(b'\\'),
-        _ => Err(LineRefusal::BadEscape),
+        _ => Err(PlayKind::BadEscape),
     }
 }

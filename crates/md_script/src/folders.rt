@@ -8,16 +8,16 @@ use std::alloc::{AllocError, Global};
 use std::marker::Model;
 
 /// The most folders that a script may name.
-pub const MOST_FOLDERS: usize = 64;
+pub(crate) const MOST_FOLDERS: usize = 64;
 
 /// The longest name of a folder, in bytes.
-pub const LONGEST_NAME: usize = 100;
+pub(crate) const LONGEST_NAME: usize = 100;
 
 const DOT: u8 = b'.';
 
 /// The names of a script's folders, at most `MOST_FOLDERS`, in the order in which they were named.
 #[derive(Drop)]
-pub struct Folders {
+pub(crate) struct Folders {
     alloc: Global,
     names: Vec<Vec<u8>>,
 }
@@ -32,7 +32,7 @@ impl Model for Folders {
 
 impl Folders {
     /// No folder.
-    pub fn new(alloc: Global) -> Self
+    pub(crate) fn new(alloc: Global) -> Self
         ensures { result ≡ [] }
     {
         Folders {
@@ -42,14 +42,14 @@ impl Folders {
     }
 
     /// How many folders there are.
-    pub fn count(&self) -> u32
+    pub(crate) fn count(&self) -> u32
         ensures { result ≡ length self.now }
     {
         self.names.len() as u32
     }
 
     /// The number of the folder with this name, counted from 0.
-    pub fn place(&self, name: &[u8]) -> Option<u32>
+    pub(crate) fn place(&self, name: &[u8]) -> Option<u32>
         ensures { result ≡ place_of self.now name.now }
     {
         let at = position(&self.names, name)?;
@@ -58,7 +58,7 @@ impl Folders {
 
     /// Whether a folder can be made under this name: it has at most `LONGEST_NAME` bytes, none of them a slash, a
     /// NUL or a carriage return, and doesn't begin with a dot, no folder has it, and there is room for one more.
-    pub fn can_add(&self, name: &[u8]) -> bool
+    pub(crate) fn can_add(&self, name: &[u8]) -> bool
         ensures { result ≡ can_add self.now name.now }
     {
         if name.len() > LONGEST_NAME || has_barred(name) {
@@ -70,8 +70,16 @@ impl Folders {
         self.place(name).is_none() && self.names.len() < MOST_FOLDERS
     }
 
+    /// The names, in their order. It takes no memory.
+    pub(crate) fn into_names(self) -> Vec<Vec<u8>>
+        ensures { names_of result.items ≡ self }
+    {
+        let Folders { alloc: _, names } = self;
+        names
+    }
+
     /// Adds a folder behind the others.
-    pub fn add(&mut self, name: &[u8]) -> Result<(), AllocError>
+    pub(crate) fn add(&mut self, name: &[u8]) -> Result<(), AllocError>
         requires { length self.old < MOST_FOLDERS }
         ensures ok { OnOk result (self.new ≡ self.old ++ name.now ∷ []) }
         ensures err { OnErr result (self.new ≡ self.old) }

@@ -1,30 +1,35 @@
-//! Scripts: their lines and words, the commands that these spell, and the play of a whole script over a session.
+//! Scripts: their lines and words, the commands that these spell, and what a whole script prints over a store, or sets up for another.
 #![tactic(auto)]
 
 mod chunk;
 mod command;
+mod digits;
+mod error;
 mod escapes;
 mod folders;
+pub mod laws;
 mod lines;
 mod listing;
 mod number;
-mod play_error;
 mod player;
 mod reading;
-mod refusal;
 mod run;
 mod session;
+mod setting;
+mod setup;
+mod sink;
+mod source;
 mod store;
+mod summary;
+mod verb;
 mod words;
 
-pub use command::{Command, read_command};
-pub use escapes::push_escaped;
-pub use folders::{Folders, LONGEST_NAME, MOST_FOLDERS};
-pub use play_error::{PlayError, PlayKind};
-pub use player::{play, play_session};
-pub use refusal::{LineRefusal, Stop};
-pub use session::Session;
-pub use store::StoreSession;
+pub use error::{PlayError, PlayKind};
+pub use player::{play, transcript};
+pub use run::Printed;
+pub use setup::{Setup, image};
+pub use sink::{Put, Sink, Writer};
+pub use source::{Got, Reader, Source};
 
 #[cfg(test)]
 mod tests;

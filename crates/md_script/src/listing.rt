@@ -3,14 +3,16 @@ ghost use Rattle.std.specs.Prelude.{◌≡◌, ◌++◌, OnOk, option_map};
 ghost use Rattle.std.specs.List.{flat_map};
 ghost use Rattle.md_dirs.specs.Rows.{row_shown, rows_of};
 ghost use Rattle.md_name.specs.Letters.{spelling};
+ghost use Rattle.md_name.specs.Names.{flags_of};
 ghost use Rattle.md_core.specs.Mailbox.{mailbox_of};
 ghost use Rattle.md_core.specs.Runs.{dirs_of};
-ghost use Rattle.md_script.specs.Sessions.{place_text, letters_text, flags_text, listing_text};
+ghost use Rattle.md_script.specs.Texts.{place_text, letters_text, flags_text, listing_text};
 ghost use Rattle.md_script.specs.Listing.{by_name, listed, messages_of, put_each, listed_line};
 
+use crate::digits::push_number;
 use md_core::World;
 use md_dirs::{Dirs, Place, RowRef};
-use md_name::{Flags, split};
+use md_name::{Flags, Info, split};
 use std::alloc::{AllocError, Global};
 use std::collections::BTreeMap;
 
@@ -24,8 +26,7 @@ const OTHER_INFO: u8 = b'?';
 #[derive(Clone, Copy)]
 struct Message {
     place: Place,
-    // None stands for other info than flags.
-    flags: Option<Flags>,
+    info: Info,
     // In bytes.
     size: u64,
 }
@@ -57,7 +58,8 @@ fn gather<'a, D: Dirs>(
     place: Place,
     messages: &mut BTreeMap<&'a [u8], Message>,
 ) -> Result<(), AllocError>
-    ensures { OnOk result (by_name messages.new.entries ≡ put_each (by_name messages.old.entries) (messages_of place (rows_of (dirs_of world.now) folder place))) }
+    ensures { OnOk result (by_name messages.new.entries
+        ≡ put_each (by_name messages.old.entries) (messages_of place (rows_of (dirs_of world.now) folder place))) }
 {
     for at in 0..usize::MAX {
         let Some(row) = world.names(folder, place, at) else {
@@ -82,7 +84,7 @@ fn listed(place: Place, row: RowRef<'_>) -> Option<(&[u8], Message)>
     };
     let message = Message {
         place,
-        flags: info.flags(),
+        info,
         size: row.size,
     };
     Some((unique, message))
@@ -115,9 +117,11 @@ fn push_line(
     out.push(b' ')?;
     out.extend_from_slice(unique)?;
     out.push(b' ')?;
-    push_flags(alloc, out, message.flags)?;
-    let size = format!(in alloc; " {}\n", message.size)?;
-    out.extend_from_slice(size.as_bytes())
+    push_flags(alloc, out, message.info)?;
+    out.push(b' ')?;
+    push_number(out, message.size)?;
+    out.push(b'\n')?;
+    Ok(())
 }
 
 /// The name of a directory of a maildir.
@@ -132,12 +136,14 @@ pub(crate) fn place_text(place: Place) -> &'static [u8]
 }
 
 /// Appends the flags of a message, or that its info is other than flags.
-fn push_flags(alloc: Global, out: &mut Vec<u8>, flags: Option<Flags>) -> Result<(), AllocError>
-    ensures { OnOk result (out.new.items ≡ out.old.items ++ flags_text flags) }
+#[tactic(auto, using(crate::proofs::Spelled::spelled_none))]
+fn push_flags(alloc: Global, out: &mut Vec<u8>, info: Info) -> Result<(), AllocError>
+    ensures { OnOk result (out.new.items ≡ out.old.items ++ flags_text (flags_of info)) }
 {
-    match flags {
-        Some(flags) => push_letters(alloc, out, flags)?,
-        None => out.push(OTHER_INFO)?,
+    match info {
+        Info::Bare => out.push(NO_FLAGS)?,
+        Info::Two(flags) => push_letters(alloc, out, flags)?,
+        Info::Opaque => out.push(OTHER_INFO)?,
     }
     Ok(())
 }

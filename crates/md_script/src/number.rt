@@ -2,25 +2,25 @@
 ghost use Rattle.std.specs.Prelude.{◌≡◌};
 ghost use Rattle.md_script.specs.Words.{number_of};
 
-use crate::refusal::LineRefusal;
+use crate::error::PlayKind;
 
 const MOST_DIGITS: usize = 20;
 
 const PLUS: u8 = b'+';
 
 /// The number that a word of 1 to 20 decimal digits spells; leading zeros are fine, and a sign is none.
-pub(crate) fn number(word: &[u8]) -> Result<u64, LineRefusal>
+pub(crate) fn number(word: &[u8]) -> Result<u64, PlayKind>
     ensures { result ≡ number_of word.now }
 {
     // `parse` takes a plus sign.
     if word.is_empty() || word.len() > MOST_DIGITS || word[0] == PLUS {
-        return Err(LineRefusal::BadNumber);
+        return Err(PlayKind::BadNumber);
     }
     let Ok(text) = str::from_utf8(word) else {
-        return Err(LineRefusal::BadNumber);
+        return Err(PlayKind::BadNumber);
     };
     match text.parse::<u64>() {
         Ok(n) => Ok(n),
-        Err(_) => Err(LineRefusal::BadNumber),
+        Err(_) => Err(PlayKind::BadNumber),
     }
 }

@@ -1,60 +1,54 @@
-//! A script from a reader, played to a writer.
-ghost use Rattle.md_script.specs.Transcript.{transcript_of};
+//! A script, played.
+ghost use Rattle.std.specs.Prelude.{◌+◌, ◌≤◌, IfOk};
 ghost use Rattle.md_script.specs.Sessions.{transcript};
+ghost use Rattle.md_script.specs.Printed.{Shows};
 ghost use Rattle.md_script.specs.Play.{Plays, Writes};
 
-use crate::play_error::{PlayError, PlayKind};
-use crate::reading::read_script;
-use crate::run::run;
-use crate::session::Session;
+use crate::error::{PlayError, PlayKind};
+use crate::reading::{MOST_READS, read_script};
+use crate::run::{Printed, run};
+use crate::sink::{Put, Sink};
+use crate::source::Source;
 use crate::store::StoreSession;
-use std::alloc::Global;
-use std::io::{Read, Write};
+use std::alloc::{AllocError, Global};
 
-/// Plays a script over the store: reads it whole, runs its lines up to the first that is refused, and writes what they
-/// print, the transcript of the script.
-///
-/// Its errors are those of `play_session`.
-pub fn play<R: Read, W: Write>(
-    alloc: Global,
-    reader: &mut R,
-    writer: &mut W,
-) -> Result<(), PlayError>
-    ensures { Plays transcript (R.remaining reader.old) (R.remaining reader.new) (W.contents writer.old) (W.contents writer.new) result }
-{
-    play_session(alloc, StoreSession::new(alloc), reader, writer)
-}
-
-/// Reads a script whole, runs it over a session up to the first line that is refused, and writes what it prints.
+/// Plays a script: reads it whole, in at most 1,048,576 reads, runs its lines over a store up to the first that is refused, and writes
+/// what they print.
 ///
 /// A refused line's error has its number and comes after what the lines before it print was written. The other errors
 /// have the line 0: `ReadFault`, `TooLong`, `TooManyReads` and `NoMemory`, after which nothing was written, and
 /// `WriteFault`, after which nothing is known of what was.
-pub fn play_session<S: Session + Drop, R: Read, W: Write>(
+pub fn play<S: Source, T: Sink>(
     alloc: Global,
-    mut session: S,
-    reader: &mut R,
-    writer: &mut W,
+    source: &mut S,
+    sink: &mut T,
 ) -> Result<(), PlayError>
-    ensures { Plays (transcript_of S.step session) (R.remaining reader.old) (R.remaining reader.new) (W.contents writer.old) (W.contents writer.new) result }
+    ensures play { Plays (S.state source.old) (S.state source.new) (T.state sink.old) (T.state sink.new) result }
+    ensures reads { (S.state source.new).reads ≤ (S.state source.old).reads + MOST_READS }
 {
-    let script = read_script(alloc, reader)?;
-    let printed = run(alloc, &mut session, &script)?;
-    write_whole(writer, &printed.text)?;
+    let script = read_script(alloc, source)?;
+    let printed = transcript(alloc, &script)?;
+    write_whole(sink, &printed.text)?;
     match printed.refusal {
         None => Ok(()),
-        Some((line, refusal)) => Err(PlayError {
-            line,
-            kind: PlayKind::from(refusal),
-        }),
+        Some(refused) => Err(refused),
     }
 }
 
-fn write_whole<W: Write>(writer: &mut W, text: &[u8]) -> Result<(), PlayKind>
-    ensures { Writes (W.contents writer.old) (W.contents writer.new) text.now result }
+/// The transcript of a script: what its lines print over a new store up to the first that is refused, and that line's refusal. The only
+/// error is want of memory.
+pub fn transcript(alloc: Global, script: &[u8]) -> Result<Printed, AllocError>
+    ensures { IfOk result (Shows (transcript script.now)) }
 {
-    if writer.write_all(text).is_err() || writer.flush().is_err() {
-        return Err(PlayKind::WriteFault);
+    run(alloc, &mut StoreSession::new(alloc), script)
+}
+
+fn write_whole<T: Sink>(sink: &mut T, text: &[u8]) -> Result<(), PlayKind>
+    ensures { Writes (T.state sink.old) (T.state sink.new) text.now result }
+{
+    match sink.put(text) {
+        Put::Done => Ok(()),
+        Put::Failed => Err(PlayKind::WriteFault),
+        Put::NoMemory => Err(PlayKind::NoMemory),
     }
-    Ok(())
 }

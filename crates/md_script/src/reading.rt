@@ -1,57 +1,41 @@
 //! A script, read whole.
-ghost use Rattle.std.specs.Prelude.{◌≡◌};
-ghost use Rattle.md_script.specs.declared.reading.ReadRefusal.TheVariants.{NoMemory};
+ghost use Rattle.std.specs.Prelude.{◌+◌, ◌≤◌};
 ghost use Rattle.md_script.specs.Reading.{ReadsWhole};
 
 use crate::chunk::{make_room, read_behind};
-use std::alloc::{AllocError, Global};
-use std::io::Read;
+use crate::error::PlayKind;
+use crate::source::{Got, Source};
+use std::alloc::Global;
 
 /// The most bytes of a script.
 pub(crate) const MOST_BYTES: usize = 67_108_864;
 
-/// The most reads that a script may take, of which the last gives nothing.
+/// The most reads that a script may take, of which the last gives nothing. A read that is tried again counts each time.
 pub(crate) const MOST_READS: u32 = 1_048_576;
 
-/// Why a script was not read to its end.
-#[derive(Clone, Copy, Debug, PartialEq, Eq)]
-pub(crate) enum ReadRefusal {
-    /// The reader failed.
-    Fault,
-    /// The script has more than `MOST_BYTES` bytes.
-    TooLong,
-    /// `MOST_READS` reads gave something, and no more than `MOST_BYTES` bytes.
-    TooManyReads,
-    NoMemory,
-}
-
-impl From<AllocError> for ReadRefusal {
-    ghost from_gives = { λ _ refusal. refusal ≡ NoMemory };
-
-    fn from(_refused: AllocError) -> ReadRefusal {
-        ReadRefusal::NoMemory
-    }
-}
-
-/// All that the reader gives, within the two limits.
-pub(crate) fn read_script<R: Read>(alloc: Global, reader: &mut R) -> Result<Vec<u8>, ReadRefusal>
-    ensures { ReadsWhole (R.remaining reader.old) (R.remaining reader.new) result }
+/// All that the source gives, within the two limits.
+pub(crate) fn read_script<S: Source>(alloc: Global, source: &mut S) -> Result<Vec<u8>, PlayKind>
+    ensures whole { ReadsWhole (S.state source.old) (S.state source.new) result }
+    ensures counted { (S.state source.new).reads ≤ (S.state source.old).reads + MOST_READS }
 {
     let mut script = Vec::new(alloc);
     let mut filled = 0;
     for _ in 0..MOST_READS {
         make_room(&mut script, filled)?;
-        let Ok(count) = read_behind(reader, &mut script, filled) else {
-            return Err(ReadRefusal::Fault);
-        };
-        if count == 0 {
-            script.truncate(filled);
-            return Ok(script);
+        match read_behind(source, &mut script, filled) {
+            Got::Bytes(count) => {
+                if count == 0 {
+                    script.truncate(filled);
+                    return Ok(script);
+                }
+                filled += count;
+            }
+            Got::Interrupted => {}
+            Got::Failed => return Err(PlayKind::ReadFault),
         }
-        filled += count;
         if filled > MOST_BYTES {
-            return Err(ReadRefusal::TooLong);
+            return Err(PlayKind::TooLong);
         }
     }
-    Err(ReadRefusal::TooManyReads)
+    Err(PlayKind::TooManyReads)
 }

@@ -2,22 +2,21 @@
 ghost use Rattle.std.specs.Prelude.{◌≡◌, ◌≤◌, length, IfOk};
 ghost use Rattle.md_script.specs.Step.{Steps, line_step};
 ghost use Rattle.md_script.specs.Transcript.{transcript_of};
-ghost use Rattle.md_script.specs.Printed.{shown};
+ghost use Rattle.md_script.specs.Printed.{Tells};
 
+use crate::error::{PlayError, PlayKind};
 use crate::lines::cut_line;
-use crate::reading::MOST_BYTES;
-use crate::refusal::{LineRefusal, Stop};
 use crate::session::Session;
 use std::alloc::{AllocError, Global};
 
 /// The byte that a line begins with that is passed over.
 const COMMENT: u8 = b'#';
 
-/// What a script printed, and the line that was refused, counted from 1.
-#[derive(Drop)]
-pub(crate) struct Printed {
+/// What a script printed, and the refusal of the line that its run ended at, if one was refused.
+#[derive(Debug, Drop)]
+pub struct Printed {
     pub text: Vec<u8>,
-    pub refusal: Option<(u64, LineRefusal)>,
+    pub refusal: Option<PlayError>,
 }
 
 /// Runs the lines of a script up to the first that is refused. The only error is want of memory.
@@ -26,23 +25,25 @@ pub(crate) fn run<S: Session>(
     session: &mut S,
     script: &[u8],
 ) -> Result<Printed, AllocError>
-    requires { length script.now ≤ MOST_BYTES }
-    ensures { IfOk result (λ printed. shown printed ≡ transcript_of S.step session.old script.now) }
+    ensures { IfOk result (λ printed. Tells (transcript_of S.step session.old script.now) printed session.new) }
 {
     let mut text = Vec::new(alloc);
     let mut left = script;
-    let mut line = 1u64;
+    let mut passed = 0u64;
     while let Some((first, others)) = cut_line(left) {
         match run_line(session, first, &mut text) {
             Ok(()) => {}
-            Err(Stop::NoMemory) => return Err(AllocError),
-            Err(Stop::Refused(refusal)) => {
-                let refusal = Some((line, refusal));
-                return Ok(Printed { text, refusal });
-            }
+            Err(kind) => match kind {
+                PlayKind::NoMemory => return Err(AllocError),
+                _ => {
+                    let line = passed + 1;
+                    let refusal = Some(PlayError { line, kind });
+                    return Ok(Printed { text, refusal });
+                }
+            },
         }
         left = others;
-        line += 1;
+        passed += 1;
     }
     Ok(Printed {
         text,
@@ -52,7 +53,7 @@ pub(crate) fn run<S: Session>(
 
 /// Runs a line, unless it is passed over.
 #[tactic(auto, unfolding(crate::specs::Step::line_step))]
-fn run_line<S: Session>(session: &mut S, line: &[u8], out: &mut Vec<u8>) -> Result<(), Stop>
+fn run_line<S: Session>(session: &mut S, line: &[u8], out: &mut Vec<u8>) -> Result<(), PlayKind>
     ensures { Steps (line_step S.step session.old line.now) session.new out.old.items out.new.items result }
 {
     if line.is_empty() || line[0] == COMMENT {

@@ -7,4 +7,5 @@ mod limits;
 mod lines;
 mod listing;
 mod rows;
+mod setups;
 mod texts;

@@ -3,9 +3,9 @@ ghost use Rattle.std.specs.Prelude.{◌≡◌, ◌<◌, length, IfOk};
 ghost use Rattle.std.specs.Option.{option_copied};
 ghost use Rattle.md_script.specs.Words.{Gives, Reads, cut_at_space, word_at, end_at, number_at, body_at};
 
+use crate::error::PlayKind;
 use crate::escapes::unescape;
 use crate::number::number;
-use crate::refusal::{LineRefusal, Stop};
 use memchr::memchr;
 use std::alloc::Global;
 
@@ -14,16 +14,16 @@ pub(crate) type Rest<'a> = Option<&'a [u8]>;
 
 /// The next word, which isn't empty. Exactly one space parts two words.
 #[tactic(auto, unfolding(crate::specs::Words::word_at))]
-pub(crate) fn word(rest: Rest<'_>) -> Result<(&[u8], Rest<'_>), LineRefusal>
+pub(crate) fn word(rest: Rest<'_>) -> Result<(&[u8], Rest<'_>), PlayKind>
     ensures value { Reads (λ word. word.now) result (word_at (option_copied rest.entry)) }
     ensures nonempty { IfOk result (λ read. 0 < length read.0.now) }
 {
     let Some(text) = rest else {
-        return Err(LineRefusal::BadCommand);
+        return Err(PlayKind::BadCommand);
     };
     let (word, rest) = cut_word(text);
     if word.is_empty() {
-        return Err(LineRefusal::BadCommand);
+        return Err(PlayKind::BadCommand);
     }
     Ok((word, rest))
 }
@@ -39,18 +39,18 @@ fn cut_word(text: &[u8]) -> (&[u8], Rest<'_>)
 
 /// Refuses a word too many.
 #[tactic(auto, unfolding(crate::specs::Words::end_at))]
-pub(crate) fn end(rest: Rest<'_>) -> Result<(), LineRefusal>
+pub(crate) fn end(rest: Rest<'_>) -> Result<(), PlayKind>
     ensures { result ≡ end_at (option_copied rest.entry) }
 {
     match rest {
         None => Ok(()),
-        Some(_) => Err(LineRefusal::BadCommand),
+        Some(_) => Err(PlayKind::BadCommand),
     }
 }
 
 /// The next word as a number.
 #[tactic(auto, unfolding(crate::specs::Words::number_at))]
-pub(crate) fn number_word(rest: Rest<'_>) -> Result<(u64, Rest<'_>), LineRefusal>
+pub(crate) fn number_word(rest: Rest<'_>) -> Result<(u64, Rest<'_>), PlayKind>
     ensures { Reads (λ n. n) result (number_at (option_copied rest.entry)) }
 {
     let (word, rest) = word(rest)?;
@@ -60,7 +60,7 @@ pub(crate) fn number_word(rest: Rest<'_>) -> Result<(u64, Rest<'_>), LineRefusal
 
 /// The rest of the line, which may hold spaces, with its escapes read; empty where it is left out.
 #[tactic(auto, unfolding(crate::specs::Words::body_at))]
-pub(crate) fn body(alloc: Global, rest: Rest<'_>) -> Result<Vec<u8>, Stop>
+pub(crate) fn body(alloc: Global, rest: Rest<'_>) -> Result<Vec<u8>, PlayKind>
     ensures { Gives (λ bytes. bytes.items) result (body_at (option_copied rest.entry)) }
 {
     match rest {

@@ -1,5 +1,5 @@
 -- Bytes added to a file in tmp that has no other name.
-use Rattle.std.proofs.Common.{ℕ, ◌≡◌, ◌≢◌, ◌++◌, inr, List, Option, Some, None, refl, ap, ◌∙◌, IsSome}
+use Rattle.std.proofs.Common.{ℕ, ◌≡◌, ◌≢◌, ◌++◌, inl, inr, List, Option, Some, None, refl, ap, ◌∙◌, IsSome}
 use Rattle.md_dirs.specs.State.{State, file_at, IsSound, file_by}
 use Rattle.md_dirs.specs.Calls.{appended, grown}
 use Rattle.md_dirs.specs.declared.paths.Path.{Path}
@@ -45,7 +45,7 @@ module _ (s : State) (tmp : Path) (now : ℕ) (more bytes : List ℕ) (n : ℕ) 
   append-frame = record {
     names = λ q not. refl;
     bytes = λ q m not at. bytes_other m (beside q m (other_key q tmp tmp.name (tmp-key tmp in_tmp) not) at);
-    origin = λ q m is at. inr (q, is, at);
+    origin = λ q m is at. inr (q, inl is, at);
   }
 
   pub append-alone : IsAlone after tmp (bytes ++ more)

@@ -1,5 +1,5 @@
 -- A name made in tmp, one that no path uses.
-use Rattle.std.proofs.Common.{ℕ, ◌≡◌, ◌≢◌, inl, inr, [], Some, None, refl, sym, ap, ◌∙◌, length}
+use Rattle.std.proofs.Common.{ℕ, ◌≡◌, ◌≢◌, ◌<◌, inl, inr, [], Some, None, refl, sym, ap, ◌∙◌, length}
 use Rattle.md_dirs.specs.State.{State, file_at, IsSound}
 use Rattle.md_dirs.specs.Calls.{created}
 use Rattle.md_dirs.specs.declared.paths.Path.{Path}
@@ -44,11 +44,11 @@ module _ (s : State) (tmp : Path) (now : ℕ) (in_tmp : tmp.place ≡ Tmp) (soun
     bytes = λ q m not at. bytes q m at;
     origin = λ q m is at. by_path q tmp
         (λ same. let number : length s.files ≡ m = (let h = here q same in cc) in inl (λ r atr. new_number s sound r (atr ∙ ap Some (sym number))))
-        (λ not. inr (q, is, sym (beside q not) ∙ at));
+        (λ not. inr (q, inl is, sym (beside q not) ∙ at));
   }
 
-  pub create-sound : IsSound after
-  create-sound = sound-created s sound tmp now was_not
+  pub create-sound : tmp.folder < s.folders → IsSound after
+  create-sound within = sound-created s sound tmp now within was_not
 
   pub create-alone : IsAlone after tmp []
   create-alone = record {

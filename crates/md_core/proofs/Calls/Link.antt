@@ -1,17 +1,16 @@
--- A file in tmp linked to a message of its name, where no message has the name.
-use Rattle.std.proofs.Common.{ℕ, ◌≡◌, ◌≢◌, inl, inr, List, Some, None, true, refl, sym, ap, ◌∙◌}
+-- A file in tmp linked to a message of its name, or a message's to a message of another, where no message has the name.
+use Rattle.std.proofs.Common.{ℕ, ◌≡◌, ◌≢◌, ◌<◌, ◌⊎◌, inl, inr, List, Some, None, true, refl, sym, ap, ◌∙◌}
 use Rattle.md_dirs.specs.State.{State, file_at, IsSound}
 use Rattle.md_dirs.specs.Calls.{named}
 use Rattle.md_dirs.specs.declared.paths.Path.{Path}
-use Rattle.md_dirs.specs.declared.paths.Place.TheVariants.{Tmp}
 use Rattle.md_dirs.proofs.PathOrder.{path_total, path_exact}
 use Rattle.md_dirs.proofs.Maps as maps
 use Rattle.md_dirs.proofs.Sound.{by_path, sound-named}
 use Rattle.md_name.specs.Names.{unique_of}
 use Rattle.md_core.specs.Mailbox.{is_message}
-use Rattle.md_core.proofs.Good.{bytes_at, HasNoMessage, IsAlone, HoldsWhole}
+use Rattle.md_core.proofs.Good.{key_of, bytes_at, HasNoMessage}
 use Rattle.md_core.proofs.Changes.{Puts}
-use Rattle.md_core.proofs.Frames.{Frame, message-key, tmp-key, other_key}
+use Rattle.md_core.proofs.Frames.{Frame, message-key, other_key}
 use Rattle.md_core.proofs.Spares.{Spares, spares-one}
 
 -- the message of a name is at a path, and holds these bytes
@@ -21,11 +20,11 @@ pub record Lands (s s' : State) (u : List ℕ) (new : Path) (n : ℕ) (bytes : L
   pub spares : Spares s s'
   pub puts : Puts s s' new n
   pub holds : bytes_at s' n ≡ bytes
-  pub whole : HoldsWhole s' u bytes
 
-module _ (s : State) (tmp new : Path) (bytes : List ℕ) (n : ℕ) (in_tmp : tmp.place ≡ Tmp) (sound : IsSound s)
-    (there : file_at s tmp ≡ Some n) (alone : IsAlone s tmp bytes)
-    (none : HasNoMessage s tmp.name) (message : is_message new ≡ true) (name : unique_of new.name ≡ tmp.name) where
+-- the old path is one of the name, or of a message
+module _ (s : State) (old new : Path) (u bytes : List ℕ) (n : ℕ) (from : (key_of old ≡ u) ⊎ (is_message old ≡ true)) (sound : IsSound s)
+    (within : new.folder < s.folders) (there : file_at s old ≡ Some n) (holds : bytes_at s n ≡ bytes)
+    (none : HasNoMessage s u) (message : is_message new ≡ true) (name : unique_of new.name ≡ u) where
   abbrev after : State
   after = named new s (Some n)
 
@@ -50,22 +49,17 @@ module _ (s : State) (tmp new : Path) (bytes : List ℕ) (n : ℕ) (in_tmp : tmp
     bytes = λ q _ m at. refl;
   }
 
-  link-frame : Frame s after tmp.name
+  link-frame : Frame s after u
   link-frame = record {
-    names = λ q not. beside q (other_key q new tmp.name (message-key new message ∙ name) not);
+    names = λ q not. beside q (other_key q new u (message-key new message ∙ name) not);
     bytes = λ q m not at. refl;
     origin = λ q m is at. by_path q new
-        (λ same. let number : n ≡ m = (let h = here q same in cc) in inr (tmp, tmp-key tmp in_tmp, there ∙ ap Some number))
-        (λ not. inr (q, is, sym (beside q not) ∙ at));
+        (λ same. let number : n ≡ m = (let h = here q same in cc) in inr (old, from, there ∙ ap Some number))
+        (λ not. inr (q, inl is, sym (beside q not) ∙ at));
   }
 
   link-sound : IsSound after
-  link-sound = sound-named s sound new tmp n was_not there
+  link-sound = sound-named s sound new old n within was_not there
 
-  link-whole : HoldsWhole after tmp.name bytes
-  link-whole q m other is at = by_path q new
-      (λ same. let number : m ≡ n = (let h = here q same in cc) in ap (bytes_at s) number ∙ alone.holds n there)
-      (λ not. let gone = none q other is in let back = sym (beside q not) ∙ at in cc)
-
-  pub link-lands : Lands s after tmp.name new n bytes
-  link-lands = record { frame = link-frame; sound = link-sound; spares = link-spares; puts = link-puts; holds = alone.holds n there; whole = link-whole }
+  pub link-lands : Lands s after u new n bytes
+  link-lands = record { frame = link-frame; sound = link-sound; spares = link-spares; puts = link-puts; holds = holds }

@@ -1,6 +1,5 @@
 -- A message taken away.
-use Rattle.std.proofs.Common.{ℕ, ◌≡◌, ◌≢◌, inr, List, Option, Some, None, true, refl, sym, ap, ◌∙◌}
-use Rattle.std.specs.FinMap as finmap
+use Rattle.std.proofs.Common.{ℕ, ◌≡◌, ◌≢◌, inl, inr, List, Option, Some, None, true, refl, sym, ap, ◌∙◌}
 use Rattle.md_dirs.specs.State.{State, file_at, IsSound}
 use Rattle.md_dirs.specs.Calls.{unnamed, without}
 use Rattle.md_dirs.specs.declared.paths.Path.{Path}
@@ -8,14 +7,11 @@ use Rattle.md_dirs.proofs.PathOrder.{path_total, path_exact}
 use Rattle.md_dirs.proofs.Maps as maps
 use Rattle.md_dirs.proofs.Sound.{by_path, swept-kept, sound-without}
 use Rattle.md_name.specs.Names.{unique_of}
-use Rattle.md_core.specs.Mailbox.{mailbox_of, is_message, bytes_of, HasOnePath}
-use Rattle.md_core.specs.History.{names_of}
-use Rattle.md_core.proofs.Good.{bytes_at, HoldsWhole}
-use Rattle.md_core.proofs.Changes.{Drops, one-drops}
+use Rattle.md_core.specs.Mailbox.{is_message, bytes_of, HasOnePath}
+use Rattle.md_core.proofs.Good.{bytes_at}
+use Rattle.md_core.proofs.Changes.{Drops}
 use Rattle.md_core.proofs.Frames.{Frame, message-key, other_key}
 use Rattle.md_core.proofs.Spares.{Spares, spares-one}
-use Rattle.md_core.proofs.Named.{names-at}
-use Rattle.md_core.proofs.NameChanges.{same_names, size-none, size-same}
 
 module _ (s : State) (p : Path) (k : ℕ) (one : HasOnePath s) (message : is_message p ≡ true) (at : file_at s p ≡ Some k) where
   abbrev after : State
@@ -52,7 +48,7 @@ module _ (s : State) (p : Path) (k : ℕ) (one : HasOnePath s) (message : is_mes
   remove-frame = record {
     names = λ q not. beside q (other_key q p (unique_of p.name) (message-key p message) not);
     bytes = λ q m not there. bytes q m (other_key q p (unique_of p.name) (message-key p message) not) there;
-    origin = λ q m is there. inr (q, is, before q m there);
+    origin = λ q m is there. inr (q, inl is, before q m there);
   }
 
   pub remove-sound : IsSound s → IsSound after
@@ -60,12 +56,3 @@ module _ (s : State) (p : Path) (k : ℕ) (one : HasOnePath s) (message : is_mes
 
   pub remove-spares : Spares s after
   remove-spares = spares-one s after p refl beside (inr (here p refl)) (inr message)
-
-  pub remove-whole : (whole : List ℕ) → HoldsWhole after (unique_of p.name) whole
-  remove-whole whole q m other is there = let none = remove-drops.gone q other is in cc
-
-  pub remove-names : names_of (mailbox_of after) ≡ finmap.remove (names_of (mailbox_of s)) p
-  remove-names = same_names _ _ (λ q. names-at after (one-drops s after (unique_of p.name) one remove-drops) q ∙ by_path q p
-      (λ is. size-none after q (λ m. here q is) ∙ sym (maps.at_drop path_total path_exact (names_of (mailbox_of s)) p q is))
-      (λ not. size-same s after q (λ m j there. bytes q j not there) (λ m. beside q not) ∙ sym (names-at s one q)
-      ∙ sym (maps.beside_drop path_total path_exact (names_of (mailbox_of s)) p q not)))

@@ -1,7 +1,6 @@
 -- A message moved to another path of its unique name, whatever call did it.
-use Rattle.std.proofs.Common.{ℕ, ◌≡◌, ◌≢◌, inl, inr, List, Option, Some, None, true, false, cond, length, refl, sym, ap, subst, ◌∙◌, unwrap_or}
+use Rattle.std.proofs.Common.{ℕ, ◌≡◌, ◌≢◌, ◌<◌, inl, inr, List, Option, Some, None, true, false, cond, refl, sym, ap, subst, ◌∙◌}
 use Rattle.std.specs.FinMap as finmap
-use Rattle.std.specs.FinMap.{get}
 use Rattle.md_dirs.specs.State.{State, file_at, IsSound}
 use Rattle.md_dirs.specs.Calls.{moved, named, unnamed, swept, is_one_file}
 use Rattle.md_dirs.specs.declared.paths.Path.{Path}
@@ -9,15 +8,11 @@ use Rattle.md_dirs.proofs.PathOrder.{path_total, path_exact}
 use Rattle.md_dirs.proofs.Maps as maps
 use Rattle.md_dirs.proofs.Sound.{by_path, sound-moved}
 use Rattle.md_name.specs.Names.{unique_of}
-use Rattle.md_core.specs.Mailbox.{mailbox_of, is_message, HasOnePath}
-use Rattle.md_core.specs.History.{Names, names_of}
-use Rattle.md_core.proofs.Good.{key_of, bytes_at, HoldsWhole}
-use Rattle.md_core.proofs.Changes.{Puts, one-puts}
+use Rattle.md_core.specs.Mailbox.{is_message, HasOnePath}
+use Rattle.md_core.proofs.Good.{key_of}
+use Rattle.md_core.proofs.Changes.{Puts}
 use Rattle.md_core.proofs.Frames.{Frame, message-key, other_key}
 use Rattle.md_core.proofs.Spares.{Spares, spares-by}
-use Rattle.md_core.proofs.Named.{sized, size_at, names-at}
-use Rattle.md_core.proofs.NameChanges.{same_names, size-none, size-same}
-use Rattle.md_core.proofs.Nowhere.{named-there}
 
 -- the state after a rename to a path that is not there, by its parts
 abbrev pub shifted : Path → Path → State → ℕ → State
@@ -76,42 +71,14 @@ module _ (s : State) (o n : Path) (k : ℕ) (one : HasOnePath s) (mo : is_messag
     names = λ q not. beside q (other_key q n (unique_of n.name) key_n not) (other_key q o (unique_of n.name) key_o not);
     bytes = λ q m not there. refl;
     origin = λ q m is there. by_path q n
-        (λ isn. let number : k ≡ m = (let h = here q isn in cc) in inr (o, key_o, at ∙ ap Some number))
-        (λ notn. by_path q o (λ iso. let h = gone q notn iso in cc) (λ noto. inr (q, is, sym (beside q notn noto) ∙ there)));
+        (λ isn. let number : k ≡ m = (let h = here q isn in cc) in inr (o, inl key_o, at ∙ ap Some number))
+        (λ notn. by_path q o (λ iso. let h = gone q notn iso in cc) (λ noto. inr (q, inl is, sym (beside q notn noto) ∙ there)));
   }
 
-  pub rename-sound : IsSound s → IsSound after
-  rename-sound sound = subst IsSound moved-is (sound-moved s sound o n k at)
+  pub rename-sound : n.folder < s.folders → IsSound s → IsSound after
+  rename-sound within sound = subst IsSound moved-is (sound-moved s sound o n k within at)
 
   pub rename-spares : Spares s after
   rename-spares = spares-by s after refl (λ q. by_path q n
       (λ isn. inr (inr (ap is_message isn ∙ mn), inl (ap (file_at s) isn ∙ target-free)))
       (λ notn. by_path q o (λ iso. inr (inr (ap is_message iso ∙ mo), inr (gone q notn iso))) (λ noto. inl (beside q notn noto))))
-
-  pub rename-whole : (bytes : List ℕ) → HoldsWhole s (unique_of n.name) bytes → HoldsWhole after (unique_of n.name) bytes
-  rename-whole bytes h q m message is there = by_path q n
-      (λ isn. let number : m ≡ k = (let e = here q isn in cc) in ap (bytes_at s) number ∙ h o k mo same at)
-      (λ notn. by_path q o (λ iso. let e = gone q notn iso in cc) (λ noto. h q m message is (sym (beside q notn noto) ∙ there)))
-
-  -- the names before
-  abbrev names : Names
-  names = names_of (mailbox_of s)
-
-  abbrev renamed : Names
-  renamed = finmap.insert (finmap.remove names o) n (unwrap_or (get names o) 0)
-
-  new_name : (q : Path) → q ≡ n → get renamed q ≡ Some (length (bytes_at s k))
-  new_name q is = maps.at_put path_total path_exact (finmap.remove names o) n q (unwrap_or (get names o) 0) is ∙ ap (λ x. Some (unwrap_or x 0)) (named-there s one o k mo at)
-
-  old_name : (q : Path) → q ≢ n → q ≡ o → get renamed q ≡ None
-  old_name q not is = maps.beside_put path_total path_exact (finmap.remove names o) n q (unwrap_or (get names o) 0) not ∙ maps.at_drop path_total path_exact names o q is
-
-  other_name : (q : Path) → q ≢ n → q ≢ o → get renamed q ≡ get names q
-  other_name q notn noto = maps.beside_put path_total path_exact (finmap.remove names o) n q (unwrap_or (get names o) 0) notn ∙ maps.beside_drop path_total path_exact names o q noto
-
-  pub rename-names : names_of (mailbox_of after) ≡ finmap.insert (finmap.remove (names_of (mailbox_of s)) o) n (unwrap_or (get (names_of (mailbox_of s)) o) 0)
-  rename-names = same_names _ renamed (λ q. names-at after (one-puts s after n k one rename-puts) q ∙ by_path q n
-      (λ isn. ap (size_at after) isn ∙ (λ i. cond (mn i) (sized after (here n refl i)) None) ∙ sym (new_name q isn))
-      (λ notn. by_path q o
-      (λ iso. size-none after q (λ m. gone q notn iso) ∙ sym (old_name q notn iso))
-      (λ noto. size-same s after q (rename-puts.bytes q) (λ m. beside q notn noto) ∙ sym (names-at s one q) ∙ sym (other_name q notn noto))))

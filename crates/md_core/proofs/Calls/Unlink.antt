@@ -8,7 +8,7 @@ use Rattle.md_dirs.proofs.PathOrder.{path_total, path_exact}
 use Rattle.md_dirs.proofs.Maps as maps
 use Rattle.md_dirs.proofs.Sound.{by_path, swept-kept, sound-without}
 use Rattle.md_core.specs.Mailbox.{is_tmp, bytes_of}
-use Rattle.md_core.proofs.Good.{bytes_at, HasNoMessage, HoldsWhole}
+use Rattle.md_core.proofs.Good.{bytes_at, HasNoMessage}
 use Rattle.md_core.proofs.Changes.{Keeps}
 use Rattle.md_core.proofs.Frames.{Frame, tmp-key, not_tmp, other_key}
 use Rattle.md_core.proofs.Spares.{Spares, spares-one}
@@ -42,7 +42,7 @@ module _ (s : State) (tmp : Path) (in_tmp : tmp.place ≡ Tmp) (sound : IsSound 
     bytes = λ q m not at. bytes q m (other_key q tmp tmp.name (tmp-key tmp in_tmp) not) at;
     origin = λ q m is at. by_path q tmp
         (λ same. let h = here q same in cc)
-        (λ not. inr (q, is, sym (beside q not) ∙ at));
+        (λ not. inr (q, inl is, sym (beside q not) ∙ at));
   }
 
   pub unlink-sound : IsSound after
@@ -50,9 +50,3 @@ module _ (s : State) (tmp : Path) (in_tmp : tmp.place ≡ Tmp) (sound : IsSound 
 
   pub unlink-no_message : HasNoMessage s tmp.name → HasNoMessage after tmp.name
   unlink-no_message h q m is = beside q (not_tmp q tmp in_tmp m) ∙ h q m is
-
-  pub unlink-whole : (whole : List ℕ) → HoldsWhole s tmp.name whole → HoldsWhole after tmp.name whole
-  unlink-whole whole h q n m is at =
-      let not = not_tmp q tmp in_tmp m in
-      let before = sym (beside q not) ∙ at in
-      bytes q n not before ∙ h q n m is before

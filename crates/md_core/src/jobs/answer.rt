@@ -12,6 +12,8 @@ pub enum Answer {
     Moved,
     /// The message is gone.
     Expunged,
+    /// The message has a second name.
+    Copied,
     /// So many files were removed from tmp by this job.
     Cleaned(u64),
     /// No message of that name where the call acts.

@@ -43,6 +43,14 @@ pub enum Call {
         unique: Bytes,
         tries: u64,
     },
+    /// Gives a message a second name, in this folder or another. The two messages share one file.
+    Copy {
+        folder: u32,
+        unique: Bytes,
+        to: u32,
+        fresh: Bytes,
+        tries: u64,
+    },
     /// Removes files of tmp that have not been used for 36 hours.
     Clean {
         folder: u32,

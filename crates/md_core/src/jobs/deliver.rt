@@ -1,13 +1,13 @@
-// A delivery: "Using maildir format", steps 3 to 6.
+//! A delivery: "Using maildir format", steps 3 to 6.
 ghost use Rattle.std.specs.Prelude.{◌≡◌, ◌+◌, ◌^◌, ◌<◌, length, IfOk, IfErr, OnErr, is_some};
-ghost use Rattle.md_core.specs.Turn.{Takes};
-ghost use Rattle.md_core.specs.Machines.Deliver.{new_delivery, after_create, after_append, after_link, create_turn, append_turn, link_turn, unlink_turn, delivery_turn, delivery_effect, piece_len as piece_len_of, piece as piece_of, target as target_of};
+ghost use Rattle.md_core.specs.Turn.{Takes, device, IsUntouched};
+ghost use Rattle.md_core.specs.Machines.Deliver.{new_delivery, after_create, after_append, after_link, create_turn, append_turn, link_turn, unlink_turn, delivery_turn, delivery_effect, piece_len as piece_len_of, piece as piece_of, target as target_of, is_in_time as is_in_time_by};
 
 use crate::error::CoreError;
 use crate::jobs::answer::Answer;
 use crate::jobs::call::JobId;
 use crate::jobs::effect::{Change, Effect};
-use crate::jobs::step::{DirCall, DirReply};
+use crate::jobs::step::{DirCall, DirReply, Moment};
 use crate::jobs::turn::{Turned, reply_of};
 use md_dirs::{Bytes, Dirs, Path, Place};
 use std::alloc::{AllocError, Global};
@@ -17,13 +17,16 @@ use std::alloc::{AllocError, Global};
 pub enum Stage {
     /// Nothing was done.
     Start,
-    /// The file is in tmp and has so many bytes.
-    Writing(u64),
+    /// The file is in tmp. The delivery began at `start`, in seconds by its own clock, and so many bytes are written.
+    Writing { start: u64, written: u64 },
     /// The message is in new.
     Linked,
     /// The file in tmp goes, and then the job has this answer.
     Undo(Answer),
 }
+
+/// A delivery is given up after 24 hours, in seconds.
+const MOST_SECONDS: u64 = 86_400;
 
 /// A delivery of a body, in pieces of `chunk` bytes, by way of a file in tmp.
 #[derive(Debug, Drop)]
@@ -32,6 +35,13 @@ pub struct Delivery {
     pub body: Bytes,
     pub chunk: u64,
     pub stage: Stage,
+}
+
+// Whether a delivery that began at `start` is in time at `own`, both by its own clock. A clock that went back counts as none.
+fn is_in_time(start: u64, own: u64) -> bool
+    ensures { result ≡ is_in_time_by start own }
+{
+    own.saturating_sub(start) < MOST_SECONDS
 }
 
 impl Delivery {
@@ -57,54 +67,66 @@ impl Delivery {
         alloc: Global,
         dirs: &mut D,
         job: JobId,
-        clock: u64,
+        at: Moment,
     ) -> Result<Turned, CoreError>
-        ensures ok { IfOk result (λ t. Takes (delivery_turn job self.old clock) (D.state dirs.old) (D.failures dirs.old) t.out t.effect self.new (D.state dirs.new) (D.failures dirs.new)) }
+        ensures ok { IfOk result (λ t.
+            Takes (delivery_turn job self.old at) at (device (D.state dirs.old) (D.failures dirs.old) (D.calls dirs.old)) t.out t.effect
+            self.new (device (D.state dirs.new) (D.failures dirs.new) (D.calls dirs.new))) }
         ensures memory { IfErr result (λ e. e ≡ CoreError.NoMemory) }
         ensures task { OnErr result (self.new ≡ self.old) }
-        ensures dirs { OnErr result ((D.state dirs.new ≡ D.state dirs.old) × (D.failures dirs.new ≡ D.failures dirs.old)) }
+        ensures dirs { OnErr result (IsUntouched (device (D.state dirs.old) (D.failures dirs.old) (D.calls dirs.old))
+            (device (D.state dirs.new) (D.failures dirs.new) (D.calls dirs.new))) }
     {
         match self.stage {
-            Stage::Start => self.create(dirs, clock),
-            Stage::Writing(written) => {
-                if written < self.body.len() as u64 {
-                    self.append(dirs, clock, written)
+            Stage::Start => self.create(dirs, at),
+            Stage::Writing { start, written } => {
+                if !is_in_time(start, at.own) {
+                    self.unlink(dirs, at, Answer::TimedOut)
+                } else if written < self.body.len() as u64 {
+                    self.append(dirs, at, start, written)
                 } else {
-                    self.link(alloc, dirs, job)
+                    self.link(alloc, dirs, job, at)
                 }
             }
-            Stage::Linked => self.unlink(dirs, Answer::Delivered),
-            Stage::Undo(answer) => self.unlink(dirs, answer),
+            Stage::Linked => self.unlink(dirs, at, Answer::Delivered),
+            Stage::Undo(answer) => self.unlink(dirs, at, answer),
         }
     }
 
-    fn create<D: Dirs>(&mut self, dirs: &mut D, clock: u64) -> Result<Turned, CoreError>
-        ensures ok { IfOk result (λ t. Takes (create_turn self.old clock) (D.state dirs.old) (D.failures dirs.old) t.out t.effect self.new (D.state dirs.new) (D.failures dirs.new)) }
+    fn create<D: Dirs>(&mut self, dirs: &mut D, at: Moment) -> Result<Turned, CoreError>
+        ensures ok { IfOk result (λ t.
+            Takes (create_turn self.old at.own) at (device (D.state dirs.old) (D.failures dirs.old) (D.calls dirs.old)) t.out t.effect
+            self.new (device (D.state dirs.new) (D.failures dirs.new) (D.calls dirs.new))) }
         ensures memory { IfErr result (λ e. e ≡ CoreError.NoMemory) }
         ensures task { OnErr result (self.new ≡ self.old) }
-        ensures dirs { OnErr result ((D.state dirs.new ≡ D.state dirs.old) × (D.failures dirs.new ≡ D.failures dirs.old)) }
+        ensures dirs { OnErr result (IsUntouched (device (D.state dirs.old) (D.failures dirs.old) (D.calls dirs.old))
+            (device (D.state dirs.new) (D.failures dirs.new) (D.calls dirs.new))) }
     {
-        let reply = reply_of(dirs.create(&self.tmp, clock))?;
-        let answer = self.created(reply);
+        let reply = reply_of(dirs.create(&self.tmp, at.clock))?;
+        let answer = self.created(at.own, reply);
         Ok(Turned::plain(DirCall::Create, reply, answer))
     }
 
     fn append<D: Dirs>(
         &mut self,
         dirs: &mut D,
-        clock: u64,
+        at: Moment,
+        start: u64,
         written: u64,
     ) -> Result<Turned, CoreError>
         requires { written < length self.old.body }
-        ensures ok { IfOk result (λ t. Takes (append_turn self.old clock written) (D.state dirs.old) (D.failures dirs.old) t.out t.effect self.new (D.state dirs.new) (D.failures dirs.new)) }
+        ensures ok { IfOk result (λ t.
+            Takes (append_turn self.old start written) at (device (D.state dirs.old) (D.failures dirs.old) (D.calls dirs.old)) t.out t.effect
+            self.new (device (D.state dirs.new) (D.failures dirs.new) (D.calls dirs.new))) }
         ensures memory { IfErr result (λ e. e ≡ CoreError.NoMemory) }
         ensures task { OnErr result (self.new ≡ self.old) }
-        ensures dirs { OnErr result ((D.state dirs.new ≡ D.state dirs.old) × (D.failures dirs.new ≡ D.failures dirs.old)) }
+        ensures dirs { OnErr result (IsUntouched (device (D.state dirs.old) (D.failures dirs.old) (D.calls dirs.old))
+            (device (D.state dirs.new) (D.failures dirs.new) (D.calls dirs.new))) }
     {
         let piece = self.piece(written);
         let len = piece.len() as u64;
-        let reply = reply_of(dirs.append(&self.tmp, piece, clock))?;
-        let answer = self.appended(written + len, reply);
+        let reply = reply_of(dirs.append(&self.tmp, piece, at.clock))?;
+        let answer = self.appended(start, written + len, reply);
         Ok(Turned::plain(DirCall::Append(len), reply, answer))
     }
 
@@ -114,11 +136,15 @@ impl Delivery {
         alloc: Global,
         dirs: &mut D,
         job: JobId,
+        at: Moment,
     ) -> Result<Turned, CoreError>
-        ensures ok { IfOk result (λ t. Takes (link_turn job self.old) (D.state dirs.old) (D.failures dirs.old) t.out t.effect self.new (D.state dirs.new) (D.failures dirs.new)) }
+        ensures ok { IfOk result (λ t.
+            Takes (link_turn job self.old) at (device (D.state dirs.old) (D.failures dirs.old) (D.calls dirs.old)) t.out t.effect
+            self.new (device (D.state dirs.new) (D.failures dirs.new) (D.calls dirs.new))) }
         ensures memory { IfErr result (λ e. e ≡ CoreError.NoMemory) }
         ensures task { OnErr result (self.new ≡ self.old) }
-        ensures dirs { OnErr result ((D.state dirs.new ≡ D.state dirs.old) × (D.failures dirs.new ≡ D.failures dirs.old)) }
+        ensures dirs { OnErr result (IsUntouched (device (D.state dirs.old) (D.failures dirs.old) (D.calls dirs.old))
+            (device (D.state dirs.new) (D.failures dirs.new) (D.calls dirs.new))) }
     {
         let target = self.target(alloc)?;
         let reply = reply_of(dirs.link(&self.tmp, &target))?;
@@ -128,11 +154,19 @@ impl Delivery {
     }
 
     // Takes the name in tmp away, whatever the reply is.
-    fn unlink<D: Dirs>(&mut self, dirs: &mut D, answer: Answer) -> Result<Turned, CoreError>
-        ensures ok { IfOk result (λ t. Takes (unlink_turn self.old answer) (D.state dirs.old) (D.failures dirs.old) t.out t.effect self.new (D.state dirs.new) (D.failures dirs.new)) }
+    fn unlink<D: Dirs>(
+        &mut self,
+        dirs: &mut D,
+        at: Moment,
+        answer: Answer,
+    ) -> Result<Turned, CoreError>
+        ensures ok { IfOk result (λ t.
+            Takes (unlink_turn self.old answer) at (device (D.state dirs.old) (D.failures dirs.old) (D.calls dirs.old)) t.out t.effect
+            self.new (device (D.state dirs.new) (D.failures dirs.new) (D.calls dirs.new))) }
         ensures memory { IfErr result (λ e. e ≡ CoreError.NoMemory) }
         ensures task { self.new ≡ self.old }
-        ensures dirs { OnErr result ((D.state dirs.new ≡ D.state dirs.old) × (D.failures dirs.new ≡ D.failures dirs.old)) }
+        ensures dirs { OnErr result (IsUntouched (device (D.state dirs.old) (D.failures dirs.old) (D.calls dirs.old))
+            (device (D.state dirs.new) (D.failures dirs.new) (D.calls dirs.new))) }
     {
         let reply = reply_of(dirs.unlink(&self.tmp))?;
         Ok(Turned::plain(DirCall::Unlink, reply, Some(answer)))
@@ -171,18 +205,22 @@ impl Delivery {
             answer: Answer::Delivered,
             change: Change::Add {
                 folder: target.folder,
+                place: target.place,
                 name: target.name,
                 size: self.body.len() as u64,
             },
         }
     }
 
-    fn created(&mut self, reply: DirReply) -> Option<Answer>
-        ensures { after_create self.old reply ≡ record { task = self.new; answer = result; effect = None } }
+    fn created(&mut self, own: u64, reply: DirReply) -> Option<Answer>
+        ensures { after_create self.old own reply ≡ record { task = self.new; answer = result; effect = None } }
     {
         match reply {
             DirReply::Ok => {
-                self.stage = Stage::Writing(0);
+                self.stage = Stage::Writing {
+                    start: own,
+                    written: 0,
+                };
                 None
             }
             DirReply::Exists => Some(Answer::NameTaken),
@@ -191,12 +229,13 @@ impl Delivery {
         }
     }
 
-    fn appended(&mut self, written: u64, reply: DirReply) -> Option<Answer>
-        ensures { (k : _) → written ≡ k + piece_len_of self.old k → after_append self.old k reply ≡ record { task = self.new; answer = result; effect = None } }
+    fn appended(&mut self, start: u64, written: u64, reply: DirReply) -> Option<Answer>
+        ensures { (k : _) → written ≡ k + piece_len_of self.old k →
+            after_append self.old start k reply ≡ record { task = self.new; answer = result; effect = None } }
     {
         match reply {
             DirReply::Ok => {
-                self.stage = Stage::Writing(written);
+                self.stage = Stage::Writing { start, written };
                 None
             }
             DirReply::Exists => Some(Answer::Fault),
@@ -209,7 +248,8 @@ impl Delivery {
     }
 
     fn linked(&mut self, reply: DirReply, effect: Effect) -> Turned
-        ensures follows { (job : _) → effect ≡ delivery_effect job self.old → after_link job self.old reply ≡ record { task = self.new; answer = result.out.answer; effect = result.effect } }
+        ensures follows { (job : _) → effect ≡ delivery_effect job self.old →
+            after_link job self.old reply ≡ record { task = self.new; answer = result.out.answer; effect = result.effect } }
         ensures shown { (result.out.call ≡ DirCall.Link) × (result.out.reply ≡ reply) }
         ensures effect { result.out.effect ≡ is_some result.effect }
     {

@@ -9,9 +9,10 @@ use std::alloc::{AllocError, Global};
 /// What an effect changed, by whole file names. Sizes are in bytes.
 #[derive(Debug, Drop)]
 pub enum Change {
-    /// A message was added to new.
+    /// A message was added.
     Add {
         folder: u32,
+        place: Place,
         name: Bytes,
         size: u64,
     },
@@ -48,8 +49,14 @@ impl Change {
         ensures { IfOk result (λ change. change ≡ self.now) }
     {
         Ok(match self {
-            Change::Add { folder, name, size } => Change::Add {
+            Change::Add {
+                folder,
+                place,
+                name,
+                size,
+            } => Change::Add {
                 folder: *folder,
+                place: *place,
                 name: name.again(alloc)?,
                 size: *size,
             },

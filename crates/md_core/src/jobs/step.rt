@@ -6,11 +6,21 @@ use crate::jobs::answer::Answer;
 use crate::jobs::call::JobId;
 use md_dirs::Place;
 
-/// A step of a job, at a moment in seconds.
+/// A step of a job, at a moment in seconds: `now` by the clock of the store, and `own` by that of the job's host, where it has one of
+/// its own.
 #[derive(Clone, Copy, Debug, PartialEq, Eq)]
 pub struct Event {
     pub job: JobId,
     pub now: u64,
+    pub own: Option<u64>,
+}
+
+/// A moment in seconds, by two clocks: that of the store stamps files, and that of the job's host times its delivery and the age of
+/// files.
+#[derive(Clone, Copy, Debug, PartialEq, Eq)]
+pub struct Moment {
+    pub clock: u64,
+    pub own: u64,
 }
 
 /// The directory call of a step.

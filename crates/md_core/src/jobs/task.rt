@@ -1,13 +1,16 @@
-// Jobs: a task of one kind each, and its answer.
+//! Tasks: what a job that has no answer does, one kind for each call.
 ghost use Rattle.std.specs.Prelude.{◌≡◌, true, IfOk, IfErr, OnErr};
-ghost use Rattle.md_core.specs.Turn.{Takes};
-ghost use Rattle.md_core.specs.Machine.{turn_of, new_job};
-ghost use Rattle.md_core.specs.Submitting.{is_delivery};
+ghost use Rattle.md_core.specs.Turn.{Takes, device, IsUntouched};
+ghost use Rattle.md_core.specs.Machine.{turn_of, new_job, working};
+ghost use Rattle.md_core.specs.Submitting.{has_machine};
 
 use crate::error::CoreError;
-use crate::jobs::answer::Answer;
 use crate::jobs::call::{Call, JobId};
+use crate::jobs::copying::Copying;
 use crate::jobs::deliver::Delivery;
+use crate::jobs::mark::{Mark, Marking};
+use crate::jobs::moving::Moving;
+use crate::jobs::step::Moment;
 use crate::jobs::turn::Turned;
 use md_dirs::Dirs;
 use std::alloc::Global;
@@ -16,40 +19,16 @@ use std::alloc::Global;
 #[derive(Debug, Drop)]
 pub enum Task {
     Deliver(Delivery),
-}
-
-/// A job, with its answer once it has one.
-#[derive(Debug, Drop)]
-pub struct Job {
-    pub task: Task,
-    pub answer: Option<Answer>,
+    Mark(Marking),
+    Move(Moving),
+    Copy(Copying),
 }
 
 impl Task {
-    /// Takes the next turn. After a refusal nothing has changed.
-    pub(crate) fn turn<D: Dirs>(
-        &mut self,
-        alloc: Global,
-        dirs: &mut D,
-        job: JobId,
-        clock: u64,
-    ) -> Result<Turned, CoreError>
-        ensures ok { IfOk result (λ t. Takes (turn_of job self.old clock) (D.state dirs.old) (D.failures dirs.old) t.out t.effect self.new (D.state dirs.new) (D.failures dirs.new)) }
-        ensures memory { IfErr result (λ e. e ≡ CoreError.NoMemory) }
-        ensures task { OnErr result (self.new ≡ self.old) }
-        ensures dirs { OnErr result ((D.state dirs.new ≡ D.state dirs.old) × (D.failures dirs.new ≡ D.failures dirs.old)) }
-    {
-        match self {
-            Task::Deliver(delivery) => delivery.turn(alloc, dirs, job, clock),
-        }
-    }
-}
-
-impl Job {
-    /// A job that has not begun.
-    pub(crate) fn new(call: Call) -> Job
-        requires { is_delivery call ≡ true }
-        ensures { result ≡ new_job call }
+    /// The task of a call, not begun.
+    pub(crate) fn new(call: Call) -> Task
+        requires { has_machine call ≡ true }
+        ensures { working result ≡ new_job call }
     {
         match call {
             Call::Deliver {
@@ -57,30 +36,58 @@ impl Job {
                 unique,
                 body,
                 chunk,
-            } => Job {
-                task: Task::Deliver(Delivery::new(folder, unique, body, chunk)),
-                answer: None,
-            },
+            } => Task::Deliver(Delivery::new(folder, unique, body, chunk)),
+            Call::Seen {
+                folder,
+                unique,
+                flags,
+                tries,
+            } => Task::Mark(Marking::new(folder, unique, Mark::Seen(flags), tries)),
+            Call::Flag {
+                folder,
+                unique,
+                add,
+                remove,
+                tries,
+            } => Task::Mark(Marking::new(folder, unique, Mark::Flag { add, remove }, tries)),
+            Call::Move {
+                folder,
+                unique,
+                to,
+                tries,
+            } => Task::Move(Moving::new(folder, unique, to, tries)),
+            Call::Copy {
+                folder,
+                unique,
+                to,
+                fresh,
+                tries,
+            } => Task::Copy(Copying::new(folder, unique, to, fresh, tries)),
             _ => unreachable!(),
         }
     }
 
-    /// Takes the next turn, and keeps the answer. After a refusal nothing has changed.
+    /// Takes the next turn. After a refusal nothing has changed.
     pub(crate) fn turn<D: Dirs>(
         &mut self,
         alloc: Global,
         dirs: &mut D,
         job: JobId,
-        clock: u64,
+        at: Moment,
     ) -> Result<Turned, CoreError>
-        ensures ok { IfOk result (λ t. Takes (turn_of job self.old.task clock) (D.state dirs.old) (D.failures dirs.old) t.out t.effect self.new.task (D.state dirs.new) (D.failures dirs.new)) }
-        ensures answer { IfOk result (λ t. self.new.answer ≡ t.out.answer) }
+        ensures ok { IfOk result (λ t.
+            Takes (turn_of job self.old at) at (device (D.state dirs.old) (D.failures dirs.old) (D.calls dirs.old)) t.out t.effect
+            self.new (device (D.state dirs.new) (D.failures dirs.new) (D.calls dirs.new))) }
         ensures memory { IfErr result (λ e. e ≡ CoreError.NoMemory) }
-        ensures job { OnErr result (self.new ≡ self.old) }
-        ensures dirs { OnErr result ((D.state dirs.new ≡ D.state dirs.old) × (D.failures dirs.new ≡ D.failures dirs.old)) }
+        ensures task { OnErr result (self.new ≡ self.old) }
+        ensures dirs { OnErr result (IsUntouched (device (D.state dirs.old) (D.failures dirs.old) (D.calls dirs.old))
+            (device (D.state dirs.new) (D.failures dirs.new) (D.calls dirs.new))) }
     {
-        let Turned { out, effect } = self.task.turn(alloc, dirs, job, clock)?;
-        self.answer = out.answer;
-        Ok(Turned { out, effect })
+        match self {
+            Task::Deliver(delivery) => delivery.turn(alloc, dirs, job, at),
+            Task::Mark(marking) => marking.turn(alloc, dirs, job, at),
+            Task::Move(moving) => moving.turn(alloc, dirs, job, at),
+            Task::Copy(copying) => copying.turn(alloc, dirs, job, at),
+        }
     }
 }

@@ -1,12 +1,12 @@
-// What one turn of a job gave.
-ghost use Rattle.std.specs.Prelude.{◌≡◌, IfOk, IfErr, OnErr, Some, None, false, true};
-ghost use Rattle.md_core.specs.Turn.{reply_from};
+//! What one turn of a job gave.
+ghost use Rattle.std.specs.Prelude.{◌≡◌, IfOk, IfErr, OnErr, MatchResult, Some, None, false, true};
+ghost use Rattle.md_core.specs.Turn.{reply_from, device, Looks, IsUntouched};
 
 use crate::error::CoreError;
 use crate::jobs::answer::Answer;
 use crate::jobs::effect::Effect;
 use crate::jobs::step::{DirCall, DirReply, StepOut};
-use md_dirs::DirError;
+use md_dirs::{DirError, Dirs, Place, Row};
 
 /// What a turn shows, and the effect, where it was one.
 #[derive(Debug, Drop)]
@@ -45,6 +45,21 @@ impl Turned {
             effect: Some(effect),
         }
     }
+
+    /// A turn that is the effect of a job which ends with its answer.
+    pub(crate) fn ended(call: DirCall, reply: DirReply, effect: Effect) -> Turned
+        ensures { result ≡ record { out = record { call = call; reply = reply; answer = Some effect.answer; effect = true }; effect = Some effect } }
+    {
+        Turned {
+            out: StepOut {
+                call,
+                reply,
+                answer: Some(effect.answer),
+                effect: true,
+            },
+            effect: Some(effect),
+        }
+    }
 }
 
 /// What the directories answered. Want of memory is handed on: no step was taken.
@@ -58,6 +73,29 @@ pub(crate) fn reply_of(answer: Result<(), DirError>) -> Result<DirReply, CoreErr
         Err(DirError::Exists) => Ok(DirReply::Exists),
         Err(DirError::NotFound) => Ok(DirReply::NotFound),
         Err(DirError::Fault) => Ok(DirReply::Fault),
+        Err(DirError::NoMemory) => Err(CoreError::NoMemory),
+    }
+}
+
+/// Looks for one message of a directory, and says what the directories answered. Want of memory is handed on: no step was taken.
+pub(crate) fn look<D: Dirs>(
+    dirs: &mut D,
+    folder: u32,
+    place: Place,
+    unique: &[u8],
+) -> Result<(DirReply, Option<Row>), CoreError>
+    ensures obeys { MatchResult result
+        (λ found. Looks folder place unique.now (device (D.state dirs.old) (D.failures dirs.old) (D.calls dirs.old)) found.0 found.1
+        (device (D.state dirs.new) (D.failures dirs.new) (D.calls dirs.new)))
+        (λ e. e ≡ CoreError.NoMemory) }
+    ensures dirs { OnErr result (IsUntouched (device (D.state dirs.old) (D.failures dirs.old) (D.calls dirs.old))
+        (device (D.state dirs.new) (D.failures dirs.new) (D.calls dirs.new))) }
+{
+    match dirs.find(folder, place, unique) {
+        Ok(row) => Ok((DirReply::Ok, row)),
+        Err(DirError::Exists) => Ok((DirReply::Exists, None)),
+        Err(DirError::NotFound) => Ok((DirReply::NotFound, None)),
+        Err(DirError::Fault) => Ok((DirReply::Fault, None)),
         Err(DirError::NoMemory) => Err(CoreError::NoMemory),
     }
 }

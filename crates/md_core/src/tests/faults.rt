@@ -47,11 +47,13 @@ impl FailsOnce {
 }
 
 impl Dirs for FailsOnce {
-    ghost use Rattle.std.specs.Prelude.{if◌then◌else◌};
+    ghost use Rattle.std.specs.Prelude.{◌+◌, if◌then◌else◌};
 
-    ghost state = { λ d. d.dirs };
+    ghost state = { λ d. d.dirs.state };
 
     ghost failures = { λ d. if d.has_failed then 1 else 0 };
+
+    ghost calls = { λ d. d.dirs.calls + (if d.has_failed then 1 else 0) };
 
     fn create(&mut self, path: &Path, now: u64) -> Result<(), DirError> {
         if self.fails() {

@@ -7,11 +7,11 @@ use std::test::Fail;
 
 // Takes a step of job 1 late, or else at 1000, and gives the moment at which it was taken.
 fn late_or_not(rt: &impl Abort, world: &mut World<PlainDirs>, late: u64) -> Result<u64, CoreError> {
-    let Err(error) = world.step(1, late) else {
+    let Err(error) = world.step(1, late, None) else {
         return Ok(late);
     };
     assert_eq!(rt; error, CoreError::NoMemory);
-    let _out = world.step(1, 1000)?;
+    let _out = world.step(1, 1000, None)?;
     Ok(1000)
 }
 
@@ -27,8 +27,8 @@ fn a_refused_step_leaves_the_clock(rt: HostRuntime) -> Result<(), Fail> {
     }
     assert_eq!(rt; world.answer(1), Some(Answer::Delivered));
     // The next file has the clock for its stamp.
-    if world.step(2, 0).is_err() {
-        let _out = world.step(2, 0)?;
+    if world.step(2, 0, None).is_err() {
+        let _out = world.step(2, 0, None)?;
     }
     let row = world.names(0, Place::Tmp, 0).ok_or("no file")?;
     assert_eq!(rt; row.stamp, clock);

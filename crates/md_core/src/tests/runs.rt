@@ -6,11 +6,23 @@ use md_dirs::{Place, PlainDirs};
 use std::process::Abort;
 use std::test::Fail;
 
+// A step of job 1, by the clock.
+fn at(now: u64) -> Event {
+    Event {
+        job: 1,
+        now,
+        own: None,
+    }
+}
+
 fn is_the_effect(effect: &Effect) -> bool {
     let is_add = match &effect.change {
-        Change::Add { folder, name, size } => {
-            *folder == 0 && name.as_slice() == NAME && *size == BODY.len() as u64
-        }
+        Change::Add {
+            folder,
+            place: Place::New,
+            name,
+            size,
+        } => { *folder == 0 && name.as_slice() == NAME && *size == BODY.len() as u64 }
         _ => false,
     };
     effect.job == 1 && effect.answer == Answer::Delivered && is_add
@@ -44,7 +56,7 @@ fn a_delivery_takes_five_steps(rt: HostRuntime) -> Result<(), Fail> {
 
 #[test]
 fn a_run_stops_at_its_first_refusal(rt: HostRuntime) -> Result<(), Fail> {
-    let events = [Event { job: 1, now: 1000 }; 6];
+    let events = [at(1000); 6];
     let refused = RunStop {
         at: 5,
         error: CoreError::Answered,
@@ -107,7 +119,7 @@ fn a_step_wants_a_job_without_an_answer(rt: HostRuntime) -> Result<(), Fail> {
         assert_eq!(rt; step(&rt, &mut world, job, 1), Err(CoreError::NoJob));
         assert_eq!(rt; world.answer(job), None);
     }
-    assert_eq!(rt; run(&rt, &mut world, &[Event { job: 1, now: 1 }; 5]), None);
+    assert_eq!(rt; run(&rt, &mut world, &[at(1); 5]), None);
     assert_eq!(rt; step(&rt, &mut world, 1, 1), Err(CoreError::Answered));
     Ok(())
 }

@@ -70,6 +70,7 @@ fn change(alloc: Global, folder: u32) -> Result<Change, AllocError> {
     Ok(match folder {
         0 => Change::Add {
             folder,
+            place: Place::New,
             name,
             size: 9,
         },
@@ -112,9 +113,12 @@ fn effects_are_copied(rt: HostRuntime) -> Result<(), Fail> {
         let copy = again(rt.alloc(), &effect)?;
         assert_eq!(rt; (copy.job, copy.answer), (3, Answer::Moved));
         let is_copied = match &copy.change {
-            Change::Add { folder, name, size } => {
-                *folder == 0 && *size == 9 && is_name(name, b"u:2,S")
-            }
+            Change::Add {
+                folder,
+                place: Place::New,
+                name,
+                size,
+            } => { *folder == 0 && *size == 9 && is_name(name, b"u:2,S") }
             Change::Rename {
                 folder,
                 place: Place::New,

@@ -1,6 +1,6 @@
 // Each refusal of a call, and which of several comes first.
 ghost use Rattle.std.specs.Prelude.{◌≡◌, true, IfOk};
-ghost use Rattle.md_core.specs.Submitting.{is_delivery};
+ghost use Rattle.md_core.specs.Submitting.{has_machine};
 
 use super::{NAME, copied, delivery, load, plain_delivery, submit};
 use crate::{Call, CoreError, World};
@@ -89,7 +89,7 @@ fn a_delivery_is_refused_for_its_first_fault(rt: HostRuntime) -> Result<(), Fail
 
 // The delivery of an empty message, under a number.
 fn numbered(alloc: Global, number: u32) -> Result<Call, AllocError>
-    ensures { IfOk result (λ call. is_delivery call ≡ true) }
+    ensures { IfOk result (λ call. has_machine call ≡ true) }
 {
     let name = match format!(in alloc; "{number}") {
         Ok(name) => name,

@@ -1,15 +1,16 @@
-// Worlds at their beginning.
-ghost use Rattle.std.specs.Prelude.{◌≡◌, [], IfOk, IfErr};
-ghost use Rattle.std.specs.FinMap.{empty};
+//! Worlds at their beginning.
+ghost use Rattle.std.specs.Prelude.{◌≡◌, ◌⊎◌, None, Some, IfOk, IfErr, OnOk};
+ghost use Rattle.md_core.specs.Loading.{load_refusal};
+ghost use Rattle.md_core.specs.Runs.{new_run};
 ghost use Rattle.md_core.specs.Interleaving.{Interleaves};
 
 use crate::error::CoreError;
-use crate::used::UsedNames;
+use crate::image::Image;
 use crate::world::World;
 use crate::world::log::Log;
+use crate::world::looking::look;
 use md_dirs::Dirs;
 use std::alloc::Global;
-use std::snapshot::Snapshot;
 
 /// Directories that were not loaded, and why.
 #[derive(Drop)]
@@ -19,23 +20,29 @@ pub struct LoadRefused<D> {
 }
 
 impl<D: Dirs> World<D> {
-    /// A world over directories that hold no name.
+    /// A world over directories. Its clock begins at the greatest stamp of their files, in seconds, or at 0.
+    ///
+    /// Every name is looked at, by folder, then tmp, new and cur, then name. The first fault is the refusal: `BadName`, `LongUnique` and
+    /// `DuplicateUnique`, in this order at one name. `NoMemory` may come in place of any of these. The directories come back.
     pub fn load(alloc: Global, dirs: D) -> Result<World<D>, LoadRefused<D>>
-        requires { (D.state dirs).names ≡ empty }
-        ensures ok { IfOk result (λ w. w ≡ record { image = D.state dirs; calls = []; events = [] }) }
+        ensures ok { IfOk result (λ w. w ≡ new_run (D.state dirs) (D.failures dirs) (D.calls dirs)) }
+        ensures accepted { OnOk result (load_refusal (D.state dirs) ≡ None) }
         ensures theorem { IfOk result Interleaves }
-        ensures memory { IfErr result (λ r. r.error ≡ CoreError.NoMemory) }
+        ensures refused { IfErr result (λ r. (r.error ≡ CoreError.NoMemory) ⊎ (load_refusal (D.state dirs) ≡ Some r.error)) }
         ensures err { IfErr result (λ r. r.dirs ≡ dirs) }
     {
         let _sound = dirs.folders();
-        Ok(World {
-            alloc,
-            image: Snapshot::of(&dirs),
-            dirs,
-            clock: 0,
-            jobs: Vec::new(alloc),
-            used: UsedNames::new(alloc),
-            log: Log::new(alloc),
-        })
+        match look(alloc, &dirs) {
+            Ok(looked) => Ok(World {
+                alloc,
+                image: Image::of(&dirs),
+                dirs,
+                clock: looked.clock,
+                jobs: Vec::new(alloc),
+                used: looked.used,
+                log: Log::new(alloc),
+            }),
+            Err(error) => Err(LoadRefused { error, dirs }),
+        }
     }
 }

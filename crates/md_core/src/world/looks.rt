@@ -1,6 +1,9 @@
-// What a world shows. These take no memory.
+//! What a world shows. These take no memory.
 ghost use Rattle.std.specs.Prelude.{◌≡◌, length, slice_get, option_map};
 ghost use Rattle.md_dirs.specs.Rows.{rows_of};
+ghost use Rattle.std.specs.FinMap as finmap;
+ghost use Rattle.md_dirs.specs.State.{IsSound};
+ghost use Rattle.md_core.specs.Mailbox.{Entry, mailbox_of};
 ghost use Rattle.md_core.specs.Machine.{job_at};
 ghost use Rattle.md_core.specs.Runs.{dirs_of, jobs_of, effects_of, log_of, answer_of};
 
@@ -9,6 +12,7 @@ use crate::jobs::call::JobId;
 use crate::jobs::effect::Effect;
 use crate::jobs::step::Event;
 use crate::world::World;
+use crate::world::reading::message_bytes;
 use md_dirs::{Dirs, Place, RowRef};
 
 impl<D: Dirs> World<D> {
@@ -40,7 +44,7 @@ impl<D: Dirs> World<D> {
         if job == 0 || job > self.jobs.len() as u64 {
             return None;
         }
-        self.jobs[(job - 1) as usize].answer
+        self.jobs[(job - 1) as usize].answer()
     }
 
     /// How many jobs there are.
@@ -50,9 +54,19 @@ impl<D: Dirs> World<D> {
         self.jobs.len() as u64
     }
 
+    /// The bytes of the message of a unique name, in new or cur of any folder. None where there is no such message. It looks at some names
+    /// alone, since those of a directory are in order.
+    pub fn read(&self, unique: &[u8]) -> Option<&[u8]>
+        ensures { option_map (λ b. b.now) result ≡ option_map (λ (e : Entry). e.bytes) (finmap.get (mailbox_of (dirs_of self.now)) unique.now) }
+    {
+        self.interleaves();
+        message_bytes(&self.dirs, unique)
+    }
+
     /// How many folders there are.
     pub fn folders(&self) -> u32
-        ensures { result ≡ (dirs_of self.now).folders }
+        ensures count { result ≡ (dirs_of self.now).folders }
+        ensures sound { IsSound (dirs_of self.now) }
     {
         self.dirs.folders()
     }

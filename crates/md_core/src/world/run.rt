@@ -1,4 +1,4 @@
-// Many steps.
+//! Many steps.
 ghost use Rattle.std.specs.Prelude.{OnOk, IfErr};
 ghost use Rattle.md_core.specs.Worlds.{TakesAll, StopsAt};
 ghost use Rattle.md_core.specs.Interleaving.{Interleaves};
@@ -24,7 +24,7 @@ impl<D: Dirs> World<D> {
     {
         self.interleaves();
         for (at, event) in events.iter().enumerate() {
-            if let Err(error) = self.step(event.job, event.now) {
+            if let Err(error) = self.step(event.job, event.now, event.own) {
                 return Err(RunStop { at, error });
             }
         }

@@ -1,44 +1,57 @@
-// One step of a job.
+//! One step of a job.
 ghost use Rattle.std.specs.Prelude.{◌≡◌, ◌≢◌, ◌+◌, ◌<◌, length, MatchResult, Some, None, IfOk, OnOk, OnErr};
 ghost use Rattle.md_core.specs.Turn.{is_fault};
-ghost use Rattle.md_core.specs.Machine.{marked, shown, job_at};
-ghost use Rattle.md_core.specs.Runs.{machine_of, jobs_of, and_event, step_refusal, steps_left, IsRefusal};
-ghost use Rattle.md_core.specs.Interleaving.{Interleaves, TakesEffect};
+ghost use Rattle.md_core.specs.Machine.{marked, job_at};
+ghost use Rattle.md_core.specs.Standing.{standings};
+ghost use Rattle.md_core.specs.Runs.{jobs_of, and_event, step_refusal, steps_left, IsRefusal};
+ghost use Rattle.md_core.specs.Interleaving.{Interleaves, ShowsStep, Succeeds};
 
 use crate::error::CoreError;
 use crate::jobs::call::JobId;
-use crate::jobs::step::{Event, StepOut};
-use crate::jobs::task::Job;
+use crate::jobs::job::Job;
+use crate::jobs::step::{Event, Moment, StepOut};
 use crate::world::World;
 use md_dirs::Dirs;
 
 // Where a job stands that is there and has no answer.
 fn unanswered(jobs: &[Job], job: JobId) -> Result<usize, CoreError>
-    ensures refused { MatchResult result (λ _. step_refusal (job_at jobs.now job) ≡ None) (λ e. step_refusal (job_at jobs.now job) ≡ Some e) }
+    ensures refused { MatchResult result (λ _. step_refusal (job_at (standings jobs.now) job) ≡ None) (λ e. step_refusal (job_at (standings jobs.now) job) ≡ Some e) }
     ensures place { IfOk result (λ at. (at + 1 ≡ job) × (at < length jobs.now)) }
 {
     if job == 0 || job > jobs.len() as u64 {
         return Err(CoreError::NoJob);
     }
     let at = (job - 1) as usize;
-    match &jobs[at].answer {
+    match jobs[at].answer() {
         Some(_) => Err(CoreError::Answered),
         None => Ok(at),
     }
 }
 
 impl<D: Dirs> World<D> {
-    /// Makes the next directory call of a job, at a moment in seconds: the clock becomes the greater of itself and `now`, and is the
-    /// moment of the call.
+    /// Where a step of a job would be refused, want of memory aside: there is no such job, or it has its answer.
+    pub fn refusal(&self, job: JobId) -> Option<CoreError>
+        ensures { result ≡ step_refusal (job_at (jobs_of self.now) job) }
+    {
+        match unanswered(&self.jobs, job) {
+            Ok(_) => None,
+            Err(error) => Some(error),
+        }
+    }
+
+    /// Makes the next directory call of a job, at a moment in seconds: the clock becomes the greater of itself and `now`, and stamps what is
+    /// made and written. `own` is the moment by the clock of the job's host, which times its delivery and the age of files; a job without
+    /// one goes by the clock.
     ///
     /// It is refused as `NoJob` where there is no such job, and as `Answered` where the job has its answer; then, where a growth is
     /// refused, as `NoMemory`. A refusal took no step, and nothing has changed.
-    pub fn step(&mut self, job: JobId, now: u64) -> Result<StepOut, CoreError>
+    pub fn step(&mut self, job: JobId, now: u64, own: Option<u64>) -> Result<StepOut, CoreError>
         // The run goes on by this one event, and by nothing else.
-        ensures event { IfOk result (λ out. self.new ≡ and_event self.old (marked job now (is_fault out.reply))) }
-        ensures shown { IfOk result (λ out. shown (machine_of self.old) (marked job now (is_fault out.reply)) ≡ Some out) }
-        ensures alone { IfOk result (λ out. TakesEffect self.old self.new job out.effect) }
-        ensures refused { MatchResult result (λ _. step_refusal (job_at (jobs_of self.old) job) ≡ None) (IsRefusal (step_refusal (job_at (jobs_of self.old) job))) }
+        ensures event { IfOk result (λ out. self.new ≡ and_event self.old (marked job now own (is_fault out.reply))) }
+        ensures shows { IfOk result (λ out. ShowsStep self.old self.new (marked job now own (is_fault out.reply)) out) }
+        ensures success { IfOk result (λ out. Succeeds self.new job out.answer) }
+        ensures refused { MatchResult result (λ _. step_refusal (job_at (jobs_of self.old) job) ≡ None)
+            (IsRefusal (step_refusal (job_at (jobs_of self.old) job))) }
         ensures unchanged { OnErr result (self.new ≡ self.old) }
         // Each step leaves its job fewer steps, and the other jobs as many.
         ensures nearer { OnOk result (steps_left self.new job < steps_left self.old job) }
@@ -48,9 +61,13 @@ impl<D: Dirs> World<D> {
         let at = unanswered(&self.jobs, job)?;
         self.log.reserve()?;
         let clock = self.clock.max(now);
-        let turned = self.jobs[at].turn(self.alloc, &mut self.dirs, job, clock)?;
+        let moment = Moment {
+            clock,
+            own: own.unwrap_or(clock),
+        };
+        let turned = self.jobs[at].turn(self.alloc, &mut self.dirs, job, moment)?;
         self.clock = clock;
-        let event = Event { job, now };
+        let event = Event { job, now, own };
         self.log
             .push(event, turned.out.reply.is_fault(), turned.effect);
         Ok(turned.out)

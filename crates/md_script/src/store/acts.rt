@@ -1,12 +1,13 @@
 //! What commands do to a store, and what they print.
-ghost use Rattle.std.specs.Prelude.{◌≡◌, ◌<◌, true, OnOk};
-ghost use Rattle.md_core.specs.Runs.{steps_left};
-ghost use Rattle.md_core.specs.Submitting.{is_delivery};
+ghost use Rattle.std.specs.Prelude.{◌≡◌, ◌<◌, true, is_some, OnOk};
+ghost use Rattle.md_core.specs.Machine.{job_at};
+ghost use Rattle.md_core.specs.Runs.{steps_left, jobs_of, answer_of};
+ghost use Rattle.md_core.specs.Submitting.{has_machine};
 ghost use Rattle.md_script.specs.Step.{Steps};
 ghost use Rattle.md_script.specs.Sessions.{submitted, stepped, finished, listing_of};
 
+use crate::error::PlayKind;
 use crate::listing::push_listing;
-use crate::refusal::Stop;
 use crate::store::printing::{push_job, push_step};
 use md_core::{Call, JobId, World};
 use md_dirs::PlainDirs;
@@ -14,16 +15,15 @@ use std::alloc::Global;
 
 /// Submits a call, and prints the number of its job.
 pub(super) fn submit(
-    alloc: Global,
     world: &mut World<PlainDirs>,
     call: Call,
     out: &mut Vec<u8>,
-) -> Result<(), Stop>
-    requires { is_delivery call ≡ true }
+) -> Result<(), PlayKind>
+    requires { has_machine call ≡ true }
     ensures { Steps (submitted world.old call) world.new out.old.items out.new.items result }
 {
     let job = world.submit(call)?;
-    push_job(alloc, out, job)?;
+    push_job(out, job)?;
     Ok(())
 }
 
@@ -34,17 +34,17 @@ pub(super) fn step(
     job: JobId,
     now: u64,
     out: &mut Vec<u8>,
-) -> Result<(), Stop>
+) -> Result<(), PlayKind>
     ensures step { Steps (stepped world.old job now) world.new out.old.items out.new.items result }
     ensures nearer { OnOk result (steps_left world.new job < steps_left world.old job) }
 {
     // The kit's borrow checker refuses a `?` here, where no signature names `Answer`.
-    let shown = match world.step(job, now) {
+    let shown = match world.step(job, now, None) {
         Ok(shown) => shown,
-        Err(error) => return Err(Stop::from(error)),
+        Err(error) => return Err(PlayKind::from(error)),
     };
     // Plain directories never fail, so that no step is marked.
-    world.marks();
+    world.counts();
     push_step(alloc, out, job, shown)?;
     Ok(())
 }
@@ -57,8 +57,9 @@ pub(super) fn finish(
     job: JobId,
     now: u64,
     out: &mut Vec<u8>,
-) -> Result<(), Stop>
-    ensures { Steps (finished world.old job now) world.new out.old.items out.new.items result }
+) -> Result<(), PlayKind>
+    ensures finish { Steps (finished world.old job now) world.new out.old.items out.new.items result }
+    ensures answered { OnOk result (is_some (answer_of (job_at (jobs_of world.new) job)) ≡ true) }
 {
     step(alloc, world, job, now, out)?;
     while world.answer(job).is_none() {
@@ -74,7 +75,7 @@ pub(super) fn list(
     world: &World<PlainDirs>,
     folder: u32,
     out: &mut Vec<u8>,
-) -> Result<(), Stop>
+) -> Result<(), PlayKind>
     ensures { Steps (listing_of world.now folder) world.now out.old.items out.new.items result }
 {
     push_listing(alloc, world, folder, out)?;

@@ -1,18 +1,18 @@
 //! What jobs and their steps print.
 ghost use Rattle.std.specs.Prelude.{◌≡◌, ◌++◌, Some, OnOk};
-ghost use Rattle.std.specs.Fmt.{decimal};
-ghost use Rattle.md_script.specs.Sessions.{job_text, call_text, reply_text, answer_text, answer_line, out_text};
+ghost use Rattle.md_script.specs.Texts.{job_text, call_text, reply_text, answer_text, answer_line, out_text};
 
+use crate::digits::push_number;
 use crate::listing::{place_text, push_letters};
 use md_core::{Answer, DirCall, DirReply, JobId, StepOut};
 use std::alloc::{AllocError, Global};
 
 /// `job J`, for a job that was submitted.
-pub(super) fn push_job(alloc: Global, out: &mut Vec<u8>, job: JobId) -> Result<(), AllocError>
+pub(super) fn push_job(out: &mut Vec<u8>, job: JobId) -> Result<(), AllocError>
     ensures { OnOk result (out.new.items ≡ out.old.items ++ job_text job) }
 {
     out.extend_from_slice(b"job ")?;
-    push_number(alloc, out, job)?;
+    push_number(out, job)?;
     out.push(b'\n')?;
     Ok(())
 }
@@ -26,9 +26,9 @@ pub(super) fn push_step(
 ) -> Result<(), AllocError>
     ensures { OnOk result (out.new.items ≡ out.old.items ++ out_text job step) }
 {
-    push_number(alloc, out, job)?;
+    push_number(out, job)?;
     out.push(b' ')?;
-    push_call(alloc, out, step.call)?;
+    push_call(out, step.call)?;
     out.push(b' ')?;
     out.extend_from_slice(reply_text(step.reply))?;
     out.push(b'\n')?;
@@ -47,21 +47,21 @@ fn push_answer_line(
 ) -> Result<(), AllocError>
     ensures { OnOk result (out.new.items ≡ out.old.items ++ answer_line job (Some answer)) }
 {
-    push_number(alloc, out, job)?;
+    push_number(out, job)?;
     out.extend_from_slice(b" answer ")?;
     push_answer(alloc, out, answer)?;
     out.push(b'\n')?;
     Ok(())
 }
 
-fn push_call(alloc: Global, out: &mut Vec<u8>, call: DirCall) -> Result<(), AllocError>
+fn push_call(out: &mut Vec<u8>, call: DirCall) -> Result<(), AllocError>
     ensures { OnOk result (out.new.items ≡ out.old.items ++ call_text call) }
 {
     match call {
         DirCall::Create => out.extend_from_slice(b"create"),
         DirCall::Append(count) => {
             out.extend_from_slice(b"append ")?;
-            push_number(alloc, out, count)
+            push_number(out, count)
         }
         DirCall::Link => out.extend_from_slice(b"link"),
         DirCall::Rename => out.extend_from_slice(b"rename"),
@@ -94,10 +94,11 @@ fn push_answer(alloc: Global, out: &mut Vec<u8>, answer: Answer) -> Result<(), A
             push_letters(alloc, out, flags)
         }
         Answer::Moved => out.extend_from_slice(b"moved"),
+        Answer::Copied => out.extend_from_slice(b"copied"),
         Answer::Expunged => out.extend_from_slice(b"expunged"),
         Answer::Cleaned(count) => {
             out.extend_from_slice(b"cleaned ")?;
-            push_number(alloc, out, count)
+            push_number(out, count)
         }
         Answer::NotThere => out.extend_from_slice(b"notthere"),
         Answer::NotTrashed => out.extend_from_slice(b"nottrashed"),
@@ -108,12 +109,4 @@ fn push_answer(alloc: Global, out: &mut Vec<u8>, answer: Answer) -> Result<(), A
         Answer::NameTaken => out.extend_from_slice(b"nametaken"),
         Answer::Fault => out.extend_from_slice(b"fault"),
     }
-}
-
-// A number in decimal.
-fn push_number(alloc: Global, out: &mut Vec<u8>, number: u64) -> Result<(), AllocError>
-    ensures { OnOk result (out.new.items ≡ out.old.items ++ decimal number) }
-{
-    let digits = format!(in alloc; "{number}")?;
-    out.extend_from_slice(digits.as_bytes())
 }

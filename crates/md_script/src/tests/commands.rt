@@ -1,9 +1,18 @@
 //! Commands, as lines spell them.
 
-use crate::{Command, Folders, LineRefusal, Stop, read_command};
+use crate::PlayKind;
+use crate::command::read_command;
+use crate::folders::Folders;
+use crate::verb::Mode;
 use std::alloc::Global;
 use std::process::Abort;
 use std::test::Fail;
+
+/// A script is played, and the store was not loaded.
+const PLAYING: Mode = Mode::Playing { is_loaded: false };
+
+/// A script is played, and the store was loaded.
+const LOADED: Mode = Mode::Playing { is_loaded: true };
 
 /// Folders `i` and `j`.
 fn two_folders(rt: &impl Abort, alloc: Global) -> Result<Folders, Fail> {
@@ -18,47 +27,51 @@ fn two_folders(rt: &impl Abort, alloc: Global) -> Result<Folders, Fail> {
 #[test]
 fn the_first_bad_word_names_the_refusal(rt: HostRuntime) -> Result<(), Fail> {
     let folders = two_folders(&rt, rt.alloc())?;
-    let cases: [(&[u8], LineRefusal); 36] = [
-        (b"lis", LineRefusal::BadCommand),
-        (b"list", LineRefusal::BadCommand),
-        (b"List i", LineRefusal::BadCommand),
-        (b" list i", LineRefusal::BadCommand),
-        (b"list  i", LineRefusal::BadCommand),
-        (b"list i ", LineRefusal::BadCommand),
-        (b"list i x", LineRefusal::BadCommand),
-        (b"list\ti", LineRefusal::BadCommand),
-        (b"list i\r", LineRefusal::UnknownFolder),
-        (b"list inb", LineRefusal::UnknownFolder),
-        (b"list k x", LineRefusal::UnknownFolder),
-        (b"folder", LineRefusal::BadCommand),
-        (b"folder ", LineRefusal::BadCommand),
-        (b"folder k x", LineRefusal::BadCommand),
-        (b"folder i x", LineRefusal::BadFolder),
-        (b"folder .k x", LineRefusal::BadFolder),
-        (b"folder a/b", LineRefusal::BadFolder),
-        (b"folder a\0b", LineRefusal::BadFolder),
-        (b"folder a\rb", LineRefusal::BadFolder),
-        (b"job", LineRefusal::BadCommand),
-        (b"job delive i u 4", LineRefusal::BadCommand),
-        (b"job deliver", LineRefusal::BadCommand),
-        (b"job deliver k", LineRefusal::UnknownFolder),
-        (b"job deliver i", LineRefusal::BadCommand),
-        (b"job deliver i u", LineRefusal::BadCommand),
-        (b"job deliver i u four \\", LineRefusal::BadNumber),
-        (b"job deliver i u 4 hello\\", LineRefusal::BadEscape),
-        (b"job deliver i u 4 a\\tb", LineRefusal::BadEscape),
-        (b"step 1", LineRefusal::BadCommand),
-        (b"step 1 ", LineRefusal::BadCommand),
-        (b"step 1 2 3", LineRefusal::BadCommand),
-        (b"step x 2 3", LineRefusal::BadNumber),
-        (b"step 1 +2", LineRefusal::BadNumber),
-        (b"step 1 -2", LineRefusal::BadNumber),
-        (b"finish 18446744073709551616 1", LineRefusal::BadNumber),
-        (b"finish 000000000000000000001 1", LineRefusal::BadNumber),
+    let cases: [(&[u8], PlayKind); 40] = [
+        (b"lis", PlayKind::BadCommand),
+        (b"list", PlayKind::BadCommand),
+        (b"List i", PlayKind::BadCommand),
+        (b" list i", PlayKind::BadCommand),
+        (b"list  i", PlayKind::BadCommand),
+        (b"list i ", PlayKind::BadCommand),
+        (b"list i x", PlayKind::BadCommand),
+        (b"list\ti", PlayKind::BadCommand),
+        (b"list i\r", PlayKind::UnknownFolder),
+        (b"list inb", PlayKind::UnknownFolder),
+        (b"list k x", PlayKind::UnknownFolder),
+        (b"folder", PlayKind::BadCommand),
+        (b"folder ", PlayKind::BadCommand),
+        (b"folder k x", PlayKind::BadCommand),
+        (b"folder i x", PlayKind::BadFolder),
+        (b"folder .k x", PlayKind::BadFolder),
+        (b"folder a/b", PlayKind::BadFolder),
+        (b"folder a\0b", PlayKind::BadFolder),
+        (b"folder a\rb", PlayKind::BadFolder),
+        (b"job", PlayKind::BadCommand),
+        (b"job delive i u 4", PlayKind::BadCommand),
+        (b"job deliver", PlayKind::BadCommand),
+        (b"job deliver k", PlayKind::UnknownFolder),
+        (b"job deliver i", PlayKind::BadCommand),
+        (b"job deliver i u", PlayKind::BadCommand),
+        (b"job deliver i u four \\", PlayKind::BadNumber),
+        (b"job deliver i u 4 hello\\", PlayKind::BadEscape),
+        (b"job deliver i u 4 a\\tb", PlayKind::BadEscape),
+        (b"step 1", PlayKind::BadCommand),
+        (b"step 1 ", PlayKind::BadCommand),
+        (b"step 1 2 3", PlayKind::BadCommand),
+        (b"step x 2 3", PlayKind::BadNumber),
+        (b"step 1 +2", PlayKind::BadNumber),
+        (b"step 1 -2", PlayKind::BadNumber),
+        (b"finish 18446744073709551616 1", PlayKind::BadNumber),
+        (b"finish 000000000000000000001 1", PlayKind::BadNumber),
+        (b"unique 1 2 3 4", PlayKind::BadCommand),
+        (b"unique 1 2 x 4 a", PlayKind::BadNumber),
+        (b"unique 1 1000000 3 4 a b", PlayKind::BadCommand),
+        (b"summary a\\", PlayKind::BadEscape),
     ];
     for (line, want) in cases {
-        match read_command(rt.alloc(), &folders, false, line) {
-            Err(stop) => assert_eq!(rt; stop, Stop::Refused(want), "{line:?}"),
+        match read_command(rt.alloc(), &folders, PLAYING, line) {
+            Err(stop) => assert_eq!(rt; stop, want, "{line:?}"),
             Ok(command) => assert!(rt; false, "{command:?}"),
         }
     }
@@ -70,8 +83,8 @@ fn a_folder_that_comes_too_late_is_refused_first(rt: HostRuntime) -> Result<(), 
     let folders = two_folders(&rt, rt.alloc())?;
     let cases: [&[u8]; 4] = [b"folder", b"folder ", b"folder i x", b"folder k"];
     for line in cases {
-        match read_command(rt.alloc(), &folders, true, line) {
-            Err(stop) => assert_eq!(rt; stop, Stop::Refused(LineRefusal::TooLate)),
+        match read_command(rt.alloc(), &folders, LOADED, line) {
+            Err(stop) => assert_eq!(rt; stop, PlayKind::TooLate),
             Ok(command) => assert!(rt; false, "{command:?}"),
         }
     }
@@ -92,23 +105,23 @@ fn lines_spell_commands(rt: HostRuntime) -> Result<(), Fail> {
         ),
         (
             b"job deliver i u 4",
-            "Deliver { folder: 0, unique: [117], chunk: 4, body: [] }",
+            "Submit(Deliver { folder: 0, unique: Bytes { items: [117] }, body: Bytes { items: [] }, chunk: 4 })",
         ),
         (
             b"job deliver j u 4 ",
-            "Deliver { folder: 1, unique: [117], chunk: 4, body: [] }",
+            "Submit(Deliver { folder: 1, unique: Bytes { items: [117] }, body: Bytes { items: [] }, chunk: 4 })",
         ),
         (
             b"job deliver i u 4  b ",
-            "Deliver { folder: 0, unique: [117], chunk: 4, body: [32, 98, 32] }",
+            "Submit(Deliver { folder: 0, unique: Bytes { items: [117] }, body: Bytes { items: [32, 98, 32] }, chunk: 4 })",
         ),
         (
             b"job deliver i u 0 \\\\n\\r\\n\r",
-            "Deliver { folder: 0, unique: [117], chunk: 0, body: [92, 110, 13, 10, 13] }",
+            "Submit(Deliver { folder: 0, unique: Bytes { items: [117] }, body: Bytes { items: [92, 110, 13, 10, 13] }, chunk: 0 })",
         ),
     ];
     for (line, want) in cases {
-        match read_command(rt.alloc(), &folders, false, line) {
+        match read_command(rt.alloc(), &folders, PLAYING, line) {
             Ok(command) => {
                 let text = format!(in rt.alloc(); "{command:?}")?;
                 assert_eq!(rt; text.as_str(), want);

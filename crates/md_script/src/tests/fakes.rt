@@ -1,9 +1,11 @@
 //! A session, readers and writers for tests.
 ghost use Rattle.std.specs.Prelude.{◌-◌, ◌++◌, ◌∷◌, [], ◌==◌, Ok, Err, if◌then◌else◌};
-ghost use Rattle.md_script.specs.declared.refusal.LineRefusal.TheVariants.{TooLate};
+ghost use Rattle.md_script.specs.declared.error.PlayKind.TheVariants.{TooLate};
 ghost use Rattle.md_script.specs.Escapes.{escaped};
 
-use crate::{LineRefusal, Session, Stop, push_escaped};
+use crate::error::PlayKind;
+use crate::escapes::push_escaped;
+use crate::session::Session;
 use std::io;
 use std::io::{ErrorKind, Read, Write};
 
@@ -16,9 +18,9 @@ pub(super) struct Echo {
 impl Session for Echo {
     ghost step = { λ s line. if s.left == 0 then Err TooLate else Ok (record { left = s.left - 1 }, escaped line ++ 10 ∷ []) };
 
-    fn run_line(&mut self, line: &[u8], out: &mut Vec<u8>) -> Result<(), Stop> {
+    fn run_line(&mut self, line: &[u8], out: &mut Vec<u8>) -> Result<(), PlayKind> {
         if self.left == 0 {
-            return Err(Stop::Refused(LineRefusal::TooLate));
+            return Err(PlayKind::TooLate);
         }
         push_escaped(out, line)?;
         out.push(b'\n')?;

@@ -1,7 +1,7 @@
 //! The limits on a script's bytes and reads.
 
-use super::fakes::{Echo, Stream};
-use crate::{PlayError, PlayKind, play_session};
+use super::fakes::Stream;
+use crate::{PlayError, PlayKind, Reader, play};
 
 fn unnumbered(kind: PlayKind) -> Result<(), PlayError> {
     Err(PlayError { line: 0, kind })
@@ -14,17 +14,13 @@ fn a_script_takes_at_most_so_many_reads(rt: HostRuntime) {
         (1_048_576, unnumbered(PlayKind::TooManyReads)),
     ];
     for (left, want) in cases {
-        let mut script = Stream {
+        let mut script = Reader::new(Stream {
             byte: b'\n',
             left,
             at_once: 1,
-        };
+        });
         let mut out = Vec::new(rt.alloc());
-        assert_eq!(rt;
-            play_session(rt.alloc(), Echo { left: 0 }, &mut script, &mut out),
-            want,
-            "{left}"
-        );
+        assert_eq!(rt; play(rt.alloc(), &mut script, &mut out), want, "{left}");
         assert_eq!(rt; out.len(), 0);
     }
 }
@@ -38,13 +34,13 @@ fn an_endless_script_is_refused(rt: HostRuntime) {
         (4_096, PlayKind::TooLong),
     ];
     for (at_once, kind) in cases {
-        let mut script = Stream {
+        let mut script = Reader::new(Stream {
             byte: b'a',
             left: u64::MAX,
             at_once,
-        };
+        });
         let mut out = Vec::new(rt.alloc());
-        let answer = play_session(rt.alloc(), Echo { left: 1 }, &mut script, &mut out);
+        let answer = play(rt.alloc(), &mut script, &mut out);
         assert_eq!(rt; answer, unnumbered(kind), "{at_once}");
         assert_eq!(rt; out.len(), 0);
     }
@@ -57,16 +53,12 @@ fn a_script_has_at_most_so_many_bytes(rt: HostRuntime) {
         (67_108_865, unnumbered(PlayKind::TooLong)),
     ];
     for (left, want) in cases {
-        let mut script = Stream {
+        let mut script = Reader::new(Stream {
             byte: b'#',
             left,
             at_once: 1_000_000,
-        };
+        });
         let mut out = Vec::new(rt.alloc());
-        assert_eq!(rt;
-            play_session(rt.alloc(), Echo { left: 0 }, &mut script, &mut out),
-            want,
-            "{left}"
-        );
+        assert_eq!(rt; play(rt.alloc(), &mut script, &mut out), want, "{left}");
     }
 }

@@ -1,7 +1,8 @@
 //! Lines and escapes, as an echo of them shows.
 
 use super::fakes::{Echo, Interrupted};
-use crate::{PlayError, PlayKind, play_session};
+use crate::run::run;
+use crate::{PlayError, PlayKind, Reader, play};
 use std::test::Fail;
 
 #[test]
@@ -21,42 +22,36 @@ fn lines_end_at_line_feeds(rt: HostRuntime) -> Result<(), Fail> {
         (b"a\\nb", b"a\\\\nb\n"),
     ];
     for (text, want) in cases {
-        let mut script: &[u8] = text;
-        let mut out = Vec::new(rt.alloc());
-        let echo = Echo { left: 100 };
-        assert_eq!(rt;
-            play_session(rt.alloc(), echo, &mut script, &mut out),
-            Ok(()),
-            "{text:?}"
-        );
-        assert_eq!(rt; out.as_slice(), want, "{text:?}");
+        let printed = run(rt.alloc(), &mut Echo { left: 100 }, text)?;
+        assert_eq!(rt; printed.refusal, None, "{text:?}");
+        assert_eq!(rt; printed.text.as_slice(), want, "{text:?}");
     }
     Ok(())
 }
 
 #[test]
 fn lines_that_are_passed_over_are_counted(rt: HostRuntime) -> Result<(), Fail> {
-    let mut script: &[u8] = b"# one\n\ntwo\n\r\nthree\nfour";
-    let mut out = Vec::new(rt.alloc());
-    let want = Err(PlayError {
+    let script = b"# one\n\ntwo\n\r\nthree\nfour";
+    let want = Some(PlayError {
         line: 5,
         kind: PlayKind::TooLate,
     });
-    let answer = play_session(rt.alloc(), Echo { left: 1 }, &mut script, &mut out);
-    assert_eq!(rt; answer, want);
-    assert_eq!(rt; out.as_slice(), b"two\n".as_slice());
+    let printed = run(rt.alloc(), &mut Echo { left: 1 }, script)?;
+    assert_eq!(rt; printed.refusal, want);
+    assert_eq!(rt; printed.text.as_slice(), b"two\n".as_slice());
     Ok(())
 }
 
 #[test]
 fn interrupted_reads_are_tried_again(rt: HostRuntime) -> Result<(), Fail> {
-    let mut script = Interrupted {
-        script: b"a\nbc",
+    let mut script = Reader::new(Interrupted {
+        script: b"unique 1 2 3 4 a\nunique 1 2 3 5 a",
         is_next: false,
-    };
+    });
     let mut out = Vec::new(rt.alloc());
-    let answer = play_session(rt.alloc(), Echo { left: 9 }, &mut script, &mut out);
+    let answer = play(rt.alloc(), &mut script, &mut out);
     assert_eq!(rt; answer, Ok(()));
-    assert_eq!(rt; out.as_slice(), b"a\nbc\n".as_slice());
+    let want = b"unique 1.M2P3Q4.a\nunique 1.M2P3Q5.a\n";
+    assert_eq!(rt; out.as_slice(), want.as_slice());
     Ok(())
 }

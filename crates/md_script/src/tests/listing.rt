@@ -1,6 +1,6 @@
 //! Listings with known answers.
 ghost use Rattle.std.specs.Prelude.{◌≡◌, true, IfOk};
-ghost use Rattle.md_core.specs.Submitting.{is_delivery};
+ghost use Rattle.md_core.specs.Submitting.{has_machine};
 
 use crate::listing::push_listing;
 use md_core::{Call, Event, World};
@@ -10,7 +10,7 @@ use std::test::Fail;
 
 /// The call that delivers `hi` to folder 0.
 fn delivery(alloc: Global, unique: &[u8]) -> Result<Call, AllocError>
-    ensures { IfOk result (λ call. is_delivery call ≡ true) }
+    ensures { IfOk result (λ call. has_machine call ≡ true) }
 {
     Ok(Call::Deliver {
         folder: 0,
@@ -38,7 +38,11 @@ fn a_message_is_listed_once_from_its_link_on(rt: HostRuntime) -> Result<(), Fail
     // The file is made in tmp, written, linked into new, and taken out of tmp.
     let wants: [&[u8]; 4] = [b"", b"", b"new u - 2\n", b"new u - 2\n"];
     for want in wants {
-        world.run(&[Event { job, now: 1000 }])?;
+        world.run(&[Event {
+            job,
+            now: 1000,
+            own: None,
+        }])?;
         let text = listing(alloc, &world)?;
         assert_eq!(rt; text.as_slice(), want);
     }
@@ -55,7 +59,11 @@ fn messages_are_listed_in_order_of_unique_name(rt: HostRuntime) -> Result<(), Fa
         let call = delivery(alloc, name)?;
         let job = world.submit(call).map_err(|refused| refused.error)?;
         for now in 1..5 {
-            world.run(&[Event { job, now }])?;
+            world.run(&[Event {
+                job,
+                now,
+                own: None,
+            }])?;
         }
     }
     let text = listing(alloc, &world)?;

@@ -1,6 +1,6 @@
 //! Scripts of known transcripts.
 
-use crate::{PlayError, PlayKind, play};
+use crate::{PlayError, PlayKind, Writer, play};
 use std::io;
 use std::io::Write;
 use std::test::Fail;
@@ -12,7 +12,7 @@ struct Row {
     prints: &'static [u8],
 }
 
-const ROWS: [Row; 8] = [
+const ROWS: [Row; 20] = [
     Row {
         shows: "a delivery is written in pieces, linked, and listed",
         script: b"folder inbox\njob deliver inbox 1000.M1P7Q1.a 4 hello\\n\nfinish 1 1000\nlist inbox\n",
@@ -49,9 +49,69 @@ const ROWS: [Row; 8] = [
         prints: b"job 1\n1 create ok\n1 append 4 ok\n1 append 2 ok\n1 link ok\n1 unlink ok\n1 answer delivered\n",
     },
     Row {
+        shows: "a move looks in new and in cur, and then knows that no message is there",
+        script: b"folder a\nfolder b\njob move a u b 1\nfinish 1 1\n",
+        prints: b"job 1\n1 list new ok\n1 list cur ok\n1 answer notthere\n",
+    },
+    Row {
+        shows: "a flag change may have 16 tries",
+        script: b"folder i\njob flag i u S - 16\n",
+        prints: b"job 1\n",
+    },
+    Row {
         shows: "the empty script prints nothing",
         script: b"",
         prints: b"",
+    },
+    Row {
+        shows: "a made unique name, whose host has its slash and its colon escaped",
+        script: b"unique 1000 5 7 1 a/b:c\n",
+        prints: b"unique 1000.M5P7Q1.a\\057b\\072c\n",
+    },
+    Row {
+        shows: "the last microsecond of a second",
+        script: b"unique 1000 999999 7 1 a\n",
+        prints: b"unique 1000.M999999P7Q1.a\n",
+    },
+    Row {
+        shows: "a header is unfolded, its first field of a name counts, and its body is not read",
+        script: b"summary SUBJECT : one\\r\\n two\\nSubject: x\\nDate: Fri, 21 Nov 1997 09:55:06 -0600\\n\\nSubject: y\\n\n",
+        prints: b"subject=one two\ndate=Fri, 21 Nov 1997 09:55:06 -0600\nseconds=880127706\nend\n",
+    },
+    Row {
+        shows: "a header without a body",
+        script: b"summary SUBJECT : one\\r\\n two\\nSubject: x\\nDate: Fri, 21 Nov 1997 09:55:06 -0600\\nSubject: y\\n\n",
+        prints: b"subject=one two\ndate=Fri, 21 Nov 1997 09:55:06 -0600\nseconds=880127706\nend\n",
+    },
+    Row {
+        shows: "lines that are no fields are passed over with their continuations, and a date that is none has no seconds",
+        script: b"summary  x\\nbad line\\n more\\nFrom: a@b \\n  c \\nDate: today\\nSubject:\\nMessage-ID: <1@a>\\n\n",
+        prints: b"subject=\nfrom=a@b   c\nmessage-id=<1@a>\ndate=today\nend\n",
+    },
+    Row {
+        shows: "a date before 1970",
+        script: b"summary Date: Wed, 31 Dec 1969 23:59:59 +0000\\n\n",
+        prints: b"date=Wed, 31 Dec 1969 23:59:59 +0000\nseconds=-1\nend\n",
+    },
+    Row {
+        shows: "messages without a header",
+        script: b"summary\nsummary \\nSubject: x\nsummary : x\\n\nsummary \\r\\nSubject: a\\n\n",
+        prints: b"end\nend\nend\nend\n",
+    },
+    Row {
+        shows: "a carriage return that ends no line is a byte of its value",
+        script: b"summary Subject: a\\rb\\n\nsummary Subject: a\\r\nsummary Subject: a\\n \\n b\\n\n",
+        prints: b"subject=a\\rb\nend\nsubject=a\\r\nend\nsubject=a  b\nend\n",
+    },
+    Row {
+        shows: "a date that is no text has no seconds",
+        script: b"summary Date: \xff\xfe\\n\n",
+        prints: b"date=\xff\xfe\nend\n",
+    },
+    Row {
+        shows: "names and summaries need no store: a folder is added behind them",
+        script: b"unique 1 2 3 4 a\nsummary\nfolder i\nlist i\n",
+        prints: b"unique 1.M2P3Q4.a\nend\n",
     },
 ];
 
@@ -73,7 +133,27 @@ struct Refused {
     text: &'static str,
 }
 
-const REFUSED: [Refused; 30] = [
+const REFUSED: [Refused; 38] = [
+    Refused {
+        script: b"folder a\nfolder b\njob move a u b 1\nfinish 1 1\nstep 1 1\n",
+        prints: b"job 1\n1 list new ok\n1 list cur ok\n1 answer notthere\n",
+        text: "line 5: answered",
+    },
+    Refused {
+        script: b"folder i\njob flag i u S - 17\n",
+        prints: b"",
+        text: "line 2: bad tries",
+    },
+    Refused {
+        script: b"folder i\njob flag i u S - 0\n",
+        prints: b"",
+        text: "line 2: bad tries",
+    },
+    Refused {
+        script: b"folder a\njob move a u a 1\n",
+        prints: b"",
+        text: "line 2: same folder",
+    },
     Refused {
         script: b"folder i\njob deliver i u 4 a\njob deliver i u 4 b\n",
         prints: b"job 1\n",
@@ -230,6 +310,27 @@ const REFUSED: [Refused; 30] = [
         prints: b"",
         text: "line 4: unknown folder",
     },
+    Refused {
+        script: b"unique 1000 1000000 7 1 a\n",
+        prints: b"",
+        text: "line 1: bad micro",
+    },
+    // A word too many comes before what no name is made of.
+    Refused {
+        script: b"unique 1000 1000000 7 1 a b\n",
+        prints: b"",
+        text: "line 1: bad command",
+    },
+    Refused {
+        script: b"unique 1 2 3 4 a\0b",
+        prints: b"",
+        text: "line 1: bad host",
+    },
+    Refused {
+        script: b"summary a\\tb",
+        prints: b"",
+        text: "line 1: bad escape",
+    },
 ];
 
 #[test]
@@ -318,15 +419,17 @@ impl Write for Room {
 fn where_memory_runs_out_nothing_is_written(rt: HostRuntime) {
     let row = &ROWS[0];
     let mut script: &[u8] = row.script;
-    let mut room = Room {
+    let mut sink = Writer::new(Room {
         bytes: [0; 200],
         len: 0,
-    };
+    });
     let no_memory = PlayError {
         line: 0,
         kind: PlayKind::NoMemory,
     };
-    match play(rt.alloc(), &mut script, &mut room) {
+    let answer = play(rt.alloc(), &mut script, &mut sink);
+    let room = sink.into_inner();
+    match answer {
         Ok(()) => {
             let len = room.len.min(room.bytes.len());
             assert_eq!(rt; &room.bytes[..len], row.prints);

@@ -2,6 +2,7 @@
 
 use crate::{PlayError, PlayKind};
 use md_core::CoreError;
+use md_name::NameError;
 use std::test::Fail;
 
 #[test]
@@ -19,6 +20,9 @@ fn a_refusal_prints_its_line_and_text(rt: HostRuntime) -> Result<(), Fail> {
         (PlayKind::Core(CoreError::NameUsed), "line 3: name used"),
         (PlayKind::Core(CoreError::NoJob), "line 3: no job"),
         (PlayKind::Core(CoreError::Answered), "line 3: answered"),
+        (PlayKind::Name(NameError::BadHost), "line 3: bad host"),
+        (PlayKind::Name(NameError::BadMicro), "line 3: bad micro"),
+        (PlayKind::Name(NameError::BadFlag), "line 3: bad flag"),
         (PlayKind::ReadFault, "line 3: read fault"),
         (PlayKind::WriteFault, "line 3: write fault"),
         (PlayKind::TooLong, "line 3: script too long"),

@@ -1,19 +1,13 @@
-use Rattle.std.proofs.Common.{◌≡◌, ℕ, suc, ◌-◌, get_or, arith}
-use Rattle.md_head.proofs.Cuts.{cut_none, cut_some, cut_return}
+use Rattle.std.proofs.Common.{◌∙◌, sym, arith}
+use Rattle.std.proofs.lemmas.Bool.{eqb-true}
+use Rattle.md_head.proofs.Cuts.{no_lines, last_line, first_line}
 use Rattle.md_head.proofs.line.cut_line.Goals as goal
-use Rattle.md_head.proofs.line.cut_line.Goals.{else-at-gt0-via-then-at-gt0+else-text-at-eq-CR, else-at-gt0-via-else-at-gt0}
 
-pub returns-in-None-clause-first : goal.returns-in-None-clause-first
-returns-in-None-clause-first c = cut_none c.args.text.now c.requires c.in-None.ensures
+pub returns-then-is_empty-clause-lines : goal.returns-then-is_empty-clause-lines
+returns-then-is_empty-clause-lines c = no_lines c.args.text.now (eqb-true _ 0 (sym c.is_empty.ensures ∙ c.if-is_empty.true))
 
-pub returns-then-text-at-eq-CR-clause-first : goal.returns-then-text-at-eq-CR-clause-first
-returns-then-text-at-eq-CR-clause-first c = cut_return c.args.text.now c.in-Some.at c.in-Some.ensures c.if-at-gt0.true c.if-text-at-eq-CR.true
+pub returns-in-None-clause-lines : goal.returns-in-None-clause-lines
+returns-in-None-clause-lines c = last_line c.args.text.now (search arith) c.in-None.ensures
 
-pub returns-else-at-gt0-clause-first : goal.returns-else-at-gt0-clause-first
-returns-else-at-gt0-clause-first c =
-    let before : (k : ℕ) → c.in-Some.at ≡ suc k → get_or c.args.text.now k 0 ≡ 13 → get_or c.args.text.now (c.in-Some.at - 1) 0 ≡ 13 =
-    λ k e cr. let same : c.in-Some.at - 1 ≡ k = omega arith in rw same cr in
-    elim c.else-at-gt0.branch [
-      | else-at-gt0-via-then-at-gt0+else-text-at-eq-CR w ↦ cut_some c.args.text.now c.in-Some.at c.in-Some.ensures (λ k e cr. w.if-text-at-eq-CR.false (before k e cr))
-      | else-at-gt0-via-else-at-gt0 w ↦ cut_some c.args.text.now c.in-Some.at c.in-Some.ensures (λ k e cr. absurd (omega arith))
-    ]
+pub returns-in-Some-clause-lines : goal.returns-in-Some-clause-lines
+returns-in-Some-clause-lines c = rw c.without_return.ensures (first_line c.args.text.now c.in-Some.at c.in-Some.ensures)

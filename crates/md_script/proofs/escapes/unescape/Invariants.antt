@@ -1,7 +1,9 @@
-use Rattle.std.proofs.Common.{◌≡◌, drop}
-use Rattle.md_script.specs.Escapes.{unescaped, unescaped_from}
-use Rattle.md_script.proofs.Escaping.{with_front}
+use Rattle.std.proofs.Common.{◌≡◌, length}
+use Rattle.md_script.specs.Escapes.{behind, unescaped}
 use Rattle.md_script.proofs.escapes.unescape.Given as goal
 
-abbrev pub invariant-loop-b : goal.invariant-loop-b
-invariant-loop-b l = with_front l.bytes.items (unescaped_from l.is_letter (drop l.b-index l.text)) ≡ unescaped l.fn.text
+abbrev pub invariant-loop-bytes : goal.invariant-loop-bytes
+invariant-loop-bytes l = behind l.bytes.items (unescaped l.left) ≡ unescaped l.fn.text
+
+abbrev pub decreases-loop-bytes : goal.decreases-loop-bytes
+decreases-loop-bytes l = length l.left

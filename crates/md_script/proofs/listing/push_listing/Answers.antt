@@ -16,7 +16,7 @@ pub returns : goal.returns
 returns g c =
     on_ok_weaker c.push_lines.result
     (λ printed. printed ∙ ap (λ (text : List ℕ). c.args.out.now.items ++ text)
-    (lines-both (dirs_of c.args.world.now) c.args.folder (one_path c.args.world.now c.interleaves.ensures)
+    (lines-both (dirs_of c.args.world.now) c.args.folder (one_path c.args.world.now c.interleaves.ensures.theorem)
     (by_name c.new-messages.result.entries) (by_name c.gather.new.messages.entries) (by_name c.gather-2.new.messages.entries)
     (ap by_name c.new-messages.ensures.empty) c.in_ok-gather.ensures c.in_ok-gather-2.ensures))
     c.push_lines.ensures

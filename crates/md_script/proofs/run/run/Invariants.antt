@@ -5,8 +5,8 @@ use Rattle.md_script.proofs.run.run.Given as goal
 
 abbrev pub invariant-loop-first : goal.invariant-loop-first
 invariant-loop-first g l = record {
-  counted : l.line + length l.left ≤ length l.fn.script + 1;
-  same : printed l.text.items (run_from g.S.Session.step l.line l.session (lines_of l.left)) ≡ transcript_of g.S.Session.step l.fn.session l.fn.script;
+  counted : l.passed + length l.left ≤ length l.fn.script;
+  same : printed l.text.items (run_from g.S.Session.step (l.passed + 1) l.session (lines_of l.left)) ≡ transcript_of g.S.Session.step l.fn.session l.fn.script;
 }
 
 abbrev pub decreases-loop-first : goal.decreases-loop-first

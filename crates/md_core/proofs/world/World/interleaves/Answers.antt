@@ -5,5 +5,8 @@ use Rattle.md_core.proofs.EachTurn.{each-turn}
 use Rattle.md_core.proofs.Interleaves.{interleaves}
 use Rattle.md_core.proofs.world.World.interleaves.Goals as goal
 
-pub returns : goal.returns
-returns g c = interleaves each-turn c.args.self.now (subst (λ (r : Run). IsRun r) c.self.view_is c.self.invariant.run)
+pub returns-clause-run : goal.returns-clause-run
+returns-clause-run g c = subst (λ (r : Run). IsRun r) c.self.view_is c.self.invariant.run
+
+pub returns-clause-theorem : goal.returns-clause-theorem
+returns-clause-theorem g c = interleaves each-turn c.args.self.now (returns-clause-run g c)

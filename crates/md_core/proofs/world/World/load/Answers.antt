@@ -1,3 +1,4 @@
+use Rattle.md_core.specs.Turn.{device}
 use Rattle.md_core.proofs.EachTurn.{each-turn}
 use Rattle.md_core.proofs.Interleaves.{interleaves}
 use Rattle.md_core.proofs.Submitted.{load-world}
@@ -5,8 +6,9 @@ use Rattle.md_core.proofs.world.World.load.Goals as goal
 
 pub invariant_of-result : goal.invariant_of-result
 invariant_of-result g c =
-    rw (c.of.ensures, c.new.ensures.items, c.new-2.ensures, c.new-3.ensures.0, c.new-3.ensures.1, c.new-3.ensures.2)
-    (load-world (g.D.Dirs.state c.args.dirs) c.folders-sound.ensures.sound c.requires (g.D.Dirs.failures c.args.dirs))
+    let first = device (g.D.Dirs.state c.args.dirs) (g.D.Dirs.failures c.args.dirs) (g.D.Dirs.calls c.args.dirs) in
+    rw (c.of.ensures, c.new.ensures.items, c.new-in-Ok.ensures.0, c.new-in-Ok.ensures.1, c.new-in-Ok.ensures.2)
+    (load-world first c.folders-sound.ensures.sound c.in-Ok.ensures.accepted c.in-Ok.looked.clock c.in-Ok.ensures.clock c.in-Ok.looked.used c.in-Ok.ensures.used)
 
-pub returns-clause-theorem : goal.returns-clause-theorem
-returns-clause-theorem g c = interleaves each-turn _ (invariant_of-result g c).run
+pub returns-in-Ok-clause-theorem : goal.returns-in-Ok-clause-theorem
+returns-in-Ok-clause-theorem g c = interleaves each-turn _ (invariant_of-result g c).run

@@ -1,21 +1,33 @@
-use Rattle.std.proofs.Common.{◌≡◌, ◌∙◌, None, ap}
-use Rattle.md_core.specs.Machine.{Machine}
-use Rattle.md_core.specs.Runs.{Run}
+use Rattle.std.proofs.Common.{◌≡◌, ◌∙◌, None, ap, sym}
+use Rattle.md_core.specs.Turn.{device}
+use Rattle.md_core.specs.Runs.{Run, effects_of}
 use Rattle.md_core.specs.Submitting.{submit_refusal}
 use Rattle.md_core.specs.Worlds.{run_of}
 use Rattle.md_core.proofs.EachTurn.{each-turn}
 use Rattle.md_core.proofs.Interleaves.{interleaves}
-use Rattle.md_core.proofs.Submitted.{submit-world}
+use Rattle.md_core.proofs.Submitted.{submit-world, run-submitted, effects-submitted}
 use Rattle.md_core.proofs.world.World.submit.Goals as goal
 
 pub invariant_of-self-2 : goal.invariant_of-self-2
 invariant_of-self-2 g c =
     let s = c.self.inside in
-    let image = g.D.Dirs.state s.image.value in
-    let kept : Machine = record { dirs = g.D.Dirs.state s.dirs; clock = s.clock; jobs = s.jobs.items; effects = s.log.effects.items } in
-    let goes : submit_refusal (run_of image s.jobs.items s.log.events.items s.log.marks.items) c.args.call ≡ None = ap (λ (r : Run). submit_refusal r c.args.call) c.self.view_is ∙ c.in_default.ensures in
+    let first = device (g.D.Dirs.state s.image.value) (g.D.Dirs.failures s.image.value) (g.D.Dirs.calls s.image.value) in
+    let held = device (g.D.Dirs.state s.dirs) (g.D.Dirs.failures s.dirs) (g.D.Dirs.calls s.dirs) in
+    let goes : submit_refusal (run_of first s.jobs.items s.log.events.items s.log.marks.items) c.args.call ≡ None = ap (λ (r : Run). submit_refusal r c.args.call) c.self.view_is ∙ sym c.in_default.ensures in
     rw (c.push_reserved.ensures.items, c.new.ensures, c.prepare.ensures.jobs)
-    (submit-world image s.jobs.items s.log.events.items s.log.marks.items kept (g.D.Dirs.failures s.image.value) (g.D.Dirs.failures s.dirs) s.used c.args.call c.requires c.self.invariant goes c.prepare.new.used c.in_default-prepare.ensures.used)
+    (submit-world first s.jobs.items s.log.events.items s.log.marks.items held s.clock s.log.effects.items s.used c.args.call c.self.invariant c.requires goes c.prepare.new.used c.in_default-prepare.ensures.used)
 
 pub returns-clause-theorem : goal.returns-clause-theorem
 returns-clause-theorem g c = interleaves each-turn _ (invariant_of-self-2 g c).run
+
+-- the run before, by the world's fields
+pub returns-clause-effects : goal.returns-clause-effects
+returns-clause-effects g c =
+    let s = c.self.inside in
+    let first = device (g.D.Dirs.state s.image.value) (g.D.Dirs.failures s.image.value) (g.D.Dirs.calls s.image.value) in
+    let held = device (g.D.Dirs.state s.dirs) (g.D.Dirs.failures s.dirs) (g.D.Dirs.calls s.dirs) in
+    let goes : submit_refusal (run_of first s.jobs.items s.log.events.items s.log.marks.items) c.args.call ≡ None = ap (λ (r : Run). submit_refusal r c.args.call) c.self.view_is ∙ sym c.in_default.ensures in
+    rw (c.push_reserved.ensures.items, c.new.ensures, c.prepare.ensures.jobs)
+    (ap effects_of (run-submitted first s.jobs.items s.log.events.items s.log.marks.items held s.clock s.log.effects.items s.used c.args.call)
+    ∙ effects-submitted first s.jobs.items s.log.events.items s.log.marks.items held s.clock s.log.effects.items s.used c.args.call c.self.invariant c.requires goes c.prepare.new.used c.in_default-prepare.ensures.used
+    ∙ ap effects_of c.self.view_is)

@@ -10,5 +10,5 @@ rows_in-requires c =
 pub returns-clause-rows : goal.returns-clause-rows
 returns-clause-rows c =
     let s = c.self.inside in
-    let shown = rw (c.deref.ensures.value, c.deref-2.ensures.value) at c.in_ok-rows_in.ensures in
+    let shown = rw (c.deref.ensures.value, c.deref-2.ensures.value) at c.in_ok-rows.ensures in
     rw (← c.self.view_is) (shown ∙ rows-shown s.folders s.rows.items s.files.items c.self.invariant c.args.folder c.args.place)

@@ -7,14 +7,14 @@ use Rattle.md_dirs.proofs.Kept.{sorted-remove}
 use Rattle.md_dirs.proofs.Steps.{rename-missing, rename-wanting, rename-same, rename-made, whole-moved, number_if, row-file}
 use Rattle.md_dirs.proofs.plain.PlainDirsDirs.rename.Goals as goal
 
-pub returns-in_default : goal.returns-in_default
-returns-in_default c =
+pub returns-in_default-clause-meets : goal.returns-in_default-clause-meets
+returns-in_default-clause-meets c =
     let s = c.self.inside in
     let gap = rw c.deref.ensures.value at c.in_default.ensures.absent in
     rw (← c.self.view_is) (rename-missing s.folders s.rows.items s.files.items c.args.old.now c.args.new.now c.self.invariant gap.absent)
 
-pub returns-then-is_same : goal.returns-then-is_same
-returns-then-is_same c =
+pub returns-then-is_same-clause-meets : goal.returns-then-is_same-clause-meets
+returns-then-is_same-clause-meets c =
     let s = c.self.inside in
     let at = rw c.deref.ensures.value at c.in-Ok.ensures.found in
     let file = row-file s.rows.items c.args.old.now c.in-Ok.from c.index.result.now at c.index.ensures in
@@ -22,8 +22,8 @@ returns-then-is_same c =
     let same : is_one_file (Some c.index.result.now.1) (find path_cmp c.args.new.now s.rows.items) ≡ true = ap (is_one_file (Some c.index.result.now.1)) (sym new) ∙ sym c.is_same.ensures ∙ c.if-is_same.true in
     rw (← c.self.view_is) (rename-same s.folders s.rows.items s.files.items c.args.old.now c.args.new.now c.self.invariant c.index.result.now.1 file c.if-new-self.false same)
 
-pub returns-in_err-name : goal.returns-in_err-name
-returns-in_err-name c =
+pub returns-in_err-name-clause-meets : goal.returns-in_err-name-clause-meets
+returns-in_err-name-clause-meets c =
     let s = c.self.inside in
     let at = rw c.deref.ensures.value at c.in-Ok.ensures.found in
     let file = row-file s.rows.items c.args.old.now c.in-Ok.from c.index.result.now at c.index.ensures in
@@ -50,10 +50,10 @@ invariant_of-self-2 c =
     let new = rw c.deref-2.ensures.value at c.file_of-there.ensures in
     let differ : is_one_file (Some c.index.result.now.1) (find path_cmp c.args.new.now s.rows.items) ≡ false = ap (is_one_file (Some c.index.result.now.1)) (sym new) ∙ sym c.is_same.ensures ∙ c.if-is_same.false in
     rw (c.release.ensures, c.deref-3.ensures.value, new, c.in_ok-put_row.ensures.rows, c.remove-row.ensures.items, c.in_ok-name.ensures)
-    (whole-moved s.folders s.rows.items s.files.items c.args.old.now c.args.new.now c.self.invariant c.index.result.now.1 c.in-Ok.from file at differ)
+    (whole-moved s.folders s.rows.items s.files.items c.args.old.now c.args.new.now c.self.invariant c.index.result.now.1 c.in-Ok.from file c.if-new-self.false at differ)
 
-pub returns : goal.returns
-returns c =
+pub returns-clause-meets : goal.returns-clause-meets
+returns-clause-meets c =
     let s = c.self.inside in
     let at = rw c.deref.ensures.value at c.in-Ok.ensures.found in
     let file = row-file s.rows.items c.args.old.now c.in-Ok.from c.index.result.now at c.index.ensures in

@@ -9,4 +9,4 @@ unfolding unfolded
 returns c =
     let bytes = c.in_ok-bytes.bytes.items in
     let kept : c.trim_end-length.result.now ≡ trimmed_end bytes = c.trim_end-length.ensures ∙ ap trimmed_end c.deref.ensures.value in
-    c.new.ensures ∙ c.truncate.ensures.items ∙ ap (λ left. take (length left) bytes) kept ∙ end_taken bytes ∙ ap trimmed_end c.in_ok-bytes.ensures
+    c.of.ensures ∙ c.truncate.ensures.items ∙ ap (λ left. take (length left) bytes) kept ∙ end_taken bytes ∙ ap trimmed_end c.in_ok-bytes.ensures

@@ -1,6 +1,6 @@
 use Rattle.std.proofs.Common.{sym, ◌∙◌, ap}
 use Rattle.std.specs.FinSet as set
-use Rattle.md_name.specs.Words.{contains-letters_in}
+use Rattle.md_name.specs.WordSets.{contains-letters_in}
 use Rattle.md_name.proofs.Bits.{has_bit, no_letter}
 use Rattle.md_name.proofs.flags.Flags.has.Goals as goal
 

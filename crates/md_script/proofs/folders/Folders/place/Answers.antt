@@ -1,4 +1,4 @@
-use Rattle.std.proofs.Common.{◌≡◌, ◌∙◌, sym, ap, Some}
+use Rattle.std.proofs.Common.{◌≡◌, ◌∙◌, sym}
 use Rattle.md_script.specs.Folders.{place_of}
 use Rattle.md_script.proofs.Places.{place_of-names_of}
 use Rattle.md_script.proofs.folders.Folders.place.Goals as goal

@@ -18,18 +18,18 @@ loop-alloc-preserved c =
       finishes-more _ _ _ _ _ _ _ so_far.2 step.1 c.in_ok-step-2.ensures.nearer,
     )
 
-pub returns : goal.returns
-returns c =
+pub returns-clause-finish : goal.returns-clause-finish
+returns-clause-finish c =
     let so_far = c.loop-alloc.invariant in
     (so_far.0, finishes-end _ _ _ _ _ so_far.2 (ap is_some (sym c.answer.ensures) ∙ c.loop-alloc-test.ensures), so_far.1)
 
-pub returns-in_err-step : goal.returns-in_err-step
-returns-in_err-step c =
+pub returns-in_err-step-clause-finish : goal.returns-in_err-step-clause-finish
+returns-in_err-step-clause-finish c =
     passes _ _ _ _ _ _ c.from_residual.ensures.1
     (finishes-refused c.args.world.now c.args.job c.args.now c.step.new.world c.step.new.world c.args.out.now.items c.step.new.out.items c.in_err-step.field-0.0 c.in_err-step.ensures.step)
 
-pub returns-in_err-step-2 : goal.returns-in_err-step-2
-returns-in_err-step-2 c =
+pub returns-in_err-step-2-clause-finish : goal.returns-in_err-step-2-clause-finish
+returns-in_err-step-2-clause-finish c =
     passes (finished c.args.world.now c.args.job c.args.now) c.step-in-loop-alloc.new.world c.args.out.now.items c.step-in-loop-alloc.new.out.items c.in_err-step-2.field-0.0 _
     c.from_residual-in_err-step-2.ensures.1
     (finishes-unrefused c.args.world.now c.args.job c.args.now c.loop-alloc.world c.loop-alloc.invariant.0 c.loop-alloc.invariant.2 (ap is_some (sym c.answer.ensures) ∙ c.loop-alloc-test.ensures)

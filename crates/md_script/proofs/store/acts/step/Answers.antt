@@ -3,7 +3,7 @@ use Rattle.md_script.proofs.store.acts.step.Goals as goal
 
 pub returns : goal.returns
 returns c = record {
-  step = (_, stepped-ok _ _ _ _ _ _ c.in-Ok.ensures.refused c.in-Ok.ensures.event c.in-Ok.ensures.shown c.marks.ensures.2, c.in_ok-push_step.ensures);
+  step = (_, stepped-ok _ _ _ _ _ _ c.in-Ok.ensures.refused c.in-Ok.ensures.event c.in-Ok.ensures.shows c.counts.ensures.2, c.in_ok-push_step.ensures);
   nearer = c.in-Ok.ensures.nearer;
 }
 

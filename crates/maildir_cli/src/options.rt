@@ -1,0 +1,55 @@
+//! The subcommands of the program, and its help.
+
+use clap::{Arg, ArgAction, Command, value_parser};
+use std::alloc::{AllocError, Global};
+
+/// The most threads, and the most workers of an index.
+pub(crate) const MOST_THREADS: u64 = 16;
+
+pub(crate) const MOST_WORKERS: u64 = 64;
+
+const ABOUT: &str =
+    "Plays scripts over a Maildir store in memory, and prints what each directory call of its jobs did. \
+What it prints is proved to be the transcript of the script.";
+
+const AFTER: &str =
+    "The script is read whole from standard input: at most 67,108,864 bytes, in at most 1,048,576 reads.
+
+Status:
+  0  the script ran to its end, or help was asked for
+  1  a line was refused, or reading, writing or memory failed (line 0);
+     `line N: TEXT` on standard error says which
+  2  the words of the command line are wrong
+
+Example:
+  printf 'folder i\\njob deliver i u 4 hello\\\\n\\nfinish 1 1000\\nlist i\\n' | maildir_cli play
+
+docs/SCRIPT.md has the language, and `man -l docs/maildir_cli.1` the manual.";
+
+/// The command line: a subcommand, and for two of them a number.
+pub(crate) fn options<'a>(alloc: Global) -> Result<Command<'a>, AllocError> {
+    let play = Command::new(alloc, "play").about("Plays the script on standard input");
+    let threads = counted(alloc, "threads", MOST_THREADS as i64)?.about(
+        "Runs the jobs of the script on N threads, 1 to 16 (still to come)",
+    );
+    let index = counted(alloc, "index", MOST_WORKERS as i64)?.about(
+        "Prints the summaries of its messages, made by N workers, 1 to 64 (still to come)",
+    );
+    Command::new(alloc, "maildir_cli")
+        .version("0.1.0")
+        .about(ABOUT)
+        .after_help(AFTER)
+        .no_binary_name(true)
+        .subcommand_required(true)
+        .subcommand(play)?
+        .subcommand(threads)?
+        .subcommand(index)
+}
+
+fn counted<'a>(alloc: Global, name: &'a str, most: i64) -> Result<Command<'a>, AllocError> {
+    let count = Arg::new(alloc, "N")
+        .required(true)
+        .action(ArgAction::Set)
+        .value_parser(value_parser!(u64).range(1..=most));
+    Command::new(alloc, name).arg(count)
+}

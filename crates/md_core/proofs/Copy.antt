@@ -1,0 +1,3 @@
+pub mod Names
+pub mod Does
+pub mod Turns

@@ -1,0 +1,5 @@
+pub mod Order
+pub mod Faults
+pub mod Rows
+pub mod Whole
+pub mod Loaded

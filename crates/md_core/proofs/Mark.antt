@@ -1,0 +1,4 @@
+pub mod Moves
+pub mod Sets
+pub mod Does
+pub mod Turns

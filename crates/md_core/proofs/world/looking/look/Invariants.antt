@@ -1,0 +1,7 @@
+use Rattle.md_core.specs.Looking.{IsLookOf, entries_before}
+use Rattle.md_core.proofs.world.looking.look.Given as goal
+
+abbrev pub invariant-loop-folder : goal.invariant-loop-folder
+invariant-loop-folder g l =
+    let s = g.D.Dirs.state l.dirs in
+    IsLookOf s (entries_before s l.folder 0) l.seen

@@ -1,0 +1,8 @@
+use Rattle.md_core.specs.Looking.{IsLookOf}
+use Rattle.md_core.proofs.Loading.Rows.{entries_until}
+use Rattle.md_core.proofs.world.looking.look_in.Given as goal
+
+abbrev pub invariant-loop-at : goal.invariant-loop-at
+invariant-loop-at g l =
+    let s = g.D.Dirs.state l.dirs in
+    IsLookOf s (entries_until s l.folder l.place l.at) l.seen

@@ -1,0 +1,102 @@
+//! Jobs: the call of each, for contracts alone, and how it stands.
+ghost use Rattle.std.specs.Prelude.{◌≡◌, true, Some, IfOk, IfErr, OnErr};
+ghost use Rattle.md_core.specs.Turn.{device, IsUntouched};
+ghost use Rattle.md_core.specs.Machine.{is_working, settled};
+ghost use Rattle.md_core.specs.Standing.{TakesTurn, job_of};
+ghost use Rattle.md_core.specs.Runs.{answer_of};
+ghost use Rattle.md_core.specs.Submitting.{has_machine};
+
+use crate::error::CoreError;
+use crate::image::Image;
+use crate::jobs::answer::Answer;
+use crate::jobs::call::{Call, JobId};
+use crate::jobs::step::Moment;
+use crate::jobs::task::Task;
+use crate::jobs::turn::Turned;
+use md_dirs::Dirs;
+use std::alloc::Global;
+use std::marker::Model;
+
+/// How far a job has come. One that is answered holds nothing but its answer.
+#[derive(Debug, Drop)]
+pub(crate) enum Progress {
+    Working(Task),
+    Answered(Answer),
+}
+
+/// A job. Its call is there for contracts alone, and takes no bytes.
+#[derive(Drop)]
+pub(crate) struct Job {
+    call: Image<Call>,
+    progress: Progress,
+}
+
+impl Model for Job {
+    ghost use Rattle.md_core.specs.Standing.{JobView, standing_by};
+    ghost use Rattle.std.specs.Coded.{codes};
+    ghost use Rattle.md_name.specs.contracts.flags.Flags as flags;
+
+    ghost Value = { JobView };
+
+    ghost coded = { Prim.hlevel (codes, flags.the_row.coded) };
+
+    ghost view = { λ j. record { call = j.call.value; standing = standing_by j.progress } };
+}
+
+impl Job {
+    /// A job that has not begun.
+    pub(crate) fn new(call: Call) -> Job
+        requires { has_machine call ≡ true }
+        ensures { result ≡ job_of call }
+    {
+        let image = Image::of(&call);
+        Job {
+            call: image,
+            progress: Progress::Working(Task::new(call)),
+        }
+    }
+
+    /// The answer, if there is one.
+    pub(crate) fn answer(&self) -> Option<Answer>
+        ensures { result ≡ answer_of (Some self.now.standing) }
+    {
+        match &self.progress {
+            Progress::Working(_) => None,
+            Progress::Answered(answer) => Some(*answer),
+        }
+    }
+
+    /// Takes the next turn, and keeps the answer. After a refusal nothing has changed.
+    pub(crate) fn turn<D: Dirs>(
+        &mut self,
+        alloc: Global,
+        dirs: &mut D,
+        job: JobId,
+        at: Moment,
+    ) -> Result<Turned, CoreError>
+        requires { is_working self.old.standing ≡ true }
+        ensures ok { IfOk result (λ t.
+            TakesTurn job at self.old (device (D.state dirs.old) (D.failures dirs.old) (D.calls dirs.old)) t.out t.effect
+            self.new (device (D.state dirs.new) (D.failures dirs.new) (D.calls dirs.new))) }
+        ensures memory { IfErr result (λ e. e ≡ CoreError.NoMemory) }
+        ensures job { OnErr result (self.new ≡ self.old) }
+        ensures dirs { OnErr result (IsUntouched (device (D.state dirs.old) (D.failures dirs.old) (D.calls dirs.old))
+            (device (D.state dirs.new) (D.failures dirs.new) (D.calls dirs.new))) }
+    {
+        let Progress::Working(task) = &mut self.progress else {
+            unreachable!()
+        };
+        let Turned { out, effect } = task.turn(alloc, dirs, job, at)?;
+        self.settle(out.answer);
+        Ok(Turned { out, effect })
+    }
+
+    // Keeps the answer, if there is one, and lets go what the task held.
+    fn settle(&mut self, answer: Option<Answer>)
+        ensures { self.new ≡ record self.old { standing = settled self.old.standing answer } }
+    {
+        if let Some(answer) = answer {
+            self.progress = Progress::Answered(answer);
+        }
+    }
+}

@@ -1,0 +1,327 @@
+// Which directories a world may begin with, what it finds in them, and which messages it reads. The bytes of each file are its name.
+use super::{copied, delivery, submit};
+use crate::{CoreError, World};
+use md_dirs::{Bytes, DirError, Dirs, ImageFile, Path, Place, PlainDirs};
+use std::alloc::Global;
+use std::process::Abort;
+use std::test::Fail;
+
+// A file by its folder, its place, its name and its stamp.
+type Named<'a> = (u32, Place, &'a [u8], u64);
+
+// Directories of two folders.
+fn built(alloc: Global, files: &[Named<'_>]) -> Result<PlainDirs, DirError> {
+    let mut image = Vec::new(alloc);
+    for (folder, place, name, stamp) in files {
+        let path = Path {
+            folder: *folder,
+            place: *place,
+            name: Bytes::copied(alloc, name)?,
+        };
+        image.push(ImageFile {
+            path,
+            bytes: Bytes::copied(alloc, name)?,
+            stamp: *stamp,
+        })?;
+    }
+    PlainDirs::from_image(alloc, 2, image)
+}
+
+fn directories(alloc: Global, files: &[Named<'_>]) -> Result<PlainDirs, DirError> {
+    match built(alloc, files) {
+        Err(DirError::NoMemory) => built(alloc, files),
+        made => made,
+    }
+}
+
+// Whether directories hold these files and no other.
+fn holds(dirs: &PlainDirs, files: &[Named<'_>]) -> bool {
+    let mut count = 0usize;
+    for folder in 0..2 {
+        for place in [Place::Tmp, Place::New, Place::Cur] {
+            for at in 0..files.len() {
+                if dirs.row_at(folder, place, at).is_some() {
+                    count = count.saturating_add(1);
+                }
+            }
+        }
+    }
+    let all_there = files.iter().all(|(folder, place, name, _)| dirs.read(*folder, *place, name)
+        == Some(*name));
+    all_there && count == files.len()
+}
+
+// Loads directories of these files, and once more where a growth was refused. After each refusal the directories are the same.
+fn load(
+    rt: &impl Abort,
+    alloc: Global,
+    files: &[Named<'_>],
+) -> Result<Result<World<PlainDirs>, CoreError>, DirError> {
+    let refused = match World::load(alloc, directories(alloc, files)?) {
+        Ok(world) => return Ok(Ok(world)),
+        Err(refused) => refused,
+    };
+    assert!(rt; holds(&refused.dirs, files));
+    if refused.error != CoreError::NoMemory {
+        return Ok(Err(refused.error));
+    }
+    Ok(World::load(alloc, refused.dirs).map_err(|refused| refused.error))
+}
+
+// Where directories of these files are refused.
+fn refusal(
+    rt: &impl Abort,
+    alloc: Global,
+    files: &[Named<'_>],
+) -> Result<Option<CoreError>, DirError> {
+    Ok(load(rt, alloc, files)?.err())
+}
+
+#[test]
+fn names_have_255_bytes_at_most(rt: HostRuntime) -> Result<(), Fail> {
+    let long = [b'n'; 256];
+    for (len, refused) in [
+        (255, None),
+        (256, Some(CoreError::BadName)),
+        (0, Some(CoreError::BadName)),
+    ] {
+        let files = [(1, Place::Tmp, &long[..len], 7)];
+        assert!(rt; refusal(&rt, rt.alloc(), &files)? == refused, "{len}");
+    }
+    // Such a name is also over 200 bytes.
+    let files = [(0, Place::New, long.as_slice(), 7)];
+    assert!(rt; refusal(&rt, rt.alloc(), &files)? == Some(CoreError::BadName));
+    Ok(())
+}
+
+#[test]
+fn names_have_no_separator(rt: HostRuntime) -> Result<(), Fail> {
+    for name in [b"a/b".as_slice(), b"\0", b"a\n", b"\ra", b"u:2,/"] {
+        for place in [Place::Tmp, Place::New, Place::Cur] {
+            let files = [(0, place, name, 0)];
+            assert!(rt;
+                refusal(&rt, rt.alloc(), &files)? == Some(CoreError::BadName),
+                "{name:?}"
+            );
+        }
+    }
+    Ok(())
+}
+
+#[test]
+fn unique_parts_have_200_bytes_at_most(rt: HostRuntime) -> Result<(), Fail> {
+    let mut name = [b'u'; 255];
+    name[200] = b':';
+    for len in [200, 201, 255] {
+        let files = [(1, Place::Cur, &name[..len], 0)];
+        assert!(rt; refusal(&rt, rt.alloc(), &files)? == None, "{len}");
+    }
+    name[200] = b'u';
+    for place in [Place::New, Place::Cur] {
+        let files = [(1, place, &name[..201], 0)];
+        assert!(rt; refusal(&rt, rt.alloc(), &files)? == Some(CoreError::LongUnique));
+    }
+    // A file in tmp and a name that begins with a dot are no messages.
+    let tmp = [(1, Place::Tmp, &name[..201], 0)];
+    assert!(rt; refusal(&rt, rt.alloc(), &tmp)? == None);
+    name[0] = b'.';
+    let dot = [(1, Place::New, &name[..201], 0)];
+    assert!(rt; refusal(&rt, rt.alloc(), &dot)? == None);
+    Ok(())
+}
+
+#[test]
+fn a_unique_part_has_one_message(rt: HostRuntime) -> Result<(), Fail> {
+    let first = (0, Place::New, b"a".as_slice(), 0);
+    let again: [Named<'_>; 4] = [
+        (0, Place::New, b"a:2,S", 0),
+        (0, Place::Cur, b"a", 0),
+        (1, Place::New, b"a:x", 0),
+        (1, Place::Cur, b"a:", 0),
+    ];
+    for second in again {
+        let files = [first, second];
+        assert!(rt; refusal(&rt, rt.alloc(), &files)? == Some(CoreError::DuplicateUnique));
+    }
+    let others: [Named<'_>; 4] = [
+        (0, Place::Tmp, b"a", 0),
+        (1, Place::Tmp, b"a:2,S", 0),
+        (1, Place::New, b".a", 0),
+        (1, Place::Cur, b"a!", 0),
+    ];
+    for second in others {
+        let files = [first, second];
+        assert!(rt; refusal(&rt, rt.alloc(), &files)? == None);
+    }
+    Ok(())
+}
+
+#[test]
+fn files_that_are_no_messages_may_be_alike(rt: HostRuntime) -> Result<(), Fail> {
+    let files: [Named<'_>; 6] = [
+        (0, Place::Tmp, b"t", 0),
+        (1, Place::Tmp, b"t", 0),
+        (0, Place::New, b".hid", 0),
+        (1, Place::Cur, b".hid", 0),
+        (0, Place::Cur, b":2,S", 0),
+        (1, Place::Cur, b":2,S", 0),
+    ];
+    assert!(rt; refusal(&rt, rt.alloc(), &files)? == None);
+    Ok(())
+}
+
+#[test]
+fn the_first_fault_is_the_refusal(rt: HostRuntime) -> Result<(), Fail> {
+    let long = [b'a'; 201];
+    // By folder.
+    let files: [Named<'_>; 2] = [(1, Place::Tmp, b"a/b", 0), (0, Place::Cur, &long, 0)];
+    assert!(rt; refusal(&rt, rt.alloc(), &files)? == Some(CoreError::LongUnique));
+    // By place: tmp, then new, then cur.
+    let files: [Named<'_>; 2] = [(1, Place::New, &long, 0), (1, Place::Tmp, b"z/", 0)];
+    assert!(rt; refusal(&rt, rt.alloc(), &files)? == Some(CoreError::BadName));
+    let files: [Named<'_>; 3] = [
+        (1, Place::Cur, b"!/", 0),
+        (1, Place::New, b"u", 0),
+        (0, Place::Cur, b"u:2,", 0),
+    ];
+    assert!(rt; refusal(&rt, rt.alloc(), &files)? == Some(CoreError::DuplicateUnique));
+    // By name.
+    let files: [Named<'_>; 2] = [(0, Place::New, b"b/", 0), (0, Place::New, &long, 0)];
+    assert!(rt; refusal(&rt, rt.alloc(), &files)? == Some(CoreError::LongUnique));
+    let files: [Named<'_>; 2] = [(0, Place::New, b"Z/", 0), (0, Place::New, &long, 0)];
+    assert!(rt; refusal(&rt, rt.alloc(), &files)? == Some(CoreError::BadName));
+    Ok(())
+}
+
+#[test]
+fn messages_are_read_by_their_unique_names(rt: HostRuntime) -> Result<(), Fail> {
+    let files: [Named<'_>; 12] = [
+        (0, Place::Tmp, b"t", 0),
+        (0, Place::New, b"a", 0),
+        (0, Place::New, b"b!", 0),
+        (0, Place::New, b"b,S=5", 0),
+        (0, Place::New, b"b:2,S", 0),
+        (0, Place::New, b"ba", 0),
+        (0, Place::New, b".hid", 0),
+        (1, Place::New, b"c:", 0),
+        (1, Place::Cur, b"b0:2,", 0),
+        (1, Place::Cur, b"d:x:y", 0),
+        (1, Place::Cur, b"e", 0),
+        (1, Place::Cur, b"\xff\xfe", 0),
+    ];
+    let world = load(&rt, rt.alloc(), &files)??;
+    let found: [(&[u8], &[u8]); 10] = [
+        (b"a", b"a"),
+        (b"b!", b"b!"),
+        (b"b,S=5", b"b,S=5"),
+        (b"b", b"b:2,S"),
+        (b"ba", b"ba"),
+        (b"c", b"c:"),
+        (b"b0", b"b0:2,"),
+        (b"d", b"d:x:y"),
+        (b"e", b"e"),
+        (b"\xff\xfe", b"\xff\xfe"),
+    ];
+    for (unique, bytes) in found {
+        assert!(rt; world.read(unique) == Some(bytes), "{unique:?}");
+    }
+    for unique in [
+        b"".as_slice(),
+        b"t",
+        b".hid",
+        b"b:2,S",
+        b"c:",
+        b"d:x",
+        b"b\xff",
+        b"z",
+        b"\xff",
+    ] {
+        assert!(rt; world.read(unique) == None, "{unique:?}");
+    }
+    Ok(())
+}
+
+// The name of one of many messages.
+fn many_name(at: u8) -> [u8; 7] {
+    [b'm', b'0' + at / 10, b'0' + at % 10, b':', b'2', b',', b'S']
+}
+
+// Directories with forty messages in cur of folder 1.
+fn many(alloc: Global) -> Result<PlainDirs, DirError> {
+    let mut image = Vec::new(alloc);
+    for at in 0..40 {
+        let path = Path {
+            folder: 1,
+            place: Place::Cur,
+            name: Bytes::copied(alloc, &many_name(at))?,
+        };
+        image.push(ImageFile {
+            path,
+            bytes: Bytes::copied(alloc, &many_name(at))?,
+            stamp: 0,
+        })?;
+    }
+    PlainDirs::from_image(alloc, 2, image)
+}
+
+#[test]
+fn each_of_many_messages_is_read(rt: HostRuntime) -> Result<(), Fail> {
+    let alloc = rt.alloc();
+    let dirs = match many(alloc) {
+        Ok(dirs) => dirs,
+        Err(_) => many(alloc)?,
+    };
+    let world = match World::load(alloc, dirs) {
+        Ok(world) => world,
+        Err(refused) => World::load(alloc, refused.dirs).map_err(|refused| refused.error)?,
+    };
+    for at in 0..40 {
+        let name = many_name(at);
+        assert!(rt; world.read(&name[..3]) == Some(name.as_slice()), "{at}");
+        assert!(rt; world.read(&name[..2]) == None, "{at}");
+    }
+    Ok(())
+}
+
+#[test]
+fn names_of_the_beginning_are_used(rt: HostRuntime) -> Result<(), Fail> {
+    let alloc = rt.alloc();
+    let files: [Named<'_>; 5] = [
+        (0, Place::Tmp, b"t", 0),
+        (0, Place::Tmp, b"x:2,S", 0),
+        (1, Place::New, b"n", 0),
+        (1, Place::Cur, b"c:2,S", 0),
+        (1, Place::Cur, b"hid:", 0),
+    ];
+    let mut world = load(&rt, alloc, &files)??;
+    for name in [b"t".as_slice(), b"n", b"c", b"hid"] {
+        let call = delivery(alloc, 0, name, copied(alloc, b"")?, 1)?;
+        let refused = submit(&rt, &mut world, call)
+            .err()
+            .ok_or("a used name was accepted")?;
+        assert!(rt; refused.error == CoreError::NameUsed, "{name:?}");
+    }
+    // In tmp the whole name is used.
+    let call = delivery(alloc, 0, b"x", copied(alloc, b"")?, 1)?;
+    assert!(rt; submit(&rt, &mut world, call).is_ok());
+    Ok(())
+}
+
+#[test]
+fn the_clock_begins_at_the_greatest_stamp(rt: HostRuntime) -> Result<(), Fail> {
+    let alloc = rt.alloc();
+    let files: [Named<'_>; 3] = [
+        (1, Place::Tmp, b"x", 1000),
+        (1, Place::Cur, b".y", 130_600),
+        (0, Place::New, b"z", 5),
+    ];
+    let mut world = load(&rt, alloc, &files)??;
+    let call = delivery(alloc, 0, b"u", copied(alloc, b"")?, 1)?;
+    let _job = submit(&rt, &mut world, call)?;
+    if world.step(1, 7, None).is_err() {
+        assert!(rt; world.step(1, 7, None).is_ok());
+    }
+    let row = world.names(0, Place::Tmp, 0).ok_or("no file")?;
+    assert_eq!(rt; row.stamp, 130_600);
+    Ok(())
+}

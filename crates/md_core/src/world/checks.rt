@@ -1,0 +1,153 @@
+//! What is checked of a call when it is submitted, and in which order.
+ghost use Rattle.std.specs.Prelude.{◌≡◌, ◌||◌, not};
+ghost use Rattle.md_name.specs.Names.{is_unique_name as is_unique};
+ghost use Rattle.md_core.specs.Submitting.{submit_refusal, no_folder, too_many, is_used as is_used_by, bad_tries, first_met as first_met_by, checks_of_look_up};
+
+use crate::error::CoreError;
+use crate::jobs::call::Call;
+use crate::world::World;
+use md_dirs::Dirs;
+use md_name::is_unique_name;
+
+const MOST_BYTES: usize = 16_777_216;
+
+const MOST_JOBS: usize = 10_000;
+
+const MOST_TRIES: u64 = 16;
+
+// The error of the first check that is met.
+fn first_met(checks: &[(bool, CoreError)]) -> Option<CoreError>
+    ensures { result ≡ first_met_by checks.now }
+{
+    for check in checks {
+        if check.0 {
+            return Some(check.1);
+        }
+    }
+    None
+}
+
+// Whether one of two names is no unique name.
+fn is_bad_pair(unique: &[u8], fresh: &[u8]) -> bool
+    ensures { result ≡ (not (is_unique unique.now) || not (is_unique fresh.now)) }
+{
+    !is_unique_name(unique) || !is_unique_name(fresh)
+}
+
+fn is_bad_tries(tries: u64) -> bool
+    ensures { result ≡ bad_tries tries }
+{
+    tries == 0 || tries > MOST_TRIES
+}
+
+impl<D: Dirs> World<D> {
+    /// The first check that a call meets, want of memory aside.
+    pub(crate) fn refusal_of(&self, call: &Call) -> Option<CoreError>
+        ensures { result ≡ submit_refusal self.now call.now }
+    {
+        match call {
+            Call::Deliver {
+                folder,
+                unique,
+                body,
+                chunk,
+            } => first_met(&[
+                (self.lacks(*folder), CoreError::NoFolder),
+                (!is_unique_name(unique.as_slice()), CoreError::BadUnique),
+                (*chunk == 0, CoreError::BadChunk),
+                (body.len() > MOST_BYTES, CoreError::BodyTooLong),
+                (self.is_full(), CoreError::TooManyJobs),
+                (self.is_used(unique.as_slice()), CoreError::NameUsed),
+            ]),
+            Call::Seen {
+                folder,
+                unique,
+                tries,
+                ..
+            } => self.look_up_refusal(*folder, unique.as_slice(), *tries),
+            Call::Flag {
+                folder,
+                unique,
+                tries,
+                ..
+            } => self.look_up_refusal(*folder, unique.as_slice(), *tries),
+            Call::Move {
+                folder,
+                unique,
+                to,
+                tries,
+            } => first_met(&[
+                (self.lacks_either(*folder, *to), CoreError::NoFolder),
+                (*to == *folder, CoreError::SameFolder),
+                (!is_unique_name(unique.as_slice()), CoreError::BadUnique),
+                (is_bad_tries(*tries), CoreError::BadTries),
+                (self.is_full(), CoreError::TooManyJobs),
+            ]),
+            Call::Expunge {
+                folder,
+                unique,
+                tries,
+            } => self.look_up_refusal(*folder, unique.as_slice(), *tries),
+            Call::Copy {
+                folder,
+                unique,
+                to,
+                fresh,
+                tries,
+            } => first_met(&[
+                (self.lacks_either(*folder, *to), CoreError::NoFolder),
+                (
+                    is_bad_pair(unique.as_slice(), fresh.as_slice()),
+                    CoreError::BadUnique,
+                ),
+                (is_bad_tries(*tries), CoreError::BadTries),
+                (self.is_full(), CoreError::TooManyJobs),
+                (self.is_used(fresh.as_slice()), CoreError::NameUsed),
+            ]),
+            Call::Clean { folder } => first_met(&[
+                (self.lacks(*folder), CoreError::NoFolder),
+                (self.is_full(), CoreError::TooManyJobs),
+            ]),
+        }
+    }
+
+    // The checks of a call that looks for one message and acts on it.
+    fn look_up_refusal(&self, folder: u32, unique: &[u8], tries: u64) -> Option<CoreError>
+        ensures { result ≡ first_met_by (checks_of_look_up self.now folder unique.now tries) }
+    {
+        first_met(&[
+            (self.lacks(folder), CoreError::NoFolder),
+            (!is_unique_name(unique), CoreError::BadUnique),
+            (is_bad_tries(tries), CoreError::BadTries),
+            (self.is_full(), CoreError::TooManyJobs),
+        ])
+    }
+
+    // Whether a folder isn't there.
+    fn lacks(&self, folder: u32) -> bool
+        ensures { result ≡ no_folder self.now folder }
+    {
+        folder >= self.dirs.folders()
+    }
+
+    // Whether one of two folders isn't there.
+    fn lacks_either(&self, folder: u32, to: u32) -> bool
+        ensures { result ≡ (no_folder self.now folder || no_folder self.now to) }
+    {
+        self.lacks(folder) || self.lacks(to)
+    }
+
+    // Whether no more job may come.
+    fn is_full(&self) -> bool
+        ensures { result ≡ too_many self.now }
+    {
+        self.jobs.len() >= MOST_JOBS
+    }
+
+    // Whether a name is used up.
+    fn is_used(&self, name: &[u8]) -> bool
+        ensures { result ≡ is_used_by self.now name.now }
+    {
+        self.used.contains(name)
+    }
+}

@@ -1,0 +1,143 @@
+// A look at all names of directories, before a world begins with them.
+ghost use Rattle.std.specs.Prelude.{◌≡◌, [], ◌||◌, ◌+◌, max, true, Some, None, IfOk, IfErr, OnOk, MatchResult};
+ghost use Rattle.std.specs.List.{list_any};
+ghost use Rattle.std.specs.FinMap as finmap;
+ghost use Rattle.md_dirs.specs.Path.{place_index};
+ghost use Rattle.md_name.specs.Names.{is_slash, is_terminator};
+ghost use Rattle.md_core.specs.Loading.{load_refusal, is_bad_name};
+ghost use Rattle.md_core.specs.Looking.{IsLookOf, IsFault, entries_before, fault_after, message_fault, is_of, is_message_of, is_tmp_of, somewhere};
+ghost use Rattle.md_core.specs.Runs.{first_clock};
+ghost use Rattle.md_core.specs.Submitting.{uses};
+ghost use Rattle.md_core.specs.Used.{is_among};
+
+use crate::error::CoreError;
+use crate::used::{NameSet, UsedNames};
+use md_dirs::{Dirs, Place, RowRef};
+use md_name::split;
+use std::alloc::Global;
+
+/// The longest file name of the usual systems, in bytes.
+const MOST_NAME_BYTES: usize = 255;
+
+/// The longest unique part, in bytes.
+const MOST_UNIQUE_BYTES: usize = 200;
+
+/// What a look at all names of directories gives: the names that are used up, and the greatest stamp in seconds.
+#[derive(Drop)]
+pub(crate) struct Looked {
+    pub(crate) used: UsedNames,
+    pub(crate) clock: u64,
+}
+
+// What was seen so far: the unique names of messages, the names in tmp, and the greatest stamp.
+#[derive(Drop)]
+struct Seen {
+    messages: NameSet,
+    tmp: NameSet,
+    clock: u64,
+}
+
+impl Seen {
+    fn new(alloc: Global) -> Seen
+        ensures { (result.messages ≡ []) × (result.tmp ≡ []) × (result.clock ≡ 0) }
+    {
+        Seen {
+            messages: NameSet::new(alloc),
+            tmp: NameSet::new(alloc),
+            clock: 0,
+        }
+    }
+
+    // Looks at one more name, and refuses it where it has a fault.
+    fn add(&mut self, place: Place, row: RowRef<'_>) -> Result<(), CoreError>
+        ensures fault { let fault = fault_after self.old.messages (somewhere place row.entry) in MatchResult result (λ _. fault ≡ None) (IsFault fault) }
+        ensures messages { OnOk result ((u : _) → is_among u self.new.messages ≡ (is_message_of u (somewhere place row.entry) || is_among u self.old.messages)) }
+        ensures tmp { OnOk result ((u : _) → is_among u self.new.tmp ≡ (is_tmp_of u (somewhere place row.entry) || is_among u self.old.tmp)) }
+        ensures clock { OnOk result (self.new.clock ≡ max self.old.clock row.entry.stamp) }
+    {
+        if is_bad(row.name) {
+            return Err(CoreError::BadName);
+        }
+        match place {
+            Place::Tmp => self.tmp.insert(row.name)?,
+            Place::New | Place::Cur => self.add_message(row.name)?,
+        }
+        self.clock = self.clock.max(row.stamp);
+        Ok(())
+    }
+
+    // Adds the unique name of a message, where the name is a message's.
+    fn add_message(&mut self, name: &[u8]) -> Result<(), CoreError>
+        ensures fault { MatchResult result (λ _. message_fault self.old.messages name.now ≡ None) (IsFault (message_fault self.old.messages name.now)) }
+        ensures messages { OnOk result ((u : _) → is_among u self.new.messages ≡ (is_of u name.now || is_among u self.old.messages)) }
+        ensures same { (self.new.tmp ≡ self.old.tmp) × (self.new.clock ≡ self.old.clock) }
+    {
+        let Some((unique, _)) = split(name) else {
+            return Ok(());
+        };
+        if unique.len() > MOST_UNIQUE_BYTES {
+            return Err(CoreError::LongUnique);
+        }
+        if self.messages.contains(unique) {
+            return Err(CoreError::DuplicateUnique);
+        }
+        Ok(self.messages.insert(unique)?)
+    }
+}
+
+// Whether a file name holds what none may.
+fn holds_separator(name: &[u8]) -> bool
+    ensures { result ≡ list_any (λ b. is_slash b || is_terminator b) name.now }
+{
+    name.iter()
+        .any(|byte| matches!(*byte, b'/' | b'\0' | b'\n' | b'\r'))
+}
+
+// Whether no file has the name.
+fn is_bad(name: &[u8]) -> bool
+    ensures { result ≡ is_bad_name name.now }
+{
+    name.is_empty() || name.len() > MOST_NAME_BYTES || holds_separator(name)
+}
+
+// Looks at all names of a directory.
+fn look_in<D: Dirs>(dirs: &D, folder: u32, place: Place, seen: &mut Seen) -> Result<(), CoreError>
+    requires { IsLookOf (D.state dirs.now) (entries_before (D.state dirs.now) folder (place_index place)) seen.old }
+    ensures ok { OnOk result (IsLookOf (D.state dirs.now) (entries_before (D.state dirs.now) folder (place_index place + 1)) seen.new) }
+    ensures refused { IfErr result (IsFault (load_refusal (D.state dirs.now))) }
+{
+    for at in 0..usize::MAX {
+        let Some(row) = dirs.row_at(folder, place, at) else {
+            return Ok(());
+        };
+        seen.add(place, row)?;
+    }
+    // No memory holds so many names.
+    Err(CoreError::NoMemory)
+}
+
+/// Looks at all names of directories, by folder, then tmp, new and cur, then by the order of names. It makes no directory call.
+///
+/// The first fault is the refusal; else it is refused only for want of memory.
+pub(crate) fn look<D: Dirs>(alloc: Global, dirs: &D) -> Result<Looked, CoreError>
+    ensures accepted { IfOk result (λ l. load_refusal (D.state dirs.now) ≡ None) }
+    ensures clock { IfOk result (λ l. l.clock ≡ first_clock (D.state dirs.now)) }
+    ensures used { IfOk result (λ l. (u : _) → is_among u l.used ≡ list_any (λ e. uses u e.0) (finmap.entries (D.state dirs.now).names)) }
+    ensures refused { IfErr result (IsFault (load_refusal (D.state dirs.now))) }
+{
+    let mut seen = Seen::new(alloc);
+    for folder in 0..dirs.folders() {
+        look_in(dirs, folder, Place::Tmp, &mut seen)?;
+        look_in(dirs, folder, Place::New, &mut seen)?;
+        look_in(dirs, folder, Place::Cur, &mut seen)?;
+    }
+    let Seen {
+        messages,
+        tmp,
+        clock,
+    } = seen;
+    Ok(Looked {
+        used: UsedNames::of(messages, tmp),
+        clock,
+    })
+}

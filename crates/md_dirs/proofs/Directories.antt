@@ -1,0 +1,312 @@
+-- Directories side by side: their rows are in order of their paths, and each path is looked up in its own directory.
+use Rattle.std.proofs.Common.{ℕ, zero, suc, ◌≡◌, ◌≢◌, ◌⊎◌, inl, inr, ◌+◌, ◌*◌, ◌/◌, ◌%◌, ◌<◌, ◌≤◌, ◌++◌, ◌==◌, ◌&&◌, List, [], ◌∷◌, Option, Some, None, Bool, true, false, cond, T, nat_eq, refl, sym, ap, subst, ◌∙◌, arith, length, map, filter, slice_get, slice_set, get_or, append-nil}
+use Rattle.std.proofs.lemmas.Bool.Decides.{nat_tests}
+use Rattle.std.proofs.lemmas.Cmp.{nat_cmp_total, tied_itself}
+use Rattle.std.specs.declared.cmp.Ordering.{Ordering}
+use Rattle.std.specs.declared.cmp.Ordering.TheVariants.{Less, Equal, Greater}
+use Rattle.std.specs.Ordering.{eq_by_cmp, is_lt, is_eq, ordering_reverse, ordering_then, nat_cmp}
+use Rattle.std.specs.FinMap as finmap
+use Rattle.std.specs.FinMap.{find, is_sorted, from_sorted, get-from_sorted, get-entries, get-empty, entries_sorted, entries-from_sorted, same_map, empty_of_len, len-entries}
+use Rattle.std.specs.FinMap.Entries.{below_all}
+use Rattle.md_dirs.specs.Path.{path_cmp, path_of, place_index}
+use Rattle.md_dirs.specs.State.{place_by}
+use Rattle.md_dirs.specs.Rows.{is_in}
+use Rattle.md_dirs.specs.Index.{NameMap, PathMap, name_cmp, directory_number, path_at, rows_from, names_of, directory_at, rows_in, named_row}
+use Rattle.md_dirs.specs.declared.paths.Path.{Path}
+use Rattle.md_dirs.specs.declared.paths.Place.{Place}
+use Rattle.md_dirs.specs.declared.paths.Place.TheVariants.{Tmp, New, Cur}
+use Rattle.md_dirs.proofs.PathOrder.{path_total, path_exact}
+use Rattle.md_dirs.proofs.NameRows.{name_total, name_exact}
+use Rattle.md_dirs.proofs.Maps as maps
+use Rattle.md_dirs.proofs.Sound.{by_path, by_number}
+
+both : (a b : Bool) → T a → T b → T (a && b)
+both true b p q = q
+both false b p q = p
+
+first : (a b : Bool) → T (a && b) → T a
+first true b p = tt
+first false b p = p
+
+second : (a b : Bool) → T (a && b) → T b
+second true b p = p
+second false b p = absurd p
+
+less : (o : Ordering) → T (is_lt o) → o ≡ Less
+less Less p = refl
+less Equal p = absurd p
+less Greater p = absurd p
+
+-- numbers of directories
+place_by-index : (place : Place) → place_by (place_index place) ≡ place
+place_by-index Tmp = refl
+place_by-index New = refl
+place_by-index Cur = refl
+
+index-small : (place : Place) → place_index place < 3
+index-small Tmp = omega arith
+index-small New = omega arith
+index-small Cur = omega arith
+
+index-place_by : (n : ℕ) → n < 3 → place_index (place_by n) ≡ n
+index-place_by zero h = refl
+index-place_by (suc zero) h = refl
+index-place_by (suc (suc zero)) h = refl
+index-place_by (suc (suc (suc n))) h = absurd (omega arith)
+
+pub path-number : (p : Path) → path_at (directory_number p.folder p.place) p.name ≡ p
+path-number p =
+    let small = index-small p.place in
+    let folder : (3 * p.folder + place_index p.place) / 3 ≡ p.folder = omega arith in
+    let place : (3 * p.folder + place_index p.place) % 3 ≡ place_index p.place = omega arith in
+    (λ i. path_of (folder i) ((ap place_by place ∙ place_by-index p.place) i) p.name)
+
+pub number-path : (n : ℕ) (name : List ℕ) → directory_number (path_at n name).folder (path_at n name).place ≡ n
+number-path n name =
+    let small : n % 3 < 3 = omega arith in
+    ap (λ k. 3 * (n / 3) + k) (index-place_by (n % 3) small) ∙ omega arith
+
+-- the order of paths by the numbers of their directories
+pub same-directory : (n : ℕ) (a b : List ℕ) → path_cmp (path_at n a) (path_at n b) ≡ name_cmp a b
+same-directory n a b =
+    λ i. ordering_then (tied_itself nat_cmp_total (n / 3) i) (ordering_then (tied_itself nat_cmp_total (place_index (place_by (n % 3))) i) (name_cmp a b))
+
+less-numbers : (a b : ℕ) → a < b → nat_cmp a b ≡ Less
+less-numbers a b h = grind (arith, nat_tests)
+
+pub lower-directory : (m n : ℕ) (a b : List ℕ) → m < n → path_cmp (path_at m a) (path_at n b) ≡ Less
+lower-directory m n a b below = by_number (m / 3) (n / 3)
+    (λ same.
+    let places : place_index (place_by (m % 3)) < place_index (place_by (n % 3)) =
+    (let small : m % 3 < 3 = omega arith in let small' : n % 3 < 3 = omega arith in let e = index-place_by (m % 3) small in let e' = index-place_by (n % 3) small' in omega arith) in
+    (λ i. ordering_then ((ap (λ k. nat_cmp k (n / 3)) same ∙ tied_itself nat_cmp_total (n / 3)) i) (ordering_then (less-numbers _ _ places i) (name_cmp a b))))
+    (λ differ.
+    let folders : m / 3 < n / 3 = omega arith in
+    (λ i. ordering_then (less-numbers _ _ folders i) (ordering_then (nat_cmp (place_index (place_by (m % 3))) (place_index (place_by (n % 3)))) (name_cmp a b))))
+
+is_less : (p q : Path) → path_cmp p q ≡ Less → T (is_lt (path_cmp p q))
+is_less p q is = subst (λ r. T (is_lt r)) (sym is) tt
+
+abbrev at : ℕ → List ℕ × ℕ → Path × ℕ
+at n e = (path_at n e.0, e.1)
+
+-- rows are in order
+below-map : (m n : ℕ) (a : List ℕ) (es : List (List ℕ × ℕ)) (ys : List (Path × ℕ)) → m < n → T (below_all path_cmp (path_at m a) ys) → T (below_all path_cmp (path_at m a) (map (at n) es ++ ys))
+below-map m n a [] ys below h = h
+below-map m n a (e ∷ es) ys below h = both _ _ (is_less (path_at m a) (path_at n e.0) (lower-directory m n a e.0 below)) (below-map m n a es ys below h)
+
+pub beyond : (m n : ℕ) (a : List ℕ) (ds : List NameMap) → m < n → T (below_all path_cmp (path_at m a) (rows_from n ds))
+beyond m n a [] below = tt
+beyond m n a (d ∷ ds) below = below-map m n a (finmap.entries d) (rows_from (suc n) ds) below (beyond m (suc n) a ds (omega arith))
+
+below-same : (n : ℕ) (a : List ℕ) (es : List (List ℕ × ℕ)) (ys : List (Path × ℕ)) → T (below_all name_cmp a es) → T (below_all path_cmp (path_at n a) ys) → T (below_all path_cmp (path_at n a) (map (at n) es ++ ys))
+below-same n a [] ys below h = h
+below-same n a (e ∷ es) ys below h = both _ _ (is_less (path_at n a) (path_at n e.0) (same-directory n a e.0 ∙ less _ (first _ _ below))) (below-same n a es ys (second _ _ below) h)
+
+sorted-map : (n : ℕ) (es : List (List ℕ × ℕ)) (ys : List (Path × ℕ)) → T (is_sorted name_cmp es) → T (is_sorted path_cmp ys) → ((a : List ℕ) → T (below_all path_cmp (path_at n a) ys)) → T (is_sorted path_cmp (map (at n) es ++ ys))
+sorted-map n [] ys sorted sorted' above = sorted'
+sorted-map n (e ∷ es) ys sorted sorted' above = both _ _ (below-same n e.0 es ys (first _ _ sorted) (above e.0)) (sorted-map n es ys (second _ _ sorted) sorted' above)
+
+pub sorted-rows : (n : ℕ) (ds : List NameMap) → T (is_sorted path_cmp (rows_from n ds))
+sorted-rows n [] = tt
+sorted-rows n (d ∷ ds) = sorted-map n (finmap.entries d) (rows_from (suc n) ds) (entries_sorted d) (sorted-rows (suc n) ds) (λ a. beyond n (suc n) a ds (omega arith))
+
+pub entries-names : (ds : List NameMap) → finmap.entries (names_of ds) ≡ rows_from 0 ds
+entries-names ds = entries-from_sorted path_cmp (rows_from 0 ds) (sorted-rows 0 ds)
+
+-- what is found at a path
+find-above : (p : Path) (es : List (Path × ℕ)) → T (below_all path_cmp p es) → find path_cmp p es ≡ None
+find-above p [] h = refl
+find-above p (e ∷ es) h = ap (λ r. cond (is_eq r) (Some e.1) (find path_cmp p es)) (less _ (first _ _ h)) ∙ find-above p es (second _ _ h)
+
+find-here : (n : ℕ) (a : List ℕ) (es : List (List ℕ × ℕ)) (ys : List (Path × ℕ)) → find path_cmp (path_at n a) ys ≡ None → find path_cmp (path_at n a) (map (at n) es ++ ys) ≡ find name_cmp a es
+find-here n a [] ys none = none
+find-here n a (e ∷ es) ys none = λ i. cond (is_eq (same-directory n a e.0 i)) (Some e.1) (find-here n a es ys none i)
+
+find-past : (m n : ℕ) (a : List ℕ) (es : List (List ℕ × ℕ)) (ys : List (Path × ℕ)) → n < m → find path_cmp (path_at m a) (map (at n) es ++ ys) ≡ find path_cmp (path_at m a) ys
+find-past m n a [] ys below = refl
+find-past m n a (e ∷ es) ys below =
+    let above : path_cmp (path_at m a) (path_at n e.0) ≡ Greater = path_total.antisymm (path_at m a) (path_at n e.0) ∙ ap ordering_reverse (lower-directory n m e.0 a below) in
+    ap (λ r. cond (is_eq r) (Some e.1) (find path_cmp (path_at m a) (map (at n) es ++ ys))) above ∙ find-past m n a es ys below
+
+find-rows : (ds : List NameMap) (k n m : ℕ) (a : List ℕ) → m ≡ n + k → find path_cmp (path_at m a) (rows_from n ds) ≡ finmap.get (directory_at ds k) a
+find-rows [] k n m a is = sym (get-empty name_cmp a)
+find-rows (d ∷ ds) zero n m a is =
+    let here : m ≡ n = omega arith in
+    ap (λ j. find path_cmp (path_at j a) (rows_from n (d ∷ ds))) here
+    ∙ find-here n a (finmap.entries d) (rows_from (suc n) ds) (find-above (path_at n a) (rows_from (suc n) ds) (beyond n (suc n) a ds (omega arith)))
+    ∙ sym (get-entries d a)
+find-rows (d ∷ ds) (suc k) n m a is = find-past m n a (finmap.entries d) (rows_from (suc n) ds) (omega arith) ∙ find-rows ds k (suc n) m a (omega arith)
+
+pub get-names : (ds : List NameMap) (p : Path) → finmap.get (names_of ds) p ≡ finmap.get (directory_at ds (directory_number p.folder p.place)) p.name
+get-names ds p =
+    get-from_sorted path_cmp (rows_from 0 ds) p (sorted-rows 0 ds)
+    ∙ ap (λ (q : Path). find path_cmp q (rows_from 0 ds)) (sym (path-number p))
+    ∙ find-rows ds (directory_number p.folder p.place) 0 (directory_number p.folder p.place) p.name (omega arith)
+
+-- directories that are one by one the same have the same paths
+pub same-names : (ds es : List NameMap) → ((k : ℕ) → directory_at es k ≡ directory_at ds k) → names_of es ≡ names_of ds
+same-names ds es same = same_map path_total path_exact _ _ (λ q.
+    get-names es q ∙ ap (λ (m : NameMap). finmap.get m q.name) (same (directory_number q.folder q.place)) ∙ sym (get-names ds q))
+
+-- paths of one directory with one name are one
+same-path : (p q : Path) → directory_number q.folder q.place ≡ directory_number p.folder p.place → q.name ≡ p.name → q ≡ p
+same-path p q number name = sym (path-number q) ∙ (λ i. path_at (number i) (name i)) ∙ path-number p
+
+module _ (ds es : List NameMap) (p : Path) (others : (k : ℕ) → k ≢ directory_number p.folder p.place → directory_at es k ≡ directory_at ds k) where
+  abbrev here : ℕ
+  here = directory_number p.folder p.place
+
+  at-other : (q : Path) → directory_number q.folder q.place ≢ here → finmap.get (names_of es) q ≡ finmap.get (names_of ds) q
+  at-other q differ = get-names es q ∙ ap (λ (m : NameMap). finmap.get m q.name) (others (directory_number q.folder q.place) differ) ∙ sym (get-names ds q)
+
+  -- a name was put into its directory
+  pub put-names : (v : ℕ) → directory_at es here ≡ finmap.insert (directory_at ds here) p.name v → names_of es ≡ finmap.insert (names_of ds) p v
+  put-names v is = same_map path_total path_exact _ _ (λ q. by_path q p
+      (λ one.
+      get-names es q ∙ (λ i. finmap.get (directory_at es (directory_number (one i).folder (one i).place)) (one i).name) ∙ ap (λ (m : NameMap). finmap.get m p.name) is
+      ∙ maps.at_put name_total name_exact (directory_at ds here) p.name p.name v refl ∙ sym (maps.at_put path_total path_exact (names_of ds) p q v one))
+      (λ differ. beside q differ ∙ sym (maps.beside_put path_total path_exact (names_of ds) p q v differ)))
+    where
+      beside : (q : Path) → q ≢ p → finmap.get (names_of es) q ≡ finmap.get (names_of ds) q
+      beside q differ = by_number (directory_number q.folder q.place) here
+          (λ same.
+          get-names es q ∙ ap (λ k. finmap.get (directory_at es k) q.name) same ∙ ap (λ (m : NameMap). finmap.get m q.name) is
+          ∙ maps.beside_put name_total name_exact (directory_at ds here) p.name q.name v (λ name. differ (same-path p q same name))
+          ∙ ap (λ k. finmap.get (directory_at ds k) q.name) (sym same) ∙ sym (get-names ds q))
+          (at-other q)
+
+  -- a name was taken from its directory
+  pub take-names : directory_at es here ≡ finmap.remove (directory_at ds here) p.name → names_of es ≡ finmap.remove (names_of ds) p
+  take-names is = same_map path_total path_exact _ _ (λ q. by_path q p
+      (λ one.
+      get-names es q ∙ (λ i. finmap.get (directory_at es (directory_number (one i).folder (one i).place)) (one i).name) ∙ ap (λ (m : NameMap). finmap.get m p.name) is
+      ∙ maps.at_drop name_total name_exact (directory_at ds here) p.name p.name refl ∙ sym (maps.at_drop path_total path_exact (names_of ds) p q one))
+      (λ differ. beside q differ ∙ sym (maps.beside_drop path_total path_exact (names_of ds) p q differ)))
+    where
+      beside : (q : Path) → q ≢ p → finmap.get (names_of es) q ≡ finmap.get (names_of ds) q
+      beside q differ = by_number (directory_number q.folder q.place) here
+          (λ same.
+          get-names es q ∙ ap (λ k. finmap.get (directory_at es k) q.name) same ∙ ap (λ (m : NameMap). finmap.get m q.name) is
+          ∙ maps.beside_drop name_total name_exact (directory_at ds here) p.name q.name (λ name. differ (same-path p q same name))
+          ∙ ap (λ k. finmap.get (directory_at ds k) q.name) (sym same) ∙ sym (get-names ds q))
+          (at-other q)
+
+-- the directory that was written, and the others
+pub at-set : (ds : List NameMap) (i : ℕ) (d : NameMap) → i < length ds → directory_at (slice_set ds i d) i ≡ d
+at-set [] i d within = absurd (omega arith)
+at-set (x ∷ xs) zero d within = refl
+at-set (x ∷ xs) (suc i) d within = at-set xs i d (omega arith)
+
+pub beside-set : (ds : List NameMap) (i k : ℕ) (d : NameMap) → k ≢ i → directory_at (slice_set ds i d) k ≡ directory_at ds k
+beside-set [] i k d differ = refl
+beside-set (x ∷ xs) zero zero d differ = absurd (differ refl)
+beside-set (x ∷ xs) zero (suc k) d differ = refl
+beside-set (x ∷ xs) (suc i) zero d differ = refl
+beside-set (x ∷ xs) (suc i) (suc k) d differ = beside-set xs i k d (λ is. differ (ap suc is))
+
+-- one more directory without a name
+pub at-more : (ds : List NameMap) (k : ℕ) → directory_at (ds ++ finmap.empty ∷ []) k ≡ directory_at ds k
+at-more [] zero = refl
+at-more [] (suc k) = refl
+at-more (x ∷ xs) zero = refl
+at-more (x ∷ xs) (suc k) = at-more xs k
+
+pub past-end : (ds : List NameMap) (k : ℕ) → length ds ≤ k → directory_at ds k ≡ finmap.empty
+past-end [] k past = refl
+past-end (x ∷ xs) zero past = absurd (omega arith)
+past-end (x ∷ xs) (suc k) past = past-end xs k (omega arith)
+
+-- no directory
+pub names-none : (ds : List NameMap) → ds ≡ [] → names_of ds ≡ finmap.empty
+names-none ds none =
+    let no-entry : finmap.entries (from_sorted {R = path_cmp} []) ≡ [] = entries-from_sorted path_cmp [] tt in
+    ap names_of none ∙ empty_of_len _ (len-entries (from_sorted {R = path_cmp} []) ∙ ap length no-entry)
+
+pub none-past : (ds : List NameMap) (p : Path) → length ds ≤ directory_number p.folder p.place → finmap.get (names_of ds) p ≡ None
+none-past ds p past = get-names ds p ∙ ap (λ (m : NameMap). finmap.get m p.name) (past-end ds _ past) ∙ get-empty name_cmp p.name
+
+-- nothing is to be taken from a directory past the last
+pub gone-past : (ds : List NameMap) (p : Path) → length ds ≤ directory_number p.folder p.place → names_of ds ≡ finmap.remove (names_of ds) p
+gone-past ds p past = same_map path_total path_exact _ _ (λ q. by_path q p
+    (λ one. ap (finmap.get (names_of ds)) one ∙ none-past ds p past ∙ sym (maps.at_drop path_total path_exact (names_of ds) p q one))
+    (λ differ. sym (maps.beside_drop path_total path_exact (names_of ds) p q differ)))
+
+-- a directory that is read at its number
+pub read-directory : (ds : List NameMap) (i : ℕ) (d : NameMap) → i < length ds → d ≡ get_or ds i d → directory_at ds i ≡ d
+read-directory [] i d within is = absurd (omega arith)
+read-directory (x ∷ xs) zero d within is = sym is
+read-directory (x ∷ xs) (suc i) d within is = read-directory xs i d (omega arith) is
+
+-- the rows of one directory
+is-here : (n : ℕ) (folder : ℕ) (place : Place) (a : List ℕ) → n ≡ directory_number folder place → is_in folder place (path_at n a) ≡ true
+is-here n folder place a is =
+    let one : path_at n a ≡ path_of folder place a = ap (λ k. path_at k a) is ∙ path-number (path_of folder place a) in
+    let folders : (folder == folder) ≡ true = grind (arith, nat_tests) in
+    let places : (place_index place == place_index place) ≡ true = grind (arith, nat_tests) in
+    ap (is_in folder place) one ∙ (λ i. folders i && places i)
+
+is-elsewhere : (n : ℕ) (folder : ℕ) (place : Place) (a : List ℕ) → n ≢ directory_number folder place → is_in folder place (path_at n a) ≡ false
+is-elsewhere n folder place a differ = by ((path_at n a).folder == folder) (place_index (path_at n a).place == place_index place) refl refl
+  where
+    by : (s t : Bool) → ((path_at n a).folder == folder) ≡ s → (place_index (path_at n a).place == place_index place) ≡ t → (s && t) ≡ false
+    by true true same same' =
+        let folders : (path_at n a).folder ≡ folder = grind (arith, nat_tests) in
+        let places : place_index (path_at n a).place ≡ place_index place = grind (arith, nat_tests) in
+        absurd (differ (sym (number-path n a) ∙ (λ i. 3 * folders i + places i)))
+    by true false same same' = refl
+    by false t same same' = refl
+
+keep-here : (n : ℕ) (folder : ℕ) (place : Place) (es : List (List ℕ × ℕ)) (ys : List (Path × ℕ)) → n ≡ directory_number folder place
+    → map named_row (filter (λ e. is_in folder place e.0) (map (at n) es ++ ys)) ≡ es ++ map named_row (filter (λ e. is_in folder place e.0) ys)
+keep-here n folder place [] ys is = refl
+keep-here n folder place (e ∷ es) ys is =
+    ap (λ b. map named_row (cond b (at n e ∷ filter (λ x. is_in folder place x.0) (map (at n) es ++ ys)) (filter (λ x. is_in folder place x.0) (map (at n) es ++ ys)))) (is-here n folder place e.0 is)
+    ∙ ap (λ xs. e ∷ xs) (keep-here n folder place es ys is)
+
+drop-elsewhere : (n : ℕ) (folder : ℕ) (place : Place) (es : List (List ℕ × ℕ)) (ys : List (Path × ℕ)) → n ≢ directory_number folder place
+    → map named_row (filter (λ e. is_in folder place e.0) (map (at n) es ++ ys)) ≡ map named_row (filter (λ e. is_in folder place e.0) ys)
+drop-elsewhere n folder place [] ys differ = refl
+drop-elsewhere n folder place (e ∷ es) ys differ =
+    ap (λ b. map named_row (cond b (at n e ∷ filter (λ x. is_in folder place x.0) (map (at n) es ++ ys)) (filter (λ x. is_in folder place x.0) (map (at n) es ++ ys)))) (is-elsewhere n folder place e.0 differ)
+    ∙ drop-elsewhere n folder place es ys differ
+
+later-none : (n : ℕ) (folder : ℕ) (place : Place) (ds : List NameMap) → directory_number folder place < n → map named_row (filter (λ e. is_in folder place e.0) (rows_from n ds)) ≡ []
+later-none n folder place [] above = refl
+later-none n folder place (d ∷ ds) above =
+    drop-elsewhere n folder place (finmap.entries d) (rows_from (suc n) ds) (λ is. absurd (omega arith)) ∙ later-none (suc n) folder place ds (omega arith)
+
+entries-empty : finmap.entries (finmap.empty {X = ℕ} {R = name_cmp}) ≡ []
+entries-empty =
+    let none : finmap.entries (from_sorted {X = ℕ} {R = name_cmp} []) ≡ [] = entries-from_sorted name_cmp [] tt in
+    ap finmap.entries (sym (empty_of_len (from_sorted {X = ℕ} {R = name_cmp} []) (len-entries (from_sorted {X = ℕ} {R = name_cmp} []) ∙ ap length none))) ∙ none
+
+rows-of-one : (ds : List NameMap) (k n : ℕ) (folder : ℕ) (place : Place) → directory_number folder place ≡ n + k
+    → map named_row (filter (λ e. is_in folder place e.0) (rows_from n ds)) ≡ finmap.entries (directory_at ds k)
+rows-of-one [] k n folder place is = sym entries-empty
+rows-of-one (d ∷ ds) zero n folder place is =
+    keep-here n folder place (finmap.entries d) (rows_from (suc n) ds) (omega arith)
+    ∙ ap (λ xs. finmap.entries d ++ xs) (later-none (suc n) folder place ds (omega arith)) ∙ append-nil (finmap.entries d)
+rows-of-one (d ∷ ds) (suc k) n folder place is =
+    drop-elsewhere n folder place (finmap.entries d) (rows_from (suc n) ds) (λ same. absurd (omega arith)) ∙ rows-of-one ds k (suc n) folder place (omega arith)
+
+pub rows-in : (ds : List NameMap) (folder : ℕ) (place : Place) → rows_in (names_of ds) folder place ≡ finmap.entries (directory_at ds (directory_number folder place))
+rows-in ds folder place =
+    ap (λ es. map named_row (filter (λ e. is_in folder place e.0) es)) (entries-names ds)
+    ∙ rows-of-one ds (directory_number folder place) 0 folder place (omega arith)
+
+pub no-rows : (ds : List NameMap) (folder : ℕ) (place : Place) → length ds ≤ directory_number folder place → rows_in (names_of ds) folder place ≡ []
+no-rows ds folder place past = rows-in ds folder place ∙ ap finmap.entries (past-end ds _ past) ∙ entries-empty
+
+-- a name took another's place in a directory
+pub rename-names : (ds : List NameMap) (i : ℕ) (d : NameMap) (o p : Path) (v : ℕ) → i < length ds → i ≡ directory_number o.folder o.place → i ≡ directory_number p.folder p.place
+    → d ≡ finmap.remove (finmap.insert (directory_at ds i) p.name v) o.name → names_of (slice_set ds i d) ≡ finmap.remove (finmap.insert (names_of ds) p v) o
+rename-names ds i d o p v within from to is =
+    let m : NameMap = finmap.insert (directory_at ds i) p.name v in
+    let mid : List NameMap = slice_set ds i m in
+    let put : names_of mid ≡ finmap.insert (names_of ds) p v =
+    put-names ds mid p (λ k differ. beside-set ds i k m (λ e. differ (e ∙ to))) v (subst (λ (j : ℕ). directory_at mid j ≡ finmap.insert (directory_at ds j) p.name v) to (at-set ds i m within)) in
+    let taken : names_of (slice_set ds i d) ≡ finmap.remove (names_of mid) o =
+    take-names mid (slice_set ds i d) o (λ k differ. beside-set ds i k d (λ e. differ (e ∙ from)) ∙ sym (beside-set ds i k m (λ e. differ (e ∙ from))))
+    (subst (λ (j : ℕ). directory_at (slice_set ds i d) j ≡ finmap.remove (directory_at mid j) o.name) from (at-set ds i d within ∙ is ∙ ap (λ (x : NameMap). finmap.remove x o.name) (sym (at-set ds i m within)))) in
+    taken ∙ ap (λ (x : PathMap). finmap.remove x o) put

@@ -1,0 +1,153 @@
+// Directories of which one call fails.
+ghost use Rattle.std.specs.Prelude.{◌≡◌, ◌+◌, ◌-◌, IsTrue, ◌↔◌, IsErrOf, IfOk, if◌then◌else◌};
+ghost use Rattle.md_dirs.specs.State.{State};
+ghost use Rattle.md_dirs.specs.Calls.{Obeys, calls_after, create, append, link, rename, unlink, list};
+ghost use Rattle.md_dirs.specs.Rows.{rows_of, row_named};
+
+use crate::calls::{DirError, Dirs};
+use crate::count::Count;
+use crate::paths::{Path, Place};
+use crate::rows::{Row, RowRef};
+
+/// Other directories, of which one call fails.
+///
+/// Each call counts, whatever it answers, `list` and `find` alike. The call at the count answers `Fault` and reaches nothing
+/// behind; every other call is passed on, and so is every look.
+#[derive(Drop)]
+pub struct FailAt<D> {
+    dirs: D,
+    at: u64,
+    failed: Count,
+}
+
+impl<D: Dirs> FailAt<D> {
+    ghost use Rattle.md_dirs.specs.Failing.{failing};
+
+    /// Directories whose call number `at`, counted from 1, fails. With 0 none does. It takes no memory.
+    pub fn new(dirs: D, at: u64) -> Self
+        ensures { failing D.state D.failures D.calls result ≡ record { at = at; failed = 0; behind = record { state = D.state dirs; failures = D.failures dirs; calls = D.calls dirs } } }
+    {
+        FailAt {
+            dirs,
+            at,
+            failed: Count::zero(),
+        }
+    }
+
+    // Counts a call, and says whether it is the one that fails.
+    fn is_due(&mut self) -> bool
+        ensures due { IsTrue result ↔ (self.old.at ≡ 1) }
+        ensures at { self.new.at ≡ self.old.at - 1 }
+        ensures failed { self.new.failed.value ≡ (if result then self.old.failed.value + 1 else self.old.failed.value) }
+        ensures dirs { self.new.dirs ≡ self.old.dirs }
+    {
+        let due = self.at == 1;
+        self.at = self.at.saturating_sub(1);
+        if due {
+            self.failed.raise();
+        }
+        due
+    }
+}
+
+impl<D: Dirs> Dirs for FailAt<D> {
+    ghost use Rattle.md_dirs.specs.Failing.{failing, and_own, IsTurn};
+
+    ghost state = { λ f. D.state f.dirs };
+
+    ghost failures = { λ f. and_own D.failures f };
+
+    ghost calls = { λ f. and_own D.calls f };
+
+    fn create(&mut self, path: &Path, now: u64) -> Result<(), DirError>
+        ensures meets { Obeys (create path.now now) (D.state self.old.dirs) (and_own D.failures self.old) result (D.state self.new.dirs) (and_own D.failures self.new) }
+        ensures counted { and_own D.calls self.new ≡ calls_after result (and_own D.calls self.old) }
+        ensures turn { IsTurn (create path.now now) (failing D.state D.failures D.calls self.old) result (failing D.state D.failures D.calls self.new) }
+    {
+        if self.is_due() {
+            return Err(DirError::Fault);
+        }
+        self.dirs.create(path, now)
+    }
+
+    fn append(&mut self, path: &Path, bytes: &[u8], now: u64) -> Result<(), DirError>
+        ensures meets { Obeys (append path.now bytes.now now) (D.state self.old.dirs) (and_own D.failures self.old) result (D.state self.new.dirs) (and_own D.failures self.new) }
+        ensures counted { and_own D.calls self.new ≡ calls_after result (and_own D.calls self.old) }
+        ensures turn { IsTurn (append path.now bytes.now now) (failing D.state D.failures D.calls self.old) result (failing D.state D.failures D.calls self.new) }
+    {
+        if self.is_due() {
+            return Err(DirError::Fault);
+        }
+        self.dirs.append(path, bytes, now)
+    }
+
+    fn link(&mut self, old: &Path, new: &Path) -> Result<(), DirError>
+        ensures meets { Obeys (link old.now new.now) (D.state self.old.dirs) (and_own D.failures self.old) result (D.state self.new.dirs) (and_own D.failures self.new) }
+        ensures counted { and_own D.calls self.new ≡ calls_after result (and_own D.calls self.old) }
+        ensures turn { IsTurn (link old.now new.now) (failing D.state D.failures D.calls self.old) result (failing D.state D.failures D.calls self.new) }
+    {
+        if self.is_due() {
+            return Err(DirError::Fault);
+        }
+        self.dirs.link(old, new)
+    }
+
+    fn rename(&mut self, old: &Path, new: &Path) -> Result<(), DirError>
+        ensures meets { Obeys (rename old.now new.now) (D.state self.old.dirs) (and_own D.failures self.old) result (D.state self.new.dirs) (and_own D.failures self.new) }
+        ensures counted { and_own D.calls self.new ≡ calls_after result (and_own D.calls self.old) }
+        ensures turn { IsTurn (rename old.now new.now) (failing D.state D.failures D.calls self.old) result (failing D.state D.failures D.calls self.new) }
+    {
+        if self.is_due() {
+            return Err(DirError::Fault);
+        }
+        self.dirs.rename(old, new)
+    }
+
+    fn unlink(&mut self, path: &Path) -> Result<(), DirError>
+        ensures meets { Obeys (unlink path.now) (D.state self.old.dirs) (and_own D.failures self.old) result (D.state self.new.dirs) (and_own D.failures self.new) }
+        ensures counted { and_own D.calls self.new ≡ calls_after result (and_own D.calls self.old) }
+        ensures turn { IsTurn (unlink path.now) (failing D.state D.failures D.calls self.old) result (failing D.state D.failures D.calls self.new) }
+        ensures no_memory { IsErrOf result DirError.NoMemory → ⊥ }
+    {
+        if self.is_due() {
+            return Err(DirError::Fault);
+        }
+        self.dirs.unlink(path)
+    }
+
+    fn list(&mut self, folder: u32, place: Place) -> Result<Vec<Row>, DirError>
+        ensures meets { Obeys (list folder place) (D.state self.old.dirs) (and_own D.failures self.old) result (D.state self.new.dirs) (and_own D.failures self.new) }
+        ensures counted { and_own D.calls self.new ≡ calls_after result (and_own D.calls self.old) }
+        ensures turn { IsTurn (list folder place) (failing D.state D.failures D.calls self.old) result (failing D.state D.failures D.calls self.new) }
+        ensures rows { IfOk result (λ rows. rows.items ≡ rows_of (D.state self.old.dirs) folder place) }
+    {
+        if self.is_due() {
+            return Err(DirError::Fault);
+        }
+        self.dirs.list(folder, place)
+    }
+
+    fn find(&mut self, folder: u32, place: Place, unique: &[u8]) -> Result<Option<Row>, DirError>
+        ensures meets { Obeys (list folder place) (D.state self.old.dirs) (and_own D.failures self.old) result (D.state self.new.dirs) (and_own D.failures self.new) }
+        ensures counted { and_own D.calls self.new ≡ calls_after result (and_own D.calls self.old) }
+        ensures turn { IsTurn (list folder place) (failing D.state D.failures D.calls self.old) result (failing D.state D.failures D.calls self.new) }
+        ensures row { IfOk result (λ row. row ≡ row_named unique.now (rows_of (D.state self.old.dirs) folder place)) }
+    {
+        if self.is_due() {
+            return Err(DirError::Fault);
+        }
+        self.dirs.find(folder, place, unique)
+    }
+
+    fn folders(&self) -> u32 {
+        self.dirs.folders()
+    }
+
+    fn row_at(&self, folder: u32, place: Place, at: usize) -> Option<RowRef<'_>> {
+        self.dirs.row_at(folder, place, at)
+    }
+
+    fn read(&self, folder: u32, place: Place, name: &[u8]) -> Option<&[u8]> {
+        self.dirs.read(folder, place, name)
+    }
+}

@@ -1,0 +1,82 @@
+// Files by their numbers, each with the number of its names.
+ghost use Rattle.std.specs.Prelude.{◌≡◌, ◌<◌, OnOk, OnErr, IfOk, IfSome, MatchOption, IsSome, length};
+ghost use Rattle.std.specs.Option.{option_map};
+ghost use Rattle.md_dirs.specs.State.{file_by};
+ghost use Rattle.md_dirs.specs.Rows.{row_shown, row_by};
+ghost use Rattle.md_dirs.specs.Files.{files_of, grown_slot, named_less, let_go, name_row};
+
+use crate::paths::File;
+use crate::rows::{Row, RowRef};
+use std::alloc::{AllocError, Global};
+
+/// A file, and how many names it has.
+#[derive(Drop)]
+pub struct Kept {
+    pub file: File,
+    pub names: usize,
+}
+
+// Adds bytes at the end of a file.
+pub fn grow_slot(slot: &mut Option<Kept>, bytes: &[u8], now: u64) -> Result<(), AllocError>
+    ensures ok { OnOk result (slot.new ≡ grown_slot bytes.now now slot.old) }
+    ensures err { OnErr result (slot.new ≡ slot.old) }
+{
+    if let Some(kept) = slot {
+        kept.file.bytes.extend(bytes)?;
+        kept.file.stamp = now;
+    }
+    Ok(())
+}
+
+// Counts one name less of a file, and gives it back where that was its last.
+pub fn release_slot(slot: &mut Option<Kept>)
+    ensures { slot.new ≡ named_less slot.old }
+{
+    if let Some(kept) = slot {
+        if kept.names > 1 {
+            kept.names -= 1;
+        } else {
+            *slot = None;
+        }
+    }
+}
+
+// Takes a name from the file of a number.
+pub fn release_one(slots: &mut Vec<Option<Kept>>, file: Option<usize>)
+    requires { MatchOption file (Unit {0}) (λ n. n < length slots.old.items) }
+    ensures { slots.new.items ≡ let_go file slots.old.items }
+{
+    if let Some(file) = file {
+        release_slot(&mut slots[file]);
+    }
+}
+
+// What a directory shows of a name and its file.
+pub fn shown_row<'a>(slots: &'a [Option<Kept>], name: &'a [u8], file: usize) -> RowRef<'a>
+    requires { IsSome (file_by (files_of slots.now) file) }
+    ensures { row_shown result ≡ row_by name.now (file_by (files_of slots.now) file) }
+{
+    let Some(kept) = &slots[file] else {
+        unreachable!();
+    };
+    RowRef {
+        name,
+        stamp: kept.file.stamp,
+        size: kept.file.bytes.len() as u64,
+    }
+}
+
+// What a directory shows of a name that was found, copied.
+pub fn found_row(
+    alloc: Global,
+    slots: &[Option<Kept>],
+    found: Option<(&[u8], usize)>,
+) -> Result<Option<Row>, AllocError>
+    requires { IfSome found (λ r. IsSome (file_by (files_of slots.now) r.1)) }
+    ensures { IfOk result (λ row. row ≡ option_map (λ r. name_row (files_of slots.now) (r.0.now, r.1)) found.entry) }
+{
+    let Some((name, file)) = found else {
+        return Ok(None);
+    };
+    Ok(Some(shown_row(slots, name, file).copied(alloc)?))
+}

@@ -1,0 +1,53 @@
+// How a path comes to directories, and to the count of its file.
+ghost use Rattle.std.specs.Prelude.{◌≡◌, ◌<◌, [], ◌∷◌, ◌++◌, Some, OnOk, OnErr, length, slice_set};
+ghost use Rattle.std.specs.FinMap as finmap;
+ghost use Rattle.md_dirs.specs.Files.{slot_at, named_again};
+
+use crate::files::Kept;
+use crate::index::tree::Tree;
+use crate::paths::{File, Path};
+use std::alloc::{AllocError, Global};
+
+// Adds a file at the end of the files, with a path as its one name.
+pub fn add_file(
+    names: &mut Tree,
+    slots: &mut Vec<Option<Kept>>,
+    alloc: Global,
+    path: Path,
+    file: File,
+) -> Result<(), AllocError>
+    ensures names { OnOk result (names.new ≡ finmap.insert names.old path (length slots.old.items)) }
+    ensures slots { OnOk result (slots.new.items ≡ slots.old.items ++ Some (record { file = file; names = 1 }) ∷ []) }
+    ensures same_names { OnErr result (names.new ≡ names.old) }
+    ensures same_slots { OnErr result (slots.new.items ≡ slots.old.items) }
+{
+    slots.reserve(1)?;
+    let number = slots.len();
+    names.put(alloc, path, number)?;
+    slots.push(Some(Kept { file, names: 1 }))?;
+    Ok(())
+}
+
+// Gives a file one more name. Where memory is wanting, its count is as it was.
+pub fn add_name(
+    names: &mut Tree,
+    slots: &mut Vec<Option<Kept>>,
+    alloc: Global,
+    path: Path,
+    file: usize,
+) -> Result<(), AllocError>
+    requires { file < length slots.old.items }
+    ensures names { OnOk result (names.new ≡ finmap.insert names.old path file) }
+    ensures slots { OnOk result (slots.new.items ≡ slice_set slots.old.items file (named_again (slot_at slots.old.items file))) }
+    ensures same_names { OnErr result (names.new ≡ names.old) }
+    ensures same_slots { OnErr result (slots.new.items ≡ slots.old.items) }
+{
+    let slot = &mut slots[file];
+    let Some(kept) = slot else {
+        return names.put(alloc, path, file);
+    };
+    let more = kept.names.checked_add(1).ok_or(AllocError)?;
+    names.put(alloc, path, file)?;
+    kept.names = more;
+    Ok(())
+}

@@ -1,0 +1,130 @@
+-- The calls that a script submits, and how a line spells one.
+use Rattle.std.specs.Prelude.{◌≡◌, ℕ, Bool, true, false, List, Option, Some, None, Result, Ok, Err, if◌then◌else◌, codes, ok_or}
+use Rattle.std.specs.List.{list_all}
+use Rattle.std.specs.Str.{bytes_eq}
+use Rattle.std.specs.FinSet as set
+use Rattle.md_name.specs.declared.error.NameError.TheVariants.{BadFlag}
+use Rattle.md_name.specs.Letters.{Set, is_letter}
+use Rattle.md_core.specs.declared.jobs.call.Call.{Call}
+use Rattle.md_core.specs.declared.jobs.call.Call.TheVariants as call
+use Rattle.md_core.specs.Submitting.{has_machine}
+use Rattle.md_script.specs.declared.error.PlayKind.{PlayKind}
+use Rattle.md_script.specs.declared.error.PlayKind.TheVariants.{BadCommand, UnknownFolder, Name}
+use Rattle.md_script.specs.declared.verb.JobVerb.{JobVerb}
+use Rattle.md_script.specs.declared.verb.JobVerb.TheVariants.{Deliver, Seen, Flag, Move, Expunge, Clean}
+use Rattle.md_script.specs.declared.verb.Mode.{Mode}
+use Rattle.md_script.specs.declared.verb.Mode.TheVariants.{Playing, SettingUp}
+use Rattle.md_script.specs.Bind.{◌>>=◌}
+use Rattle.md_script.specs.Words.{Rest, word_at, end_at, number_at, body_at, require}
+use Rattle.md_script.specs.Folders.{place_of}
+
+-- the next word as the number of a folder
+unfoldable pub folder_at : List (List ℕ) → Rest → Result (ℕ × Rest) PlayKind
+folder_at folders rest = do
+  name ← word_at rest
+  place ← ok_or (place_of folders name.0) UnknownFolder
+  Ok (place, name.1)
+
+-- a hyphen is no flags; other words are letters, in any order and perhaps repeated
+unfoldable pub flags_of : List ℕ → Result Set PlayKind
+flags_of word =
+    if bytes_eq word (codes "-") then Ok set.empty
+    else (if list_all is_letter word then Ok (set.from_list word) else Err (Name BadFlag))
+
+-- the next word as flags
+unfoldable pub flags_at : Rest → Result (Set × Rest) PlayKind
+flags_at rest = do
+  word ← word_at rest
+  flags ← flags_of word.0
+  Ok (flags, word.1)
+
+-- the last word, a number of tries
+unfoldable pub tries_at : Rest → Result ℕ PlayKind
+tries_at rest = do
+  tries ← number_at rest
+  _ ← end_at tries.1
+  Ok tries.0
+
+unfoldable pub deliver_line : List (List ℕ) → Rest → Result Call PlayKind
+deliver_line folders rest = do
+  folder ← folder_at folders rest
+  unique ← word_at folder.1
+  chunk ← number_at unique.1
+  body ← body_at chunk.1
+  Ok (call.Deliver folder.0 unique.0 body chunk.0)
+
+unfoldable pub seen_line : List (List ℕ) → Rest → Result Call PlayKind
+seen_line folders rest = do
+  folder ← folder_at folders rest
+  unique ← word_at folder.1
+  flags ← flags_at unique.1
+  tries ← tries_at flags.1
+  Ok (call.Seen folder.0 unique.0 flags.0 tries)
+
+unfoldable pub flag_line : List (List ℕ) → Rest → Result Call PlayKind
+flag_line folders rest = do
+  folder ← folder_at folders rest
+  unique ← word_at folder.1
+  add ← flags_at unique.1
+  remove ← flags_at add.1
+  tries ← tries_at remove.1
+  Ok (call.Flag folder.0 unique.0 add.0 remove.0 tries)
+
+unfoldable pub move_line : List (List ℕ) → Rest → Result Call PlayKind
+move_line folders rest = do
+  folder ← folder_at folders rest
+  unique ← word_at folder.1
+  to ← folder_at folders unique.1
+  tries ← tries_at to.1
+  Ok (call.Move folder.0 unique.0 to.0 tries)
+
+unfoldable pub expunge_line : List (List ℕ) → Rest → Result Call PlayKind
+expunge_line folders rest = do
+  folder ← folder_at folders rest
+  unique ← word_at folder.1
+  tries ← tries_at unique.1
+  Ok (call.Expunge folder.0 unique.0 tries)
+
+unfoldable pub clean_line : List (List ℕ) → Rest → Result Call PlayKind
+clean_line folders rest = do
+  folder ← folder_at folders rest
+  _ ← end_at folder.1
+  Ok (call.Clean folder.0)
+
+unfoldable pub job_verb_of : List ℕ → Option JobVerb
+job_verb_of word =
+    if bytes_eq word (codes "deliver") then Some Deliver
+    else (if bytes_eq word (codes "seen") then Some Seen
+    else (if bytes_eq word (codes "flag") then Some Flag
+    else (if bytes_eq word (codes "move") then Some Move
+    else (if bytes_eq word (codes "expunge") then Some Expunge
+    else (if bytes_eq word (codes "clean") then Some Clean else None)))))
+
+-- the calls whose machines stand
+abbrev pub is_played : Mode → JobVerb → Bool
+is_played (Playing is_loaded) Expunge = false
+is_played (Playing is_loaded) Clean = false
+is_played (Playing is_loaded) other = true
+is_played (SettingUp with_jobs) verb = true
+
+-- the words behind `job` and the word after it
+abbrev pub call_line : List (List ℕ) → JobVerb → Rest → Result Call PlayKind
+call_line folders Deliver rest = deliver_line folders rest
+call_line folders Seen rest = seen_line folders rest
+call_line folders Flag rest = flag_line folders rest
+call_line folders Move rest = move_line folders rest
+call_line folders Expunge rest = expunge_line folders rest
+call_line folders Clean rest = clean_line folders rest
+
+-- the words of `job` after the first
+unfoldable pub job_line : List (List ℕ) → Mode → Rest → Result Call PlayKind
+job_line folders mode rest = do
+  word ← word_at rest
+  verb ← ok_or (job_verb_of word.0) BadCommand
+  _ ← require (is_played mode verb) BadCommand
+  call_line folders verb word.1
+
+-- A call that is played is one whose machine stands.
+abbrev pub IsPlayed : Mode → Call → Type 0
+IsPlayed (Playing is_loaded) call = has_machine call ≡ true
+IsPlayed (SettingUp with_jobs) call = Unit {0}

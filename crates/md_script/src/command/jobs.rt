@@ -1,0 +1,172 @@
+//! The words of the calls that become jobs.
+ghost use Rattle.std.specs.Prelude.{◌≡◌, true, IfOk};
+ghost use Rattle.std.specs.Option.{option_copied};
+ghost use Rattle.md_core.specs.Submitting.{has_machine};
+ghost use Rattle.md_script.specs.Words.{Gives};
+ghost use Rattle.md_script.specs.Jobs.{flags_of, tries_at, deliver_line, seen_line, flag_line, move_line, expunge_line, clean_line, job_line, IsPlayed};
+
+use crate::command::image::folder;
+use crate::error::PlayKind;
+use crate::folders::Folders;
+use crate::verb::{JobVerb, Mode, is_played, job_verb_from};
+use crate::words::{Rest, body, end, number_word, word};
+use md_core::Call;
+use md_dirs::Bytes;
+use md_name::Flags;
+use std::alloc::Global;
+
+/// The word of an empty set of flags.
+const NO_FLAGS: &[u8; 1] = b"-";
+
+/// The words of `job` after the first.
+#[tactic(auto, unfolding(crate::specs::Jobs::job_line))]
+pub(super) fn job_line(
+    alloc: Global,
+    folders: &Folders,
+    mode: Mode,
+    rest: Rest<'_>,
+) -> Result<Call, PlayKind>
+    ensures call { Gives (λ call. call) result (job_line folders.now mode (option_copied rest.entry)) }
+    ensures played { IfOk result (IsPlayed mode) }
+{
+    let (word, rest) = word(rest)?;
+    let Some(verb) = job_verb_from(word) else {
+        return Err(PlayKind::BadCommand);
+    };
+    if !is_played(mode, verb) {
+        return Err(PlayKind::BadCommand);
+    }
+    match verb {
+        JobVerb::Deliver => deliver_line(alloc, folders, rest),
+        JobVerb::Seen => seen_line(alloc, folders, rest),
+        JobVerb::Flag => flag_line(alloc, folders, rest),
+        JobVerb::Move => move_line(alloc, folders, rest),
+        JobVerb::Expunge => expunge_line(alloc, folders, rest),
+        JobVerb::Clean => clean_line(folders, rest),
+    }
+}
+
+#[tactic(auto, unfolding(crate::specs::Jobs::deliver_line))]
+fn deliver_line(alloc: Global, folders: &Folders, rest: Rest<'_>) -> Result<Call, PlayKind>
+    ensures call { Gives (λ call. call) result (deliver_line folders.now (option_copied rest.entry)) }
+    ensures machine { IfOk result (λ call. has_machine call ≡ true) }
+{
+    let (folder, rest) = folder(folders, rest)?;
+    let (unique, rest) = word(rest)?;
+    let (chunk, rest) = number_word(rest)?;
+    let body = Bytes::of(body(alloc, rest)?);
+    let unique = Bytes::copied(alloc, unique)?;
+    Ok(Call::Deliver {
+        folder,
+        unique,
+        body,
+        chunk,
+    })
+}
+
+#[tactic(auto, unfolding(crate::specs::Jobs::seen_line, crate::specs::Jobs::flags_at))]
+fn seen_line(alloc: Global, folders: &Folders, rest: Rest<'_>) -> Result<Call, PlayKind>
+    ensures call { Gives (λ call. call) result (seen_line folders.now (option_copied rest.entry)) }
+    ensures machine { IfOk result (λ call. has_machine call ≡ true) }
+{
+    let (folder, rest) = folder(folders, rest)?;
+    let (unique, rest) = word(rest)?;
+    let (flags, rest) = word(rest)?;
+    let flags = flags_from(flags)?;
+    let tries = tries(rest)?;
+    let unique = Bytes::copied(alloc, unique)?;
+    Ok(Call::Seen {
+        folder,
+        unique,
+        flags,
+        tries,
+    })
+}
+
+#[tactic(auto, unfolding(crate::specs::Jobs::flag_line, crate::specs::Jobs::flags_at))]
+fn flag_line(alloc: Global, folders: &Folders, rest: Rest<'_>) -> Result<Call, PlayKind>
+    ensures call { Gives (λ call. call) result (flag_line folders.now (option_copied rest.entry)) }
+    ensures machine { IfOk result (λ call. has_machine call ≡ true) }
+{
+    let (folder, rest) = folder(folders, rest)?;
+    let (unique, rest) = word(rest)?;
+    let (add, rest) = word(rest)?;
+    let add = flags_from(add)?;
+    let (remove, rest) = word(rest)?;
+    let remove = flags_from(remove)?;
+    let tries = tries(rest)?;
+    let unique = Bytes::copied(alloc, unique)?;
+    Ok(Call::Flag {
+        folder,
+        unique,
+        add,
+        remove,
+        tries,
+    })
+}
+
+#[tactic(auto, unfolding(crate::specs::Jobs::move_line))]
+fn move_line(alloc: Global, folders: &Folders, rest: Rest<'_>) -> Result<Call, PlayKind>
+    ensures call { Gives (λ call. call) result (move_line folders.now (option_copied rest.entry)) }
+    ensures machine { IfOk result (λ call. has_machine call ≡ true) }
+{
+    let (from, rest) = folder(folders, rest)?;
+    let (unique, rest) = word(rest)?;
+    let (to, rest) = folder(folders, rest)?;
+    let tries = tries(rest)?;
+    let unique = Bytes::copied(alloc, unique)?;
+    Ok(Call::Move {
+        folder: from,
+        unique,
+        to,
+        tries,
+    })
+}
+
+#[tactic(auto, unfolding(crate::specs::Jobs::expunge_line))]
+fn expunge_line(alloc: Global, folders: &Folders, rest: Rest<'_>) -> Result<Call, PlayKind>
+    ensures { Gives (λ call. call) result (expunge_line folders.now (option_copied rest.entry)) }
+{
+    let (folder, rest) = folder(folders, rest)?;
+    let (unique, rest) = word(rest)?;
+    let tries = tries(rest)?;
+    let unique = Bytes::copied(alloc, unique)?;
+    Ok(Call::Expunge {
+        folder,
+        unique,
+        tries,
+    })
+}
+
+#[tactic(auto, unfolding(crate::specs::Jobs::clean_line))]
+fn clean_line(folders: &Folders, rest: Rest<'_>) -> Result<Call, PlayKind>
+    ensures { Gives (λ call. call) result (clean_line folders.now (option_copied rest.entry)) }
+{
+    let (folder, rest) = folder(folders, rest)?;
+    end(rest)?;
+    Ok(Call::Clean { folder })
+}
+
+/// The flags that a word spells: letters, or a hyphen for none.
+#[tactic(auto, unfolding(crate::specs::Jobs::flags_of))]
+fn flags_from(word: &[u8]) -> Result<Flags, PlayKind>
+    ensures { result ≡ flags_of word.now }
+{
+    if word == NO_FLAGS.as_slice() {
+        return Ok(Flags::empty());
+    }
+    match Flags::parse(word) {
+        Ok(flags) => Ok(flags),
+        Err(error) => Err(PlayKind::Name(error)),
+    }
+}
+
+/// The last word, a number of tries.
+#[tactic(auto, unfolding(crate::specs::Jobs::tries_at))]
+fn tries(rest: Rest<'_>) -> Result<u64, PlayKind>
+    ensures { result ≡ tries_at (option_copied rest.entry) }
+{
+    let (tries, rest) = number_word(rest)?;
+    end(rest)?;
+    Ok(tries)
+}

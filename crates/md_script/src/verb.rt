@@ -1,0 +1,112 @@
+//! The first words of a command, and what a line is read for.
+ghost use Rattle.std.specs.Prelude.{◌≡◌};
+ghost use Rattle.md_script.specs.Verb.{verb_of, admitted};
+ghost use Rattle.md_script.specs.Jobs.{job_verb_of, is_played};
+
+use crate::error::PlayKind;
+
+/// What a line is read for.
+#[derive(Clone, Copy, Debug, PartialEq, Eq)]
+pub(crate) enum Mode {
+    /// To be run at once, over a store that was loaded or not.
+    Playing { is_loaded: bool },
+    /// To set a store up, with jobs or without, for another to run.
+    SettingUp { with_jobs: bool },
+}
+
+/// The first word of a command.
+#[derive(Clone, Copy, Debug, PartialEq, Eq)]
+pub(crate) enum Verb {
+    Folder,
+    File,
+    Job,
+    Step,
+    Finish,
+    List,
+    Unique,
+    Summary,
+}
+
+/// The word after `job`.
+#[derive(Clone, Copy, Debug, PartialEq, Eq)]
+pub(crate) enum JobVerb {
+    Deliver,
+    Seen,
+    Flag,
+    Move,
+    Expunge,
+    Clean,
+}
+
+#[tactic(auto, unfolding(crate::specs::Verb::verb_of))]
+pub(crate) fn verb_from(word: &[u8]) -> Option<Verb>
+    ensures { result ≡ verb_of word.now }
+{
+    if word == b"folder".as_slice() {
+        Some(Verb::Folder)
+    } else if word == b"file".as_slice() {
+        Some(Verb::File)
+    } else if word == b"job".as_slice() {
+        Some(Verb::Job)
+    } else if word == b"step".as_slice() {
+        Some(Verb::Step)
+    } else if word == b"finish".as_slice() {
+        Some(Verb::Finish)
+    } else if word == b"list".as_slice() {
+        Some(Verb::List)
+    } else if word == b"unique".as_slice() {
+        Some(Verb::Unique)
+    } else if word == b"summary".as_slice() {
+        Some(Verb::Summary)
+    } else {
+        None
+    }
+}
+
+#[tactic(auto, unfolding(crate::specs::Jobs::job_verb_of))]
+pub(crate) fn job_verb_from(word: &[u8]) -> Option<JobVerb>
+    ensures { result ≡ job_verb_of word.now }
+{
+    if word == b"deliver".as_slice() {
+        Some(JobVerb::Deliver)
+    } else if word == b"seen".as_slice() {
+        Some(JobVerb::Seen)
+    } else if word == b"flag".as_slice() {
+        Some(JobVerb::Flag)
+    } else if word == b"move".as_slice() {
+        Some(JobVerb::Move)
+    } else if word == b"expunge".as_slice() {
+        Some(JobVerb::Expunge)
+    } else if word == b"clean".as_slice() {
+        Some(JobVerb::Clean)
+    } else {
+        None
+    }
+}
+
+/// Refuses a command that can't stand here, before its other words are read.
+#[tactic(auto, unfolding(crate::specs::Verb::admitted))]
+pub(crate) fn admit(mode: Mode, verb: Verb) -> Result<(), PlayKind>
+    ensures { result ≡ admitted mode verb }
+{
+    match (mode, verb) {
+        (Mode::Playing { is_loaded: true }, Verb::Folder) => Err(PlayKind::TooLate),
+        // The store takes no files yet.
+        (Mode::Playing { .. }, Verb::File) => Err(PlayKind::BadCommand),
+        (Mode::Playing { .. }, _) => Ok(()),
+        (Mode::SettingUp { .. }, Verb::Folder | Verb::File) => Ok(()),
+        (Mode::SettingUp { with_jobs: true }, Verb::Job) => Ok(()),
+        (Mode::SettingUp { .. }, _) => Err(PlayKind::NotInThisRun),
+    }
+}
+
+/// Whether the machine of the call stands.
+pub(crate) fn is_played(mode: Mode, verb: JobVerb) -> bool
+    ensures { result ≡ is_played mode verb }
+{
+    match (mode, verb) {
+        (Mode::Playing { .. }, JobVerb::Expunge | JobVerb::Clean) => false,
+        (Mode::Playing { .. }, _) => true,
+        (Mode::SettingUp { .. }, _) => true,
+    }
+}
