@@ -1,15 +1,15 @@
 -- A run with one more event or call is a run, and so is a beginning.
-use Rattle.std.proofs.Common.{ℕ, zero, suc, ◌≡◌, ◌≢◌, ◌+◌, ◌++◌, List, [], ◌∷◌, Some, None, true, refl, sym, ap, ◌∙◌, length, slice_get, arith}
-use Rattle.std.proofs.lemmas.List.{take_at, take-append-le}
+use Rattle.std.proofs.Common.{ℕ, zero, suc, ◌≡◌, ◌≢◌, ◌+◌, ◌++◌, List, [], ◌∷◌, Some, None, true, refl, sym, ap, ◌∙◌, length, take, slice_get, arith}
+use Rattle.std.proofs.lemmas.List.{take_at, take-take, take-append-le}
 use Rattle.std.proofs.lemmas.Option.{slice_get_within}
 use Rattle.md_dirs.specs.State.{State, IsSound}
 use Rattle.md_core.specs.declared.jobs.call.Call.{Call}
 use Rattle.md_core.specs.Machine.{Machine, Standing, working, Marked, job_at, job_left, new_job}
 use Rattle.md_core.specs.Loading.{load_refusal}
-use Rattle.md_core.specs.Runs.{Run, new_run, moment, machine_of, jobs_of, and_event, and_call, step_refusal, steps_left, left_of}
+use Rattle.md_core.specs.Runs.{Run, new_run, beginning, run_from, moment, machine_of, jobs_of, and_event, and_call, step_refusal, steps_left, left_of}
 use Rattle.md_core.specs.Submitting.{submit_refusal, has_machine}
 use Rattle.md_core.specs.Interleaving.{IsRun}
-use Rattle.md_core.proofs.Places.{at_end, get-pushed}
+use Rattle.md_core.proofs.Places.{at_end, get-pushed, get-from_take}
 use Rattle.md_core.proofs.Events.{goes_on-exact, job_at-more}
 use Rattle.md_core.proofs.Runs.{moment-end, moment-and_event, moment-and_call, machine-and_call, length-jobs_of}
 
@@ -33,6 +33,20 @@ is_run-and_event r e run goes = record {
       (λ last is.
       let now : moment (and_event r e) k ≡ machine_of r = ap (moment (and_event r e)) last ∙ moment-and_event r e (length r.events) (omega arith) ∙ moment-end r in
       ap (λ (m : Machine). step_refusal (job_at m.jobs f.event.job)) now ∙ ap (λ (x : Marked). step_refusal (job_at (jobs_of r) x.event.job)) is ∙ goes);
+}
+
+-- the first events of a run are a run
+pub is_run-first : (r : Run) → IsRun r → (k : ℕ) → IsRun (record r { events = take k r.events })
+is_run-first r run k = record {
+  sound = run.sound;
+  loaded = run.loaded;
+  accepted = run.accepted;
+  deliveries = run.deliveries;
+  taken = λ i e at.
+      let early = get-from_take k r.events i e at in
+      let same : moment (record r { events = take k r.events }) i ≡ moment r i =
+      ap (run_from (beginning r.image r.calls)) (take-take i k r.events (omega (arith, early.0))) in
+      ap (λ (m : Machine). step_refusal (job_at m.jobs e.event.job)) same ∙ run.taken i e early.1;
 }
 
 pub is_run-and_call : (r : Run) (call : Call) → IsRun r → submit_refusal r call ≡ None → has_machine call ≡ true → IsRun (and_call r call)

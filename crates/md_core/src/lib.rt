@@ -4,6 +4,7 @@
 mod error;
 mod image;
 mod jobs;
+pub mod laws;
 #[cfg(test)]
 mod tests;
 mod used;

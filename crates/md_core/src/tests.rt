@@ -3,6 +3,7 @@
 mod copies;
 mod faults;
 mod loads;
+mod marks;
 mod memory;
 mod moves;
 mod runs;

@@ -34,13 +34,13 @@ fn a_copy_shows_the_flags_in_their_one_spelling(rt: HostRuntime) -> Result<(), F
     ] {
         let mut world = world_of(rt.alloc(), Some((Place::Cur, name)))?;
         let call = copying(rt.alloc(), 1)?;
-        let job = submit(&rt, &mut world, call).map_err(|refused| refused.error)?;
+        let job = submit(&rt, &mut world, call)?;
         let linked = (DirCall::Link, DirReply::Ok, Some(Answer::Copied), true);
         takes(&rt, &mut world, job, &[NOT_IN_NEW, IN_CUR, linked])?;
         assert!(rt; lists(&world, 0, Place::Cur, &[name]));
         assert!(rt; lists(&world, 1, Place::Cur, &[copy]));
         for unique in [b"u", b"v"] {
-            assert_eq!(rt; world.read(unique), Some(b"x" as &[u8]));
+            assert_eq!(rt; world.read(unique), Some(name));
         }
     }
     Ok(())
@@ -50,9 +50,9 @@ fn a_copy_shows_the_flags_in_their_one_spelling(rt: HostRuntime) -> Result<(), F
 fn a_message_that_is_gone_at_the_link_is_lost(rt: HostRuntime) -> Result<(), Fail> {
     let mut world = world_of(rt.alloc(), Some((Place::Cur, b"u")))?;
     let call = copying(rt.alloc(), 0)?;
-    let copy = submit(&rt, &mut world, call).map_err(|refused| refused.error)?;
+    let copy = submit(&rt, &mut world, call)?;
     let call = moving(rt.alloc(), 0, 1)?;
-    let away = submit(&rt, &mut world, call).map_err(|refused| refused.error)?;
+    let away = submit(&rt, &mut world, call)?;
     takes(&rt, &mut world, copy, &[NOT_IN_NEW, IN_CUR])?;
     let renamed = (DirCall::Rename, DirReply::Ok, Some(Answer::Moved), true);
     takes(&rt, &mut world, away, &[NOT_IN_NEW, IN_CUR, renamed])?;
@@ -74,7 +74,7 @@ fn a_message_that_is_gone_at_the_link_is_lost(rt: HostRuntime) -> Result<(), Fai
 fn a_message_with_other_info_is_not_copied(rt: HostRuntime) -> Result<(), Fail> {
     let mut world = world_of(rt.alloc(), Some((Place::New, b"u:1,x")))?;
     let call = copying(rt.alloc(), 0)?;
-    let job = submit(&rt, &mut world, call).map_err(|refused| refused.error)?;
+    let job = submit(&rt, &mut world, call)?;
     let other = (
         DirCall::List(Place::New),
         DirReply::Ok,

@@ -27,7 +27,7 @@ fn built(alloc: Global, files: &[Named<'_>]) -> Result<PlainDirs, DirError> {
     PlainDirs::from_image(alloc, 2, image)
 }
 
-fn directories(alloc: Global, files: &[Named<'_>]) -> Result<PlainDirs, DirError> {
+pub(super) fn directories(alloc: Global, files: &[Named<'_>]) -> Result<PlainDirs, DirError> {
     match built(alloc, files) {
         Err(DirError::NoMemory) => built(alloc, files),
         made => made,
@@ -271,10 +271,7 @@ fn each_of_many_messages_is_read(rt: HostRuntime) -> Result<(), Fail> {
         Ok(dirs) => dirs,
         Err(_) => many(alloc)?,
     };
-    let world = match World::load(alloc, dirs) {
-        Ok(world) => world,
-        Err(refused) => World::load(alloc, refused.dirs).map_err(|refused| refused.error)?,
-    };
+    let world = super::load(alloc, dirs)?;
     for at in 0..40 {
         let name = many_name(at);
         assert!(rt; world.read(&name[..3]) == Some(name.as_slice()), "{at}");

@@ -1,10 +1,11 @@
-// Worked runs of moves, and what the runs of copies share with them: a world of two folders and at most one message, of one byte.
+// Worked runs of moves, and what other runs share with them: a world of two folders and at most one message.
 ghost use Rattle.std.specs.Prelude.{◌≡◌, true, IfOk};
 ghost use Rattle.md_core.specs.Submitting.{has_machine};
 
-use super::{copied, step, submit};
+use super::loads::directories;
+use super::{copied, load, step, submit};
 use crate::{Answer, Call, CoreError, DirCall, DirReply, StepOut, World};
-use md_dirs::{Bytes, DirError, ImageFile, Path, Place, PlainDirs};
+use md_dirs::{Place, PlainDirs};
 use std::alloc::{AllocError, Global};
 use std::process::Abort;
 use std::test::Fail;
@@ -12,40 +13,16 @@ use std::test::Fail;
 /// What a step shows: its call, the reply, the answer, and whether it is an effect.
 pub(super) type Shown = (DirCall, DirReply, Option<Answer>, bool);
 
-// Directories of two folders; the first has a message of this place and name, where one is given.
-fn built(alloc: Global, message: Option<(Place, &[u8])>) -> Result<PlainDirs, DirError> {
-    let mut image = Vec::new(alloc);
-    if let Some((place, name)) = message {
-        let path = Path {
-            folder: 0,
-            place,
-            name: Bytes::copied(alloc, name)?,
-        };
-        image.push(ImageFile {
-            path,
-            bytes: Bytes::copied(alloc, b"x")?,
-            stamp: 0,
-        })?;
-    }
-    PlainDirs::from_image(alloc, 2, image)
-}
-
-fn directories(alloc: Global, message: Option<(Place, &[u8])>) -> Result<PlainDirs, DirError> {
-    match built(alloc, message) {
-        Err(DirError::NoMemory) => built(alloc, message),
-        made => made,
-    }
-}
-
-/// A world over such directories.
+/// A world of two folders; the first has a message of this place and name, where one is given. Its bytes are its name.
 pub(super) fn world_of(
     alloc: Global,
     message: Option<(Place, &[u8])>,
 ) -> Result<World<PlainDirs>, Fail> {
-    match World::load(alloc, directories(alloc, message)?) {
-        Ok(world) => Ok(world),
-        Err(refused) => Ok(World::load(alloc, refused.dirs).map_err(|refused| refused.error)?),
-    }
+    let dirs = match message {
+        Some((place, name)) => directories(alloc, &[(0, place, name, 0)])?,
+        None => directories(alloc, &[])?,
+    };
+    Ok(load(alloc, dirs)?)
 }
 
 /// Takes steps of a job at moment 1, which show these.
@@ -67,11 +44,11 @@ pub(super) fn takes(
     Ok(())
 }
 
-/// Whether a directory has these names alone, each of a file of one byte.
+/// Whether a directory has these names alone.
 pub(super) fn lists(world: &World<PlainDirs>, folder: u32, place: Place, names: &[&[u8]]) -> bool {
     let all_there = names.iter().enumerate().all(|(at, name)| {
         match world.names(folder, place, at) {
-            Some(row) => row.name == *name && row.size == 1,
+            Some(row) => row.name == *name,
             None => false,
         }
     });
@@ -98,7 +75,7 @@ fn a_message_moves_there_and_back(rt: HostRuntime) -> Result<(), Fail> {
     let mut world = world_of(rt.alloc(), Some((Place::New, b"u")))?;
     for (folder, to) in [(0, 1), (1, 0)] {
         let call = moving(rt.alloc(), folder, to)?;
-        let job = submit(&rt, &mut world, call).map_err(|refused| refused.error)?;
+        let job = submit(&rt, &mut world, call)?;
         takes(&rt, &mut world, job, &[FOUND_IN_NEW, MOVED])?;
         assert!(rt; lists(&world, folder, Place::New, &[]));
         assert!(rt; lists(&world, to, Place::New, &[b"u"]));
@@ -111,7 +88,7 @@ fn a_move_keeps_the_place_and_the_whole_name(rt: HostRuntime) -> Result<(), Fail
     for name in [b"u:2,TSS" as &[u8], b"u:1,x"] {
         let mut world = world_of(rt.alloc(), Some((Place::Cur, name)))?;
         let call = moving(rt.alloc(), 0, 1)?;
-        let job = submit(&rt, &mut world, call).map_err(|refused| refused.error)?;
+        let job = submit(&rt, &mut world, call)?;
         let not_in_new = FOUND_IN_NEW;
         let in_cur = (DirCall::List(Place::Cur), DirReply::Ok, None, false);
         takes(&rt, &mut world, job, &[not_in_new, in_cur, MOVED])?;
@@ -125,7 +102,7 @@ fn a_move_keeps_the_place_and_the_whole_name(rt: HostRuntime) -> Result<(), Fail
 fn a_message_that_is_nowhere_is_not_moved(rt: HostRuntime) -> Result<(), Fail> {
     let mut world = world_of(rt.alloc(), None)?;
     let call = moving(rt.alloc(), 0, 1)?;
-    let job = submit(&rt, &mut world, call).map_err(|refused| refused.error)?;
+    let job = submit(&rt, &mut world, call)?;
     let not_in_cur = (
         DirCall::List(Place::Cur),
         DirReply::Ok,
