@@ -8,11 +8,14 @@ use Rattle.md_core.specs.declared.jobs.call.Call.{Call}
 use Rattle.md_core.specs.declared.jobs.deliver.Stage.{Stage}
 use Rattle.md_core.specs.declared.jobs.deliver.Stage.TheVariants.{Start, Writing, Linked, Undo}
 use Rattle.md_core.specs.declared.jobs.task.Task.{Task}
+use Rattle.md_core.specs.declared.jobs.expunging.Stage as expunging
+use Rattle.md_core.specs.declared.jobs.expunging.Stage.TheVariants as expunging_stage
 use Rattle.md_core.specs.declared.jobs.mark.Stage as marking
 use Rattle.md_core.specs.declared.jobs.mark.Stage.TheVariants.{Look, Act}
-use Rattle.md_core.specs.declared.jobs.task.Task.TheVariants.{Deliver, Mark, Move, Copy}
+use Rattle.md_core.specs.declared.jobs.task.Task.TheVariants.{Deliver, Mark, Move, Expunge, Copy}
 use Rattle.md_core.specs.Machines.Deliver.{stage_left}
 use Rattle.md_core.specs.Machines.Mark as marked_by
+use Rattle.md_core.specs.Machines.Expunge as expunged_by
 use Rattle.md_core.specs.Machine.{Machine, Standing, working, answered, Marked, Done, job_at, job_left, task_left, standing_of, new_job, happens, done_by}
 use Rattle.md_core.specs.Runs.{Run, beginning, machine_of, jobs_of, and_event, step_refusal, steps_left, left_of}
 use Rattle.md_core.specs.Interleaving.{IsRun, call_at, steps_of}
@@ -42,6 +45,11 @@ left-some (Deliver d) = by d.stage
     by (Undo a) = omega arith
 left-some (Move m) = some-left m.stage
 left-some (Copy c) = some-left c.stage
+left-some (Expunge x) = by x.stage
+  where
+    by : (stage : expunging.Stage) → 0 < expunged_by.stage_left stage
+    by (expunging_stage.Look tries) = omega arith
+    by (expunging_stage.Act name tries) = omega arith
 left-some (Mark m) = by m.stage
   where
     by : (stage : marking.Stage) → 0 < marked_by.stage_left stage

@@ -1,13 +1,13 @@
 -- Each message of a run has whole bytes, at each moment.
-use Rattle.std.proofs.Common.{ℕ, zero, suc, ◌≡◌, ◌<◌, ◌≤◌, ◌+◌, ◌⊎◌, inl, inr, List, Option, Some, None, true, is_some, refl, sym, ap, subst, ◌∙◌, length, slice_get, arith}
+use Rattle.std.proofs.Common.{ℕ, zero, suc, ◌≡◌, ◌≤◌, ◌+◌, ◌⊎◌, inl, inr, List, Option, Some, None, true, is_some, refl, sym, ap, subst, ◌∙◌, slice_get, arith}
 use Rattle.std.specs.FinMap as finmap
 use Rattle.md_core.specs.declared.jobs.call.Call.{Call}
 use Rattle.md_core.specs.declared.jobs.call.Call.TheVariants.{Deliver, Seen, Flag, Move, Expunge, Copy, Clean}
 use Rattle.md_core.specs.declared.jobs.effect.Effect.{Effect}
-use Rattle.md_core.specs.Mailbox.{Entry, Mailbox, mailbox_of}
+use Rattle.md_core.specs.Mailbox.{Entry, Mailbox}
 use Rattle.md_core.specs.Machine.{Machine, Marked, Done}
-use Rattle.md_core.specs.Runs.{Run, moment, done_at}
-use Rattle.md_core.specs.Interleaving.{IsRun, AsAlone, call_at, IsCopied, IsWhole, box}
+use Rattle.md_core.specs.Runs.{Run, moment}
+use Rattle.md_core.specs.Interleaving.{IsRun, AsAlone, call_at, IsWhole, box}
 use Rattle.md_core.proofs.Good.{EachTurn}
 use Rattle.md_core.proofs.Going.{Goes}
 use Rattle.md_core.proofs.GoodRuns.{what-at, going-at, done-what}

@@ -1,11 +1,11 @@
 -- Effects: whether one is allowed after a history, and which names one leaves nowhere.
-use Rattle.std.proofs.Common.{ℕ, ◌≡◌, ◌≢◌, ◌++◌, List, [], ◌∷◌, Option, Some, None, refl, sym, ap, subst, ◌∙◌, inl, inr, length, take, arith}
+use Rattle.std.proofs.Common.{ℕ, ◌≡◌, ◌≢◌, ◌++◌, List, [], ◌∷◌, None, refl, sym, ap, subst, ◌∙◌, inl, inr, length, take, arith}
 use Rattle.std.proofs.lemmas.List.{take-append-le, take_all, length_push}
 use Rattle.std.proofs.lemmas.Bool.{cases_lt}
 use Rattle.std.proofs.lemmas.Cmp.{nat_list_cmp_total}
 use Rattle.std.proofs.lemmas.Map.Lookups.{exact_bytes}
 use Rattle.std.specs.FinMap as finmap
-use Rattle.md_name.specs.Names.{unique_of, flagged}
+use Rattle.md_name.specs.Names.{unique_of}
 use Rattle.md_name.proofs.Flagged.{unique_of-flagged, colonless-unique_of}
 use Rattle.md_dirs.specs.declared.paths.Place.{Place}
 use Rattle.md_dirs.proofs.Maps.{beside_put, beside_drop, at_drop}

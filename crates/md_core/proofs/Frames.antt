@@ -6,17 +6,18 @@ use Rattle.md_dirs.specs.declared.paths.Place.{Place}
 use Rattle.md_dirs.specs.declared.paths.Place.TheVariants.{Tmp, New, Cur}
 use Rattle.md_name.specs.Names.{unique_of, is_message_name}
 use Rattle.md_core.specs.Mailbox.{is_message, is_tmp}
-use Rattle.md_core.proofs.Good.{key_of, bytes_at, IsUnused, HasNoMessage, IsAlone, StageFits, DeliveryFits, MarkingFits, MovingFits, CopyingFits, TaskFits, Makes}
+use Rattle.md_core.proofs.Good.{key_of, bytes_at, IsUnused, HasNoMessage, IsAlone, StageFits, DeliveryFits, MarkingFits, MovingFits, ExpungingFits, CopyingFits, TaskFits, Makes}
 use Rattle.md_core.proofs.Changes.{by_name}
 use Rattle.md_core.specs.declared.jobs.call.Call.{Call}
 use Rattle.md_core.specs.declared.jobs.deliver.Delivery.{Delivery}
 use Rattle.md_core.specs.declared.jobs.deliver.Stage.{Stage}
 use Rattle.md_core.specs.declared.jobs.deliver.Stage.TheVariants.{Start, Writing, Linked, Undo}
+use Rattle.md_core.specs.declared.jobs.expunging.Expunging.{Expunging}
 use Rattle.md_core.specs.declared.jobs.mark.Marking.{Marking}
 use Rattle.md_core.specs.declared.jobs.task.Task.{Task}
 use Rattle.md_core.specs.declared.jobs.copying.Copying.{Copying}
 use Rattle.md_core.specs.declared.jobs.moving.Moving.{Moving}
-use Rattle.md_core.specs.declared.jobs.task.Task.TheVariants.{Deliver, Mark, Move, Copy}
+use Rattle.md_core.specs.declared.jobs.task.Task.TheVariants.{Deliver, Mark, Move, Expunge, Copy}
 
 pub message-key : (p : Path) → is_message p ≡ true → key_of p ≡ unique_of p.name
 message-key p m = by p.place m
@@ -128,6 +129,16 @@ moving-stays s s' m asked folders h = record {
   stage = h.stage;
 }
 
+-- an expunge, whatever changes
+expunging-stays : (s s' : State) (x : Expunging) (asked : Call) → s'.folders ≡ s.folders → ExpungingFits s asked x → ExpungingFits s' asked x
+expunging-stays s s' x asked folders h = record {
+  tries = h.tries;
+  of = h.of;
+  in_folder = subst (λ (n : ℕ). x.folder < n) (sym folders) h.in_folder;
+  valid = h.valid;
+  stage = h.stage;
+}
+
 -- a copy, where its fresh name has no message still
 pub copying-refit : (s s' : State) (c : Copying) (asked : Call) → s'.folders ≡ s.folders → (HasNoMessage s c.fresh → HasNoMessage s' c.fresh) → CopyingFits s asked c → CopyingFits s' asked c
 copying-refit s s' c asked folders none h = record {
@@ -164,6 +175,7 @@ pub task-frame : (s s' : State) (v : List ℕ) → Frame s s' v → s'.folders �
 task-frame s s' v f folders asked (Deliver d) apart h =
     delivery-frame s s' d v (λ is. apart (subst (Makes asked) is (makes-delivery s asked d h))) f asked folders h
 task-frame s s' v f folders asked (Move m) apart h = moving-stays s s' m asked folders h
+task-frame s s' v f folders asked (Expunge x) apart h = expunging-stays s s' x asked folders h
 task-frame s s' v f folders asked (Copy c) apart h =
     copying-refit s s' c asked folders (no_message-frame s s' c.fresh v (λ is. apart (subst (Makes asked) is (makes-copy s asked c h))) f) h
 task-frame s s' v f folders asked (Mark m) apart h = marking-frame s s' folders asked m h
@@ -172,6 +184,7 @@ task-frame s s' v f folders asked (Mark m) apart h = marking-frame s s' folders 
 pub task-stays : (s s' : State) (v : List ℕ) → Frame s s' v → s'.folders ≡ s.folders → (HasNoMessage s v → ⊥) → (asked : Call) (task : Task) → TaskFits s asked task → TaskFits s' asked task
 task-stays s s' v f folders some asked (Deliver d) h = delivery-stays s s' d v f some asked folders h
 task-stays s s' v f folders some asked (Move m) h = moving-stays s s' m asked folders h
+task-stays s s' v f folders some asked (Expunge x) h = expunging-stays s s' x asked folders h
 task-stays s s' v f folders some asked (Copy c) h =
     copying-refit s s' c asked folders (λ none. no_message-frame s s' c.fresh v (λ is. some (subst (HasNoMessage s) is none)) f none) h
 task-stays s s' v f folders some asked (Mark m) h = marking-frame s s' folders asked m h

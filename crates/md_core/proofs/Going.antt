@@ -5,11 +5,10 @@ use Rattle.std.proofs.lemmas.Option.{slice_get_within}
 use Rattle.md_dirs.proofs.Sound.{by_number, get-set_same, get-set_other}
 use Rattle.md_core.specs.declared.jobs.answer.Answer.{Answer}
 use Rattle.md_core.specs.declared.jobs.call.Call.{Call}
-use Rattle.md_core.specs.declared.jobs.step.DirReply.{DirReply}
 use Rattle.md_core.specs.declared.jobs.task.Task.{Task}
-use Rattle.md_core.specs.Turn.{Asked, After, rows_for}
-use Rattle.md_core.specs.Machine.{Machine, Standing, working, answered, Marked, job_at, standing_of, happens, done_by, Done, replied}
-use Rattle.md_core.proofs.Good.{IsGood, IsApart, Does, EachTurn, TaskFits}
+use Rattle.md_core.specs.Turn.{rows_for}
+use Rattle.md_core.specs.Machine.{Machine, Standing, working, Marked, job_at, standing_of, happens, done_by, Done, replied}
+use Rattle.md_core.proofs.Good.{IsGood, IsApart, Does, EachTurn}
 use Rattle.md_core.proofs.Places.{at_place, length-changed}
 use Rattle.md_core.proofs.Events.{at, turn, job_at-place, job_at-within, happens-turned}
 

@@ -14,6 +14,9 @@ use Rattle.md_core.specs.declared.jobs.deliver.Delivery.{Delivery}
 use Rattle.md_core.specs.declared.jobs.deliver.Stage.{Stage}
 use Rattle.md_core.specs.declared.jobs.deliver.Stage.TheVariants.{Start, Writing, Linked, Undo}
 use Rattle.md_core.specs.declared.jobs.effect.Effect.{Effect}
+use Rattle.md_core.specs.declared.jobs.expunging.Expunging.{Expunging}
+use Rattle.md_core.specs.declared.jobs.expunging.Stage as expunging
+use Rattle.md_core.specs.declared.jobs.expunging.Stage.TheVariants as expunging_stage
 use Rattle.md_core.specs.declared.jobs.mark.Mark as marks
 use Rattle.md_core.specs.declared.jobs.mark.Mark.TheVariants as mark
 use Rattle.md_core.specs.declared.jobs.mark.Marking.{Marking}
@@ -25,12 +28,13 @@ use Rattle.md_core.specs.declared.jobs.search.Stage.TheVariants.{LookNew, LookCu
 use Rattle.md_core.specs.declared.jobs.step.DirReply.{DirReply}
 use Rattle.md_core.specs.declared.jobs.step.Moment.{Moment}
 use Rattle.md_core.specs.declared.jobs.task.Task.{Task}
-use Rattle.md_core.specs.declared.jobs.task.Task.TheVariants.{Deliver, Mark, Move, Copy}
+use Rattle.md_core.specs.declared.jobs.task.Task.TheVariants.{Deliver, Mark, Move, Expunge, Copy}
 use Rattle.std.specs.FinMap as finmap
 use Rattle.md_core.specs.Mailbox.{Entry, Mailbox, mailbox_of, bytes_of, is_tmp, is_message, HasOnePath}
 use Rattle.md_core.specs.History.{names_of, changed, IsAllowed}
 use Rattle.md_core.specs.Turn.{Asked, After, ask_of, rows_for, reply_of, state_by}
 use Rattle.md_core.specs.Machines.Deliver.{delivery_effect}
+use Rattle.md_core.specs.Machines.Expunge.{is_trashed}
 use Rattle.md_core.specs.Machines.Mark.{wanted, is_kept}
 use Rattle.md_core.specs.Machines.Search.{acts_on}
 use Rattle.md_core.specs.Machine.{Machine, working, turn_of, task_left}
@@ -130,11 +134,25 @@ pub record MarkingFits (s : State) (asked : Call) (m : Marking) : Type 0 where
   pub valid : is_unique_name m.unique ≡ true
   pub stage : IsAtName m.unique m.mark m.stage
 
+-- the name that an expunge takes away is one of its message, and trashed
+abbrev pub IsAtTrashed : List ℕ → expunging.Stage → Type 0
+IsAtTrashed u (expunging_stage.Look tries) = Unit {0}
+IsAtTrashed u (expunging_stage.Act name tries) = (is_message_name name ≡ true) × (unique_of name ≡ u) × (is_trashed name ≡ true)
+
+-- an expunge asks nothing of the directories but its folder
+pub record ExpungingFits (s : State) (asked : Call) (x : Expunging) : Type 0 where
+  pub tries : ℕ
+  pub of : asked ≡ call.Expunge x.folder x.unique tries
+  pub in_folder : x.folder < s.folders
+  pub valid : is_unique_name x.unique ≡ true
+  pub stage : IsAtTrashed x.unique x.stage
+
 -- what directories have of a task of a call. A later call adds its line
 abbrev pub TaskFits : State → Call → Task → Type 0
 TaskFits s asked (Deliver d) = DeliveryFits s asked d
 TaskFits s asked (Mark m) = MarkingFits s asked m
 TaskFits s asked (Move m) = MovingFits s asked m
+TaskFits s asked (Expunge x) = ExpungingFits s asked x
 TaskFits s asked (Copy c) = CopyingFits s asked c
 
 -- the size of the message of a unique name that a search has found
@@ -148,6 +166,7 @@ abbrev pub Found : Task → List ℕ → ℕ → Type 0
 Found (Deliver d) u size = ⊥
 Found (Mark m) u size = ⊥
 Found (Move m) u size = ⊥
+Found (Expunge x) u size = ⊥
 Found (Copy c) u size = FoundAt c.unique c.stage u size
 
 -- the message of the unique name has this size, where it is there
@@ -173,6 +192,7 @@ abbrev pub own_effect : ℕ → Task → Option Effect
 own_effect number (Deliver d) = if is_linked d.stage then Some (delivery_effect number d) else None
 own_effect number (Mark m) = None
 own_effect number (Move m) = None
+own_effect number (Expunge x) = None
 own_effect number (Copy c) = None
 
 -- What is known of a message that was found: where it is there it has this size, and no job without an effect makes its name.

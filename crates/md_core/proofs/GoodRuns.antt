@@ -1,5 +1,5 @@
 -- All is good at each moment of a run.
-use Rattle.std.proofs.Common.{ℕ, zero, suc, ◌+◌, ◌≡◌, ◌≢◌, ◌<◌, ◌++◌, inl, inr, List, [], ◌∷◌, Some, None, true, refl, sym, ap, subst, ◌∙◌, length, take, map, slice_get}
+use Rattle.std.proofs.Common.{ℕ, zero, suc, ◌+◌, ◌≡◌, ◌<◌, ◌++◌, inl, inr, List, [], ◌∷◌, Some, None, true, refl, sym, ap, subst, ◌∙◌, length, take, map, slice_get}
 use Rattle.std.proofs.lemmas.Bool.{cases_order}
 use Rattle.std.proofs.lemmas.List.{length-map}
 use Rattle.md_core.specs.declared.jobs.call.Call.{Call}
@@ -12,13 +12,14 @@ use Rattle.md_core.specs.declared.jobs.task.Task.TheVariants as task
 use Rattle.md_core.specs.Machines.Deliver.{new_delivery}
 use Rattle.md_core.specs.Machines.Mark.{new_marking}
 use Rattle.md_core.specs.Machines.Move.{new_moving}
+use Rattle.md_core.specs.Machines.Expunge.{new_expunging}
 use Rattle.md_core.specs.Machines.Copy.{new_copying}
-use Rattle.md_core.specs.Machine.{Machine, Standing, working, answered, Marked, job_at, new_job, happens, done, done_by, Done}
+use Rattle.md_core.specs.Machine.{Machine, Standing, working, Marked, job_at, new_job, happens, done, done_by, Done}
 use Rattle.md_core.specs.Runs.{Run, beginning, moment, machine_of, done_at}
 use Rattle.std.specs.Option.{option_and_then}
 use Rattle.md_core.specs.Submitting.{submit_refusal, has_machine}
 use Rattle.md_core.specs.Interleaving.{IsRun}
-use Rattle.md_core.proofs.Good.{IsGood, IsApart, Makes, EachTurn, DeliveryFits, MarkingFits, MovingFits, CopyingFits, TaskFits, Found, call_by}
+use Rattle.md_core.proofs.Good.{IsGood, Makes, EachTurn, DeliveryFits, MarkingFits, MovingFits, ExpungingFits, CopyingFits, TaskFits, Found, call_by}
 use Rattle.md_core.proofs.Places.{get-take}
 use Rattle.md_core.proofs.Events.{goes_on-exact, done-turned}
 use Rattle.md_core.proofs.Runs.{at_moment, at_last, moment-end, moment-more}
@@ -75,7 +76,16 @@ module _ (r : Run) (run : IsRun r) where
             stage = tt;
           } in
           subst (TaskFits r.image (Move folder u to tries)) (let e : task.Move (new_moving folder u to tries) ≡ job = cc in e) fits
-      by (Expunge a b c) none is = cc
+      by (Expunge folder u tries) none is =
+          let a = accepted-look_up (record r { calls = take i r.calls }) folder u tries none in
+          let fits : ExpungingFits r.image (Expunge folder u tries) (new_expunging folder u tries) = record {
+            tries = tries;
+            of = refl;
+            in_folder = a.in_folder;
+            valid = a.valid;
+            stage = tt;
+          } in
+          subst (TaskFits r.image (Expunge folder u tries)) (let e : task.Expunge (new_expunging folder u tries) ≡ job = cc in e) fits
       by (Copy folder u to fresh tries) none is =
           let a = accepted-copy (record r { calls = take i r.calls }) folder u to fresh tries none in
           let fits : CopyingFits r.image (Copy folder u to fresh tries) (new_copying folder u to fresh tries) = record {
@@ -114,7 +124,7 @@ module _ (r : Run) (run : IsRun r) where
   none-found (Seen a b c d) job u size is its = subst (λ (t : Task). Found t u size) (let e : job ≡ task.Mark (new_marking a b (mark.Seen c) d) = cc in e) its
   none-found (Flag a b c d e) job u size is its = subst (λ (t : Task). Found t u size) (let h : job ≡ task.Mark (new_marking a b (mark.Flag c d) e) = cc in h) its
   none-found (Move a b c d) job u size is its = subst (λ (t : Task). Found t u size) (let e : job ≡ task.Move (new_moving a b c d) = cc in e) its
-  none-found (Expunge a b c) job u size is its = cc
+  none-found (Expunge a b c) job u size is its = subst (λ (t : Task). Found t u size) (let e : job ≡ task.Expunge (new_expunging a b c) = cc in e) its
   none-found (Copy a b c d e) job u size is its = subst (λ (t : Task). Found t u size) (let h : job ≡ task.Copy (new_copying a b c d e) = cc in h) its
   none-found (Clean a) job u size is its = cc
 

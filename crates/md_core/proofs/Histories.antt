@@ -2,18 +2,15 @@
 use Rattle.std.proofs.Common.{ℕ, zero, suc, ◌≡◌, ◌≢◌, ◌<◌, ◌≤◌, length, ◌++◌, List, [], ◌∷◌, Option, Some, None, Bool, true, false, cond, MatchBool, MatchOption, IfSome, refl, sym, ap, subst, ◌∙◌, filter, slice_get, arith, ◌==◌}
 use Rattle.std.specs.Option.{option_to_list, option_or}
 use Rattle.std.proofs.lemmas.Bool.Decides.{nat_tests}
-use Rattle.std.proofs.lemmas.List.{append-nil, take-append-le, take_at, take_all}
+use Rattle.std.proofs.lemmas.List.{append-nil, take-append-le, take_at}
 use Rattle.std.proofs.lemmas.List.Elements.{filter-append}
 use Rattle.std.proofs.lemmas.Option.{slice_get_within}
-use Rattle.std.specs.FinMap as finmap
-use Rattle.md_name.specs.Names.{is_unique_name}
 use Rattle.md_core.specs.declared.jobs.answer.Answer.{Answer}
-use Rattle.md_core.specs.declared.jobs.answer.Answer.TheVariants as answer
 use Rattle.md_core.specs.declared.jobs.call.Call.{Call}
 use Rattle.md_core.specs.declared.jobs.effect.Effect.{Effect}
 use Rattle.md_core.specs.declared.jobs.task.Task.{Task}
-use Rattle.md_core.specs.Mailbox.{Mailbox, mailbox_of}
-use Rattle.md_core.specs.History.{Names, names_of, changed, after, IsNowhere, WasNowhere, IsAllowed, IsAllowedAfter, IsLegal}
+use Rattle.md_core.specs.Mailbox.{mailbox_of}
+use Rattle.md_core.specs.History.{Names, names_of, changed, after, WasNowhere, IsAllowed, IsAllowedAfter, IsLegal}
 use Rattle.md_core.specs.Machine.{Machine, Standing, working, answered, standing_of, Done}
 use Rattle.md_core.specs.Interleaving.{AsAlone, is_success}
 use Rattle.md_core.proofs.Good.{IsGood, Makes, own_effect, Affects, Settles}

@@ -1,34 +1,32 @@
 -- The interleaving theorem of a run, from what each turn does.
 use Rattle.std.proofs.Common.{ℕ, zero, suc, ◌≡◌, ◌≢◌, ◌<◌, ◌≤◌, ◌+◌, List, [], ◌∷◌, Option, Some, None, Bool, true, false, cond, MatchBool, IfSome, refl, sym, ap, subst, ◌∙◌, length, take, slice_get, arith}
-use Rattle.std.specs.Option.{option_to_list, option_and_then, option_map}
+use Rattle.std.specs.Option.{option_to_list, option_map}
 use Rattle.std.specs.FinMap as finmap
 use Rattle.std.proofs.lemmas.List.{take_all}
 use Rattle.md_dirs.specs.State.{State, file_at}
 use Rattle.md_dirs.specs.declared.paths.Path.{Path}
-use Rattle.md_name.specs.Names.{is_unique_name, unique_of}
 use Rattle.md_core.specs.declared.jobs.answer.Answer.{Answer}
 use Rattle.md_core.specs.declared.jobs.call.Call.{Call}
 use Rattle.md_core.specs.declared.jobs.call.Call.TheVariants as call
 use Rattle.md_core.specs.declared.jobs.effect.Effect.{Effect}
 use Rattle.md_core.specs.declared.jobs.task.Task.{Task}
-use Rattle.md_core.specs.declared.jobs.task.Task.TheVariants.{Deliver, Mark, Move, Copy}
+use Rattle.md_core.specs.declared.jobs.task.Task.TheVariants.{Deliver, Mark, Move, Expunge, Copy}
 use Rattle.md_core.specs.Mailbox.{Entry, mailbox_of, is_tmp, is_message}
 use Rattle.md_core.specs.History.{Names, names_of, listed, after, IsNowhere}
-use Rattle.md_core.specs.Machine.{Machine, Standing, working, answered, Marked, Done, job_at, job_left, task_left, new_job, happens, done, done_by}
+use Rattle.md_core.specs.Machine.{Machine, Standing, working, answered, Marked, Done, job_at, job_left, new_job}
 use Rattle.md_core.specs.Machines.Deliver.{delivery_effect}
-use Rattle.md_core.specs.Runs.{Run, beginning, moment, machine_of, jobs_of, done_at}
+use Rattle.md_core.specs.Runs.{Run, beginning, moment, machine_of, jobs_of}
 use Rattle.md_core.specs.Submitting.{submit_refusal, has_machine}
 use Rattle.md_core.specs.Interleaving.{IsRun, call_at, Simulates, Happened, NoneOverwritten, IsSafe, effects_by, is_success, is_linked, is_past_link, steps_of, most_steps, JobLaw, Interleaves}
 use Rattle.md_core.proofs.Good.{EachTurn, IsGood, Makes, HasNoMessage, Affects, own_effect}
 use Rattle.md_core.proofs.Places.{at_place}
-use Rattle.md_core.proofs.Events.{goes_on-exact, done-turned}
 use Rattle.md_core.proofs.Frames.{message-key}
 use Rattle.md_core.proofs.Shown.{mailbox-shows}
 use Rattle.md_core.proofs.Naming.{get-names}
 use Rattle.md_core.proofs.Accepted.{accepted, accepted-look_up, accepted-move, accepted-copy}
 use Rattle.md_core.proofs.Loading.Loaded.{unused-path}
-use Rattle.md_core.proofs.Runs.{moment-more, moment-over}
-use Rattle.md_core.proofs.Going.{Goes, goes}
+use Rattle.md_core.proofs.Runs.{moment-over}
+use Rattle.md_core.proofs.Going.{Goes}
 use Rattle.md_core.proofs.GoodRuns.{new_at, all-apart, good-moment, what-at, going-at, done-what, kept-moment, kept-machine}
 use Rattle.md_core.proofs.Histories.{Has, Tells, tells-more}
 use Rattle.md_core.proofs.Comes.{wholes-moment}
@@ -79,6 +77,7 @@ by_link number (Deliver d) es own some = by (is_linked d.stage) own
     by false h = absurd (some h)
 by_link number (Mark m) es own some = absurd (some own)
 by_link number (Move m) es own some = absurd (some own)
+by_link number (Expunge x) es own some = absurd (some own)
 by_link number (Copy c) es own some = absurd (some own)
 
 -- what a job of an accepted call may take at its beginning is the most that its call takes
@@ -87,7 +86,7 @@ left-most r (call.Deliver a b c d) none = refl
 left-most r (call.Seen a b c tries) none = let some = (accepted-look_up r a b tries none).some in omega arith
 left-most r (call.Flag a b c d tries) none = let some = (accepted-look_up r a b tries none).some in omega arith
 left-most r (call.Move a b c tries) none = let some = (accepted-move r a b c tries none).tried in omega arith
-left-most r (call.Expunge a b c) none = refl
+left-most r (call.Expunge a b tries) none = let some = (accepted-look_up r a b tries none).some in omega arith
 left-most r (call.Copy a b c d tries) none = let some = (accepted-copy r a b c d tries none).tried in omega arith
 left-most r (call.Clean a) none = refl
 

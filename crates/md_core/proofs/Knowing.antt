@@ -1,22 +1,21 @@
 -- What is known of a message that was found stays known: its bytes stay, and nothing makes its name again.
-use Rattle.std.proofs.Common.{ℕ, suc, ◌≡◌, ◌≢◌, inl, inr, List, Option, Some, None, true, false, cond, MatchOption, IfSome, refl, sym, ap, subst, ◌∙◌, length, slice_get}
+use Rattle.std.proofs.Common.{ℕ, suc, ◌≡◌, inl, inr, List, Option, Some, None, cond, MatchOption, IfSome, sym, ap, subst, ◌∙◌, length, slice_get}
 use Rattle.std.specs.Option.{option_or}
 use Rattle.std.specs.FinMap as finmap
 use Rattle.md_dirs.specs.State.{State}
 use Rattle.md_core.specs.declared.jobs.answer.Answer.{Answer}
 use Rattle.md_core.specs.declared.jobs.call.Call.{Call}
 use Rattle.md_core.specs.declared.jobs.call.Call.TheVariants as call
-use Rattle.md_core.specs.declared.jobs.deliver.Delivery.{Delivery}
 use Rattle.md_core.specs.declared.jobs.deliver.Stage.{Stage}
 use Rattle.md_core.specs.declared.jobs.deliver.Stage.TheVariants.{Start, Writing, Linked, Undo}
 use Rattle.md_core.specs.declared.jobs.effect.Effect.{Effect}
 use Rattle.md_core.specs.declared.jobs.mark.Mark as marks
 use Rattle.md_core.specs.declared.jobs.mark.Mark.TheVariants as mark
 use Rattle.md_core.specs.declared.jobs.task.Task.{Task}
-use Rattle.md_core.specs.declared.jobs.task.Task.TheVariants.{Deliver, Mark, Move, Copy}
+use Rattle.md_core.specs.declared.jobs.task.Task.TheVariants.{Deliver, Mark, Move, Expunge, Copy}
 use Rattle.md_core.specs.Mailbox.{Entry, Mailbox, mailbox_of}
 use Rattle.md_core.specs.Machines.Deliver.{delivery_effect}
-use Rattle.md_core.specs.Machine.{Machine, working, standing_of, Done}
+use Rattle.md_core.specs.Machine.{Machine, working, Done}
 use Rattle.md_core.specs.Interleaving.{AsAlone, is_linked}
 use Rattle.md_core.proofs.Good.{HasNoMessage, StageFits, TaskFits, IsGood, Makes, Found, HasSize, IsOfSize, Known, Settles, own_effect, call_by}
 use Rattle.md_core.proofs.Frames.{unused-no_message}
@@ -50,6 +49,7 @@ makes-none s number asked (Deliver d) u fits without makes = subst (HasNoMessage
     by (Undo a) h is = h.0
 makes-none s number asked (Mark m) u fits without makes = absurd (mark-makes m.folder m.unique m.mark fits.tries u (subst (λ (c : Call). Makes c u) fits.of makes))
 makes-none s number asked (Move m) u fits without makes = absurd (subst (λ (c : Call). Makes c u) fits.of makes)
+makes-none s number asked (Expunge x) u fits without makes = absurd (subst (λ (c : Call). Makes c u) fits.of makes)
 makes-none s number asked (Copy c) u fits without makes = subst (HasNoMessage s) (subst (λ (x : Call). Makes x u) fits.of makes) fits.none
 
 -- a message that is there is known

@@ -18,6 +18,7 @@ pub mod Quiet
 pub mod Deliver
 pub mod Mark
 pub mod Move
+pub mod Expunge
 pub mod Copy
 pub mod EachTurn
 pub mod Places

@@ -1,7 +1,6 @@
 -- What a look-up of one message tells of directories and their mailbox, and the turn that made it.
 use Rattle.std.proofs.Common.{ℕ, ◌≡◌, ◌≢◌, ◌+◌, inl, inr, List, [], ◌∷◌, Option, Some, None, Bool, true, false, cond, not, ◌&&◌, length, map, filter, drop, is_some, nat_lt, nat_eq, refl, sym, ap, subst, ◌∙◌}
 use Rattle.std.specs.List.{list_any, before_first, starts_with}
-use Rattle.std.specs.FinMap as finmap
 use Rattle.std.specs.FinMap.{entries, get}
 use Rattle.std.proofs.lemmas.Bool.{eqb-true, eq-eqb, or_parts, and_from}
 use Rattle.md_dirs.specs.State.{State, file_at}
@@ -14,9 +13,10 @@ use Rattle.md_dirs.specs.declared.paths.Place.{Place}
 use Rattle.md_dirs.specs.declared.paths.Place.TheVariants.{Tmp, New, Cur}
 use Rattle.md_dirs.specs.declared.rows.Row.{Row}
 use Rattle.md_dirs.proofs.PathOrder.{path_total, path_exact}
-use Rattle.md_name.specs.Names.{is_colon, unique_of, begins_with_dot, is_message_name, is_maildir_unique, is_unique_name}
+use Rattle.md_name.specs.Names.{is_colon, unique_of, info_of, begins_with_dot, is_message_name, is_unique_name}
+use Rattle.md_name.specs.declared.info.Info.{Info}
 use Rattle.md_name.proofs.Digits.{and_first, and_second}
-use Rattle.md_name.proofs.Flagged.{IsUniquePart, IsUniquePart-maildir, colonless-unique_of}
+use Rattle.md_name.proofs.Flagged.{IsUniquePart, IsUniquePart-maildir}
 use Rattle.md_core.specs.declared.jobs.effect.Effect.{Effect}
 use Rattle.md_core.specs.declared.jobs.step.DirReply.{DirReply}
 use Rattle.md_core.specs.declared.jobs.step.DirReply.TheVariants as reply
@@ -25,9 +25,10 @@ use Rattle.md_core.specs.declared.jobs.step.Moment.{Moment}
 use Rattle.md_core.specs.declared.jobs.step.StepOut.{StepOut}
 use Rattle.md_core.specs.Mailbox.{Entry, mailbox_of, entry_of, is_message, is_tmp, HasOnePath}
 use Rattle.md_core.specs.Alone.{such, is_in_place}
+use Rattle.md_core.specs.Machines.Search.{info_in, info_in_parts}
 use Rattle.md_core.specs.Turn.{After, Device, Looks, Takes, list, reply_of, state_by, is_fault}
 use Rattle.md_core.proofs.Members.{Has, get-has, has-get}
-use Rattle.md_core.proofs.Shown.{Shows, mailbox-shows, shows-mailbox}
+use Rattle.md_core.proofs.Shown.{mailbox-shows, shows-mailbox}
 use Rattle.md_core.proofs.WholeName.{before}
 
 -- ---- names
@@ -82,6 +83,10 @@ message-name u name part is = and_from _ _ (by name (sym is)) (ap (λ v. nat_lt 
         at : (b : Bool) → is_colon c ≡ b → not (begins_with_dot (c ∷ cs)) ≡ true
         at true t = let none : u ≡ [] = is ∙ before c cs true t in let some = ap (λ v. nat_lt 0 (length v)) (sym none) ∙ part.some in cc
         at false t = ap not (ap begins_with_dot (sym (is ∙ before c cs false t)) ∙ part.dotless)
+
+-- the info of a message's name
+pub info-in : (name : List ℕ) → is_message_name name ≡ true → info_in name ≡ info_of name
+info-in name message = ap (λ b. info_in_parts (cond {A = Option (List ℕ × Info)} b (Some (unique_of name, info_of name)) None)) message
 
 -- ---- rows
 

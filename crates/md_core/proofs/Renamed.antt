@@ -1,5 +1,5 @@
 -- What the names of a mailbox show of a message that gets another path of its unique name.
-use Rattle.std.proofs.Common.{ℕ, ◌≡◌, ◌≢◌, List, Option, Some, None, refl, sym, ap, ◌∙◌, length}
+use Rattle.std.proofs.Common.{ℕ, ◌≡◌, List, Option, Some, sym, ap, ◌∙◌, length}
 use Rattle.std.specs.Option.{option_map, option_map_or}
 use Rattle.std.specs.FinMap as finmap
 use Rattle.std.specs.FinMap.{get}
@@ -8,8 +8,8 @@ use Rattle.std.proofs.lemmas.Map.Lookups.{exact_bytes}
 use Rattle.md_dirs.specs.declared.paths.Path.{Path}
 use Rattle.md_dirs.specs.State.{State}
 use Rattle.md_dirs.proofs.Maps as maps
-use Rattle.md_name.specs.Names.{unique_of, info_text}
-use Rattle.md_core.specs.Mailbox.{Entry, Mailbox, name_cmp, entry_of}
+use Rattle.md_name.specs.Names.{unique_of}
+use Rattle.md_core.specs.Mailbox.{Mailbox, entry_of}
 use Rattle.md_core.specs.History.{Listed, Names, listed, names_of, size_in, IsThere}
 use Rattle.md_core.proofs.Changes.{by_name}
 use Rattle.md_core.proofs.Naming.{get-names, same_names}

@@ -1,5 +1,5 @@
 -- A search for one message: where its look-ups lead, and that a step of it changes nothing.
-use Rattle.std.proofs.Common.{ℕ, ◌≡◌, ◌<◌, ◌≤◌, ◌-◌, ◌*◌, inr, List, Option, Some, None, Bool, true, false, cond, max, length, nat_le, refl, sym, ap, ◌∙◌, arith}
+use Rattle.std.proofs.Common.{ℕ, ◌≡◌, ◌<◌, ◌-◌, ◌*◌, inr, List, Option, Some, None, Bool, true, false, cond, max, length, nat_le, refl, sym, ap, ◌∙◌, arith}
 use Rattle.std.proofs.lemmas.Bool.Decides.{nat_tests}
 use Rattle.std.specs.FinMap.{get}
 use Rattle.md_dirs.specs.State.{State, IsSound, file_by}

@@ -1,14 +1,12 @@
 -- One step of a world: what it shows, and that a successful answer has its effect.
-use Rattle.std.proofs.Common.{ℕ, zero, suc, ◌≡◌, ◌-◌, ◌∙◌, List, [], ◌∷◌, true, Option, Some, None, refl, sym, ap, subst, slice_get, slice_set, arith}
+use Rattle.std.proofs.Common.{◌≡◌, ◌∙◌, Option, Some, None, refl, sym, ap, subst}
 use Rattle.std.specs.Option.{option_map}
 use Rattle.md_core.specs.declared.jobs.answer.Answer.{Answer}
-use Rattle.md_core.specs.declared.jobs.call.Call.{Call}
-use Rattle.md_core.specs.declared.jobs.effect.Effect.{Effect}
 use Rattle.md_core.specs.declared.jobs.step.StepOut.{StepOut}
 use Rattle.md_core.specs.declared.jobs.task.Task.{Task}
-use Rattle.md_core.specs.Machine.{Machine, Standing, working, answered, Marked, Done, job_at, standing_of, happens, done, done_by, step_out}
+use Rattle.md_core.specs.Machine.{Machine, working, answered, Marked, Done, job_at, standing_of, done, done_by, step_out}
 use Rattle.md_core.specs.Runs.{Run, machine_of, jobs_of, and_event, step_refusal}
-use Rattle.md_core.specs.Interleaving.{IsRun, call_at, Simulates, ShowsStep, Succeeds, effects_by, is_success, Interleaves}
+use Rattle.md_core.specs.Interleaving.{IsRun, call_at, ShowsStep, Succeeds, Interleaves}
 use Rattle.md_core.proofs.Good.{EachTurn}
 use Rattle.md_core.proofs.Events.{goes_on-exact, done-turned}
 use Rattle.md_core.proofs.Runs.{machine-and_event}

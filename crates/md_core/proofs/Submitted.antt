@@ -1,9 +1,9 @@
 -- A world with one more job keeps what a world keeps, of the run with one more call. And a world at its beginning.
-use Rattle.std.proofs.Common.{ℕ, ◌≡◌, ◌++◌, ◌∙◌, List, [], ◌∷◌, None, Bool, true, false, ◌||◌, refl, sym, ap, subst, map, arith}
+use Rattle.std.proofs.Common.{ℕ, ◌≡◌, ◌++◌, ◌∙◌, List, [], ◌∷◌, None, Bool, true, false, ◌||◌, refl, sym, ap, subst, arith}
 use Rattle.std.specs.List.{list_any}
 use Rattle.std.specs.FinMap as finmap
 use Rattle.std.proofs.lemmas.List.{map-append}
-use Rattle.md_dirs.specs.State.{State, IsSound}
+use Rattle.md_dirs.specs.State.{IsSound}
 use Rattle.md_core.specs.declared.jobs.call.Call.{Call}
 use Rattle.md_core.specs.declared.jobs.effect.Effect.{Effect}
 use Rattle.md_core.specs.declared.jobs.step.Event.{Event}

@@ -11,7 +11,7 @@ use Rattle.md_core.specs.declared.jobs.answer.Answer.{Answer}
 use Rattle.md_core.specs.declared.jobs.call.Call.{Call}
 use Rattle.md_core.specs.declared.jobs.call.Call.TheVariants.{Deliver, Seen, Flag, Move, Expunge, Copy, Clean}
 use Rattle.md_core.specs.Mailbox.{Entry, Mailbox}
-use Rattle.md_core.specs.Alone.{Outcome, alone, such, is_in_place, is_in_folder, is_same_set, info_with, flags_in, delivered, seen, seen_by, flag, flag_by, moved, expunged, expunge_by, copied, copy_by, info_copied}
+use Rattle.md_core.specs.Alone.{Outcome, alone, such, is_in_place, is_in_folder, is_same_set, info_with, flags_in, delivered, seen, seen_by, flag, flag_by, moved, expunged, expunge_by, copied, copy_by}
 use Rattle.md_core.specs.declared.jobs.effect.Effect.{Effect}
 use Rattle.md_core.specs.Interleaving.{AsAlone, IsDeliveryOf}
 

@@ -19,11 +19,11 @@ use Rattle.md_core.specs.declared.jobs.task.Task.TheVariants as task
 use Rattle.md_core.specs.Mailbox.{Entry, Mailbox, mailbox_of, is_tmp, is_message, HasOnePath}
 use Rattle.md_core.specs.Alone.{alone}
 use Rattle.md_core.specs.History.{names_of, after, IsLegal}
-use Rattle.md_core.specs.Turn.{Asked, create, append, link, rename, unlink, list}
+use Rattle.md_core.specs.Turn.{Asked, link, rename, unlink, list}
 use Rattle.md_core.specs.Machines.Deliver.{pieces}
 use Rattle.md_core.specs.Machine.{Machine, Standing, working, answered, Marked, Done, step_out, job_at, job_left}
 use Rattle.md_core.specs.Machine.{done as done_of}
-use Rattle.md_core.specs.Runs.{Run, moment, machine_of, done_at, jobs_of, effects_of, answer_of, step_refusal}
+use Rattle.md_core.specs.Runs.{Run, moment, machine_of, done_at, jobs_of, effects_of, step_refusal}
 use Rattle.md_core.specs.Loading.{load_refusal}
 use Rattle.md_core.specs.Submitting.{submit_refusal, has_machine}
 
@@ -148,6 +148,7 @@ abbrev pub is_past_link : Task → Bool
 is_past_link (task.Deliver d) = is_linked d.stage
 is_past_link (task.Mark m) = false
 is_past_link (task.Move m) = false
+is_past_link (task.Expunge x) = false
 is_past_link (task.Copy c) = false
 
 -- the effects of a job
@@ -163,13 +164,14 @@ Succeeds r job (Some a) = is_success a ≡ true → (e : Effect) × (effects_by 
 abbrev pub steps_of : Run → ℕ → ℕ
 steps_of r job = count_by (λ e. e.event.job == job) r.events
 
--- The most steps that a call takes: a delivery takes one for each piece of its body, and three more; a seen and a flag take two for each
--- try, a move and a copy three. Only Expunge and Clean are still to come, and take none.
+-- The most steps that a call takes: a delivery takes one for each piece of its body, and three more; a seen, a flag and an expunge take two for
+-- each try, a move and a copy three. Only Clean is still to come, and takes none.
 abbrev pub most_steps : Call → ℕ
 most_steps (call.Deliver folder unique body chunk) = pieces (length body) chunk + 3
 most_steps (call.Seen folder unique flags tries) = 2 * tries
 most_steps (call.Flag folder unique add remove tries) = 2 * tries
 most_steps (call.Move folder unique to tries) = 3 * tries
+most_steps (call.Expunge folder unique tries) = 2 * tries
 most_steps (call.Copy folder unique to fresh tries) = 3 * tries
 most_steps call = 0
 

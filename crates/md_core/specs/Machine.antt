@@ -1,11 +1,12 @@
 -- The jobs as machines over the directories: at an event one job takes its turn.
-use Rattle.std.specs.Prelude.{ℕ, ◌-◌, List, [], ◌++◌, Option, Some, None, Bool, true, false, max, is_some, slice_get, slice_set, unwrap_or, zero, suc}
+use Rattle.std.specs.Prelude.{ℕ, ◌-◌, List, ◌++◌, Option, Some, None, Bool, true, false, max, is_some, slice_get, slice_set, unwrap_or, zero, suc}
 use Rattle.std.specs.Option.{option_to_list, option_map}
 use Rattle.md_dirs.specs.State.{State}
-use Rattle.md_core.specs.Turn.{Asked, Turn, After, ask_of, shown_call, rows_for, reply_of, state_by}
+use Rattle.md_core.specs.Turn.{Asked, Turn, ask_of, shown_call, rows_for, reply_of, state_by}
 use Rattle.md_core.specs.Machines.Deliver.{new_delivery, delivery_turn, delivery_left}
 use Rattle.md_core.specs.Machines.Mark.{new_marking, marking_turn, marking_left}
 use Rattle.md_core.specs.Machines.Move.{new_moving, moving_turn, moving_left}
+use Rattle.md_core.specs.Machines.Expunge.{new_expunging, expunging_turn, expunging_left}
 use Rattle.md_core.specs.Machines.Copy.{new_copying, copying_turn, copying_left}
 use Rattle.md_core.specs.declared.jobs.call.Call.{Call}
 use Rattle.md_core.specs.declared.jobs.call.Call.TheVariants as call
@@ -18,7 +19,7 @@ use Rattle.md_core.specs.declared.jobs.step.Moment.{Moment}
 use Rattle.md_core.specs.declared.jobs.step.StepOut.{StepOut}
 use Rattle.md_core.specs.declared.jobs.mark.Mark.TheVariants as mark
 use Rattle.md_core.specs.declared.jobs.task.Task.{Task}
-use Rattle.md_core.specs.declared.jobs.task.Task.TheVariants.{Deliver, Mark, Move, Copy}
+use Rattle.md_core.specs.declared.jobs.task.Task.TheVariants.{Deliver, Mark, Move, Expunge, Copy}
 
 -- a turn of one kind of task, as a turn of a task
 abbrev pub as_task : {T : Type 0} → (T → Task) → Turn T → Turn Task
@@ -32,6 +33,7 @@ abbrev pub turn_of : ℕ → Task → Moment → Turn Task
 turn_of job (Deliver d) at = as_task Deliver (delivery_turn job d at)
 turn_of job (Mark m) at = as_task Mark (marking_turn job m)
 turn_of job (Move m) at = as_task Move (moving_turn job m)
+turn_of job (Expunge x) at = as_task Expunge (expunging_turn job x)
 turn_of job (Copy c) at = as_task Copy (copying_turn job c)
 
 -- how many turns a task takes at most from here to its answer
@@ -39,6 +41,7 @@ abbrev pub task_left : Task → ℕ
 task_left (Deliver d) = delivery_left d
 task_left (Mark m) = marking_left m
 task_left (Move m) = moving_left m
+task_left (Expunge x) = expunging_left x
 task_left (Copy c) = copying_left c
 
 -- How a job stands: at work, or answered. One that is answered holds nothing but its answer.
@@ -50,13 +53,13 @@ abbrev pub is_working : Standing → Bool
 is_working (working task) = true
 is_working (answered a) = false
 
--- A job at its beginning, of a delivery, a seen, a flag, a move or a copy. Only Expunge and Clean are still to come: they stand for jobs that
--- have ended.
+-- A job at its beginning. Only Clean is still to come: it stands for a job that has ended.
 abbrev pub new_job : Call → Standing
 new_job (call.Deliver folder unique body chunk) = working (Deliver (new_delivery folder unique body chunk))
 new_job (call.Seen folder unique flags tries) = working (Mark (new_marking folder unique (mark.Seen flags) tries))
 new_job (call.Flag folder unique add remove tries) = working (Mark (new_marking folder unique (mark.Flag add remove) tries))
 new_job (call.Move folder unique to tries) = working (Move (new_moving folder unique to tries))
+new_job (call.Expunge folder unique tries) = working (Expunge (new_expunging folder unique tries))
 new_job (call.Copy folder unique to fresh tries) = working (Copy (new_copying folder unique to fresh tries))
 new_job other = answered answer.Fault
 

@@ -2,4 +2,5 @@ pub mod Deliver
 pub mod Mark
 pub mod Search
 pub mod Move
+pub mod Expunge
 pub mod Copy

@@ -76,11 +76,12 @@ checks r (Clean folder) = (no_folder r folder, core.NoFolder) ∷ (too_many r, c
 abbrev pub submit_refusal : Run → Call → Option CoreError
 submit_refusal r call = first_met (checks r call)
 
--- whether the machine of a call is there: only Expunge and Clean are still to come
+-- whether the machine of a call is there: only Clean is still to come
 abbrev pub has_machine : Call → Bool
 has_machine (Deliver folder unique body chunk) = true
 has_machine (Seen folder unique flags tries) = true
 has_machine (Flag folder unique add remove tries) = true
 has_machine (Move folder unique to tries) = true
+has_machine (Expunge folder unique tries) = true
 has_machine (Copy folder unique to fresh tries) = true
 has_machine call = false

@@ -4,6 +4,7 @@ pub mod call;
 pub mod copying;
 pub mod deliver;
 pub mod effect;
+pub mod expunging;
 pub(crate) mod job;
 pub mod mark;
 pub mod moving;

@@ -1,6 +1,7 @@
 // What no clause says: worked runs, each refusal once, growths that are refused, faults of the directories, and what may cross
 // threads. One refused allocation anywhere leaves each test passing: the refused call changed nothing, and is made again.
 mod copies;
+mod expunges;
 mod faults;
 mod loads;
 mod marks;

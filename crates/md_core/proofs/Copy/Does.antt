@@ -1,5 +1,5 @@
 -- What a link does that is the effect of a copy: a message of the fresh name is there, and shares the file of the message.
-use Rattle.std.proofs.Common.{ℕ, ◌≡◌, ◌≢◌, ◌<◌, inr, List, Option, Some, None, true, false, cond, refl, sym, ap, subst, ◌∙◌, not, ◌&&◌, length, arith}
+use Rattle.std.proofs.Common.{ℕ, ◌≡◌, ◌≢◌, inr, Option, Some, None, true, false, cond, refl, sym, ap, subst, ◌∙◌, not, arith}
 use Rattle.std.proofs.lemmas.Bool.{and_from, eq-eqb}
 use Rattle.std.specs.FinMap as finmap
 use Rattle.std.specs.FinMap.{get}
@@ -9,23 +9,21 @@ use Rattle.md_dirs.specs.declared.paths.Path.{Path}
 use Rattle.md_dirs.specs.declared.paths.Place.{Place}
 use Rattle.md_dirs.specs.declared.paths.Place.TheVariants.{Tmp}
 use Rattle.md_dirs.specs.declared.rows.Row.{Row}
-use Rattle.md_name.specs.Names.{unique_of, info_by, is_message_name}
-use Rattle.md_name.specs.Letters.{Set}
+use Rattle.md_name.specs.Names.{unique_of}
 use Rattle.md_core.specs.declared.jobs.answer.Answer.TheVariants as answer
 use Rattle.md_core.specs.declared.jobs.call.Call.{Call}
-use Rattle.md_core.specs.declared.jobs.call.Call.TheVariants as call
 use Rattle.md_core.specs.declared.jobs.copying.Copying.{Copying}
 use Rattle.md_core.specs.declared.jobs.search.Stage.TheVariants.{Act}
 use Rattle.md_core.specs.declared.jobs.step.DirReply.TheVariants as reply
 use Rattle.md_core.specs.declared.jobs.task.Task.TheVariants.{Copy}
 use Rattle.md_core.specs.Mailbox.{Entry, Mailbox, mailbox_of, entry_of, is_message, is_tmp, HasOnePath}
-use Rattle.md_core.specs.Alone.{alone, copied, copy_by, such, is_in_folder, flags_in, info_copied}
-use Rattle.md_core.specs.History.{Names, names_of, changed, listed}
+use Rattle.md_core.specs.Alone.{alone, copied, copy_by, such, is_in_folder, info_copied}
+use Rattle.md_core.specs.History.{names_of, changed}
 use Rattle.md_core.specs.Turn.{link}
 use Rattle.md_core.specs.Machines.Copy.{at_stage, source, target, copying_effect}
 use Rattle.md_core.specs.Interleaving.{AsAlone, is_effect_at}
-use Rattle.md_core.proofs.Good.{bytes_at, HasNoMessage, HasSize, CopyingFits, Makes, Does}
-use Rattle.md_core.proofs.Changes.{Puts, one-puts, mailbox-puts}
+use Rattle.md_core.proofs.Good.{bytes_at, HasSize, CopyingFits, Makes, Does}
+use Rattle.md_core.proofs.Changes.{one-puts, mailbox-puts}
 use Rattle.md_core.proofs.Naming.{names-insert}
 use Rattle.md_core.proofs.Renamed.{listed-entry}
 use Rattle.md_core.proofs.Shown.{mailbox-shows, shows-mailbox}

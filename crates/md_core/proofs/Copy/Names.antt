@@ -1,19 +1,19 @@
 -- The name of a copy: it is a message's, of the fresh unique name, and shows the flags of the message.
-use Rattle.std.proofs.Common.{ℕ, ◌≡◌, ◌++◌, List, ◌∷◌, Option, Some, None, Bool, true, false, cond, is_some, refl, sym, ap, subst, ◌∙◌, ◌&&◌, codes, length, drop, nat_eq, append_assoc, arith, length-append}
+use Rattle.std.proofs.Common.{ℕ, ◌≡◌, ◌++◌, List, ◌∷◌, Option, Some, None, Bool, true, false, cond, is_some, refl, sym, ap, ◌∙◌, ◌&&◌, codes, length, drop, nat_eq, append_assoc, arith, length-append}
 use Rattle.std.specs.List.{list_any, list_all, starts_with}
 use Rattle.std.specs.FinSet as set
 use Rattle.std.proofs.lemmas.List.{append_cancel_left}
 use Rattle.md_name.specs.Letters.{is_letter, Set, spelling}
-use Rattle.md_name.specs.Names.{is_colon, unique_of, info_text, info_by, info_of, flags_of, is_message_name, is_unique_name, split_of, flagged}
+use Rattle.md_name.specs.Names.{is_colon, unique_of, info_text, info_by, info_of, flags_of, is_message_name, is_unique_name, flagged}
 use Rattle.md_name.specs.declared.info.Info.{Info}
 use Rattle.md_name.specs.declared.info.Info.TheVariants.{Bare, Two, Opaque}
 use Rattle.md_name.proofs.Flagged.{IsUniquePart, list_all-spelling, unique_of-flagged}
 use Rattle.md_core.specs.Alone.{info_with, info_copied}
 use Rattle.md_core.specs.History.{name_of}
-use Rattle.md_core.specs.Machines.Search.{info_in, info_in_parts, acts_on}
+use Rattle.md_core.specs.Machines.Search.{info_in, acts_on}
 use Rattle.md_core.specs.Machines.Copy.{name_copied}
 use Rattle.md_core.proofs.Accepted.{unique_name}
-use Rattle.md_core.proofs.LookUps.{unique-part, message-name}
+use Rattle.md_core.proofs.LookUps.{unique-part, message-name, info-in}
 use Rattle.md_core.proofs.WholeName.{whole-name}
 
 flagged-is : (u : List ℕ) (flags : Set) → flagged u flags ≡ u ++ 58 ∷ 50 ∷ 44 ∷ spelling flags
@@ -59,9 +59,6 @@ pub record IsCopyName (fresh name : List ℕ) : Type 0 where
   -- the flags of the copy
   pub shown : Set
   pub shows : flags_of (info_of (name_copied fresh (info_in name))) ≡ Some shown
-
-info-in : (name : List ℕ) → is_message_name name ≡ true → info_in name ≡ info_of name
-info-in name message = ap (λ b. info_in_parts (cond {A = Option (List ℕ × Info)} b (Some (unique_of name, info_of name)) None)) message
 
 module _ (fresh name : List ℕ) (valid : is_unique_name fresh ≡ true) (message : is_message_name name ≡ true) where
   part : IsUniquePart fresh

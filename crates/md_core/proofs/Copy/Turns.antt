@@ -1,5 +1,5 @@
 -- What each turn of a copy does, by its stage and the reply.
-use Rattle.std.proofs.Common.{ℕ, ◌≡◌, List, Option, Some, None, Bool, true, false, refl, sym, ap, subst, ◌∙◌}
+use Rattle.std.proofs.Common.{ℕ, ◌≡◌, List, Option, Some, Bool, false, refl, sym, ap, subst, ◌∙◌}
 use Rattle.md_dirs.specs.Calls as dirs
 use Rattle.md_dirs.specs.State.{State, IsSound, file_at}
 use Rattle.md_dirs.specs.Rows.{rows_of, row_named}
@@ -26,7 +26,7 @@ use Rattle.md_core.specs.Machine.{as_task}
 use Rattle.md_core.specs.Machines.Search.{after_look, after_lost, leads, search_left}
 use Rattle.md_core.specs.Machines.Copy.{at_stage, source, target, copying_effect, look_turn, link_turn, stage_turn, copying_turn}
 use Rattle.md_core.specs.Turn.{Asked, After, Turn, ask_of, rows_for, reply_of, state_by, list, link}
-use Rattle.md_core.specs.Interleaving.{is_effect_at, is_success}
+use Rattle.md_core.specs.Interleaving.{is_effect_at}
 use Rattle.md_core.proofs.Good.{SearchFits, FoundAt, HasSize, CopyingFits, Does}
 use Rattle.md_core.proofs.Deliver.Replies.{accepted, there}
 use Rattle.md_core.proofs.Search.{NextFits, as_after, leads-new, leads-cur, leads-lost, search-does, some-left}

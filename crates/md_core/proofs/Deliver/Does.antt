@@ -1,9 +1,8 @@
 -- What a turn of a delivery does, by what its call does: it goes on, ends, or takes effect.
-use Rattle.std.proofs.Common.{ℕ, ◌≡◌, ◌<◌, List, Option, Some, None, true, false, cond, is_some, length, refl, sym, ap, subst, ◌∙◌, MatchOption}
+use Rattle.std.proofs.Common.{ℕ, ◌≡◌, ◌<◌, List, Option, Some, None, true, false, cond, length, refl, sym, ap, subst, ◌∙◌, MatchOption}
 use Rattle.std.specs.FinMap as finmap
-use Rattle.md_dirs.specs.State.{State, file_at}
+use Rattle.md_dirs.specs.State.{State}
 use Rattle.md_dirs.specs.declared.paths.Place.TheVariants.{New}
-use Rattle.md_name.specs.Names.{unique_of}
 use Rattle.md_core.specs.declared.jobs.answer.Answer.{Answer}
 use Rattle.md_core.specs.declared.jobs.answer.Answer.TheVariants as answer
 use Rattle.md_core.specs.declared.jobs.call.Call.{Call}
@@ -13,15 +12,14 @@ use Rattle.md_core.specs.declared.jobs.deliver.Stage.{Stage}
 use Rattle.md_core.specs.declared.jobs.deliver.Stage.TheVariants.{Linked}
 use Rattle.md_core.specs.declared.jobs.effect.Effect.{Effect}
 use Rattle.md_core.specs.declared.jobs.step.DirReply.{DirReply}
-use Rattle.md_core.specs.declared.jobs.step.DirReply.TheVariants as reply
 use Rattle.md_core.specs.declared.jobs.task.Task.TheVariants.{Deliver}
-use Rattle.md_core.specs.Mailbox.{Entry, Mailbox, mailbox_of, HasOnePath}
+use Rattle.md_core.specs.Mailbox.{Entry, mailbox_of, HasOnePath}
 use Rattle.md_core.specs.Alone.{alone, delivered}
-use Rattle.md_core.specs.History.{Names, Listed, names_of, changed, IsAllowed}
-use Rattle.md_core.specs.Turn.{Asked, link}
+use Rattle.md_core.specs.History.{names_of, changed}
+use Rattle.md_core.specs.Turn.{Asked}
 use Rattle.md_core.specs.Machines.Deliver.{at_stage, target, delivery_effect, stage_left, delivery_left}
 use Rattle.md_core.specs.Interleaving.{AsAlone, is_linked, is_effect_at, is_success}
-use Rattle.md_core.proofs.Good.{bytes_at, HasNoMessage, StageFits, DeliveryFits, Makes, Affects, Settles, own_effect, Does}
+use Rattle.md_core.proofs.Good.{bytes_at, HasNoMessage, StageFits, DeliveryFits, Settles, Does}
 use Rattle.md_core.proofs.Changes.{Puts, one-keeps, mailbox-keeps, one-puts, mailbox-puts}
 use Rattle.md_core.proofs.Naming.{names-insert}
 use Rattle.md_core.proofs.Shown.{mailbox-shows}

@@ -22,13 +22,12 @@ use Rattle.md_core.specs.Machine.{as_task}
 use Rattle.md_core.specs.Interleaving.{is_success, is_linked, is_effect_at}
 use Rattle.md_core.specs.Turn.{Asked, append, link}
 use Rattle.md_core.specs.Machines.Deliver.{at_stage, target, piece, piece_len, pieces, create_turn, append_turn, link_turn, unlink_turn, stage_turn, delivery_turn, delivery_effect, delivery_left, is_in_time}
-use Rattle.md_core.proofs.Good.{IsAlone, StageFits, DeliveryFits, Settles, Does}
+use Rattle.md_core.proofs.Good.{IsAlone, DeliveryFits, Settles, Does}
 use Rattle.md_core.proofs.Frames.{tmp-key}
 use Rattle.md_core.proofs.Quiet.{quiet-stays, quiet-create, quiet-append, quiet-unlink}
 use Rattle.md_core.proofs.Calls.Create.{create-alone, create-no_message}
 use Rattle.md_core.proofs.Calls.Append.{append-alone}
 use Rattle.md_core.proofs.Calls.Link.{link-lands}
-use Rattle.md_core.proofs.Calls.Unlink.{unlink-no_message}
 use Rattle.md_core.proofs.Deliver.Replies.{accepted, there}
 use Rattle.md_core.proofs.Deliver.Bytes.{piece-more, piece-within, piece-less}
 use Rattle.md_core.proofs.Deliver.Does.{call_by, goes-on, ends, fails, takes-effect}

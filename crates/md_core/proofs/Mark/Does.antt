@@ -1,5 +1,5 @@
 -- What a turn of a marking does, by what its call does: nothing, or the message gets its flags.
-use Rattle.std.proofs.Common.{ℕ, ◌≡◌, ◌<◌, ◌&&◌, List, Option, Some, None, Bool, true, false, cond, not, refl, sym, ap, subst, ◌∙◌, MatchOption, length}
+use Rattle.std.proofs.Common.{ℕ, ◌≡◌, ◌<◌, List, Option, Some, None, true, false, cond, not, refl, sym, ap, subst, ◌∙◌, MatchOption, length}
 use Rattle.std.specs.Option.{option_map, option_map_or}
 use Rattle.std.specs.FinMap as finmap
 use Rattle.std.specs.FinSet as set
@@ -26,11 +26,11 @@ use Rattle.md_core.specs.declared.jobs.step.DirReply.TheVariants as reply
 use Rattle.md_core.specs.declared.jobs.task.Task.TheVariants.{Mark}
 use Rattle.md_core.specs.Mailbox.{Entry, Mailbox, mailbox_of, entry_of, is_message, is_tmp, HasOnePath}
 use Rattle.md_core.specs.Alone.{Outcome, alone, seen, seen_by, flag, flag_by, such, is_in_place, flags_in, info_with, refused}
-use Rattle.md_core.specs.History.{Names, Listed, listed, names_of, name_of, changed, size_in, IsThere, ShowsFlags, MayGetFlags}
+use Rattle.md_core.specs.History.{Listed, listed, names_of, name_of, changed, size_in, IsThere, ShowsFlags, MayGetFlags}
 use Rattle.md_core.specs.Turn.{Asked, list, rename}
 use Rattle.md_core.specs.Machines.Mark.{at_stage, source, target, place_by, wanted, is_kept, renamed, kept, stage_left, marking_left}
 use Rattle.md_core.specs.Interleaving.{AsAlone, is_effect_at, is_success}
-use Rattle.md_core.proofs.Good.{bytes_at, HasNoMessage, call_by, MarkingFits, IsMarked, IsAtName, Settles, Does}
+use Rattle.md_core.proofs.Good.{bytes_at, HasNoMessage, call_by, MarkingFits, IsAtName, Settles, Does}
 use Rattle.md_core.proofs.Changes.{one-puts, mailbox-puts}
 use Rattle.md_core.proofs.Naming.{get-names, names-insert}
 use Rattle.md_core.proofs.Shown.{shows-mailbox}

@@ -1,8 +1,7 @@
 -- A message that was renamed to its own unique name in cur, perhaps to the very name that it had.
-use Rattle.std.proofs.Common.{ℕ, ◌≡◌, ◌≢◌, ◌<◌, ◌++◌, ◌∷◌, ◌||◌, inr, List, [], Option, Some, None, Bool, true, false, cond, codes, refl, sym, ap, subst, ◌∙◌, append_assoc}
+use Rattle.std.proofs.Common.{ℕ, ◌≡◌, ◌<◌, ◌++◌, ◌∷◌, ◌||◌, List, [], Some, None, true, false, cond, codes, refl, sym, ap, subst, ◌∙◌, append_assoc}
 use Rattle.std.specs.List.{list_any, after_first}
 use Rattle.std.specs.FinMap as finmap
-use Rattle.std.specs.FinMap.{get}
 use Rattle.std.proofs.lemmas.Bool.{or_parts, eq-eqb}
 use Rattle.std.proofs.lemmas.List.Folds.{list_any-append}
 use Rattle.std.proofs.lemmas.Cmp.{nat_list_cmp_total}
@@ -16,11 +15,11 @@ use Rattle.md_name.specs.Letters.{Set, spelling}
 use Rattle.md_name.specs.Names.{is_colon, unique_of, info_text, flagged}
 use Rattle.md_core.specs.Mailbox.{is_message, HasOnePath}
 use Rattle.md_core.specs.History.{Names, Listed}
-use Rattle.md_core.proofs.Changes.{Puts, by_name}
+use Rattle.md_core.proofs.Changes.{Puts}
 use Rattle.md_core.proofs.Frames.{Frame}
 use Rattle.md_core.proofs.Naming.{same_names}
 use Rattle.md_core.proofs.Quiet.{quiet-stays}
-use Rattle.md_core.proofs.Spares.{Spares, spares-all}
+use Rattle.md_core.proofs.Spares.{Spares}
 use Rattle.md_core.proofs.Calls.Rename.{moved-is, rename-puts, rename-frame, rename-sound, rename-spares}
 use Rattle.md_core.proofs.WholeName.{after}
 

@@ -1,8 +1,7 @@
 -- What each turn of a marking does, by its stage and the reply.
-use Rattle.std.proofs.Common.{ℕ, ◌≡◌, ◌<◌, ◌-◌, List, Option, Some, None, Bool, true, false, cond, nat_le, refl, sym, ap, subst, ◌∙◌, arith}
+use Rattle.std.proofs.Common.{ℕ, ◌≡◌, ◌<◌, ◌-◌, List, Option, Some, None, Bool, true, false, cond, nat_le, refl, sym, ap, subst, arith}
 use Rattle.std.proofs.lemmas.Bool.Decides.{nat_tests}
 use Rattle.md_dirs.specs.Calls as dirs
-use Rattle.md_dirs.specs.Path.{path_of}
 use Rattle.md_dirs.specs.Rows.{rows_of, row_named}
 use Rattle.md_dirs.specs.State.{State, IsSound, file_at}
 use Rattle.md_dirs.specs.declared.calls.DirError.TheVariants.{NotFound}
@@ -23,7 +22,7 @@ use Rattle.md_core.specs.declared.jobs.task.Task.{Task}
 use Rattle.md_core.specs.declared.jobs.task.Task.TheVariants.{Mark}
 use Rattle.md_core.specs.Mailbox.{HasOnePath}
 use Rattle.md_core.specs.Interleaving.{is_success}
-use Rattle.md_core.specs.Turn.{Turn, After, Asked, list, rename, ask_of, rows_for, reply_of, state_by}
+use Rattle.md_core.specs.Turn.{Turn, After, list, rename, ask_of, rows_for, reply_of, state_by}
 use Rattle.md_core.specs.Machine.{as_task}
 use Rattle.md_core.specs.Machines.Mark.{at_stage, source, target, place_by, wanted, is_kept, kept, after_flags, after_split, after_row, look_turn, act_turn, stage_turn, marking_turn}
 use Rattle.md_core.proofs.Good.{MarkingFits, Does}

@@ -1,5 +1,5 @@
 -- What a rename does that is the effect of a move: the message is in the other folder.
-use Rattle.std.proofs.Common.{ℕ, ◌≡◌, ◌≢◌, ◌<◌, List, Option, Some, None, true, false, cond, refl, sym, ap, subst, ◌∙◌, not, ◌&&◌, ◌==◌, arith}
+use Rattle.std.proofs.Common.{ℕ, ◌≡◌, ◌≢◌, List, Some, None, true, cond, refl, sym, ap, subst, ◌∙◌, not, arith}
 use Rattle.std.proofs.lemmas.Bool.{and_from, eq-eqb}
 use Rattle.std.specs.FinMap as finmap
 use Rattle.std.specs.FinMap.{get}
@@ -8,17 +8,16 @@ use Rattle.md_dirs.specs.Calls as dirs
 use Rattle.md_dirs.specs.declared.paths.Path.{Path}
 use Rattle.md_dirs.specs.declared.paths.Place.{Place}
 use Rattle.md_dirs.specs.declared.rows.Row.{Row}
-use Rattle.md_name.specs.Names.{unique_of, is_message_name}
+use Rattle.md_name.specs.Names.{unique_of}
 use Rattle.md_core.specs.declared.jobs.answer.Answer.TheVariants as answer
 use Rattle.md_core.specs.declared.jobs.call.Call.{Call}
-use Rattle.md_core.specs.declared.jobs.call.Call.TheVariants as call
 use Rattle.md_core.specs.declared.jobs.moving.Moving.{Moving}
 use Rattle.md_core.specs.declared.jobs.search.Stage.TheVariants.{Act}
 use Rattle.md_core.specs.declared.jobs.step.DirReply.TheVariants as reply
 use Rattle.md_core.specs.declared.jobs.task.Task.TheVariants.{Move}
-use Rattle.md_core.specs.Mailbox.{Entry, Mailbox, mailbox_of, entry_of, is_message, is_tmp, HasOnePath}
+use Rattle.md_core.specs.Mailbox.{mailbox_of, entry_of, is_message, HasOnePath}
 use Rattle.md_core.specs.Alone.{alone, moved, such, is_in_folder}
-use Rattle.md_core.specs.History.{Names, names_of, changed, listed, size_in}
+use Rattle.md_core.specs.History.{names_of, changed, listed}
 use Rattle.md_core.specs.Turn.{rename}
 use Rattle.md_core.specs.Machines.Move.{at_stage, source, target, moving_effect}
 use Rattle.md_core.specs.Interleaving.{AsAlone, is_effect_at}

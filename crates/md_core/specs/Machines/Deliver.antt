@@ -1,6 +1,6 @@
 -- The machine of a delivery: "Using maildir format", steps 3 to 6. It makes tmp/unique, writes it piece by piece, links it to
 -- new/unique, which is where the message is delivered, and then takes tmp/unique away. It gives up 24 hours after its first step.
-use Rattle.std.specs.Prelude.{ℕ, ◌+◌, ◌-◌, ◌/◌, List, [], Bool, nat_lt, min, take, drop, length, if◌then◌else◌}
+use Rattle.std.specs.Prelude.{ℕ, ◌+◌, ◌-◌, ◌/◌, List, Bool, nat_lt, min, take, drop, length, if◌then◌else◌}
 use Rattle.md_dirs.specs.declared.paths.Path.{Path}
 use Rattle.md_dirs.specs.declared.paths.Place.TheVariants.{Tmp, New}
 use Rattle.md_dirs.specs.Path.{path_of as path}

@@ -8,6 +8,7 @@ use crate::error::CoreError;
 use crate::jobs::call::{Call, JobId};
 use crate::jobs::copying::Copying;
 use crate::jobs::deliver::Delivery;
+use crate::jobs::expunging::Expunging;
 use crate::jobs::mark::{Mark, Marking};
 use crate::jobs::moving::Moving;
 use crate::jobs::step::Moment;
@@ -21,6 +22,7 @@ pub enum Task {
     Deliver(Delivery),
     Mark(Marking),
     Move(Moving),
+    Expunge(Expunging),
     Copy(Copying),
 }
 
@@ -56,6 +58,11 @@ impl Task {
                 to,
                 tries,
             } => Task::Move(Moving::new(folder, unique, to, tries)),
+            Call::Expunge {
+                folder,
+                unique,
+                tries,
+            } => Task::Expunge(Expunging::new(folder, unique, tries)),
             Call::Copy {
                 folder,
                 unique,
@@ -87,6 +94,7 @@ impl Task {
             Task::Deliver(delivery) => delivery.turn(alloc, dirs, job, at),
             Task::Mark(marking) => marking.turn(alloc, dirs, job, at),
             Task::Move(moving) => moving.turn(alloc, dirs, job, at),
+            Task::Expunge(expunging) => expunging.turn(alloc, dirs, job, at),
             Task::Copy(copying) => copying.turn(alloc, dirs, job, at),
         }
     }

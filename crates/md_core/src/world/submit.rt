@@ -46,7 +46,7 @@ impl<D: Dirs> World<D> {
     /// It is refused, in this order, as `NoFolder`, `SameFolder`, `BadUnique`, `BadTries`, `BadChunk`, `BodyTooLong`, `TooManyJobs`,
     /// `NameUsed` and `NoMemory`. After a refusal nothing has changed, and the call comes back.
     pub fn submit(&mut self, call: Call) -> Result<JobId, SubmitRefused>
-        // Deliver, Seen, Flag, Move and Copy have their machines: only Expunge and Clean are still to come.
+        // Each call but Clean has its machine.
         requires { has_machine call ≡ true }
         ensures ok { IfOk result (λ job. (self.new ≡ and_call self.old call) × (job ≡ length self.old.calls + 1)) }
         ensures effects { OnOk result (effects_of self.new ≡ effects_of self.old) }

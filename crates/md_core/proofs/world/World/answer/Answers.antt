@@ -1,4 +1,4 @@
-use Rattle.std.proofs.Common.{◌≡◌, refl, ◌<◌, ◌-◌, ◌∙◌, Some, ap, sym, length, slice_get, arith}
+use Rattle.std.proofs.Common.{refl, ◌<◌, ◌-◌, ◌∙◌, ap, sym, length, arith}
 use Rattle.std.proofs.lemmas.Option.{slice_get_read}
 use Rattle.md_core.specs.Machine.{Machine, job_at}
 use Rattle.md_core.specs.Runs.{Run, answer_of, jobs_of}

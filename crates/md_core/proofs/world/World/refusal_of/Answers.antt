@@ -1,4 +1,4 @@
-use Rattle.std.proofs.Common.{◌≡◌, ◌∙◌, ap, sym, [], ◌∷◌, length, nat_lt}
+use Rattle.std.proofs.Common.{◌≡◌, ◌∙◌, ap, sym, [], ◌∷◌, nat_lt}
 use Rattle.std.specs.Prelude.{not, ◌==◌, ◌||◌}
 use Rattle.md_name.specs.Names.{is_unique_name}
 use Rattle.md_core.specs.declared.error.CoreError.TheVariants as core

@@ -1,4 +1,4 @@
-use Rattle.std.proofs.Common.{◌≡◌, ◌≢◌, ◌<◌, ◌++◌, ◌∷◌, [], None, Some, true, refl, sym, ap, subst, ◌∙◌, length, max, unwrap_or, slice_get, slice_set}
+use Rattle.std.proofs.Common.{◌≡◌, ◌<◌, ◌++◌, ◌∷◌, [], None, refl, sym, ap, subst, ◌∙◌, length, unwrap_or, slice_set}
 use Rattle.std.specs.Option.{option_to_list}
 use Rattle.std.proofs.lemmas.Option.{slice_get_read}
 use Rattle.md_core.specs.declared.jobs.step.Event.{Event}
@@ -6,7 +6,7 @@ use Rattle.md_core.specs.declared.jobs.step.Moment.{Moment}
 use Rattle.md_core.specs.Turn.{is_fault, device}
 use Rattle.md_core.specs.Machine.{Machine, Marked, marked, job_at}
 use Rattle.md_core.specs.Standing.{TakesTurn}
-use Rattle.md_core.specs.Runs.{Run, machine_of, jobs_of, and_event, step_refusal, steps_left}
+use Rattle.md_core.specs.Runs.{Run, jobs_of, and_event, step_refusal, steps_left}
 use Rattle.md_core.specs.Worlds.{run_of}
 use Rattle.md_core.specs.Interleaving.{ShowsStep, Succeeds, Interleaves}
 use Rattle.md_core.proofs.EachTurn.{each-turn}

@@ -1,4 +1,3 @@
-use Rattle.md_core.specs.Turn.{device}
 use Rattle.md_core.specs.Machines.Deliver.{link_turn}
 use Rattle.md_core.proofs.Performing.{takes}
 use Rattle.md_core.proofs.jobs.deliver.Delivery.link.Goals as goal
