@@ -67,7 +67,7 @@ fn a_message_of_cur_goes_where_it_is_trashed(rt: HostRuntime) -> Result<(), Fail
     ] {
         let mut world = world_of(rt.alloc(), Some((place, name)))?;
         let call = expunging(rt.alloc(), 1)?;
-        let job = submit(&rt, &mut world, call).map_err(|refused| refused.error)?;
+        let job = submit(&rt, &mut world, call)?;
         takes(&rt, &mut world, job, steps)?;
         assert_eq!(rt; lists(&world, 0, place, &[name]), stays);
         assert_eq!(rt; world.read(b"u").is_some(), stays);
@@ -81,9 +81,9 @@ fn a_name_that_is_gone_at_the_unlink_is_looked_for_again(rt: HostRuntime) -> Res
     for (tries, later) in [(1, &[LOST] as &[Shown]), (2, &[GONE, NOT_TRASHED])] {
         let mut world = world_of(rt.alloc(), Some((Place::Cur, b"u:2,ST")))?;
         let call = expunging(rt.alloc(), tries)?;
-        let expunge = submit(&rt, &mut world, call).map_err(|refused| refused.error)?;
+        let expunge = submit(&rt, &mut world, call)?;
         let call = untrashing(rt.alloc(), Flags::parse(b"T")?)?;
-        let flag = submit(&rt, &mut world, call).map_err(|refused| refused.error)?;
+        let flag = submit(&rt, &mut world, call)?;
         takes(&rt, &mut world, expunge, &[IN_CUR])?;
         let steps = [IN_CUR, (DirCall::Rename, DirReply::Ok, renamed, true)];
         takes(&rt, &mut world, flag, &steps)?;

@@ -264,18 +264,21 @@ fn many(alloc: Global) -> Result<PlainDirs, DirError> {
     PlainDirs::from_image(alloc, 2, image)
 }
 
+// Whether one of many messages is read by its unique name, and by no prefix of that.
+fn reads(world: &World<PlainDirs>, at: u8) -> bool {
+    let name = many_name(at);
+    world.read(&name[..3]) == Some(name.as_slice()) && world.read(&name[..2]) == None
+}
+
 #[test]
 fn each_of_many_messages_is_read(rt: HostRuntime) -> Result<(), Fail> {
-    let alloc = rt.alloc();
-    let dirs = match many(alloc) {
+    let dirs = match many(rt.alloc()) {
         Ok(dirs) => dirs,
-        Err(_) => many(alloc)?,
+        Err(_) => many(rt.alloc())?,
     };
-    let world = super::load(alloc, dirs)?;
+    let world = super::load(rt.alloc(), dirs)?;
     for at in 0..40 {
-        let name = many_name(at);
-        assert!(rt; world.read(&name[..3]) == Some(name.as_slice()), "{at}");
-        assert!(rt; world.read(&name[..2]) == None, "{at}");
+        assert!(rt; reads(&world, at), "{at}");
     }
     Ok(())
 }
