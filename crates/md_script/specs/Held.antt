@@ -14,8 +14,8 @@ abbrev pub seen : Held → Command
 seen (held.Folder name) = make_folder name.now
 seen (held.File file) = make_file file
 seen (held.Submit call) = submit call
-seen (held.Step job now) = step job now
-seen (held.Finish job now) = finish job now
+seen (held.Step event) = step event
+seen (held.Finish event) = finish event
 seen (held.List folder) = list folder
 seen (held.Unique parts) = make_name parts.sec parts.micro parts.pid parts.count parts.host.now
 seen (held.Summary message) = summarize message.items

@@ -9,8 +9,9 @@ use Rattle.md_name.specs.Made.{make_refusal}
 use Rattle.md_head.specs.Summaries.{summary_of}
 use Rattle.md_core.specs.declared.error.CoreError.{CoreError}
 use Rattle.md_core.specs.declared.jobs.call.Call.{Call}
+use Rattle.md_core.specs.declared.jobs.step.Event.{Event}
 use Rattle.md_core.specs.Mailbox.{mailbox_of}
-use Rattle.md_core.specs.Machine.{Marked, marked, job_at, done, step_out}
+use Rattle.md_core.specs.Machine.{Marked, job_at, done, step_out}
 use Rattle.md_core.specs.Runs.{Run, new_run, machine_of, dirs_of, jobs_of, and_event, and_call, step_refusal, steps_left}
 use Rattle.md_core.specs.Submitting.{submit_refusal}
 use Rattle.md_script.specs.declared.error.PlayKind.{PlayKind}
@@ -43,23 +44,27 @@ store_of s = run_over (length s.folders) s.run
 abbrev pub come_to : Session → Run → Session
 come_to s r = record { folders = s.folders; run = Some r }
 
--- a step of a job at a moment, which the job goes by; the directories of a script never fault
-abbrev pub at_moment : ℕ → ℕ → Marked
-at_moment job now = marked job now None false
+-- an event without a fault: the directories of a script never fault
+abbrev pub unfaulted : Event → Marked
+unfaulted event = record { event = event; faulted = false }
 
-abbrev pub step_text : Run → ℕ → ℕ → List ℕ
-step_text r job now = shown_text job (option_map step_out (done (machine_of r) (at_moment job now)))
+abbrev pub step_text : Run → Event → List ℕ
+step_text r event = shown_text event.job (option_map step_out (done (machine_of r) (unfaulted event)))
 
 -- a text, and then what follows it
 abbrev pub before : List ℕ → Run × List ℕ → Run × List ℕ
 before text rest = (rest.0, text ++ rest.1)
 
+-- where one more event is refused, want of memory aside
+abbrev pub event_refusal : Run → Event → Option CoreError
+event_refusal r event = step_refusal (job_at (jobs_of r) event.job)
+
 -- at most so many steps of a job at one moment, until it is answered: the run after them, and what they print
-unfoldable pub steps_of : ℕ → Run → ℕ → ℕ → Run × List ℕ
-steps_of zero r job now = (r, [])
-steps_of (suc more) r job now =
-    if is_some (step_refusal (job_at (jobs_of r) job)) then (r, [])
-    else before (step_text r job now) (steps_of more (and_event r (at_moment job now)) job now)
+unfoldable pub steps_of : ℕ → Run → Event → Run × List ℕ
+steps_of zero r event = (r, [])
+steps_of (suc more) r event =
+    if is_some (event_refusal r event) then (r, [])
+    else before (step_text r event) (steps_of more (and_event r (unfaulted event)) event)
 
 -- refused by the store, or done
 abbrev pub unless_refused : {S : Type 0} → Option CoreError → S × List ℕ → Result (S × List ℕ) PlayKind
@@ -71,12 +76,12 @@ unfoldable pub submitted : Run → Call → Result (Run × List ℕ) PlayKind
 submitted r c = unless_refused (submit_refusal r c) (and_call r c, job_text (length r.calls + 1))
 
 -- one step of a job
-unfoldable pub stepped : Run → ℕ → ℕ → Result (Run × List ℕ) PlayKind
-stepped r job now = unless_refused (step_refusal (job_at (jobs_of r) job)) (and_event r (at_moment job now), step_text r job now)
+unfoldable pub stepped : Run → Event → Result (Run × List ℕ) PlayKind
+stepped r event = unless_refused (event_refusal r event) (and_event r (unfaulted event), step_text r event)
 
 -- a step of a job, and then more until it is answered
-unfoldable pub finished : Run → ℕ → ℕ → Result (Run × List ℕ) PlayKind
-finished r job now = unless_refused (step_refusal (job_at (jobs_of r) job)) (steps_of (steps_left r job) r job now)
+unfoldable pub finished : Run → Event → Result (Run × List ℕ) PlayKind
+finished r event = unless_refused (event_refusal r event) (steps_of (steps_left r event.job) r event)
 
 -- the messages of a folder
 unfoldable pub listing_of : Run → ℕ → Result (Run × List ℕ) PlayKind
@@ -104,8 +109,8 @@ abbrev pub obey : Session → Command → Result (Session × List ℕ) PlayKind
 obey s (make_folder name) = Ok (record { folders = s.folders ++ name ∷ []; run = s.run }, [])
 obey s (make_file file) = Err BadCommand
 obey s (submit call) = in_store s (λ r. submitted r call)
-obey s (step job now) = in_store s (λ r. stepped r job now)
-obey s (finish job now) = in_store s (λ r. finished r job now)
+obey s (step event) = in_store s (λ r. stepped r event)
+obey s (finish event) = in_store s (λ r. finished r event)
 obey s (list folder) = in_store s (λ r. listing_of r folder)
 obey s (make_name sec micro pid count host) = says s (named sec micro pid count host)
 obey s (summarize message) = says s (Ok (summary_text (summary_of message)))

@@ -17,7 +17,7 @@ use crate::folders::Folders;
 use crate::session::Session;
 use crate::summary::{push_summary, push_unique};
 use crate::verb::Mode;
-use md_core::{Call, JobId, World};
+use md_core::{Call, Event, World};
 use md_dirs::PlainDirs;
 use md_head::summary;
 use md_name::{UniqueParts, make_unique};
@@ -67,8 +67,8 @@ impl StoreSession {
             // No line that is played spells a file yet.
             Command::File(_) => Err(PlayKind::BadCommand),
             Command::Submit(call) => self.submit(call, out),
-            Command::Step { job, now } => self.step(job, now, out),
-            Command::Finish { job, now } => self.finish(job, now, out),
+            Command::Step(event) => self.step(event, out),
+            Command::Finish(event) => self.finish(event, out),
             Command::List { folder } => self.list(folder, out),
             Command::Unique(parts) => self.unique(parts, out),
             Command::Summary { message } => self.summary(&message, out),
@@ -102,24 +102,24 @@ impl StoreSession {
         acts::submit(world, call, out)
     }
 
-    fn step(&mut self, job: JobId, now: u64, out: &mut Vec<u8>) -> Result<(), PlayKind>
-        ensures { Steps (in_store self.old (λ r. stepped r job now)) self.new out.old.items out.new.items result }
+    fn step(&mut self, event: Event, out: &mut Vec<u8>) -> Result<(), PlayKind>
+        ensures { Steps (in_store self.old (λ r. stepped r event)) self.new out.old.items out.new.items result }
     {
         self.open()?;
         let Some(world) = &mut self.world else {
             unreachable!()
         };
-        acts::step(self.alloc, world, job, now, out)
+        acts::step(self.alloc, world, event, out)
     }
 
-    fn finish(&mut self, job: JobId, now: u64, out: &mut Vec<u8>) -> Result<(), PlayKind>
-        ensures { Steps (in_store self.old (λ r. finished r job now)) self.new out.old.items out.new.items result }
+    fn finish(&mut self, event: Event, out: &mut Vec<u8>) -> Result<(), PlayKind>
+        ensures { Steps (in_store self.old (λ r. finished r event)) self.new out.old.items out.new.items result }
     {
         self.open()?;
         let Some(world) = &mut self.world else {
             unreachable!()
         };
-        acts::finish(self.alloc, world, job, now, out)
+        acts::finish(self.alloc, world, event, out)
     }
 
     fn list(&mut self, folder: u32, out: &mut Vec<u8>) -> Result<(), PlayKind>

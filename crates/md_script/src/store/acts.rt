@@ -9,7 +9,7 @@ ghost use Rattle.md_script.specs.Sessions.{submitted, stepped, finished, listing
 use crate::error::PlayKind;
 use crate::listing::push_listing;
 use crate::store::printing::{push_job, push_step};
-use md_core::{Call, JobId, World};
+use md_core::{Call, Event, World};
 use md_dirs::PlainDirs;
 use std::alloc::Global;
 
@@ -27,43 +27,41 @@ pub(super) fn submit(
     Ok(())
 }
 
-/// Takes one step of a job, at a moment in seconds, and prints it.
+/// Takes one step of a job, and prints it.
 pub(super) fn step(
     alloc: Global,
     world: &mut World<PlainDirs>,
-    job: JobId,
-    now: u64,
+    event: Event,
     out: &mut Vec<u8>,
 ) -> Result<(), PlayKind>
-    ensures step { Steps (stepped world.old job now) world.new out.old.items out.new.items result }
-    ensures nearer { OnOk result (steps_left world.new job < steps_left world.old job) }
+    ensures step { Steps (stepped world.old event) world.new out.old.items out.new.items result }
+    ensures nearer { OnOk result (steps_left world.new event.job < steps_left world.old event.job) }
 {
     // The kit's borrow checker refuses a `?` here, where no signature names `Answer`.
-    let shown = match world.step(job, now, None) {
+    let shown = match world.step(event.job, event.now, event.own) {
         Ok(shown) => shown,
         Err(error) => return Err(PlayKind::from(error)),
     };
     // Plain directories never fail, so that no step is marked.
     world.counts();
-    push_step(alloc, out, job, shown)?;
+    push_step(alloc, out, event.job, shown)?;
     Ok(())
 }
 
-/// Takes steps of a job until it is answered, all at one moment in seconds, and prints them. A job that has its answer
+/// Takes steps of a job until it is answered, all at one moment, and prints them. A job that has its answer
 /// is refused.
 pub(super) fn finish(
     alloc: Global,
     world: &mut World<PlainDirs>,
-    job: JobId,
-    now: u64,
+    event: Event,
     out: &mut Vec<u8>,
 ) -> Result<(), PlayKind>
-    ensures finish { Steps (finished world.old job now) world.new out.old.items out.new.items result }
-    ensures answered { OnOk result (is_some (answer_of (job_at (jobs_of world.new) job)) ≡ true) }
+    ensures finish { Steps (finished world.old event) world.new out.old.items out.new.items result }
+    ensures answered { OnOk result (is_some (answer_of (job_at (jobs_of world.new) event.job)) ≡ true) }
 {
-    step(alloc, world, job, now, out)?;
-    while world.answer(job).is_none() {
-        step(alloc, world, job, now, out)?;
+    step(alloc, world, event, out)?;
+    while world.answer(event.job).is_none() {
+        step(alloc, world, event, out)?;
     }
     Ok(())
 }

@@ -12,7 +12,7 @@ struct Row {
     prints: &'static [u8],
 }
 
-const ROWS: [Row; 20] = [
+const ROWS: [Row; 22] = [
     Row {
         shows: "a delivery is written in pieces, linked, and listed",
         script: b"folder inbox\njob deliver inbox 1000.M1P7Q1.a 4 hello\\n\nfinish 1 1000\nlist inbox\n",
@@ -57,6 +57,16 @@ const ROWS: [Row; 20] = [
         shows: "a flag change may have 16 tries",
         script: b"folder i\njob flag i u S - 16\n",
         prints: b"job 1\n",
+    },
+    Row {
+        shows: "a delivery is given up by its host's own clock, an hour ahead of the store's, after a day of its own",
+        script: b"folder i\njob deliver i u 9 hi\nstep 1 1000 4600\nstep 1 87399 90999\nstep 1 87400 91000\n",
+        prints: b"job 1\n1 create ok\n1 append 2 ok\n1 unlink ok\n1 answer timedout\n",
+    },
+    Row {
+        shows: "a job whose host's clock stands still finishes, however far the store's has come",
+        script: b"folder i\njob deliver i u 9 hi\nstep 1 1000\nfinish 1 1000000 1000\n",
+        prints: b"job 1\n1 create ok\n1 append 2 ok\n1 link ok\n1 unlink ok\n1 answer delivered\n",
     },
     Row {
         shows: "the empty script prints nothing",
@@ -260,7 +270,7 @@ const REFUSED: [Refused; 38] = [
     },
     // A word too many comes after the words, and before the store is asked.
     Refused {
-        script: b"folder i\nstep 7 1 0\n",
+        script: b"folder i\nstep 7 1 0 0\n",
         prints: b"",
         text: "line 2: bad command",
     },
