@@ -25,6 +25,7 @@ pub data Command : Type 0 where
   step : (event : Event) → Command
   finish : (event : Event) → Command
   list : (folder : ℕ) → Command
+  read : (unique : List ℕ) → Command
   make_name : (sec micro pid count : ℕ) (host : List ℕ) → Command
   summarize : (message : List ℕ) → Command
 
@@ -82,6 +83,13 @@ list_line folders rest = do
   _ ← end_at folder.1
   Ok (list folder.0)
 
+-- the words of `read` after the first
+unfoldable pub read_line : Rest → Result Command PlayKind
+read_line rest = do
+  unique ← word_at rest
+  _ ← end_at unique.1
+  Ok (read unique.0)
+
 -- the words of `unique` after the first
 unfoldable pub unique_line : Rest → Result Command PlayKind
 unique_line rest = do
@@ -101,6 +109,7 @@ verb_line folders mode verb.Job rest = job_line folders mode rest >>= (λ call. 
 verb_line folders mode verb.Step rest = event_at rest >>= (λ event. Ok (step event))
 verb_line folders mode verb.Finish rest = event_at rest >>= (λ event. Ok (finish event))
 verb_line folders mode verb.List rest = list_line folders rest
+verb_line folders mode verb.Read rest = read_line rest
 verb_line folders mode verb.Unique rest = unique_line rest
 verb_line folders mode verb.Summary rest = body_at rest >>= (λ message. Ok (summarize message))
 

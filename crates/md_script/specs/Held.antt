@@ -8,7 +8,7 @@ use Rattle.md_script.specs.Folders.{most_folders}
 use Rattle.md_name.specs.declared.unique.UniqueParts.{UniqueParts}
 use Rattle.md_script.specs.Jobs.{IsPlayed}
 use Rattle.md_script.specs.Sessions.{named}
-use Rattle.md_script.specs.Commands.{Command, make_folder, make_file, submit, step, finish, list, make_name, summarize}
+use Rattle.md_script.specs.Commands.{Command, make_folder, make_file, submit, step, finish, list, read, make_name, summarize}
 
 abbrev pub seen : Held → Command
 seen (held.Folder name) = make_folder name.now
@@ -17,6 +17,7 @@ seen (held.Submit call) = submit call
 seen (held.Step event) = step event
 seen (held.Finish event) = finish event
 seen (held.List folder) = list folder
+seen (held.Read unique) = read unique.now
 seen (held.Unique parts) = make_name parts.sec parts.micro parts.pid parts.count parts.host.now
 seen (held.Summary message) = summarize message.items
 

@@ -3,6 +3,7 @@
 use Rattle.std.specs.Prelude.{ℕ, zero, suc, ◌+◌, List, [], ◌∷◌, ◌++◌, false}
 use Rattle.std.specs.Prelude.{Option, Some, None, Result, Ok, Err, if◌then◌else◌, length, is_some}
 use Rattle.std.specs.Option.{option_map}
+use Rattle.std.specs.FinMap as finmap
 use Rattle.md_dirs.specs.State.{bare}
 use Rattle.md_name.specs.declared.error.NameError.{NameError}
 use Rattle.md_name.specs.Made.{make_refusal}
@@ -10,7 +11,7 @@ use Rattle.md_head.specs.Summaries.{summary_of}
 use Rattle.md_core.specs.declared.error.CoreError.{CoreError}
 use Rattle.md_core.specs.declared.jobs.call.Call.{Call}
 use Rattle.md_core.specs.declared.jobs.step.Event.{Event}
-use Rattle.md_core.specs.Mailbox.{mailbox_of}
+use Rattle.md_core.specs.Mailbox.{Entry, mailbox_of}
 use Rattle.md_core.specs.Machine.{Marked, job_at, done, step_out}
 use Rattle.md_core.specs.Runs.{Run, new_run, machine_of, dirs_of, jobs_of, and_event, and_call, step_refusal, steps_left}
 use Rattle.md_core.specs.Submitting.{submit_refusal}
@@ -18,8 +19,8 @@ use Rattle.md_script.specs.declared.error.PlayKind.{PlayKind}
 use Rattle.md_script.specs.declared.error.PlayKind.TheVariants.{BadCommand, Core, Name}
 use Rattle.md_script.specs.declared.verb.Mode.TheVariants.{Playing}
 use Rattle.md_script.specs.Bind.{◌>>=◌}
-use Rattle.md_script.specs.Commands.{Command, make_folder, make_file, submit, step, finish, list, make_name, summarize, command_at}
-use Rattle.md_script.specs.Texts.{job_text, shown_text, listing_text, unique_text, summary_text}
+use Rattle.md_script.specs.Commands.{Command, make_folder, make_file, submit, step, finish, list, read, make_name, summarize, command_at}
+use Rattle.md_script.specs.Texts.{job_text, shown_text, listing_text, bytes_text, unique_text, summary_text}
 use Rattle.md_script.specs.Transcript.{Transcript, transcript_of}
 
 -- A session: the names of the folders, in the order in which they were named, and the run of the store over them, once it was needed.
@@ -87,6 +88,10 @@ finished r event = unless_refused (event_refusal r event) (steps_of (steps_left 
 unfoldable pub listing_of : Run → ℕ → Result (Run × List ℕ) PlayKind
 listing_of r folder = Ok (r, listing_text (mailbox_of (dirs_of r)) folder)
 
+-- the bytes of the message of a unique name
+unfoldable pub reading_of : Run → List ℕ → Result (Run × List ℕ) PlayKind
+reading_of r unique = Ok (r, bytes_text (option_map (λ (e : Entry). e.bytes) (finmap.get (mailbox_of (dirs_of r)) unique)))
+
 -- what is done to the store of a session, which is opened where it was not
 abbrev pub in_store : Session → (Run → Result (Run × List ℕ) PlayKind) → Result (Session × List ℕ) PlayKind
 in_store s act = act (store_of s) >>= (λ done. Ok (come_to s done.0, done.1))
@@ -112,6 +117,7 @@ obey s (submit call) = in_store s (λ r. submitted r call)
 obey s (step event) = in_store s (λ r. stepped r event)
 obey s (finish event) = in_store s (λ r. finished r event)
 obey s (list folder) = in_store s (λ r. listing_of r folder)
+obey s (read unique) = in_store s (λ r. reading_of r unique)
 obey s (make_name sec micro pid count host) = says s (named sec micro pid count host)
 obey s (summarize message) = says s (Ok (summary_text (summary_of message)))
 

@@ -17,7 +17,7 @@ use jobs::job_line;
 use md_core::{Call, Event};
 use md_dirs::ImageFile;
 use md_name::UniqueParts;
-use others::{event, list_line, unique_line};
+use others::{event, list_line, read_line, unique_line};
 use std::alloc::Global;
 
 /// A command, as the words of a line spell it. Folders are numbered from 0 in the order in which they were named, and
@@ -36,6 +36,8 @@ pub(crate) enum Command<'a> {
     Finish(Event),
     /// `list FOLDER`: the messages of a folder.
     List { folder: u32 },
+    /// `read UNIQUE`: the bytes of a message.
+    Read { unique: &'a [u8] },
     /// `unique SEC MICRO PID COUNT HOST`: a made unique name.
     Unique(UniqueParts<'a>),
     /// `summary [BODY]`: the header summary of a message.
@@ -68,6 +70,7 @@ pub(crate) fn read_command<'a>(
         Verb::Step => Ok(Command::Step(event(rest)?)),
         Verb::Finish => Ok(Command::Finish(event(rest)?)),
         Verb::List => list_line(folders, rest),
+        Verb::Read => read_line(rest),
         Verb::Unique => unique_line(rest),
         Verb::Summary => {
             let message = body(alloc, rest)?;

@@ -5,7 +5,7 @@ ghost use Rattle.md_script.specs.declared.verb.Mode.TheVariants.{Playing};
 ghost use Rattle.md_core.specs.Submitting.{has_machine};
 ghost use Rattle.md_script.specs.Step.{Steps};
 ghost use Rattle.md_script.specs.Held.{seen, named_of, IsFit};
-ghost use Rattle.md_script.specs.Sessions.{obey, session_line, new_session, store_of, come_to, in_store, submitted, stepped, finished, listing_of, says};
+ghost use Rattle.md_script.specs.Sessions.{obey, session_line, new_session, store_of, come_to, in_store, submitted, stepped, finished, listing_of, reading_of, says};
 ghost use Rattle.md_script.specs.Texts.{summary_text};
 
 mod acts;
@@ -70,6 +70,7 @@ impl StoreSession {
             Command::Step(event) => self.step(event, out),
             Command::Finish(event) => self.finish(event, out),
             Command::List { folder } => self.list(folder, out),
+            Command::Read { unique } => self.read(unique, out),
             Command::Unique(parts) => self.unique(parts, out),
             Command::Summary { message } => self.summary(&message, out),
         }
@@ -130,6 +131,16 @@ impl StoreSession {
             unreachable!()
         };
         acts::list(self.alloc, world, folder, out)
+    }
+
+    fn read(&mut self, unique: &[u8], out: &mut Vec<u8>) -> Result<(), PlayKind>
+        ensures { Steps (in_store self.old (λ r. reading_of r unique.now)) self.new out.old.items out.new.items result }
+    {
+        self.open()?;
+        let Some(world) = &self.world else {
+            unreachable!()
+        };
+        acts::read(world, unique, out)
     }
 }
 

@@ -23,6 +23,7 @@ pub(crate) enum Verb {
     Step,
     Finish,
     List,
+    Read,
     Unique,
     Summary,
 }
@@ -54,6 +55,8 @@ pub(crate) fn verb_from(word: &[u8]) -> Option<Verb>
         Some(Verb::Finish)
     } else if word == b"list".as_slice() {
         Some(Verb::List)
+    } else if word == b"read".as_slice() {
+        Some(Verb::Read)
     } else if word == b"unique".as_slice() {
         Some(Verb::Unique)
     } else if word == b"summary".as_slice() {

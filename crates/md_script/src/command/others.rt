@@ -1,8 +1,8 @@
-//! The words of steps, listings and made names.
+//! The words of steps, listings, messages and made names.
 ghost use Rattle.std.specs.Prelude.{◌≡◌, IfOk};
 ghost use Rattle.std.specs.Option.{option_copied};
 ghost use Rattle.md_script.specs.Held.{Spells, IsFit};
-ghost use Rattle.md_script.specs.Commands.{own_at, event_at, list_line, unique_line};
+ghost use Rattle.md_script.specs.Commands.{own_at, event_at, list_line, read_line, unique_line};
 
 use crate::command::Command;
 use crate::command::image::folder;
@@ -45,6 +45,17 @@ pub(super) fn list_line<'a>(folders: &Folders, rest: Rest<'a>) -> Result<Command
     let (folder, rest) = folder(folders, rest)?;
     end(rest)?;
     Ok(Command::List { folder })
+}
+
+/// The words of `read` after the first.
+#[tactic(auto, unfolding(crate::specs::Commands::read_line))]
+pub(super) fn read_line(rest: Rest<'_>) -> Result<Command<'_>, PlayKind>
+    ensures command { Spells result (read_line (option_copied rest.entry)) }
+    ensures fit { (folders mode : _) → IfOk result (IsFit folders mode) }
+{
+    let (unique, rest) = word(rest)?;
+    end(rest)?;
+    Ok(Command::Read { unique })
 }
 
 /// The words of `unique` after the first.

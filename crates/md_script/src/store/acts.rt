@@ -4,11 +4,11 @@ ghost use Rattle.md_core.specs.Machine.{job_at};
 ghost use Rattle.md_core.specs.Runs.{steps_left, jobs_of, answer_of};
 ghost use Rattle.md_core.specs.Submitting.{has_machine};
 ghost use Rattle.md_script.specs.Step.{Steps};
-ghost use Rattle.md_script.specs.Sessions.{submitted, stepped, finished, listing_of};
+ghost use Rattle.md_script.specs.Sessions.{submitted, stepped, finished, listing_of, reading_of};
 
 use crate::error::PlayKind;
 use crate::listing::push_listing;
-use crate::store::printing::{push_job, push_step};
+use crate::store::printing::{push_bytes, push_job, push_step};
 use md_core::{Call, Event, World};
 use md_dirs::PlainDirs;
 use std::alloc::Global;
@@ -77,5 +77,18 @@ pub(super) fn list(
     ensures { Steps (listing_of world.now folder) world.now out.old.items out.new.items result }
 {
     push_listing(alloc, world, folder, out)?;
+    Ok(())
+}
+
+/// Prints the bytes of the message of a unique name, or that there is none.
+#[tactic(auto, unfolding(crate::specs::Sessions::reading_of))]
+pub(super) fn read(
+    world: &World<PlainDirs>,
+    unique: &[u8],
+    out: &mut Vec<u8>,
+) -> Result<(), PlayKind>
+    ensures { Steps (reading_of world.now unique.now) world.now out.old.items out.new.items result }
+{
+    push_bytes(out, world.read(unique))?;
     Ok(())
 }

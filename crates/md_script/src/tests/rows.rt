@@ -12,7 +12,7 @@ struct Row {
     prints: &'static [u8],
 }
 
-const ROWS: [Row; 22] = [
+const ROWS: [Row; 24] = [
     Row {
         shows: "a delivery is written in pieces, linked, and listed",
         script: b"folder inbox\njob deliver inbox 1000.M1P7Q1.a 4 hello\\n\nfinish 1 1000\nlist inbox\n",
@@ -67,6 +67,16 @@ const ROWS: [Row; 22] = [
         shows: "a job whose host's clock stands still finishes, however far the store's has come",
         script: b"folder i\njob deliver i u 9 hi\nstep 1 1000\nfinish 1 1000000 1000\n",
         prints: b"job 1\n1 create ok\n1 append 2 ok\n1 link ok\n1 unlink ok\n1 answer delivered\n",
+    },
+    Row {
+        shows: "a message is read from its link on, with escapes",
+        script: b"folder i\njob deliver i u 9 a\\\\b\\r\\n\nread u\nstep 1 1\nstep 1 1\nread u\nstep 1 1\nread u\nread v\n",
+        prints: b"job 1\nnone\n1 create ok\n1 append 5 ok\nnone\n1 link ok\nbytes=a\\\\b\\r\\n\nnone\n",
+    },
+    Row {
+        shows: "a word that can't be a unique name is no message's, and an empty message has no bytes",
+        script: b"folder i\njob deliver i u 9\nfinish 1 1\nread u:2,\nread .u\nread u\n",
+        prints: b"job 1\n1 create ok\n1 link ok\n1 unlink ok\n1 answer delivered\nnone\nnone\nbytes=\n",
     },
     Row {
         shows: "the empty script prints nothing",
@@ -143,7 +153,7 @@ struct Refused {
     text: &'static str,
 }
 
-const REFUSED: [Refused; 38] = [
+const REFUSED: [Refused; 40] = [
     Refused {
         script: b"folder a\nfolder b\njob move a u b 1\nfinish 1 1\nstep 1 1\n",
         prints: b"job 1\n1 list new ok\n1 list cur ok\n1 answer notthere\n",
@@ -246,6 +256,17 @@ const REFUSED: [Refused; 38] = [
         script: b"folder i\nlist i\nfolder k x\n",
         prints: b"",
         text: "line 3: too late",
+    },
+    // Reading opens the store.
+    Refused {
+        script: b"folder i\nread u\nfolder j\n",
+        prints: b"none\n",
+        text: "line 3: too late",
+    },
+    Refused {
+        script: b"folder i\nread u v\n",
+        prints: b"",
+        text: "line 2: bad command",
     },
     // A command that a script of this version has not is none, then too.
     Refused {

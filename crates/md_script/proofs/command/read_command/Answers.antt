@@ -6,5 +6,8 @@ returns-in-Folder-clause-fit c = c.folder_line.ensures.fit c.args.mode
 pub returns-in-List-clause-fit : goal.returns-in-List-clause-fit
 returns-in-List-clause-fit c = c.list_line.ensures.fit c.args.mode
 
+pub returns-in-Read-clause-fit : goal.returns-in-Read-clause-fit
+returns-in-Read-clause-fit c = c.read_line.ensures.fit c.args.folders.now c.args.mode
+
 pub returns-in-Unique-clause-fit : goal.returns-in-Unique-clause-fit
 returns-in-Unique-clause-fit c = c.unique_line.ensures.fit c.args.folders.now c.args.mode
