@@ -36,6 +36,7 @@ pub(crate) enum JobVerb {
     Flag,
     Move,
     Expunge,
+    Copy,
     Clean,
 }
 
@@ -80,6 +81,8 @@ pub(crate) fn job_verb_from(word: &[u8]) -> Option<JobVerb>
         Some(JobVerb::Move)
     } else if word == b"expunge".as_slice() {
         Some(JobVerb::Expunge)
+    } else if word == b"copy".as_slice() {
+        Some(JobVerb::Copy)
     } else if word == b"clean".as_slice() {
         Some(JobVerb::Clean)
     } else {

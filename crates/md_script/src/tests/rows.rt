@@ -12,7 +12,7 @@ struct Row {
     prints: &'static [u8],
 }
 
-const ROWS: [Row; 24] = [
+const ROWS: [Row; 26] = [
     Row {
         shows: "a delivery is written in pieces, linked, and listed",
         script: b"folder inbox\njob deliver inbox 1000.M1P7Q1.a 4 hello\\n\nfinish 1 1000\nlist inbox\n",
@@ -77,6 +77,16 @@ const ROWS: [Row; 24] = [
         shows: "a word that can't be a unique name is no message's, and an empty message has no bytes",
         script: b"folder i\njob deliver i u 9\nfinish 1 1\nread u:2,\nread .u\nread u\n",
         prints: b"job 1\n1 create ok\n1 link ok\n1 unlink ok\n1 answer delivered\nnone\nnone\nbytes=\n",
+    },
+    Row {
+        shows: "a message is copied to another folder and its flags go with it",
+        script: b"folder a\nfolder b\njob deliver a u 9 x\nfinish 1 1\njob seen a u ST 1\nfinish 2 1\njob copy a u b v 1\nfinish 3 1\nlist a\nlist b\nread v\n",
+        prints: b"job 1\n1 create ok\n1 append 1 ok\n1 link ok\n1 unlink ok\n1 answer delivered\njob 2\n2 list new ok\n2 rename ok\n2 answer flags ST\njob 3\n3 list new ok\n3 list cur ok\n3 link ok\n3 answer copied\ncur u ST 1\ncur v ST 1\nbytes=x\n",
+    },
+    Row {
+        shows: "a copy into its own folder, whose message gets other flags between look-up and link, is lost",
+        script: b"folder a\njob deliver a u 9\nfinish 1 1\njob seen a u - 1\nfinish 2 1\njob copy a u a v 1\njob flag a u S - 1\nstep 3 1\nstep 3 1\nfinish 4 1\nstep 3 1\nlist a\n",
+        prints: b"job 1\n1 create ok\n1 link ok\n1 unlink ok\n1 answer delivered\njob 2\n2 list new ok\n2 rename ok\n2 answer flags -\njob 3\njob 4\n3 list new ok\n3 list cur ok\n4 list cur ok\n4 rename ok\n4 answer flags S\n3 link notfound\n3 answer lost\ncur u S 0\n",
     },
     Row {
         shows: "the empty script prints nothing",
@@ -153,7 +163,7 @@ struct Refused {
     text: &'static str,
 }
 
-const REFUSED: [Refused; 40] = [
+const REFUSED: [Refused; 43] = [
     Refused {
         script: b"folder a\nfolder b\njob move a u b 1\nfinish 1 1\nstep 1 1\n",
         prints: b"job 1\n1 list new ok\n1 list cur ok\n1 answer notthere\n",
@@ -267,6 +277,22 @@ const REFUSED: [Refused; 40] = [
         script: b"folder i\nread u v\n",
         prints: b"",
         text: "line 2: bad command",
+    },
+    // The name of a copy is used up when it is submitted.
+    Refused {
+        script: b"folder i\njob copy i u i v 1\njob deliver i v 4 z\n",
+        prints: b"job 1\n",
+        text: "line 3: name used",
+    },
+    Refused {
+        script: b"folder i\njob copy i u k v x\n",
+        prints: b"",
+        text: "line 2: unknown folder",
+    },
+    Refused {
+        script: b"folder i\njob copy i u i .v 1\n",
+        prints: b"",
+        text: "line 2: bad unique",
     },
     // A command that a script of this version has not is none, then too.
     Refused {
