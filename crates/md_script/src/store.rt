@@ -18,7 +18,7 @@ use crate::session::Session;
 use crate::summary::{push_summary, push_unique};
 use crate::verb::Mode;
 use md_core::{Call, Event, World};
-use md_dirs::PlainDirs;
+use md_dirs::IndexDirs;
 use md_head::summary;
 use md_name::{UniqueParts, make_unique};
 use std::alloc::{AllocError, Global};
@@ -29,7 +29,7 @@ use std::marker::Model;
 pub(crate) struct StoreSession {
     alloc: Global,
     folders: Folders,
-    world: Option<World<PlainDirs>>,
+    world: Option<World<IndexDirs>>,
 }
 
 impl Model for StoreSession {
@@ -83,7 +83,7 @@ impl StoreSession {
         ensures { OnOk result (self.new ≡ come_to self.old (store_of self.old)) }
     {
         if self.world.is_none() {
-            let dirs = PlainDirs::new(self.alloc, self.folders.count());
+            let dirs = IndexDirs::new(self.alloc, self.folders.count());
             let Ok(world) = World::load(self.alloc, dirs) else {
                 return Err(AllocError);
             };

@@ -10,12 +10,12 @@ use crate::error::PlayKind;
 use crate::listing::push_listing;
 use crate::store::printing::{push_bytes, push_job, push_step};
 use md_core::{Call, Event, World};
-use md_dirs::PlainDirs;
+use md_dirs::IndexDirs;
 use std::alloc::Global;
 
 /// Submits a call, and prints the number of its job.
 pub(super) fn submit(
-    world: &mut World<PlainDirs>,
+    world: &mut World<IndexDirs>,
     call: Call,
     out: &mut Vec<u8>,
 ) -> Result<(), PlayKind>
@@ -30,7 +30,7 @@ pub(super) fn submit(
 /// Takes one step of a job, and prints it.
 pub(super) fn step(
     alloc: Global,
-    world: &mut World<PlainDirs>,
+    world: &mut World<IndexDirs>,
     event: Event,
     out: &mut Vec<u8>,
 ) -> Result<(), PlayKind>
@@ -42,7 +42,7 @@ pub(super) fn step(
         Ok(shown) => shown,
         Err(error) => return Err(PlayKind::from(error)),
     };
-    // Plain directories never fail, so that no step is marked.
+    // Hashed directories never fail, so that no step is marked.
     world.counts();
     push_step(alloc, out, event.job, shown)?;
     Ok(())
@@ -52,7 +52,7 @@ pub(super) fn step(
 /// is refused.
 pub(super) fn finish(
     alloc: Global,
-    world: &mut World<PlainDirs>,
+    world: &mut World<IndexDirs>,
     event: Event,
     out: &mut Vec<u8>,
 ) -> Result<(), PlayKind>
@@ -70,7 +70,7 @@ pub(super) fn finish(
 #[tactic(auto, unfolding(crate::specs::Sessions::listing_of))]
 pub(super) fn list(
     alloc: Global,
-    world: &World<PlainDirs>,
+    world: &World<IndexDirs>,
     folder: u32,
     out: &mut Vec<u8>,
 ) -> Result<(), PlayKind>
@@ -83,7 +83,7 @@ pub(super) fn list(
 /// Prints the bytes of the message of a unique name, or that there is none.
 #[tactic(auto, unfolding(crate::specs::Sessions::reading_of))]
 pub(super) fn read(
-    world: &World<PlainDirs>,
+    world: &World<IndexDirs>,
     unique: &[u8],
     out: &mut Vec<u8>,
 ) -> Result<(), PlayKind>
