@@ -102,8 +102,8 @@ unread view step read act s' text kind by is = λ some. (by ∙ ap (λ (x : Resu
 abbrev pub Reads : Session → List (List ℕ) → Bool → Type 0
 Reads s folders is_open = (s.folders ≡ folders) × (is_some s.run ≡ is_open)
 
-pub reads_by : (s : Session) (folders : List (List ℕ)) (run : Option Run) (is_open : Bool) → (let view : Session = record { folders = folders; run = run } in view) ≡ s → is_open ≡ is_some run → Reads s folders is_open
-reads_by s folders run is_open view_is open_is = (ap (λ (t : Session). t.folders) (sym view_is), ap (λ (t : Session). is_some t.run) (sym view_is) ∙ sym open_is)
+pub reads_by : (s : Session) (folders : List (List ℕ)) (files : List ImageFile) (run : Option Run) (is_open : Bool) → (let view : Session = record { folders = folders; files = files; run = run } in view) ≡ s → is_open ≡ is_some run → Reads s folders is_open
+reads_by s folders files run is_open view_is open_is = (ap (λ (t : Session). t.folders) (sym view_is), ap (λ (t : Session). is_some t.run) (sym view_is) ∙ sym open_is)
 
 pub line-is : (s : Session) (folders : List (List ℕ)) (is_open : Bool) (line : List ℕ) → Reads s folders is_open → session_line s line ≡ command_at folders (Playing is_open) line >>= obey s
 unfolding session_line

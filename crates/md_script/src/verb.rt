@@ -96,9 +96,7 @@ pub(crate) fn admit(mode: Mode, verb: Verb) -> Result<(), PlayKind>
     ensures { result ≡ admitted mode verb }
 {
     match (mode, verb) {
-        (Mode::Playing { is_loaded: true }, Verb::Folder) => Err(PlayKind::TooLate),
-        // The store takes no files yet.
-        (Mode::Playing { .. }, Verb::File) => Err(PlayKind::BadCommand),
+        (Mode::Playing { is_loaded: true }, Verb::Folder | Verb::File) => Err(PlayKind::TooLate),
         (Mode::Playing { .. }, _) => Ok(()),
         (Mode::SettingUp { .. }, Verb::Folder | Verb::File) => Ok(()),
         (Mode::SettingUp { with_jobs: true }, Verb::Job) => Ok(()),

@@ -12,7 +12,7 @@ struct Row {
     prints: &'static [u8],
 }
 
-const ROWS: [Row; 26] = [
+const ROWS: [Row; 31] = [
     Row {
         shows: "a delivery is written in pieces, linked, and listed",
         script: b"folder inbox\njob deliver inbox 1000.M1P7Q1.a 4 hello\\n\nfinish 1 1000\nlist inbox\n",
@@ -89,6 +89,31 @@ const ROWS: [Row; 26] = [
         prints: b"job 1\n1 create ok\n1 link ok\n1 unlink ok\n1 answer delivered\njob 2\n2 list new ok\n2 rename ok\n2 answer flags -\njob 3\njob 4\n3 list new ok\n3 list cur ok\n4 list cur ok\n4 rename ok\n4 answer flags S\n3 link notfound\n3 answer lost\ncur u S 0\n",
     },
     Row {
+        shows: "two jobs flag one message: the one that comes second looks again, and no flag is lost",
+        script: b"folder i\nfile i cur u:2,S 0 x\njob flag i u F - 2\njob flag i u R - 2\nstep 1 1\nstep 2 1\nstep 1 1\nfinish 2 1\nlist i\n",
+        prints: b"job 1\njob 2\n1 list cur ok\n2 list cur ok\n1 rename ok\n1 answer flags FS\n2 rename notfound\n2 list cur ok\n2 rename ok\n2 answer flags FRS\ncur u FRS 1\n",
+    },
+    Row {
+        shows: "flags in another order and repeated are their set, and are written anew only where it changes",
+        script: b"folder i\nfile i cur u:2,TSSa 0 x\nlist i\njob flag i u S - 1\nfinish 1 1\njob flag i u F - 1\nfinish 2 1\nlist i\n",
+        prints: b"cur u STa 1\njob 1\n1 list cur ok\n1 answer flags STa\njob 2\n2 list cur ok\n2 rename ok\n2 answer flags FSTa\ncur u FSTa 1\n",
+    },
+    Row {
+        shows: "a store that begins with files lists its messages, other info and all, and no name with a dot in front",
+        script: b"folder i\nfile i cur u 0 x\nfile i cur v:1,x 0 x\nfile i cur .hid 0 x\nfile i new w:2,F 0 x\nlist i\njob flag i v S - 1\nfinish 1 1\n",
+        prints: b"cur u - 1\ncur v ? 1\nnew w F 1\njob 1\n1 list cur ok\n1 answer otherinfo\n",
+    },
+    Row {
+        shows: "the clock begins at the greatest stamp, that of a file in tmp included",
+        script: b"folder i\nfile i tmp x 90000 z\njob deliver i u 9\nstep 1 0\nfinish 1 100000\n",
+        prints: b"job 1\n1 create ok\n1 link ok\n1 unlink ok\n1 answer delivered\n",
+    },
+    Row {
+        shows: "files that no command needs are not checked",
+        script: b"folder i\nfile i cur u 0\nfile i cur u 0\nunique 1 2 3 4 a\nfolder k\n",
+        prints: b"unique 1.M2P3Q4.a\n",
+    },
+    Row {
         shows: "the empty script prints nothing",
         script: b"",
         prints: b"",
@@ -163,7 +188,7 @@ struct Refused {
     text: &'static str,
 }
 
-const REFUSED: [Refused; 43] = [
+const REFUSED: [Refused; 49] = [
     Refused {
         script: b"folder a\nfolder b\njob move a u b 1\nfinish 1 1\nstep 1 1\n",
         prints: b"job 1\n1 list new ok\n1 list cur ok\n1 answer notthere\n",
@@ -294,11 +319,42 @@ const REFUSED: [Refused; 43] = [
         prints: b"",
         text: "line 2: bad unique",
     },
-    // A command that a script of this version has not is none, then too.
     Refused {
-        script: b"folder i\nlist i\nfile i new u 0\n",
+        script: b"folder i\nlist i\nfile i\n",
+        prints: b"",
+        text: "line 3: too late",
+    },
+    Refused {
+        script: b"folder i\nfolder k\nfile i new u 0 x\nfile k cur u:2,S 0 y\nlist i\n",
+        prints: b"",
+        text: "line 5: duplicate unique",
+    },
+    // Two files of one path come before a name that is none.
+    Refused {
+        script: b"folder i\nfile i cur a/b 0\nfile i cur u 0 x\nfile i cur u 0 y\nlist i\n",
+        prints: b"",
+        text: "line 5: same path twice",
+    },
+    // The words of the line that opens the store come before its files, and these before what the store answers.
+    Refused {
+        script: b"folder i\nfile i tmp a/b 0\nlist i x\n",
         prints: b"",
         text: "line 3: bad command",
+    },
+    Refused {
+        script: b"folder i\nfile i tmp a/b 0\nstep 7 1\n",
+        prints: b"",
+        text: "line 3: bad name",
+    },
+    Refused {
+        script: b"folder i\nfile i old u x\n",
+        prints: b"",
+        text: "line 2: bad place",
+    },
+    Refused {
+        script: b"folder i\nfile i new u 0 \\x\n",
+        prints: b"",
+        text: "line 2: bad escape",
     },
     Refused {
         script: b"folder i\njob delive i u 4\n",
