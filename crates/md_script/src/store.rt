@@ -16,10 +16,11 @@ use crate::command::{Command, read_command};
 use crate::error::PlayKind;
 use crate::folders::Folders;
 use crate::session::Session;
+use crate::storage::Storage;
 use crate::summary::{push_summary, push_unique};
 use crate::verb::Mode;
 use md_core::{Call, Event, World};
-use md_dirs::{ImageFile, IndexDirs};
+use md_dirs::ImageFile;
 use md_head::summary;
 use md_name::{UniqueParts, make_unique};
 use opening::open_store;
@@ -30,14 +31,14 @@ use std::mem;
 /// Folders and files, and a store over them, which is opened at the first command that needs it: no folder and no file is added from
 /// then on.
 #[derive(Drop)]
-pub(crate) struct StoreSession {
+pub(crate) struct StoreSession<D: Storage> {
     alloc: Global,
     folders: Folders,
     files: Vec<ImageFile>,
-    world: Option<World<IndexDirs>>,
+    world: Option<World<D>>,
 }
 
-impl Model for StoreSession {
+impl<D: Storage> Model for StoreSession<D> {
     ghost use Rattle.std.specs.Coded.{codes};
     ghost use Rattle.md_dirs.specs.State.{state_code};
     ghost use Rattle.md_name.specs.contracts.flags.Flags as flags;
@@ -51,7 +52,7 @@ impl Model for StoreSession {
     ghost view = { λ s. record { folders = s.folders; files = unopened s.world s.files.items; run = s.world } };
 }
 
-impl StoreSession {
+impl<D: Storage> StoreSession<D> {
     /// A session without a folder.
     pub fn new(alloc: Global) -> Self
         ensures { result ≡ new_session }
@@ -83,7 +84,7 @@ impl StoreSession {
     }
 }
 
-impl StoreSession {
+impl<D: Storage> StoreSession<D> {
     // Adds a file that the store will begin with.
     fn add_file(&mut self, file: ImageFile) -> Result<(), AllocError>
         requires { is_some self.old.run ≡ false }
@@ -155,7 +156,7 @@ impl StoreSession {
     }
 }
 
-impl StoreSession {
+impl<D: Storage> StoreSession<D> {
     fn unique(&mut self, parts: UniqueParts<'_>, out: &mut Vec<u8>) -> Result<(), PlayKind>
         ensures { Steps (says self.old (named_of parts.entry)) self.new out.old.items out.new.items result }
     {
@@ -173,7 +174,7 @@ impl StoreSession {
     }
 }
 
-impl Session for StoreSession {
+impl<D: Storage> Session for StoreSession<D> {
     ghost step = { session_line };
 
     fn run_line(&mut self, line: &[u8], out: &mut Vec<u8>) -> Result<(), PlayKind> {

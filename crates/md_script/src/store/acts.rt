@@ -8,14 +8,14 @@ ghost use Rattle.md_script.specs.Sessions.{submitted, stepped, finished, listing
 
 use crate::error::PlayKind;
 use crate::listing::push_listing;
+use crate::storage::Storage;
 use crate::store::printing::{push_bytes, push_job, push_step};
 use md_core::{Call, Event, World};
-use md_dirs::IndexDirs;
 use std::alloc::Global;
 
 /// Submits a call, and prints the number of its job.
-pub(super) fn submit(
-    world: &mut World<IndexDirs>,
+pub(super) fn submit<D: Storage>(
+    world: &mut World<D>,
     call: Call,
     out: &mut Vec<u8>,
 ) -> Result<(), PlayKind>
@@ -28,9 +28,9 @@ pub(super) fn submit(
 }
 
 /// Takes one step of a job, and prints it.
-pub(super) fn step(
+pub(super) fn step<D: Storage>(
     alloc: Global,
-    world: &mut World<IndexDirs>,
+    world: &mut World<D>,
     event: Event,
     out: &mut Vec<u8>,
 ) -> Result<(), PlayKind>
@@ -42,7 +42,7 @@ pub(super) fn step(
         Ok(shown) => shown,
         Err(error) => return Err(PlayKind::from(error)),
     };
-    // Hashed directories never fail, so that no step is marked.
+    // The directories never fail, so that no step is marked.
     world.counts();
     push_step(alloc, out, event.job, shown)?;
     Ok(())
@@ -50,9 +50,9 @@ pub(super) fn step(
 
 /// Takes steps of a job until it is answered, all at one moment, and prints them. A job that has its answer
 /// is refused.
-pub(super) fn finish(
+pub(super) fn finish<D: Storage>(
     alloc: Global,
-    world: &mut World<IndexDirs>,
+    world: &mut World<D>,
     event: Event,
     out: &mut Vec<u8>,
 ) -> Result<(), PlayKind>
@@ -68,9 +68,9 @@ pub(super) fn finish(
 
 /// Prints the messages of a folder.
 #[tactic(auto, unfolding(crate::specs::Sessions::listing_of))]
-pub(super) fn list(
+pub(super) fn list<D: Storage>(
     alloc: Global,
-    world: &World<IndexDirs>,
+    world: &World<D>,
     folder: u32,
     out: &mut Vec<u8>,
 ) -> Result<(), PlayKind>
@@ -82,8 +82,8 @@ pub(super) fn list(
 
 /// Prints the bytes of the message of a unique name, or that there is none.
 #[tactic(auto, unfolding(crate::specs::Sessions::reading_of))]
-pub(super) fn read(
-    world: &World<IndexDirs>,
+pub(super) fn read<D: Storage>(
+    world: &World<D>,
     unique: &[u8],
     out: &mut Vec<u8>,
 ) -> Result<(), PlayKind>

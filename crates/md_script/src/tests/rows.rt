@@ -1,5 +1,6 @@
 //! Scripts of known transcripts.
 
+use crate::tests::plain::played;
 use crate::{PlayError, PlayKind, Writer, play};
 use std::io;
 use std::io::Write;
@@ -171,14 +172,19 @@ const ROWS: [Row; 31] = [
 ];
 
 #[test]
-fn scripts_print_their_transcripts(rt: HostRuntime) {
+fn scripts_print_their_transcripts(rt: HostRuntime) -> Result<(), Fail> {
     for row in &ROWS {
         let mut script: &[u8] = row.script;
         let mut out = Vec::new(rt.alloc());
         let answer = play(rt.alloc(), &mut script, &mut out);
         assert_eq!(rt; answer, Ok(()), "{}", row.shows);
         assert_eq!(rt; out.as_slice(), row.prints, "{}", row.shows);
+
+        let plain = played(rt.alloc(), row.script)?;
+        assert_eq!(rt; plain.refusal, None, "{}", row.shows);
+        assert_eq!(rt; plain.text.as_slice(), row.prints, "{}", row.shows);
     }
+    Ok(())
 }
 
 /// A script that is refused: what it prints before, and the refusal.
@@ -456,6 +462,9 @@ fn a_refused_line_ends_the_transcript(rt: HostRuntime) -> Result<(), Fail> {
             Err(error) => {
                 let text = format!(in rt.alloc(); "{error}")?;
                 assert_eq!(rt; text.as_str(), row.text);
+                let plain = played(rt.alloc(), row.script)?;
+                assert_eq!(rt; plain.refusal, Some(error), "{}", row.text);
+                assert_eq!(rt; plain.text.as_slice(), row.prints, "{}", row.text);
             }
         }
         assert_eq!(rt; out.as_slice(), row.prints, "{}", row.text);
