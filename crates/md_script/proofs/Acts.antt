@@ -7,9 +7,10 @@ use Rattle.std.proofs.lemmas.List.Sums.{sum_by-append}
 use Rattle.md_core.specs.declared.error.CoreError.{CoreError}
 use Rattle.md_core.specs.declared.error.CoreError.TheVariants as core
 use Rattle.md_core.specs.declared.jobs.call.Call.{Call}
+use Rattle.md_core.specs.declared.jobs.step.Event.{Event}
 use Rattle.md_core.specs.declared.jobs.step.StepOut.{StepOut}
-use Rattle.md_core.specs.Machine.{Marked, marked, done, step_out, job_at}
-use Rattle.md_core.specs.Runs.{Run, machine_of, jobs_of, failures_of, and_call, and_event, step_refusal, IsRefusal}
+use Rattle.md_core.specs.Machine.{Marked, done, step_out}
+use Rattle.md_core.specs.Runs.{Run, machine_of, failures_of, and_call, and_event, IsRefusal}
 use Rattle.md_core.specs.Interleaving.{ShowsStep}
 use Rattle.md_core.specs.Submitting.{submit_refusal}
 use Rattle.md_script.specs.declared.error.PlayKind.{PlayKind}
@@ -22,7 +23,7 @@ use Rattle.md_script.specs.Commands.{Command, command_at}
 use Rattle.md_script.specs.Words.{Gives}
 use Rattle.md_script.specs.Step.{Steps}
 use Rattle.md_script.specs.Kinds.{core_kind}
-use Rattle.md_script.specs.Sessions.{unless_refused, submitted, stepped, at_moment, step_text, Session, obey, session_line}
+use Rattle.md_script.specs.Sessions.{unless_refused, submitted, stepped, unfaulted, event_refusal, step_text, Session, obey, session_line}
 use Rattle.md_script.specs.Texts.{job_text, shown_text, out_text}
 
 -- a refusal by the store is the line's, and want of memory is none
@@ -58,21 +59,22 @@ unmarked earlier es e none = by e.faulted (let split = sum_by-append (λ (x : Ma
     by true h = absurd (omega arith)
     by false h = refl
 
-pub stepped-ok : (r r' : Run) (job now : ℕ) (faulted : Bool) (out : StepOut) → step_refusal (job_at (jobs_of r) job) ≡ None → r' ≡ and_event r (marked job now None faulted)
-    → ShowsStep r r' (marked job now None faulted) out → 0 ≡ failures_of r' → stepped r job now ≡ Ok (r', out_text job out)
+pub stepped-ok : (r r' : Run) (event : Event) (faulted : Bool) (out : StepOut) → event_refusal r event ≡ None → r' ≡ and_event r (record { event = event; faulted = faulted })
+    → ShowsStep r r' (record { event = event; faulted = faulted }) out → 0 ≡ failures_of r' → stepped r event ≡ Ok (r', out_text event.job out)
 unfolding stepped
-stepped-ok r r' job now faulted out goes_on run shows none =
-    let unfaulted : faulted ≡ false = unmarked r.failures r.events (marked job now None faulted) (none ∙ ap failures_of run) in
-    let same : marked job now None faulted ≡ at_moment job now = ap (marked job now None) unfaulted in
-    let out_is : option_map step_out (done (machine_of r) (at_moment job now)) ≡ Some out =
+stepped-ok r r' event faulted out goes_on run shows none =
+    let e : Marked = record { event = event; faulted = faulted } in
+    let unmarked_is : faulted ≡ false = unmarked r.failures r.events e (none ∙ ap failures_of run) in
+    let same : e ≡ unfaulted event = λ i. record { event = event; faulted = unmarked_is i } in
+    let out_is : option_map step_out (done (machine_of r) (unfaulted event)) ≡ Some out =
     ap (λ (e : Marked). option_map step_out (done (machine_of r) e)) (sym same) ∙ ap (option_map step_out) shows.at ∙ ap Some (sym shows.shown) in
-    let text : step_text r job now ≡ out_text job out = ap (shown_text job) out_is in
-    let after : and_event r (at_moment job now) ≡ r' = ap (and_event r) (sym same) ∙ sym run in
-    is_done (step_refusal (job_at (jobs_of r) job)) _ goes_on ∙ (let e : ◌≡◌ {A = Run × List ℕ} (and_event r (at_moment job now), step_text r job now) (r', out_text job out) = λ i. (after i, text i) in ap Ok e)
+    let text : step_text r event ≡ out_text event.job out = ap (shown_text event.job) out_is in
+    let after : and_event r (unfaulted event) ≡ r' = ap (and_event r) (sym same) ∙ sym run in
+    is_done (event_refusal r event) _ goes_on ∙ (let e : ◌≡◌ {A = Run × List ℕ} (and_event r (unfaulted event), step_text r event) (r', out_text event.job out) = λ i. (after i, text i) in ap Ok e)
 
-pub stepped-refused : (r : Run) (job now : ℕ) (s : Run) (text : List ℕ) (e : CoreError) (kind : PlayKind) → IsRefusal (step_refusal (job_at (jobs_of r) job)) e → kind ≡ core_kind e → Steps (stepped r job now) s text text (Err kind)
+pub stepped-refused : (r : Run) (event : Event) (s : Run) (text : List ℕ) (e : CoreError) (kind : PlayKind) → IsRefusal (event_refusal r event) e → kind ≡ core_kind e → Steps (stepped r event) s text text (Err kind)
 unfolding stepped
-stepped-refused r job now s text e kind is from = refuses (step_refusal (job_at (jobs_of r) job)) (and_event r (at_moment job now), step_text r job now) s text e (Err kind) is from
+stepped-refused r event s text e kind is from = refuses (event_refusal r event) (and_event r (unfaulted event), step_text r event) s text e (Err kind) is from
 
 -- what a `?` passes on
 pub passes : {S : Type 0} (step : Result (S × List ℕ) PlayKind) (s : S) (text text' : List ℕ) (kind : PlayKind) (result : Result (Unit {0}) PlayKind) → IsErrAnd result (λ other. other ≡ kind) → Steps step s text text' (Err kind) → Steps step s text text' result
@@ -100,8 +102,8 @@ unread view step read act s' text kind by is = λ some. (by ∙ ap (λ (x : Resu
 abbrev pub Reads : Session → List (List ℕ) → Bool → Type 0
 Reads s folders is_open = (s.folders ≡ folders) × (is_some s.run ≡ is_open)
 
-pub reads_by : (s : Session) (folders : List (List ℕ)) (run : Option Run) (is_open : Bool) → (let view : Session = record { folders = folders; run = run } in view) ≡ s → is_open ≡ is_some run → Reads s folders is_open
-reads_by s folders run is_open view_is open_is = (ap (λ (t : Session). t.folders) (sym view_is), ap (λ (t : Session). is_some t.run) (sym view_is) ∙ sym open_is)
+pub reads_by : (s : Session) (folders : List (List ℕ)) (files : List ImageFile) (run : Option Run) (is_open : Bool) → (let view : Session = record { folders = folders; files = files; run = run } in view) ≡ s → is_open ≡ is_some run → Reads s folders is_open
+reads_by s folders files run is_open view_is open_is = (ap (λ (t : Session). t.folders) (sym view_is), ap (λ (t : Session). is_some t.run) (sym view_is) ∙ sym open_is)
 
 pub line-is : (s : Session) (folders : List (List ℕ)) (is_open : Bool) (line : List ℕ) → Reads s folders is_open → session_line s line ≡ command_at folders (Playing is_open) line >>= obey s
 unfolding session_line

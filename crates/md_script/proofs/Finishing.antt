@@ -4,6 +4,7 @@ use Rattle.std.proofs.lemmas.Option.{slice_get_cases}
 use Rattle.md_core.specs.declared.error.CoreError.{CoreError}
 use Rattle.md_core.specs.declared.error.CoreError.TheVariants.{Answered}
 use Rattle.md_core.specs.declared.jobs.answer.Answer.{Answer}
+use Rattle.md_core.specs.declared.jobs.step.Event.{Event}
 use Rattle.md_core.specs.Machine.{Machine, Standing, working, answered, job_at}
 use Rattle.md_core.specs.Runs.{Run, machine_of, jobs_of, and_event, answer_of, step_refusal, steps_left}
 use Rattle.md_core.proofs.Bounds.{left-exact}
@@ -12,7 +13,7 @@ use Rattle.md_core.proofs.Places.{length-changed}
 use Rattle.md_core.proofs.Runs.{machine-and_event}
 use Rattle.md_script.specs.declared.error.PlayKind.{PlayKind}
 use Rattle.md_script.specs.Step.{Steps}
-use Rattle.md_script.specs.Sessions.{stepped, finished, steps_of, before, at_moment, step_text}
+use Rattle.md_script.specs.Sessions.{stepped, finished, steps_of, before, unfaulted, step_text, event_refusal}
 use Rattle.md_script.proofs.Acts.{is_done, was_done, refused_too}
 
 abbrev job_in : Run → ℕ → Option Standing
@@ -33,8 +34,8 @@ waits-by None job is none = cc
 waits-by (Some (working task)) job is none = refl
 waits-by (Some (answered a)) job is none = cc
 
-pub waits : (r : Run) (job : ℕ) → IsThere r job → answer_of (job_in r job) ≡ None → step_refusal (job_in r job) ≡ None
-waits r job there none = let at = job_of (jobs_of r) job there.from there.within in waits-by (job_in r job) at.0 at.1 none
+pub waits : (r : Run) (event : Event) → IsThere r event.job → answer_of (job_in r event.job) ≡ None → event_refusal r event ≡ None
+waits r event there none = let at = job_of (jobs_of r) event.job there.from there.within in waits-by (job_in r event.job) at.0 at.1 none
 
 ends-by : (o : Option Standing) (a : Answer) → answer_of o ≡ Some a → step_refusal o ≡ Some Answered
 ends-by None a is = cc
@@ -42,112 +43,112 @@ ends-by (Some (working task)) a is = cc
 ends-by (Some (answered b)) a is = refl
 
 -- a job that goes on is there, and stays there
-there-here : (r : Run) (job : ℕ) → step_refusal (job_in r job) ≡ None → IsThere r job
-there-here r job goes_on =
-    let task = (goes_on-exact (job_in r job)).0 goes_on in
-    let at = job_at-within (jobs_of r) job _ task.1 in
+there-here : (r : Run) (event : Event) → event_refusal r event ≡ None → IsThere r event.job
+there-here r event goes_on =
+    let task = (goes_on-exact (job_in r event.job)).0 goes_on in
+    let at = job_at-within (jobs_of r) event.job _ task.1 in
     record { from = at.0; within = at.1 }
 
-there-after : (r : Run) (job now : ℕ) → step_refusal (job_in r job) ≡ None → IsThere (and_event r (at_moment job now)) job
-there-after r job now goes_on =
-    let task = (goes_on-exact (job_in r job)).0 goes_on in
-    let here = there-here r job goes_on in
-    let as_many : length (jobs_of (and_event r (at_moment job now))) ≡ length (jobs_of r) =
-    ap (λ (m : Machine). length m.jobs) (machine-and_event r (at_moment job now) ∙ happens-turned (machine_of r) (at_moment job now) task.0 task.1) ∙ length-changed (jobs_of r) _ _ in
+there-after : (r : Run) (event : Event) → event_refusal r event ≡ None → IsThere (and_event r (unfaulted event)) event.job
+there-after r event goes_on =
+    let task = (goes_on-exact (job_in r event.job)).0 goes_on in
+    let here = there-here r event goes_on in
+    let as_many : length (jobs_of (and_event r (unfaulted event))) ≡ length (jobs_of r) =
+    ap (λ (m : Machine). length m.jobs) (machine-and_event r (unfaulted event) ∙ happens-turned (machine_of r) (unfaulted event) task.0 task.1) ∙ length-changed (jobs_of r) _ _ in
     record { from = here.from; within = omega (arith, as_many, here.within) }
 
 -- what a step that was taken says
-pub record Stepped (r : Run) (job now : ℕ) (r' : Run) (text : List ℕ) : Type 0 where
-  pub goes_on : step_refusal (job_in r job) ≡ None
-  pub run : and_event r (at_moment job now) ≡ r'
-  pub text_is : step_text r job now ≡ text
+pub record Stepped (r : Run) (event : Event) (r' : Run) (text : List ℕ) : Type 0 where
+  pub goes_on : event_refusal r event ≡ None
+  pub run : and_event r (unfaulted event) ≡ r'
+  pub text_is : step_text r event ≡ text
 
-pub stepped-is : (r : Run) (job now : ℕ) (r' : Run) (text : List ℕ) → stepped r job now ≡ Ok (r', text) → Stepped r job now r' text
+pub stepped-is : (r : Run) (event : Event) (r' : Run) (text : List ℕ) → stepped r event ≡ Ok (r', text) → Stepped r event r' text
 unfolding stepped
-stepped-is r job now r' text is =
-    let done = was_done (step_refusal (job_in r job)) _ (r', text) is in
+stepped-is r event r' text is =
+    let done = was_done (event_refusal r event) _ (r', text) is in
     record { goes_on = done.0; run = ap (λ (x : Run × List ℕ). x.0) done.1; text_is = ap (λ (x : Run × List ℕ). x.1) done.1 }
 
 -- one step, and then the others
-step-more : (more : ℕ) (r : Run) (job now : ℕ) (r' : Run) (text : List ℕ) → Stepped r job now r' text → steps_of (suc more) r job now ≡ before text (steps_of more r' job now)
+step-more : (more : ℕ) (r : Run) (event : Event) (r' : Run) (text : List ℕ) → Stepped r event r' text → steps_of (suc more) r event ≡ before text (steps_of more r' event)
 unfolding steps_of
-step-more more r job now r' text s =
-    let goes_on : is_some (step_refusal (job_in r job)) ≡ false = ap is_some s.goes_on in
-    rw goes_on (λ i. before (s.text_is i) (steps_of more (s.run i) job now))
+step-more more r event r' text s =
+    let goes_on : is_some (event_refusal r event) ≡ false = ap is_some s.goes_on in
+    rw goes_on (λ i. before (s.text_is i) (steps_of more (s.run i) event))
 
 -- no step
-step-none : (more : ℕ) (r : Run) (job now : ℕ) (e : CoreError) → step_refusal (job_in r job) ≡ Some e → steps_of more r job now ≡ (r, [])
+step-none : (more : ℕ) (r : Run) (event : Event) (e : CoreError) → event_refusal r event ≡ Some e → steps_of more r event ≡ (r, [])
 unfolding steps_of
-step-none zero r job now e refused = refl
-step-none (suc more) r job now e refused = let is : is_some (step_refusal (job_in r job)) ≡ true = ap is_some refused in rw is refl
+step-none zero r event e refused = refl
+step-none (suc more) r event e refused = let is : is_some (event_refusal r event) ≡ true = ap is_some refused in rw is refl
 
 -- The steps since run r led to r' and printed this text, and what is left of them goes on from there.
-pub record Finishes (r : Run) (job now : ℕ) (r' : Run) (text : List ℕ) : Type 0 where
-  pub goes_on : step_refusal (job_in r job) ≡ None
-  pub there : IsThere r' job
+pub record Finishes (r : Run) (event : Event) (r' : Run) (text : List ℕ) : Type 0 where
+  pub goes_on : event_refusal r event ≡ None
+  pub there : IsThere r' event.job
   pub more : ℕ
-  pub enough : steps_left r' job ≤ more
-  pub rest : steps_of (steps_left r job) r job now ≡ before text (steps_of more r' job now)
+  pub enough : steps_left r' event.job ≤ more
+  pub rest : steps_of (steps_left r event.job) r event ≡ before text (steps_of more r' event)
 
-some_left : (r : Run) (job : ℕ) → step_refusal (job_in r job) ≡ None → 0 < steps_left r job
-some_left r job goes_on = (left-exact (job_in r job)).0 goes_on
+some_left : (r : Run) (event : Event) → event_refusal r event ≡ None → 0 < steps_left r event.job
+some_left r event goes_on = (left-exact (job_in r event.job)).0 goes_on
 
 one_more : (n : ℕ) → 0 < n → (m : ℕ) × (n ≡ suc m)
 one_more zero some = absurd (omega arith)
 one_more (suc m) some = (m, refl)
 
-there-stepped : (r : Run) (job now : ℕ) (r' : Run) (text : List ℕ) → Stepped r job now r' text → IsThere r' job
-there-stepped r job now r' text s = subst (λ (x : Run). IsThere x job) s.run (there-after r job now s.goes_on)
+there-stepped : (r : Run) (event : Event) (r' : Run) (text : List ℕ) → Stepped r event r' text → IsThere r' event.job
+there-stepped r event r' text s = subst (λ (x : Run). IsThere x event.job) s.run (there-after r event s.goes_on)
 
 -- so many steps, of which the first is this
-first-of : (n : ℕ) (r : Run) (job now : ℕ) (r' : Run) (text : List ℕ) → Stepped r job now r' text → 0 < n → steps_left r' job < n
-    → (more : ℕ) × (steps_left r' job ≤ more) × (steps_of n r job now ≡ before text (steps_of more r' job now))
-first-of zero r job now r' text s some less = absurd (omega arith)
-first-of (suc more) r job now r' text s some less = (more, omega arith, step-more more r job now r' text s)
+first-of : (n : ℕ) (r : Run) (event : Event) (r' : Run) (text : List ℕ) → Stepped r event r' text → 0 < n → steps_left r' event.job < n
+    → (more : ℕ) × (steps_left r' event.job ≤ more) × (steps_of n r event ≡ before text (steps_of more r' event))
+first-of zero r event r' text s some less = absurd (omega arith)
+first-of (suc more) r event r' text s some less = (more, omega arith, step-more more r event r' text s)
 
-pub finishes-start : (r : Run) (job now : ℕ) (r' : Run) (text : List ℕ) → stepped r job now ≡ Ok (r', text) → steps_left r' job < steps_left r job → Finishes r job now r' text
-finishes-start r job now r' text is less =
-    let s = stepped-is r job now r' text is in
-    let first = first-of (steps_left r job) r job now r' text s (some_left r job s.goes_on) less in
-    record { goes_on = s.goes_on; there = there-stepped r job now r' text s; more = first.0; enough = first.1; rest = first.2 }
+pub finishes-start : (r : Run) (event : Event) (r' : Run) (text : List ℕ) → stepped r event ≡ Ok (r', text) → steps_left r' event.job < steps_left r event.job → Finishes r event r' text
+finishes-start r event r' text is less =
+    let s = stepped-is r event r' text is in
+    let first = first-of (steps_left r event.job) r event r' text s (some_left r event s.goes_on) less in
+    record { goes_on = s.goes_on; there = there-stepped r event r' text s; more = first.0; enough = first.1; rest = first.2 }
 
-pub finishes-more : (r : Run) (job now : ℕ) (r' : Run) (text : List ℕ) (r'' : Run) (next : List ℕ) → Finishes r job now r' text → stepped r' job now ≡ Ok (r'', next) → steps_left r'' job < steps_left r' job → Finishes r job now r'' (text ++ next)
-finishes-more r job now r' text r'' next f is less =
-    let s = stepped-is r' job now r'' next is in
-    let some = some_left r' job s.goes_on in
-    let first = first-of f.more r' job now r'' next s (omega (arith, some, f.enough)) (omega (arith, less, f.enough)) in
+pub finishes-more : (r : Run) (event : Event) (r' : Run) (text : List ℕ) (r'' : Run) (next : List ℕ) → Finishes r event r' text → stepped r' event ≡ Ok (r'', next) → steps_left r'' event.job < steps_left r' event.job → Finishes r event r'' (text ++ next)
+finishes-more r event r' text r'' next f is less =
+    let s = stepped-is r' event r'' next is in
+    let some = some_left r' event s.goes_on in
+    let first = first-of f.more r' event r'' next s (omega (arith, some, f.enough)) (omega (arith, less, f.enough)) in
     record {
       goes_on = f.goes_on;
-      there = there-stepped r' job now r'' next s;
+      there = there-stepped r' event r'' next s;
       more = first.0;
       enough = first.1;
-      rest = f.rest ∙ ap (before text) first.2 ∙ (let last = steps_of first.0 r'' job now in λ i. (last.0, sym (append_assoc text next last.1) i));
+      rest = f.rest ∙ ap (before text) first.2 ∙ (let last = steps_of first.0 r'' event in λ i. (last.0, sym (append_assoc text next last.1) i));
     }
 
-pub finishes-end : (r : Run) (job now : ℕ) (r' : Run) (text : List ℕ) → Finishes r job now r' text → is_some (answer_of (job_in r' job)) ≡ true → finished r job now ≡ Ok (r', text)
+pub finishes-end : (r : Run) (event : Event) (r' : Run) (text : List ℕ) → Finishes r event r' text → is_some (answer_of (job_in r' event.job)) ≡ true → finished r event ≡ Ok (r', text)
 unfolding finished
-finishes-end r job now r' text f is_answered =
-    let a = answer_by (answer_of (job_in r' job)) is_answered in
-    let last = step-none f.more r' job now Answered (ends-by (job_in r' job) a.0 a.1) in
-    is_done (step_refusal (job_in r job)) _ f.goes_on ∙ ap Ok (f.rest ∙ ap (before text) last ∙ λ i. (r', append-nil text i))
+finishes-end r event r' text f is_answered =
+    let a = answer_by (answer_of (job_in r' event.job)) is_answered in
+    let last = step-none f.more r' event Answered (ends-by (job_in r' event.job) a.0 a.1) in
+    is_done (event_refusal r event) _ f.goes_on ∙ ap Ok (f.rest ∙ ap (before text) last ∙ λ i. (r', append-nil text i))
   where
     answer_by : (o : Option Answer) → is_some o ≡ true → (a : Answer) × (o ≡ Some a)
     answer_by None is = cc
     answer_by (Some a) is = (a, refl)
 
 -- a job that has no answer after some steps is not refused: memory ran out
-pub finishes-unrefused : {S : Type 0} (r : Run) (job now : ℕ) (r' : Run) (text : List ℕ) → Finishes r job now r' text → is_some (answer_of (job_in r' job)) ≡ false
-    → (step : Result (S × List ℕ) PlayKind) (s : S) (t : Run) (more before after : List ℕ) (kind : PlayKind) → Steps (stepped r' job now) t more after (Err kind) → Steps step s before after (Err kind)
+pub finishes-unrefused : {S : Type 0} (r : Run) (event : Event) (r' : Run) (text : List ℕ) → Finishes r event r' text → is_some (answer_of (job_in r' event.job)) ≡ false
+    → (step : Result (S × List ℕ) PlayKind) (s : S) (t : Run) (more before after : List ℕ) (kind : PlayKind) → Steps (stepped r' event) t more after (Err kind) → Steps step s before after (Err kind)
 unfolding stepped
-finishes-unrefused r job now r' text f unanswered step s t more before after kind is = λ some.
-    let goes_on = waits r' job f.there (none_by (answer_of (job_in r' job)) unanswered) in
-    let done = is_done (step_refusal (job_in r' job)) (and_event r' (at_moment job now), step_text r' job now) goes_on in
+finishes-unrefused r event r' text f unanswered step s t more before after kind is = λ some.
+    let goes_on = waits r' event f.there (none_by (answer_of (job_in r' event.job)) unanswered) in
+    let done = is_done (event_refusal r' event) (and_event r' (unfaulted event), step_text r' event) goes_on in
     absurd (let no = (is some).0 in cc)
   where
     none_by : (o : Option Answer) → is_some o ≡ false → o ≡ None
     none_by None is = refl
     none_by (Some a) is = cc
 
-pub finishes-refused : (r : Run) (job now : ℕ) (s t : Run) (text text' : List ℕ) (kind : PlayKind) → Steps (stepped r job now) s text text' (Err kind) → Steps (finished r job now) t text text' (Err kind)
+pub finishes-refused : (r : Run) (event : Event) (s t : Run) (text text' : List ℕ) (kind : PlayKind) → Steps (stepped r event) s text text' (Err kind) → Steps (finished r event) t text text' (Err kind)
 unfolding stepped finished
-finishes-refused r job now s t text text' kind is = refused_too (step_refusal (job_in r job)) (and_event r (at_moment job now), step_text r job now) (steps_of (steps_left r job) r job now) s t text text' kind is
+finishes-refused r event s t text text' kind is = refused_too (event_refusal r event) (and_event r (unfaulted event), step_text r event) (steps_of (steps_left r event.job) r event) s t text text' kind is

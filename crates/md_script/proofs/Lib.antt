@@ -6,6 +6,7 @@ pub mod Escaping
 pub mod Numbers
 pub mod Runs
 pub mod Acts
+pub mod Opening
 pub mod Finishing
 pub mod Gathering
 pub mod MadeOf

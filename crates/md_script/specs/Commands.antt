@@ -5,6 +5,7 @@ use Rattle.md_dirs.specs.declared.paths.Place.{Place}
 use Rattle.md_dirs.specs.declared.paths.Place.TheVariants.{Tmp, New, Cur}
 use Rattle.md_dirs.specs.declared.image.ImageFile.{ImageFile}
 use Rattle.md_core.specs.declared.jobs.call.Call.{Call}
+use Rattle.md_core.specs.declared.jobs.step.Event.{Event}
 use Rattle.md_script.specs.declared.error.PlayKind.{PlayKind}
 use Rattle.md_script.specs.declared.error.PlayKind.TheVariants.{BadCommand, BadFolder, BadPlace}
 use Rattle.md_script.specs.declared.verb.Verb.{Verb}
@@ -21,9 +22,10 @@ pub data Command : Type 0 where
   make_folder : (name : List ℕ) → Command
   make_file : (file : ImageFile) → Command
   submit : (call : Call) → Command
-  step : (job now : ℕ) → Command
-  finish : (job now : ℕ) → Command
+  step : (event : Event) → Command
+  finish : (event : Event) → Command
   list : (folder : ℕ) → Command
+  read : (unique : List ℕ) → Command
   make_name : (sec micro pid count : ℕ) (host : List ℕ) → Command
   summarize : (message : List ℕ) → Command
 
@@ -58,13 +60,21 @@ file_of folders rest = do
   body ← body_at stamp.1
   Ok (record { path = record { folder = folder.0; place = place.0; name = name.0 }; bytes = body; stamp = stamp.0 })
 
--- the last two words: a job and a moment
-unfoldable pub moment_at : Rest → Result (ℕ × ℕ) PlayKind
-moment_at rest = do
+-- the last word as a number, where it is not left out
+unfoldable pub own_at : Rest → Result (Option ℕ) PlayKind
+own_at None = Ok None
+own_at (Some text) = do
+  own ← number_at (Some text)
+  _ ← end_at own.1
+  Ok (Some own.0)
+
+-- the last words: a job, a moment, and perhaps the job's own moment
+unfoldable pub event_at : Rest → Result Event PlayKind
+event_at rest = do
   job ← number_at rest
   now ← number_at job.1
-  _ ← end_at now.1
-  Ok (job.0, now.0)
+  own ← own_at now.1
+  Ok (record { job = job.0; now = now.0; own = own })
 
 -- the words of `list` after the first
 unfoldable pub list_line : List (List ℕ) → Rest → Result Command PlayKind
@@ -72,6 +82,13 @@ list_line folders rest = do
   folder ← folder_at folders rest
   _ ← end_at folder.1
   Ok (list folder.0)
+
+-- the words of `read` after the first
+unfoldable pub read_line : Rest → Result Command PlayKind
+read_line rest = do
+  unique ← word_at rest
+  _ ← end_at unique.1
+  Ok (read unique.0)
 
 -- the words of `unique` after the first
 unfoldable pub unique_line : Rest → Result Command PlayKind
@@ -89,9 +106,10 @@ abbrev pub verb_line : List (List ℕ) → Mode → Verb → Rest → Result Com
 verb_line folders mode verb.Folder rest = folder_line folders rest
 verb_line folders mode verb.File rest = file_of folders rest >>= (λ file. Ok (make_file file))
 verb_line folders mode verb.Job rest = job_line folders mode rest >>= (λ call. Ok (submit call))
-verb_line folders mode verb.Step rest = moment_at rest >>= (λ at. Ok (step at.0 at.1))
-verb_line folders mode verb.Finish rest = moment_at rest >>= (λ at. Ok (finish at.0 at.1))
+verb_line folders mode verb.Step rest = event_at rest >>= (λ event. Ok (step event))
+verb_line folders mode verb.Finish rest = event_at rest >>= (λ event. Ok (finish event))
 verb_line folders mode verb.List rest = list_line folders rest
+verb_line folders mode verb.Read rest = read_line rest
 verb_line folders mode verb.Unique rest = unique_line rest
 verb_line folders mode verb.Summary rest = body_at rest >>= (λ message. Ok (summarize message))
 

@@ -1,22 +1,27 @@
 -- The program's commands, as contracts see them.
-use Rattle.std.specs.Prelude.{◌≡◌, ◌<◌, ℕ, List, length, Result, Ok, Err}
+use Rattle.std.specs.Prelude.{◌≡◌, ◌≢◌, ◌<◌, ℕ, false, List, [], length, Option, Some, None, Result, Ok, Err}
+use Rattle.md_dirs.specs.declared.image.ImageFile.{ImageFile}
+use Rattle.md_core.specs.Runs.{Run}
 use Rattle.md_script.specs.declared.error.PlayKind.{PlayKind}
+use Rattle.md_script.specs.declared.error.PlayKind.TheVariants.{NoMemory}
 use Rattle.md_script.specs.declared.command.Command.{Command as Held}
 use Rattle.md_script.specs.declared.command.Command.TheVariants as held
 use Rattle.md_script.specs.declared.verb.Mode.{Mode}
+use Rattle.md_script.specs.declared.verb.Mode.TheVariants.{Playing, SettingUp}
 use Rattle.md_script.specs.Folders.{most_folders}
 use Rattle.md_name.specs.declared.unique.UniqueParts.{UniqueParts}
 use Rattle.md_script.specs.Jobs.{IsPlayed}
-use Rattle.md_script.specs.Sessions.{named}
-use Rattle.md_script.specs.Commands.{Command, make_folder, make_file, submit, step, finish, list, make_name, summarize}
+use Rattle.md_script.specs.Sessions.{Session, store_of, come_to, named}
+use Rattle.md_script.specs.Commands.{Command, make_folder, make_file, submit, step, finish, list, read, make_name, summarize}
 
 abbrev pub seen : Held → Command
 seen (held.Folder name) = make_folder name.now
 seen (held.File file) = make_file file
 seen (held.Submit call) = submit call
-seen (held.Step job now) = step job now
-seen (held.Finish job now) = finish job now
+seen (held.Step event) = step event
+seen (held.Finish event) = finish event
 seen (held.List folder) = list folder
+seen (held.Read unique) = read unique.now
 seen (held.Unique parts) = make_name parts.sec parts.micro parts.pid parts.count parts.host.now
 seen (held.Summary message) = summarize message.items
 
@@ -24,11 +29,27 @@ seen (held.Summary message) = summarize message.items
 abbrev pub named_of : UniqueParts → Result (List ℕ) PlayKind
 named_of parts = named parts.sec parts.micro parts.pid parts.count parts.host.now
 
--- A folder that a command makes can be added to these, and a call that is played is one whose machine stands.
+-- files can be added to the store
+abbrev pub TakesFiles : Mode → Type 0
+TakesFiles (Playing is_loaded) = is_loaded ≡ false
+TakesFiles (SettingUp with_jobs) = Unit {0}
+
+-- A folder that a command makes can be added to these, and a file to the store; and a call that is played is one whose machine stands.
 abbrev pub IsFit : List (List ℕ) → Mode → Held → Type 0
 IsFit folders mode (held.Folder name) = length folders < most_folders
+IsFit folders mode (held.File file) = TakesFiles mode
 IsFit folders mode (held.Submit call) = IsPlayed mode call
 IsFit folders mode command = Unit {0}
+
+-- The files of a session, as it holds them: an open store has none beside it.
+abbrev pub unopened : Option Run → List ImageFile → List ImageFile
+unopened None files = files
+unopened (Some r) files = []
+
+-- The store of a session was opened, or it is refused, unless memory ran out.
+abbrev pub Opens : Session → Session → Result (Unit {0}) PlayKind → Type 0
+Opens old new (Ok done) = (r : Run) × (store_of old ≡ Ok r) × (new ≡ come_to old r)
+Opens old new (Err kind) = kind ≢ NoMemory → store_of old ≡ Err kind
 
 -- A reader that takes no memory returned this command, or this refusal.
 abbrev pub Spells : Result Held PlayKind → Result Command PlayKind → Type 0

@@ -11,7 +11,7 @@ use Rattle.md_core.specs.Submitting.{has_machine}
 use Rattle.md_script.specs.declared.error.PlayKind.{PlayKind}
 use Rattle.md_script.specs.declared.error.PlayKind.TheVariants.{BadCommand, UnknownFolder, Name}
 use Rattle.md_script.specs.declared.verb.JobVerb.{JobVerb}
-use Rattle.md_script.specs.declared.verb.JobVerb.TheVariants.{Deliver, Seen, Flag, Move, Expunge, Clean}
+use Rattle.md_script.specs.declared.verb.JobVerb.TheVariants.{Deliver, Seen, Flag, Move, Expunge, Copy, Clean}
 use Rattle.md_script.specs.declared.verb.Mode.{Mode}
 use Rattle.md_script.specs.declared.verb.Mode.TheVariants.{Playing, SettingUp}
 use Rattle.md_script.specs.Bind.{◌>>=◌}
@@ -85,6 +85,15 @@ expunge_line folders rest = do
   tries ← tries_at unique.1
   Ok (call.Expunge folder.0 unique.0 tries)
 
+unfoldable pub copy_line : List (List ℕ) → Rest → Result Call PlayKind
+copy_line folders rest = do
+  folder ← folder_at folders rest
+  unique ← word_at folder.1
+  to ← folder_at folders unique.1
+  fresh ← word_at to.1
+  tries ← tries_at fresh.1
+  Ok (call.Copy folder.0 unique.0 to.0 fresh.0 tries)
+
 unfoldable pub clean_line : List (List ℕ) → Rest → Result Call PlayKind
 clean_line folders rest = do
   folder ← folder_at folders rest
@@ -98,7 +107,8 @@ job_verb_of word =
     else (if bytes_eq word (codes "flag") then Some Flag
     else (if bytes_eq word (codes "move") then Some Move
     else (if bytes_eq word (codes "expunge") then Some Expunge
-    else (if bytes_eq word (codes "clean") then Some Clean else None)))))
+    else (if bytes_eq word (codes "copy") then Some Copy
+    else (if bytes_eq word (codes "clean") then Some Clean else None))))))
 
 -- the calls whose machines stand
 abbrev pub is_played : Mode → JobVerb → Bool
@@ -114,6 +124,7 @@ call_line folders Seen rest = seen_line folders rest
 call_line folders Flag rest = flag_line folders rest
 call_line folders Move rest = move_line folders rest
 call_line folders Expunge rest = expunge_line folders rest
+call_line folders Copy rest = copy_line folders rest
 call_line folders Clean rest = clean_line folders rest
 
 -- the words of `job` after the first

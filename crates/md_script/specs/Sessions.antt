@@ -1,90 +1,114 @@
 -- What each command of a played script does: the transcript's clauses. They speak of runs, of what their steps show and of the mailbox,
 -- and of no part of the code.
 use Rattle.std.specs.Prelude.{ℕ, zero, suc, ◌+◌, List, [], ◌∷◌, ◌++◌, false}
-use Rattle.std.specs.Prelude.{Option, Some, None, Result, Ok, Err, if◌then◌else◌, length, is_some}
+use Rattle.std.specs.Prelude.{Option, Some, None, Result, Ok, Err, if◌then◌else◌, length, is_some, is_none}
 use Rattle.std.specs.Option.{option_map}
-use Rattle.md_dirs.specs.State.{bare}
+use Rattle.std.specs.FinMap as finmap
+use Rattle.md_dirs.specs.State.{State}
+use Rattle.md_dirs.specs.Image.{image_state, image_refusal}
+use Rattle.md_dirs.specs.declared.image.ImageFile.{ImageFile}
 use Rattle.md_name.specs.declared.error.NameError.{NameError}
 use Rattle.md_name.specs.Made.{make_refusal}
 use Rattle.md_head.specs.Summaries.{summary_of}
 use Rattle.md_core.specs.declared.error.CoreError.{CoreError}
 use Rattle.md_core.specs.declared.jobs.call.Call.{Call}
-use Rattle.md_core.specs.Mailbox.{mailbox_of}
-use Rattle.md_core.specs.Machine.{Marked, marked, job_at, done, step_out}
+use Rattle.md_core.specs.declared.jobs.step.Event.{Event}
+use Rattle.md_core.specs.Loading.{load_refusal}
+use Rattle.md_core.specs.Mailbox.{Entry, mailbox_of}
+use Rattle.md_core.specs.Machine.{Marked, job_at, done, step_out}
 use Rattle.md_core.specs.Runs.{Run, new_run, machine_of, dirs_of, jobs_of, and_event, and_call, step_refusal, steps_left}
 use Rattle.md_core.specs.Submitting.{submit_refusal}
 use Rattle.md_script.specs.declared.error.PlayKind.{PlayKind}
-use Rattle.md_script.specs.declared.error.PlayKind.TheVariants.{BadCommand, Core, Name}
+use Rattle.md_script.specs.declared.error.PlayKind.TheVariants.{SamePath, Core, Name}
 use Rattle.md_script.specs.declared.verb.Mode.TheVariants.{Playing}
 use Rattle.md_script.specs.Bind.{◌>>=◌}
-use Rattle.md_script.specs.Commands.{Command, make_folder, make_file, submit, step, finish, list, make_name, summarize, command_at}
-use Rattle.md_script.specs.Texts.{job_text, shown_text, listing_text, unique_text, summary_text}
+use Rattle.md_script.specs.Words.{require}
+use Rattle.md_script.specs.Commands.{Command, make_folder, make_file, submit, step, finish, list, read, make_name, summarize, command_at}
+use Rattle.md_script.specs.Texts.{job_text, shown_text, listing_text, bytes_text, unique_text, summary_text}
 use Rattle.md_script.specs.Transcript.{Transcript, transcript_of}
 
--- A session: the names of the folders, in the order in which they were named, and the run of the store over them, once it was needed.
+-- A session: the names of the folders and the files that the store begins with, each in the order of their lines; and the run of the
+-- store, once it was needed. From then on it has no files beside it.
 pub record Session : Type 0 where
   pub folders : List (List ℕ)
+  pub files : List ImageFile
   pub run : Option Run
 
--- a store over folders without a file
-abbrev pub opened : ℕ → Run
-opened folders = new_run (bare folders) 0 0
+-- refused by the store, or done
+abbrev pub unless_refused : {X : Type 0} → Option CoreError → X → Result X PlayKind
+unless_refused None done = Ok done
+unless_refused (Some e) done = Err (Core e)
+
+-- The directories that files are. The folder of each is there, so that the only refusal is that two have one path.
+unfoldable pub image_of : ℕ → List ImageFile → Result State PlayKind
+image_of folders files = do
+  _ ← require (is_none (image_refusal folders files)) SamePath
+  Ok (image_state folders files)
+
+-- a store over folders and files
+unfoldable pub opened : ℕ → List ImageFile → Result Run PlayKind
+opened folders files = do
+  image ← image_of folders files
+  unless_refused (load_refusal image) (new_run image 0 0)
 
 -- a run, which begins where it is first needed
-abbrev pub run_over : ℕ → Option Run → Run
-run_over folders None = opened folders
-run_over folders (Some r) = r
+abbrev pub run_over : ℕ → List ImageFile → Option Run → Result Run PlayKind
+run_over folders files None = opened folders files
+run_over folders files (Some r) = Ok r
 
--- the run of a session's store
-abbrev pub store_of : Session → Run
-store_of s = run_over (length s.folders) s.run
+-- the run of a session's store, which is opened where it was not
+abbrev pub store_of : Session → Result Run PlayKind
+store_of s = run_over (length s.folders) s.files s.run
 
 -- a session whose store has come to this run
 abbrev pub come_to : Session → Run → Session
-come_to s r = record { folders = s.folders; run = Some r }
+come_to s r = record { folders = s.folders; files = []; run = Some r }
 
--- a step of a job at a moment, which the job goes by; the directories of a script never fault
-abbrev pub at_moment : ℕ → ℕ → Marked
-at_moment job now = marked job now None false
+-- an event without a fault: the directories of a script never fault
+abbrev pub unfaulted : Event → Marked
+unfaulted event = record { event = event; faulted = false }
 
-abbrev pub step_text : Run → ℕ → ℕ → List ℕ
-step_text r job now = shown_text job (option_map step_out (done (machine_of r) (at_moment job now)))
+abbrev pub step_text : Run → Event → List ℕ
+step_text r event = shown_text event.job (option_map step_out (done (machine_of r) (unfaulted event)))
 
 -- a text, and then what follows it
 abbrev pub before : List ℕ → Run × List ℕ → Run × List ℕ
 before text rest = (rest.0, text ++ rest.1)
 
--- at most so many steps of a job at one moment, until it is answered: the run after them, and what they print
-unfoldable pub steps_of : ℕ → Run → ℕ → ℕ → Run × List ℕ
-steps_of zero r job now = (r, [])
-steps_of (suc more) r job now =
-    if is_some (step_refusal (job_at (jobs_of r) job)) then (r, [])
-    else before (step_text r job now) (steps_of more (and_event r (at_moment job now)) job now)
+-- where one more event is refused, want of memory aside
+abbrev pub event_refusal : Run → Event → Option CoreError
+event_refusal r event = step_refusal (job_at (jobs_of r) event.job)
 
--- refused by the store, or done
-abbrev pub unless_refused : {S : Type 0} → Option CoreError → S × List ℕ → Result (S × List ℕ) PlayKind
-unless_refused None done = Ok done
-unless_refused (Some e) done = Err (Core e)
+-- at most so many steps of a job at one moment, until it is answered: the run after them, and what they print
+unfoldable pub steps_of : ℕ → Run → Event → Run × List ℕ
+steps_of zero r event = (r, [])
+steps_of (suc more) r event =
+    if is_some (event_refusal r event) then (r, [])
+    else before (step_text r event) (steps_of more (and_event r (unfaulted event)) event)
 
 -- a call, submitted to the store
 unfoldable pub submitted : Run → Call → Result (Run × List ℕ) PlayKind
 submitted r c = unless_refused (submit_refusal r c) (and_call r c, job_text (length r.calls + 1))
 
 -- one step of a job
-unfoldable pub stepped : Run → ℕ → ℕ → Result (Run × List ℕ) PlayKind
-stepped r job now = unless_refused (step_refusal (job_at (jobs_of r) job)) (and_event r (at_moment job now), step_text r job now)
+unfoldable pub stepped : Run → Event → Result (Run × List ℕ) PlayKind
+stepped r event = unless_refused (event_refusal r event) (and_event r (unfaulted event), step_text r event)
 
 -- a step of a job, and then more until it is answered
-unfoldable pub finished : Run → ℕ → ℕ → Result (Run × List ℕ) PlayKind
-finished r job now = unless_refused (step_refusal (job_at (jobs_of r) job)) (steps_of (steps_left r job) r job now)
+unfoldable pub finished : Run → Event → Result (Run × List ℕ) PlayKind
+finished r event = unless_refused (event_refusal r event) (steps_of (steps_left r event.job) r event)
 
 -- the messages of a folder
 unfoldable pub listing_of : Run → ℕ → Result (Run × List ℕ) PlayKind
 listing_of r folder = Ok (r, listing_text (mailbox_of (dirs_of r)) folder)
 
--- what is done to the store of a session, which is opened where it was not
+-- the bytes of the message of a unique name
+unfoldable pub reading_of : Run → List ℕ → Result (Run × List ℕ) PlayKind
+reading_of r unique = Ok (r, bytes_text (option_map (λ (e : Entry). e.bytes) (finmap.get (mailbox_of (dirs_of r)) unique)))
+
+-- What is done to the store of a session. It is opened where it was not, and nothing is done where it can't be.
 abbrev pub in_store : Session → (Run → Result (Run × List ℕ) PlayKind) → Result (Session × List ℕ) PlayKind
-in_store s act = act (store_of s) >>= (λ done. Ok (come_to s done.0, done.1))
+in_store s act = store_of s >>= (λ r. act r >>= (λ done. Ok (come_to s done.0, done.1)))
 
 -- a name that is made, unless it is refused
 abbrev pub unless_bad : Option NameError → List ℕ → Result (List ℕ) PlayKind
@@ -98,15 +122,15 @@ named sec micro pid count host = unless_bad (make_refusal micro host) (unique_te
 abbrev pub says : Session → Result (List ℕ) PlayKind → Result (Session × List ℕ) PlayKind
 says s answer = answer >>= (λ text. Ok (s, text))
 
--- What a command makes of a session, and what it prints; or why it is refused. A later command adds its clause. No line that is played
--- spells a file yet.
+-- What a command makes of a session, and what it prints; or why it is refused. A later command adds its clause.
 abbrev pub obey : Session → Command → Result (Session × List ℕ) PlayKind
-obey s (make_folder name) = Ok (record { folders = s.folders ++ name ∷ []; run = s.run }, [])
-obey s (make_file file) = Err BadCommand
+obey s (make_folder name) = Ok (record s { folders = s.folders ++ name ∷ [] }, [])
+obey s (make_file file) = Ok (record s { files = s.files ++ file ∷ [] }, [])
 obey s (submit call) = in_store s (λ r. submitted r call)
-obey s (step job now) = in_store s (λ r. stepped r job now)
-obey s (finish job now) = in_store s (λ r. finished r job now)
+obey s (step event) = in_store s (λ r. stepped r event)
+obey s (finish event) = in_store s (λ r. finished r event)
 obey s (list folder) = in_store s (λ r. listing_of r folder)
+obey s (read unique) = in_store s (λ r. reading_of r unique)
 obey s (make_name sec micro pid count host) = says s (named sec micro pid count host)
 obey s (summarize message) = says s (Ok (summary_text (summary_of message)))
 
@@ -116,7 +140,7 @@ session_line s line = command_at s.folders (Playing (is_some s.run)) line >>= ob
 
 -- a session without a folder
 abbrev pub new_session : Session
-new_session = record { folders = []; run = None }
+new_session = record { folders = []; files = []; run = None }
 
 -- the transcript of a script: what its lines print, one after another, over a new session
 abbrev pub transcript : List ℕ → Transcript Session

@@ -98,6 +98,11 @@ entries_in m folder = filter (λ e. e.1.folder == folder) (finmap.entries m)
 abbrev pub listing_text : Mailbox → ℕ → List ℕ
 listing_text m folder = flat_map entry_line (entries_in m folder)
 
+-- `bytes=` and the bytes of a message, or `none`
+abbrev pub bytes_text : Option (List ℕ) → List ℕ
+bytes_text None = codes "none" ++ line_end
+bytes_text (Some bytes) = codes "bytes=" ++ escaped bytes ++ line_end
+
 -- `unique` and a made unique name
 abbrev pub unique_text : ℕ → ℕ → ℕ → ℕ → List ℕ → List ℕ
 unique_text sec micro pid count host = codes "unique " ++ made_unique sec micro pid count host ++ line_end

@@ -2,7 +2,7 @@
 use Rattle.std.specs.Prelude.{ℕ, not, List, Option, Some, None, Result, Ok, Err, if◌then◌else◌, codes}
 use Rattle.std.specs.Str.{bytes_eq}
 use Rattle.md_script.specs.declared.error.PlayKind.{PlayKind}
-use Rattle.md_script.specs.declared.error.PlayKind.TheVariants.{BadCommand, TooLate, NotInThisRun}
+use Rattle.md_script.specs.declared.error.PlayKind.TheVariants.{TooLate, NotInThisRun}
 use Rattle.md_script.specs.declared.verb.Verb.{Verb}
 use Rattle.md_script.specs.declared.verb.Verb.TheVariants as verb
 use Rattle.md_script.specs.declared.verb.Mode.{Mode}
@@ -17,14 +17,15 @@ verb_of word =
     else (if bytes_eq word (codes "step") then Some verb.Step
     else (if bytes_eq word (codes "finish") then Some verb.Finish
     else (if bytes_eq word (codes "list") then Some verb.List
+    else (if bytes_eq word (codes "read") then Some verb.Read
     else (if bytes_eq word (codes "unique") then Some verb.Unique
-    else (if bytes_eq word (codes "summary") then Some verb.Summary else None)))))))
+    else (if bytes_eq word (codes "summary") then Some verb.Summary else None))))))))
 
--- A command that can't stand here is refused before its other words are read: a folder is added before the store is loaded alone,
--- and what only sets a store up has folders, files and, where they are allowed, jobs. A script that is played has no files yet.
+-- A command that can't stand here is refused before its other words are read: folders and files are added before the store is loaded
+-- alone, and what only sets a store up has folders, files and, where they are allowed, jobs.
 unfoldable pub admitted : Mode → Verb → Result (Unit {0}) PlayKind
 admitted (Playing is_loaded) verb.Folder = require (not is_loaded) TooLate
-admitted (Playing is_loaded) verb.File = Err BadCommand
+admitted (Playing is_loaded) verb.File = require (not is_loaded) TooLate
 admitted (Playing is_loaded) other = Ok tt
 admitted (SettingUp with_jobs) verb.Folder = Ok tt
 admitted (SettingUp with_jobs) verb.File = Ok tt

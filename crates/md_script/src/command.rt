@@ -14,10 +14,10 @@ use crate::verb::{Mode, Verb, admit, verb_from};
 use crate::words::{body, word};
 use image::{file_line, folder_line};
 use jobs::job_line;
-use md_core::{Call, JobId};
+use md_core::{Call, Event};
 use md_dirs::ImageFile;
 use md_name::UniqueParts;
-use others::{list_line, moment, unique_line};
+use others::{event, list_line, read_line, unique_line};
 use std::alloc::Global;
 
 /// A command, as the words of a line spell it. Folders are numbered from 0 in the order in which they were named, and
@@ -30,12 +30,14 @@ pub(crate) enum Command<'a> {
     File(ImageFile),
     /// `job ..`: a call, which becomes a job.
     Submit(Call),
-    /// `step JOB NOW`: one step of a job, at a moment in seconds.
-    Step { job: JobId, now: u64 },
-    /// `finish JOB NOW`: the steps of a job until it is answered, at one moment in seconds.
-    Finish { job: JobId, now: u64 },
+    /// `step JOB NOW [OWN]`: one step of a job, at a moment in seconds.
+    Step(Event),
+    /// `finish JOB NOW [OWN]`: the steps of a job until it is answered, at one moment in seconds.
+    Finish(Event),
     /// `list FOLDER`: the messages of a folder.
     List { folder: u32 },
+    /// `read UNIQUE`: the bytes of a message.
+    Read { unique: &'a [u8] },
     /// `unique SEC MICRO PID COUNT HOST`: a made unique name.
     Unique(UniqueParts<'a>),
     /// `summary [BODY]`: the header summary of a message.
@@ -65,15 +67,10 @@ pub(crate) fn read_command<'a>(
         Verb::Folder => folder_line(folders, rest),
         Verb::File => Ok(Command::File(file_line(alloc, folders, rest)?)),
         Verb::Job => Ok(Command::Submit(job_line(alloc, folders, mode, rest)?)),
-        Verb::Step => {
-            let (job, now) = moment(rest)?;
-            Ok(Command::Step { job, now })
-        }
-        Verb::Finish => {
-            let (job, now) = moment(rest)?;
-            Ok(Command::Finish { job, now })
-        }
+        Verb::Step => Ok(Command::Step(event(rest)?)),
+        Verb::Finish => Ok(Command::Finish(event(rest)?)),
         Verb::List => list_line(folders, rest),
+        Verb::Read => read_line(rest),
         Verb::Unique => unique_line(rest),
         Verb::Summary => {
             let message = body(alloc, rest)?;

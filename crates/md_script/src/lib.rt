@@ -19,6 +19,7 @@ mod setting;
 mod setup;
 mod sink;
 mod source;
+mod storage;
 mod store;
 mod summary;
 mod verb;

@@ -10,6 +10,7 @@ use crate::run::{Printed, run};
 use crate::sink::{Put, Sink};
 use crate::source::Source;
 use crate::store::StoreSession;
+use md_dirs::IndexDirs;
 use std::alloc::{AllocError, Global};
 
 /// Plays a script: reads it whole, in at most 1,048,576 reads, runs its lines over a store up to the first that is refused, and writes
@@ -40,7 +41,7 @@ pub fn play<S: Source, T: Sink>(
 pub fn transcript(alloc: Global, script: &[u8]) -> Result<Printed, AllocError>
     ensures { IfOk result (Shows (transcript script.now)) }
 {
-    run(alloc, &mut StoreSession::new(alloc), script)
+    run(alloc, &mut StoreSession::<IndexDirs>::new(alloc), script)
 }
 
 fn write_whole<T: Sink>(sink: &mut T, text: &[u8]) -> Result<(), PlayKind>

@@ -1,51 +1,58 @@
-//! The session of a store: the folders that a script names, and the store over them once a command needs it.
-ghost use Rattle.std.specs.Prelude.{◌≡◌, true, OnOk, Ok, is_some};
+//! The session of a store: the folders and files that a script names, and the store over them once a command needs it.
+ghost use Rattle.std.specs.Prelude.{◌≡◌, ◌++◌, ◌∷◌, [], true, false, OnOk, Ok, is_some};
 ghost use Rattle.md_head.specs.Summaries.{summary_of};
 ghost use Rattle.md_script.specs.declared.verb.Mode.TheVariants.{Playing};
 ghost use Rattle.md_core.specs.Submitting.{has_machine};
 ghost use Rattle.md_script.specs.Step.{Steps};
-ghost use Rattle.md_script.specs.Held.{seen, named_of, IsFit};
-ghost use Rattle.md_script.specs.Sessions.{obey, session_line, new_session, store_of, come_to, in_store, submitted, stepped, finished, listing_of, says};
+ghost use Rattle.md_script.specs.Held.{seen, named_of, IsFit, Opens};
+ghost use Rattle.md_script.specs.Sessions.{obey, session_line, new_session, in_store, submitted, stepped, finished, listing_of, reading_of, says};
 ghost use Rattle.md_script.specs.Texts.{summary_text};
 
 mod acts;
+mod opening;
 mod printing;
 
 use crate::command::{Command, read_command};
 use crate::error::PlayKind;
 use crate::folders::Folders;
 use crate::session::Session;
+use crate::storage::Storage;
 use crate::summary::{push_summary, push_unique};
 use crate::verb::Mode;
-use md_core::{Call, JobId, World};
-use md_dirs::PlainDirs;
+use md_core::{Call, Event, World};
+use md_dirs::ImageFile;
 use md_head::summary;
 use md_name::{UniqueParts, make_unique};
+use opening::open_store;
 use std::alloc::{AllocError, Global};
 use std::marker::Model;
+use std::mem;
 
-/// Folders, and a store over them, which is made at the first command that needs it: no folder is added from then on.
+/// Folders and files, and a store over them, which is opened at the first command that needs it: no folder and no file is added from
+/// then on.
 #[derive(Drop)]
-pub(crate) struct StoreSession {
+pub(crate) struct StoreSession<D: Storage> {
     alloc: Global,
     folders: Folders,
-    world: Option<World<PlainDirs>>,
+    files: Vec<ImageFile>,
+    world: Option<World<D>>,
 }
 
-impl Model for StoreSession {
+impl<D: Storage> Model for StoreSession<D> {
     ghost use Rattle.std.specs.Coded.{codes};
     ghost use Rattle.md_dirs.specs.State.{state_code};
     ghost use Rattle.md_name.specs.contracts.flags.Flags as flags;
+    ghost use Rattle.md_script.specs.Held.{unopened};
     ghost use Rattle.md_script.specs.Sessions.{Session};
 
     ghost Value = { Session };
 
     ghost coded = { Prim.hlevel (codes, state_code, flags.the_row.coded) };
 
-    ghost view = { λ s. record { folders = s.folders; run = s.world } };
+    ghost view = { λ s. record { folders = s.folders; files = unopened s.world s.files.items; run = s.world } };
 }
 
-impl StoreSession {
+impl<D: Storage> StoreSession<D> {
     /// A session without a folder.
     pub fn new(alloc: Global) -> Self
         ensures { result ≡ new_session }
@@ -53,6 +60,7 @@ impl StoreSession {
         StoreSession {
             alloc,
             folders: Folders::new(alloc),
+            files: Vec::new(alloc),
             world: None,
         }
     }
@@ -64,29 +72,34 @@ impl StoreSession {
     {
         match command {
             Command::Folder { name } => Ok(self.folders.add(name)?),
-            // No line that is played spells a file yet.
-            Command::File(_) => Err(PlayKind::BadCommand),
+            Command::File(file) => Ok(self.add_file(file)?),
             Command::Submit(call) => self.submit(call, out),
-            Command::Step { job, now } => self.step(job, now, out),
-            Command::Finish { job, now } => self.finish(job, now, out),
+            Command::Step(event) => self.step(event, out),
+            Command::Finish(event) => self.finish(event, out),
             Command::List { folder } => self.list(folder, out),
+            Command::Read { unique } => self.read(unique, out),
             Command::Unique(parts) => self.unique(parts, out),
             Command::Summary { message } => self.summary(&message, out),
         }
     }
 }
 
-impl StoreSession {
-    // Opens the store over the folders, if no command did before.
-    fn open(&mut self) -> Result<(), AllocError>
-        ensures { OnOk result (self.new ≡ come_to self.old (store_of self.old)) }
+impl<D: Storage> StoreSession<D> {
+    // Adds a file that the store will begin with.
+    fn add_file(&mut self, file: ImageFile) -> Result<(), AllocError>
+        requires { is_some self.old.run ≡ false }
+        ensures { OnOk result (self.new ≡ record self.old { files = self.old.files ++ file ∷ [] }) }
+    {
+        Ok(self.files.push(file)?)
+    }
+
+    // Opens the store over the folders and the files, if no command did before.
+    fn open(&mut self) -> Result<(), PlayKind>
+        ensures { Opens self.old self.new result }
     {
         if self.world.is_none() {
-            let dirs = PlainDirs::new(self.alloc, self.folders.count());
-            let Ok(world) = World::load(self.alloc, dirs) else {
-                return Err(AllocError);
-            };
-            self.world = Some(world);
+            let files = mem::replace(&mut self.files, Vec::new(self.alloc));
+            self.world = Some(open_store(self.alloc, self.folders.count(), files)?);
         }
         Ok(())
     }
@@ -102,24 +115,24 @@ impl StoreSession {
         acts::submit(world, call, out)
     }
 
-    fn step(&mut self, job: JobId, now: u64, out: &mut Vec<u8>) -> Result<(), PlayKind>
-        ensures { Steps (in_store self.old (λ r. stepped r job now)) self.new out.old.items out.new.items result }
+    fn step(&mut self, event: Event, out: &mut Vec<u8>) -> Result<(), PlayKind>
+        ensures { Steps (in_store self.old (λ r. stepped r event)) self.new out.old.items out.new.items result }
     {
         self.open()?;
         let Some(world) = &mut self.world else {
             unreachable!()
         };
-        acts::step(self.alloc, world, job, now, out)
+        acts::step(self.alloc, world, event, out)
     }
 
-    fn finish(&mut self, job: JobId, now: u64, out: &mut Vec<u8>) -> Result<(), PlayKind>
-        ensures { Steps (in_store self.old (λ r. finished r job now)) self.new out.old.items out.new.items result }
+    fn finish(&mut self, event: Event, out: &mut Vec<u8>) -> Result<(), PlayKind>
+        ensures { Steps (in_store self.old (λ r. finished r event)) self.new out.old.items out.new.items result }
     {
         self.open()?;
         let Some(world) = &mut self.world else {
             unreachable!()
         };
-        acts::finish(self.alloc, world, job, now, out)
+        acts::finish(self.alloc, world, event, out)
     }
 
     fn list(&mut self, folder: u32, out: &mut Vec<u8>) -> Result<(), PlayKind>
@@ -131,9 +144,19 @@ impl StoreSession {
         };
         acts::list(self.alloc, world, folder, out)
     }
+
+    fn read(&mut self, unique: &[u8], out: &mut Vec<u8>) -> Result<(), PlayKind>
+        ensures { Steps (in_store self.old (λ r. reading_of r unique.now)) self.new out.old.items out.new.items result }
+    {
+        self.open()?;
+        let Some(world) = &self.world else {
+            unreachable!()
+        };
+        acts::read(world, unique, out)
+    }
 }
 
-impl StoreSession {
+impl<D: Storage> StoreSession<D> {
     fn unique(&mut self, parts: UniqueParts<'_>, out: &mut Vec<u8>) -> Result<(), PlayKind>
         ensures { Steps (says self.old (named_of parts.entry)) self.new out.old.items out.new.items result }
     {
@@ -151,7 +174,7 @@ impl StoreSession {
     }
 }
 
-impl Session for StoreSession {
+impl<D: Storage> Session for StoreSession<D> {
     ghost step = { session_line };
 
     fn run_line(&mut self, line: &[u8], out: &mut Vec<u8>) -> Result<(), PlayKind> {

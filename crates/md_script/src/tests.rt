@@ -6,6 +6,7 @@ mod faults;
 mod limits;
 mod lines;
 mod listing;
+mod plain;
 mod rows;
 mod setups;
 mod texts;

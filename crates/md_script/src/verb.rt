@@ -23,6 +23,7 @@ pub(crate) enum Verb {
     Step,
     Finish,
     List,
+    Read,
     Unique,
     Summary,
 }
@@ -35,6 +36,7 @@ pub(crate) enum JobVerb {
     Flag,
     Move,
     Expunge,
+    Copy,
     Clean,
 }
 
@@ -54,6 +56,8 @@ pub(crate) fn verb_from(word: &[u8]) -> Option<Verb>
         Some(Verb::Finish)
     } else if word == b"list".as_slice() {
         Some(Verb::List)
+    } else if word == b"read".as_slice() {
+        Some(Verb::Read)
     } else if word == b"unique".as_slice() {
         Some(Verb::Unique)
     } else if word == b"summary".as_slice() {
@@ -77,6 +81,8 @@ pub(crate) fn job_verb_from(word: &[u8]) -> Option<JobVerb>
         Some(JobVerb::Move)
     } else if word == b"expunge".as_slice() {
         Some(JobVerb::Expunge)
+    } else if word == b"copy".as_slice() {
+        Some(JobVerb::Copy)
     } else if word == b"clean".as_slice() {
         Some(JobVerb::Clean)
     } else {
@@ -90,9 +96,7 @@ pub(crate) fn admit(mode: Mode, verb: Verb) -> Result<(), PlayKind>
     ensures { result ≡ admitted mode verb }
 {
     match (mode, verb) {
-        (Mode::Playing { is_loaded: true }, Verb::Folder) => Err(PlayKind::TooLate),
-        // The store takes no files yet.
-        (Mode::Playing { .. }, Verb::File) => Err(PlayKind::BadCommand),
+        (Mode::Playing { is_loaded: true }, Verb::Folder | Verb::File) => Err(PlayKind::TooLate),
         (Mode::Playing { .. }, _) => Ok(()),
         (Mode::SettingUp { .. }, Verb::Folder | Verb::File) => Ok(()),
         (Mode::SettingUp { with_jobs: true }, Verb::Job) => Ok(()),

@@ -3,7 +3,7 @@ ghost use Rattle.std.specs.Prelude.{◌≡◌, true, IfOk};
 ghost use Rattle.std.specs.Option.{option_copied};
 ghost use Rattle.md_core.specs.Submitting.{has_machine};
 ghost use Rattle.md_script.specs.Words.{Gives};
-ghost use Rattle.md_script.specs.Jobs.{flags_of, tries_at, deliver_line, seen_line, flag_line, move_line, expunge_line, clean_line, job_line, IsPlayed};
+ghost use Rattle.md_script.specs.Jobs.{flags_of, tries_at, deliver_line, seen_line, flag_line, move_line, expunge_line, copy_line, clean_line, job_line, IsPlayed};
 
 use crate::command::image::folder;
 use crate::error::PlayKind;
@@ -42,6 +42,7 @@ pub(super) fn job_line(
         JobVerb::Flag => flag_line(alloc, folders, rest),
         JobVerb::Move => move_line(alloc, folders, rest),
         JobVerb::Expunge => expunge_line(alloc, folders, rest),
+        JobVerb::Copy => copy_line(alloc, folders, rest),
         JobVerb::Clean => clean_line(folders, rest),
     }
 }
@@ -134,6 +135,27 @@ fn expunge_line(alloc: Global, folders: &Folders, rest: Rest<'_>) -> Result<Call
     Ok(Call::Expunge {
         folder,
         unique,
+        tries,
+    })
+}
+
+#[tactic(auto, unfolding(crate::specs::Jobs::copy_line))]
+fn copy_line(alloc: Global, folders: &Folders, rest: Rest<'_>) -> Result<Call, PlayKind>
+    ensures call { Gives (λ call. call) result (copy_line folders.now (option_copied rest.entry)) }
+    ensures machine { IfOk result (λ call. has_machine call ≡ true) }
+{
+    let (from, rest) = folder(folders, rest)?;
+    let (unique, rest) = word(rest)?;
+    let (target, rest) = folder(folders, rest)?;
+    let (fresh, rest) = word(rest)?;
+    let tries = tries(rest)?;
+    let unique = Bytes::copied(alloc, unique)?;
+    let fresh = Bytes::copied(alloc, fresh)?;
+    Ok(Call::Copy {
+        folder: from,
+        unique,
+        to: target,
+        fresh,
         tries,
     })
 }

@@ -1,26 +1,39 @@
-//! The words of steps, listings and made names.
+//! The words of steps, listings, messages and made names.
 ghost use Rattle.std.specs.Prelude.{◌≡◌, IfOk};
 ghost use Rattle.std.specs.Option.{option_copied};
 ghost use Rattle.md_script.specs.Held.{Spells, IsFit};
-ghost use Rattle.md_script.specs.Commands.{moment_at, list_line, unique_line};
+ghost use Rattle.md_script.specs.Commands.{own_at, event_at, list_line, read_line, unique_line};
 
 use crate::command::Command;
 use crate::command::image::folder;
 use crate::error::PlayKind;
 use crate::folders::Folders;
 use crate::words::{Rest, end, number_word, word};
-use md_core::JobId;
+use md_core::Event;
 use md_name::UniqueParts;
 
-/// The last two words: a job and a moment.
-#[tactic(auto, unfolding(crate::specs::Commands::moment_at))]
-pub(super) fn moment(rest: Rest<'_>) -> Result<(JobId, u64), PlayKind>
-    ensures { result ≡ moment_at (option_copied rest.entry) }
+/// The last words: a job, a moment, and perhaps the job's own moment.
+#[tactic(auto, unfolding(crate::specs::Commands::event_at))]
+pub(super) fn event(rest: Rest<'_>) -> Result<Event, PlayKind>
+    ensures { result ≡ event_at (option_copied rest.entry) }
 {
     let (job, rest) = number_word(rest)?;
     let (now, rest) = number_word(rest)?;
+    let own = own(rest)?;
+    Ok(Event { job, now, own })
+}
+
+/// The last word as a number, where it is not left out.
+#[tactic(auto, unfolding(crate::specs::Commands::own_at))]
+fn own(rest: Rest<'_>) -> Result<Option<u64>, PlayKind>
+    ensures { result ≡ own_at (option_copied rest.entry) }
+{
+    if rest.is_none() {
+        return Ok(None);
+    }
+    let (own, rest) = number_word(rest)?;
     end(rest)?;
-    Ok((job, now))
+    Ok(Some(own))
 }
 
 /// The words of `list` after the first.
@@ -32,6 +45,17 @@ pub(super) fn list_line<'a>(folders: &Folders, rest: Rest<'a>) -> Result<Command
     let (folder, rest) = folder(folders, rest)?;
     end(rest)?;
     Ok(Command::List { folder })
+}
+
+/// The words of `read` after the first.
+#[tactic(auto, unfolding(crate::specs::Commands::read_line))]
+pub(super) fn read_line(rest: Rest<'_>) -> Result<Command<'_>, PlayKind>
+    ensures command { Spells result (read_line (option_copied rest.entry)) }
+    ensures fit { (folders mode : _) → IfOk result (IsFit folders mode) }
+{
+    let (unique, rest) = word(rest)?;
+    end(rest)?;
+    Ok(Command::Read { unique })
 }
 
 /// The words of `unique` after the first.

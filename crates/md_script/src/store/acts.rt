@@ -4,18 +4,18 @@ ghost use Rattle.md_core.specs.Machine.{job_at};
 ghost use Rattle.md_core.specs.Runs.{steps_left, jobs_of, answer_of};
 ghost use Rattle.md_core.specs.Submitting.{has_machine};
 ghost use Rattle.md_script.specs.Step.{Steps};
-ghost use Rattle.md_script.specs.Sessions.{submitted, stepped, finished, listing_of};
+ghost use Rattle.md_script.specs.Sessions.{submitted, stepped, finished, listing_of, reading_of};
 
 use crate::error::PlayKind;
 use crate::listing::push_listing;
-use crate::store::printing::{push_job, push_step};
-use md_core::{Call, JobId, World};
-use md_dirs::PlainDirs;
+use crate::storage::Storage;
+use crate::store::printing::{push_bytes, push_job, push_step};
+use md_core::{Call, Event, World};
 use std::alloc::Global;
 
 /// Submits a call, and prints the number of its job.
-pub(super) fn submit(
-    world: &mut World<PlainDirs>,
+pub(super) fn submit<D: Storage>(
+    world: &mut World<D>,
     call: Call,
     out: &mut Vec<u8>,
 ) -> Result<(), PlayKind>
@@ -27,57 +27,68 @@ pub(super) fn submit(
     Ok(())
 }
 
-/// Takes one step of a job, at a moment in seconds, and prints it.
-pub(super) fn step(
+/// Takes one step of a job, and prints it.
+pub(super) fn step<D: Storage>(
     alloc: Global,
-    world: &mut World<PlainDirs>,
-    job: JobId,
-    now: u64,
+    world: &mut World<D>,
+    event: Event,
     out: &mut Vec<u8>,
 ) -> Result<(), PlayKind>
-    ensures step { Steps (stepped world.old job now) world.new out.old.items out.new.items result }
-    ensures nearer { OnOk result (steps_left world.new job < steps_left world.old job) }
+    ensures step { Steps (stepped world.old event) world.new out.old.items out.new.items result }
+    ensures nearer { OnOk result (steps_left world.new event.job < steps_left world.old event.job) }
 {
     // The kit's borrow checker refuses a `?` here, where no signature names `Answer`.
-    let shown = match world.step(job, now, None) {
+    let shown = match world.step(event.job, event.now, event.own) {
         Ok(shown) => shown,
         Err(error) => return Err(PlayKind::from(error)),
     };
-    // Plain directories never fail, so that no step is marked.
+    // The directories never fail, so that no step is marked.
     world.counts();
-    push_step(alloc, out, job, shown)?;
+    push_step(alloc, out, event.job, shown)?;
     Ok(())
 }
 
-/// Takes steps of a job until it is answered, all at one moment in seconds, and prints them. A job that has its answer
+/// Takes steps of a job until it is answered, all at one moment, and prints them. A job that has its answer
 /// is refused.
-pub(super) fn finish(
+pub(super) fn finish<D: Storage>(
     alloc: Global,
-    world: &mut World<PlainDirs>,
-    job: JobId,
-    now: u64,
+    world: &mut World<D>,
+    event: Event,
     out: &mut Vec<u8>,
 ) -> Result<(), PlayKind>
-    ensures finish { Steps (finished world.old job now) world.new out.old.items out.new.items result }
-    ensures answered { OnOk result (is_some (answer_of (job_at (jobs_of world.new) job)) ≡ true) }
+    ensures finish { Steps (finished world.old event) world.new out.old.items out.new.items result }
+    ensures answered { OnOk result (is_some (answer_of (job_at (jobs_of world.new) event.job)) ≡ true) }
 {
-    step(alloc, world, job, now, out)?;
-    while world.answer(job).is_none() {
-        step(alloc, world, job, now, out)?;
+    step(alloc, world, event, out)?;
+    while world.answer(event.job).is_none() {
+        step(alloc, world, event, out)?;
     }
     Ok(())
 }
 
 /// Prints the messages of a folder.
 #[tactic(auto, unfolding(crate::specs::Sessions::listing_of))]
-pub(super) fn list(
+pub(super) fn list<D: Storage>(
     alloc: Global,
-    world: &World<PlainDirs>,
+    world: &World<D>,
     folder: u32,
     out: &mut Vec<u8>,
 ) -> Result<(), PlayKind>
     ensures { Steps (listing_of world.now folder) world.now out.old.items out.new.items result }
 {
     push_listing(alloc, world, folder, out)?;
+    Ok(())
+}
+
+/// Prints the bytes of the message of a unique name, or that there is none.
+#[tactic(auto, unfolding(crate::specs::Sessions::reading_of))]
+pub(super) fn read<D: Storage>(
+    world: &World<D>,
+    unique: &[u8],
+    out: &mut Vec<u8>,
+) -> Result<(), PlayKind>
+    ensures { Steps (reading_of world.now unique.now) world.now out.old.items out.new.items result }
+{
+    push_bytes(out, world.read(unique))?;
     Ok(())
 }

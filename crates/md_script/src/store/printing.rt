@@ -1,8 +1,9 @@
-//! What jobs and their steps print.
-ghost use Rattle.std.specs.Prelude.{◌≡◌, ◌++◌, Some, OnOk};
-ghost use Rattle.md_script.specs.Texts.{job_text, call_text, reply_text, answer_text, answer_line, out_text};
+//! What jobs, their steps and messages print.
+ghost use Rattle.std.specs.Prelude.{◌≡◌, ◌++◌, Some, OnOk, option_map};
+ghost use Rattle.md_script.specs.Texts.{job_text, call_text, reply_text, answer_text, answer_line, out_text, bytes_text};
 
 use crate::digits::push_number;
+use crate::escapes::push_escaped;
 use crate::listing::{place_text, push_letters};
 use md_core::{Answer, DirCall, DirReply, JobId, StepOut};
 use std::alloc::{AllocError, Global};
@@ -109,4 +110,19 @@ fn push_answer(alloc: Global, out: &mut Vec<u8>, answer: Answer) -> Result<(), A
         Answer::NameTaken => out.extend_from_slice(b"nametaken"),
         Answer::Fault => out.extend_from_slice(b"fault"),
     }
+}
+
+/// `bytes=` and the bytes of a message, with escapes, or `none`.
+pub(super) fn push_bytes(out: &mut Vec<u8>, bytes: Option<&[u8]>) -> Result<(), AllocError>
+    ensures { OnOk result (out.new.items ≡ out.old.items ++ bytes_text (option_map (λ b. b.now) bytes.entry)) }
+{
+    let Some(bytes) = bytes else {
+        out.extend_from_slice(b"none")?;
+        out.push(b'\n')?;
+        return Ok(());
+    };
+    out.extend_from_slice(b"bytes=")?;
+    push_escaped(out, bytes)?;
+    out.push(b'\n')?;
+    Ok(())
 }

@@ -57,11 +57,11 @@ fn the_first_bad_word_names_the_refusal(rt: HostRuntime) -> Result<(), Fail> {
         (b"job deliver i u 4 hello\\", PlayKind::BadEscape),
         (b"job deliver i u 4 a\\tb", PlayKind::BadEscape),
         (b"step 1", PlayKind::BadCommand),
-        (b"step 1 ", PlayKind::BadCommand),
-        (b"step 1 2 3", PlayKind::BadCommand),
+        (b"step 1 2 ", PlayKind::BadCommand),
+        (b"step 1 2 3 4", PlayKind::BadCommand),
         (b"step x 2 3", PlayKind::BadNumber),
         (b"step 1 +2", PlayKind::BadNumber),
-        (b"step 1 -2", PlayKind::BadNumber),
+        (b"step 1 2 -3 x", PlayKind::BadNumber),
         (b"finish 18446744073709551616 1", PlayKind::BadNumber),
         (b"finish 000000000000000000001 1", PlayKind::BadNumber),
         (b"unique 1 2 3 4", PlayKind::BadCommand),
@@ -97,11 +97,14 @@ fn lines_spell_commands(rt: HostRuntime) -> Result<(), Fail> {
     let cases: [(&[u8], &str); 9] = [
         (b"folder k", "Folder { name: [107] }"),
         (b"list j", "List { folder: 1 }"),
-        (b"step 007 0", "Step { job: 7, now: 0 }"),
-        (b"step 00000000000000000001 1", "Step { job: 1, now: 1 }"),
+        (b"step 007 0", "Step(Event { job: 7, now: 0, own: None })"),
+        (
+            b"step 00000000000000000001 1 2",
+            "Step(Event { job: 1, now: 1, own: Some(2) })",
+        ),
         (
             b"finish 1 18446744073709551615",
-            "Finish { job: 1, now: 18446744073709551615 }",
+            "Finish(Event { job: 1, now: 18446744073709551615, own: None })",
         ),
         (
             b"job deliver i u 4",

@@ -1,5 +1,6 @@
 //! Scripts of known transcripts.
 
+use crate::tests::plain::played;
 use crate::{PlayError, PlayKind, Writer, play};
 use std::io;
 use std::io::Write;
@@ -12,7 +13,7 @@ struct Row {
     prints: &'static [u8],
 }
 
-const ROWS: [Row; 20] = [
+const ROWS: [Row; 31] = [
     Row {
         shows: "a delivery is written in pieces, linked, and listed",
         script: b"folder inbox\njob deliver inbox 1000.M1P7Q1.a 4 hello\\n\nfinish 1 1000\nlist inbox\n",
@@ -57,6 +58,61 @@ const ROWS: [Row; 20] = [
         shows: "a flag change may have 16 tries",
         script: b"folder i\njob flag i u S - 16\n",
         prints: b"job 1\n",
+    },
+    Row {
+        shows: "a delivery is given up by its host's own clock, an hour ahead of the store's, after a day of its own",
+        script: b"folder i\njob deliver i u 9 hi\nstep 1 1000 4600\nstep 1 87399 90999\nstep 1 87400 91000\n",
+        prints: b"job 1\n1 create ok\n1 append 2 ok\n1 unlink ok\n1 answer timedout\n",
+    },
+    Row {
+        shows: "a job whose host's clock stands still finishes, however far the store's has come",
+        script: b"folder i\njob deliver i u 9 hi\nstep 1 1000\nfinish 1 1000000 1000\n",
+        prints: b"job 1\n1 create ok\n1 append 2 ok\n1 link ok\n1 unlink ok\n1 answer delivered\n",
+    },
+    Row {
+        shows: "a message is read from its link on, with escapes",
+        script: b"folder i\njob deliver i u 9 a\\\\b\\r\\n\nread u\nstep 1 1\nstep 1 1\nread u\nstep 1 1\nread u\nread v\n",
+        prints: b"job 1\nnone\n1 create ok\n1 append 5 ok\nnone\n1 link ok\nbytes=a\\\\b\\r\\n\nnone\n",
+    },
+    Row {
+        shows: "a word that can't be a unique name is no message's, and an empty message has no bytes",
+        script: b"folder i\njob deliver i u 9\nfinish 1 1\nread u:2,\nread .u\nread u\n",
+        prints: b"job 1\n1 create ok\n1 link ok\n1 unlink ok\n1 answer delivered\nnone\nnone\nbytes=\n",
+    },
+    Row {
+        shows: "a message is copied to another folder and its flags go with it",
+        script: b"folder a\nfolder b\njob deliver a u 9 x\nfinish 1 1\njob seen a u ST 1\nfinish 2 1\njob copy a u b v 1\nfinish 3 1\nlist a\nlist b\nread v\n",
+        prints: b"job 1\n1 create ok\n1 append 1 ok\n1 link ok\n1 unlink ok\n1 answer delivered\njob 2\n2 list new ok\n2 rename ok\n2 answer flags ST\njob 3\n3 list new ok\n3 list cur ok\n3 link ok\n3 answer copied\ncur u ST 1\ncur v ST 1\nbytes=x\n",
+    },
+    Row {
+        shows: "a copy into its own folder, whose message gets other flags between look-up and link, is lost",
+        script: b"folder a\njob deliver a u 9\nfinish 1 1\njob seen a u - 1\nfinish 2 1\njob copy a u a v 1\njob flag a u S - 1\nstep 3 1\nstep 3 1\nfinish 4 1\nstep 3 1\nlist a\n",
+        prints: b"job 1\n1 create ok\n1 link ok\n1 unlink ok\n1 answer delivered\njob 2\n2 list new ok\n2 rename ok\n2 answer flags -\njob 3\njob 4\n3 list new ok\n3 list cur ok\n4 list cur ok\n4 rename ok\n4 answer flags S\n3 link notfound\n3 answer lost\ncur u S 0\n",
+    },
+    Row {
+        shows: "two jobs flag one message: the one that comes second looks again, and no flag is lost",
+        script: b"folder i\nfile i cur u:2,S 0 x\njob flag i u F - 2\njob flag i u R - 2\nstep 1 1\nstep 2 1\nstep 1 1\nfinish 2 1\nlist i\n",
+        prints: b"job 1\njob 2\n1 list cur ok\n2 list cur ok\n1 rename ok\n1 answer flags FS\n2 rename notfound\n2 list cur ok\n2 rename ok\n2 answer flags FRS\ncur u FRS 1\n",
+    },
+    Row {
+        shows: "flags in another order and repeated are their set, and are written anew only where it changes",
+        script: b"folder i\nfile i cur u:2,TSSa 0 x\nlist i\njob flag i u S - 1\nfinish 1 1\njob flag i u F - 1\nfinish 2 1\nlist i\n",
+        prints: b"cur u STa 1\njob 1\n1 list cur ok\n1 answer flags STa\njob 2\n2 list cur ok\n2 rename ok\n2 answer flags FSTa\ncur u FSTa 1\n",
+    },
+    Row {
+        shows: "a store that begins with files lists its messages, other info and all, and no name with a dot in front",
+        script: b"folder i\nfile i cur u 0 x\nfile i cur v:1,x 0 x\nfile i cur .hid 0 x\nfile i new w:2,F 0 x\nlist i\njob flag i v S - 1\nfinish 1 1\n",
+        prints: b"cur u - 1\ncur v ? 1\nnew w F 1\njob 1\n1 list cur ok\n1 answer otherinfo\n",
+    },
+    Row {
+        shows: "the clock begins at the greatest stamp, that of a file in tmp included",
+        script: b"folder i\nfile i tmp x 90000 z\njob deliver i u 9\nstep 1 0\nfinish 1 100000\n",
+        prints: b"job 1\n1 create ok\n1 link ok\n1 unlink ok\n1 answer delivered\n",
+    },
+    Row {
+        shows: "files that no command needs are not checked",
+        script: b"folder i\nfile i cur u 0\nfile i cur u 0\nunique 1 2 3 4 a\nfolder k\n",
+        prints: b"unique 1.M2P3Q4.a\n",
     },
     Row {
         shows: "the empty script prints nothing",
@@ -116,14 +172,19 @@ const ROWS: [Row; 20] = [
 ];
 
 #[test]
-fn scripts_print_their_transcripts(rt: HostRuntime) {
+fn scripts_print_their_transcripts(rt: HostRuntime) -> Result<(), Fail> {
     for row in &ROWS {
         let mut script: &[u8] = row.script;
         let mut out = Vec::new(rt.alloc());
         let answer = play(rt.alloc(), &mut script, &mut out);
         assert_eq!(rt; answer, Ok(()), "{}", row.shows);
         assert_eq!(rt; out.as_slice(), row.prints, "{}", row.shows);
+
+        let plain = played(rt.alloc(), row.script)?;
+        assert_eq!(rt; plain.refusal, None, "{}", row.shows);
+        assert_eq!(rt; plain.text.as_slice(), row.prints, "{}", row.shows);
     }
+    Ok(())
 }
 
 /// A script that is refused: what it prints before, and the refusal.
@@ -133,7 +194,7 @@ struct Refused {
     text: &'static str,
 }
 
-const REFUSED: [Refused; 38] = [
+const REFUSED: [Refused; 49] = [
     Refused {
         script: b"folder a\nfolder b\njob move a u b 1\nfinish 1 1\nstep 1 1\n",
         prints: b"job 1\n1 list new ok\n1 list cur ok\n1 answer notthere\n",
@@ -237,11 +298,69 @@ const REFUSED: [Refused; 38] = [
         prints: b"",
         text: "line 3: too late",
     },
-    // A command that a script of this version has not is none, then too.
+    // Reading opens the store.
     Refused {
-        script: b"folder i\nlist i\nfile i new u 0\n",
+        script: b"folder i\nread u\nfolder j\n",
+        prints: b"none\n",
+        text: "line 3: too late",
+    },
+    Refused {
+        script: b"folder i\nread u v\n",
+        prints: b"",
+        text: "line 2: bad command",
+    },
+    // The name of a copy is used up when it is submitted.
+    Refused {
+        script: b"folder i\njob copy i u i v 1\njob deliver i v 4 z\n",
+        prints: b"job 1\n",
+        text: "line 3: name used",
+    },
+    Refused {
+        script: b"folder i\njob copy i u k v x\n",
+        prints: b"",
+        text: "line 2: unknown folder",
+    },
+    Refused {
+        script: b"folder i\njob copy i u i .v 1\n",
+        prints: b"",
+        text: "line 2: bad unique",
+    },
+    Refused {
+        script: b"folder i\nlist i\nfile i\n",
+        prints: b"",
+        text: "line 3: too late",
+    },
+    Refused {
+        script: b"folder i\nfolder k\nfile i new u 0 x\nfile k cur u:2,S 0 y\nlist i\n",
+        prints: b"",
+        text: "line 5: duplicate unique",
+    },
+    // Two files of one path come before a name that is none.
+    Refused {
+        script: b"folder i\nfile i cur a/b 0\nfile i cur u 0 x\nfile i cur u 0 y\nlist i\n",
+        prints: b"",
+        text: "line 5: same path twice",
+    },
+    // The words of the line that opens the store come before its files, and these before what the store answers.
+    Refused {
+        script: b"folder i\nfile i tmp a/b 0\nlist i x\n",
         prints: b"",
         text: "line 3: bad command",
+    },
+    Refused {
+        script: b"folder i\nfile i tmp a/b 0\nstep 7 1\n",
+        prints: b"",
+        text: "line 3: bad name",
+    },
+    Refused {
+        script: b"folder i\nfile i old u x\n",
+        prints: b"",
+        text: "line 2: bad place",
+    },
+    Refused {
+        script: b"folder i\nfile i new u 0 \\x\n",
+        prints: b"",
+        text: "line 2: bad escape",
     },
     Refused {
         script: b"folder i\njob delive i u 4\n",
@@ -260,7 +379,7 @@ const REFUSED: [Refused; 38] = [
     },
     // A word too many comes after the words, and before the store is asked.
     Refused {
-        script: b"folder i\nstep 7 1 0\n",
+        script: b"folder i\nstep 7 1 0 0\n",
         prints: b"",
         text: "line 2: bad command",
     },
@@ -343,6 +462,9 @@ fn a_refused_line_ends_the_transcript(rt: HostRuntime) -> Result<(), Fail> {
             Err(error) => {
                 let text = format!(in rt.alloc(); "{error}")?;
                 assert_eq!(rt; text.as_str(), row.text);
+                let plain = played(rt.alloc(), row.script)?;
+                assert_eq!(rt; plain.refusal, Some(error), "{}", row.text);
+                assert_eq!(rt; plain.text.as_slice(), row.prints, "{}", row.text);
             }
         }
         assert_eq!(rt; out.as_slice(), row.prints, "{}", row.text);

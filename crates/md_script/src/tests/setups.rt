@@ -22,13 +22,14 @@ Flag { folder: 1, unique: Bytes { items: [117] }, add: Flags { word: 262176 }, r
 #[test]
 fn the_calls_of_a_setup(rt: HostRuntime) -> Result<(), Fail> {
     let script =
-        b"folder a\nfolder b\njob deliver a u 4 x\njob seen a u S 1\njob move a u b 2\njob expunge b u 16\njob clean b";
+        b"folder a\nfolder b\njob deliver a u 4 x\njob seen a u S 1\njob move a u b 2\njob copy a u b v 3\njob expunge b u 16\njob clean b";
     let setup = image(rt.alloc(), script, true)?;
     let text = format!(in rt.alloc(); "{:?}", setup.calls)?;
     let want =
         "[Deliver { folder: 0, unique: Bytes { items: [117] }, body: Bytes { items: [120] }, chunk: 4 }, \
 Seen { folder: 0, unique: Bytes { items: [117] }, flags: Flags { word: 262144 }, tries: 1 }, \
 Move { folder: 0, unique: Bytes { items: [117] }, to: 1, tries: 2 }, \
+Copy { folder: 0, unique: Bytes { items: [117] }, to: 1, fresh: Bytes { items: [118] }, tries: 3 }, \
 Expunge { folder: 1, unique: Bytes { items: [117] }, tries: 16 }, \
 Clean { folder: 1 }]";
     assert_eq!(rt; text.as_str(), want);

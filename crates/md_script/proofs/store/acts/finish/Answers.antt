@@ -5,33 +5,33 @@ use Rattle.md_script.proofs.Finishing.{finishes-start, finishes-more, finishes-e
 use Rattle.md_script.proofs.store.acts.finish.Goals as goal
 
 pub loop-alloc-init : goal.loop-alloc-init
-loop-alloc-init c =
+loop-alloc-init g c =
     let step = c.in_ok-step.ensures.step in
-    (step.0, step.2, finishes-start _ _ _ _ _ step.1 c.in_ok-step.ensures.nearer)
+    (step.0, step.2, finishes-start _ _ _ _ step.1 c.in_ok-step.ensures.nearer)
 
 pub loop-alloc-preserved : goal.loop-alloc-preserved
-loop-alloc-preserved c =
+loop-alloc-preserved g c =
     let so_far = c.loop-alloc.invariant in
     let step = c.in_ok-step-2.ensures.step in (
       so_far.0 ++ step.0,
       step.2 ∙ ap (λ text. text ++ step.0) so_far.1 ∙ append_assoc c.args.out.now.items so_far.0 step.0,
-      finishes-more _ _ _ _ _ _ _ so_far.2 step.1 c.in_ok-step-2.ensures.nearer,
+      finishes-more _ _ _ _ _ _ so_far.2 step.1 c.in_ok-step-2.ensures.nearer,
     )
 
 pub returns-clause-finish : goal.returns-clause-finish
-returns-clause-finish c =
+returns-clause-finish g c =
     let so_far = c.loop-alloc.invariant in
-    (so_far.0, finishes-end _ _ _ _ _ so_far.2 (ap is_some (sym c.answer.ensures) ∙ c.loop-alloc-test.ensures), so_far.1)
+    (so_far.0, finishes-end _ _ _ _ so_far.2 (ap is_some (sym c.answer.ensures) ∙ c.loop-alloc-test.ensures), so_far.1)
 
 pub returns-in_err-step-clause-finish : goal.returns-in_err-step-clause-finish
-returns-in_err-step-clause-finish c =
+returns-in_err-step-clause-finish g c =
     passes _ _ _ _ _ _ c.from_residual.ensures.1
-    (finishes-refused c.args.world.now c.args.job c.args.now c.step.new.world c.step.new.world c.args.out.now.items c.step.new.out.items c.in_err-step.field-0.0 c.in_err-step.ensures.step)
+    (finishes-refused c.args.world.now c.args.event c.step.new.world c.step.new.world c.args.out.now.items c.step.new.out.items c.in_err-step.field-0.0 c.in_err-step.ensures.step)
 
 pub returns-in_err-step-2-clause-finish : goal.returns-in_err-step-2-clause-finish
-returns-in_err-step-2-clause-finish c =
-    passes (finished c.args.world.now c.args.job c.args.now) c.step-in-loop-alloc.new.world c.args.out.now.items c.step-in-loop-alloc.new.out.items c.in_err-step-2.field-0.0 _
+returns-in_err-step-2-clause-finish g c =
+    passes (finished c.args.world.now c.args.event) c.step-in-loop-alloc.new.world c.args.out.now.items c.step-in-loop-alloc.new.out.items c.in_err-step-2.field-0.0 _
     c.from_residual-in_err-step-2.ensures.1
-    (finishes-unrefused c.args.world.now c.args.job c.args.now c.loop-alloc.world c.loop-alloc.invariant.0 c.loop-alloc.invariant.2 (ap is_some (sym c.answer.ensures) ∙ c.loop-alloc-test.ensures)
-    (finished c.args.world.now c.args.job c.args.now) c.step-in-loop-alloc.new.world c.step-in-loop-alloc.new.world c.loop-alloc.out.items c.args.out.now.items c.step-in-loop-alloc.new.out.items
+    (finishes-unrefused c.args.world.now c.args.event c.loop-alloc.world c.loop-alloc.invariant.0 c.loop-alloc.invariant.2 (ap is_some (sym c.answer.ensures) ∙ c.loop-alloc-test.ensures)
+    (finished c.args.world.now c.args.event) c.step-in-loop-alloc.new.world c.step-in-loop-alloc.new.world c.loop-alloc.out.items c.args.out.now.items c.step-in-loop-alloc.new.out.items
     c.in_err-step-2.field-0.0 c.in_err-step-2.ensures.step)

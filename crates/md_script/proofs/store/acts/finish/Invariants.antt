@@ -4,7 +4,7 @@ use Rattle.md_script.proofs.Finishing.{Finishes}
 use Rattle.md_script.proofs.store.acts.finish.Given as goal
 
 abbrev pub invariant-loop-alloc : goal.invariant-loop-alloc
-invariant-loop-alloc l = (text : List ℕ) × (l.out.items ≡ l.fn.out.items ++ text) × Finishes l.fn.world l.job l.now l.world text
+invariant-loop-alloc g l = (text : List ℕ) × (l.out.items ≡ l.fn.out.items ++ text) × Finishes l.fn.world l.event l.world text
 
 abbrev pub decreases-loop-alloc : goal.decreases-loop-alloc
-decreases-loop-alloc l = steps_left l.world l.job
+decreases-loop-alloc g l = steps_left l.world l.event.job

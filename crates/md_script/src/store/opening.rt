@@ -1,0 +1,43 @@
+//! A store at its beginning.
+ghost use Rattle.std.specs.Prelude.{◌≡◌, IfOk};
+ghost use Rattle.md_script.specs.Words.{Gives};
+ghost use Rattle.md_script.specs.Sessions.{image_of, opened};
+
+use crate::error::PlayKind;
+use crate::storage::Storage;
+use md_core::World;
+use md_dirs::{DirError, ImageFile};
+use std::alloc::Global;
+
+/// A store over folders and files, or why there is none: two files have one path, or else a name that the store refuses.
+#[tactic(auto, unfolding(crate::specs::Sessions::opened))]
+pub(super) fn open_store<D: Storage>(
+    alloc: Global,
+    folders: u32,
+    files: Vec<ImageFile>,
+) -> Result<World<D>, PlayKind>
+    ensures { Gives (λ world. world) result (opened folders files.items) }
+{
+    let dirs = directories::<D>(alloc, folders, files)?;
+    match World::load(alloc, dirs) {
+        Ok(world) => Ok(world),
+        Err(refused) => Err(PlayKind::from(refused.error)),
+    }
+}
+
+/// The directories that the files are. The folder of each is there, so that the only refusal is that two have one path.
+#[tactic(auto, unfolding(crate::specs::Sessions::image_of))]
+fn directories<D: Storage>(
+    alloc: Global,
+    folders: u32,
+    files: Vec<ImageFile>,
+) -> Result<D, PlayKind>
+    ensures image { Gives D.state result (image_of folders files.items) }
+    ensures fresh { IfOk result (λ dirs. D.calls dirs ≡ 0) }
+{
+    match D::holding(alloc, folders, files) {
+        Ok(dirs) => Ok(dirs),
+        Err(DirError::NoMemory) => Err(PlayKind::NoMemory),
+        Err(_) => Err(PlayKind::SamePath),
+    }
+}
