@@ -239,14 +239,14 @@ read-directory (x ∷ xs) zero d within is = sym is
 read-directory (x ∷ xs) (suc i) d within is = read-directory xs i d (omega arith) is
 
 -- the rows of one directory
-is-here : (n : ℕ) (folder : ℕ) (place : Place) (a : List ℕ) → n ≡ directory_number folder place → is_in folder place (path_at n a) ≡ true
+pub is-here : (n : ℕ) (folder : ℕ) (place : Place) (a : List ℕ) → n ≡ directory_number folder place → is_in folder place (path_at n a) ≡ true
 is-here n folder place a is =
     let one : path_at n a ≡ path_of folder place a = ap (λ k. path_at k a) is ∙ path-number (path_of folder place a) in
     let folders : (folder == folder) ≡ true = grind (arith, nat_tests) in
     let places : (place_index place == place_index place) ≡ true = grind (arith, nat_tests) in
     ap (is_in folder place) one ∙ (λ i. folders i && places i)
 
-is-elsewhere : (n : ℕ) (folder : ℕ) (place : Place) (a : List ℕ) → n ≢ directory_number folder place → is_in folder place (path_at n a) ≡ false
+pub is-elsewhere : (n : ℕ) (folder : ℕ) (place : Place) (a : List ℕ) → n ≢ directory_number folder place → is_in folder place (path_at n a) ≡ false
 is-elsewhere n folder place a differ = by ((path_at n a).folder == folder) (place_index (path_at n a).place == place_index place) refl refl
   where
     by : (s t : Bool) → ((path_at n a).folder == folder) ≡ s → (place_index (path_at n a).place == place_index place) ≡ t → (s && t) ≡ false
