@@ -1,10 +1,10 @@
 -- Directories side by side: their rows are in order of their paths, and each path is looked up in its own directory.
-use Rattle.std.proofs.Common.{ℕ, zero, suc, ◌≡◌, ◌≢◌, ◌⊎◌, inl, inr, ◌+◌, ◌*◌, ◌/◌, ◌%◌, ◌<◌, ◌≤◌, ◌++◌, ◌==◌, ◌&&◌, List, [], ◌∷◌, Option, Some, None, Bool, true, false, cond, T, nat_eq, refl, sym, ap, subst, ◌∙◌, arith, length, map, filter, slice_get, slice_set, get_or, append-nil}
+use Rattle.std.proofs.Common.{ℕ, zero, suc, ◌≡◌, ◌≢◌, ◌+◌, ◌*◌, ◌/◌, ◌%◌, ◌<◌, ◌≤◌, ◌++◌, ◌==◌, ◌&&◌, List, [], ◌∷◌, Some, None, Bool, true, false, cond, T, refl, sym, ap, subst, ◌∙◌, arith, length, map, filter, slice_set, get_or, append-nil}
 use Rattle.std.proofs.lemmas.Bool.Decides.{nat_tests}
 use Rattle.std.proofs.lemmas.Cmp.{nat_cmp_total, tied_itself}
 use Rattle.std.specs.declared.cmp.Ordering.{Ordering}
 use Rattle.std.specs.declared.cmp.Ordering.TheVariants.{Less, Equal, Greater}
-use Rattle.std.specs.Ordering.{eq_by_cmp, is_lt, is_eq, ordering_reverse, ordering_then, nat_cmp}
+use Rattle.std.specs.Ordering.{is_lt, is_eq, ordering_reverse, ordering_then, nat_cmp}
 use Rattle.std.specs.FinMap as finmap
 use Rattle.std.specs.FinMap.{find, is_sorted, from_sorted, get-from_sorted, get-entries, get-empty, entries_sorted, entries-from_sorted, same_map, empty_of_len, len-entries}
 use Rattle.std.specs.FinMap.Entries.{below_all}

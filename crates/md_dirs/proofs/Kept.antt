@@ -61,19 +61,6 @@ refused ask old f e is not_fault not_memory = record {
   not_failed = λ _. refl;
 }
 
--- a call that found no memory
-pub wanting : {T : Type 0} (ask : Ask) (old : State) (f : ℕ) → ask.refusal old ≡ None → Obeys {T = T} ask old f (Err NoMemory) old f
-wanting ask old f is = record {
-  accepted = tt;
-  done = tt;
-  exists = λ h. cc;
-  not_found = λ h. cc;
-  no_memory = λ h. is;
-  unchanged = refl;
-  failed = λ h. cc;
-  not_failed = λ _. refl;
-}
-
 -- a call that is made
 pub made : {T : Type 0} (ask : Ask) (old : State) (f : ℕ) (x : T) (new : State) → ask.refusal old ≡ None → new ≡ ask.after old → Obeys ask old f (Ok x) new f
 made ask old f x new is after = record {

@@ -1,5 +1,5 @@
 -- The rows of one directory, side by side among all rows in order.
-use Rattle.std.proofs.Common.{ℕ, zero, suc, ◌≡◌, ◌≢◌, ◌+◌, ◌-◌, ◌<◌, ◌≤◌, ◌&&◌, List, [], ◌∷◌, Bool, true, false, cond, T, IsTrue, nat_lt, leb, ltb, ltb-true, ltb-false, leb-true, leb-false, refl, sym, ap, subst, ◌∙◌, arith, length, map, filter, take, drop, get_or, slice_get, Option}
+use Rattle.std.proofs.Common.{ℕ, zero, suc, ◌≡◌, ◌≢◌, ◌+◌, ◌-◌, ◌<◌, ◌≤◌, ◌&&◌, List, [], ◌∷◌, Bool, true, false, cond, T, nat_lt, leb, ltb, ltb-true, ltb-false, leb-true, leb-false, refl, sym, ap, subst, ◌∙◌, arith, length, map, filter, take, drop, get_or, slice_get, Option}
 use Rattle.std.proofs.lemmas.Bool.Decides.{nat_tests}
 use Rattle.std.specs.Option.{option_map}
 use Rattle.std.specs.List.Sorted.{IsNonDecreasingBy, IsPartitionPoint}
@@ -16,7 +16,6 @@ use Rattle.md_dirs.specs.declared.paths.Path.{Path}
 use Rattle.md_dirs.specs.declared.paths.Place.{Place}
 use Rattle.md_dirs.specs.declared.paths.Place.TheVariants.{Tmp}
 use Rattle.md_dirs.proofs.PathOrder.{path_total}
-use Rattle.md_dirs.proofs.Sorted.{holds, is_true}
 use Rattle.md_dirs.proofs.Sound.{by_number}
 use Rattle.md_dirs.proofs.Rowed.{get-map}
 use Rattle.md_dirs.proofs.Directories.{path-number, same-directory, lower-directory, is-here, is-elsewhere}

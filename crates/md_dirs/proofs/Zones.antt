@@ -1,5 +1,5 @@
 -- The first name of a message among names in order.
-use Rattle.std.proofs.Common.{ℕ, zero, suc, ◌≡◌, ◌≢◌, ◌+◌, ◌-◌, ◌<◌, ◌≤◌, ◌==◌, ◌&&◌, ◌++◌, List, [], ◌∷◌, Option, Some, None, Bool, true, false, cond, T, length, nat_eq, nat_lt, refl, sym, ap, subst, ◌∙◌, arith, get_or, slice_get, drop, take, map, find as first_with}
+use Rattle.std.proofs.Common.{ℕ, zero, suc, ◌≡◌, ◌≢◌, ◌<◌, ◌≤◌, ◌==◌, ◌&&◌, List, [], ◌∷◌, Option, Some, None, Bool, true, false, cond, T, length, nat_eq, nat_lt, refl, sym, ap, subst, ◌∙◌, arith, slice_get, drop, take, map, find as first_with}
 use Rattle.std.proofs.lemmas.Bool.Decides.{nat_tests}
 use Rattle.std.specs.List.{starts_with}
 use Rattle.std.specs.Cmp.Lexicographic.{pointwise}

@@ -1,4 +1,4 @@
-use Rattle.std.proofs.Common.{ℕ, ◌≡◌, ◌<◌, ◌∙◌, false, length, get_or, ltb, sym, ap, arith, rules}
+use Rattle.std.proofs.Common.{ℕ, ◌∙◌, ltb, sym, ap, arith, rules}
 use Rattle.std.proofs.lemmas.List.Sorted.{IsPartitionPoint-from_clause, IsPartitionedBy-ltb}
 use Rattle.md_dirs.specs.Rows.{is_named as is_named_by}
 use Rattle.md_dirs.specs.Find.{zone}

@@ -1,4 +1,4 @@
-use Rattle.std.proofs.Common.{ℕ, List, Some, None, ◌≡◌, ◌∙◌, sym, ap, refl, cond, map, ltb-true, ltb-false}
+use Rattle.std.proofs.Common.{ℕ, List, Some, None, ◌∙◌, sym, ap, refl, cond, map, ltb-true, ltb-false}
 use Rattle.std.proofs.lemmas.Option.{slice_get_read}
 use Rattle.std.specs.Option.{option_and_then, option_map}
 use Rattle.md_dirs.specs.Rows.{is_named as is_named_by}

@@ -1,6 +1,6 @@
 use Rattle.std.proofs.Common.{ℕ, List, ◌∙◌, sym, ap, map, IsSome}
 use Rattle.md_dirs.specs.State.{file_by}
-use Rattle.md_dirs.specs.Files.{files_of, name_row}
+use Rattle.md_dirs.specs.Files.{files_of}
 use Rattle.md_dirs.specs.Index.{named_row}
 use Rattle.md_dirs.proofs.Sorted.{holds}
 use Rattle.md_dirs.proofs.Sliced.{rows-listed, each-named}
