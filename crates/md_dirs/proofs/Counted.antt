@@ -1,7 +1,6 @@
 -- The count of a file's names, as paths come and go.
-use Rattle.std.proofs.Common.{ℕ, zero, suc, ◌≡◌, ◌≢◌, ◌+◌, ◌-◌, ◌<◌, ◌≤◌, ◌++◌, ◌==◌, ◌||◌, List, [], ◌∷◌, Option, Some, None, Bool, true, false, cond, not, T, ◌&&◌, nat_eq, nat_le, refl, sym, ap, subst, ◌∙◌, arith, length, map, slice_get, slice_set, filter, IsSome, is_some}
+use Rattle.std.proofs.Common.{ℕ, zero, suc, ◌≡◌, ◌≢◌, ◌+◌, ◌-◌, ◌<◌, ◌≤◌, ◌++◌, ◌==◌, ◌||◌, List, [], ◌∷◌, Option, Some, None, Bool, true, false, cond, not, T, ◌&&◌, nat_le, refl, sym, ap, subst, ◌∙◌, arith, length, map, slice_get, slice_set, filter}
 use Rattle.std.proofs.lemmas.Bool.Decides.{nat_tests}
-use Rattle.std.specs.List.{list_any}
 use Rattle.std.specs.Option.{option_map, option_flatten}
 use Rattle.std.specs.declared.cmp.Ordering.{Ordering}
 use Rattle.std.specs.declared.cmp.Ordering.TheVariants.{Less, Equal, Greater}
@@ -10,16 +9,16 @@ use Rattle.std.specs.FinMap as finmap
 use Rattle.std.specs.FinMap.{find, is_sorted, entries, entries_sorted, from_sorted, entries-from_sorted, get-from_sorted, get-entries, get-remove, entries-insert, same_map}
 use Rattle.std.specs.FinMap.Entries.{put, where_key, below_all, by_order, is_sorted-where_key}
 use Rattle.md_dirs.specs.Path.{path_cmp}
-use Rattle.md_dirs.specs.State.{State, IsSound, file_by}
+use Rattle.md_dirs.specs.State.{file_by}
 use Rattle.md_dirs.specs.Calls.{is_named, released}
 use Rattle.md_dirs.specs.Index.{PathMap}
-use Rattle.md_dirs.specs.Files.{files_of, slot_at, names_held, paths_of, IsCounted, kept_state, grown_slot, named_again, named_less, let_go}
+use Rattle.md_dirs.specs.Files.{files_of, slot_at, names_held, paths_of, named_less, let_go}
 use Rattle.md_dirs.specs.declared.paths.Path.{Path}
 use Rattle.md_dirs.specs.declared.paths.File.{File}
 use Rattle.md_dirs.specs.declared.files.Kept.{Kept}
 use Rattle.md_dirs.proofs.PathOrder.{path_total, path_exact}
 use Rattle.md_dirs.proofs.Kept.{find-other}
-use Rattle.md_dirs.proofs.Sound.{by_number, get-set_same, get-set_other, file-within}
+use Rattle.md_dirs.proofs.Sound.{by_number, get-set_same, get-set_other}
 
 first : (a b : Bool) → T (a && b) → T a
 first true b p = tt

@@ -1,10 +1,10 @@
 -- Directories side by side: their rows are in order of their paths, and each path is looked up in its own directory.
-use Rattle.std.proofs.Common.{ℕ, zero, suc, ◌≡◌, ◌≢◌, ◌⊎◌, inl, inr, ◌+◌, ◌*◌, ◌/◌, ◌%◌, ◌<◌, ◌≤◌, ◌++◌, ◌==◌, ◌&&◌, List, [], ◌∷◌, Option, Some, None, Bool, true, false, cond, T, nat_eq, refl, sym, ap, subst, ◌∙◌, arith, length, map, filter, slice_get, slice_set, get_or, append-nil}
+use Rattle.std.proofs.Common.{ℕ, zero, suc, ◌≡◌, ◌≢◌, ◌+◌, ◌*◌, ◌/◌, ◌%◌, ◌<◌, ◌≤◌, ◌++◌, ◌==◌, ◌&&◌, List, [], ◌∷◌, Some, None, Bool, true, false, cond, T, refl, sym, ap, subst, ◌∙◌, arith, length, map, filter, slice_set, get_or, append-nil}
 use Rattle.std.proofs.lemmas.Bool.Decides.{nat_tests}
 use Rattle.std.proofs.lemmas.Cmp.{nat_cmp_total, tied_itself}
 use Rattle.std.specs.declared.cmp.Ordering.{Ordering}
 use Rattle.std.specs.declared.cmp.Ordering.TheVariants.{Less, Equal, Greater}
-use Rattle.std.specs.Ordering.{eq_by_cmp, is_lt, is_eq, ordering_reverse, ordering_then, nat_cmp}
+use Rattle.std.specs.Ordering.{is_lt, is_eq, ordering_reverse, ordering_then, nat_cmp}
 use Rattle.std.specs.FinMap as finmap
 use Rattle.std.specs.FinMap.{find, is_sorted, from_sorted, get-from_sorted, get-entries, get-empty, entries_sorted, entries-from_sorted, same_map, empty_of_len, len-entries}
 use Rattle.std.specs.FinMap.Entries.{below_all}
@@ -239,14 +239,14 @@ read-directory (x ∷ xs) zero d within is = sym is
 read-directory (x ∷ xs) (suc i) d within is = read-directory xs i d (omega arith) is
 
 -- the rows of one directory
-is-here : (n : ℕ) (folder : ℕ) (place : Place) (a : List ℕ) → n ≡ directory_number folder place → is_in folder place (path_at n a) ≡ true
+pub is-here : (n : ℕ) (folder : ℕ) (place : Place) (a : List ℕ) → n ≡ directory_number folder place → is_in folder place (path_at n a) ≡ true
 is-here n folder place a is =
     let one : path_at n a ≡ path_of folder place a = ap (λ k. path_at k a) is ∙ path-number (path_of folder place a) in
     let folders : (folder == folder) ≡ true = grind (arith, nat_tests) in
     let places : (place_index place == place_index place) ≡ true = grind (arith, nat_tests) in
     ap (is_in folder place) one ∙ (λ i. folders i && places i)
 
-is-elsewhere : (n : ℕ) (folder : ℕ) (place : Place) (a : List ℕ) → n ≢ directory_number folder place → is_in folder place (path_at n a) ≡ false
+pub is-elsewhere : (n : ℕ) (folder : ℕ) (place : Place) (a : List ℕ) → n ≢ directory_number folder place → is_in folder place (path_at n a) ≡ false
 is-elsewhere n folder place a differ = by ((path_at n a).folder == folder) (place_index (path_at n a).place == place_index place) refl refl
   where
     by : (s t : Bool) → ((path_at n a).folder == folder) ≡ s → (place_index (path_at n a).place == place_index place) ≡ t → (s && t) ≡ false

@@ -1,14 +1,14 @@
 -- What each call answers and leaves, of paths as a finite map and files with the counts of their names.
-use Rattle.std.proofs.Common.{ℕ, zero, suc, ◌≡◌, ◌≢◌, ◌+◌, ◌<◌, ◌≤◌, ◌++◌, ◌==◌, inl, inr, List, [], ◌∷◌, Option, Some, None, Bool, true, false, cond, Ok, Err, refl, sym, ap, subst, ◌∙◌, arith, length, map, slice_set, get_or, IsSome, is_some, MatchOption, filter, slice_get}
+use Rattle.std.proofs.Common.{ℕ, zero, suc, ◌≡◌, ◌≢◌, ◌+◌, ◌<◌, ◌++◌, ◌==◌, inl, inr, List, [], ◌∷◌, Option, Some, None, Bool, true, false, cond, Ok, Err, refl, sym, ap, subst, ◌∙◌, arith, length, map, slice_set, get_or, IsSome, is_some, MatchOption, filter, slice_get}
 use Rattle.std.proofs.lemmas.Bool.Decides.{nat_tests}
 use Rattle.std.proofs.lemmas.List.{map-append}
 use Rattle.std.proofs.lemmas.Option.{slice_get-get_or}
-use Rattle.std.specs.Option.{option_map, option_flatten, option_and_then}
+use Rattle.std.specs.Option.{option_map, option_and_then}
 use Rattle.std.specs.FinMap as finmap
 use Rattle.std.specs.FinMap.{entries, entries_sorted, get-entries, same_map, from_sorted, entries-from_sorted, empty_of_len, len-entries}
 use Rattle.md_dirs.specs.Path.{path_cmp}
 use Rattle.md_dirs.specs.State.{State, IsSound, file_by, file_at, bare, bytes_at_path}
-use Rattle.md_dirs.specs.Calls.{Obeys, make, placed, append, link, rename, unlink, appended, grown, named, unnamed, moved, is_one_file, swept, released, without as dirs_without}
+use Rattle.md_dirs.specs.Calls.{Obeys, placed, append, link, rename, unlink, appended, grown, named, unnamed, moved, is_one_file, swept, released, without as dirs_without}
 use Rattle.md_dirs.specs.Rows.{is_in, rows_of, row_of, row_by}
 use Rattle.md_dirs.specs.Index.{PathMap, rows_in, named_row}
 use Rattle.md_dirs.specs.Files.{files_of, slot_at, names_held, paths_of, IsCounted, kept_state, grown_slot, named_again, let_go, name_row}
@@ -16,14 +16,13 @@ use Rattle.md_dirs.specs.declared.paths.Path.{Path}
 use Rattle.md_dirs.specs.declared.paths.Place.{Place}
 use Rattle.md_dirs.specs.declared.paths.File.{File}
 use Rattle.md_dirs.specs.declared.files.Kept.{Kept}
-use Rattle.md_dirs.specs.declared.calls.DirError.{DirError}
-use Rattle.md_dirs.specs.declared.calls.DirError.TheVariants.{Exists, NotFound}
+use Rattle.md_dirs.specs.declared.calls.DirError.TheVariants.{NotFound}
 use Rattle.md_dirs.proofs.PathOrder.{path_total, path_exact}
 use Rattle.md_dirs.proofs.Maps as maps
 use Rattle.md_dirs.proofs.Among.{Among, among-find}
 use Rattle.md_dirs.proofs.Rowed.{get-map}
 use Rattle.md_dirs.proofs.Kept.{made, refused}
-use Rattle.md_dirs.proofs.Sound.{by_path, by_number, file-within, some_file, sound-bare, sound-placed, sound-appended, sound-named, sound-without, sound-moved}
+use Rattle.md_dirs.proofs.Sound.{by_path, by_number, file-within, sound-bare, sound-placed, sound-appended, sound-named, sound-without, sound-moved}
 use Rattle.md_dirs.proofs.Steps.{lt_true, link-refusal, rename-refusal}
 use Rattle.md_dirs.proofs.Counted.{hits, paths-insert, paths-remove, map-set, length-files, file-slot, slot-set_same, slot-set_other, slot-last, slot-early, held-none, let_go-counted, let_go-files}
 

@@ -7,18 +7,15 @@ use Rattle.std.specs.FinMap.{find, is_sorted, same_map, same_entries_map, get-fr
 use Rattle.std.specs.FinMap.Entries.{put, where_key, is_sorted-put, is_sorted-where_key, find-where_key}
 use Rattle.md_dirs.specs.Path.{path_cmp}
 use Rattle.md_dirs.specs.Plain.{IsAt, IsGap}
-use Rattle.md_dirs.specs.State.{State, IsSound, file_at, bare}
-use Rattle.md_dirs.specs.Calls.{Ask, Obeys, released, swept}
-use Rattle.md_dirs.specs.Plain.{IsWhole, state_of}
+use Rattle.md_dirs.specs.State.{State}
+use Rattle.md_dirs.specs.Calls.{Ask, Obeys}
 use Rattle.md_dirs.specs.declared.paths.Path.{Path}
-use Rattle.md_dirs.specs.declared.paths.File.{File}
 use Rattle.md_dirs.specs.declared.calls.DirError.{DirError}
 use Rattle.md_dirs.specs.declared.calls.DirError.TheVariants.{Exists, NotFound, Fault, NoMemory}
 use Rattle.md_dirs.proofs.PathOrder.{path_total, path_exact}
 use Rattle.md_dirs.proofs.Sorted.{holds, is_true}
-use Rattle.md_dirs.proofs.Sound.{sound-bare}
 
-abbrev Sorted : List (Path × ℕ) → Type 0
+abbrev pub Sorted : List (Path × ℕ) → Type 0
 Sorted es = IsTrue (is_sorted path_cmp es)
 
 pub sorted-insert : (rows : List (Path × ℕ)) (p : Path) (i n : ℕ) → Sorted rows → IsGap rows p i → Sorted (insert rows i (p, n))
@@ -64,19 +61,6 @@ refused ask old f e is not_fault not_memory = record {
   not_failed = λ _. refl;
 }
 
--- a call that found no memory
-pub wanting : {T : Type 0} (ask : Ask) (old : State) (f : ℕ) → ask.refusal old ≡ None → Obeys {T = T} ask old f (Err NoMemory) old f
-wanting ask old f is = record {
-  accepted = tt;
-  done = tt;
-  exists = λ h. cc;
-  not_found = λ h. cc;
-  no_memory = λ h. is;
-  unchanged = refl;
-  failed = λ h. cc;
-  not_failed = λ _. refl;
-}
-
 -- a call that is made
 pub made : {T : Type 0} (ask : Ask) (old : State) (f : ℕ) (x : T) (new : State) → ask.refusal old ≡ None → new ≡ ask.after old → Obeys ask old f (Ok x) new f
 made ask old f x new is after = record {
@@ -90,27 +74,11 @@ made ask old f x new is after = record {
   not_failed = λ _. refl;
 }
 
--- what the rows of a whole state say of a path
-pub found : (folders : ℕ) (rows : List (Path × ℕ)) (files : List (Option File)) (p : Path) → IsWhole folders rows files → file_at (state_of folders rows files) p ≡ find path_cmp p rows
-found folders rows files p whole = at-names rows p whole.sorted
-
--- rows and files that are a sound state
-pub whole-of : (folders : ℕ) (rows : List (Path × ℕ)) (files : List (Option File)) (s : State) → Sorted rows → state_of folders rows files ≡ s → IsSound s → IsWhole folders rows files
-whole-of folders rows files s sorted is sound = record { sorted = sorted; sound = subst IsSound (sym is) sound }
-
--- giving a file back, as the rows have it
-pub released-is : (folders : ℕ) (rows : List (Path × ℕ)) (files : List (Option File)) (o : Option ℕ) → Sorted rows → state_of folders rows (released rows o files) ≡ swept o (state_of folders rows files)
-released-is folders rows files o sorted =
-    (λ k. record { folders = folders; names = from_sorted rows; files = released (sym (entries-from_sorted path_cmp rows (holds _ sorted)) k) o files })
-
 -- no row
-pub state_of-none : (folders : ℕ) → state_of folders [] [] ≡ bare folders
-state_of-none folders =
-    let none : finmap.entries (from_sorted {R = path_cmp} []) ≡ [] = entries-from_sorted path_cmp [] tt in
-    (λ i. record { folders = folders; names = empty_of_len (from_sorted {R = path_cmp} []) (len-entries (from_sorted {R = path_cmp} []) ∙ ap length none) i; files = [] })
-
-pub whole-none : (folders : ℕ) → IsWhole folders [] []
-whole-none folders = whole-of folders [] [] (bare folders) refl (state_of-none folders) (sound-bare folders)
+pub listed-none : (rows : List (Path × ℕ)) → rows ≡ [] → from_sorted {R = path_cmp} rows ≡ finmap.empty
+listed-none rows none =
+    let no-rows : finmap.entries (from_sorted {R = path_cmp} []) ≡ [] = entries-from_sorted path_cmp [] tt in
+    ap (from_sorted {R = path_cmp}) none ∙ empty_of_len (from_sorted {R = path_cmp} []) (len-entries (from_sorted {R = path_cmp} []) ∙ ap length no-rows)
 
 pub sorted-put : (rows : List (Path × ℕ)) (p : Path) (n : ℕ) → Sorted rows → Sorted (put path_cmp p n rows)
 sorted-put rows p n sorted = is_true _ (is_sorted-put path_cmp path_total p n rows (holds _ sorted))

@@ -15,3 +15,4 @@ pub mod NameRows
 pub mod Renamed
 pub mod Zones
 pub mod Directories
+pub mod Sliced

@@ -1,12 +1,12 @@
 -- The rows of a directory's hash table: what they have at a name, and that they stay in order.
-use Rattle.std.proofs.Common.{◌⊎◌, inl, inr, ℕ, zero, suc, ◌≡◌, ◌+◌, ◌<◌, ◌≤◌, List, [], ◌∷◌, Option, Some, None, Bool, true, false, cond, T, ◌&&◌, IsTrue, length, nat_eq, refl, sym, ap, subst, ◌∙◌, arith, add-one, get_or, slice_get, take, ◌++◌}
+use Rattle.std.proofs.Common.{◌⊎◌, inl, inr, ℕ, zero, suc, ◌≡◌, ◌+◌, ◌<◌, List, [], ◌∷◌, Option, Some, None, Bool, true, false, cond, T, ◌&&◌, IsTrue, length, nat_eq, refl, sym, ap, subst, ◌∙◌, arith, get_or, slice_get, take, ◌++◌}
 use Rattle.std.specs.declared.cmp.Ordering.{Ordering}
 use Rattle.std.specs.declared.cmp.Ordering.TheVariants.{Less, Equal, Greater}
 use Rattle.std.specs.declared.vec.Vec.{Vec}
 use Rattle.std.specs.Ordering.{eq_by_cmp, is_lt, is_eq, ordering_reverse, nat_cmp}
 use Rattle.std.specs.Cmp.{IsTotalOrder, eq_by_cmp_equiv, unsigned_ties}
-use Rattle.std.specs.Cmp.Lexicographic.{pointwise, lists_ties, slice_cmp}
-use Rattle.std.specs.List.{IsDistinct, AllByRecursion}
+use Rattle.std.specs.Cmp.Lexicographic.{pointwise, lists_ties}
+use Rattle.std.specs.List.{IsDistinct}
 use Rattle.std.specs.List.Sorted.{IsSorted}
 use Rattle.std.specs.Map.{keys_of, lookup, remove_entry}
 use Rattle.std.specs.Option.{option_map}
@@ -16,7 +16,7 @@ use Rattle.std.specs.FinMap.Entries.{below_all}
 use Rattle.std.proofs.lemmas.Cmp.{nat_list_cmp_total}
 use Rattle.std.proofs.lemmas.List.{take_more}
 use Rattle.std.proofs.lemmas.Map.Lookups.{CmpEqualImpliesEq, exact_bytes}
-use Rattle.md_dirs.specs.Index.{NameMap, name_cmp, rows_by_name}
+use Rattle.md_dirs.specs.Index.{name_cmp, rows_by_name}
 use Rattle.md_dirs.proofs.Sorted.{holds, is_true}
 use Rattle.md_dirs.proofs.Rowed.{get-map}
 

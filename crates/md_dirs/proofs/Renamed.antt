@@ -1,19 +1,19 @@
 -- A row that takes the place of one: the rows stay in order, and the names are as after a name that comes and one that goes.
-use Rattle.std.proofs.Common.{◌⊎◌, inl, inr, ℕ, zero, suc, ◌≡◌, ◌+◌, ◌-◌, ◌<◌, ◌≤◌, ◌++◌, List, [], ◌∷◌, Option, Some, None, Bool, true, false, cond, T, ◌&&◌, IsTrue, length, refl, sym, ap, subst, ◌∙◌, arith, get_or, slice_get, slice_set, map, swap, IsSome}
+use Rattle.std.proofs.Common.{ℕ, zero, suc, ◌≡◌, ◌+◌, ◌-◌, ◌<◌, ◌++◌, List, [], ◌∷◌, Option, Some, None, Bool, true, false, cond, T, ◌&&◌, IsTrue, length, refl, sym, ap, subst, ◌∙◌, arith, get_or, slice_set, swap, IsSome}
 use Rattle.std.specs.declared.cmp.Ordering.{Ordering}
 use Rattle.std.specs.declared.cmp.Ordering.TheVariants.{Less, Equal, Greater}
 use Rattle.std.specs.declared.vec.Vec.{Vec}
 use Rattle.std.specs.Ordering.{eq_by_cmp, is_lt, is_eq, ordering_reverse}
-use Rattle.std.specs.Option.{IfSome, option_to_list}
-use Rattle.std.specs.Map.{lookup, lookup_key}
+use Rattle.std.specs.Option.{option_to_list}
+use Rattle.std.specs.Map.{lookup_key}
 use Rattle.std.proofs.lemmas.List.Edits.{swap_is}
 use Rattle.std.specs.FinMap as finmap
 use Rattle.std.specs.FinMap.{is_sorted, from_sorted, same_map, get-insert, get-remove}
 use Rattle.std.specs.FinMap.Entries.{below_all}
-use Rattle.md_dirs.specs.Index.{NameMap, name_cmp, rows_by_name, order_at, FitsAt, get_name, Renames}
+use Rattle.md_dirs.specs.Index.{name_cmp, rows_by_name, FitsAt, Renames}
 use Rattle.md_dirs.proofs.Sorted.{holds, is_true}
 use Rattle.md_dirs.proofs.Counted.{map-set}
-use Rattle.md_dirs.proofs.NameRows.{Row, InOrder, by, same, name_total, name_exact, get-rows, length-rows, below-trans, turned-test, agree, renamed-lookups}
+use Rattle.md_dirs.proofs.NameRows.{Row, InOrder, by, same, name_total, name_exact, get-rows, length-rows, below-trans, turned-test, renamed-lookups}
 
 first : (a b : Bool) → T (a && b) → T a
 first true b p = tt

@@ -1,5 +1,5 @@
 -- The first name of a message among names in order.
-use Rattle.std.proofs.Common.{ℕ, zero, suc, ◌≡◌, ◌≢◌, ◌+◌, ◌-◌, ◌<◌, ◌≤◌, ◌==◌, ◌&&◌, ◌++◌, List, [], ◌∷◌, Option, Some, None, Bool, true, false, cond, T, length, nat_eq, nat_lt, refl, sym, ap, subst, ◌∙◌, arith, get_or, slice_get, drop, take, map, find as first_with}
+use Rattle.std.proofs.Common.{ℕ, zero, suc, ◌≡◌, ◌≢◌, ◌<◌, ◌≤◌, ◌==◌, ◌&&◌, List, [], ◌∷◌, Option, Some, None, Bool, true, false, cond, T, length, nat_eq, nat_lt, refl, sym, ap, subst, ◌∙◌, arith, slice_get, drop, take, map, find as first_with}
 use Rattle.std.proofs.lemmas.Bool.Decides.{nat_tests}
 use Rattle.std.specs.List.{starts_with}
 use Rattle.std.specs.Cmp.Lexicographic.{pointwise}
@@ -7,7 +7,7 @@ use Rattle.std.proofs.lemmas.Cmp.{tied_itself}
 use Rattle.std.specs.Option.{option_and_then, option_map}
 use Rattle.std.specs.declared.cmp.Ordering.{Ordering}
 use Rattle.std.specs.declared.cmp.Ordering.TheVariants.{Less, Equal, Greater}
-use Rattle.std.specs.Ordering.{is_lt, is_eq, eq_by_cmp, nat_cmp, ordering_then}
+use Rattle.std.specs.Ordering.{is_lt, is_eq, eq_by_cmp, nat_cmp, ordering_then, ordering_reverse}
 use Rattle.std.specs.FinMap.{find, is_sorted}
 use Rattle.std.specs.FinMap.Entries.{below_all}
 use Rattle.md_dirs.specs.Rows.{is_named, ends_unique, row_named, row_by}
@@ -299,3 +299,62 @@ found-among u P (e ∷ es) r all is = by (found-among u P es r (λ i x at. all (
     by : (Some r ≡ first_with (λ x. is_named u x.0) es → P r) → (b : Bool) → Some r ≡ cond b (Some e) (first_with (λ x. is_named u x.0) es) → P r
     by rest true h = let one : e ≡ r = cc in subst P one (all 0 e refl)
     by rest false h = rest h
+
+-- a name below the unique name stands below it, and any other at it or above
+pub below-name : (u a : List ℕ) → nat_lt (zone u a) 1 ≡ is_lt (name_cmp a u)
+below-name u a = by (name_cmp a u) refl
+  where
+    at-least : 1 ≤ zone u a → nat_lt (zone u a) 1 ≡ false
+    at-least h = grind (arith, nat_tests)
+
+    by : (o : Ordering) → name_cmp a u ≡ o → nat_lt (zone u a) 1 ≡ is_lt o
+    by Less is =
+        let under = zone-order u a u is in
+        let one = zone-same u in
+        let differ : zone u a ≢ 1 = (λ z. let tie : name_cmp a u ≡ Equal = ap (λ w. name_cmp w u) (zone-one u a z) ∙ tied_itself name_total u in cc) in
+        let low : zone u a < 1 = omega arith in
+        grind (arith, nat_tests)
+    by Equal is = at-least (let at : zone u a ≡ 1 = ap (zone u) (name_exact a u is) ∙ zone-same u in omega arith)
+    by Greater is =
+        let over = zone-order u u a (name_total.antisymm u a ∙ ap ordering_reverse is) in
+        let one = zone-same u in
+        at-least (omega arith)
+
+-- where the rows begin that are not below the unique name: the row there is the first, if it has the unique name
+pub name-point : (u : List ℕ) (es : List (List ℕ × ℕ)) (i : ℕ) → i < length es → ((k : ℕ) → k < i → zone u (name_at es k) < 1) → is_named u (name_at es i) ≡ true → IsFirstPlace es u i
+name-point u [] i within before named = absurd (omega arith)
+name-point u (e ∷ es) zero within before named =
+    ap (λ b. cond b (Some e) (first_with (λ r. is_named u r.0) es)) named ∙ sym (ap (λ b. cond b (Some e) None) named)
+name-point u (e ∷ es) (suc i) within before named =
+    let low : zone u e.0 < 1 = before 0 (omega arith) in
+    let none : zone u e.0 ≡ 0 = omega arith in
+    let not : is_named u e.0 ≡ false = named-zone u e.0 ∙ ap is_zone none in
+    ap (λ b. cond b (Some e) (first_with (λ r. is_named u r.0) es)) not ∙ name-point u es i (omega arith) (λ k below. before (suc k) (omega arith)) named
+
+-- and else the unique name itself is not there
+name-absent : (u : List ℕ) (es : List (List ℕ × ℕ)) → ((k : ℕ) → k < length es → zone u (name_at es k) ≢ 1) → find name_cmp u es ≡ None
+name-absent u [] differ = refl
+name-absent u (e ∷ es) differ = by (name-absent u es (λ k within. differ (suc k) (omega arith))) (eq_by_cmp name_cmp u e.0) refl
+  where
+    equal : (o : Ordering) → is_eq o ≡ true → o ≡ Equal
+    equal Less p = cc
+    equal Equal p = refl
+    equal Greater p = cc
+
+    by : find name_cmp u es ≡ None → (b : Bool) → eq_by_cmp name_cmp u e.0 ≡ b → cond b (Some e.1) (find name_cmp u es) ≡ None
+    by rest true t = absurd (differ 0 (omega arith) (ap (zone u) (sym (name_exact u e.0 (equal _ t))) ∙ zone-same u))
+    by rest false t = rest
+
+pub name-missing : (u : List ℕ) (es : List (List ℕ × ℕ)) (i : ℕ) → T (is_sorted name_cmp es) → ((k : ℕ) → k < i → zone u (name_at es k) < 1) → ((k : ℕ) → i ≤ k → k < length es → 1 ≤ zone u (name_at es k))
+    → (i < length es → is_named u (name_at es i) ≡ false) → find name_cmp u es ≡ None
+name-missing u es i h before behind unnamed = name-absent u es (λ k within z. by k within z (nat_lt k i) refl)
+  where
+    by : (k : ℕ) → k < length es → zone u (name_at es k) ≡ 1 → (b : Bool) → nat_lt k i ≡ b → ⊥
+    by k within z true t = let early : k < i = grind (arith, nat_tests) in let low = before k early in omega arith
+    by k within z false t =
+        let late : i ≤ k = grind (arith, nat_tests) in
+        let high = behind i (omega arith) (omega arith) in
+        let up = zone-sorted u es i k h late within in
+        let one : zone u (name_at es i) ≡ 1 = omega arith in
+        let named : is_named u (name_at es i) ≡ true = named-zone u (name_at es i) ∙ ap is_zone one in
+        let not = unnamed (omega arith) in cc

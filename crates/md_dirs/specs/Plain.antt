@@ -1,22 +1,10 @@
 -- Rows in the order of their paths, as the plain directories hold them.
-use Rattle.std.specs.Prelude.{ℕ, ◌≡◌, ◌<◌, ◌≤◌, ◌+◌, List, ◌∷◌, Option, Some, None, IsTrue, not, length, drop, slice_set, insert, remove}
+use Rattle.std.specs.Prelude.{ℕ, ◌≡◌, ◌<◌, ◌≤◌, ◌+◌, List, ◌∷◌, Some, None, not, length, drop, slice_set, insert, remove}
 use Rattle.std.specs.Ordering.{eq_by_cmp}
-use Rattle.std.specs.FinMap as finmap
-use Rattle.std.specs.FinMap.{find, is_sorted}
+use Rattle.std.specs.FinMap.{find}
 use Rattle.std.specs.FinMap.Entries.{put, where_key}
 use Rattle.md_dirs.specs.Path.{path_cmp}
-use Rattle.md_dirs.specs.State.{State, IsSound}
 use Rattle.md_dirs.specs.declared.paths.Path.{Path}
-use Rattle.md_dirs.specs.declared.paths.File.{File}
-
--- the state that rows and files are
-abbrev pub state_of : ℕ → List (Path × ℕ) → List (Option File) → State
-state_of folders rows files = record { folders = folders; names = finmap.from_sorted rows; files = files }
-
--- rows in the order of their paths, each with the number of a file
-pub record IsWhole (folders : ℕ) (rows : List (Path × ℕ)) (files : List (Option File)) : Type 0 where
-  pub sorted : IsTrue (is_sorted path_cmp rows)
-  pub sound : IsSound (state_of folders rows files)
 
 -- the row of the path is at i
 pub record IsAt (rows : List (Path × ℕ)) (p : Path) (i : ℕ) : Type 0 where

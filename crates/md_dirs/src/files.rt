@@ -1,7 +1,8 @@
 // Files by their numbers, each with the number of its names.
-ghost use Rattle.std.specs.Prelude.{◌≡◌, ◌<◌, OnOk, OnErr, IfOk, IfSome, MatchOption, IsSome, length};
+ghost use Rattle.std.specs.Prelude.{◌≡◌, ◌<◌, Some, OnOk, OnErr, IfOk, IfSome, MatchOption, IsSome, length};
 ghost use Rattle.std.specs.Option.{option_map};
 ghost use Rattle.md_dirs.specs.State.{file_by};
+ghost use Rattle.md_dirs.specs.Calls.{is_one_file};
 ghost use Rattle.md_dirs.specs.Rows.{row_shown, row_by};
 ghost use Rattle.md_dirs.specs.Files.{files_of, grown_slot, named_less, let_go, name_row};
 
@@ -14,6 +15,16 @@ use std::alloc::{AllocError, Global};
 pub struct Kept {
     pub file: File,
     pub names: usize,
+}
+
+// Whether a path names that file.
+pub fn is_same(there: Option<usize>, file: usize) -> bool
+    ensures { result ≡ is_one_file (Some file) there }
+{
+    match there {
+        Some(other) => file == other,
+        None => false,
+    }
 }
 
 // Adds bytes at the end of a file.

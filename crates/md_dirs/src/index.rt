@@ -1,18 +1,16 @@
 // Directories as one hash table for each, in order of names, and the files in the order of their making.
-mod changes;
 mod load;
 mod loose;
 mod names;
 mod tree;
 
 use crate::calls::{DirError, Dirs};
+use crate::changes::{add_file, add_name};
 use crate::count::Count;
-use crate::files::{Kept, found_row, grow_slot, release_one, shown_row};
+use crate::files::{Kept, found_row, grow_slot, is_same, release_one, shown_row};
 use crate::image::ImageFile;
 use crate::paths::{File, Path, Place};
-use crate::plain::is_same;
 use crate::rows::{Row, RowRef};
-use changes::{add_file, add_name};
 use load::Loading;
 use md_name::Bytes;
 use std::alloc::Global;

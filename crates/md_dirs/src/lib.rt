@@ -2,6 +2,7 @@
 #![tactic(auto)]
 
 mod calls;
+mod changes;
 mod count;
 mod fail_at;
 mod files;

@@ -1,6 +1,7 @@
 // Where a file has a name, and what it holds.
-ghost use Rattle.std.specs.Prelude.{◌≡◌, IfOk};
+ghost use Rattle.std.specs.Prelude.{◌≡◌, ◌<◌, ◌^◌, IfOk};
 ghost use Rattle.md_dirs.specs.Path.{path_cmp, path_of};
+ghost use Rattle.md_dirs.specs.Index.{directory_number};
 
 use md_name::Bytes;
 use std::alloc::{AllocError, Global};
@@ -56,4 +57,12 @@ pub fn compare(path: &Path, folder: u32, place: Place, name: &[u8]) -> Ordering
         },
         other => other,
     }
+}
+
+// The number of a directory.
+pub fn number_of(folder: u32, place: Place) -> usize
+    ensures number { result ≡ directory_number folder place }
+    ensures small { result < 2 ^ 40 }
+{
+    folder as usize * 3 + place as usize
 }

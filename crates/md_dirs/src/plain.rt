@@ -1,46 +1,44 @@
 // Directories as one list of rows in the order of their paths, and the files in the order of their making. The slot of a file that no path names any more is empty.
-mod changes;
-mod looks;
+mod list;
 mod search;
 
 use crate::calls::{DirError, Dirs};
+use crate::changes::{Paths, add_file, add_name};
 use crate::count::Count;
+use crate::files::{Kept, found_row, grow_slot, is_same, release_one, shown_row};
 use crate::image::ImageFile;
 use crate::paths::{File, Path, Place};
 use crate::rows::{Row, RowRef};
-pub(crate) use changes::is_same;
-use changes::{add_file, grow, put_row, release};
-use looks::{nth_row, row_of, rows_in};
+use list::PathList;
 use md_name::Bytes;
-use search::{file_of, find_name, find_row};
 use std::alloc::Global;
 use std::marker::Model;
 
 /// The plain directories: one list of rows, in the order of folder, place and name.
 ///
-/// A look-up is a search of the list. `unlink`, and a `rename` over another file, look through all rows for another name
-/// of the file; a listing and `row_at` look through all rows. No call copies the bytes of a file, and room is made before
-/// anything is changed. They never fault.
+/// A name, the first row of a directory and one message of it are found by halving. A name that comes or goes moves the rows
+/// behind it. Each file knows how many names it has. No call copies the bytes of a file, and room is made before anything is
+/// changed. They never fault.
 #[derive(Drop)]
 pub struct PlainDirs {
     alloc: Global,
     folders: u32,
-    rows: Vec<(Path, usize)>,
-    files: Vec<Option<File>>,
+    names: PathList,
+    slots: Vec<Option<Kept>>,
     calls: Count,
 }
 
 impl Model for PlainDirs {
     ghost use Rattle.md_dirs.specs.State.{Counted, counted_code};
-    ghost use Rattle.md_dirs.specs.Plain.{IsWhole, state_of};
+    ghost use Rattle.md_dirs.specs.Files.{IsCounted, kept_state};
 
     ghost Value = { Counted };
 
     ghost coded = { counted_code };
 
-    ghost view = { λ d. record { state = state_of d.folders d.rows.items d.files.items; calls = d.calls.value } };
+    ghost view = { λ d. record { state = kept_state d.folders d.names d.slots.items; calls = d.calls.value } };
 
-    ghost invariant = { λ d. IsWhole d.folders d.rows.items d.files.items };
+    ghost invariant = { λ d. IsCounted d.folders d.names d.slots.items };
 }
 
 impl PlainDirs {
@@ -57,8 +55,8 @@ impl PlainDirs {
         PlainDirs {
             alloc,
             folders,
-            rows: Vec::new(alloc),
-            files: Vec::new(alloc),
+            names: PathList::new(alloc),
+            slots: Vec::new(alloc),
             calls: Count::zero(),
         }
     }
@@ -89,14 +87,20 @@ impl PlainDirs {
         if file.path.folder >= self.folders {
             return Err(DirError::NotFound);
         }
-        let Err(at) = find_row(&self.rows, &file.path) else {
+        if self.names.file_at(&file.path).is_some() {
             return Err(DirError::Exists);
-        };
+        }
         let made = File {
             bytes: file.bytes,
             stamp: file.stamp,
         };
-        add_file(&mut self.rows, &mut self.files, at, file.path, made)?;
+        add_file(
+            &mut self.names,
+            &mut self.slots,
+            self.alloc,
+            file.path,
+            made,
+        )?;
         Ok(())
     }
 }
@@ -113,32 +117,32 @@ impl Dirs for PlainDirs {
             self.calls.raise();
             return Err(DirError::NotFound);
         }
-        let Err(at) = find_row(&self.rows, path) else {
+        if self.names.file_at(path).is_some() {
             self.calls.raise();
             return Err(DirError::Exists);
-        };
+        }
         let name = path.again(self.alloc)?;
         let file = File {
             bytes: Bytes::of(Vec::new(self.alloc)),
             stamp: now,
         };
-        add_file(&mut self.rows, &mut self.files, at, name, file)?;
+        add_file(&mut self.names, &mut self.slots, self.alloc, name, file)?;
         self.calls.raise();
         Ok(())
     }
 
     fn append(&mut self, path: &Path, bytes: &[u8], now: u64) -> Result<(), DirError> {
-        let Some(file) = file_of(&self.rows, path) else {
+        let Some(file) = self.names.file_at(path) else {
             self.calls.raise();
             return Err(DirError::NotFound);
         };
-        grow(&mut self.files[file], bytes, now)?;
+        grow_slot(&mut self.slots[file], bytes, now)?;
         self.calls.raise();
         Ok(())
     }
 
     fn link(&mut self, old: &Path, new: &Path) -> Result<(), DirError> {
-        let Some(file) = file_of(&self.rows, old) else {
+        let Some(file) = self.names.file_at(old) else {
             self.calls.raise();
             return Err(DirError::NotFound);
         };
@@ -146,18 +150,18 @@ impl Dirs for PlainDirs {
             self.calls.raise();
             return Err(DirError::NotFound);
         }
-        let Err(at) = find_row(&self.rows, new) else {
+        if self.names.file_at(new).is_some() {
             self.calls.raise();
             return Err(DirError::Exists);
-        };
+        }
         let name = new.again(self.alloc)?;
-        self.rows.insert(at, (name, file))?;
+        add_name(&mut self.names, &mut self.slots, self.alloc, name, file)?;
         self.calls.raise();
         Ok(())
     }
 
     fn rename(&mut self, old: &Path, new: &Path) -> Result<(), DirError> {
-        let Ok(from) = find_row(&self.rows, old) else {
+        let Some(file) = self.names.file_at(old) else {
             self.calls.raise();
             return Err(DirError::NotFound);
         };
@@ -165,27 +169,25 @@ impl Dirs for PlainDirs {
             self.calls.raise();
             return Err(DirError::NotFound);
         }
-        let file = self.rows[from].1;
-        let there = file_of(&self.rows, new);
+        let there = self.names.file_at(new);
         if is_same(there, file) {
             self.calls.raise();
             return Ok(());
         }
         let name = new.again(self.alloc)?;
-        let _row = self.rows.remove(from);
-        put_row(&mut self.rows, name, file)?;
-        release(&self.rows, &mut self.files, there);
+        self.names.put(self.alloc, name, file)?;
+        let _gone = self.names.take(old);
+        release_one(&mut self.slots, there);
         self.calls.raise();
         Ok(())
     }
 
     fn unlink(&mut self, path: &Path) -> Result<(), DirError> {
-        let Ok(at) = find_row(&self.rows, path) else {
+        let Some(file) = self.names.take(path) else {
             self.calls.raise();
             return Err(DirError::NotFound);
         };
-        let row = self.rows.remove(at);
-        release(&self.rows, &mut self.files, Some(row.1));
+        release_one(&mut self.slots, Some(file));
         self.calls.raise();
         Ok(())
     }
@@ -195,9 +197,20 @@ impl Dirs for PlainDirs {
             self.calls.raise();
             return Err(DirError::NotFound);
         }
-        let rows = rows_in(self.alloc, &self.rows, &self.files, folder, place)?;
+        let rows = self.names.rows_of(self.alloc, folder, place, &self.slots)?;
         self.calls.raise();
         Ok(rows)
+    }
+
+    fn find(&mut self, folder: u32, place: Place, unique: &[u8]) -> Result<Option<Row>, DirError> {
+        if folder >= self.folders {
+            self.calls.raise();
+            return Err(DirError::NotFound);
+        }
+        let found = self.names.find(folder, place, unique);
+        let row = found_row(self.alloc, &self.slots, found)?;
+        self.calls.raise();
+        Ok(row)
     }
 
     fn folders(&self) -> u32 {
@@ -205,17 +218,15 @@ impl Dirs for PlainDirs {
     }
 
     fn row_at(&self, folder: u32, place: Place, at: usize) -> Option<RowRef<'_>> {
-        let row = nth_row(&self.rows, folder, place, at)?;
-        Some(row_of(&self.files, row))
+        let (name, file) = self.names.row_at(folder, place, at)?;
+        Some(shown_row(&self.slots, name, file))
     }
 
     fn read(&self, folder: u32, place: Place, name: &[u8]) -> Option<&[u8]> {
-        let Ok(at) = find_name(&self.rows, folder, place, name) else {
+        let file = self.names.file_of(folder, place, name)?;
+        let Some(kept) = &self.slots[file] else {
             return None;
         };
-        let Some(file) = &self.files[self.rows[at].1] else {
-            return None;
-        };
-        Some(file.bytes.as_slice())
+        Some(kept.file.bytes.as_slice())
     }
 }

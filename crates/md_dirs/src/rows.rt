@@ -65,6 +65,13 @@ pub fn is_named(name: &[u8], unique: &[u8]) -> bool
     name.starts_with(unique) && ends_unique_name(&name[unique.len()..])
 }
 
+// Whether a name is below a unique name.
+pub fn is_below(name: &[u8], unique: &[u8]) -> bool
+    ensures { result ≡ nat_lt (zone unique.now name.now) 1 }
+{
+    name.cmp(unique).is_lt()
+}
+
 // Whether what stands behind a unique name ends, or goes on before a colon.
 fn goes_before_colon(rest: &[u8]) -> bool
     ensures { result ≡ before_colon rest.now }

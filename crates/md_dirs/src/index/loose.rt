@@ -4,8 +4,8 @@ ghost use Rattle.std.specs.FinMap as finmap;
 ghost use Rattle.md_dirs.specs.Index.{directory_at};
 
 use crate::index::names::Names;
-use crate::index::tree::{Tree, number_of};
-use crate::paths::Path;
+use crate::index::tree::Tree;
+use crate::paths::{Path, number_of};
 use indexmap::IndexMap;
 use std::alloc::{AllocError, Global};
 use std::marker::Model;

@@ -8,9 +8,10 @@ ghost use Rattle.md_dirs.specs.Rows.{is_named};
 ghost use Rattle.md_dirs.specs.Index.{directory_number, directory_at, rows_in};
 ghost use Rattle.md_dirs.specs.Files.{files_of, name_row};
 
+use crate::changes::Paths;
 use crate::files::Kept;
 use crate::index::names::Names;
-use crate::paths::{Path, Place};
+use crate::paths::{Path, Place, number_of};
 use crate::rows::Row;
 use std::alloc::{AllocError, Global};
 use std::marker::Model;
@@ -29,14 +30,6 @@ impl Model for Tree {
     ghost coded = { map_code };
 
     ghost view = { λ t. names_of t.directories.items };
-}
-
-// The number of a directory.
-pub(crate) fn number_of(folder: u32, place: Place) -> usize
-    ensures number { result ≡ directory_number folder place }
-    ensures small { result < 2 ^ 40 }
-{
-    folder as usize * 3 + place as usize
 }
 
 // Makes empty directories up to one. Where memory is wanting, there may be more of them.
@@ -77,18 +70,6 @@ impl Tree {
             return None;
         }
         self.directories[number].file_of(name)
-    }
-
-    /// Gives a path to a file, also in place of the one that it named. Where memory is wanting, nothing has changed.
-    pub fn put(&mut self, alloc: Global, path: Path, file: usize) -> Result<(), AllocError>
-        ensures ok { OnOk result (self.new ≡ finmap.insert self.old path file) }
-        ensures err { OnErr result (self.new ≡ self.old) }
-    {
-        let number = number_of(path.folder, path.place);
-        make_directory(&mut self.directories, alloc, number)?;
-        let directory = &mut self.directories[number];
-        directory.put(path.name.into_vec(), file)?;
-        Ok(())
     }
 
     /// Takes a path away, and gives the number of its file. It takes no memory.
@@ -177,6 +158,18 @@ impl Tree {
         }
         self.put(alloc, new, file)?;
         let _gone = self.take(old);
+        Ok(())
+    }
+}
+
+impl Paths for Tree {
+    ghost names = { λ p. p };
+
+    fn put(&mut self, alloc: Global, path: Path, file: usize) -> Result<(), AllocError> {
+        let number = number_of(path.folder, path.place);
+        make_directory(&mut self.directories, alloc, number)?;
+        let directory = &mut self.directories[number];
+        directory.put(path.name.into_vec(), file)?;
         Ok(())
     }
 }

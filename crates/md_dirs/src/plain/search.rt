@@ -1,13 +1,17 @@
-// Where a path is among rows in order.
-ghost use Rattle.std.specs.Prelude.{◌≡◌, IsTrue, IfOk, IfErr};
-ghost use Rattle.std.specs.FinMap.{is_sorted, find};
+// Where paths are among rows in order, by halving.
+ghost use Rattle.std.specs.Prelude.{◌≡◌, IsTrue, IfOk, IfErr, filter, map};
+ghost use Rattle.std.specs.FinMap.{is_sorted};
 ghost use Rattle.md_dirs.specs.Path.{path_cmp, path_of};
 ghost use Rattle.md_dirs.specs.Plain.{IsAt, IsGap};
+ghost use Rattle.md_dirs.specs.Rows.{is_in};
+ghost use Rattle.md_dirs.specs.Find.{IsFirstPlace};
+ghost use Rattle.md_dirs.specs.Index.{name_cmp, named_row, directory_number};
 
-use crate::paths::{Path, Place, compare};
+use crate::paths::{Path, Place, compare, number_of};
+use crate::rows::{is_below, is_below_info, is_named};
 use std::cmp::Ordering;
 
-// Where the row of a name in a directory is, or where it would go, by halving.
+// Where the row of a name in a directory is, or where it would go.
 pub fn find_name(
     rows: &[(Path, usize)],
     folder: u32,
@@ -40,13 +44,32 @@ pub fn find_row(rows: &[(Path, usize)], path: &Path) -> Result<usize, usize>
     find_name(rows, path.folder, path.place, path.name.as_slice())
 }
 
-// The number of the file of a path.
-pub fn file_of(rows: &[(Path, usize)], path: &Path) -> Option<usize>
-    requires { IsTrue (is_sorted path_cmp rows.now) }
-    ensures { result ≡ find path_cmp path.now rows.now }
+// The number of the directory of a row.
+fn directory_of(row: &(Path, usize)) -> usize
+    ensures { result ≡ directory_number row.now.0.folder row.now.0.place }
 {
-    match find_row(rows, path) {
-        Ok(at) => Some(rows[at].1),
-        Err(_) => None,
+    number_of(row.0.folder, row.0.place)
+}
+
+// The rows of a directory, which stand side by side.
+pub fn directory(rows: &[(Path, usize)], folder: u32, place: Place) -> &[(Path, usize)]
+    requires { IsTrue (is_sorted path_cmp rows.now) }
+    ensures { result.now ≡ filter (λ e. is_in folder place e.0) rows.now }
+{
+    let number = number_of(folder, place);
+    let first = rows.partition_point(|row| directory_of(row) < number);
+    let end = rows.partition_point(|row| directory_of(row) <= number);
+    &rows[first..end]
+}
+
+// Where the first name of a directory's rows is that has a unique name.
+pub fn first_place(rows: &[(Path, usize)], unique: &[u8]) -> usize
+    requires { IsTrue (is_sorted name_cmp (map named_row rows.now)) }
+    ensures { IsFirstPlace (map named_row rows.now) unique.now result }
+{
+    let at = rows.partition_point(|row| is_below(row.0.name.as_slice(), unique));
+    if at < rows.len() && is_named(rows[at].0.name.as_slice(), unique) {
+        return at;
     }
+    rows.partition_point(|row| is_below_info(row.0.name.as_slice(), unique))
 }

@@ -1,10 +1,13 @@
 // Calls over plain directories, hashed ones, and directories of which no call is to fail: equal replies, rows, finds and bytes.
 ghost use Rattle.std.specs.Prelude.{◌<◌};
 
-use super::PLACES;
-use crate::{Bytes, DirError, Dirs, FailAt, IndexDirs, Path, Place, PlainDirs, Row, RowRef};
+use super::thousand::CALLS;
+use super::{
+    At, Call, PLACES, are_alike, is_same_answer, is_same_look, make_again, make_call, perform,
+};
+use crate::{DirError, Dirs, FailAt, IndexDirs, PlainDirs};
 use Call::{Append, Create, Find, Link, List, Rename, Unlink};
-use std::alloc::{AllocError, Global};
+use std::alloc::Global;
 use std::process::Abort;
 
 // Names that begin alike, with bytes below and above the colon, and two that don't.
@@ -16,33 +19,23 @@ static UNIQUES: [&[u8]; 7] = [b"m", b"m!", b"n", b"mm", b"l", b"", b"o"];
 
 static BODIES: [&[u8]; 3] = [b"", b"x", b"From "];
 
-// A name in a directory.
-#[derive(Clone, Copy)]
-struct At {
-    folder: u32,
-    place: Place,
-    name: &'static [u8],
-}
-
-impl At {
-    fn path(self, alloc: Global) -> Result<Path, AllocError> {
-        Ok(Path {
-            folder: self.folder,
-            place: self.place,
-            name: Bytes::copied(alloc, self.name)?,
-        })
+// A call of a kind, on one name or two, and of a choice among bytes or unique names.
+fn call_of(kind: usize, at: At, other: At, more: usize) -> Call {
+    match kind {
+        0 => Create(at),
+        1 => Append(at, BODIES[more % 3]),
+        2 => Link(at, other),
+        3 => Unlink(at),
+        4 => List(at.0, at.1),
+        5 => Find(at.0, at.1, UNIQUES[more % 7]),
+        _ => Rename(at, other),
     }
 }
 
-#[derive(Clone, Copy)]
-enum Call {
-    Create(At),
-    Append(At, &'static [u8]),
-    Link(At, At),
-    Rename(At, At),
-    Unlink(At),
-    List(u32, Place),
-    Find(u32, Place, &'static [u8]),
+// A name in one of two folders, or seldom in the third, which is not there.
+fn at_of(folder: usize, place: usize, name: usize) -> At {
+    let folder = if folder == 7 { 2 } else { (folder % 2) as u32 };
+    At(folder, PLACES[place % 3], NAMES[name % 11])
 }
 
 // The digits of a number, each to its own base.
@@ -61,135 +54,41 @@ impl Digits {
         digit as usize
     }
 
-    fn place(&mut self) -> Place {
-        match self.below(3) {
-            0 => Place::Tmp,
-            1 => Place::New,
-            _ => Place::Cur,
-        }
-    }
-
-    // A folder of two, or seldom the third, which is not there.
-    fn folder(&mut self) -> u32 {
-        match self.below(8) {
-            7 => 2,
-            digit => digit as u32 % 2,
-        }
-    }
-
     fn at(&mut self) -> At {
-        At {
-            folder: self.folder(),
-            place: self.place(),
-            name: NAMES[self.below(11)],
-        }
+        at_of(self.below(8), self.below(3), self.below(11))
+    }
+
+    fn call(&mut self) -> Call {
+        call_of(self.below(8), self.at(), self.at(), self.below(21))
     }
 }
 
 // The call of a number.
-fn call_of(code: u32) -> Call {
+fn random_call(code: u32) -> Call {
     let mut digits = Digits { left: code };
-    match digits.below(8) {
-        0 => Create(digits.at()),
-        1 => Append(digits.at(), BODIES[digits.below(3)]),
-        2 => Link(digits.at(), digits.at()),
-        3 => Unlink(digits.at()),
-        4 => List(digits.folder(), digits.place()),
-        5 => Find(digits.folder(), digits.place(), UNIQUES[digits.below(7)]),
-        _ => Rename(digits.at(), digits.at()),
-    }
+    digits.call()
 }
 
-// Makes a call once. A listing gives its rows, and a find its row, if any.
-fn make_call<D: Dirs>(
-    alloc: Global,
-    dirs: &mut D,
-    call: Call,
-    now: u64,
-) -> Result<Vec<Row>, DirError> {
-    let mut rows = Vec::with_capacity(alloc, 1)?;
-    match call {
-        Create(at) => dirs.create(&at.path(alloc)?, now)?,
-        Append(at, bytes) => dirs.append(&at.path(alloc)?, bytes, now)?,
-        Link(old, new) => dirs.link(&old.path(alloc)?, &new.path(alloc)?)?,
-        Rename(old, new) => dirs.rename(&old.path(alloc)?, &new.path(alloc)?)?,
-        Unlink(at) => dirs.unlink(&at.path(alloc)?)?,
-        List(folder, place) => return dirs.list(folder, place),
-        Find(folder, place, unique) => {
-            if let Some(row) = dirs.find(folder, place, unique)? {
-                rows.push(row)?;
-            }
-        }
-    }
-    Ok(rows)
+fn digit(letter: u8) -> usize {
+    letter.saturating_sub(b'a') as usize
 }
 
-// Makes a call. Where it finds no memory it has changed nothing, as directories show that are one call behind, and is made
-// once more.
-fn perform<D: Dirs, E: Dirs>(
-    rt: &impl Abort,
-    alloc: Global,
-    dirs: &mut D,
-    behind: &E,
-    call: Call,
-    now: u64,
-) -> Result<Vec<Row>, DirError> {
-    let answer = make_call(alloc, dirs, call, now);
-    if !matches!(answer, Err(DirError::NoMemory)) {
-        return answer;
-    }
-    assert!(rt; are_alike(dirs, behind), "changed at call {now}");
-    make_call(alloc, dirs, call, now)
-}
-
-// Whether two directories show the same rows and bytes. It takes no memory.
-fn are_alike<D: Dirs, E: Dirs>(a: &D, b: &E) -> bool {
-    for folder in 0..2 {
-        for place in PLACES {
-            for name in NAMES {
-                if a.read(folder, place, name) != b.read(folder, place, name) {
-                    return false;
-                }
-            }
-            for position in 0..12 {
-                if !is_same_look(
-                    a.row_at(folder, place, position),
-                    b.row_at(folder, place, position),
-                ) {
-                    return false;
-                }
-            }
-        }
-    }
-    true
-}
-
-fn is_same_row(a: &Row, b: &Row) -> bool {
-    a.name.as_slice() == b.name.as_slice() && a.stamp == b.stamp && a.size == b.size
-}
-
-fn is_same_answer(a: &Result<Vec<Row>, DirError>, b: &Result<Vec<Row>, DirError>) -> bool {
-    match (a, b) {
-        (Ok(a), Ok(b)) => a.len() == b.len() && a.iter().zip(b).all(|(a, b)| is_same_row(a, b)),
-        (Err(a), Err(b)) => a == b,
-        _ => false,
-    }
-}
-
-fn is_same_look(a: Option<RowRef<'_>>, b: Option<RowRef<'_>>) -> bool {
-    match (a, b) {
-        (None, None) => true,
-        (Some(a), Some(b)) => a.name == b.name && a.stamp == b.stamp && a.size == b.size,
-        _ => false,
-    }
+// The call of eight letters, each a digit from a on, and its first name.
+fn written_call(text: &[u8]) -> Option<(Call, At)> {
+    let [kind, folder, place, name, folder2, place2, name2, more] = text else {
+        return None;
+    };
+    let at = at_of(digit(*folder), digit(*place), digit(*name));
+    let other = at_of(digit(*folder2), digit(*place2), digit(*name2));
+    Some((call_of(digit(*kind), at, other, digit(*more)), at))
 }
 
 // Whether a row and the bytes of a name are the same in both.
 fn look_alike<D: Dirs, E: Dirs>(a: &D, b: &E, at: At, position: usize) -> bool {
     is_same_look(
-        a.row_at(at.folder, at.place, position),
-        b.row_at(at.folder, at.place, position),
-    ) && a.read(at.folder, at.place, at.name) == b.read(at.folder, at.place, at.name)
+        a.row_at(at.0, at.1, position),
+        b.row_at(at.0, at.1, position),
+    ) && a.read(at.0, at.1, at.2) == b.read(at.0, at.1, at.2)
 }
 
 #[derive(Drop)]
@@ -210,24 +109,13 @@ impl Three {
         }
     }
 
-    // Makes the call of a number on each, and looks at a row and a name.
-    fn step(&mut self, rt: &impl Abort, code: u32, now: u64) {
-        let call = call_of(code);
+    // Makes a call on each, and looks at a row and a name.
+    fn step(&mut self, rt: &impl Abort, call: Call, at: At, position: usize, now: u64) {
         let hashed = perform(rt, self.alloc, &mut self.hashed, &self.plain, call, now);
         let plain = perform(rt, self.alloc, &mut self.plain, &self.counted, call, now);
-        let counted = make_call(self.alloc, &mut self.counted, call, now);
-        let counted = match counted {
-            Err(DirError::NoMemory) => make_call(self.alloc, &mut self.counted, call, now),
-            answer => answer,
-        };
-        assert!(rt; is_same_answer(&plain, &hashed), "call {now} of {code}");
-        assert!(rt;
-            is_same_answer(&plain, &counted),
-            "call {now} of {code}, counted"
-        );
-        let mut digits = Digits { left: code / 64 };
-        let position = digits.below(8);
-        let at = digits.at();
+        let counted = make_again(self.alloc, &mut self.counted, call, now);
+        assert!(rt; is_same_answer(&plain, &hashed), "call {now}");
+        assert!(rt; is_same_answer(&plain, &counted), "call {now}, counted");
         assert!(rt;
             look_alike(&self.plain, &self.hashed, at, position),
             "after {now}"
@@ -239,26 +127,70 @@ impl Three {
     }
 }
 
-// Makes as many calls as that, always the same ones.
-fn make_calls(rt: &impl Abort, alloc: Global, calls: u64) {
-    let mut three = Three::new(alloc);
-    let mut state = 20260712u64;
-    for now in 0..calls {
-        state = state
-            .wrapping_mul(6364136223846793005)
-            .wrapping_add(1442695040888963407);
-        three.step(rt, (state >> 33) as u32, now);
-    }
-}
-
-#[test]
-fn the_first_thousand_calls_answer_alike(rt: HostRuntime) {
-    make_calls(&rt, rt.alloc(), 1_000);
+// The number of a random call, from a state that goes on. Each run has the same ones.
+fn next_code(state: &mut u64) -> u32 {
+    *state = state
+        .wrapping_mul(6364136223846793005)
+        .wrapping_add(1442695040888963407);
+    (*state >> 33) as u32
 }
 
 #[test]
 fn random_calls_answer_alike(rt: HostRuntime) {
-    make_calls(&rt, rt.alloc(), 300_000);
+    let mut three = Three::new(rt.alloc());
+    let mut state = 20260712u64;
+    for now in 0..300_000u64 {
+        let code = next_code(&mut state);
+        let mut digits = Digits { left: code / 64 };
+        let position = digits.below(8);
+        three.step(&rt, random_call(code), digits.at(), position, now);
+    }
+}
+
+#[test]
+fn written_calls_answer_alike(rt: HostRuntime) {
+    let mut three = Three::new(rt.alloc());
+    let mut now = 0u64;
+    for text in CALLS.chunks_exact(8) {
+        if let Some((call, at)) = written_call(text) {
+            three.step(&rt, call, at, now as usize % 8, now);
+            now = now.wrapping_add(1);
+        }
+    }
+    assert_eq!(rt; now, 1_000);
+}
+
+// Makes a call that is to fail: it answers Fault, and has changed nothing. Whether there was memory for it.
+fn faults(
+    rt: &impl Abort,
+    alloc: Global,
+    plain: &PlainDirs,
+    failing: &mut FailAt<IndexDirs>,
+    call: Call,
+) -> bool {
+    match make_call(alloc, failing, call, 0) {
+        Err(DirError::NoMemory) => false,
+        Err(DirError::Fault) => are_alike(plain, failing) || panic!(rt; "changed by a fault"),
+        _ => panic!(rt; "no fault"),
+    }
+}
+
+// Makes a call that is to pass. Whether there was memory for it.
+fn passes(
+    rt: &impl Abort,
+    alloc: Global,
+    plain: &mut PlainDirs,
+    failing: &mut FailAt<IndexDirs>,
+    call: Call,
+    now: u64,
+) -> bool {
+    let answer = make_call(alloc, failing, call, now);
+    if matches!(answer, Err(DirError::NoMemory)) {
+        return false;
+    }
+    let wanted = make_call(alloc, plain, call, now);
+    assert!(rt; is_same_answer(&answer, &wanted), "call {now}");
+    true
 }
 
 // Directories of which a call is to fail answer Fault at that call alone, and are then as they were.
@@ -266,34 +198,13 @@ fn fail_in_turn(rt: &impl Abort, alloc: Global, at: u64) {
     let mut plain = PlainDirs::new(alloc, 2);
     let mut failing = FailAt::new(IndexDirs::new(alloc, 2), at);
     let mut state = 20260712u64;
+    let mut has_memory = true;
     for now in 1..=40u64 {
-        state = state
-            .wrapping_mul(6364136223846793005)
-            .wrapping_add(1442695040888963407);
-        let call = call_of((state >> 33) as u32);
-        let answer = make_call(alloc, &mut failing, call, now);
-        if matches!(answer, Err(DirError::NoMemory)) {
-            return;
+        let call = random_call(next_code(&mut state));
+        if has_memory && now == at {
+            has_memory = faults(rt, alloc, &plain, &mut failing, call);
         }
-        if now == at {
-            assert!(rt;
-                matches!(answer, Err(DirError::Fault)),
-                "call {now}: {answer:?}"
-            );
-            assert!(rt; are_alike(&plain, &failing), "after the fault");
-            let again = make_call(alloc, &mut failing, call, now);
-            let wanted = make_call(alloc, &mut plain, call, now);
-            assert!(rt;
-                is_same_answer(&again, &wanted),
-                "behind the fault: {again:?}"
-            );
-        } else {
-            let wanted = make_call(alloc, &mut plain, call, now);
-            assert!(rt;
-                is_same_answer(&answer, &wanted),
-                "call {now}, of which {at} fails: {answer:?}"
-            );
-        }
+        has_memory = has_memory && passes(rt, alloc, &mut plain, &mut failing, call, now);
     }
 }
 

@@ -1,23 +1,13 @@
 // A fixed list of calls. The answers are those of open, link, rename, unlink and readdir of a file system on Linux: its
 // errors, its names in order of their bytes, its sizes. The stamp is the number, from 0, of the last call that made or
 // grew the file.
-use super::{At, look_alike};
+use super::{At, Call, are_alike, make_again, perform};
 use crate::Place::{Cur, New, Tmp};
-use crate::{DirError, Dirs, Place, PlainDirs, Row};
+use crate::{DirError, Dirs, PlainDirs, Row};
 use Call::{Append, Create, Link, List, Rename, Unlink};
 use Want::{Done, Exists, NotFound, Rows};
 use std::alloc::Global;
 use std::process::Abort;
-
-#[derive(Clone, Copy)]
-enum Call {
-    Create(At),
-    Append(At, &'static [u8]),
-    Link(At, At),
-    Rename(At, At),
-    Unlink(At),
-    List(u32, Place),
-}
 
 #[derive(Clone, Copy)]
 enum Want {
@@ -29,127 +19,127 @@ enum Want {
 
 static CALLS: [(Call, Want); 126] = [
     (List(0, Tmp), Rows(&[])),
-    (Create(At(0, Tmp, b'a')), Done),
-    (Append(At(0, Tmp, b'a'), b"From "), Done),
-    (Link(At(0, Tmp, b'a'), At(0, New, b'a')), Done),
-    (Append(At(0, New, b'a'), b"yy"), Done),
+    (Create(At(0, Tmp, b"a")), Done),
+    (Append(At(0, Tmp, b"a"), b"From "), Done),
+    (Link(At(0, Tmp, b"a"), At(0, New, b"a")), Done),
+    (Append(At(0, New, b"a"), b"yy"), Done),
     (List(0, Tmp), Rows(&[(b'a', 4, 7)])),
     (List(0, New), Rows(&[(b'a', 4, 7)])),
-    (Rename(At(0, Tmp, b'a'), At(0, New, b'a')), Done),
+    (Rename(At(0, Tmp, b"a"), At(0, New, b"a")), Done),
     (List(0, Tmp), Rows(&[(b'a', 4, 7)])),
     (List(0, New), Rows(&[(b'a', 4, 7)])),
-    (Link(At(0, Tmp, b'Z'), At(0, New, b'a')), NotFound),
-    (Link(At(0, Tmp, b'a'), At(0, Tmp, b'a')), Exists),
-    (Rename(At(0, Tmp, b'a'), At(0, Tmp, b'a')), Done),
-    (Create(At(0, Tmp, b'b')), Done),
-    (Rename(At(0, Tmp, b'b'), At(0, New, b'a')), Done),
+    (Link(At(0, Tmp, b"Z"), At(0, New, b"a")), NotFound),
+    (Link(At(0, Tmp, b"a"), At(0, Tmp, b"a")), Exists),
+    (Rename(At(0, Tmp, b"a"), At(0, Tmp, b"a")), Done),
+    (Create(At(0, Tmp, b"b")), Done),
+    (Rename(At(0, Tmp, b"b"), At(0, New, b"a")), Done),
     (List(0, New), Rows(&[(b'a', 13, 0)])),
     (List(0, Tmp), Rows(&[(b'a', 4, 7)])),
-    (Append(At(0, Tmp, b'b'), b"x"), NotFound),
-    (Unlink(At(0, Tmp, b'a')), Done),
-    (Append(At(0, Tmp, b'a'), b"x"), NotFound),
-    (Unlink(At(0, Tmp, b'a')), NotFound),
-    (Create(At(2, Tmp, b'a')), NotFound),
-    (Link(At(0, New, b'a'), At(2, New, b'a')), NotFound),
-    (Rename(At(0, New, b'a'), At(2, New, b'a')), NotFound),
+    (Append(At(0, Tmp, b"b"), b"x"), NotFound),
+    (Unlink(At(0, Tmp, b"a")), Done),
+    (Append(At(0, Tmp, b"a"), b"x"), NotFound),
+    (Unlink(At(0, Tmp, b"a")), NotFound),
+    (Create(At(2, Tmp, b"a")), NotFound),
+    (Link(At(0, New, b"a"), At(2, New, b"a")), NotFound),
+    (Rename(At(0, New, b"a"), At(2, New, b"a")), NotFound),
     (List(2, New), NotFound),
-    (Rename(At(0, Tmp, b'a'), At(0, New, b'a')), NotFound),
-    (Unlink(At(2, Tmp, b'a')), NotFound),
-    (Append(At(2, Tmp, b'a'), b"x"), NotFound),
-    (Create(At(0, New, b'a')), Exists),
-    (Link(At(2, Tmp, b'a'), At(0, Cur, b'a')), NotFound),
-    (Create(At(0, Tmp, b'a')), Done),
-    (Create(At(1, Cur, b'b')), Done),
-    (Create(At(0, New, b'a')), Exists),
-    (Create(At(1, New, b'b')), Done),
-    (Unlink(At(1, Cur, b'b')), Done),
+    (Rename(At(0, Tmp, b"a"), At(0, New, b"a")), NotFound),
+    (Unlink(At(2, Tmp, b"a")), NotFound),
+    (Append(At(2, Tmp, b"a"), b"x"), NotFound),
+    (Create(At(0, New, b"a")), Exists),
+    (Link(At(2, Tmp, b"a"), At(0, Cur, b"a")), NotFound),
+    (Create(At(0, Tmp, b"a")), Done),
+    (Create(At(1, Cur, b"b")), Done),
+    (Create(At(0, New, b"a")), Exists),
+    (Create(At(1, New, b"b")), Done),
+    (Unlink(At(1, Cur, b"b")), Done),
     (List(1, Tmp), Rows(&[])),
-    (Unlink(At(1, Cur, b'~')), NotFound),
-    (Append(At(1, New, b'b'), b"x"), Done),
-    (Link(At(0, Tmp, b'a'), At(0, New, b'a')), Exists),
-    (Create(At(0, Cur, b'~')), Done),
-    (Unlink(At(0, Tmp, b'a')), Done),
-    (Rename(At(0, Cur, b'~'), At(0, Cur, b'a')), Done),
-    (Create(At(0, Cur, b'Z')), Done),
-    (Link(At(0, Cur, 0xff), At(0, Cur, b'Z')), NotFound),
+    (Unlink(At(1, Cur, b"~")), NotFound),
+    (Append(At(1, New, b"b"), b"x"), Done),
+    (Link(At(0, Tmp, b"a"), At(0, New, b"a")), Exists),
+    (Create(At(0, Cur, b"~")), Done),
+    (Unlink(At(0, Tmp, b"a")), Done),
+    (Rename(At(0, Cur, b"~"), At(0, Cur, b"a")), Done),
+    (Create(At(0, Cur, b"Z")), Done),
+    (Link(At(0, Cur, b"\xff"), At(0, Cur, b"Z")), NotFound),
     (List(0, New), Rows(&[(b'a', 13, 0)])),
-    (Append(At(0, New, b'a'), b"yy"), Done),
-    (Create(At(0, Cur, b'Z')), Exists),
-    (Link(At(1, New, b'~'), At(0, Cur, b'Z')), NotFound),
-    (Append(At(1, New, b'b'), b"From "), Done),
-    (Link(At(0, New, b'a'), At(0, New, b'Z')), Done),
-    (Rename(At(0, Cur, b'a'), At(0, New, b'b')), Done),
-    (Unlink(At(1, New, b'b')), Done),
-    (Create(At(0, New, b'b')), Exists),
+    (Append(At(0, New, b"a"), b"yy"), Done),
+    (Create(At(0, Cur, b"Z")), Exists),
+    (Link(At(1, New, b"~"), At(0, Cur, b"Z")), NotFound),
+    (Append(At(1, New, b"b"), b"From "), Done),
+    (Link(At(0, New, b"a"), At(0, New, b"Z")), Done),
+    (Rename(At(0, Cur, b"a"), At(0, New, b"b")), Done),
+    (Unlink(At(1, New, b"b")), Done),
+    (Create(At(0, New, b"b")), Exists),
     (
         List(0, New),
         Rows(&[(b'Z', 45, 2), (b'a', 45, 2), (b'b', 39, 0)]),
     ),
-    (Create(At(2, Tmp, b'a')), NotFound),
-    (Create(At(2, Cur, 0xff)), NotFound),
-    (Create(At(0, Cur, b'b')), Done),
-    (Unlink(At(0, Cur, b'b')), Done),
-    (Append(At(0, Cur, b'Z'), b"x"), Done),
-    (Link(At(0, New, b'a'), At(0, New, b'b')), Exists),
-    (Append(At(0, New, b'b'), b"yy"), Done),
-    (Unlink(At(0, New, b'b')), Done),
+    (Create(At(2, Tmp, b"a")), NotFound),
+    (Create(At(2, Cur, b"\xff")), NotFound),
+    (Create(At(0, Cur, b"b")), Done),
+    (Unlink(At(0, Cur, b"b")), Done),
+    (Append(At(0, Cur, b"Z"), b"x"), Done),
+    (Link(At(0, New, b"a"), At(0, New, b"b")), Exists),
+    (Append(At(0, New, b"b"), b"yy"), Done),
+    (Unlink(At(0, New, b"b")), Done),
     (List(0, Tmp), Rows(&[])),
-    (Append(At(0, New, b'a'), b"x"), Done),
-    (Create(At(0, Tmp, b'b')), Done),
-    (Append(At(0, Cur, b'Z'), b"\n\n\n"), Done),
-    (Link(At(1, Cur, 0xff), At(2, Cur, b'a')), NotFound),
-    (Link(At(0, New, b'Z'), At(1, Tmp, b'~')), Done),
-    (Create(At(1, Tmp, b'~')), Exists),
-    (Create(At(1, Cur, 0xff)), Done),
-    (Unlink(At(0, New, b'a')), Done),
+    (Append(At(0, New, b"a"), b"x"), Done),
+    (Create(At(0, Tmp, b"b")), Done),
+    (Append(At(0, Cur, b"Z"), b"\n\n\n"), Done),
+    (Link(At(1, Cur, b"\xff"), At(2, Cur, b"a")), NotFound),
+    (Link(At(0, New, b"Z"), At(1, Tmp, b"~")), Done),
+    (Create(At(1, Tmp, b"~")), Exists),
+    (Create(At(1, Cur, b"\xff")), Done),
+    (Unlink(At(0, New, b"a")), Done),
     (List(1, New), Rows(&[])),
-    (Create(At(1, Cur, b'Z')), Done),
-    (Rename(At(0, New, b'Z'), At(1, Tmp, b'b')), Done),
-    (Append(At(1, Cur, 0xff), b"From "), Done),
-    (Create(At(0, New, b'a')), Done),
-    (Append(At(1, Tmp, b'b'), b"\n\n\n"), Done),
-    (Append(At(1, Tmp, b'b'), b"From "), Done),
-    (Link(At(0, New, b'a'), At(1, Cur, b'~')), Done),
-    (Rename(At(1, Tmp, b'b'), At(1, Cur, b'~')), Done),
+    (Create(At(1, Cur, b"Z")), Done),
+    (Rename(At(0, New, b"Z"), At(1, Tmp, b"b")), Done),
+    (Append(At(1, Cur, b"\xff"), b"From "), Done),
+    (Create(At(0, New, b"a")), Done),
+    (Append(At(1, Tmp, b"b"), b"\n\n\n"), Done),
+    (Append(At(1, Tmp, b"b"), b"From "), Done),
+    (Link(At(0, New, b"a"), At(1, Cur, b"~")), Done),
+    (Rename(At(1, Tmp, b"b"), At(1, Cur, b"~")), Done),
     (List(0, Cur), Rows(&[(b'Z', 65, 4)])),
-    (Link(At(0, New, b'a'), At(0, New, b'b')), Done),
-    (Link(At(1, Tmp, b'Z'), At(1, Tmp, 0xff)), NotFound),
-    (Link(At(0, New, b'~'), At(0, Cur, b'b')), NotFound),
-    (Link(At(0, Tmp, b'b'), At(0, New, 0xff)), Done),
-    (Unlink(At(1, Cur, b'~')), Done),
-    (Append(At(0, Cur, b'b'), b"yy"), NotFound),
-    (Rename(At(0, Cur, b'Z'), At(2, Tmp, b'a')), NotFound),
-    (Link(At(1, Cur, 0xff), At(1, Cur, b'b')), Done),
+    (Link(At(0, New, b"a"), At(0, New, b"b")), Done),
+    (Link(At(1, Tmp, b"Z"), At(1, Tmp, b"\xff")), NotFound),
+    (Link(At(0, New, b"~"), At(0, Cur, b"b")), NotFound),
+    (Link(At(0, Tmp, b"b"), At(0, New, b"\xff")), Done),
+    (Unlink(At(1, Cur, b"~")), Done),
+    (Append(At(0, Cur, b"b"), b"yy"), NotFound),
+    (Rename(At(0, Cur, b"Z"), At(2, Tmp, b"a")), NotFound),
+    (Link(At(1, Cur, b"\xff"), At(1, Cur, b"b")), Done),
     (List(1, Tmp), Rows(&[(b'~', 77, 11)])),
-    (Create(At(0, New, b'Z')), Done),
-    (Create(At(0, Cur, b'a')), Done),
-    (Link(At(0, Tmp, b'b'), At(1, Tmp, b'b')), Done),
-    (Create(At(0, Tmp, b'a')), Done),
-    (Link(At(1, Tmp, b'b'), At(0, Cur, b'a')), Exists),
-    (Create(At(1, Cur, 0xff)), Exists),
-    (Create(At(0, Cur, b'a')), Exists),
-    (Rename(At(0, Tmp, b'b'), At(0, Tmp, b'a')), Done),
+    (Create(At(0, New, b"Z")), Done),
+    (Create(At(0, Cur, b"a")), Done),
+    (Link(At(0, Tmp, b"b"), At(1, Tmp, b"b")), Done),
+    (Create(At(0, Tmp, b"a")), Done),
+    (Link(At(1, Tmp, b"b"), At(0, Cur, b"a")), Exists),
+    (Create(At(1, Cur, b"\xff")), Exists),
+    (Create(At(0, Cur, b"a")), Exists),
+    (Rename(At(0, Tmp, b"b"), At(0, Tmp, b"a")), Done),
     (List(1, Tmp), Rows(&[(b'b', 64, 0), (b'~', 77, 11)])),
-    (Unlink(At(0, Cur, b'a')), Done),
-    (Link(At(1, Cur, 0xff), At(0, New, b'a')), Exists),
-    (Append(At(0, Tmp, 0xff), b"\n\n\n"), NotFound),
-    (Create(At(1, New, b'b')), Done),
-    (Create(At(1, Tmp, 0xff)), Done),
-    (Unlink(At(1, Tmp, b'~')), Done),
-    (Create(At(0, Cur, b'b')), Done),
-    (Link(At(2, New, b'a'), At(0, Tmp, b'Z')), NotFound),
+    (Unlink(At(0, Cur, b"a")), Done),
+    (Link(At(1, Cur, b"\xff"), At(0, New, b"a")), Exists),
+    (Append(At(0, Tmp, b"\xff"), b"\n\n\n"), NotFound),
+    (Create(At(1, New, b"b")), Done),
+    (Create(At(1, Tmp, b"\xff")), Done),
+    (Unlink(At(1, Tmp, b"~")), Done),
+    (Create(At(0, Cur, b"b")), Done),
+    (Link(At(2, New, b"a"), At(0, Tmp, b"Z")), NotFound),
     (
         List(1, Cur),
         Rows(&[(b'Z', 72, 0), (b'b', 74, 5), (0xff, 74, 5)]),
     ),
-    (Append(At(0, New, 0xff), b"x"), Done),
-    (Create(At(0, New, b'~')), Done),
-    (Create(At(0, Cur, b'~')), Done),
-    (Rename(At(1, Cur, 0xff), At(1, New, b'b')), Done),
-    (Create(At(1, Tmp, b'b')), Exists),
-    (Rename(At(0, Tmp, b'a'), At(1, New, b'~')), Done),
-    (Create(At(1, Cur, b'a')), Done),
-    (Unlink(At(1, Tmp, 0xff)), Done),
+    (Append(At(0, New, b"\xff"), b"x"), Done),
+    (Create(At(0, New, b"~")), Done),
+    (Create(At(0, Cur, b"~")), Done),
+    (Rename(At(1, Cur, b"\xff"), At(1, New, b"b")), Done),
+    (Create(At(1, Tmp, b"b")), Exists),
+    (Rename(At(0, Tmp, b"a"), At(1, New, b"~")), Done),
+    (Create(At(1, Cur, b"a")), Done),
+    (Unlink(At(1, Tmp, b"\xff")), Done),
     (
         List(0, New),
         Rows(&[
@@ -160,9 +150,9 @@ static CALLS: [(Call, Want); 126] = [
             (0xff, 108, 1),
         ]),
     ),
-    (Append(At(1, Cur, b'Z'), b"x"), Done),
-    (Rename(At(1, Cur, b'b'), At(0, Cur, b'~')), Done),
-    (Append(At(1, Cur, b'~'), b"x"), NotFound),
+    (Append(At(1, Cur, b"Z"), b"x"), Done),
+    (Rename(At(1, Cur, b"b"), At(0, Cur, b"~")), Done),
+    (Append(At(1, Cur, b"~"), b"x"), NotFound),
     (List(0, Tmp), Rows(&[])),
     (
         List(0, New),
@@ -184,38 +174,20 @@ static CALLS: [(Call, Want); 126] = [
 ];
 
 static BYTES: [(At, &[u8]); 13] = [
-    (At(0, New, b'Z'), b""),
-    (At(0, New, b'a'), b""),
-    (At(0, New, b'b'), b""),
-    (At(0, New, b'~'), b""),
-    (At(0, New, 0xff), b"x"),
-    (At(0, Cur, b'Z'), b"x\n\n\n"),
-    (At(0, Cur, b'b'), b""),
-    (At(0, Cur, b'~'), b"From "),
-    (At(1, Tmp, b'b'), b"x"),
-    (At(1, New, b'b'), b"From "),
-    (At(1, New, b'~'), b"x"),
-    (At(1, Cur, b'Z'), b"x"),
-    (At(1, Cur, b'a'), b""),
+    (At(0, New, b"Z"), b""),
+    (At(0, New, b"a"), b""),
+    (At(0, New, b"b"), b""),
+    (At(0, New, b"~"), b""),
+    (At(0, New, b"\xff"), b"x"),
+    (At(0, Cur, b"Z"), b"x\n\n\n"),
+    (At(0, Cur, b"b"), b""),
+    (At(0, Cur, b"~"), b"From "),
+    (At(1, Tmp, b"b"), b"x"),
+    (At(1, New, b"b"), b"From "),
+    (At(1, New, b"~"), b"x"),
+    (At(1, Cur, b"Z"), b"x"),
+    (At(1, Cur, b"a"), b""),
 ];
-
-// Makes a call; a listing gives its rows.
-fn perform(
-    alloc: Global,
-    dirs: &mut PlainDirs,
-    call: Call,
-    now: u64,
-) -> Result<Vec<Row>, DirError> {
-    match call {
-        Create(path) => dirs.create(&path.path(alloc)?, now)?,
-        Append(path, bytes) => dirs.append(&path.path(alloc)?, bytes, now)?,
-        Link(old, new) => dirs.link(&old.path(alloc)?, &new.path(alloc)?)?,
-        Rename(old, new) => dirs.rename(&old.path(alloc)?, &new.path(alloc)?)?,
-        Unlink(path) => dirs.unlink(&path.path(alloc)?)?,
-        List(folder, place) => return dirs.list(folder, place),
-    }
-    Ok(Vec::new(alloc))
-}
 
 // Whether rows are the wanted ones.
 fn are_rows(rows: &[Row], want: &[(u8, u64, u64)]) -> bool {
@@ -235,45 +207,27 @@ fn is_wanted(answer: &Result<Vec<Row>, DirError>, want: Want) -> bool {
     }
 }
 
-// Makes a call. Where it finds no memory it has changed nothing, as directories show that are one call behind, and is made again.
-fn step(
-    rt: &impl Abort,
-    alloc: Global,
-    dirs: &mut PlainDirs,
-    behind: &PlainDirs,
-    call: Call,
-    now: u64,
-) -> Result<Vec<Row>, DirError> {
-    let answer = perform(alloc, dirs, call, now);
-    if !matches!(answer, Err(DirError::NoMemory)) {
-        return answer;
-    }
-    assert!(rt; look_alike(dirs, behind), "changed at call {now}");
-    perform(alloc, dirs, call, now)
-}
-
 // Makes calls on empty directories, each at its number from 1 as its moment.
 fn replay(rt: &impl Abort, alloc: Global, calls: &[(Call, Want)]) -> PlainDirs {
     let mut dirs = PlainDirs::new(alloc, 2);
     let mut behind = PlainDirs::new(alloc, 2);
     for (i, (call, want)) in calls.iter().enumerate() {
         let now = i as u64;
-        let answer = step(rt, alloc, &mut dirs, &behind, *call, now);
+        let answer = perform(rt, alloc, &mut dirs, &behind, *call, now);
         assert!(rt; is_wanted(&answer, *want), "call {now}: {answer:?}");
-        let follow = perform(alloc, &mut behind, *call, now);
-        if matches!(follow, Err(DirError::NoMemory)) {
-            let _again = perform(alloc, &mut behind, *call, now);
-        }
-        assert!(rt; look_alike(&dirs, &behind), "apart after call {now}");
+        let _follow = make_again(alloc, &mut behind, *call, now);
+        assert!(rt; are_alike(&dirs, &behind), "apart after call {now}");
     }
     dirs
 }
 
 fn holds(dirs: &PlainDirs, files: &[(At, &[u8])]) -> bool {
-    files.iter().all(|(at, bytes)| {
-        let name = [at.2];
-        dirs.read(at.0, at.1, name.as_slice()) == Some(*bytes)
-    })
+    for (at, bytes) in files {
+        if dirs.read(at.0, at.1, at.2) != Some(*bytes) {
+            return false;
+        }
+    }
+    true
 }
 
 #[test]

@@ -1,4 +1,4 @@
-use Rattle.std.proofs.Common.{ℕ, List, ◌≡◌, ◌≤◌, ◌-◌, ◌∙◌, sym, ap, cond, drop, length, arith, length-drop}
+use Rattle.std.proofs.Common.{◌≤◌, ◌-◌, ◌∙◌, sym, ap, cond, drop, length, arith, length-drop}
 use Rattle.std.proofs.lemmas.List.{take_all}
 use Rattle.std.specs.Ordering.{is_lt}
 use Rattle.md_dirs.specs.Find.{before_colon}

@@ -1,6 +1,4 @@
-use Rattle.std.proofs.Common.{◌∙◌, sym, ap, Some}
-use Rattle.std.specs.Option.{option_map}
-use Rattle.std.specs.Borrow.{Bor}
+use Rattle.std.proofs.Common.{sym, Some}
 use Rattle.md_dirs.proofs.Hashed.{row-filed, row-shown}
 use Rattle.md_dirs.proofs.index.IndexDirsDirs.row_at.Goals as goal
 

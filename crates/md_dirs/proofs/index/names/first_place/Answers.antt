@@ -1,4 +1,4 @@
-use Rattle.std.proofs.Common.{ℕ, Some, None, ◌≡◌, ◌∙◌, sym, ap}
+use Rattle.std.proofs.Common.{Some, ◌∙◌, sym, ap}
 use Rattle.md_dirs.specs.Index.{rows_by_name}
 use Rattle.md_dirs.proofs.Sorted.{holds}
 use Rattle.md_dirs.proofs.NameRows.{lookup-is, read-row}

@@ -1,4 +1,4 @@
-use Rattle.std.proofs.Common.{ℕ, List, Some, ◌≡◌, ◌∙◌, ◌∷◌, [], ◌++◌, None, cond, sym, ap, subst, length, slice_get, slice_set, get_or, swap, ◌<◌, Global}
+use Rattle.std.proofs.Common.{◌≡◌, ◌∙◌, None, cond, sym, ap, subst, length, slice_set, get_or, swap, ◌<◌, Global}
 use Rattle.std.proofs.lemmas.Option.{slice_get-get_or}
 use Rattle.indexmap.proofs.CallerLemmas.{insert_entry-new}
 use Rattle.md_dirs.proofs.Renamed.{swapped-last, taken-off}

@@ -1,6 +1,6 @@
 use Rattle.std.proofs.Common.{◌∙◌, ◌≤◌, ◌<◌, sym, ap, length, arith}
 use Rattle.std.specs.FinMap as finmap
-use Rattle.md_dirs.specs.Index.{NameMap, directory_number, directory_at}
+use Rattle.md_dirs.specs.Index.{directory_number, directory_at}
 use Rattle.md_dirs.proofs.Directories.{none-past, get-names, read-directory}
 use Rattle.md_dirs.proofs.index.loose.LooseTree.file_at.Goals as goal
 

@@ -1,7 +1,7 @@
-use Rattle.std.proofs.Common.{◌≡◌, ◌≢◌, ◌∙◌, ◌≤◌, ◌<◌, ℕ, sym, ap, subst, length, slice_set, arith}
+use Rattle.std.proofs.Common.{◌≡◌, ◌∙◌, ◌<◌, ℕ, sym, ap, subst, length, slice_set, arith}
 use Rattle.std.proofs.lemmas.Result.{err_from_is_err_and}
 use Rattle.std.specs.FinMap as finmap
-use Rattle.md_dirs.specs.Index.{NameMap, directory_number, directory_at}
+use Rattle.md_dirs.specs.Index.{directory_at}
 use Rattle.md_dirs.proofs.Directories.{same-names, read-directory, put-names, at-set, beside-set}
 use Rattle.md_dirs.proofs.Sound.{by_number}
 use Rattle.md_dirs.proofs.index.loose.LooseTree.put.Goals as goal

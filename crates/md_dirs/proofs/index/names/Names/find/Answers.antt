@@ -1,8 +1,6 @@
-use Rattle.std.proofs.Common.{ℕ, List, Some, None, ◌≡◌, ◌∙◌, sym, ap, cond, slice_get}
+use Rattle.std.proofs.Common.{ℕ, List, Some, None, ◌∙◌, sym, ap, cond}
 use Rattle.std.specs.Option.{option_and_then}
 use Rattle.md_dirs.specs.Rows.{is_named as is_named_by}
-use Rattle.md_dirs.specs.Index.{rows_by_name}
-use Rattle.md_dirs.proofs.Rowed.{get-map}
 use Rattle.md_dirs.proofs.NameRows.{entries-rows, read-row, row-none}
 use Rattle.md_dirs.proofs.index.names.Names.find.Goals as goal
 

@@ -1,4 +1,4 @@
-use Rattle.md_dirs.proofs.NameRows.{none-is, in_order-none}
+use Rattle.md_dirs.proofs.NameRows.{none-is}
 use Rattle.md_dirs.proofs.index.names.Names.new.Goals as goal
 
 pub returns : goal.returns

@@ -1,7 +1,5 @@
-use Rattle.std.proofs.Common.{◌≡◌, ◌<◌, ◌∙◌, Some, sym, ap, subst, length, slice_get}
-use Rattle.std.specs.Map.{lookup_key}
-use Rattle.md_dirs.specs.Index.{FitsAt, rows_by_name}
-use Rattle.md_dirs.proofs.NameRows.{by, get-rows, get-within, row-key}
+use Rattle.std.proofs.Common.{◌∙◌, sym}
+use Rattle.md_dirs.proofs.NameRows.{get-rows, get-within, row-key}
 use Rattle.md_dirs.proofs.Renamed.{in_order-set, found-key, renamed-is}
 use Rattle.md_dirs.proofs.index.names.Names.rename.Goals as goal
 

@@ -1,4 +1,4 @@
-use Rattle.std.proofs.Common.{◌∙◌, sym, ap, None, Some, arith}
+use Rattle.std.proofs.Common.{sym, None, Some, arith}
 use Rattle.std.proofs.lemmas.Option.{slice_get_within}
 use Rattle.md_dirs.proofs.NameRows.{row-at}
 use Rattle.md_dirs.proofs.index.names.Names.row_at.Goals as goal

@@ -1,4 +1,4 @@
-use Rattle.std.proofs.Common.{ℕ, List, Some, ◌≡◌, ◌∙◌, ◌∷◌, [], ◌++◌, sym, ap, map, take, slice_get, arith, length, IsSome}
+use Rattle.std.proofs.Common.{ℕ, List, Some, ◌≡◌, ◌∙◌, ◌∷◌, [], ◌++◌, sym, ap, map, take, slice_get, arith, IsSome}
 use Rattle.std.proofs.lemmas.List.{take_all, map-append}
 use Rattle.std.specs.Option.{option_map}
 use Rattle.std.specs.Map.Iter.{deref_pair}
@@ -6,7 +6,7 @@ use Rattle.md_dirs.specs.State.{file_by}
 use Rattle.md_dirs.specs.Files.{files_of, name_row}
 use Rattle.md_dirs.specs.Index.{rows_by_name}
 use Rattle.md_dirs.specs.Rows.{row_by}
-use Rattle.md_dirs.proofs.NameRows.{Row, entries-rows, read-row, take-read, all-read, length-rows}
+use Rattle.md_dirs.proofs.NameRows.{entries-rows, read-row, take-read, all-read, length-rows}
 use Rattle.md_dirs.proofs.index.names.Names.rows.Goals as goal
 
 pub shown_row-requires : goal.shown_row-requires

@@ -1,7 +1,7 @@
-use Rattle.std.proofs.Common.{ℕ, ◌≡◌, ◌≢◌, ◌∙◌, ◌<◌, None, sym, ap, subst, length, slice_set, arith}
+use Rattle.std.proofs.Common.{◌≡◌, ◌∙◌, ◌<◌, sym, ap, length, arith}
 use Rattle.std.specs.FinMap as finmap
-use Rattle.md_dirs.specs.Index.{NameMap, directory_number, directory_at, names_of}
-use Rattle.md_dirs.proofs.Directories.{get-names, read-directory, rename-names, at-set, beside-set}
+use Rattle.md_dirs.specs.Index.{directory_number, directory_at}
+use Rattle.md_dirs.proofs.Directories.{get-names, read-directory, rename-names}
 use Rattle.md_dirs.proofs.index.tree.Tree.rename.Goals as goal
 
 pub rename-requires : goal.rename-requires

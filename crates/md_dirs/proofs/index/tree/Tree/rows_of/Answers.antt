@@ -1,7 +1,7 @@
-use Rattle.std.proofs.Common.{ℕ, List, ◌∙◌, ◌≡◌, ◌≤◌, ◌<◌, sym, ap, length, map, arith}
+use Rattle.std.proofs.Common.{◌∙◌, ◌≡◌, ◌≤◌, ◌<◌, sym, ap, length, map, arith}
 use Rattle.std.specs.FinMap as finmap
 use Rattle.md_dirs.specs.Files.{files_of, name_row}
-use Rattle.md_dirs.specs.Index.{NameMap, directory_number, directory_at, rows_in, names_of}
+use Rattle.md_dirs.specs.Index.{directory_number, directory_at, rows_in, names_of}
 use Rattle.md_dirs.proofs.Directories.{no-rows, rows-in, read-directory}
 use Rattle.md_dirs.proofs.index.tree.Tree.rows_of.Goals as goal
 

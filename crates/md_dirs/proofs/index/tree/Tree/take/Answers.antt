@@ -1,6 +1,6 @@
-use Rattle.std.proofs.Common.{◌≡◌, ◌≢◌, ◌∙◌, ◌≤◌, ◌<◌, ℕ, sym, ap, subst, length, slice_set, arith}
+use Rattle.std.proofs.Common.{◌≡◌, ◌∙◌, ◌≤◌, ◌<◌, ℕ, sym, ap, subst, length, slice_set, arith}
 use Rattle.std.specs.FinMap as finmap
-use Rattle.md_dirs.specs.Index.{NameMap, directory_number, directory_at}
+use Rattle.md_dirs.specs.Index.{directory_number, directory_at}
 use Rattle.md_dirs.proofs.Directories.{none-past, gone-past, get-names, read-directory, take-names, at-set, beside-set}
 use Rattle.md_dirs.proofs.index.tree.Tree.take.Goals as goal
 
