@@ -2,7 +2,7 @@
 ghost use Rattle.std.specs.Prelude.{◌≡◌, length, IfOk, IfErr};
 ghost use Rattle.md_core.specs.Runs.{dirs_of};
 ghost use Rattle.md_view.specs.Readings.{reading_refusal};
-ghost use Rattle.md_view.specs.Law.{HasBegun, listing_of, IsGoodListing};
+ghost use Rattle.md_view.specs.Law.{names_at, listing_of, HasBegun, IsGoodListing};
 
 use crate::entry::Entry;
 use crate::error::ViewError;
@@ -46,8 +46,8 @@ impl Listing {
     /// as it was in the folder at some moment between the two readings.
     pub fn finish<D: Dirs>(&self, alloc: Global, world: &World<D>) -> Result<Vec<Entry>, ViewError>
         requires { HasBegun world.now self.now }
-        ensures entries { IfOk result (λ all. all.items ≡ listing_of world.now self.now.folder self.now.begun (length world.now.events)) }
-        ensures law { IsGoodListing world.now self.now.folder self.now.begun (length world.now.events) }
+        ensures entries { IfOk result (λ all. all.items ≡ listing_of (names_at world.now) self.now.folder self.now.begun (length world.now.events)) }
+        ensures law { IsGoodListing (names_at world.now) self.now.folder self.now.begun (length world.now.events) }
         ensures refusal { IfErr result (λ error. error ≡ reading_refusal (dirs_of world.now) self.now.folder) }
     {
         world.interleaves();
