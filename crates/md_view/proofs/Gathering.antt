@@ -1,0 +1,51 @@
+-- The entries of a directory, gathered row by row.
+use Rattle.std.proofs.Common.{ℕ, zero, suc, ◌≡◌, ◌+◌, ◌++◌, List, [], ◌∷◌, Option, Some, None, take, slice_get, refl, sym, ap, subst, ◌∙◌}
+use Rattle.std.specs.declared.cmp.Ordering.TheVariants.{Less}
+use Rattle.std.specs.List.{cons_option}
+use Rattle.std.proofs.lemmas.Cmp.{nat_list_cmp_total}
+use Rattle.std.proofs.lemmas.List.Elements.{filter_map-append}
+use Rattle.md_dirs.specs.declared.paths.Place.{Place}
+use Rattle.md_dirs.specs.declared.rows.Row.{Row}
+use Rattle.md_core.specs.Mailbox.{name_cmp}
+use Rattle.md_core.proofs.Places.{take-one_more}
+use Rattle.md_view.specs.declared.entry.Entry.{Entry}
+use Rattle.md_view.specs.Readings.{IsInOrder}
+use Rattle.md_view.specs.Rows.{entry_of_row, entries_of, IsBehind}
+use Rattle.md_view.proofs.Keyed.{IsBelow, IsSorted, both, first, second, less, is_less, in-order, ordered}
+
+module _ (place : Place) (rows : List Row) (at : ℕ) (row : Row) (is : slice_get rows at ≡ Some row) where
+  pub one_more : (o : Option Entry) → entry_of_row place row ≡ o → entries_of place (take (at + 1) rows) ≡ entries_of place (take at rows) ++ cons_option o []
+  one_more o made =
+      ap (entries_of place) (take-one_more rows at row is)
+      ∙ filter_map-append (entry_of_row place) (take at rows) (row ∷ [])
+      ∙ ap (λ x. entries_of place (take at rows) ++ cons_option x []) made
+
+all_taken : {X : Type 0} (xs : List X) (at : ℕ) → slice_get xs at ≡ None → take at xs ≡ xs
+all_taken [] zero past = refl
+all_taken [] (suc at) past = refl
+all_taken (x ∷ xs) zero past = cc
+all_taken (x ∷ xs) (suc at) past = ap (λ ys. x ∷ ys) (all_taken xs at past)
+
+pub gathered-all : (place : Place) (rows : List Row) (at : ℕ) → slice_get rows at ≡ None → entries_of place (take at rows) ≡ entries_of place rows
+gathered-all place rows at past = ap (entries_of place) (all_taken rows at past)
+
+-- an entry behind the last of a list in order is behind all of them
+behind-all : (e x : Entry) (es : List Entry) → IsSorted (x ∷ es) → IsBehind (x ∷ es) e → name_cmp x.unique e.unique ≡ Less
+behind-all e x [] sorted behind = behind [] x refl
+behind-all e x (y ∷ es) sorted behind =
+    nat_list_cmp_total.trans x.unique y.unique e.unique (less _ (first _ _ (first _ _ sorted)))
+    (behind-all e y es (second _ _ sorted) (λ front last is. behind (x ∷ front) last (ap (λ (l : List Entry). x ∷ l) is)))
+
+below-push : (u : List ℕ) (e : Entry) (es : List Entry) → name_cmp u e.unique ≡ Less → IsBelow u es → IsBelow u (es ++ e ∷ [])
+below-push u e [] is below = both _ _ (is_less _ is) tt
+below-push u e (x ∷ es) is below = both _ _ (first _ _ below) (below-push u e es is (second _ _ below))
+
+sorted-push : (e : Entry) (es : List Entry) → IsSorted es → IsBehind es e → IsSorted (es ++ e ∷ [])
+sorted-push e [] sorted behind = tt
+sorted-push e (x ∷ es) sorted behind =
+    both _ _ (below-push x.unique e es (behind-all e x es sorted behind) (first _ _ sorted))
+    (sorted-push e es (second _ _ sorted) (λ front last is. behind (x ∷ front) last (ap (λ (l : List Entry). x ∷ l) is)))
+
+-- an entry behind the last keeps the order
+pub order-kept : (e : Entry) (es more : List Entry) → more ≡ es ++ e ∷ [] → IsInOrder es → IsBehind es e → IsInOrder more
+order-kept e es more is order behind = subst IsInOrder (sym is) (in-order _ (sorted-push e es (ordered _ order) behind))

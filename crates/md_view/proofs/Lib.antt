@@ -1,0 +1,12 @@
+pub mod Keyed
+pub mod Merged
+pub mod Readings
+pub mod MadeOf
+pub mod Rows
+pub mod Gathering
+pub mod Distinct
+pub mod Ordered
+pub mod Staying
+pub mod LawHolds
+pub mod Made
+pub mod Waiting

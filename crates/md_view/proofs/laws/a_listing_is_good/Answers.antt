@@ -1,0 +1,5 @@
+use Rattle.md_view.proofs.LawHolds.{good-run}
+use Rattle.md_view.proofs.laws.a_listing_is_good.Goals as goal
+
+pub returns : goal.returns
+returns g c = good-run c.args.world.now c.interleaves.ensures.theorem c.args.folder c.args.read_new c.args.read_cur c.requires

@@ -1,0 +1,19 @@
+//! Listings of folders: what new and cur show, and one list of both.
+//!
+//! A listing reads new first and cur after it, and jobs may take steps between the two. `laws` says what such a listing is good for.
+#![tactic(auto)]
+
+mod entry;
+mod error;
+pub mod laws;
+mod listing;
+mod merge;
+mod read;
+#[cfg(test)]
+mod tests;
+
+pub use entry::Entry;
+pub use error::ViewError;
+pub use listing::Listing;
+pub use merge::join;
+pub use read::reading;

@@ -1,0 +1,57 @@
+// A listing whose two readings are made at two moments.
+ghost use Rattle.std.specs.Prelude.{◌≡◌, length, IfOk, IfErr};
+ghost use Rattle.md_core.specs.Runs.{dirs_of};
+ghost use Rattle.md_view.specs.Readings.{reading_refusal};
+ghost use Rattle.md_view.specs.Law.{names_at, listing_of, HasBegun, IsGoodListing};
+
+use crate::entry::Entry;
+use crate::error::ViewError;
+use crate::merge::join;
+use crate::read::reading;
+use md_core::World;
+use md_dirs::{Dirs, Place};
+use std::alloc::Global;
+
+/// A listing of a folder that has begun: new was read, and cur is still to be read. Jobs may take steps until then.
+///
+/// New comes first because messages go from new to cur and never back: one that goes to cur between the two readings is in both, and with
+/// the readings the other way round it would be in neither.
+#[derive(Debug, Drop)]
+pub struct Listing {
+    pub folder: u32,
+    /// How many steps the world had taken when new was read.
+    pub begun: usize,
+    /// The entries of new, in order of unique name.
+    pub new: Vec<Entry>,
+}
+
+impl Listing {
+    /// Reads new of a folder.
+    pub fn begin<D: Dirs>(
+        alloc: Global,
+        world: &World<D>,
+        folder: u32,
+    ) -> Result<Listing, ViewError>
+        ensures begun { IfOk result (λ listing. HasBegun world.now listing) }
+        ensures folder { IfOk result (λ listing. listing.folder ≡ folder) }
+        ensures moment { IfOk result (λ listing. listing.begun ≡ length world.now.events) }
+        ensures refusal { IfErr result (λ error. error ≡ reading_refusal (dirs_of world.now) folder) }
+    {
+        let new = reading(alloc, world, folder, Place::New)?;
+        let begun = world.log().len();
+        Ok(Listing { folder, begun, new })
+    }
+
+    /// Reads cur, at the same or a later moment of the same world, and joins the two. By the listing law the result shows each unique name
+    /// as it was in the folder at some moment between the two readings.
+    pub fn finish<D: Dirs>(&self, alloc: Global, world: &World<D>) -> Result<Vec<Entry>, ViewError>
+        requires { HasBegun world.now self.now }
+        ensures entries { IfOk result (λ all. all.items ≡ listing_of (names_at world.now) self.now.folder self.now.begun (length world.now.events)) }
+        ensures law { IsGoodListing (names_at world.now) self.now.folder self.now.begun (length world.now.events) }
+        ensures refusal { IfErr result (λ error. error ≡ reading_refusal (dirs_of world.now) self.now.folder) }
+    {
+        world.interleaves();
+        let cur = reading(alloc, world, self.folder, Place::Cur)?;
+        join(alloc, &self.new, &cur)
+    }
+}

@@ -1,0 +1,85 @@
+// One directory of a folder, as a listing shows it.
+ghost use Rattle.std.specs.Prelude.{◌≡◌, ◌<◌, IsTrue, IfOk, IfErr};
+ghost use Rattle.md_dirs.specs.Rows.{rows_of};
+ghost use Rattle.md_core.specs.History.{names_of};
+ghost use Rattle.md_core.specs.Mailbox.{mailbox_of, is_tmp as is_tmp_place};
+ghost use Rattle.md_core.specs.Runs.{dirs_of};
+ghost use Rattle.md_view.specs.Readings.{reading_of, IsInOrder, reading_refusal};
+ghost use Rattle.md_view.specs.Rows.{entries_of, IsBehind};
+
+use crate::entry::Entry;
+use crate::error::ViewError;
+use md_core::World;
+use md_dirs::{Dirs, Place};
+use std::alloc::{AllocError, Global};
+
+/// The messages of a directory of a folder now, in order of unique name. There are none in tmp.
+///
+/// As in maildir(5), a message is a name that begins with no dot. It is refused where the folder isn't there, and otherwise only for want
+/// of memory.
+pub fn reading<D: Dirs>(
+    alloc: Global,
+    world: &World<D>,
+    folder: u32,
+    place: Place,
+) -> Result<Vec<Entry>, ViewError>
+    ensures entries { IfOk result (λ all. all.items ≡ reading_of (names_of (mailbox_of (dirs_of world.now))) folder place) }
+    ensures folder { IfOk result (λ _. folder < (dirs_of world.now).folders) }
+    ensures order { IfOk result (λ all. IsInOrder all.items) }
+    ensures refusal { IfErr result (λ error. error ≡ reading_refusal (dirs_of world.now) folder) }
+{
+    if folder >= world.folders() {
+        return Err(ViewError::NoFolder);
+    }
+    world.interleaves();
+    if is_tmp(place) {
+        return Ok(Vec::new(alloc));
+    }
+    let (mut all, is_in_order) = gather(alloc, world, folder, place)?;
+    if !is_in_order {
+        all.sort_unstable_by(|first, second| first.unique.as_slice().cmp(second.unique.as_slice()));
+    }
+    Ok(all)
+}
+
+fn is_tmp(place: Place) -> bool
+    ensures { result ≡ is_tmp_place place }
+{
+    matches!(place, Place::Tmp)
+}
+
+// The messages of a directory in order of their whole names, and whether that is the order of their unique names. It nearly always is:
+// only a unique name that goes on with a byte below the colon, behind another one, comes out otherwise.
+fn gather<D: Dirs>(
+    alloc: Global,
+    world: &World<D>,
+    folder: u32,
+    place: Place,
+) -> Result<(Vec<Entry>, bool), AllocError>
+    ensures entries { IfOk result (λ all. all.0.items ≡ entries_of place (rows_of (dirs_of world.now) folder place)) }
+    ensures order { IfOk result (λ all. IsTrue all.1 → IsInOrder all.0.items) }
+{
+    let mut all = Vec::new(alloc);
+    let mut is_in_order = true;
+    for at in 0..usize::MAX {
+        let Some(row) = world.names(folder, place, at) else {
+            return Ok((all, is_in_order));
+        };
+        if let Some(entry) = Entry::of_row(alloc, place, row)? {
+            is_in_order = is_in_order && is_behind(&all, &entry);
+            all.push(entry)?;
+        }
+    }
+    // No memory holds so many names.
+    Err(AllocError)
+}
+
+// Whether an entry goes behind the last of others in order of unique name.
+fn is_behind(all: &[Entry], entry: &Entry) -> bool
+    ensures { IsTrue result → IsBehind all.now entry.now }
+{
+    match all.last() {
+        Some(last) => last.unique.as_slice().cmp(entry.unique.as_slice()).is_lt(),
+        None => true,
+    }
+}
