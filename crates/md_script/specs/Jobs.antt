@@ -112,7 +112,6 @@ job_verb_of word =
 
 -- the calls whose machines stand
 abbrev pub is_played : Mode → JobVerb → Bool
-is_played (Playing is_loaded) Expunge = false
 is_played (Playing is_loaded) Clean = false
 is_played (Playing is_loaded) other = true
 is_played (SettingUp with_jobs) verb = true

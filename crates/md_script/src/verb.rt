@@ -109,7 +109,7 @@ pub(crate) fn is_played(mode: Mode, verb: JobVerb) -> bool
     ensures { result ≡ is_played mode verb }
 {
     match (mode, verb) {
-        (Mode::Playing { .. }, JobVerb::Expunge | JobVerb::Clean) => false,
+        (Mode::Playing { .. }, JobVerb::Clean) => false,
         (Mode::Playing { .. }, _) => true,
         (Mode::SettingUp { .. }, _) => true,
     }

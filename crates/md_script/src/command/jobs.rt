@@ -126,7 +126,8 @@ fn move_line(alloc: Global, folders: &Folders, rest: Rest<'_>) -> Result<Call, P
 
 #[tactic(auto, unfolding(crate::specs::Jobs::expunge_line))]
 fn expunge_line(alloc: Global, folders: &Folders, rest: Rest<'_>) -> Result<Call, PlayKind>
-    ensures { Gives (λ call. call) result (expunge_line folders.now (option_copied rest.entry)) }
+    ensures call { Gives (λ call. call) result (expunge_line folders.now (option_copied rest.entry)) }
+    ensures machine { IfOk result (λ call. has_machine call ≡ true) }
 {
     let (folder, rest) = folder(folders, rest)?;
     let (unique, rest) = word(rest)?;
