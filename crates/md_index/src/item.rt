@@ -2,8 +2,8 @@
 ghost use Rattle.std.specs.Prelude.{◌≡◌, IfOk};
 
 use crate::gate::Gate;
-use crate::unique::UniqueName;
 use md_head::{HeadError, Summary, summary};
+use md_name::Bytes;
 use std::alloc::{AllocError, Global};
 
 /// A message that is lent: its unique name (maildir(5)), and its bytes, whole (RFC 5322).
@@ -16,7 +16,7 @@ pub struct Message<'a> {
 /// A message's unique name, and the summary of its header.
 #[derive(Debug, Drop)]
 pub struct Indexed {
-    pub unique: UniqueName,
+    pub unique: Bytes,
     pub summary: Summary,
 }
 
@@ -41,7 +41,7 @@ impl<'a> Message<'a> {
     fn entry(&self, alloc: Global) -> Result<Indexed, AllocError>
         ensures { IfOk result (λ made. made ≡ indexed_of self.now) }
     {
-        let unique = UniqueName::copied(alloc, self.unique)?;
+        let unique = Bytes::copied(alloc, self.unique)?;
         let summary = summary(alloc, self.bytes).map_err(|HeadError::NoMemory| AllocError)?;
         Ok(Indexed { unique, summary })
     }

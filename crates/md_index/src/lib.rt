@@ -9,11 +9,9 @@ mod gather;
 mod item;
 #[cfg(test)]
 mod tests;
-mod unique;
 mod worker;
 
 pub use by_workers::index;
 pub use error::IndexError;
 pub use gate::{Gate, OpenGate};
 pub use item::{Indexed, Message};
-pub use unique::UniqueName;

@@ -1,6 +1,6 @@
 //! Indexes with their values, and refusals.
 use super::make;
-use crate::{IndexError, Message, OpenGate, UniqueName, index};
+use crate::{IndexError, Message, OpenGate, index};
 use std::alloc::Global;
 use std::process::Abort;
 use std::sync::Wait;
@@ -62,13 +62,5 @@ fn says_why(rt: HostRuntime) {
         if let Ok(text) = format!(in rt.alloc(); "{refused}") {
             assert_eq!(rt; text.as_str(), want);
         }
-    }
-}
-
-#[test]
-fn gives_a_unique_name_back(rt: HostRuntime) {
-    if let Ok(name) = UniqueName::copied(rt.alloc(), b"1.host") {
-        assert_eq!(rt; name.as_slice(), b"1.host".as_slice());
-        assert_eq!(rt; name.into_vec().as_slice(), b"1.host".as_slice());
     }
 }
