@@ -26,11 +26,16 @@ mod verb;
 mod words;
 
 pub use error::{PlayError, PlayKind};
-pub use player::{play, transcript};
+pub use lines::count_lines;
+pub use player::{play, transcript, write_whole};
+pub use reading::read_script;
 pub use run::Printed;
 pub use setup::{Setup, image};
 pub use sink::{Put, Sink, Writer};
 pub use source::{Got, Reader, Source};
+pub use storage::Storage;
+pub use store::open_store;
+pub use summary::push_summary;
 
 #[cfg(test)]
 mod tests;

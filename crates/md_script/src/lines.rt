@@ -5,6 +5,19 @@ ghost use Rattle.std.specs.Str.Lines.{strip_carriage_return};
 
 use memchr::memchr;
 
+/// How many lines a script has, those that are passed over included.
+pub fn count_lines(script: &[u8]) -> u64
+    ensures { result ≡ length (lines_of script.now) }
+{
+    let mut left = script;
+    let mut count = 0;
+    while let Some((_, others)) = cut_line(left) {
+        left = others;
+        count += 1;
+    }
+    count
+}
+
 /// The first line of a script, without its end, and what stands after it; `None` where nothing is left. A line ends
 /// at a line feed, and one carriage return before that belongs to the end.
 pub(crate) fn cut_line(script: &[u8]) -> Option<(&[u8], &[u8])>

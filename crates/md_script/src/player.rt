@@ -44,7 +44,8 @@ pub fn transcript(alloc: Global, script: &[u8]) -> Result<Printed, AllocError>
     run(alloc, &mut StoreSession::<IndexDirs>::new(alloc), script)
 }
 
-fn write_whole<T: Sink>(sink: &mut T, text: &[u8]) -> Result<(), PlayKind>
+/// Writes a text whole. Refused `WriteFault`, after which nothing is known of what was written, or `NoMemory`, after which nothing was.
+pub fn write_whole<T: Sink>(sink: &mut T, text: &[u8]) -> Result<(), PlayKind>
     ensures { Writes (T.state sink.old) (T.state sink.new) text.now result }
 {
     match sink.put(text) {

@@ -13,8 +13,9 @@ pub(crate) const MOST_BYTES: usize = 67_108_864;
 /// The most reads that a script may take, of which the last gives nothing. A read that is tried again counts each time.
 pub(crate) const MOST_READS: u32 = 1_048_576;
 
-/// All that the source gives, within the two limits.
-pub(crate) fn read_script<S: Source>(alloc: Global, source: &mut S) -> Result<Vec<u8>, PlayKind>
+/// All that the source gives, within the two limits: at most 67,108,864 bytes, in at most 1,048,576 reads. Refused `ReadFault`, `TooLong`,
+/// `TooManyReads` or `NoMemory`.
+pub fn read_script<S: Source>(alloc: Global, source: &mut S) -> Result<Vec<u8>, PlayKind>
     ensures whole { ReadsWhole (S.state source.old) (S.state source.new) result }
     ensures counted { (S.state source.new).reads ≤ (S.state source.old).reads + MOST_READS }
 {

@@ -7,7 +7,7 @@ use md_dirs::{DirError, Dirs, ImageFile, IndexDirs};
 use std::alloc::Global;
 
 /// Directories that can begin with files, and that never fail.
-pub(crate) trait Storage: Dirs + Drop {
+pub trait Storage: Dirs + Drop {
     /// The directories that files are, made in their order: `NotFound` or `Exists` at the first that can't be made. `NoMemory` may come
     /// in place of either.
     fn holding(alloc: Global, folders: u32, files: Vec<ImageFile>) -> Result<Self, DirError>

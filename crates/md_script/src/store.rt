@@ -23,7 +23,7 @@ use md_core::{Call, Event, World};
 use md_dirs::ImageFile;
 use md_head::summary;
 use md_name::{UniqueParts, make_unique};
-use opening::open_store;
+pub use opening::open_store;
 use std::alloc::{AllocError, Global};
 use std::marker::Model;
 use std::mem;

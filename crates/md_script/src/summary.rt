@@ -20,7 +20,7 @@ pub(crate) fn push_unique(out: &mut Vec<u8>, name: &[u8]) -> Result<(), AllocErr
 }
 
 /// Appends the lines of a header summary, a line for each value that is there, and `end`.
-pub(crate) fn push_summary(out: &mut Vec<u8>, summary: &Summary) -> Result<(), AllocError>
+pub fn push_summary(out: &mut Vec<u8>, summary: &Summary) -> Result<(), AllocError>
     ensures { OnOk result (out.new.items ≡ out.old.items ++ summary_text summary.now) }
 {
     push_values(out, summary)?;

@@ -11,7 +11,7 @@ use std::alloc::Global;
 
 /// A store over folders and files, or why there is none: two files have one path, or else a name that the store refuses.
 #[tactic(auto, unfolding(crate::specs::Sessions::opened))]
-pub(super) fn open_store<D: Storage>(
+pub fn open_store<D: Storage>(
     alloc: Global,
     folders: u32,
     files: Vec<ImageFile>,
