@@ -6,7 +6,6 @@ use Rattle.md_script.specs.declared.command.Command.TheVariants as held
 use Rattle.md_script.specs.declared.verb.Mode.{Mode}
 use Rattle.md_script.specs.Folders.{most_folders}
 use Rattle.md_name.specs.declared.unique.UniqueParts.{UniqueParts}
-use Rattle.md_script.specs.Jobs.{IsPlayed}
 use Rattle.md_script.specs.Sessions.{named}
 use Rattle.md_script.specs.Commands.{Command, make_folder, make_file, submit, step, finish, list, make_name, summarize}
 
@@ -24,11 +23,10 @@ seen (held.Summary message) = summarize message.items
 abbrev pub named_of : UniqueParts → Result (List ℕ) PlayKind
 named_of parts = named parts.sec parts.micro parts.pid parts.count parts.host.now
 
--- A folder that a command makes can be added to these, and a call that is played is one whose machine stands.
-abbrev pub IsFit : List (List ℕ) → Mode → Held → Type 0
-IsFit folders mode (held.Folder name) = length folders < most_folders
-IsFit folders mode (held.Submit call) = IsPlayed mode call
-IsFit folders mode command = Unit {0}
+-- a folder that a command makes can be added to these
+abbrev pub IsFit : List (List ℕ) → Held → Type 0
+IsFit folders (held.Folder name) = length folders < most_folders
+IsFit folders command = Unit {0}
 
 -- A reader that takes no memory returned this command, or this refusal.
 abbrev pub Spells : Result Held PlayKind → Result Command PlayKind → Type 0

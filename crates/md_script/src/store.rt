@@ -1,8 +1,7 @@
 //! The session of a store: the folders that a script names, and the store over them once a command needs it.
-ghost use Rattle.std.specs.Prelude.{◌≡◌, true, OnOk, Ok, is_some};
+ghost use Rattle.std.specs.Prelude.{◌≡◌, OnOk, Ok, is_some};
 ghost use Rattle.md_head.specs.Summaries.{summary_of};
 ghost use Rattle.md_script.specs.declared.verb.Mode.TheVariants.{Playing};
-ghost use Rattle.md_core.specs.Submitting.{has_machine};
 ghost use Rattle.md_script.specs.Step.{Steps};
 ghost use Rattle.md_script.specs.Held.{seen, named_of, IsFit};
 ghost use Rattle.md_script.specs.Sessions.{obey, session_line, new_session, store_of, come_to, in_store, submitted, stepped, finished, listing_of, says};
@@ -59,7 +58,7 @@ impl StoreSession {
 
     // Does what a command says.
     fn obey(&mut self, command: Command<'_>, out: &mut Vec<u8>) -> Result<(), PlayKind>
-        requires { IsFit self.old.folders (Playing (is_some self.old.run)) command }
+        requires { IsFit self.old.folders command }
         ensures { Steps (obey self.old (seen command.entry)) self.new out.old.items out.new.items result }
     {
         match command {
@@ -92,7 +91,6 @@ impl StoreSession {
     }
 
     fn submit(&mut self, call: Call, out: &mut Vec<u8>) -> Result<(), PlayKind>
-        requires { has_machine call ≡ true }
         ensures { Steps (in_store self.old (λ r. submitted r call)) self.new out.old.items out.new.items result }
     {
         self.open()?;

@@ -1,7 +1,4 @@
 // Worked runs of moves, and what the runs of copies share with them: a world of two folders and at most one message, of one byte.
-ghost use Rattle.std.specs.Prelude.{◌≡◌, true, IfOk};
-ghost use Rattle.md_core.specs.Submitting.{has_machine};
-
 use super::{copied, step, submit};
 use crate::{Answer, Call, CoreError, DirCall, DirReply, StepOut, World};
 use md_dirs::{Bytes, DirError, ImageFile, Path, Place, PlainDirs};
@@ -78,9 +75,7 @@ pub(super) fn lists(world: &World<PlainDirs>, folder: u32, place: Place, names: 
     all_there && world.names(folder, place, names.len()).is_none()
 }
 
-pub(super) fn moving(alloc: Global, folder: u32, to: u32) -> Result<Call, AllocError>
-    ensures { IfOk result (λ call. has_machine call ≡ true) }
-{
+pub(super) fn moving(alloc: Global, folder: u32, to: u32) -> Result<Call, AllocError> {
     Ok(Call::Move {
         folder,
         unique: copied(alloc, b"u")?,
