@@ -1,5 +1,5 @@
 -- A call that acts on the paths of one name leaves what fits the deliveries of others.
-use Rattle.std.proofs.Common.{ℕ, ◌≡◌, ◌≢◌, ◌⊎◌, inl, inr, List, Some, true, cond, refl, sym, ap, subst, ◌∙◌, not, ◌&&◌, ◌<◌, take}
+use Rattle.std.proofs.Common.{ℕ, ◌≡◌, ◌≢◌, ◌⊎◌, inl, inr, List, Option, Some, None, true, cond, refl, sym, ap, subst, ◌∙◌, not, ◌&&◌, ◌<◌, take}
 use Rattle.md_dirs.specs.State.{State, file_at}
 use Rattle.md_dirs.specs.declared.paths.Path.{Path}
 use Rattle.md_dirs.specs.declared.paths.Place.{Place}
@@ -17,7 +17,7 @@ use Rattle.md_core.specs.declared.jobs.mark.Marking.{Marking}
 use Rattle.md_core.specs.declared.jobs.task.Task.{Task}
 use Rattle.md_core.specs.declared.jobs.copying.Copying.{Copying}
 use Rattle.md_core.specs.declared.jobs.moving.Moving.{Moving}
-use Rattle.md_core.specs.declared.jobs.task.Task.TheVariants.{Deliver, Mark, Move, Expunge, Copy}
+use Rattle.md_core.specs.declared.jobs.task.Task.TheVariants.{Deliver, Mark, Move, Expunge, Copy, Clean}
 
 pub message-key : (p : Path) → is_message p ≡ true → key_of p ≡ unique_of p.name
 message-key p m = by p.place m
@@ -170,7 +170,7 @@ marking-frame s s' folders asked m h = record {
   stage = h.stage;
 }
 
--- a task of a call that doesn't make the name. A later call adds its line
+-- a task of a call that doesn't make the name
 pub task-frame : (s s' : State) (v : List ℕ) → Frame s s' v → s'.folders ≡ s.folders → (asked : Call) (task : Task) → (Makes asked v → ⊥) → TaskFits s asked task → TaskFits s' asked task
 task-frame s s' v f folders asked (Deliver d) apart h =
     delivery-frame s s' d v (λ is. apart (subst (Makes asked) is (makes-delivery s asked d h))) f asked folders h
@@ -178,13 +178,61 @@ task-frame s s' v f folders asked (Move m) apart h = moving-stays s s' m asked f
 task-frame s s' v f folders asked (Expunge x) apart h = expunging-stays s s' x asked folders h
 task-frame s s' v f folders asked (Copy c) apart h =
     copying-refit s s' c asked folders (no_message-frame s s' c.fresh v (λ is. apart (subst (Makes asked) is (makes-copy s asked c h))) f) h
+task-frame s s' v f folders asked (Clean c) apart h = h
 task-frame s s' v f folders asked (Mark m) apart h = marking-frame s s' folders asked m h
 
--- A task of any call, where a message has the name. A later call adds its line
+-- a task of any call, where a message has the name
 pub task-stays : (s s' : State) (v : List ℕ) → Frame s s' v → s'.folders ≡ s.folders → (HasNoMessage s v → ⊥) → (asked : Call) (task : Task) → TaskFits s asked task → TaskFits s' asked task
 task-stays s s' v f folders some asked (Deliver d) h = delivery-stays s s' d v f some asked folders h
 task-stays s s' v f folders some asked (Move m) h = moving-stays s s' m asked folders h
 task-stays s s' v f folders some asked (Expunge x) h = expunging-stays s s' x asked folders h
 task-stays s s' v f folders some asked (Copy c) h =
     copying-refit s s' c asked folders (λ none. no_message-frame s s' c.fresh v (λ is. some (subst (HasNoMessage s) is none)) f none) h
+task-stays s s' v f folders some asked (Clean c) h = h
 task-stays s s' v f folders some asked (Mark m) h = marking-frame s s' folders asked m h
+
+-- names alone go, and files with the last of theirs
+pub record Shrinks (s s' : State) : Type 0 where
+  pub folders : s'.folders ≡ s.folders
+  pub names : (q : Path) (n : ℕ) → file_at s' q ≡ Some n → file_at s q ≡ Some n
+  pub bytes : (q : Path) (n : ℕ) → file_at s' q ≡ Some n → bytes_at s' n ≡ bytes_at s n
+
+module _ (s s' : State) (h : Shrinks s s') where
+  none-shrinks : (q : Path) → file_at s q ≡ None → file_at s' q ≡ None
+  none-shrinks q none = by (file_at s' q) refl
+    where
+      by : (o : Option ℕ) → file_at s' q ≡ o → file_at s' q ≡ None
+      by None is = is
+      by (Some n) is = let before = h.names q n is in cc
+
+  no_message-shrinks : (u : List ℕ) → HasNoMessage s u → HasNoMessage s' u
+  no_message-shrinks u none p message is = none-shrinks p (none p message is)
+
+  stage-shrinks : (d : Delivery) (stage : Stage) → StageFits s d stage → StageFits s' d stage
+  stage-shrinks d Start fits = λ p is. none-shrinks p (fits p is)
+  stage-shrinks d (Writing start k) fits = (
+    fits.0,
+    no_message-shrinks d.tmp.name fits.1,
+    record {
+      holds = λ n there. h.bytes d.tmp n there ∙ fits.2.holds n (h.names d.tmp n there);
+      only = λ n q there at. fits.2.only n q (h.names d.tmp n there) (h.names q n at);
+    },
+  )
+  stage-shrinks d Linked fits = tt
+  stage-shrinks d (Undo a) fits = (no_message-shrinks d.tmp.name fits.0, fits.1)
+
+  -- a task of any call
+  pub task-shrinks : (asked : Call) (task : Task) → TaskFits s asked task → TaskFits s' asked task
+  task-shrinks asked (Deliver d) fits = record {
+    of = fits.of;
+    in_tmp = fits.in_tmp;
+    in_folder = subst (λ (n : ℕ). d.tmp.folder < n) (sym h.folders) fits.in_folder;
+    name = fits.name;
+    chunked = fits.chunked;
+    stage = stage-shrinks d d.stage fits.stage;
+  }
+  task-shrinks asked (Mark m) fits = marking-frame s s' h.folders asked m fits
+  task-shrinks asked (Move m) fits = moving-stays s s' m asked h.folders fits
+  task-shrinks asked (Expunge x) fits = expunging-stays s s' x asked h.folders fits
+  task-shrinks asked (Copy c) fits = copying-refit s s' c asked h.folders (no_message-shrinks c.fresh) fits
+  task-shrinks asked (Clean c) fits = fits

@@ -9,6 +9,7 @@ use Rattle.md_name.specs.Names.{unique_of, info_text, info_of, flags_of, is_mess
 use Rattle.md_core.specs.declared.jobs.answer.Answer.{Answer}
 use Rattle.md_core.specs.declared.jobs.call.Call.{Call}
 use Rattle.md_core.specs.declared.jobs.call.Call.TheVariants as call
+use Rattle.md_core.specs.declared.jobs.cleaning.Cleaning.{Cleaning}
 use Rattle.md_core.specs.declared.jobs.copying.Copying.{Copying}
 use Rattle.md_core.specs.declared.jobs.deliver.Delivery.{Delivery}
 use Rattle.md_core.specs.declared.jobs.deliver.Stage.{Stage}
@@ -28,7 +29,7 @@ use Rattle.md_core.specs.declared.jobs.search.Stage.TheVariants.{LookNew, LookCu
 use Rattle.md_core.specs.declared.jobs.step.DirReply.{DirReply}
 use Rattle.md_core.specs.declared.jobs.step.Moment.{Moment}
 use Rattle.md_core.specs.declared.jobs.task.Task.{Task}
-use Rattle.md_core.specs.declared.jobs.task.Task.TheVariants.{Deliver, Mark, Move, Expunge, Copy}
+use Rattle.md_core.specs.declared.jobs.task.Task.TheVariants.{Deliver, Mark, Move, Expunge, Copy, Clean}
 use Rattle.std.specs.FinMap as finmap
 use Rattle.md_core.specs.Mailbox.{Entry, Mailbox, mailbox_of, bytes_of, is_tmp, is_message, HasOnePath}
 use Rattle.md_core.specs.History.{names_of, changed, IsAllowed}
@@ -147,13 +148,18 @@ pub record ExpungingFits (s : State) (asked : Call) (x : Expunging) : Type 0 whe
   pub valid : is_unique_name x.unique ≡ true
   pub stage : IsAtTrashed x.unique x.stage
 
--- what directories have of a task of a call. A later call adds its line
+-- a clean asks nothing of the directories
+abbrev pub CleaningFits : Call → Cleaning → Type 0
+CleaningFits asked c = asked ≡ call.Clean c.folder
+
+-- what directories have of a task of a call
 abbrev pub TaskFits : State → Call → Task → Type 0
 TaskFits s asked (Deliver d) = DeliveryFits s asked d
 TaskFits s asked (Mark m) = MarkingFits s asked m
 TaskFits s asked (Move m) = MovingFits s asked m
 TaskFits s asked (Expunge x) = ExpungingFits s asked x
 TaskFits s asked (Copy c) = CopyingFits s asked c
+TaskFits s asked (Clean c) = CleaningFits asked c
 
 -- the size of the message of a unique name that a search has found
 abbrev pub FoundAt : List ℕ → search.Stage → List ℕ → ℕ → Type 0
@@ -161,13 +167,14 @@ FoundAt unique (LookNew tries) u size = ⊥
 FoundAt unique (LookCur tries) u size = ⊥
 FoundAt unique (Act place row tries) u size = (unique ≡ u) × (row.size ≡ size)
 
--- the size of a message that a task has found, and that it will show. A later call adds its line
+-- the size of a message that a task has found, and that it will show
 abbrev pub Found : Task → List ℕ → ℕ → Type 0
 Found (Deliver d) u size = ⊥
 Found (Mark m) u size = ⊥
 Found (Move m) u size = ⊥
 Found (Expunge x) u size = ⊥
 Found (Copy c) u size = FoundAt c.unique c.stage u size
+Found (Clean c) u size = ⊥
 
 -- the message of the unique name has this size, where it is there
 abbrev pub HasSize : Mailbox → List ℕ → ℕ → Type 0
@@ -194,6 +201,7 @@ own_effect number (Mark m) = None
 own_effect number (Move m) = None
 own_effect number (Expunge x) = None
 own_effect number (Copy c) = None
+own_effect number (Clean c) = None
 
 -- What is known of a message that was found: where it is there it has this size, and no job without an effect makes its name.
 pub record Known (calls : List Call) (m : Machine) (u : List ℕ) (size : ℕ) : Type 0 where
@@ -213,6 +221,10 @@ pub record Affects (number : ℕ) (asked : Call) (folders : ℕ) (m m' : Mailbox
   pub of : e.job ≡ number
   pub changes : names_of m' ≡ changed (names_of m) e.change
   pub allowed : IsAllowed folders (names_of m) (Makes asked) e.answer e.change
+
+-- how many turns a task takes at most is for it alone to say, whatever others do to the directories
+abbrev pub IsFixed : Task → Type 0
+IsFixed task = (s s' : State) → task_left s task ≡ task_left s' task
 
 -- a job is answered as the effect says that it has had, or has had none
 abbrev pub Settles : Option Effect → Answer → Type 0
@@ -239,7 +251,8 @@ pub record Does (s s' : State) (number : ℕ) (asked : Call) (task : Task) (made
   -- the task keeps the effect that it has had, and its answer is of that
   pub settles : MatchOption after.answer (own_effect number after.task ≡ option_or after.effect (own_effect number task))
       (Settles (option_or after.effect (own_effect number task)))
-  pub nearer : MatchOption after.answer (task_left after.task < task_left task) (λ a. 0 < task_left task)
+  pub nearer : MatchOption after.answer (task_left s' after.task < task_left s task) (λ a. 0 < task_left s task)
+  pub fixed : after.answer ≡ None → IsFixed after.task
 
 -- what a turn at a moment does to directories, by whether its directory call faults
 abbrev pub DoesTurn : State → ℕ → Call → Task → Moment → Bool → Type 0

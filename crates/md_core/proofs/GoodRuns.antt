@@ -14,12 +14,13 @@ use Rattle.md_core.specs.Machines.Mark.{new_marking}
 use Rattle.md_core.specs.Machines.Move.{new_moving}
 use Rattle.md_core.specs.Machines.Expunge.{new_expunging}
 use Rattle.md_core.specs.Machines.Copy.{new_copying}
+use Rattle.md_core.specs.Machines.Clean.{new_cleaning}
 use Rattle.md_core.specs.Machine.{Machine, Standing, working, Marked, job_at, new_job, happens, done, done_by, Done}
 use Rattle.md_core.specs.Runs.{Run, beginning, moment, machine_of, done_at}
 use Rattle.std.specs.Option.{option_and_then}
-use Rattle.md_core.specs.Submitting.{submit_refusal, has_machine}
+use Rattle.md_core.specs.Submitting.{submit_refusal}
 use Rattle.md_core.specs.Interleaving.{IsRun}
-use Rattle.md_core.proofs.Good.{IsGood, Makes, EachTurn, DeliveryFits, MarkingFits, MovingFits, ExpungingFits, CopyingFits, TaskFits, Found, call_by}
+use Rattle.md_core.proofs.Good.{IsGood, Makes, EachTurn, DeliveryFits, MarkingFits, MovingFits, ExpungingFits, CopyingFits, CleaningFits, TaskFits, Found, call_by}
 use Rattle.md_core.proofs.Places.{get-take}
 use Rattle.md_core.proofs.Events.{goes_on-exact, done-turned}
 use Rattle.md_core.proofs.Runs.{at_moment, at_last, moment-end, moment-more}
@@ -99,24 +100,26 @@ module _ (r : Run) (run : IsRun r) where
             stage = tt;
           } in
           subst (TaskFits r.image (Copy folder u to fresh tries)) (let e : task.Copy (new_copying folder u to fresh tries) ≡ job = cc in e) fits
-      by (Clean a) none is = cc
+      by (Clean folder) none is =
+          let fits : CleaningFits (Clean folder) (new_cleaning folder) = refl in
+          subst (TaskFits r.image (Clean folder)) (let e : task.Clean (new_cleaning folder) ≡ job = cc in e) fits
 
   -- of two calls, the later doesn't make the name of the earlier
   not_again : (i j : ℕ) (a b : Call) (u : List ℕ) → i < j → slice_get r.calls i ≡ Some a → slice_get r.calls j ≡ Some b → Makes a u → Makes b u → ⊥
-  not_again i j a b u less ata atb mine = by b (run.accepted j b atb) (run.deliveries j b atb)
+  not_again i j a b u less ata atb mine = by b (run.accepted j b atb)
     where
-      by : (c : Call) → submit_refusal (record r { calls = take j r.calls }) c ≡ None → has_machine c ≡ true → Makes c u → ⊥
-      by (Deliver folder v body chunk) none is its =
+      by : (c : Call) → submit_refusal (record r { calls = take j r.calls }) c ≡ None → Makes c u → ⊥
+      by (Deliver folder v body chunk) none its =
           let ok = accepted (record r { calls = take j r.calls }) folder v body chunk none in
           unmade-at v (take j r.calls) i a ok.unmade (get-take j r.calls i less ∙ ata) (subst (Makes a) (sym its) mine)
-      by (Copy folder v to fresh tries) none is its =
+      by (Copy folder v to fresh tries) none its =
           let ok = accepted-copy (record r { calls = take j r.calls }) folder v to fresh tries none in
           unmade-at fresh (take j r.calls) i a ok.unmade (get-take j r.calls i less ∙ ata) (subst (Makes a) (sym its) mine)
-      by (Seen a b c d) none is its = absurd its
-      by (Flag a b c d e) none is its = absurd its
-      by (Move a b c d) none is its = absurd its
-      by (Expunge a b c) none is its = absurd its
-      by (Clean a) none is its = absurd its
+      by (Seen a b c d) none its = absurd its
+      by (Flag a b c d e) none its = absurd its
+      by (Move a b c d) none its = absurd its
+      by (Expunge a b c) none its = absurd its
+      by (Clean a) none its = absurd its
 
   -- a new task has found nothing
   none-found : (asked : Call) (job : Task) (u : List ℕ) (size : ℕ) → new_job asked ≡ working job → Found job u size → ⊥
@@ -126,7 +129,7 @@ module _ (r : Run) (run : IsRun r) where
   none-found (Move a b c d) job u size is its = subst (λ (t : Task). Found t u size) (let e : job ≡ task.Move (new_moving a b c d) = cc in e) its
   none-found (Expunge a b c) job u size is its = subst (λ (t : Task). Found t u size) (let e : job ≡ task.Expunge (new_expunging a b c) = cc in e) its
   none-found (Copy a b c d e) job u size is its = subst (λ (t : Task). Found t u size) (let h : job ≡ task.Copy (new_copying a b c d e) = cc in h) its
-  none-found (Clean a) job u size is its = cc
+  none-found (Clean a) job u size is its = subst (λ (t : Task). Found t u size) (let e : job ≡ task.Clean (new_cleaning a) = cc in e) its
 
   pub all-apart : AllApart r.calls
   all-apart i j a b differ ata atb u mine its = elim (cases_order i j) [

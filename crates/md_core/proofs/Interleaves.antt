@@ -10,14 +10,14 @@ use Rattle.md_core.specs.declared.jobs.call.Call.{Call}
 use Rattle.md_core.specs.declared.jobs.call.Call.TheVariants as call
 use Rattle.md_core.specs.declared.jobs.effect.Effect.{Effect}
 use Rattle.md_core.specs.declared.jobs.task.Task.{Task}
-use Rattle.md_core.specs.declared.jobs.task.Task.TheVariants.{Deliver, Mark, Move, Expunge, Copy}
+use Rattle.md_core.specs.declared.jobs.task.Task.TheVariants.{Deliver, Mark, Move, Expunge, Copy, Clean}
 use Rattle.md_core.specs.Mailbox.{Entry, mailbox_of, is_tmp, is_message}
 use Rattle.md_core.specs.History.{Names, names_of, listed, after, IsNowhere}
 use Rattle.md_core.specs.Machine.{Machine, Standing, working, answered, Marked, Done, job_at, job_left, new_job}
 use Rattle.md_core.specs.Machines.Deliver.{delivery_effect}
-use Rattle.md_core.specs.Runs.{Run, beginning, moment, machine_of, jobs_of}
-use Rattle.md_core.specs.Submitting.{submit_refusal, has_machine}
-use Rattle.md_core.specs.Interleaving.{IsRun, call_at, Simulates, Happened, NoneOverwritten, IsSafe, effects_by, is_success, is_linked, is_past_link, steps_of, most_steps, JobLaw, Interleaves}
+use Rattle.md_core.specs.Runs.{Run, beginning, moment, machine_of, jobs_of, dirs_of}
+use Rattle.md_core.specs.Submitting.{submit_refusal}
+use Rattle.md_core.specs.Interleaving.{IsRun, call_at, Simulates, Happened, NoneOverwritten, IsSafe, effects_by, is_success, is_linked, is_past_link, steps_of, dirs_at_first, most_from, JobLaw, Interleaves}
 use Rattle.md_core.proofs.Good.{EachTurn, IsGood, Makes, HasNoMessage, Affects, own_effect}
 use Rattle.md_core.proofs.Places.{at_place}
 use Rattle.md_core.proofs.Frames.{message-key}
@@ -68,7 +68,7 @@ by_success number a es own success = subst (λ b. MatchBool b ((e : Effect) × (
 by_failure : (number : ℕ) (a : Answer) (es : List Effect) → Has number (answered a) es → is_success a ≡ false → es ≡ []
 by_failure number a es own failure = subst (λ b. MatchBool b ((e : Effect) × (es ≡ e ∷ []) × (e.answer ≡ a)) (es ≡ [])) failure own
 
--- the effect of a delivery that has no answer is its link. A later call adds its line
+-- the effect of a delivery that has no answer is its link
 by_link : (number : ℕ) (task : Task) (es : List Effect) → Has number (working task) es → es ≢ [] → is_past_link task ≡ true
 by_link number (Deliver d) es own some = by (is_linked d.stage) own
   where
@@ -79,21 +79,22 @@ by_link number (Mark m) es own some = absurd (some own)
 by_link number (Move m) es own some = absurd (some own)
 by_link number (Expunge x) es own some = absurd (some own)
 by_link number (Copy c) es own some = absurd (some own)
+by_link number (Clean c) es own some = absurd (some own)
 
 -- what a job of an accepted call may take at its beginning is the most that its call takes
-left-most : (r : Run) (asked : Call) → submit_refusal r asked ≡ None → job_left (new_job asked) ≡ most_steps asked
-left-most r (call.Deliver a b c d) none = refl
-left-most r (call.Seen a b c tries) none = let some = (accepted-look_up r a b tries none).some in omega arith
-left-most r (call.Flag a b c d tries) none = let some = (accepted-look_up r a b tries none).some in omega arith
-left-most r (call.Move a b c tries) none = let some = (accepted-move r a b c tries none).tried in omega arith
-left-most r (call.Expunge a b tries) none = let some = (accepted-look_up r a b tries none).some in omega arith
-left-most r (call.Copy a b c d tries) none = let some = (accepted-copy r a b c d tries none).tried in omega arith
-left-most r (call.Clean a) none = refl
+left-most : (r : Run) (s : State) (asked : Call) → submit_refusal r asked ≡ None → job_left s (new_job asked) ≡ most_from s asked
+left-most r s (call.Deliver a b c d) none = refl
+left-most r s (call.Seen a b c tries) none = let some = (accepted-look_up r a b tries none).some in omega arith
+left-most r s (call.Flag a b c d tries) none = let some = (accepted-look_up r a b tries none).some in omega arith
+left-most r s (call.Move a b c tries) none = let some = (accepted-move r a b c tries none).tried in omega arith
+left-most r s (call.Expunge a b tries) none = let some = (accepted-look_up r a b tries none).some in omega arith
+left-most r s (call.Copy a b c d tries) none = let some = (accepted-copy r a b c d tries none).tried in omega arith
+left-most r s (call.Clean a) none = refl
 
 -- a job with no step left has its answer
-ends-by : (job : Standing) → job_left job ≤ 0 → (a : Answer) × (job ≡ answered a)
-ends-by (working task) none = let some = left-some task in absurd (omega arith)
-ends-by (answered a) none = (a, refl)
+ends-by : (s : State) (job : Standing) → job_left s job ≤ 0 → (a : Answer) × (job ≡ answered a)
+ends-by s (working task) none = let some = left-some s task in absurd (omega arith)
+ends-by s (answered a) none = (a, refl)
 
 module _ (turns : EachTurn) (r : Run) (run : IsRun r) where
   abbrev opening : Names
@@ -138,26 +139,26 @@ module _ (turns : EachTurn) (r : Run) (run : IsRun r) where
 
   -- a name that a call makes is nowhere at the beginning
   fresh-name : (i : ℕ) (asked : Call) (u : List ℕ) → slice_get r.calls i ≡ Some asked → Makes asked u → IsNowhere opening u
-  fresh-name i asked u at makes = by asked (run.accepted i asked at) (run.deliveries i asked at) makes
+  fresh-name i asked u at makes = by asked (run.accepted i asked at) makes
     where
       no_entry : HasNoMessage r.image u → (o : Option Entry) → finmap.get (mailbox_of r.image) u ≡ o → finmap.get (mailbox_of r.image) u ≡ None
       no_entry none None is = is
       no_entry none (Some e) is = let h = mailbox-shows r.image u e is in let gone = none h.path h.message h.unique in let there = h.there in cc
 
-      by : (c : Call) → submit_refusal (record r { calls = take i r.calls }) c ≡ None → has_machine c ≡ true → Makes c u → IsNowhere opening u
-      by (call.Deliver folder v body chunk) none is its =
+      by : (c : Call) → submit_refusal (record r { calls = take i r.calls }) c ≡ None → Makes c u → IsNowhere opening u
+      by (call.Deliver folder v body chunk) none its =
           let a = accepted (record r { calls = take i r.calls }) folder v body chunk none in
           let unused = unused-path r.image v a.valid a.unused in
           get-names (mailbox_of r.image) u ∙ ap (option_map (listed u)) (no_entry (λ p message same. unused p (message-key p message ∙ same ∙ sym its)) _ refl)
-      by (call.Copy folder v to fresh tries) none is its =
+      by (call.Copy folder v to fresh tries) none its =
           let a = accepted-copy (record r { calls = take i r.calls }) folder v to fresh tries none in
           let unused = unused-path r.image fresh a.fresh_valid a.unused in
           get-names (mailbox_of r.image) u ∙ ap (option_map (listed u)) (no_entry (λ p message same. unused p (message-key p message ∙ same ∙ sym its)) _ refl)
-      by (call.Seen a b c d) none is its = absurd its
-      by (call.Flag a b c d e) none is its = absurd its
-      by (call.Move a b c d) none is its = absurd its
-      by (call.Expunge a b c) none is its = absurd its
-      by (call.Clean a) none is its = absurd its
+      by (call.Seen a b c d) none its = absurd its
+      by (call.Flag a b c d e) none its = absurd its
+      by (call.Move a b c d) none its = absurd its
+      by (call.Expunge a b c) none its = absurd its
+      by (call.Clean a) none its = absurd its
 
   tells-start : Tells r.image.folders opening r.calls (beginning r.image r.calls)
   tells-start = record {
@@ -195,14 +196,14 @@ module _ (turns : EachTurn) (r : Run) (run : IsRun r) where
   keeps (suc j) asked job from at =
       let own : Has (suc j) job (effects_by r (suc j)) = tells.own j job at in
       let most = bounded-machine r run turns (suc j) asked job from at in
-      let whole = left-most (record r { calls = take j r.calls }) asked (run.accepted j asked from) in
+      let whole = left-most (record r { calls = take j r.calls }) (dirs_at_first r (suc j)) asked (run.accepted j asked from) in
       record {
         once = at_most_one (suc j) job (effects_by r (suc j)) own;
         success = λ a is success. by_success (suc j) a (effects_by r (suc j)) (subst (λ (x : Standing). Has (suc j) x (effects_by r (suc j))) is own) success;
         failure = λ a is failure. by_failure (suc j) a (effects_by r (suc j)) (subst (λ (x : Standing). Has (suc j) x (effects_by r (suc j))) is own) failure;
         unanswered = λ t is some. by_link (suc j) t (effects_by r (suc j)) (subst (λ (x : Standing). Has (suc j) x (effects_by r (suc j))) is own) some;
-        bounded = subst (λ (n : ℕ). steps_of r (suc j) + job_left job ≤ n) whole most;
-        ends = λ all. ends-by job (omega (arith, most, whole, all));
+        bounded = subst (λ (n : ℕ). steps_of r (suc j) + job_left (dirs_of r) job ≤ n) whole most;
+        ends = λ all. ends-by (dirs_of r) job (omega (arith, most, whole, all));
       }
 
 -- Whatever the order of a run's events and whichever directory calls fault, it interleaves: if each turn does what it should.

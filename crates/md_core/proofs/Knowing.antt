@@ -12,7 +12,7 @@ use Rattle.md_core.specs.declared.jobs.effect.Effect.{Effect}
 use Rattle.md_core.specs.declared.jobs.mark.Mark as marks
 use Rattle.md_core.specs.declared.jobs.mark.Mark.TheVariants as mark
 use Rattle.md_core.specs.declared.jobs.task.Task.{Task}
-use Rattle.md_core.specs.declared.jobs.task.Task.TheVariants.{Deliver, Mark, Move, Expunge, Copy}
+use Rattle.md_core.specs.declared.jobs.task.Task.TheVariants.{Deliver, Mark, Move, Expunge, Copy, Clean}
 use Rattle.md_core.specs.Mailbox.{Entry, Mailbox, mailbox_of}
 use Rattle.md_core.specs.Machines.Deliver.{delivery_effect}
 use Rattle.md_core.specs.Machine.{Machine, working, Done}
@@ -38,7 +38,7 @@ mark-makes : (folder : ℕ) (v : List ℕ) (k : marks.Mark) (tries : ℕ) (u : L
 mark-makes folder v (mark.Seen given) tries u makes = makes
 mark-makes folder v (mark.Flag add remove) tries u makes = makes
 
--- A job that has had no effect makes only names that no message has. A later call adds its line
+-- a job that has had no effect makes only names that no message has
 pub makes-none : (s : State) (number : ℕ) (asked : Call) (task : Task) (u : List ℕ) → TaskFits s asked task → own_effect number task ≡ None → Makes asked u → HasNoMessage s u
 makes-none s number asked (Deliver d) u fits without makes = subst (HasNoMessage s) (subst (λ (c : Call). Makes c u) fits.of makes) (by d.stage fits.stage without)
   where
@@ -50,6 +50,7 @@ makes-none s number asked (Deliver d) u fits without makes = subst (HasNoMessage
 makes-none s number asked (Mark m) u fits without makes = absurd (mark-makes m.folder m.unique m.mark fits.tries u (subst (λ (c : Call). Makes c u) fits.of makes))
 makes-none s number asked (Move m) u fits without makes = absurd (subst (λ (c : Call). Makes c u) fits.of makes)
 makes-none s number asked (Expunge x) u fits without makes = absurd (subst (λ (c : Call). Makes c u) fits.of makes)
+makes-none s number asked (Clean c) u fits without makes = absurd (subst (λ (x : Call). Makes x u) fits makes)
 makes-none s number asked (Copy c) u fits without makes = subst (HasNoMessage s) (subst (λ (x : Call). Makes x u) fits.of makes) fits.none
 
 -- a message that is there is known

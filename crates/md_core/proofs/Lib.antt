@@ -20,6 +20,7 @@ pub mod Mark
 pub mod Move
 pub mod Expunge
 pub mod Copy
+pub mod Clean
 pub mod EachTurn
 pub mod Places
 pub mod Events

@@ -1,6 +1,9 @@
 -- Elements of lists by their places: in a list that is longer, in the first of it, and after a change.
-use Rattle.std.proofs.Common.{ℕ, zero, suc, ◌≡◌, ◌<◌, ◌≤◌, ◌+◌, inl, inr, List, [], ◌∷◌, ◌++◌, Option, Some, None, refl, ap, ◌∙◌, length, take, slice_get, slice_set, arith}
+use Rattle.std.proofs.Common.{ℕ, zero, suc, ◌≡◌, ◌<◌, ◌≤◌, ◌+◌, inl, inr, List, [], ◌∷◌, ◌++◌, Option, Some, None, Bool, true, false, cond, not, refl, sym, ap, subst, ◌∙◌, length, take, slice_get, slice_set, arith}
+use Rattle.std.specs.List.{position_or_len}
+use Rattle.std.specs.Prelude.{count_by}
 use Rattle.std.proofs.lemmas.Bool.{cases_lt}
+use Rattle.std.proofs.lemmas.List.Sums.{sum_by-append}
 
 pub get-more : {X : Type 0} (xs ys : List X) (i : ℕ) (x : X) → slice_get xs i ≡ Some x → slice_get (xs ++ ys) i ≡ Some x
 get-more [] ys i x is = cc
@@ -62,3 +65,33 @@ pub length-changed : {X : Type 0} (xs : List X) (i : ℕ) (x : X) → length (sl
 length-changed [] i x = refl
 length-changed (z ∷ xs) zero x = refl
 length-changed (z ∷ xs) (suc i) x = ap suc (length-changed xs i x)
+
+-- where the first element of a kind stands: there is none, there is one already, or it is the last
+module _ {X : Type 0} (p : X → Bool) where
+  count-more : (x : X) (xs : List X) → count_by p (x ∷ xs) ≡ cond {A = ℕ} (p x) 1 0 + count_by p xs
+  count-more x xs = let h = sum_by-append (λ y. cond {A = ℕ} (p y) 1 0) (x ∷ []) xs in omega (arith, h)
+
+  pub none-of_kind : (xs : List X) → count_by p xs ≡ 0 → position_or_len p xs ≡ length xs
+  none-of_kind [] none = refl
+  none-of_kind (x ∷ xs) none = by (p x) (sym (count-more x xs) ∙ none) (none-of_kind xs)
+    where
+      by : (b : Bool) → cond {A = ℕ} b 1 0 + count_by p xs ≡ 0 → (count_by p xs ≡ 0 → position_or_len p xs ≡ length xs) → cond (not b) (1 + position_or_len p xs) 0 ≡ suc (length xs)
+      by true h rest = absurd (omega arith)
+      by false h rest = let r = rest (omega (arith, h)) in omega (arith, r)
+
+  pub some-of_kind : (xs : List X) (y : X) → 0 < count_by p xs → (position_or_len p (xs ++ y ∷ []) ≡ position_or_len p xs) × (position_or_len p xs ≤ length xs)
+  some-of_kind [] y some = absurd (omega arith)
+  some-of_kind (x ∷ xs) y some = by (p x) (subst (λ (n : ℕ). 0 < n) (count-more x xs) some) (some-of_kind xs y)
+    where
+      by : (b : Bool) → 0 < cond {A = ℕ} b 1 0 + count_by p xs → (0 < count_by p xs → (position_or_len p (xs ++ y ∷ []) ≡ position_or_len p xs) × (position_or_len p xs ≤ length xs)) →
+          (cond (not b) (1 + position_or_len p (xs ++ y ∷ [])) 0 ≡ cond (not b) (1 + position_or_len p xs) 0) × (cond (not b) (1 + position_or_len p xs) 0 ≤ suc (length xs))
+      by true h rest = (refl, omega arith)
+      by false h rest = let r = rest (omega (arith, h)) in let less = r.1 in (ap (λ n. 1 + n) r.0, omega (arith, less))
+
+  pub first-of_kind : (xs : List X) (y : X) → count_by p xs ≡ 0 → p y ≡ true → position_or_len p (xs ++ y ∷ []) ≡ length xs
+  first-of_kind [] y none is = ap (λ b. cond (not b) 1 0) is
+  first-of_kind (x ∷ xs) y none is = by (p x) (sym (count-more x xs) ∙ none) (λ h. first-of_kind xs y h is)
+    where
+      by : (b : Bool) → cond {A = ℕ} b 1 0 + count_by p xs ≡ 0 → (count_by p xs ≡ 0 → position_or_len p (xs ++ y ∷ []) ≡ length xs) → cond (not b) (1 + position_or_len p (xs ++ y ∷ [])) 0 ≡ suc (length xs)
+      by true h rest = absurd (omega arith)
+      by false h rest = let r = rest (omega (arith, h)) in omega (arith, r)

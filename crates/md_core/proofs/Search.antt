@@ -25,7 +25,7 @@ use Rattle.md_core.specs.Machine.{task_left}
 use Rattle.md_core.specs.Machines.Search.{acts_on, after_none, after_row, after_look, after_lost, leads, search_left}
 use Rattle.md_core.specs.Turn.{Asked, After}
 use Rattle.md_core.specs.Interleaving.{is_effect_at, is_success}
-use Rattle.md_core.proofs.Good.{SearchFits, TaskFits, Found, FoundAt, IsOfSize, bytes_at, own_effect, Does}
+use Rattle.md_core.proofs.Good.{SearchFits, TaskFits, Found, FoundAt, IsFixed, IsOfSize, bytes_at, own_effect, Does}
 use Rattle.md_core.proofs.LookUps.{found-row, row-entry}
 use Rattle.md_core.proofs.Stays.{stays-does}
 
@@ -98,11 +98,11 @@ as_after wrap a = record { task = wrap a.task; answer = a.answer; effect = a.eff
 pub search-does : {T : Type 0} (wrap : T → Task) (t : T) (at : Stage → T) (any : Bool) (u : List ℕ) (s : State) (number : ℕ) (asked : Call) (made : Asked) (r : DirReply) →
     IsSound s → HasOnePath s → ((stage : Stage) → SearchFits any u stage → TaskFits s asked (wrap (at stage))) →
     own_effect number (wrap t) ≡ None → ((stage : Stage) → own_effect number (wrap (at stage)) ≡ None) →
-    ((stage : Stage) → task_left (wrap (at stage)) ≡ search_left stage) → ((stage : Stage) (v : List ℕ) (size : ℕ) → Found (wrap (at stage)) v size → FoundAt u stage v size) →
+    ((stage : Stage) → task_left s (wrap (at stage)) ≡ search_left stage) → ((stage : Stage) → IsFixed (wrap (at stage))) → ((stage : Stage) (v : List ℕ) (size : ℕ) → Found (wrap (at stage)) v size → FoundAt u stage v size) →
     ((o : Option Answer) → is_effect_at asked made r o ≡ false) →
-    (next : Next) → NextFits s any u (task_left (wrap t)) next → Does s s number asked (wrap t) made r (as_after wrap (leads t at next))
-search-does wrap t at any u s number asked made r sound one fits none none_at left found no_effect (To stage) h =
+    (next : Next) → NextFits s any u (task_left s (wrap t)) next → Does s s number asked (wrap t) made r (as_after wrap (leads t at next))
+search-does wrap t at any u s number asked made r sound one fits none none_at left fixed found no_effect (To stage) h =
     stays-does s number asked (wrap t) (wrap (at stage)) made r None sound one (λ _. fits stage h.0) (no_effect None) none (none_at stage) tt
-    (let same = left stage in let less = h.1 in omega arith) (λ v size unanswered its. inr (h.2 v size (found stage v size its)))
-search-does wrap t at any u s number asked made r sound one fits none none_at left found no_effect (Ends a) h =
-    stays-does s number asked (wrap t) (wrap t) made r (Some a) sound one (λ is. cc) (no_effect (Some a)) none none h.0 h.1 (λ v size unanswered its. cc)
+    (let same = left stage in let less = h.1 in omega arith) (λ _. fixed stage) (λ v size unanswered its. inr (h.2 v size (found stage v size its)))
+search-does wrap t at any u s number asked made r sound one fits none none_at left fixed found no_effect (Ends a) h =
+    stays-does s number asked (wrap t) (wrap t) made r (Some a) sound one (λ is. cc) (no_effect (Some a)) none none h.0 h.1 (λ is. cc) (λ v size unanswered its. cc)

@@ -10,7 +10,7 @@ use Rattle.md_core.specs.Mailbox.{mailbox_of, HasOnePath}
 use Rattle.md_core.specs.Machine.{task_left}
 use Rattle.md_core.specs.Turn.{Asked}
 use Rattle.md_core.specs.Interleaving.{is_effect_at, is_success}
-use Rattle.md_core.proofs.Good.{TaskFits, Found, IsOfSize, Settles, own_effect, Does}
+use Rattle.md_core.proofs.Good.{TaskFits, Found, IsFixed, IsOfSize, Settles, own_effect, Does}
 use Rattle.md_core.proofs.Spares.{Spares, spares-all}
 
 -- a job that has had no effect ends with an answer that says so
@@ -24,10 +24,10 @@ settles-none had a none failure = by (is_success a) failure
 module _ (s : State) (number : ℕ) (asked : Call) (task task' : Task) (made : Asked) (r : DirReply) (o : Option Answer) where
   pub stays-does : IsSound s → HasOnePath s → (o ≡ None → TaskFits s asked task') → is_effect_at asked made r o ≡ false →
       own_effect number task ≡ None → own_effect number task' ≡ None → MatchOption o (Unit {0}) (λ a. is_success a ≡ false) →
-      MatchOption o (task_left task' < task_left task) (λ a. 0 < task_left task) →
+      MatchOption o (task_left s task' < task_left s task) (λ a. 0 < task_left s task) → (o ≡ None → IsFixed task') →
       ((u : List ℕ) (size : ℕ) → o ≡ None → Found task' u size → Found task u size ⊎ IsOfSize (mailbox_of s) u size) →
       Does s s number asked task made r (record { task = task'; answer = o; effect = None })
-  stays-does sound one fits no_effect none none' failure nearer found = record {
+  stays-does sound one fits no_effect none none' failure nearer fixed found = record {
     sound = sound;
     one_path = one;
     folders = refl;
@@ -42,6 +42,7 @@ module _ (s : State) (number : ℕ) (asked : Call) (task task' : Task) (made : A
     effect = tt;
     settles = settles o failure;
     nearer = nearer;
+    fixed = fixed;
   }
     where
       spared : Spares s s

@@ -12,7 +12,7 @@ use Rattle.md_core.specs.Machine.{Machine, new_job}
 use Rattle.md_core.specs.Standing.{JobView, job_of}
 use Rattle.md_core.specs.Runs.{Run, beginning, and_call, first_clock, effects_of}
 use Rattle.md_core.specs.Loading.{load_refusal}
-use Rattle.md_core.specs.Submitting.{submit_refusal, has_machine, makes, uses}
+use Rattle.md_core.specs.Submitting.{submit_refusal, makes, uses}
 use Rattle.md_core.specs.Used.{is_among}
 use Rattle.md_core.specs.Worlds.{IsWorld, run_of, machine_by}
 use Rattle.md_core.proofs.Events.{with_job}
@@ -52,11 +52,11 @@ module _ (first : Device) (jobs : List JobView) (events : List Event) (marks : L
   kept-submitted : machine_by held clock (jobs ++ job_of asked ∷ []) effects ≡ with_job (machine_by held clock jobs effects) (new_job asked)
   kept-submitted = λ i. record { dirs = held.state; clock = clock; jobs = map-append (λ job. job.standing) jobs (job_of asked ∷ []) i; effects = effects }
 
-  module _ (world : IsWorld run (machine_by held clock jobs effects) held used events marks) (delivery : has_machine asked ≡ true) (goes : submit_refusal run asked ≡ None)
+  module _ (world : IsWorld run (machine_by held clock jobs effects) held used events marks) (goes : submit_refusal run asked ≡ None)
       (used' : List (List ℕ)) (names : (u : List ℕ) → is_among u used' ≡ (makes u asked || is_among u used)) where
     submitted : IsWorld (and_call run asked) (machine_by held clock (jobs ++ job_of asked ∷ []) effects) held used' events marks
     submitted = record {
-      run = is_run-and_call run asked world.run goes delivery;
+      run = is_run-and_call run asked world.run goes;
       now = kept-submitted ∙ ap (λ (m : Machine). with_job m (new_job asked)) world.now ∙ sym (machine-and_call run world.run asked);
       failed = world.failed;
       called = world.called;

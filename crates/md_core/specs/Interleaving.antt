@@ -1,9 +1,12 @@
 -- What holds of every run, whatever the order of its events and whichever directory calls fault.
 use Rattle.std.specs.Prelude.{ℕ, ◌≡◌, ◌≢◌, ◌+◌, ◌*◌, ◌≤◌, ◌<◌, ◌++◌, ◌∷◌, ◌⊎◌, List, [], Option, Some, None, Bool, true, false, ◌==◌, filter, length, take, slice_get, zero, suc, IfSome, is_some, count_by}
+use Rattle.std.specs.List.{position_or_len}
 use Rattle.std.specs.Option.{option_to_list}
 use Rattle.std.specs.FinMap as finmap
 use Rattle.md_dirs.specs.State.{State, IsSound, file_at}
+use Rattle.md_dirs.specs.Rows.{rows_of}
 use Rattle.md_dirs.specs.declared.paths.Path.{Path}
+use Rattle.md_dirs.specs.declared.paths.Place.TheVariants.{Tmp}
 use Rattle.md_core.specs.declared.jobs.answer.Answer.{Answer}
 use Rattle.md_core.specs.declared.jobs.answer.Answer.TheVariants as answer
 use Rattle.md_core.specs.declared.jobs.call.Call.{Call}
@@ -23,9 +26,9 @@ use Rattle.md_core.specs.Turn.{Asked, link, rename, unlink, list}
 use Rattle.md_core.specs.Machines.Deliver.{pieces}
 use Rattle.md_core.specs.Machine.{Machine, Standing, working, answered, Marked, Done, step_out, job_at, job_left}
 use Rattle.md_core.specs.Machine.{done as done_of}
-use Rattle.md_core.specs.Runs.{Run, moment, machine_of, done_at, jobs_of, effects_of, step_refusal}
+use Rattle.md_core.specs.Runs.{Run, moment, machine_of, dirs_of, done_at, jobs_of, effects_of, step_refusal}
 use Rattle.md_core.specs.Loading.{load_refusal}
-use Rattle.md_core.specs.Submitting.{submit_refusal, has_machine}
+use Rattle.md_core.specs.Submitting.{submit_refusal}
 
 -- The runs of a world: sound directories at the beginning, with no fault; each call accepted by the checks when it was submitted; and each
 -- event of a job that was there and had no answer.
@@ -33,7 +36,6 @@ pub record IsRun (r : Run) : Type 0 where
   pub sound : IsSound r.image
   pub loaded : load_refusal r.image ≡ None
   pub accepted : (i : ℕ) (call : Call) → slice_get r.calls i ≡ Some call → submit_refusal (record r { calls = take i r.calls }) call ≡ None
-  pub deliveries : (i : ℕ) (call : Call) → slice_get r.calls i ≡ Some call → has_machine call ≡ true
   pub taken : (k : ℕ) (e : Marked) → slice_get r.events k ≡ Some e → step_refusal (job_at (moment r k).jobs e.event.job) ≡ None
 
 -- calls are numbered as their jobs, from 1
@@ -150,6 +152,7 @@ is_past_link (task.Mark m) = false
 is_past_link (task.Move m) = false
 is_past_link (task.Expunge x) = false
 is_past_link (task.Copy c) = false
+is_past_link (task.Clean c) = false
 
 -- the effects of a job
 abbrev pub effects_by : Run → ℕ → List Effect
@@ -164,16 +167,23 @@ Succeeds r job (Some a) = is_success a ≡ true → (e : Effect) × (effects_by 
 abbrev pub steps_of : Run → ℕ → ℕ
 steps_of r job = count_by (λ e. e.event.job == job) r.events
 
--- The most steps that a call takes: a delivery takes one for each piece of its body, and three more; a seen, a flag and an expunge take two for
--- each try, a move and a copy three. Only Clean is still to come, and takes none.
-abbrev pub most_steps : Call → ℕ
-most_steps (call.Deliver folder unique body chunk) = pieces (length body) chunk + 3
-most_steps (call.Seen folder unique flags tries) = 2 * tries
-most_steps (call.Flag folder unique add remove tries) = 2 * tries
-most_steps (call.Move folder unique to tries) = 3 * tries
-most_steps (call.Expunge folder unique tries) = 2 * tries
-most_steps (call.Copy folder unique to fresh tries) = 3 * tries
-most_steps call = 0
+-- the directories before the first step of a job, or as they are where it has taken none
+abbrev pub dirs_at_first : Run → ℕ → State
+dirs_at_first r job = (moment r (position_or_len (λ e. e.event.job == job) r.events)).dirs
+
+-- The most steps that a call takes which begins over these directories: a delivery takes one for each piece of its body, and three more; a seen, a
+-- flag and an expunge take two for each try, a move and a copy three; a clean takes one, and one for each name of tmp.
+abbrev pub most_from : State → Call → ℕ
+most_from s (call.Deliver folder unique body chunk) = pieces (length body) chunk + 3
+most_from s (call.Seen folder unique flags tries) = 2 * tries
+most_from s (call.Flag folder unique add remove tries) = 2 * tries
+most_from s (call.Move folder unique to tries) = 3 * tries
+most_from s (call.Expunge folder unique tries) = 2 * tries
+most_from s (call.Copy folder unique to fresh tries) = 3 * tries
+most_from s (call.Clean folder) = 1 + length (rows_of s folder Tmp)
+
+abbrev pub most_steps : Run → ℕ → Call → ℕ
+most_steps r job call = most_from (dirs_at_first r job) call
 
 -- What is promised of each job and its call, by how the job stands.
 pub record JobLaw (r : Run) (number : ℕ) (call : Call) (job : Standing) : Type 0 where
@@ -182,9 +192,9 @@ pub record JobLaw (r : Run) (number : ℕ) (call : Call) (job : Standing) : Type
   pub failure : (a : Answer) → job ≡ answered a → is_success a ≡ false → effects_by r number ≡ []
   pub unanswered : (t : Task) → job ≡ working t → effects_by r number ≢ [] → is_past_link t ≡ true
   -- the steps that it has taken, and those that it may still take, are together no more than its call takes
-  pub bounded : steps_of r number + job_left job ≤ most_steps call
+  pub bounded : steps_of r number + job_left (dirs_of r) job ≤ most_steps r number call
   -- given that many steps it has its answer, whatever the replies were
-  pub ends : most_steps call ≤ steps_of r number → (a : Answer) × (job ≡ answered a)
+  pub ends : most_steps r number call ≤ steps_of r number → (a : Answer) × (job ≡ answered a)
 
 -- The interleaving theorem of a run.
 pub record Interleaves (r : Run) : Type 0 where

@@ -8,10 +8,10 @@ use Rattle.md_core.specs.Machines.Mark.{new_marking, marking_turn, marking_left}
 use Rattle.md_core.specs.Machines.Move.{new_moving, moving_turn, moving_left}
 use Rattle.md_core.specs.Machines.Expunge.{new_expunging, expunging_turn, expunging_left}
 use Rattle.md_core.specs.Machines.Copy.{new_copying, copying_turn, copying_left}
+use Rattle.md_core.specs.Machines.Clean.{new_cleaning, cleaning_turn, cleaning_left}
 use Rattle.md_core.specs.declared.jobs.call.Call.{Call}
 use Rattle.md_core.specs.declared.jobs.call.Call.TheVariants as call
 use Rattle.md_core.specs.declared.jobs.answer.Answer.{Answer}
-use Rattle.md_core.specs.declared.jobs.answer.Answer.TheVariants as answer
 use Rattle.md_core.specs.declared.jobs.effect.Effect.{Effect}
 use Rattle.md_core.specs.declared.jobs.step.DirReply.{DirReply}
 use Rattle.md_core.specs.declared.jobs.step.Event.{Event}
@@ -19,7 +19,7 @@ use Rattle.md_core.specs.declared.jobs.step.Moment.{Moment}
 use Rattle.md_core.specs.declared.jobs.step.StepOut.{StepOut}
 use Rattle.md_core.specs.declared.jobs.mark.Mark.TheVariants as mark
 use Rattle.md_core.specs.declared.jobs.task.Task.{Task}
-use Rattle.md_core.specs.declared.jobs.task.Task.TheVariants.{Deliver, Mark, Move, Expunge, Copy}
+use Rattle.md_core.specs.declared.jobs.task.Task.TheVariants.{Deliver, Mark, Move, Expunge, Copy, Clean}
 
 -- a turn of one kind of task, as a turn of a task
 abbrev pub as_task : {T : Type 0} → (T → Task) → Turn T → Turn Task
@@ -28,21 +28,23 @@ as_task wrap t = record {
   follows = λ r rows. let after = t.follows r rows in record { task = wrap after.task; answer = after.answer; effect = after.effect };
 }
 
--- The turn of a task, by the number of its job and the moment. A later call adds its line.
+-- The turn of a task, by the number of its job and the moment.
 abbrev pub turn_of : ℕ → Task → Moment → Turn Task
 turn_of job (Deliver d) at = as_task Deliver (delivery_turn job d at)
 turn_of job (Mark m) at = as_task Mark (marking_turn job m)
 turn_of job (Move m) at = as_task Move (moving_turn job m)
 turn_of job (Expunge x) at = as_task Expunge (expunging_turn job x)
 turn_of job (Copy c) at = as_task Copy (copying_turn job c)
+turn_of job (Clean c) at = as_task Clean (cleaning_turn c at.own)
 
--- how many turns a task takes at most from here to its answer
-abbrev pub task_left : Task → ℕ
-task_left (Deliver d) = delivery_left d
-task_left (Mark m) = marking_left m
-task_left (Move m) = moving_left m
-task_left (Expunge x) = expunging_left x
-task_left (Copy c) = copying_left c
+-- how many turns a task takes at most from here to its answer. A clean that has not begun takes as many as the directories have names for it
+abbrev pub task_left : State → Task → ℕ
+task_left s (Deliver d) = delivery_left d
+task_left s (Mark m) = marking_left m
+task_left s (Move m) = moving_left m
+task_left s (Expunge x) = expunging_left x
+task_left s (Copy c) = copying_left c
+task_left s (Clean c) = cleaning_left s c
 
 -- How a job stands: at work, or answered. One that is answered holds nothing but its answer.
 pub data Standing : Type 0 where
@@ -53,7 +55,7 @@ abbrev pub is_working : Standing → Bool
 is_working (working task) = true
 is_working (answered a) = false
 
--- A job at its beginning. Only Clean is still to come: it stands for a job that has ended.
+-- a job at its beginning
 abbrev pub new_job : Call → Standing
 new_job (call.Deliver folder unique body chunk) = working (Deliver (new_delivery folder unique body chunk))
 new_job (call.Seen folder unique flags tries) = working (Mark (new_marking folder unique (mark.Seen flags) tries))
@@ -61,11 +63,11 @@ new_job (call.Flag folder unique add remove tries) = working (Mark (new_marking 
 new_job (call.Move folder unique to tries) = working (Move (new_moving folder unique to tries))
 new_job (call.Expunge folder unique tries) = working (Expunge (new_expunging folder unique tries))
 new_job (call.Copy folder unique to fresh tries) = working (Copy (new_copying folder unique to fresh tries))
-new_job other = answered answer.Fault
+new_job (call.Clean folder) = working (Clean (new_cleaning folder))
 
-abbrev pub job_left : Standing → ℕ
-job_left (working task) = task_left task
-job_left (answered a) = 0
+abbrev pub job_left : State → Standing → ℕ
+job_left s (working task) = task_left s task
+job_left s (answered a) = 0
 
 pub record Machine : Type 0 where
   pub dirs : State

@@ -4,3 +4,4 @@ pub mod Search
 pub mod Move
 pub mod Expunge
 pub mod Copy
+pub mod Clean

@@ -94,13 +94,13 @@ answer_of None = None
 answer_of (Some (working task)) = None
 answer_of (Some (answered a)) = Some a
 
--- how many steps a job takes at most from here to its answer
-abbrev pub left_of : Option Standing → ℕ
-left_of None = 0
-left_of (Some job) = job_left job
+-- how many steps a job takes at most from here to its answer, if no other job takes one
+abbrev pub left_of : State → Option Standing → ℕ
+left_of s None = 0
+left_of s (Some job) = job_left s job
 
 abbrev pub steps_left : Run → ℕ → ℕ
-steps_left r job = left_of (job_at (jobs_of r) job)
+steps_left r job = left_of (dirs_of r) (job_at (jobs_of r) job)
 
 -- where a step of a job is refused, want of memory aside: no such job, or it has its answer
 abbrev pub step_refusal : Option Standing → Option CoreError

@@ -1,5 +1,5 @@
 -- What is checked of a call when it is submitted, and in which order.
-use Rattle.std.specs.Prelude.{ℕ, List, [], ◌∷◌, Option, Some, None, Bool, true, false, ◌&&◌, ◌||◌, ◌==◌, not, nat_lt, nat_le, if◌then◌else◌, length}
+use Rattle.std.specs.Prelude.{ℕ, List, [], ◌∷◌, Option, Some, None, Bool, false, ◌&&◌, ◌||◌, ◌==◌, not, nat_lt, nat_le, if◌then◌else◌, length}
 use Rattle.std.specs.List.{list_any}
 use Rattle.std.specs.Str.{bytes_eq}
 use Rattle.std.specs.FinMap as finmap
@@ -75,13 +75,3 @@ checks r (Clean folder) = (no_folder r folder, core.NoFolder) ∷ (too_many r, c
 -- where a call is refused, want of memory aside
 abbrev pub submit_refusal : Run → Call → Option CoreError
 submit_refusal r call = first_met (checks r call)
-
--- whether the machine of a call is there: only Clean is still to come
-abbrev pub has_machine : Call → Bool
-has_machine (Deliver folder unique body chunk) = true
-has_machine (Seen folder unique flags tries) = true
-has_machine (Flag folder unique add remove tries) = true
-has_machine (Move folder unique to tries) = true
-has_machine (Expunge folder unique tries) = true
-has_machine (Copy folder unique to fresh tries) = true
-has_machine call = false

@@ -1,6 +1,7 @@
 // What callers ask, how their jobs stand, and what a step shows.
 pub mod answer;
 pub mod call;
+pub mod cleaning;
 pub mod copying;
 pub mod deliver;
 pub mod effect;

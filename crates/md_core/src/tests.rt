@@ -1,5 +1,6 @@
 // What no clause says: worked runs, each refusal once, growths that are refused, faults of the directories, and what may cross
 // threads. One refused allocation anywhere leaves each test passing: the refused call changed nothing, and is made again.
+mod cleans;
 mod copies;
 mod expunges;
 mod faults;
@@ -10,9 +11,6 @@ mod moves;
 mod runs;
 mod small;
 mod submits;
-
-ghost use Rattle.std.specs.Prelude.{◌≡◌, true, IfOk};
-ghost use Rattle.md_core.specs.Submitting.{has_machine};
 
 use crate::{Call, CoreError, Event, JobId, RunStop, StepOut, SubmitRefused, World};
 use md_dirs::{Bytes, Dirs, Place, PlainDirs};
@@ -36,9 +34,7 @@ fn delivery(
     unique: &[u8],
     body: Bytes,
     chunk: u64,
-) -> Result<Call, AllocError>
-    ensures { IfOk result (λ call. has_machine call ≡ true) }
-{
+) -> Result<Call, AllocError> {
     Ok(Call::Deliver {
         folder,
         unique: copied(alloc, unique)?,
@@ -58,9 +54,7 @@ fn submit<D: Dirs>(
     rt: &impl Abort,
     world: &mut World<D>,
     call: Call,
-) -> Result<JobId, SubmitRefused>
-    requires { has_machine call ≡ true }
-{
+) -> Result<JobId, SubmitRefused> {
     let jobs = world.jobs();
     match world.submit(call) {
         Ok(job) => Ok(job),

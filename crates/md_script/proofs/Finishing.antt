@@ -6,7 +6,7 @@ use Rattle.md_core.specs.declared.error.CoreError.TheVariants.{Answered}
 use Rattle.md_core.specs.declared.jobs.answer.Answer.{Answer}
 use Rattle.md_core.specs.declared.jobs.step.Event.{Event}
 use Rattle.md_core.specs.Machine.{Machine, Standing, working, answered, job_at}
-use Rattle.md_core.specs.Runs.{Run, machine_of, jobs_of, and_event, answer_of, step_refusal, steps_left}
+use Rattle.md_core.specs.Runs.{Run, machine_of, dirs_of, jobs_of, and_event, answer_of, step_refusal, steps_left}
 use Rattle.md_core.proofs.Bounds.{left-exact}
 use Rattle.md_core.proofs.Events.{job_at-within, goes_on-exact, happens-turned}
 use Rattle.md_core.proofs.Places.{length-changed}
@@ -91,7 +91,7 @@ pub record Finishes (r : Run) (event : Event) (r' : Run) (text : List ℕ) : Typ
   pub rest : steps_of (steps_left r event.job) r event ≡ before text (steps_of more r' event)
 
 some_left : (r : Run) (event : Event) → event_refusal r event ≡ None → 0 < steps_left r event.job
-some_left r event goes_on = (left-exact (job_in r event.job)).0 goes_on
+some_left r event goes_on = (left-exact (dirs_of r) (job_in r event.job)).0 goes_on
 
 one_more : (n : ℕ) → 0 < n → (m : ℕ) × (n ≡ suc m)
 one_more zero some = absurd (omega arith)

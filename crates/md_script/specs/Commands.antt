@@ -105,7 +105,7 @@ unique_line rest = do
 abbrev pub verb_line : List (List ℕ) → Mode → Verb → Rest → Result Command PlayKind
 verb_line folders mode verb.Folder rest = folder_line folders rest
 verb_line folders mode verb.File rest = file_of folders rest >>= (λ file. Ok (make_file file))
-verb_line folders mode verb.Job rest = job_line folders mode rest >>= (λ call. Ok (submit call))
+verb_line folders mode verb.Job rest = job_line folders rest >>= (λ call. Ok (submit call))
 verb_line folders mode verb.Step rest = event_at rest >>= (λ event. Ok (step event))
 verb_line folders mode verb.Finish rest = event_at rest >>= (λ event. Ok (finish event))
 verb_line folders mode verb.List rest = list_line folders rest

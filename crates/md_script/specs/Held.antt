@@ -10,7 +10,6 @@ use Rattle.md_script.specs.declared.verb.Mode.{Mode}
 use Rattle.md_script.specs.declared.verb.Mode.TheVariants.{Playing, SettingUp}
 use Rattle.md_script.specs.Folders.{most_folders}
 use Rattle.md_name.specs.declared.unique.UniqueParts.{UniqueParts}
-use Rattle.md_script.specs.Jobs.{IsPlayed}
 use Rattle.md_script.specs.Sessions.{Session, store_of, come_to, named}
 use Rattle.md_script.specs.Commands.{Command, make_folder, make_file, submit, step, finish, list, read, make_name, summarize}
 
@@ -34,11 +33,10 @@ abbrev pub TakesFiles : Mode → Type 0
 TakesFiles (Playing is_loaded) = is_loaded ≡ false
 TakesFiles (SettingUp with_jobs) = Unit {0}
 
--- A folder that a command makes can be added to these, and a file to the store; and a call that is played is one whose machine stands.
+-- a folder that a command makes can be added to these, and a file to the store
 abbrev pub IsFit : List (List ℕ) → Mode → Held → Type 0
 IsFit folders mode (held.Folder name) = length folders < most_folders
 IsFit folders mode (held.File file) = TakesFiles mode
-IsFit folders mode (held.Submit call) = IsPlayed mode call
 IsFit folders mode command = Unit {0}
 
 -- The files of a session, as it holds them: an open store has none beside it.

@@ -7,13 +7,10 @@ use Rattle.md_name.specs.declared.error.NameError.TheVariants.{BadFlag}
 use Rattle.md_name.specs.Letters.{Set, is_letter}
 use Rattle.md_core.specs.declared.jobs.call.Call.{Call}
 use Rattle.md_core.specs.declared.jobs.call.Call.TheVariants as call
-use Rattle.md_core.specs.Submitting.{has_machine}
 use Rattle.md_script.specs.declared.error.PlayKind.{PlayKind}
 use Rattle.md_script.specs.declared.error.PlayKind.TheVariants.{BadCommand, UnknownFolder, Name}
 use Rattle.md_script.specs.declared.verb.JobVerb.{JobVerb}
 use Rattle.md_script.specs.declared.verb.JobVerb.TheVariants.{Deliver, Seen, Flag, Move, Expunge, Copy, Clean}
-use Rattle.md_script.specs.declared.verb.Mode.{Mode}
-use Rattle.md_script.specs.declared.verb.Mode.TheVariants.{Playing, SettingUp}
 use Rattle.md_script.specs.Bind.{◌>>=◌}
 use Rattle.md_script.specs.Words.{Rest, word_at, end_at, number_at, body_at, require}
 use Rattle.md_script.specs.Folders.{place_of}
@@ -110,12 +107,6 @@ job_verb_of word =
     else (if bytes_eq word (codes "copy") then Some Copy
     else (if bytes_eq word (codes "clean") then Some Clean else None))))))
 
--- the calls whose machines stand
-abbrev pub is_played : Mode → JobVerb → Bool
-is_played (Playing is_loaded) Clean = false
-is_played (Playing is_loaded) other = true
-is_played (SettingUp with_jobs) verb = true
-
 -- the words behind `job` and the word after it
 abbrev pub call_line : List (List ℕ) → JobVerb → Rest → Result Call PlayKind
 call_line folders Deliver rest = deliver_line folders rest
@@ -127,14 +118,8 @@ call_line folders Copy rest = copy_line folders rest
 call_line folders Clean rest = clean_line folders rest
 
 -- the words of `job` after the first
-unfoldable pub job_line : List (List ℕ) → Mode → Rest → Result Call PlayKind
-job_line folders mode rest = do
+unfoldable pub job_line : List (List ℕ) → Rest → Result Call PlayKind
+job_line folders rest = do
   word ← word_at rest
   verb ← ok_or (job_verb_of word.0) BadCommand
-  _ ← require (is_played mode verb) BadCommand
   call_line folders verb word.1
-
--- A call that is played is one whose machine stands.
-abbrev pub IsPlayed : Mode → Call → Type 0
-IsPlayed (Playing is_loaded) call = has_machine call ≡ true
-IsPlayed (SettingUp with_jobs) call = Unit {0}

@@ -56,7 +56,7 @@ pub(crate) fn read_command<'a>(
     line: &'a [u8],
 ) -> Result<Command<'a>, PlayKind>
     ensures command { Gives seen result (command_at folders.now mode line.now) }
-    ensures fit { IfOk result (IsFit folders.now mode) }
+    ensures fit { IfOk result (IsFit folders.now) }
 {
     let (first, rest) = word(Some(line))?;
     let Some(verb) = verb_from(first) else {
@@ -66,7 +66,7 @@ pub(crate) fn read_command<'a>(
     match verb {
         Verb::Folder => folder_line(folders, rest),
         Verb::File => Ok(Command::File(file_line(alloc, folders, rest)?)),
-        Verb::Job => Ok(Command::Submit(job_line(alloc, folders, mode, rest)?)),
+        Verb::Job => Ok(Command::Submit(job_line(alloc, folders, rest)?)),
         Verb::Step => Ok(Command::Step(event(rest)?)),
         Verb::Finish => Ok(Command::Finish(event(rest)?)),
         Verb::List => list_line(folders, rest),

@@ -2,7 +2,6 @@
 ghost use Rattle.std.specs.Prelude.{◌≡◌, ◌++◌, ◌∷◌, [], true, false, OnOk, Ok, is_some};
 ghost use Rattle.md_head.specs.Summaries.{summary_of};
 ghost use Rattle.md_script.specs.declared.verb.Mode.TheVariants.{Playing};
-ghost use Rattle.md_core.specs.Submitting.{has_machine};
 ghost use Rattle.md_script.specs.Step.{Steps};
 ghost use Rattle.md_script.specs.Held.{seen, named_of, IsFit, Opens};
 ghost use Rattle.md_script.specs.Sessions.{obey, session_line, new_session, in_store, submitted, stepped, finished, listing_of, reading_of, says};
@@ -67,7 +66,7 @@ impl<D: Storage> StoreSession<D> {
 
     // Does what a command says.
     fn obey(&mut self, command: Command<'_>, out: &mut Vec<u8>) -> Result<(), PlayKind>
-        requires { IsFit self.old.folders (Playing (is_some self.old.run)) command }
+        requires { IsFit self.old.folders command }
         ensures { Steps (obey self.old (seen command.entry)) self.new out.old.items out.new.items result }
     {
         match command {
@@ -105,7 +104,6 @@ impl<D: Storage> StoreSession<D> {
     }
 
     fn submit(&mut self, call: Call, out: &mut Vec<u8>) -> Result<(), PlayKind>
-        requires { has_machine call ≡ true }
         ensures { Steps (in_store self.old (λ r. submitted r call)) self.new out.old.items out.new.items result }
     {
         self.open()?;

@@ -1,7 +1,7 @@
 //! The first words of a command, and what a line is read for.
 ghost use Rattle.std.specs.Prelude.{◌≡◌};
 ghost use Rattle.md_script.specs.Verb.{verb_of, admitted};
-ghost use Rattle.md_script.specs.Jobs.{job_verb_of, is_played};
+ghost use Rattle.md_script.specs.Jobs.{job_verb_of};
 
 use crate::error::PlayKind;
 
@@ -101,16 +101,5 @@ pub(crate) fn admit(mode: Mode, verb: Verb) -> Result<(), PlayKind>
         (Mode::SettingUp { .. }, Verb::Folder | Verb::File) => Ok(()),
         (Mode::SettingUp { with_jobs: true }, Verb::Job) => Ok(()),
         (Mode::SettingUp { .. }, _) => Err(PlayKind::NotInThisRun),
-    }
-}
-
-/// Whether the machine of the call stands.
-pub(crate) fn is_played(mode: Mode, verb: JobVerb) -> bool
-    ensures { result ≡ is_played mode verb }
-{
-    match (mode, verb) {
-        (Mode::Playing { .. }, JobVerb::Clean) => false,
-        (Mode::Playing { .. }, _) => true,
-        (Mode::SettingUp { .. }, _) => true,
     }
 }

@@ -1,6 +1,4 @@
 // What no clause says: worked listings, with what happens between their two readings. The bytes of each file are its name.
-ghost use Rattle.std.specs.Prelude.{◌≡◌, true, IfOk};
-ghost use Rattle.md_core.specs.Submitting.{has_machine};
 
 use crate::{Entry, ViewError, join, reading};
 use md_core::{Call, CoreError, World};
@@ -33,9 +31,7 @@ fn world(alloc: Global, files: &[(Place, &[u8])]) -> Result<World<PlainDirs>, Fa
     Ok(World::load(alloc, dirs).map_err(|refused| refused.error)?)
 }
 
-fn seen(alloc: Global, unique: &[u8]) -> Result<Call, AllocError>
-    ensures { IfOk result (λ call. has_machine call ≡ true) }
-{
+fn seen(alloc: Global, unique: &[u8]) -> Result<Call, AllocError> {
     Ok(Call::Seen {
         folder: 0,
         unique: Bytes::copied(alloc, unique)?,
@@ -44,9 +40,7 @@ fn seen(alloc: Global, unique: &[u8]) -> Result<Call, AllocError>
     })
 }
 
-fn delivery(alloc: Global, unique: &[u8]) -> Result<Call, AllocError>
-    ensures { IfOk result (λ call. has_machine call ≡ true) }
-{
+fn delivery(alloc: Global, unique: &[u8]) -> Result<Call, AllocError> {
     Ok(Call::Deliver {
         folder: 0,
         unique: Bytes::copied(alloc, unique)?,
@@ -56,9 +50,7 @@ fn delivery(alloc: Global, unique: &[u8]) -> Result<Call, AllocError>
 }
 
 // A call from its first step to its answer.
-fn finish(world: &mut World<PlainDirs>, call: Call) -> Result<(), CoreError>
-    requires { has_machine call ≡ true }
-{
+fn finish(world: &mut World<PlainDirs>, call: Call) -> Result<(), CoreError> {
     let job = world.submit(call).map_err(|refused| refused.error)?;
     for _ in 0..8 {
         if world.answer(job).is_none() {

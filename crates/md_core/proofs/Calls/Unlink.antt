@@ -10,7 +10,7 @@ use Rattle.md_dirs.proofs.Sound.{by_path, swept-kept, sound-without}
 use Rattle.md_core.specs.Mailbox.{is_tmp, bytes_of}
 use Rattle.md_core.proofs.Good.{bytes_at, HasNoMessage}
 use Rattle.md_core.proofs.Changes.{Keeps}
-use Rattle.md_core.proofs.Frames.{Frame, tmp-key, not_tmp, other_key}
+use Rattle.md_core.proofs.Frames.{Frame, Shrinks, tmp-key, not_tmp, other_key}
 use Rattle.md_core.proofs.Spares.{Spares, spares-one}
 
 module _ (s : State) (tmp : Path) (in_tmp : tmp.place ≡ Tmp) (sound : IsSound s) where
@@ -43,6 +43,13 @@ module _ (s : State) (tmp : Path) (in_tmp : tmp.place ≡ Tmp) (sound : IsSound 
     origin = λ q m is at. by_path q tmp
         (λ same. let h = here q same in cc)
         (λ not. inr (q, inl is, sym (beside q not) ∙ at));
+  }
+
+  pub unlink-shrinks : Shrinks s after
+  unlink-shrinks = record {
+    folders = refl;
+    names = λ q n is. by_path q tmp (λ same. let gone = here q same in cc) (λ not. sym (beside q not) ∙ is);
+    bytes = λ q n is. by_path q tmp (λ same. let gone = here q same in cc) (λ not. bytes q n not (sym (beside q not) ∙ is));
   }
 
   pub unlink-sound : IsSound after

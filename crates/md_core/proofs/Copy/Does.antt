@@ -111,4 +111,5 @@ module _ (s : State) (number : ℕ) (asked : Call) (c : Copying) (place : Place)
     };
     settles = (copying_effect number n row.size, refl, refl);
     nearer = omega arith;
+    fixed = λ is a b. refl;
   }

@@ -55,7 +55,7 @@ module _ (s : State) (number : ℕ) (asked : Call) (sound : IsSound s) (one : Ha
   leads-does : (made : Asked) (r : DirReply) → ((o : Option Answer) → is_effect_at (call.Copy c.folder c.unique c.to c.fresh fits.tries) made r o ≡ false) →
       (next : Next) → NextFits s false c.unique (search_left c.stage) next → Does s s number asked (Copy c) made r (as_after Copy (leads c (at_stage c) next))
   leads-does made r none next h =
-      search-does Copy c (at_stage c) false c.unique s number asked made r sound one refit refl (λ stage. refl) (λ stage. refl) (λ stage v size its. its)
+      search-does Copy c (at_stage c) false c.unique s number asked made r sound one refit refl (λ stage. refl) (λ stage. refl) (λ stage a b. refl) (λ stage v size its. its)
       (λ o. ap (λ (a : Call). is_effect_at a made r o) fits.of ∙ none o) next h
 
   -- where the look-up in a place leads

@@ -73,6 +73,7 @@ module _ (s s' : State) (number : ℕ) (asked : Call) (d : Delivery) (one : HasO
     effect = tt;
     settles = settled o settles;
     nearer = nearer;
+    fixed = λ unanswered a b. refl;
   }
     where
       settled : (o' : Option Answer) → MatchOption o' (Unit {0}) (Settles (had_by number d d.stage)) → MatchOption o' (had_by number d stage ≡ had_by number d d.stage) (Settles (had_by number d d.stage))
@@ -144,4 +145,5 @@ module _ (s s' : State) (number : ℕ) (asked : Call) (d : Delivery) (one : HasO
     };
     settles = refl;
     nearer = more;
+    fixed = λ unanswered a b. refl;
   }

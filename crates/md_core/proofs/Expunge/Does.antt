@@ -106,4 +106,5 @@ module _ (s : State) (number : ℕ) (asked : Call) (x : Expunging) (name : List 
     };
     settles = (expunging_effect number o, refl, refl);
     nearer = omega arith;
+    fixed = λ is a b. refl;
   }

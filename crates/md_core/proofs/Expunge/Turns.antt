@@ -46,13 +46,13 @@ module _ (s : State) (number : ℕ) (asked : Call) (sound : IsSound s) (one : Ha
 
   ends-does : (a : Answer) → is_success a ≡ false → 0 < expunging_left x → DoesNothing (ends x a)
   ends-does a failure some =
-      stays-does s number asked (Expunge x) (Expunge x) made r (Some a) sound one (λ is. cc) (no_effect (Some a)) refl refl failure some (λ v size unanswered its. absurd its)
+      stays-does s number asked (Expunge x) (Expunge x) made r (Some a) sound one (λ is. cc) (no_effect (Some a)) refl refl failure some (λ is. cc) (λ v size unanswered its. absurd its)
 
   goes-does : (stage : Stage) → IsAtTrashed x.unique stage → stage_left stage < expunging_left x → DoesNothing (goes_on (at_stage x stage))
   goes-does stage h less =
       stays-does s number asked (Expunge x) (Expunge (at_stage x stage)) made r None sound one
       (λ is. record { tries = fits.tries; of = fits.of; in_folder = fits.in_folder; valid = fits.valid; stage = h })
-      (no_effect None) refl refl tt less (λ v size unanswered its. absurd its)
+      (no_effect None) refl refl tt less (λ is a b. refl) (λ v size unanswered its. absurd its)
 
 module _ (s : State) (number : ℕ) (asked : Call) (clock : ℕ) (sound : IsSound s) (one : HasOnePath s) (x : Expunging) where
   -- the message is looked for

@@ -156,6 +156,7 @@ module _ (s : State) (number : ℕ) (asked : Call) (m : Marking) (sound : IsSoun
     effect = tt;
     settles = settled o failure;
     nearer = nearer;
+    fixed = λ unanswered a b. refl;
   }
     where
       settled : (o' : Option Answer) → MatchOption o' (Unit {0}) (λ a. is_success a ≡ false) → MatchOption o' (◌≡◌ {A = Option Effect} None None) (Settles None)
@@ -220,6 +221,7 @@ module _ (s : State) (number : ℕ) (asked : Call) (m : Marking) (sound : IsSoun
       };
       settles = (kept number (wanted m.mark had), refl, refl);
       nearer = some;
+      fixed = λ none a b. refl;
     }
 
     -- it is renamed, and has the flags then
@@ -290,4 +292,5 @@ module _ (s : State) (number : ℕ) (asked : Call) (m : Marking) (sound : IsSoun
         };
         settles = (renamed number flags (source m name) (target m flags), refl, refl);
         nearer = some;
+        fixed = λ none a b. refl;
       }

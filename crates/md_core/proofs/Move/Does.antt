@@ -105,6 +105,7 @@ module _ (s : State) (number : ℕ) (asked : Call) (m : Moving) (place : Place) 
     };
     settles = (moving_effect number o n, refl, refl);
     nearer = omega arith;
+    fixed = λ is a b. refl;
   }
 
   pub rename-does : Does s (dirs.moved o n s) number asked (Move x) (rename o n) reply.Ok (record { task = Move x; answer = Some answer.Moved; effect = Some (moving_effect number o n) })

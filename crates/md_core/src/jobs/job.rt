@@ -4,7 +4,6 @@ ghost use Rattle.md_core.specs.Turn.{device, IsUntouched};
 ghost use Rattle.md_core.specs.Machine.{is_working, settled};
 ghost use Rattle.md_core.specs.Standing.{TakesTurn, job_of};
 ghost use Rattle.md_core.specs.Runs.{answer_of};
-ghost use Rattle.md_core.specs.Submitting.{has_machine};
 
 use crate::error::CoreError;
 use crate::image::Image;
@@ -46,7 +45,6 @@ impl Model for Job {
 impl Job {
     /// A job that has not begun.
     pub(crate) fn new(call: Call) -> Job
-        requires { has_machine call ≡ true }
         ensures { result ≡ job_of call }
     {
         let image = Image::of(&call);

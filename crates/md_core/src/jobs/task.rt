@@ -1,11 +1,11 @@
 //! Tasks: what a job that has no answer does, one kind for each call.
-ghost use Rattle.std.specs.Prelude.{◌≡◌, true, IfOk, IfErr, OnErr};
+ghost use Rattle.std.specs.Prelude.{◌≡◌, IfOk, IfErr, OnErr};
 ghost use Rattle.md_core.specs.Turn.{Takes, device, IsUntouched};
 ghost use Rattle.md_core.specs.Machine.{turn_of, new_job, working};
-ghost use Rattle.md_core.specs.Submitting.{has_machine};
 
 use crate::error::CoreError;
 use crate::jobs::call::{Call, JobId};
+use crate::jobs::cleaning::Cleaning;
 use crate::jobs::copying::Copying;
 use crate::jobs::deliver::Delivery;
 use crate::jobs::expunging::Expunging;
@@ -24,12 +24,12 @@ pub enum Task {
     Move(Moving),
     Expunge(Expunging),
     Copy(Copying),
+    Clean(Cleaning),
 }
 
 impl Task {
     /// The task of a call, not begun.
     pub(crate) fn new(call: Call) -> Task
-        requires { has_machine call ≡ true }
         ensures { working result ≡ new_job call }
     {
         match call {
@@ -70,7 +70,7 @@ impl Task {
                 fresh,
                 tries,
             } => Task::Copy(Copying::new(folder, unique, to, fresh, tries)),
-            _ => unreachable!(),
+            Call::Clean { folder } => Task::Clean(Cleaning::new(folder)),
         }
     }
 
@@ -96,6 +96,7 @@ impl Task {
             Task::Move(moving) => moving.turn(alloc, dirs, job, at),
             Task::Expunge(expunging) => expunging.turn(alloc, dirs, job, at),
             Task::Copy(copying) => copying.turn(alloc, dirs, job, at),
+            Task::Clean(cleaning) => cleaning.turn(alloc, dirs, at),
         }
     }
 }

@@ -1,7 +1,4 @@
 // Worked runs of copies.
-ghost use Rattle.std.specs.Prelude.{◌≡◌, true, IfOk};
-ghost use Rattle.md_core.specs.Submitting.{has_machine};
-
 use super::moves::{Shown, lists, moving, takes, world_of};
 use super::{copied, delivery, submit};
 use crate::{Answer, Call, CoreError, DirCall, DirReply};
@@ -13,9 +10,7 @@ const NOT_IN_NEW: Shown = (DirCall::List(Place::New), DirReply::Ok, None, false)
 
 const IN_CUR: Shown = (DirCall::List(Place::Cur), DirReply::Ok, None, false);
 
-fn copying(alloc: Global, to: u32) -> Result<Call, AllocError>
-    ensures { IfOk result (λ call. has_machine call ≡ true) }
-{
+fn copying(alloc: Global, to: u32) -> Result<Call, AllocError> {
     Ok(Call::Copy {
         folder: 0,
         unique: copied(alloc, b"u")?,

@@ -1,7 +1,4 @@
 // Worked runs of expunges.
-ghost use Rattle.std.specs.Prelude.{◌≡◌, true, IfOk};
-ghost use Rattle.md_core.specs.Submitting.{has_machine};
-
 use super::moves::{Shown, lists, takes, world_of};
 use super::{copied, submit};
 use crate::{Answer, Call, DirCall, DirReply};
@@ -29,9 +26,7 @@ const LOST: Shown = (
     false,
 );
 
-fn expunging(alloc: Global, tries: u64) -> Result<Call, AllocError>
-    ensures { IfOk result (λ call. has_machine call ≡ true) }
-{
+fn expunging(alloc: Global, tries: u64) -> Result<Call, AllocError> {
     Ok(Call::Expunge {
         folder: 0,
         unique: copied(alloc, b"u")?,
@@ -39,9 +34,7 @@ fn expunging(alloc: Global, tries: u64) -> Result<Call, AllocError>
     })
 }
 
-fn untrashing(alloc: Global, trashed: Flags) -> Result<Call, AllocError>
-    ensures { IfOk result (λ call. has_machine call ≡ true) }
-{
+fn untrashing(alloc: Global, trashed: Flags) -> Result<Call, AllocError> {
     Ok(Call::Flag {
         folder: 0,
         unique: copied(alloc, b"u")?,

@@ -1,6 +1,4 @@
 // Worked runs of seen-moves and flag changes.
-ghost use Rattle.std.specs.Prelude.{◌≡◌, true, IfOk};
-ghost use Rattle.md_core.specs.Submitting.{has_machine};
 
 use super::moves::{Shown, lists, takes, world_of};
 use super::{copied, submit};
@@ -15,9 +13,7 @@ const IN_NEW: Shown = (DirCall::List(Place::New), DirReply::Ok, None, false);
 const IN_CUR: Shown = (DirCall::List(Place::Cur), DirReply::Ok, None, false);
 
 // A seen-move that adds S.
-fn seeing(alloc: Global) -> Result<Call, Fail>
-    ensures { IfOk result (λ call. has_machine call ≡ true) }
-{
+fn seeing(alloc: Global) -> Result<Call, Fail> {
     Ok(Call::Seen {
         folder: 0,
         unique: copied(alloc, b"u")?,
@@ -27,9 +23,7 @@ fn seeing(alloc: Global) -> Result<Call, Fail>
 }
 
 // A flag change that adds these letters.
-fn flagging(alloc: Global, add: &[u8], tries: u64) -> Result<Call, Fail>
-    ensures { IfOk result (λ call. has_machine call ≡ true) }
-{
+fn flagging(alloc: Global, add: &[u8], tries: u64) -> Result<Call, Fail> {
     Ok(Call::Flag {
         folder: 0,
         unique: copied(alloc, b"u")?,

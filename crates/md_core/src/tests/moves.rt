@@ -1,7 +1,4 @@
 // Worked runs of moves, and what other runs share with them: a world of two folders and at most one message.
-ghost use Rattle.std.specs.Prelude.{◌≡◌, true, IfOk};
-ghost use Rattle.md_core.specs.Submitting.{has_machine};
-
 use super::loads::directories;
 use super::{copied, load, step, submit};
 use crate::{Answer, Call, CoreError, DirCall, DirReply, StepOut, World};
@@ -55,9 +52,7 @@ pub(super) fn lists(world: &World<PlainDirs>, folder: u32, place: Place, names: 
     all_there && world.names(folder, place, names.len()).is_none()
 }
 
-pub(super) fn moving(alloc: Global, folder: u32, to: u32) -> Result<Call, AllocError>
-    ensures { IfOk result (λ call. has_machine call ≡ true) }
-{
+pub(super) fn moving(alloc: Global, folder: u32, to: u32) -> Result<Call, AllocError> {
     Ok(Call::Move {
         folder,
         unique: copied(alloc, b"u")?,

@@ -1,7 +1,4 @@
 // Each refusal of a call, and which of several comes first.
-ghost use Rattle.std.specs.Prelude.{◌≡◌, true, IfOk};
-ghost use Rattle.md_core.specs.Submitting.{has_machine};
-
 use super::{NAME, copied, delivery, load, plain_delivery, submit};
 use crate::{Call, CoreError, World};
 use CoreError::{BadChunk, BadUnique, BodyTooLong, NameUsed, NoFolder, TooManyJobs};
@@ -88,9 +85,7 @@ fn a_delivery_is_refused_for_its_first_fault(rt: HostRuntime) -> Result<(), Fail
 }
 
 // The delivery of an empty message, under a number.
-fn numbered(alloc: Global, number: u32) -> Result<Call, AllocError>
-    ensures { IfOk result (λ call. has_machine call ≡ true) }
-{
+fn numbered(alloc: Global, number: u32) -> Result<Call, AllocError> {
     let name = match format!(in alloc; "{number}") {
         Ok(name) => name,
         Err(_) => format!(in alloc; "{number}")?,

@@ -53,9 +53,9 @@ impl<D: Dirs> World<D> {
         ensures refused { MatchResult result (λ _. step_refusal (job_at (jobs_of self.old) job) ≡ None)
             (IsRefusal (step_refusal (job_at (jobs_of self.old) job))) }
         ensures unchanged { OnErr result (self.new ≡ self.old) }
-        // Each step leaves its job fewer steps, and the other jobs as many.
+        // Each step leaves its job fewer steps, and the other jobs as they were.
         ensures nearer { OnOk result (steps_left self.new job < steps_left self.old job) }
-        ensures others { OnOk result ((n : _) → n ≢ job → steps_left self.new n ≡ steps_left self.old n) }
+        ensures others { OnOk result ((n : _) → n ≢ job → job_at (jobs_of self.new) n ≡ job_at (jobs_of self.old) n) }
         ensures theorem { OnOk result (Interleaves self.new) }
     {
         let at = unanswered(&self.jobs, job)?;

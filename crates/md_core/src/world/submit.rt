@@ -1,7 +1,7 @@
 //! New jobs.
-ghost use Rattle.std.specs.Prelude.{◌≡◌, ◌+◌, ◌||◌, true, Some, None, length, vec_len, vec_capacity, MatchResult, IfOk, IfErr, OnOk, OnErr, ◌<◌};
+ghost use Rattle.std.specs.Prelude.{◌≡◌, ◌+◌, ◌||◌, Some, None, length, vec_len, vec_capacity, MatchResult, IfOk, IfErr, OnOk, OnErr, ◌<◌};
 ghost use Rattle.md_core.specs.Runs.{and_call, effects_of, IsRefusal};
-ghost use Rattle.md_core.specs.Submitting.{submit_refusal, has_machine, makes};
+ghost use Rattle.md_core.specs.Submitting.{submit_refusal, makes};
 ghost use Rattle.md_core.specs.Used.{is_among};
 ghost use Rattle.md_core.specs.Interleaving.{Interleaves};
 
@@ -46,8 +46,6 @@ impl<D: Dirs> World<D> {
     /// It is refused, in this order, as `NoFolder`, `SameFolder`, `BadUnique`, `BadTries`, `BadChunk`, `BodyTooLong`, `TooManyJobs`,
     /// `NameUsed` and `NoMemory`. After a refusal nothing has changed, and the call comes back.
     pub fn submit(&mut self, call: Call) -> Result<JobId, SubmitRefused>
-        // Each call but Clean has its machine.
-        requires { has_machine call ≡ true }
         ensures ok { IfOk result (λ job. (self.new ≡ and_call self.old call) × (job ≡ length self.old.calls + 1)) }
         ensures effects { OnOk result (effects_of self.new ≡ effects_of self.old) }
         ensures refused { MatchResult result (λ _. submit_refusal self.old call ≡ None) (λ r. IsRefusal (submit_refusal self.old call) r.error) }

@@ -1,14 +1,13 @@
 //! The words of the calls that become jobs.
-ghost use Rattle.std.specs.Prelude.{◌≡◌, true, IfOk};
+ghost use Rattle.std.specs.Prelude.{◌≡◌};
 ghost use Rattle.std.specs.Option.{option_copied};
-ghost use Rattle.md_core.specs.Submitting.{has_machine};
 ghost use Rattle.md_script.specs.Words.{Gives};
-ghost use Rattle.md_script.specs.Jobs.{flags_of, tries_at, deliver_line, seen_line, flag_line, move_line, expunge_line, copy_line, clean_line, job_line, IsPlayed};
+ghost use Rattle.md_script.specs.Jobs.{flags_of, tries_at, deliver_line, seen_line, flag_line, move_line, expunge_line, copy_line, clean_line, job_line};
 
 use crate::command::image::folder;
 use crate::error::PlayKind;
 use crate::folders::Folders;
-use crate::verb::{JobVerb, Mode, is_played, job_verb_from};
+use crate::verb::{JobVerb, job_verb_from};
 use crate::words::{Rest, body, end, number_word, word};
 use md_core::Call;
 use md_dirs::Bytes;
@@ -20,22 +19,13 @@ const NO_FLAGS: &[u8; 1] = b"-";
 
 /// The words of `job` after the first.
 #[tactic(auto, unfolding(crate::specs::Jobs::job_line))]
-pub(super) fn job_line(
-    alloc: Global,
-    folders: &Folders,
-    mode: Mode,
-    rest: Rest<'_>,
-) -> Result<Call, PlayKind>
-    ensures call { Gives (λ call. call) result (job_line folders.now mode (option_copied rest.entry)) }
-    ensures played { IfOk result (IsPlayed mode) }
+pub(super) fn job_line(alloc: Global, folders: &Folders, rest: Rest<'_>) -> Result<Call, PlayKind>
+    ensures { Gives (λ call. call) result (job_line folders.now (option_copied rest.entry)) }
 {
     let (word, rest) = word(rest)?;
     let Some(verb) = job_verb_from(word) else {
         return Err(PlayKind::BadCommand);
     };
-    if !is_played(mode, verb) {
-        return Err(PlayKind::BadCommand);
-    }
     match verb {
         JobVerb::Deliver => deliver_line(alloc, folders, rest),
         JobVerb::Seen => seen_line(alloc, folders, rest),
@@ -49,8 +39,7 @@ pub(super) fn job_line(
 
 #[tactic(auto, unfolding(crate::specs::Jobs::deliver_line))]
 fn deliver_line(alloc: Global, folders: &Folders, rest: Rest<'_>) -> Result<Call, PlayKind>
-    ensures call { Gives (λ call. call) result (deliver_line folders.now (option_copied rest.entry)) }
-    ensures machine { IfOk result (λ call. has_machine call ≡ true) }
+    ensures { Gives (λ call. call) result (deliver_line folders.now (option_copied rest.entry)) }
 {
     let (folder, rest) = folder(folders, rest)?;
     let (unique, rest) = word(rest)?;
@@ -67,8 +56,7 @@ fn deliver_line(alloc: Global, folders: &Folders, rest: Rest<'_>) -> Result<Call
 
 #[tactic(auto, unfolding(crate::specs::Jobs::seen_line, crate::specs::Jobs::flags_at))]
 fn seen_line(alloc: Global, folders: &Folders, rest: Rest<'_>) -> Result<Call, PlayKind>
-    ensures call { Gives (λ call. call) result (seen_line folders.now (option_copied rest.entry)) }
-    ensures machine { IfOk result (λ call. has_machine call ≡ true) }
+    ensures { Gives (λ call. call) result (seen_line folders.now (option_copied rest.entry)) }
 {
     let (folder, rest) = folder(folders, rest)?;
     let (unique, rest) = word(rest)?;
@@ -86,8 +74,7 @@ fn seen_line(alloc: Global, folders: &Folders, rest: Rest<'_>) -> Result<Call, P
 
 #[tactic(auto, unfolding(crate::specs::Jobs::flag_line, crate::specs::Jobs::flags_at))]
 fn flag_line(alloc: Global, folders: &Folders, rest: Rest<'_>) -> Result<Call, PlayKind>
-    ensures call { Gives (λ call. call) result (flag_line folders.now (option_copied rest.entry)) }
-    ensures machine { IfOk result (λ call. has_machine call ≡ true) }
+    ensures { Gives (λ call. call) result (flag_line folders.now (option_copied rest.entry)) }
 {
     let (folder, rest) = folder(folders, rest)?;
     let (unique, rest) = word(rest)?;
@@ -108,8 +95,7 @@ fn flag_line(alloc: Global, folders: &Folders, rest: Rest<'_>) -> Result<Call, P
 
 #[tactic(auto, unfolding(crate::specs::Jobs::move_line))]
 fn move_line(alloc: Global, folders: &Folders, rest: Rest<'_>) -> Result<Call, PlayKind>
-    ensures call { Gives (λ call. call) result (move_line folders.now (option_copied rest.entry)) }
-    ensures machine { IfOk result (λ call. has_machine call ≡ true) }
+    ensures { Gives (λ call. call) result (move_line folders.now (option_copied rest.entry)) }
 {
     let (from, rest) = folder(folders, rest)?;
     let (unique, rest) = word(rest)?;
@@ -126,8 +112,7 @@ fn move_line(alloc: Global, folders: &Folders, rest: Rest<'_>) -> Result<Call, P
 
 #[tactic(auto, unfolding(crate::specs::Jobs::expunge_line))]
 fn expunge_line(alloc: Global, folders: &Folders, rest: Rest<'_>) -> Result<Call, PlayKind>
-    ensures call { Gives (λ call. call) result (expunge_line folders.now (option_copied rest.entry)) }
-    ensures machine { IfOk result (λ call. has_machine call ≡ true) }
+    ensures { Gives (λ call. call) result (expunge_line folders.now (option_copied rest.entry)) }
 {
     let (folder, rest) = folder(folders, rest)?;
     let (unique, rest) = word(rest)?;
@@ -143,7 +128,6 @@ fn expunge_line(alloc: Global, folders: &Folders, rest: Rest<'_>) -> Result<Call
 #[tactic(auto, unfolding(crate::specs::Jobs::copy_line))]
 fn copy_line(alloc: Global, folders: &Folders, rest: Rest<'_>) -> Result<Call, PlayKind>
     ensures call { Gives (λ call. call) result (copy_line folders.now (option_copied rest.entry)) }
-    ensures machine { IfOk result (λ call. has_machine call ≡ true) }
 {
     let (from, rest) = folder(folders, rest)?;
     let (unique, rest) = word(rest)?;

@@ -2,7 +2,6 @@
 ghost use Rattle.std.specs.Prelude.{◌≡◌, ◌<◌, true, is_some, OnOk};
 ghost use Rattle.md_core.specs.Machine.{job_at};
 ghost use Rattle.md_core.specs.Runs.{steps_left, jobs_of, answer_of};
-ghost use Rattle.md_core.specs.Submitting.{has_machine};
 ghost use Rattle.md_script.specs.Step.{Steps};
 ghost use Rattle.md_script.specs.Sessions.{submitted, stepped, finished, listing_of, reading_of};
 
@@ -19,7 +18,6 @@ pub(super) fn submit<D: Storage>(
     call: Call,
     out: &mut Vec<u8>,
 ) -> Result<(), PlayKind>
-    requires { has_machine call ≡ true }
     ensures { Steps (submitted world.old call) world.new out.old.items out.new.items result }
 {
     let job = world.submit(call)?;

@@ -1,7 +1,4 @@
 //! Listings with known answers.
-ghost use Rattle.std.specs.Prelude.{◌≡◌, true, IfOk};
-ghost use Rattle.md_core.specs.Submitting.{has_machine};
-
 use crate::listing::push_listing;
 use md_core::{Call, Event, World};
 use md_dirs::{Bytes, PlainDirs};
@@ -9,9 +6,7 @@ use std::alloc::{AllocError, Global};
 use std::test::Fail;
 
 /// The call that delivers `hi` to folder 0.
-fn delivery(alloc: Global, unique: &[u8]) -> Result<Call, AllocError>
-    ensures { IfOk result (λ call. has_machine call ≡ true) }
-{
+fn delivery(alloc: Global, unique: &[u8]) -> Result<Call, AllocError> {
     Ok(Call::Deliver {
         folder: 0,
         unique: Bytes::copied(alloc, unique)?,

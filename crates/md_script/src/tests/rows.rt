@@ -13,7 +13,7 @@ struct Row {
     prints: &'static [u8],
 }
 
-const ROWS: [Row; 32] = [
+const ROWS: [Row; 33] = [
     Row {
         shows: "a delivery is written in pieces, linked, and listed",
         script: b"folder inbox\njob deliver inbox 1000.M1P7Q1.a 4 hello\\n\nfinish 1 1000\nlist inbox\n",
@@ -58,6 +58,11 @@ const ROWS: [Row; 32] = [
         shows: "a message goes where it is trashed, and stays where its flag is gone by then",
         script: b"folder i\njob deliver i u 9 hi\nfinish 1 1\njob seen i u ST 1\nfinish 2 1\njob expunge i u 2\njob flag i u - T 1\nstep 3 1\nfinish 4 1\nfinish 3 1\nlist i\njob flag i u T - 1\nfinish 5 1\njob expunge i u 1\nfinish 6 1\nlist i\n",
         prints: b"job 1\n1 create ok\n1 append 2 ok\n1 link ok\n1 unlink ok\n1 answer delivered\njob 2\n2 list new ok\n2 rename ok\n2 answer flags ST\njob 3\njob 4\n3 list cur ok\n4 list cur ok\n4 rename ok\n4 answer flags S\n3 unlink notfound\n3 list cur ok\n3 answer nottrashed\ncur u S 2\njob 5\n5 list cur ok\n5 rename ok\n5 answer flags ST\njob 6\n6 list cur ok\n6 unlink ok\n6 answer expunged\n",
+    },
+    Row {
+        shows: "a clean takes the name in tmp of a message that was delivered 36 hours before",
+        script: b"folder i\njob deliver i u 9 hi\nstep 1 1000\nstep 1 1000\nstep 1 1000\njob clean i\nfinish 2 130599\njob clean i\nfinish 3 130600\nlist i\nfinish 1 130600\n",
+        prints: b"job 1\n1 create ok\n1 append 2 ok\n1 link ok\njob 2\n2 list tmp ok\n2 answer cleaned 0\njob 3\n3 list tmp ok\n3 unlink ok\n3 answer cleaned 1\nnew u - 2\n1 unlink notfound\n1 answer delivered\n",
     },
     Row {
         shows: "a flag change may have 16 tries",

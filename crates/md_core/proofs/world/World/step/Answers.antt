@@ -11,7 +11,7 @@ use Rattle.md_core.specs.Worlds.{run_of}
 use Rattle.md_core.specs.Interleaving.{ShowsStep, Succeeds, Interleaves}
 use Rattle.md_core.proofs.EachTurn.{each-turn}
 use Rattle.md_core.proofs.Interleaves.{interleaves}
-use Rattle.md_core.proofs.Bounds.{steps_left-less, steps_left-same}
+use Rattle.md_core.proofs.Bounds.{steps_left-less, jobs-same}
 use Rattle.md_core.proofs.Steps.{shows, succeeds}
 use Rattle.md_core.proofs.Stepping.{working-at, moment-is, step-world, run-after, step-shown}
 use Rattle.md_core.proofs.world.World.step.Goals as goal
@@ -134,7 +134,7 @@ returns-clause-others g c =
     let r = run_of (device (g.D.Dirs.state s.image.value) (g.D.Dirs.failures s.image.value) (g.D.Dirs.calls s.image.value)) s.jobs.items s.log.events.items s.log.marks.items in
     let goes : step_refusal (job_at (jobs_of r) n) ≡ None = ap (λ (m : Machine). step_refusal (job_at m.jobs n)) (sym c.self.invariant.now) ∙ rw c.deref.ensures.value at c.in_ok-at.ensures.refused in
     λ k differ.
-    ap (λ (a : Run). steps_left a k) (returns-clause-event g c)
-    ∙ ap (λ (b : Run). steps_left (and_event b what) k) (sym c.self.view_is)
-    ∙ steps_left-same r c.self.invariant.run each-turn what goes k differ
-    ∙ ap (λ (b : Run). steps_left b k) c.self.view_is
+    ap (λ (a : Run). job_at (jobs_of a) k) (returns-clause-event g c)
+    ∙ ap (λ (b : Run). job_at (jobs_of (and_event b what)) k) (sym c.self.view_is)
+    ∙ jobs-same r c.self.invariant.run each-turn what goes k differ
+    ∙ ap (λ (b : Run). job_at (jobs_of b) k) c.self.view_is

@@ -1,0 +1,207 @@
+//! A clean: files of tmp that have not been used for 36 hours go.
+ghost use Rattle.std.specs.Prelude.{◌≡◌, [], ◌∷◌, IfOk, IfErr, OnErr, MatchOption, None, length};
+ghost use Rattle.md_core.specs.Turn.{Takes, device, IsUntouched};
+ghost use Rattle.md_core.specs.Machines.Clean.{new_cleaning, cleaning_turn, look_turn, unlink_turn, is_old as is_old_by, old_rows as old_rows_by, after_old, after_unlink, tmp as tmp_of};
+
+use crate::error::CoreError;
+use crate::jobs::answer::Answer;
+use crate::jobs::step::{DirCall, DirReply, Moment};
+use crate::jobs::turn::{Turned, reply_of};
+use md_dirs::{Bytes, Dirs, Path, Place, Row};
+use std::alloc::{AllocError, Global};
+use std::marker::Model;
+
+const LEAST_SECONDS: u64 = 129_600;
+
+const LIST: DirCall = DirCall::List(Place::Tmp);
+
+/// Rows that are taken one by one, in their order.
+#[derive(Debug, Drop)]
+pub struct Rows {
+    // The last comes first here, so that the next is popped.
+    items: Vec<Row>,
+}
+
+impl Model for Rows {
+    ghost use Rattle.std.specs.Prelude.{List, reverse};
+    ghost use Rattle.md_dirs.specs.declared.rows.Row.{Row as row};
+
+    ghost Value = { List row };
+
+    ghost view = { λ r. reverse r.items.items };
+}
+
+impl Rows {
+    // These rows, none taken yet.
+    fn of(mut items: Vec<Row>) -> Rows
+        ensures { result ≡ items.items }
+    {
+        items.reverse();
+        Rows { items }
+    }
+
+    // Takes the next row, if one is left.
+    fn next(&mut self) -> Option<Row>
+        ensures { MatchOption result ((self.old ≡ []) × (self.new ≡ [])) (λ row. self.old ≡ row ∷ self.new) }
+    {
+        self.items.pop()
+    }
+
+    fn len(&self) -> u64
+        ensures { result ≡ length self.now }
+    {
+        self.items.len() as u64
+    }
+}
+
+/// How far a clean has come.
+#[derive(Debug, Drop)]
+pub enum Stage {
+    /// The directory is listed.
+    Look,
+    /// This name is taken away, and then the rest. So many files will be removed by then, if none is gone before.
+    Remove { name: Bytes, rest: Rows, files: u64 },
+}
+
+/// A clean of a folder.
+#[derive(Debug, Drop)]
+pub struct Cleaning {
+    pub folder: u32,
+    pub stage: Stage,
+}
+
+// Whether a row's file has not been used for 36 hours. A clock behind the stamp counts as no time.
+fn is_old(own: u64, row: &Row) -> bool
+    ensures { result ≡ is_old_by own row.now }
+{
+    own.saturating_sub(row.stamp) >= LEAST_SECONDS
+}
+
+// The rows of old files.
+fn old_rows(own: u64, mut rows: Vec<Row>) -> Rows
+    ensures { result ≡ old_rows_by own rows.items }
+{
+    rows.retain(|row| is_old(own, row));
+    Rows::of(rows)
+}
+
+impl Cleaning {
+    /// A clean that has not begun.
+    pub(crate) fn new(folder: u32) -> Cleaning
+        ensures { result ≡ new_cleaning folder }
+    {
+        Cleaning {
+            folder,
+            stage: Stage::Look,
+        }
+    }
+
+    /// Takes the next turn. After a refusal nothing has changed.
+    pub(crate) fn turn<D: Dirs>(
+        &mut self,
+        alloc: Global,
+        dirs: &mut D,
+        at: Moment,
+    ) -> Result<Turned, CoreError>
+        ensures ok { IfOk result (λ t.
+            Takes (cleaning_turn self.old at.own) at (device (D.state dirs.old) (D.failures dirs.old) (D.calls dirs.old)) t.out t.effect
+            self.new (device (D.state dirs.new) (D.failures dirs.new) (D.calls dirs.new))) }
+        ensures memory { IfErr result (λ e. e ≡ CoreError.NoMemory) }
+        ensures task { OnErr result (self.new ≡ self.old) }
+        ensures dirs { OnErr result (IsUntouched (device (D.state dirs.old) (D.failures dirs.old) (D.calls dirs.old))
+            (device (D.state dirs.new) (D.failures dirs.new) (D.calls dirs.new))) }
+    {
+        match &self.stage {
+            Stage::Look => self.look(dirs, at),
+            // The name is copied before the call, since it is let go behind it.
+            Stage::Remove { name, .. } => {
+                let tmp = self.tmp(alloc, name)?;
+                self.unlink(dirs, at, tmp)
+            }
+        }
+    }
+
+    fn look<D: Dirs>(&mut self, dirs: &mut D, at: Moment) -> Result<Turned, CoreError>
+        ensures ok { IfOk result (λ t.
+            Takes (look_turn self.old at.own) at (device (D.state dirs.old) (D.failures dirs.old) (D.calls dirs.old)) t.out t.effect
+            self.new (device (D.state dirs.new) (D.failures dirs.new) (D.calls dirs.new))) }
+        ensures memory { IfErr result (λ e. e ≡ CoreError.NoMemory) }
+        ensures task { OnErr result (self.new ≡ self.old) }
+        ensures dirs { OnErr result (IsUntouched (device (D.state dirs.old) (D.failures dirs.old) (D.calls dirs.old))
+            (device (D.state dirs.new) (D.failures dirs.new) (D.calls dirs.new))) }
+    {
+        match dirs.list(self.folder, Place::Tmp) {
+            Ok(rows) => {
+                let answer = self.listed(old_rows(at.own, rows));
+                Ok(Turned::plain(LIST, DirReply::Ok, answer))
+            }
+            Err(error) => {
+                let reply = reply_of(Err(error))?;
+                Ok(Turned::plain(LIST, reply, Some(Answer::Fault)))
+            }
+        }
+    }
+
+    fn unlink<D: Dirs>(&mut self, dirs: &mut D, at: Moment, tmp: Path) -> Result<Turned, CoreError>
+        ensures ok { (name : _) (rest : _) (files : _) → self.old.stage ≡ Stage.Remove name rest files → tmp ≡ tmp_of self.old name → IfOk result (λ t.
+            Takes (unlink_turn self.old name rest files) at (device (D.state dirs.old) (D.failures dirs.old) (D.calls dirs.old)) t.out t.effect
+            self.new (device (D.state dirs.new) (D.failures dirs.new) (D.calls dirs.new))) }
+        ensures memory { IfErr result (λ e. e ≡ CoreError.NoMemory) }
+        ensures task { OnErr result (self.new ≡ self.old) }
+        ensures dirs { OnErr result (IsUntouched (device (D.state dirs.old) (D.failures dirs.old) (D.calls dirs.old))
+            (device (D.state dirs.new) (D.failures dirs.new) (D.calls dirs.new))) }
+    {
+        let reply = reply_of(dirs.unlink(&tmp))?;
+        let answer = self.unlinked(reply);
+        Ok(Turned::plain(DirCall::Unlink, reply, answer))
+    }
+
+    // The path of a name in tmp.
+    fn tmp(&self, alloc: Global, name: &Bytes) -> Result<Path, AllocError>
+        ensures { IfOk result (λ path. path ≡ tmp_of self.now name.now) }
+    {
+        Ok(Path {
+            folder: self.folder,
+            place: Place::Tmp,
+            name: name.again(alloc)?,
+        })
+    }
+
+    // A listing was made, and these rows are of old files.
+    fn listed(&mut self, mut old: Rows) -> Option<Answer>
+        ensures { after_old self.old old ≡ record { task = self.new; answer = result; effect = None } }
+    {
+        let files = old.len();
+        let Some(row) = old.next() else {
+            return Some(Answer::Cleaned(files));
+        };
+        self.stage = Stage::Remove {
+            name: row.name,
+            rest: old,
+            files,
+        };
+        None
+    }
+
+    // The name was taken away, or the call was refused.
+    fn unlinked(&mut self, reply: DirReply) -> Option<Answer>
+        ensures { (name : _) (rest : _) (files : _) → self.old.stage ≡ Stage.Remove name rest files →
+            after_unlink self.old rest files reply ≡ record { task = self.new; answer = result; effect = None } }
+    {
+        let Stage::Remove { name, rest, files } = &mut self.stage else {
+            return None;
+        };
+        let left = match reply {
+            DirReply::Ok => *files,
+            DirReply::NotFound => files.saturating_sub(1),
+            DirReply::Exists => return Some(Answer::Fault),
+            DirReply::Fault => return Some(Answer::Fault),
+        };
+        let Some(row) = rest.next() else {
+            return Some(Answer::Cleaned(left));
+        };
+        *name = row.name;
+        *files = left;
+        None
+    }
+}

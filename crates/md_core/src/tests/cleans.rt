@@ -1,0 +1,151 @@
+// Worked runs of cleans.
+use super::moves::{Shown, lists};
+use super::submit;
+use crate::{Answer, Call, CoreError, DirCall, DirReply, StepOut, World};
+use md_dirs::{Bytes, DirError, ImageFile, Path, Place, PlainDirs};
+use std::alloc::Global;
+use std::test::Fail;
+
+const LISTED: Shown = (DirCall::List(Place::Tmp), DirReply::Ok, None, false);
+
+const NONE_OLD: Shown = (
+    DirCall::List(Place::Tmp),
+    DirReply::Ok,
+    Some(Answer::Cleaned(0)),
+    false,
+);
+
+const REMOVED: Shown = (DirCall::Unlink, DirReply::Ok, None, false);
+
+const GONE: Shown = (DirCall::Unlink, DirReply::NotFound, None, false);
+
+// The last step of a clean that removed so many files.
+const fn cleaned(reply: DirReply, files: u64) -> Shown {
+    (DirCall::Unlink, reply, Some(Answer::Cleaned(files)), false)
+}
+
+// Directories of one folder, whose tmp has these names, of files of one byte with these stamps.
+fn built(alloc: Global, files: &[(&[u8], u64)]) -> Result<PlainDirs, DirError> {
+    let mut image = Vec::new(alloc);
+    for (name, stamp) in files {
+        let path = Path {
+            folder: 0,
+            place: Place::Tmp,
+            name: Bytes::copied(alloc, name)?,
+        };
+        image.push(ImageFile {
+            path,
+            bytes: Bytes::copied(alloc, b"x")?,
+            stamp: *stamp,
+        })?;
+    }
+    PlainDirs::from_image(alloc, 1, image)
+}
+
+fn world_of(alloc: Global, files: &[(&[u8], u64)]) -> Result<World<PlainDirs>, Fail> {
+    let dirs = match built(alloc, files) {
+        Err(DirError::NoMemory) => built(alloc, files)?,
+        made => made?,
+    };
+    match World::load(alloc, dirs) {
+        Ok(world) => Ok(world),
+        Err(refused) => Ok(World::load(alloc, refused.dirs).map_err(|refused| refused.error)?),
+    }
+}
+
+// Whether the next step of a job at these moments shows this.
+fn shows(
+    world: &mut World<PlainDirs>,
+    job: u64,
+    now: u64,
+    own: Option<u64>,
+    step: Shown,
+) -> Result<bool, CoreError> {
+    let out = match world.step(job, now, own) {
+        Err(CoreError::NoMemory) => world.step(job, now, own)?,
+        out => out?,
+    };
+    let (call, reply, answer, effect) = step;
+    Ok(
+        out == StepOut {
+            call,
+            reply,
+            answer,
+            effect,
+        },
+    )
+}
+
+#[test]
+fn a_clean_removes_what_was_not_used_for_36_hours(rt: HostRuntime) -> Result<(), Fail> {
+    let x = [(b"x" as &[u8], 1000)];
+    let x_and_y = [(b"x" as &[u8], 1000), (b"y", 130_600)];
+    let both = [(b".x" as &[u8], 0), (b"y:2,", 0)];
+    for (files, now, own, steps, left) in [
+        (
+            &x as &[(&[u8], u64)],
+            130_599,
+            None,
+            &[NONE_OLD] as &[Shown],
+            &[b"x" as &[u8]] as &[&[u8]],
+        ),
+        (&x, 130_600, None, &[LISTED, cleaned(DirReply::Ok, 1)], &[]),
+        // The clock begins at the greatest stamp, and never goes back.
+        (
+            &x_and_y,
+            5,
+            None,
+            &[LISTED, cleaned(DirReply::Ok, 1)],
+            &[b"y"],
+        ),
+        (
+            &both,
+            129_600,
+            None,
+            &[LISTED, REMOVED, cleaned(DirReply::Ok, 2)],
+            &[],
+        ),
+        // The age is by the own moment of the job.
+        (&x, 116_199, Some(130_599), &[NONE_OLD], &[b"x"]),
+        (
+            &x,
+            116_200,
+            Some(130_600),
+            &[LISTED, cleaned(DirReply::Ok, 1)],
+            &[],
+        ),
+        (&x, 130_600, Some(0), &[NONE_OLD], &[b"x"]),
+    ] {
+        let mut world = world_of(rt.alloc(), files)?;
+        let job = submit(&rt, &mut world, Call::Clean { folder: 0 }).map_err(
+            |refused| refused.error,
+        )?;
+        for step in steps {
+            assert!(rt; shows(&mut world, job, now, own, *step)?);
+        }
+        assert!(rt; lists(&world, 0, Place::Tmp, left));
+    }
+    Ok(())
+}
+
+#[test]
+fn each_file_is_counted_by_the_clean_that_removed_it(rt: HostRuntime) -> Result<(), Fail> {
+    let mut world = world_of(rt.alloc(), &[(b"x", 0), (b"y", 0), (b"z", 0)])?;
+    for _ in 0..2 {
+        submit(&rt, &mut world, Call::Clean { folder: 0 }).map_err(|refused| refused.error)?;
+    }
+    for (job, step) in [
+        (1, LISTED),
+        (2, LISTED),
+        (2, REMOVED),
+        (1, GONE),
+        (1, REMOVED),
+        (2, GONE),
+        (2, cleaned(DirReply::Ok, 2)),
+        (1, cleaned(DirReply::NotFound, 1)),
+    ] {
+        assert!(rt; shows(&mut world, job, 129_600, None, step)?);
+    }
+    assert!(rt; lists(&world, 0, Place::Tmp, &[]));
+    Ok(())
+}
