@@ -56,7 +56,7 @@ pub(crate) fn read_command<'a>(
     line: &'a [u8],
 ) -> Result<Command<'a>, PlayKind>
     ensures command { Gives seen result (command_at folders.now mode line.now) }
-    ensures fit { IfOk result (IsFit folders.now) }
+    ensures fit { IfOk result (IsFit folders.now mode) }
 {
     let (first, rest) = word(Some(line))?;
     let Some(verb) = verb_from(first) else {

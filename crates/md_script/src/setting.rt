@@ -72,7 +72,7 @@ impl Setting {
 
     // Does what a command says.
     fn obey(&mut self, command: Command<'_>, out: &mut Vec<u8>) -> Result<(), PlayKind>
-        requires { IsFit self.old.folders command }
+        requires { IsFit self.old.folders (SettingUp self.old.with_jobs) command }
         ensures { Steps (set_up self.old (seen command.entry)) self.new out.old.items out.new.items result }
     {
         match command {

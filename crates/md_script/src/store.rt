@@ -66,7 +66,7 @@ impl<D: Storage> StoreSession<D> {
 
     // Does what a command says.
     fn obey(&mut self, command: Command<'_>, out: &mut Vec<u8>) -> Result<(), PlayKind>
-        requires { IsFit self.old.folders command }
+        requires { IsFit self.old.folders (Playing (is_some self.old.run)) command }
         ensures { Steps (obey self.old (seen command.entry)) self.new out.old.items out.new.items result }
     {
         match command {

@@ -17,7 +17,7 @@ use std::alloc::Global;
 #[tactic(auto, unfolding(crate::specs::Commands::folder_line))]
 pub(super) fn folder_line<'a>(folders: &Folders, rest: Rest<'a>) -> Result<Command<'a>, PlayKind>
     ensures command { Spells result (folder_line folders.now (option_copied rest.entry)) }
-    ensures fit { IfOk result (IsFit folders.now) }
+    ensures fit { (mode : _) → IfOk result (IsFit folders.now mode) }
 {
     let (name, rest) = word(rest)?;
     if !folders.can_add(name) {

@@ -127,7 +127,7 @@ fn expunge_line(alloc: Global, folders: &Folders, rest: Rest<'_>) -> Result<Call
 
 #[tactic(auto, unfolding(crate::specs::Jobs::copy_line))]
 fn copy_line(alloc: Global, folders: &Folders, rest: Rest<'_>) -> Result<Call, PlayKind>
-    ensures call { Gives (λ call. call) result (copy_line folders.now (option_copied rest.entry)) }
+    ensures { Gives (λ call. call) result (copy_line folders.now (option_copied rest.entry)) }
 {
     let (from, rest) = folder(folders, rest)?;
     let (unique, rest) = word(rest)?;

@@ -40,7 +40,7 @@ fn own(rest: Rest<'_>) -> Result<Option<u64>, PlayKind>
 #[tactic(auto, unfolding(crate::specs::Commands::list_line))]
 pub(super) fn list_line<'a>(folders: &Folders, rest: Rest<'a>) -> Result<Command<'a>, PlayKind>
     ensures command { Spells result (list_line folders.now (option_copied rest.entry)) }
-    ensures fit { IfOk result (IsFit folders.now) }
+    ensures fit { (mode : _) → IfOk result (IsFit folders.now mode) }
 {
     let (folder, rest) = folder(folders, rest)?;
     end(rest)?;
@@ -62,7 +62,7 @@ pub(super) fn read_line(rest: Rest<'_>) -> Result<Command<'_>, PlayKind>
 #[tactic(auto, unfolding(crate::specs::Commands::unique_line))]
 pub(super) fn unique_line(rest: Rest<'_>) -> Result<Command<'_>, PlayKind>
     ensures command { Spells result (unique_line (option_copied rest.entry)) }
-    ensures fit { (folders : _) → IfOk result (IsFit folders) }
+    ensures fit { (folders mode : _) → IfOk result (IsFit folders mode) }
 {
     let (sec, rest) = number_word(rest)?;
     let (micro, rest) = number_word(rest)?;
