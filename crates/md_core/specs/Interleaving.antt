@@ -171,8 +171,8 @@ steps_of r job = count_by (λ e. e.event.job == job) r.events
 abbrev pub dirs_at_first : Run → ℕ → State
 dirs_at_first r job = (moment r (position_or_len (λ e. e.event.job == job) r.events)).dirs
 
--- The most steps that a call takes which begins over these directories: a delivery takes one for each piece of its body, and three more; a seen, a
--- flag and an expunge take two for each try, a move and a copy three; a clean takes one, and one for each name of tmp.
+-- The most steps that a call takes which begins over these directories: a delivery takes one for each piece of its body, and three more;
+-- a seen, a flag and an expunge take two for each try, a move and a copy three; a clean takes one, and one for each name of tmp.
 abbrev pub most_from : State → Call → ℕ
 most_from s (call.Deliver folder unique body chunk) = pieces (length body) chunk + 3
 most_from s (call.Seen folder unique flags tries) = 2 * tries

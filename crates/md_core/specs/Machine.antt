@@ -37,7 +37,8 @@ turn_of job (Expunge x) at = as_task Expunge (expunging_turn job x)
 turn_of job (Copy c) at = as_task Copy (copying_turn job c)
 turn_of job (Clean c) at = as_task Clean (cleaning_turn c at.own)
 
--- how many turns a task takes at most from here to its answer. A clean that has not begun takes as many as the directories have names for it
+-- How many turns a task takes at most from here to its answer, if no other job takes one. A clean that has not begun goes by the names
+-- of tmp that are there.
 abbrev pub task_left : State → Task → ℕ
 task_left s (Deliver d) = delivery_left d
 task_left s (Mark m) = marking_left m

@@ -1,5 +1,5 @@
--- The machine of an expunge: it looks for the message in cur, and takes its name away where it shows the flag T (trashed). Where the name is
--- gone by then it looks again, as often as it has tries.
+-- The machine of an expunge: it looks for the message in cur, and takes its name away where it shows the flag T (trashed). Where the
+-- name is gone by then it looks again, as often as it has tries.
 use Rattle.std.specs.Prelude.{ℕ, ◌-◌, ◌*◌, List, Option, Some, None, Bool, false, max, nat_le, if◌then◌else◌}
 use Rattle.std.specs.FinSet as set
 use Rattle.md_dirs.specs.Path.{path_of as path}

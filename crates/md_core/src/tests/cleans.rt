@@ -76,6 +76,22 @@ fn shows(
     )
 }
 
+// Whether the next steps of a job at these moments show these.
+fn all_show(
+    world: &mut World<PlainDirs>,
+    job: u64,
+    now: u64,
+    own: Option<u64>,
+    steps: &[Shown],
+) -> Result<bool, CoreError> {
+    for step in steps {
+        if !shows(world, job, now, own, *step)? {
+            return Ok(false);
+        }
+    }
+    Ok(true)
+}
+
 #[test]
 fn a_clean_removes_what_was_not_used_for_36_hours(rt: HostRuntime) -> Result<(), Fail> {
     let x = [(b"x" as &[u8], 1000)];
@@ -120,9 +136,7 @@ fn a_clean_removes_what_was_not_used_for_36_hours(rt: HostRuntime) -> Result<(),
         let job = submit(&rt, &mut world, Call::Clean { folder: 0 }).map_err(
             |refused| refused.error,
         )?;
-        for step in steps {
-            assert!(rt; shows(&mut world, job, now, own, *step)?);
-        }
+        assert!(rt; all_show(&mut world, job, now, own, steps)?);
         assert!(rt; lists(&world, 0, Place::Tmp, left));
     }
     Ok(())
