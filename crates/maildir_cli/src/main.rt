@@ -1,4 +1,5 @@
-//! `maildir_cli play` runs the script on standard input and prints its transcript on standard output.
+//! `maildir_cli play` runs the script on standard input and prints its transcript on standard output. `maildir_cli index N` prints the
+//! header summary of each message of the folders and files that the script names, made by N workers.
 //!
 //! It ends with status 0 where the script ran to its end or help was asked for; with 1 where a line was refused or reading, writing or
 //! memory failed, and then with one line `line N: TEXT` on standard error; and with 2 where its words are wrong, and then with one line
@@ -6,15 +7,19 @@
 #![tactic(auto)]
 
 mod command;
+mod indexing;
 mod options;
 #[cfg(test)]
 mod tests;
 mod words;
 
 use command::{CliFault, Run, command};
+use indexing::run_index;
 use md_script::{PlayError, PlayKind, Reader, Writer, play};
 use std::alloc::AllocGlobal;
 use std::process::ExitCode;
+use std::sync::Wait;
+use std::thread::Threads;
 use std::{env, io};
 
 /// The status of a refused script.
@@ -44,9 +49,8 @@ fn main(rt: HostRuntime) -> ExitCode {
     };
     match command(rt.alloc(), &words) {
         Ok(Run::Play) => play_input(&rt),
-        Ok(Run::Threads(_) | Run::Index(_)) => {
-            refuse_words(&rt, "this subcommand is still to come")
-        }
+        Ok(Run::Index(workers)) => index_input(&rt, &rt, workers as usize),
+        Ok(Run::Threads(_)) => refuse_words(&rt, "this subcommand is still to come"),
         Err(CliFault::Shown(text)) => show(&rt, &text),
         Err(CliFault::Refused(text)) => refuse_words(&rt, &text),
         Err(CliFault::NoMemory) => refuse(&rt, NO_MEMORY),
@@ -57,6 +61,19 @@ fn play_input(rt: &HostRuntime) -> ExitCode {
     let mut reader = Reader::new(rt.reader());
     let mut writer = Writer::new(io::writer(rt));
     match play(rt.alloc(), &mut reader, &mut writer) {
+        Ok(()) => ExitCode::SUCCESS,
+        Err(error) => refuse(rt, error),
+    }
+}
+
+fn index_input<R: Threads + Wait + Sync>(
+    rt: &HostRuntime,
+    threads: &R,
+    workers: usize,
+) -> ExitCode {
+    let mut reader = Reader::new(rt.reader());
+    let mut writer = Writer::new(io::writer(rt));
+    match run_index(threads, rt.alloc(), workers, &mut reader, &mut writer) {
         Ok(()) => ExitCode::SUCCESS,
         Err(error) => refuse(rt, error),
     }

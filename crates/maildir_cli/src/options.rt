@@ -9,8 +9,9 @@ pub(crate) const MOST_THREADS: u64 = 16;
 pub(crate) const MOST_WORKERS: u64 = 64;
 
 const ABOUT: &str =
-    "Plays scripts over a Maildir store in memory, and prints what each directory call of its jobs did. \
-What it prints is proved to be the transcript of the script.";
+    "Plays scripts over a Maildir store in memory, and prints what each directory call of its jobs did; \
+or prints the header summaries of its messages. What it prints is proved to be the transcript of the script, \
+or its index.";
 
 const AFTER: &str =
     "The script is read whole from standard input: at most 67,108,864 bytes, in at most 1,048,576 reads.
@@ -33,7 +34,7 @@ pub(crate) fn options<'a>(alloc: Global) -> Result<Command<'a>, AllocError> {
         "Runs the jobs of the script on N threads, 1 to 16 (still to come)",
     );
     let index = counted(alloc, "index", MOST_WORKERS as i64)?.about(
-        "Prints the summaries of its messages, made by N workers, 1 to 64 (still to come)",
+        "Prints the header summaries of the script's files that are messages, made by N workers, 1 to 64",
     );
     Command::new(alloc, "maildir_cli")
         .version("0.1.0")

@@ -1,7 +1,11 @@
-//! What command lines ask for.
+//! What command lines ask for, and what an index prints.
 
 use crate::command::{CliFault, Run, command};
+use crate::indexing::run_index;
+use std::alloc::Global;
+use std::sync::Wait;
 use std::test::Fail;
+use std::thread::Threads;
 
 #[test]
 fn words_name_runs(rt: HostRuntime) -> Result<(), Fail> {
@@ -90,6 +94,64 @@ fn help_and_version_are_shown(rt: HostRuntime) -> Result<(), Fail> {
         match command(rt.alloc(), words) {
             Err(CliFault::Shown(text)) => assert!(rt; text.as_str().starts_with(want), "{text}"),
             other => assert!(rt; false, "{other:?}"),
+        }
+    }
+    Ok(())
+}
+
+// A script, and what its index prints or why it is refused.
+static INDEXES: [(&[u8], &[u8], &str); 6] = [
+    (
+        b"folder i\nfile i cur b:2,S 0 Subject: two\\n\nfile i new a 0 Subject: one\\n\n",
+        b"i a\nsubject=one\nend\ni b\nsubject=two\nend\n",
+        "",
+    ),
+    (b"", b"", ""),
+    (
+        b"folder i\nfolder j\nfile j new u 0\nfile i new v 0 x\n# no message:\nfile i tmp w 0\n",
+        b"i v\nend\nj u\nend\n",
+        "",
+    ),
+    (
+        b"folder i\nlist\nfile i new u 0\n",
+        b"",
+        "line 2: not in this run",
+    ),
+    (
+        b"folder i\nfile i new u 0\nfile i new u 0\n\n",
+        b"",
+        "line 4: same path twice",
+    ),
+    (
+        b"folder i\nfile i new u 0\nfile i cur u:2,S 0\n# the last line",
+        b"",
+        "line 4: duplicate unique",
+    ),
+];
+
+// What an index of a script prints, and why it is refused, if it is.
+fn indexed<R: Threads + Wait + Sync>(
+    rt: &R,
+    alloc: Global,
+    workers: usize,
+    script: &[u8],
+) -> Result<(Vec<u8>, String), Fail> {
+    let mut source = script;
+    let mut sink = Vec::new(alloc);
+    let refusal = match run_index(rt, alloc, workers, &mut source, &mut sink) {
+        Ok(()) => String::new(alloc),
+        Err(error) => format!(in alloc; "{error}")?,
+    };
+    Ok((sink, refusal))
+}
+
+#[test]
+fn messages_are_indexed(rt: HostRuntime) -> Result<(), Fail> {
+    for (script, prints, refused) in INDEXES {
+        for workers in [1, 3] {
+            let (text, refusal) = indexed(&rt, rt.alloc(), workers, script)?;
+            assert_eq!(rt; text.as_slice(), prints);
+            assert_eq!(rt; refusal.as_str(), refused);
         }
     }
     Ok(())

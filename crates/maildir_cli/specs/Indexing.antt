@@ -1,0 +1,92 @@
+-- What `index` prints of a script, and where it is refused.
+use Rattle.std.specs.Prelude.{◌≡◌, ◌≢◌, ◌⊎◌, false, ℕ, ◌+◌, List, [], ◌∷◌, ◌++◌, Option, Some, None, Result, Ok, Err, flat_map, length, map, unwrap_or, codes}
+use Rattle.std.specs.Option.{option_map}
+use Rattle.std.specs.FinMap as finmap
+use Rattle.md_dirs.specs.declared.image.ImageFile.{ImageFile}
+use Rattle.md_dirs.specs.declared.paths.Place.TheVariants.{New, Cur}
+use Rattle.md_head.specs.Summaries.{summary_of}
+use Rattle.md_core.specs.Mailbox.{Entry as Message, Mailbox, mailbox_of}
+use Rattle.md_core.specs.History.{names_of}
+use Rattle.md_core.specs.Runs.{Run, dirs_of}
+use Rattle.md_view.specs.declared.entry.Entry.{Entry}
+use Rattle.md_view.specs.Readings.{reading_of, join_of}
+use Rattle.md_index.specs.declared.item.Indexed.{Indexed}
+use Rattle.md_script.specs.declared.error.PlayKind.{PlayKind}
+use Rattle.md_script.specs.declared.error.PlayError.{PlayError}
+use Rattle.md_script.specs.Bind.{◌>>=◌}
+use Rattle.md_script.specs.Lines.{lines_of}
+use Rattle.md_script.specs.Play.{Stops}
+use Rattle.md_script.specs.Reading.{IsWhole}
+use Rattle.md_script.specs.Sessions.{opened}
+use Rattle.md_script.specs.Setups.{Setting, setting_of}
+use Rattle.md_script.specs.Sinks.{Sink, Took, Untouched}
+use Rattle.md_script.specs.Sources.{Source}
+use Rattle.md_script.specs.Texts.{line_end, summary_text}
+use Rattle.md_script.specs.Transcript.{Transcript}
+
+-- the listing of a folder where both its readings are made at one moment
+abbrev pub listing_in : Mailbox → ℕ → List Entry
+listing_in m folder = join_of (reading_of (names_of m) folder New) (reading_of (names_of m) folder Cur)
+
+-- the bytes of the message of a unique name
+abbrev pub bytes_in : Mailbox → List ℕ → List ℕ
+bytes_in m u = unwrap_or (option_map (λ (message : Message). message.bytes) (finmap.get m u)) []
+
+-- a message of a listing, with the one summary of its bytes
+abbrev pub indexed_in : Mailbox → Entry → Indexed
+indexed_in m e = record { unique = e.unique; summary = summary_of (bytes_in m e.unique) }
+
+-- `FOLDER UNIQUE`, the lines of the summary, and `end`
+abbrev pub indexed_text : List ℕ → Indexed → List ℕ
+indexed_text name x = name ++ codes " " ++ x.unique ++ line_end ++ summary_text x.summary
+
+-- the messages of a folder in order of unique name
+abbrev pub folder_text : Mailbox → ℕ → List ℕ → List ℕ
+folder_text m folder name = flat_map (indexed_text name) (map (indexed_in m) (listing_in m folder))
+
+-- the messages of folders, of which the first has this number
+unfoldable pub index_from : Mailbox → ℕ → List (List ℕ) → List ℕ
+index_from m folder [] = []
+index_from m folder (name ∷ names) = folder_text m folder name ++ index_from m (folder + 1) names
+
+-- the index of the messages of a store
+abbrev pub index_of_run : List (List ℕ) → Run → List ℕ
+index_of_run names r = index_from (mailbox_of (dirs_of r)) 0 names
+
+-- the index over a store of folders and files, or why it can't be opened
+unfoldable pub index_over : List (List ℕ) → List ImageFile → Result (List ℕ) PlayKind
+index_over names files = opened (length names) files >>= (λ r. Ok (index_of_run names r))
+
+-- a refusal of a line
+abbrev pub at_line : {X : Type 0} → ℕ → Result X PlayKind → Result X PlayError
+at_line line (Ok x) = Ok x
+at_line line (Err kind) = Err (record { line = line; kind = kind })
+
+-- the index of what was set up, where no line was refused
+abbrev pub index_by : ℕ → Transcript Setting → Option PlayError → Result (List ℕ) PlayError
+index_by lines t (Some e) = Err e
+index_by lines t None = at_line lines (index_over t.session.folders t.session.files)
+
+-- What `index` prints of a script, which has folders and files alone. A store that can't be opened is refused at the script's last line.
+abbrev pub index_of_script : List ℕ → Result (List ℕ) PlayError
+index_of_script script = index_by (length (lines_of script)) (setting_of false script) (setting_of false script).refusal
+
+-- A whole script was read, and its index written.
+pub record Ran (old new : Source) (before after : Sink) : Type 0 where
+  pub script : List ℕ
+  pub text : List ℕ
+  pub whole : IsWhole old new script
+  pub is : index_of_script script ≡ Ok text
+  pub written : Took before after text
+
+-- A whole script was read; it is refused, and nothing was written.
+pub record Refuses (old new : Source) (before after : Sink) (e : PlayError) : Type 0 where
+  pub script : List ℕ
+  pub whole : IsWhole old new script
+  pub is : index_of_script script ≡ Err e
+  pub unwritten : Untouched before after
+
+-- The answer of `index`. Lines are numbered from 1, so that the line 0 is none.
+abbrev pub Indexes : Source → Source → Sink → Sink → Result (Unit {0}) PlayError → Type 0
+Indexes old new before after (Ok done) = Ran old new before after
+Indexes old new before after (Err e) = Refuses old new before after e ⊎ ((e.line ≡ 0) × Stops old new before after e.kind)
