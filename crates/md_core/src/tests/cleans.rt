@@ -1,6 +1,6 @@
 // Worked runs of cleans.
 use super::moves::{Shown, lists};
-use super::submit;
+use super::{load, submit};
 use crate::{Answer, Call, CoreError, DirCall, DirReply, StepOut, World};
 use md_dirs::{Bytes, DirError, ImageFile, Path, Place, PlainDirs};
 use std::alloc::Global;
@@ -47,10 +47,7 @@ fn world_of(alloc: Global, files: &[(&[u8], u64)]) -> Result<World<PlainDirs>, F
         Err(DirError::NoMemory) => built(alloc, files)?,
         made => made?,
     };
-    match World::load(alloc, dirs) {
-        Ok(world) => Ok(world),
-        Err(refused) => Ok(World::load(alloc, refused.dirs).map_err(|refused| refused.error)?),
-    }
+    Ok(load(alloc, dirs)?)
 }
 
 // Whether the next step of a job at these moments shows this.
@@ -133,9 +130,7 @@ fn a_clean_removes_what_was_not_used_for_36_hours(rt: HostRuntime) -> Result<(),
         (&x, 130_600, Some(0), &[NONE_OLD], &[b"x"]),
     ] {
         let mut world = world_of(rt.alloc(), files)?;
-        let job = submit(&rt, &mut world, Call::Clean { folder: 0 }).map_err(
-            |refused| refused.error,
-        )?;
+        let job = submit(&rt, &mut world, Call::Clean { folder: 0 })?;
         assert!(rt; all_show(&mut world, job, now, own, steps)?);
         assert!(rt; lists(&world, 0, Place::Tmp, left));
     }
@@ -146,7 +141,7 @@ fn a_clean_removes_what_was_not_used_for_36_hours(rt: HostRuntime) -> Result<(),
 fn each_file_is_counted_by_the_clean_that_removed_it(rt: HostRuntime) -> Result<(), Fail> {
     let mut world = world_of(rt.alloc(), &[(b"x", 0), (b"y", 0), (b"z", 0)])?;
     for _ in 0..2 {
-        submit(&rt, &mut world, Call::Clean { folder: 0 }).map_err(|refused| refused.error)?;
+        submit(&rt, &mut world, Call::Clean { folder: 0 })?;
     }
     for (job, step) in [
         (1, LISTED),

@@ -1,9 +1,11 @@
 // Worked runs of copies.
+use super::loads::is_used;
 use super::moves::{Shown, lists, moving, takes, world_of};
-use super::{copied, delivery, submit};
-use crate::{Answer, Call, CoreError, DirCall, DirReply};
-use md_dirs::Place;
+use super::{copied, submit};
+use crate::{Answer, Call, DirCall, DirReply, World};
+use md_dirs::{Place, PlainDirs};
 use std::alloc::{AllocError, Global};
+use std::process::Abort;
 use std::test::Fail;
 
 const NOT_IN_NEW: Shown = (DirCall::List(Place::New), DirReply::Ok, None, false);
@@ -20,6 +22,25 @@ fn copying(alloc: Global, to: u32) -> Result<Call, AllocError> {
     })
 }
 
+const COPIED: Shown = (DirCall::Link, DirReply::Ok, Some(Answer::Copied), true);
+
+// The message is copied from cur to the other folder, and shows this name there.
+fn is_copied(
+    rt: &impl Abort,
+    alloc: Global,
+    world: &mut World<PlainDirs>,
+    name: &[u8],
+    copy: &[u8],
+) -> Result<(), Fail> {
+    let job = submit(rt, world, copying(alloc, 1)?)?;
+    takes(rt, world, job, &[NOT_IN_NEW, IN_CUR, COPIED])?;
+    assert!(rt; lists(world, 0, Place::Cur, &[name]));
+    assert!(rt; lists(world, 1, Place::Cur, &[copy]));
+    assert!(rt; world.read(b"u") == Some(name));
+    assert!(rt; world.read(b"v") == Some(name));
+    Ok(())
+}
+
 #[test]
 fn a_copy_shows_the_flags_in_their_one_spelling(rt: HostRuntime) -> Result<(), Fail> {
     for (name, copy) in [
@@ -28,48 +49,40 @@ fn a_copy_shows_the_flags_in_their_one_spelling(rt: HostRuntime) -> Result<(), F
         (b"u", b"v"),
     ] {
         let mut world = world_of(rt.alloc(), Some((Place::Cur, name)))?;
-        let call = copying(rt.alloc(), 1)?;
-        let job = submit(&rt, &mut world, call)?;
-        let linked = (DirCall::Link, DirReply::Ok, Some(Answer::Copied), true);
-        takes(&rt, &mut world, job, &[NOT_IN_NEW, IN_CUR, linked])?;
-        assert!(rt; lists(&world, 0, Place::Cur, &[name]));
-        assert!(rt; lists(&world, 1, Place::Cur, &[copy]));
-        for unique in [b"u", b"v"] {
-            assert_eq!(rt; world.read(unique), Some(name));
-        }
+        is_copied(&rt, rt.alloc(), &mut world, name, copy)?;
     }
+    Ok(())
+}
+
+const RENAMED: Shown = (DirCall::Rename, DirReply::Ok, Some(Answer::Moved), true);
+
+const LOST: Shown = (DirCall::Link, DirReply::NotFound, Some(Answer::Lost), false);
+
+// A copy within folder 0, whose message goes to folder 1 before the link.
+fn is_lost(rt: &impl Abort, alloc: Global, world: &mut World<PlainDirs>) -> Result<(), Fail> {
+    let copy = submit(rt, world, copying(alloc, 0)?)?;
+    let away = submit(rt, world, moving(alloc, 0, 1)?)?;
+    takes(rt, world, copy, &[NOT_IN_NEW, IN_CUR])?;
+    takes(rt, world, away, &[NOT_IN_NEW, IN_CUR, RENAMED])?;
+    takes(rt, world, copy, &[LOST])?;
+    assert!(rt; lists(world, 0, Place::Cur, &[]));
+    assert!(rt; lists(world, 1, Place::Cur, &[b"u"]));
     Ok(())
 }
 
 #[test]
 fn a_message_that_is_gone_at_the_link_is_lost(rt: HostRuntime) -> Result<(), Fail> {
     let mut world = world_of(rt.alloc(), Some((Place::Cur, b"u")))?;
-    let call = copying(rt.alloc(), 0)?;
-    let copy = submit(&rt, &mut world, call)?;
-    let call = moving(rt.alloc(), 0, 1)?;
-    let away = submit(&rt, &mut world, call)?;
-    takes(&rt, &mut world, copy, &[NOT_IN_NEW, IN_CUR])?;
-    let renamed = (DirCall::Rename, DirReply::Ok, Some(Answer::Moved), true);
-    takes(&rt, &mut world, away, &[NOT_IN_NEW, IN_CUR, renamed])?;
-    let lost = (DirCall::Link, DirReply::NotFound, Some(Answer::Lost), false);
-    takes(&rt, &mut world, copy, &[lost])?;
-    assert!(rt; lists(&world, 0, Place::Cur, &[]));
-    assert!(rt; lists(&world, 1, Place::Cur, &[b"u"]));
+    is_lost(&rt, rt.alloc(), &mut world)?;
     // The fresh name is used all the same.
-    let call = delivery(rt.alloc(), 0, b"v", copied(rt.alloc(), b"z")?, 4)?;
-    let refused = submit(&rt, &mut world, call).err();
-    assert_eq!(rt;
-        refused.map(|refused| refused.error),
-        Some(CoreError::NameUsed)
-    );
+    assert!(rt; is_used(&rt, rt.alloc(), &mut world, b"v")?);
     Ok(())
 }
 
 #[test]
 fn a_message_with_other_info_is_not_copied(rt: HostRuntime) -> Result<(), Fail> {
     let mut world = world_of(rt.alloc(), Some((Place::New, b"u:1,x")))?;
-    let call = copying(rt.alloc(), 0)?;
-    let job = submit(&rt, &mut world, call)?;
+    let job = submit(&rt, &mut world, copying(rt.alloc(), 0)?)?;
     let other = (
         DirCall::List(Place::New),
         DirReply::Ok,

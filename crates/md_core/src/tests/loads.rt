@@ -2,7 +2,7 @@
 use super::{copied, delivery, submit};
 use crate::{CoreError, World};
 use md_dirs::{Bytes, DirError, Dirs, ImageFile, Path, Place, PlainDirs};
-use std::alloc::Global;
+use std::alloc::{AllocError, Global};
 use std::process::Abort;
 use std::test::Fail;
 
@@ -193,6 +193,25 @@ fn the_first_fault_is_the_refusal(rt: HostRuntime) -> Result<(), Fail> {
     Ok(())
 }
 
+// Unique names and the bytes of their messages.
+static READ: [(&[u8], &[u8]); 10] = [
+    (b"a", b"a"),
+    (b"b!", b"b!"),
+    (b"b,S=5", b"b,S=5"),
+    (b"b", b"b:2,S"),
+    (b"ba", b"ba"),
+    (b"c", b"c:"),
+    (b"b0", b"b0:2,"),
+    (b"d", b"d:x:y"),
+    (b"e", b"e"),
+    (b"\xff\xfe", b"\xff\xfe"),
+];
+
+// Names that no message has for its unique name.
+static NOT_READ: [&[u8]; 9] = [
+    b"", b"t", b".hid", b"b:2,S", b"c:", b"d:x", b"b\xff", b"z", b"\xff",
+];
+
 #[test]
 fn messages_are_read_by_their_unique_names(rt: HostRuntime) -> Result<(), Fail> {
     let files: [Named<'_>; 12] = [
@@ -210,33 +229,11 @@ fn messages_are_read_by_their_unique_names(rt: HostRuntime) -> Result<(), Fail> 
         (1, Place::Cur, b"\xff\xfe", 0),
     ];
     let world = load(&rt, rt.alloc(), &files)??;
-    let found: [(&[u8], &[u8]); 10] = [
-        (b"a", b"a"),
-        (b"b!", b"b!"),
-        (b"b,S=5", b"b,S=5"),
-        (b"b", b"b:2,S"),
-        (b"ba", b"ba"),
-        (b"c", b"c:"),
-        (b"b0", b"b0:2,"),
-        (b"d", b"d:x:y"),
-        (b"e", b"e"),
-        (b"\xff\xfe", b"\xff\xfe"),
-    ];
-    for (unique, bytes) in found {
-        assert!(rt; world.read(unique) == Some(bytes), "{unique:?}");
+    for (unique, bytes) in READ {
+        assert!(rt; world.read(unique) == Some(bytes));
     }
-    for unique in [
-        b"".as_slice(),
-        b"t",
-        b".hid",
-        b"b:2,S",
-        b"c:",
-        b"d:x",
-        b"b\xff",
-        b"z",
-        b"\xff",
-    ] {
-        assert!(rt; world.read(unique) == None, "{unique:?}");
+    for unique in NOT_READ {
+        assert!(rt; world.read(unique) == None);
     }
     Ok(())
 }
@@ -283,9 +280,22 @@ fn each_of_many_messages_is_read(rt: HostRuntime) -> Result<(), Fail> {
     Ok(())
 }
 
+/// Whether a delivery under a name is refused, since the name is used.
+pub(super) fn is_used(
+    rt: &impl Abort,
+    alloc: Global,
+    world: &mut World<PlainDirs>,
+    name: &[u8],
+) -> Result<bool, AllocError> {
+    let call = delivery(alloc, 0, name, copied(alloc, b"")?, 1)?;
+    match submit(rt, world, call) {
+        Ok(_) => Ok(false),
+        Err(refused) => Ok(refused.error == CoreError::NameUsed),
+    }
+}
+
 #[test]
 fn names_of_the_beginning_are_used(rt: HostRuntime) -> Result<(), Fail> {
-    let alloc = rt.alloc();
     let files: [Named<'_>; 5] = [
         (0, Place::Tmp, b"t", 0),
         (0, Place::Tmp, b"x:2,S", 0),
@@ -293,35 +303,50 @@ fn names_of_the_beginning_are_used(rt: HostRuntime) -> Result<(), Fail> {
         (1, Place::Cur, b"c:2,S", 0),
         (1, Place::Cur, b"hid:", 0),
     ];
-    let mut world = load(&rt, alloc, &files)??;
-    for name in [b"t".as_slice(), b"n", b"c", b"hid"] {
-        let call = delivery(alloc, 0, name, copied(alloc, b"")?, 1)?;
-        let refused = submit(&rt, &mut world, call)
-            .err()
-            .ok_or("a used name was accepted")?;
-        assert!(rt; refused.error == CoreError::NameUsed, "{name:?}");
-    }
+    let mut world = load(&rt, rt.alloc(), &files)??;
     // In tmp the whole name is used.
-    let call = delivery(alloc, 0, b"x", copied(alloc, b"")?, 1)?;
-    assert!(rt; submit(&rt, &mut world, call).is_ok());
+    for (name, used) in [
+        (b"t".as_slice(), true),
+        (b"n", true),
+        (b"c", true),
+        (b"hid", true),
+        (b"x", false),
+    ] {
+        assert!(rt;
+            is_used(&rt, rt.alloc(), &mut world, name)? == used,
+            "{name:?}"
+        );
+    }
     Ok(())
+}
+
+/// The stamp of the first file of tmp of folder 0, once a delivery began at this moment.
+pub(super) fn stamp_at(
+    rt: &impl Abort,
+    alloc: Global,
+    world: &mut World<PlainDirs>,
+    now: u64,
+) -> Result<Option<u64>, Fail> {
+    let call = delivery(alloc, 0, b"u", copied(alloc, b"")?, 1)?;
+    let job = submit(rt, world, call)?;
+    if world.step(job, now, None).is_err() {
+        world.step(job, now, None)?;
+    }
+    match world.names(0, Place::Tmp, 0) {
+        Some(row) => Ok(Some(row.stamp)),
+        None => Ok(None),
+    }
 }
 
 #[test]
 fn the_clock_begins_at_the_greatest_stamp(rt: HostRuntime) -> Result<(), Fail> {
-    let alloc = rt.alloc();
     let files: [Named<'_>; 3] = [
         (1, Place::Tmp, b"x", 1000),
         (1, Place::Cur, b".y", 130_600),
         (0, Place::New, b"z", 5),
     ];
-    let mut world = load(&rt, alloc, &files)??;
-    let call = delivery(alloc, 0, b"u", copied(alloc, b"")?, 1)?;
-    let _job = submit(&rt, &mut world, call)?;
-    if world.step(1, 7, None).is_err() {
-        assert!(rt; world.step(1, 7, None).is_ok());
-    }
-    let row = world.names(0, Place::Tmp, 0).ok_or("no file")?;
-    assert_eq!(rt; row.stamp, 130_600);
+    let mut world = load(&rt, rt.alloc(), &files)??;
+    let stamp = stamp_at(&rt, rt.alloc(), &mut world, 7)?;
+    assert_eq!(rt; stamp, Some(130_600));
     Ok(())
 }

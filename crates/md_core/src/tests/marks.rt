@@ -2,10 +2,11 @@
 
 use super::moves::{Shown, lists, takes, world_of};
 use super::{copied, submit};
-use crate::{Answer, Call, DirCall, DirReply};
-use md_dirs::Place;
+use crate::{Answer, Call, DirCall, DirReply, World};
+use md_dirs::{Place, PlainDirs};
 use md_name::Flags;
 use std::alloc::Global;
+use std::process::Abort;
 use std::test::Fail;
 
 const IN_NEW: Shown = (DirCall::List(Place::New), DirReply::Ok, None, false);
@@ -41,40 +42,52 @@ fn gives(call: DirCall, letters: &[u8]) -> Result<Shown, Fail> {
 
 #[test]
 fn a_seen_message_goes_to_cur_with_its_flags_joined(rt: HostRuntime) -> Result<(), Fail> {
+    let steps = [IN_NEW, gives(DirCall::Rename, b"FS")?];
     let mut world = world_of(rt.alloc(), Some((Place::New, b"u:2,F")))?;
-    let job = submit(&rt, &mut world, seeing(rt.alloc())?)?;
-    takes(
-        &rt,
-        &mut world,
-        job,
-        &[IN_NEW, gives(DirCall::Rename, b"FS")?],
-    )?;
+    marks(&rt, &mut world, seeing(rt.alloc())?, &steps)?;
     assert!(rt; lists(&world, 0, Place::New, &[]));
     assert!(rt; lists(&world, 0, Place::Cur, &[b"u:2,FS"]));
     Ok(())
 }
 
+// Submits a call, whose job takes these steps.
+fn marks(
+    rt: &impl Abort,
+    world: &mut World<PlainDirs>,
+    call: Call,
+    steps: &[Shown],
+) -> Result<(), Fail> {
+    let job = submit(rt, world, call)?;
+    takes(rt, world, job, steps)?;
+    Ok(())
+}
+
 #[test]
 fn flags_that_are_there_leave_the_spelling(rt: HostRuntime) -> Result<(), Fail> {
+    let same = [gives(DirCall::List(Place::Cur), b"STa")?];
+    let other = [IN_CUR, gives(DirCall::Rename, b"FSTa")?];
     let mut world = world_of(rt.alloc(), Some((Place::Cur, b"u:2,TSSa")))?;
-    let same = flagging(rt.alloc(), b"S", 1)?;
-    let job = submit(&rt, &mut world, same)?;
-    takes(
-        &rt,
-        &mut world,
-        job,
-        &[gives(DirCall::List(Place::Cur), b"STa")?],
-    )?;
+    marks(&rt, &mut world, flagging(rt.alloc(), b"S", 1)?, &same)?;
     assert!(rt; lists(&world, 0, Place::Cur, &[b"u:2,TSSa"]));
-    let other = flagging(rt.alloc(), b"F", 1)?;
-    let job = submit(&rt, &mut world, other)?;
-    takes(
-        &rt,
-        &mut world,
-        job,
-        &[IN_CUR, gives(DirCall::Rename, b"FSTa")?],
-    )?;
+    marks(&rt, &mut world, flagging(rt.alloc(), b"F", 1)?, &other)?;
     assert!(rt; lists(&world, 0, Place::Cur, &[b"u:2,FSTa"]));
+    Ok(())
+}
+
+// Two flaggers look one after the other, and the first renames; the second, which has so many tries, then takes these steps.
+fn race(
+    rt: &impl Abort,
+    alloc: Global,
+    world: &mut World<PlainDirs>,
+    tries: u64,
+    steps: &[Shown],
+) -> Result<(), Fail> {
+    let first = submit(rt, world, flagging(alloc, b"F", 2)?)?;
+    let second = submit(rt, world, flagging(alloc, b"R", tries)?)?;
+    takes(rt, world, first, &[IN_CUR])?;
+    takes(rt, world, second, &[IN_CUR])?;
+    takes(rt, world, first, &[gives(DirCall::Rename, b"FS")?])?;
+    takes(rt, world, second, steps)?;
     Ok(())
 }
 
@@ -87,23 +100,13 @@ fn the_second_of_two_flaggers_looks_again_or_is_lost(rt: HostRuntime) -> Result<
         Some(Answer::Lost),
         false,
     );
+    let again = [gone, IN_CUR, gives(DirCall::Rename, b"FRS")?];
     for (tries, steps, name) in [
         (1, &[lost] as &[Shown], b"u:2,FS" as &[u8]),
-        (
-            2,
-            &[gone, IN_CUR, gives(DirCall::Rename, b"FRS")?],
-            b"u:2,FRS",
-        ),
+        (2, &again, b"u:2,FRS"),
     ] {
         let mut world = world_of(rt.alloc(), Some((Place::Cur, b"u:2,S")))?;
-        let call = flagging(rt.alloc(), b"F", 2)?;
-        let first = submit(&rt, &mut world, call)?;
-        let call = flagging(rt.alloc(), b"R", tries)?;
-        let second = submit(&rt, &mut world, call)?;
-        takes(&rt, &mut world, first, &[IN_CUR])?;
-        takes(&rt, &mut world, second, &[IN_CUR])?;
-        takes(&rt, &mut world, first, &[gives(DirCall::Rename, b"FS")?])?;
-        takes(&rt, &mut world, second, steps)?;
+        race(&rt, rt.alloc(), &mut world, tries, steps)?;
         assert!(rt; lists(&world, 0, Place::Cur, &[name]));
     }
     Ok(())

@@ -1,7 +1,8 @@
 // What a refused growth leaves of the clock: a refused step is made again at an earlier moment.
-use super::{copied, delivery, plain_delivery, submit};
+use super::loads::stamp_at;
+use super::plain_delivery;
 use crate::{Answer, CoreError, World};
-use md_dirs::{Place, PlainDirs};
+use md_dirs::PlainDirs;
 use std::process::Abort;
 use std::test::Fail;
 
@@ -15,23 +16,23 @@ fn late_or_not(rt: &impl Abort, world: &mut World<PlainDirs>, late: u64) -> Resu
     Ok(1000)
 }
 
-#[test]
-fn a_refused_step_leaves_the_clock(rt: HostRuntime) -> Result<(), Fail> {
-    let alloc = rt.alloc();
-    let mut world = plain_delivery(&rt, alloc)?;
-    let call = delivery(alloc, 0, b"b", copied(alloc, b"")?, 1)?;
-    let _job = submit(&rt, &mut world, call)?;
+// Takes the five steps of job 1 late, and gives the latest moment at which one was taken.
+fn clock_after(rt: &impl Abort, world: &mut World<PlainDirs>) -> Result<u64, CoreError> {
     let mut clock = 0;
     for late in 2000..2005 {
-        clock = late_or_not(&rt, &mut world, late)?.max(clock);
+        clock = late_or_not(rt, world, late)?.max(clock);
     }
+    Ok(clock)
+}
+
+#[test]
+fn a_refused_step_leaves_the_clock(rt: HostRuntime) -> Result<(), Fail> {
+    let mut world = plain_delivery(&rt, rt.alloc())?;
+    let clock = clock_after(&rt, &mut world)?;
     assert_eq!(rt; world.answer(1), Some(Answer::Delivered));
     // The next file has the clock for its stamp.
-    if world.step(2, 0, None).is_err() {
-        let _out = world.step(2, 0, None)?;
-    }
-    let row = world.names(0, Place::Tmp, 0).ok_or("no file")?;
-    assert_eq!(rt; row.stamp, clock);
+    let stamp = stamp_at(&rt, rt.alloc(), &mut world, 0)?;
+    assert_eq!(rt; stamp, Some(clock));
     assert_eq!(rt; world.log().len(), 6);
     Ok(())
 }
