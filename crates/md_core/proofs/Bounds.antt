@@ -23,8 +23,8 @@ use Rattle.md_core.specs.Machines.Mark as marked_by
 use Rattle.md_core.specs.Machines.Expunge as expunged_by
 use Rattle.md_core.specs.Machines.Clean as cleaned_by
 use Rattle.md_core.specs.Machine.{Machine, Standing, working, answered, Marked, Done, job_at, job_left, task_left, standing_of, new_job, happens, done_by}
-use Rattle.md_core.specs.Runs.{Run, beginning, run_from, machine_of, dirs_of, jobs_of, and_event, step_refusal, steps_left, left_of}
-use Rattle.md_core.specs.Interleaving.{IsRun, call_at, steps_of, dirs_at_first}
+use Rattle.md_core.specs.Runs.{Run, beginning, run_from, machine_of, dirs_of, jobs_of, and_event, step_refusal, steps_left, left_of, call_at, dirs_at_first}
+use Rattle.md_core.specs.Interleaving.{IsRun, steps_of}
 use Rattle.md_core.proofs.Good.{EachTurn, IsGood, IsFixed}
 use Rattle.md_core.proofs.Events.{goes_on-exact}
 use Rattle.md_core.proofs.Keeping.{good-kept}

@@ -6,8 +6,8 @@ use Rattle.md_core.specs.declared.jobs.call.Call.TheVariants.{Deliver, Seen, Fla
 use Rattle.md_core.specs.declared.jobs.effect.Effect.{Effect}
 use Rattle.md_core.specs.Mailbox.{Entry, Mailbox}
 use Rattle.md_core.specs.Machine.{Machine, Marked, Done}
-use Rattle.md_core.specs.Runs.{Run, moment}
-use Rattle.md_core.specs.Interleaving.{IsRun, AsAlone, call_at, IsWhole, box}
+use Rattle.md_core.specs.Runs.{Run, moment, call_at, box}
+use Rattle.md_core.specs.Interleaving.{IsRun, AsAlone, IsWhole}
 use Rattle.md_core.proofs.Good.{EachTurn}
 use Rattle.md_core.proofs.Going.{Goes}
 use Rattle.md_core.proofs.GoodRuns.{what-at, going-at, done-what}

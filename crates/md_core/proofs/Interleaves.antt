@@ -15,9 +15,9 @@ use Rattle.md_core.specs.Mailbox.{Entry, mailbox_of, is_tmp, is_message}
 use Rattle.md_core.specs.History.{Names, names_of, listed, after, IsNowhere}
 use Rattle.md_core.specs.Machine.{Machine, Standing, working, answered, Marked, Done, job_at, job_left, new_job}
 use Rattle.md_core.specs.Machines.Deliver.{delivery_effect}
-use Rattle.md_core.specs.Runs.{Run, beginning, moment, machine_of, jobs_of, dirs_of}
+use Rattle.md_core.specs.Runs.{Run, beginning, moment, machine_of, jobs_of, dirs_of, call_at, dirs_at_first}
 use Rattle.md_core.specs.Submitting.{submit_refusal}
-use Rattle.md_core.specs.Interleaving.{IsRun, call_at, Simulates, Happened, NoneOverwritten, IsSafe, effects_by, is_success, is_linked, is_past_link, steps_of, dirs_at_first, most_from, JobLaw, Interleaves}
+use Rattle.md_core.specs.Interleaving.{IsRun, Simulates, Happened, NoneOverwritten, IsSafe, effects_by, is_success, is_linked, is_past_link, steps_of, most_from, JobLaw, Interleaves}
 use Rattle.md_core.proofs.Good.{EachTurn, IsGood, Makes, HasNoMessage, Affects, own_effect}
 use Rattle.md_core.proofs.Places.{at_place}
 use Rattle.md_core.proofs.Frames.{message-key}

@@ -5,8 +5,8 @@ use Rattle.md_core.specs.declared.jobs.answer.Answer.{Answer}
 use Rattle.md_core.specs.declared.jobs.step.StepOut.{StepOut}
 use Rattle.md_core.specs.declared.jobs.task.Task.{Task}
 use Rattle.md_core.specs.Machine.{Machine, working, answered, Marked, Done, job_at, standing_of, done, done_by, step_out}
-use Rattle.md_core.specs.Runs.{Run, machine_of, jobs_of, and_event, step_refusal}
-use Rattle.md_core.specs.Interleaving.{IsRun, call_at, ShowsStep, Succeeds, Interleaves}
+use Rattle.md_core.specs.Runs.{Run, machine_of, jobs_of, and_event, step_refusal, call_at}
+use Rattle.md_core.specs.Interleaving.{IsRun, ShowsStep, Succeeds, Interleaves}
 use Rattle.md_core.proofs.Good.{EachTurn}
 use Rattle.md_core.proofs.Events.{goes_on-exact, done-turned}
 use Rattle.md_core.proofs.Runs.{machine-and_event}

@@ -1,6 +1,5 @@
 -- What holds of every run, whatever the order of its events and whichever directory calls fault.
-use Rattle.std.specs.Prelude.{ℕ, ◌≡◌, ◌≢◌, ◌+◌, ◌*◌, ◌≤◌, ◌<◌, ◌++◌, ◌∷◌, ◌⊎◌, List, [], Option, Some, None, Bool, true, false, ◌==◌, filter, length, take, slice_get, zero, suc, IfSome, is_some, count_by}
-use Rattle.std.specs.List.{position_or_len}
+use Rattle.std.specs.Prelude.{ℕ, ◌≡◌, ◌≢◌, ◌+◌, ◌*◌, ◌≤◌, ◌<◌, ◌++◌, ◌∷◌, ◌⊎◌, List, [], Option, Some, None, Bool, true, false, ◌==◌, filter, length, take, slice_get, suc, IfSome, is_some, count_by}
 use Rattle.std.specs.Option.{option_to_list}
 use Rattle.std.specs.FinMap as finmap
 use Rattle.md_dirs.specs.State.{State, IsSound, file_at}
@@ -26,7 +25,7 @@ use Rattle.md_core.specs.Turn.{Asked, link, rename, unlink, list}
 use Rattle.md_core.specs.Machines.Deliver.{pieces}
 use Rattle.md_core.specs.Machine.{Machine, Standing, working, answered, Marked, Done, step_out, job_at, job_left}
 use Rattle.md_core.specs.Machine.{done as done_of}
-use Rattle.md_core.specs.Runs.{Run, moment, machine_of, dirs_of, done_at, jobs_of, effects_of, step_refusal}
+use Rattle.md_core.specs.Runs.{Run, moment, machine_of, dirs_of, done_at, jobs_of, effects_of, step_refusal, call_at, box, dirs_at_first}
 use Rattle.md_core.specs.Loading.{load_refusal}
 use Rattle.md_core.specs.Submitting.{submit_refusal}
 
@@ -37,11 +36,6 @@ pub record IsRun (r : Run) : Type 0 where
   pub loaded : load_refusal r.image ≡ None
   pub accepted : (i : ℕ) (call : Call) → slice_get r.calls i ≡ Some call → submit_refusal (record r { calls = take i r.calls }) call ≡ None
   pub taken : (k : ℕ) (e : Marked) → slice_get r.events k ≡ Some e → step_refusal (job_at (moment r k).jobs e.event.job) ≡ None
-
--- calls are numbered as their jobs, from 1
-abbrev pub call_at : List Call → ℕ → Option Call
-call_at calls zero = None
-call_at calls (suc i) = slice_get calls i
 
 -- At an effect the call answers as it would alone on the mailbox, and leaves it so. At no other step does the mailbox change.
 abbrev pub AsAlone : Call → Option Effect → Mailbox → Mailbox → Type 0
@@ -59,9 +53,6 @@ is_effect_at (call.Move f u to tries) (rename old new) reply.Ok a = true
 is_effect_at (call.Expunge f u tries) (unlink p) reply.Ok a = true
 is_effect_at (call.Copy f u to fresh tries) (link old new) reply.Ok a = true
 is_effect_at call asked r a = false
-
-abbrev pub box : Machine → Mailbox
-box m = mailbox_of m.dirs
 
 -- What was done of a call simulates the one-at-a-time mailbox, between the machines before and after it: the history grows by its effect, if it
 -- is one, and the mailbox is as the call alone would leave it.
@@ -166,10 +157,6 @@ Succeeds r job (Some a) = is_success a ≡ true → (e : Effect) × (effects_by 
 -- how many steps a job has taken
 abbrev pub steps_of : Run → ℕ → ℕ
 steps_of r job = count_by (λ e. e.event.job == job) r.events
-
--- the directories before the first step of a job, or as they are where it has taken none
-abbrev pub dirs_at_first : Run → ℕ → State
-dirs_at_first r job = (moment r (position_or_len (λ e. e.event.job == job) r.events)).dirs
 
 -- The most steps that a call takes which begins over these directories: a delivery takes one for each piece of its body, and three more;
 -- a seen, a flag and an expunge take two for each try, a move and a copy three; a clean takes one, and one for each name of tmp.

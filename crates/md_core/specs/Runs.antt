@@ -1,9 +1,11 @@
 -- A run: directories at the beginning, the calls that were submitted, and the events since. All else of a world is a function of these.
-use Rattle.std.specs.Prelude.{ℕ, ◌≡◌, ◌+◌, List, [], ◌∷◌, ◌++◌, Option, Some, None, map, max, take, fold, slice_get, length, count_by}
+use Rattle.std.specs.Prelude.{ℕ, ◌≡◌, ◌+◌, ◌==◌, List, [], ◌∷◌, ◌++◌, Option, Some, None, map, max, take, fold, slice_get, length, count_by, zero, suc}
+use Rattle.std.specs.List.{position_or_len}
 use Rattle.std.specs.Option.{option_and_then}
 use Rattle.std.specs.FinMap as finmap
 use Rattle.md_dirs.specs.State.{State, file_by}
 use Rattle.md_dirs.specs.declared.paths.File.{File}
+use Rattle.md_core.specs.Mailbox.{Mailbox, mailbox_of}
 use Rattle.md_core.specs.declared.error.CoreError.{CoreError}
 use Rattle.md_core.specs.declared.error.CoreError.TheVariants as core
 use Rattle.md_core.specs.declared.jobs.answer.Answer.{Answer}
@@ -54,6 +56,23 @@ machine_of r = run_from (beginning r.image r.calls) r.events
 -- what event k did
 abbrev pub done_at : Run → ℕ → Option Done
 done_at r k = option_and_then (done (moment r k)) (slice_get r.events k)
+
+-- the number of the first event of a job, or of all events where it has none
+abbrev pub first_step : Run → ℕ → ℕ
+first_step r job = position_or_len (λ e. e.event.job == job) r.events
+
+-- the directories before the first step of a job, or as they are where it has taken none
+abbrev pub dirs_at_first : Run → ℕ → State
+dirs_at_first r job = (moment r (first_step r job)).dirs
+
+-- the mailbox at a moment
+abbrev pub box : Machine → Mailbox
+box m = mailbox_of m.dirs
+
+-- calls are numbered as their jobs, from 1
+abbrev pub call_at : List Call → ℕ → Option Call
+call_at calls zero = None
+call_at calls (suc i) = slice_get calls i
 
 abbrev pub dirs_of : Run → State
 dirs_of r = (machine_of r).dirs
