@@ -15,7 +15,7 @@ pub record JobView : Type 0 where
   pub standing : Standing
 
 abbrev pub standing_by : Progress → Standing
-standing_by (Working task) = working task
+standing_by (Working room) = working room.value
 standing_by (Answered a) = answered a
 
 -- how jobs stand

@@ -9,17 +9,18 @@ use crate::error::CoreError;
 use crate::image::Image;
 use crate::jobs::answer::Answer;
 use crate::jobs::call::{Call, JobId};
+use crate::jobs::cleaning::Cleaning;
 use crate::jobs::step::Moment;
 use crate::jobs::task::Task;
 use crate::jobs::turn::Turned;
 use md_dirs::Dirs;
-use std::alloc::Global;
+use std::alloc::{AllocError, Global};
 use std::marker::Model;
 
-/// How far a job has come. One that is answered holds nothing but its answer.
+/// How far a job has come. One that is answered holds nothing but its answer: the task lies in a box, so that its room goes with it.
 #[derive(Debug, Drop)]
 pub(crate) enum Progress {
-    Working(Task),
+    Working(Box<Task>),
     Answered(Answer),
 }
 
@@ -43,14 +44,21 @@ impl Model for Job {
 }
 
 impl Job {
+    /// Room for the task of a job, made before its call is taken.
+    pub(crate) fn room(alloc: Global) -> Result<Box<Task>, AllocError> {
+        let idle = Task::Clean(Cleaning::new(0));
+        Box::new(alloc, idle).map_err(|_refused| AllocError)
+    }
+
     /// A job that has not begun.
-    pub(crate) fn new(call: Call) -> Job
+    pub(crate) fn new(call: Call, mut room: Box<Task>) -> Job
         ensures { result ≡ job_of call }
     {
         let image = Image::of(&call);
+        *room = Task::new(call);
         Job {
             call: image,
-            progress: Progress::Working(Task::new(call)),
+            progress: Progress::Working(room),
         }
     }
 
