@@ -48,7 +48,9 @@ flags_in e = flags_of (info_by e.info)
 -- Deliver: a new message, without info
 abbrev pub delivered : Mailbox → ℕ → List ℕ → List ℕ → Option Entry → Outcome
 delivered m folder u body (Some e) = refused answer.NameTaken m
-delivered m folder u body None = record { answer = answer.Delivered; after = finmap.insert m u (record { folder = folder; place = New; info = None; bytes = body }) }
+delivered m folder u body None =
+    let message : Entry = record { folder = folder; place = New; info = None; bytes = body } in
+    record { answer = answer.Delivered; after = finmap.insert m u message }
 
 -- Seen: a new message goes to cur, its flags joined by those given
 abbrev pub seen_by : Mailbox → List ℕ → Set → Entry → Option Set → Outcome
@@ -81,7 +83,8 @@ moved m u to (Some e) = record { answer = answer.Moved; after = finmap.insert m 
 -- Expunge: a seen message with the flag T (trashed) goes
 abbrev pub expunge_by : Mailbox → List ℕ → Option Set → Outcome
 expunge_by m u None = refused answer.NotTrashed m
-expunge_by m u (Some had) = if set.contains had 84 then record { answer = answer.Expunged; after = finmap.remove m u } else refused answer.NotTrashed m
+expunge_by m u (Some had) =
+    if set.contains had 84 then record { answer = answer.Expunged; after = finmap.remove m u } else refused answer.NotTrashed m
 
 abbrev pub expunged : Mailbox → List ℕ → Option Entry → Outcome
 expunged m u None = refused answer.NotThere m
@@ -96,7 +99,8 @@ abbrev pub copy_by : Mailbox → ℕ → List ℕ → Entry → Option Set → O
 copy_by m to fresh e None there = refused answer.OtherInfo m
 copy_by m to fresh e (Some had) (Some other) = refused answer.NameTaken m
 copy_by m to fresh e (Some had) None =
-    record { answer = answer.Copied; after = finmap.insert m fresh (record { folder = to; place = e.place; info = info_copied e.info had; bytes = e.bytes }) }
+    let copy : Entry = record { folder = to; place = e.place; info = info_copied e.info had; bytes = e.bytes } in
+    record { answer = answer.Copied; after = finmap.insert m fresh copy }
 
 abbrev pub copied : Mailbox → ℕ → List ℕ → Option Entry → Outcome
 copied m to fresh None = refused answer.NotThere m

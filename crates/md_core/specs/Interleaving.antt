@@ -1,5 +1,6 @@
 -- What holds of every run, whatever the order of its events and whichever directory calls fault.
-use Rattle.std.specs.Prelude.{ℕ, ◌≡◌, ◌≢◌, ◌+◌, ◌*◌, ◌≤◌, ◌<◌, ◌++◌, ◌∷◌, ◌⊎◌, List, [], Option, Some, None, Bool, true, false, ◌==◌, filter, length, take, slice_get, suc, IfSome, is_some, count_by}
+use Rattle.std.specs.Prelude.{ℕ, ◌≡◌, ◌≢◌, ◌+◌, ◌*◌, ◌≤◌, ◌<◌, ◌++◌, ◌∷◌, ◌⊎◌, List, [], Option, Some}
+use Rattle.std.specs.Prelude.{None, Bool, true, false, ◌==◌, filter, length, take, slice_get, suc, IfSome, is_some, count_by}
 use Rattle.std.specs.Option.{option_to_list}
 use Rattle.std.specs.FinMap as finmap
 use Rattle.md_dirs.specs.State.{State, IsSound, file_at}
@@ -42,8 +43,8 @@ abbrev pub AsAlone : Call → Option Effect → Mailbox → Mailbox → Type 0
 AsAlone call None m m' = m' ≡ m
 AsAlone call (Some effect) m m' = alone call m ≡ record { answer = effect.answer; after = m' }
 
--- Whether a step is where its call takes effect: a link of Deliver or Copy, a rename of Seen, Flag or Move, an unlink of Expunge that is done; or the
--- look-up of a Flag that answers, since the flags are as they should be.
+-- Whether a step is where its call takes effect: a link of Deliver or Copy, a rename of Seen, Flag or Move, an unlink of Expunge that is
+-- done; or the look-up of a Flag that answers, since the flags are as they should be.
 abbrev pub is_effect_at : Call → Asked → DirReply → Option Answer → Bool
 is_effect_at (call.Deliver f u body chunk) (link old new) reply.Ok a = true
 is_effect_at (call.Seen f u flags tries) (rename old new) reply.Ok a = true
@@ -54,8 +55,8 @@ is_effect_at (call.Expunge f u tries) (unlink p) reply.Ok a = true
 is_effect_at (call.Copy f u to fresh tries) (link old new) reply.Ok a = true
 is_effect_at call asked r a = false
 
--- What was done of a call simulates the one-at-a-time mailbox, between the machines before and after it: the history grows by its effect, if it
--- is one, and the mailbox is as the call alone would leave it.
+-- What was done of a call simulates the one-at-a-time mailbox, between the machines before and after it: the history grows by its effect,
+-- if it is one, and the mailbox is as the call alone would leave it.
 pub record Simulates (call : Call) (d : Done) (m m' : Machine) : Type 0 where
   pub history : m'.effects ≡ m.effects ++ option_to_list d.effect
   pub own : IfSome d.effect (λ x. x.job ≡ d.job)
@@ -191,4 +192,5 @@ pub record Interleaves (r : Run) : Type 0 where
   pub legal : IsLegal r.image.folders (names_of (mailbox_of r.image)) (effects_of r)
   -- the history gives the names of the mailbox at every moment
   pub names : (k : ℕ) → after (names_of (mailbox_of r.image)) (moment r k).effects ≡ names_of (box (moment r k))
-  pub jobs : (number : ℕ) (call : Call) (job : Standing) → call_at r.calls number ≡ Some call → job_at (jobs_of r) number ≡ Some job → JobLaw r number call job
+  pub jobs : (number : ℕ) (call : Call) (job : Standing) → call_at r.calls number ≡ Some call → job_at (jobs_of r) number ≡ Some job
+      → JobLaw r number call job

@@ -1,4 +1,5 @@
--- Which directories a world may begin with: no name has a fault. They are looked at in the order of folder, then tmp, new and cur, then name.
+-- Which directories a world may begin with: no name has a fault. They are looked at in the order of folder, then tmp, new and cur, then
+-- name.
 use Rattle.std.specs.Prelude.{ℕ, List, [], ◌∷◌, Option, Some, None, Bool, ◌&&◌, ◌||◌, ◌==◌, nat_lt, length, if◌then◌else◌}
 use Rattle.std.specs.List.{list_any}
 use Rattle.std.specs.Option.{option_or}

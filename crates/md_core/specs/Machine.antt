@@ -1,5 +1,6 @@
 -- The jobs as machines over the directories: at an event one job takes its turn.
-use Rattle.std.specs.Prelude.{ℕ, ◌-◌, List, ◌++◌, Option, Some, None, Bool, true, false, max, is_some, slice_get, slice_set, unwrap_or, zero, suc}
+use Rattle.std.specs.Prelude.{ℕ, ◌-◌, List, ◌++◌, Option, Some, None, Bool, true}
+use Rattle.std.specs.Prelude.{false, max, is_some, slice_get, slice_set, unwrap_or, zero, suc}
 use Rattle.std.specs.Option.{option_to_list, option_map}
 use Rattle.md_dirs.specs.State.{State}
 use Rattle.md_core.specs.Turn.{Asked, Turn, ask_of, shown_call, rows_for, reply_of, state_by}
@@ -136,7 +137,8 @@ met m e (Some task) =
 abbrev pub happens : Machine → Marked → Machine
 happens m e = met m e (task_of (job_at m.jobs e.event.job))
 
--- What an event did: its job, the directory call and its reply, the moment, the job's answer where it has one now, and its effect where it is one.
+-- What an event did: its job, the directory call and its reply, the moment, the job's answer where it has one now, and its effect where
+-- it is one.
 pub record Done : Type 0 where
   pub job : ℕ
   pub asked : Asked

@@ -52,4 +52,5 @@ mailbox_of s = finmap.from_entries (filter_map (message_of s) (finmap.entries s.
 
 -- each unique name has one path in all new and cur
 abbrev pub HasOnePath : State → Type 0
-HasOnePath s = (p q : Path) (m n : ℕ) → file_at s p ≡ Some m → file_at s q ≡ Some n → is_message p ≡ true → is_message q ≡ true → unique_of p.name ≡ unique_of q.name → p ≡ q
+HasOnePath s = (p q : Path) (m n : ℕ) → file_at s p ≡ Some m → file_at s q ≡ Some n → is_message p ≡ true → is_message q ≡ true
+    → unique_of p.name ≡ unique_of q.name → p ≡ q

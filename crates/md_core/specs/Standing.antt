@@ -27,7 +27,8 @@ abbrev pub job_of : Call → JobView
 job_of call = record { call = call; standing = new_job call }
 
 -- a job that was at work took its turn
-pub record TakesTurn (number : ℕ) (at : Moment) (job : JobView) (old : Device) (out : StepOut) (effect : Option Effect) (job' : JobView) (new : Device) : Type 0 where
+pub record TakesTurn (number : ℕ) (at : Moment) (job : JobView) (old : Device)
+    (out : StepOut) (effect : Option Effect) (job' : JobView) (new : Device) : Type 0 where
   pub task : Task
   pub task' : Task
   pub was : job.standing ≡ working task

@@ -118,7 +118,8 @@ abbrev pub device : State → ℕ → ℕ → Device
 device state failures calls = record { state = state; failures = failures; calls = calls }
 
 -- A look-up was made: one directory was listed, and where the listing was done, the row of the unique name was kept.
-pub record Looks (folder : ℕ) (place : Place) (unique : List ℕ) (old : Device) (r : DirReply) (row : Option Row) (new : Device) : Type 0 where
+pub record Looks (folder : ℕ) (place : Place) (unique : List ℕ) (old : Device)
+    (r : DirReply) (row : Option Row) (new : Device) : Type 0 where
   pub replied : r ≡ reply_of (dirs.list folder place) old.state (is_fault r)
   pub state : new.state ≡ old.state
   pub failed : new.failures ≡ (if is_fault r then old.failures + 1 else old.failures)
@@ -133,7 +134,8 @@ pub record IsUntouched (old new : Device) : Type 0 where
 
 -- A turn was taken: its one directory call was made and no other, and the job stands as the turn says. The failures of the directories
 -- rose by one where that call faulted, and at no other call.
-pub record Takes {T : Type 0} (turn : Turn T) (at : Moment) (old : Device) (out : StepOut) (effect : Option Effect) (task : T) (new : Device) : Type 0 where
+pub record Takes {T : Type 0} (turn : Turn T) (at : Moment) (old : Device)
+    (out : StepOut) (effect : Option Effect) (task : T) (new : Device) : Type 0 where
   pub call : out.call ≡ shown_call turn.asked
   pub replied : out.reply ≡ reply_of (ask_of turn.asked at.clock) old.state (is_fault out.reply)
   pub state : new.state ≡ state_by (ask_of turn.asked at.clock) old.state out.reply

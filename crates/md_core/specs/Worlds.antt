@@ -40,7 +40,8 @@ machine_by now clock jobs effects = record { dirs = now.state; clock = clock; jo
 
 -- The directories, clock, jobs and effects that a world keeps are those of its run. Its directories failed as often since the
 -- beginning as the run has marks, as many calls of them were made as the run has events, and its used names are those of the run.
-pub record IsWorld (r : Run) (kept : Machine) (held : Device) (used : List (List ℕ)) (events : List Event) (marks : List Bool) : Type 0 where
+pub record IsWorld (r : Run) (kept : Machine) (held : Device) (used : List (List ℕ))
+    (events : List Event) (marks : List Bool) : Type 0 where
   pub run : IsRun r
   pub now : kept ≡ machine_of r
   pub failed : held.failures ≡ failures_of r
@@ -54,4 +55,5 @@ TakesAll events r r' = (marks : List Bool) × (length marks ≡ length events) �
 
 -- the events before a place were taken, and the one at that place is refused
 abbrev pub StopsAt : List Event → ℕ → CoreError → Run → Run → Type 0
-StopsAt events at error r r' = TakesAll (take at events) r r' × ((event : Event) × (slice_get events at ≡ Some event) × IsRefusal (step_refusal (job_at (jobs_of r') event.job)) error)
+StopsAt events at error r r' = TakesAll (take at events) r r'
+    × ((event : Event) × (slice_get events at ≡ Some event) × IsRefusal (step_refusal (job_at (jobs_of r') event.job)) error)

@@ -1,5 +1,6 @@
 -- The six directory calls, each as its refusal and the state after it.
-use Rattle.std.specs.Prelude.{ℕ, ◌≡◌, ◌+◌, ◌==◌, List, [], ◌∷◌, ◌++◌, Option, Some, None, Bool, false, Result, Ok, Err, OnOk, OnErr, IsErrOf, if◌then◌else◌, nat_lt, slice_set, length, is_some}
+use Rattle.std.specs.Prelude.{ℕ, ◌≡◌, ◌+◌, ◌==◌, List, [], ◌∷◌, ◌++◌, Option, Some, None, Bool}
+use Rattle.std.specs.Prelude.{false, Result, Ok, Err, OnOk, OnErr, IsErrOf, if◌then◌else◌, nat_lt, slice_set, length, is_some}
 use Rattle.std.specs.List.{list_any}
 use Rattle.std.specs.FinMap as finmap
 use Rattle.md_dirs.specs.State.{State, file_at, file_by, has_folder}
@@ -15,7 +16,8 @@ pub record Ask : Type 0 where
   pub after : State → State
 
 -- What a call may answer, and what it then leaves. A failure of the directories and a want of memory may stand in place of its answer.
-pub record Obeys {T : Type 0} (ask : Ask) (old : State) (failures : ℕ) (answer : Result T DirError) (new : State) (failures' : ℕ) : Type 0 where
+pub record Obeys {T : Type 0} (ask : Ask) (old : State) (failures : ℕ)
+    (answer : Result T DirError) (new : State) (failures' : ℕ) : Type 0 where
   pub accepted : OnOk answer (ask.refusal old ≡ None)
   pub done : OnOk answer (new ≡ ask.after old)
   pub exists : IsErrOf answer Exists → ask.refusal old ≡ Some Exists
@@ -82,7 +84,9 @@ named p s (Some n) = record s { names = finmap.insert s.names p n }
 -- POSIX link: ENOENT without the old name or the new folder, EEXIST at a new name that is there; else both name one file
 abbrev pub link : Path → Path → Ask
 link o n = record {
-  refusal = λ s. if is_some (file_at s o) then (if has_folder s n then (if is_some (file_at s n) then Some Exists else None) else Some NotFound) else Some NotFound;
+  refusal = λ s.
+    if is_some (file_at s o) then (if has_folder s n then (if is_some (file_at s n) then Some Exists else None) else Some NotFound)
+    else Some NotFound;
   after = λ s. named n s (file_at s o);
 }
 

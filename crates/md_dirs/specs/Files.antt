@@ -1,5 +1,6 @@
 -- Files by their numbers, each with the number of its names.
-use Rattle.std.specs.Prelude.{ℕ, ◌≡◌, ◌+◌, ◌-◌, ◌==◌, ◌++◌, List, Option, Some, None, if◌then◌else◌, nat_le, slice_get, slice_set, map, filter, length}
+use Rattle.std.specs.Prelude.{ℕ, ◌≡◌, ◌+◌, ◌-◌, ◌==◌, ◌++◌, List, Option, Some}
+use Rattle.std.specs.Prelude.{None, if◌then◌else◌, nat_le, slice_get, slice_set, map, filter, length}
 use Rattle.std.specs.Option.{option_flatten, option_map}
 use Rattle.std.specs.FinMap as finmap
 use Rattle.md_dirs.specs.State.{State, IsSound, file_by}

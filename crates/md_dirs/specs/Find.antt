@@ -1,5 +1,6 @@
 -- Where the names of one message stand in a directory.
-use Rattle.std.specs.Prelude.{ℕ, ◌≡◌, ◌<◌, ◌≤◌, ◌==◌, Bool, true, List, [], ◌∷◌, if◌then◌else◌, nat_lt, length, slice_index_or, slice_get, Option, Some, None, find as first_with}
+use Rattle.std.specs.Prelude.{ℕ, ◌≡◌, ◌<◌, ◌≤◌, ◌==◌, Bool, true, List, [], ◌∷◌}
+use Rattle.std.specs.Prelude.{if◌then◌else◌, nat_lt, length, slice_index_or, slice_get, Option, Some, None, find as first_with}
 use Rattle.std.specs.Option.{option_and_then}
 use Rattle.md_dirs.specs.Rows.{is_named}
 

@@ -1,5 +1,6 @@
 -- Directories as finite maps: of the names of each directory, and of the paths of all.
-use Rattle.std.specs.Prelude.{ℕ, suc, ◌≡◌, ◌+◌, ◌-◌, ◌<◌, length, slice_index_or, ◌*◌, ◌/◌, ◌%◌, List, [], ◌∷◌, ◌++◌, map, filter, slice_get, unwrap_or, Option, Some, None, cond, nat_eq}
+use Rattle.std.specs.Prelude.{ℕ, suc, ◌≡◌, ◌+◌, ◌-◌, ◌<◌, length, slice_index_or, ◌*◌, ◌/◌, ◌%◌, List}
+use Rattle.std.specs.Prelude.{[], ◌∷◌, ◌++◌, map, filter, slice_get, unwrap_or, Option, Some, None, cond, nat_eq}
 use Rattle.std.specs.declared.cmp.Ordering.{Ordering}
 use Rattle.std.specs.declared.cmp.Ordering.TheVariants.{Less, Greater}
 use Rattle.std.specs.declared.vec.Vec.{Vec}
@@ -37,7 +38,8 @@ get_name es q = lookup (λ k. pointwise nat_eq q k.items) es
 pub record Renames {Z : Type 0} (old : List (Vec ℕ Z × ℕ)) (i : ℕ) (name : List ℕ) (file : ℕ) (new : List (Vec ℕ Z × ℕ)) : Type 0 where
   pub row : Vec ℕ Z × ℕ
   pub at : slice_get old i ≡ Some row
-  pub names : (q : Vec ℕ Z) → get_name new q.items ≡ cond (pointwise nat_eq row.0.items q.items) None (cond (pointwise nat_eq name q.items) (Some file) (get_name old q.items))
+  pub names : (q : Vec ℕ Z) → get_name new q.items
+      ≡ cond (pointwise nat_eq row.0.items q.items) None (cond (pointwise nat_eq name q.items) (Some file) (get_name old q.items))
 
 -- how the row at a position compares with a name
 abbrev pub order_at : List (List ℕ × ℕ) → ℕ → List ℕ → Ordering

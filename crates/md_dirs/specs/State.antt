@@ -1,4 +1,5 @@
--- The state of directories: a number of folders, a finite map from paths to the numbers of files, and the files in the order of their making.
+-- The state of directories: a number of folders, a finite map from paths to the numbers of files, and the files in the order of their
+-- making.
 use Rattle.std.specs.Prelude.{ℕ, zero, suc, ◌≡◌, ◌<◌, refl, List, [], Option, Some, Bool, nat_lt, slice_get, IsSome}
 use Rattle.std.specs.Option.{option_flatten, option_map, option_and_then}
 use Rattle.std.specs.Coded.{Coded, code_by, coded×, coded_ℕ, coded_list, coded_option}
@@ -50,7 +51,8 @@ place_by (suc zero) = New
 place_by (suc (suc n)) = Cur
 
 abbrev pub path_code : Coded Path
-path_code = code_by (ℕ × (Place × List ℕ)) (coded× coded_ℕ (coded× (code_by ℕ coded_ℕ place_index place_by back) (coded_list coded_ℕ))) (λ p. (p.folder, (p.place, p.name))) (λ t. record { folder = t.0; place = t.1.0; name = t.1.1 }) (λ _. refl)
+path_code = code_by (ℕ × (Place × List ℕ)) (coded× coded_ℕ (coded× (code_by ℕ coded_ℕ place_index place_by back) (coded_list coded_ℕ)))
+    (λ p. (p.folder, (p.place, p.name))) (λ t. record { folder = t.0; place = t.1.0; name = t.1.1 }) (λ _. refl)
   where
     back : (p : Place) → place_by (place_index p) ≡ p
     back Tmp = refl
@@ -58,10 +60,13 @@ path_code = code_by (ℕ × (Place × List ℕ)) (coded× coded_ℕ (coded× (co
     back Cur = refl
 
 abbrev pub file_code : Coded File
-file_code = code_by (List ℕ × ℕ) (coded× (coded_list coded_ℕ) coded_ℕ) (λ f. (f.bytes, f.stamp)) (λ t. record { bytes = t.0; stamp = t.1 }) (λ _. refl)
+file_code = code_by (List ℕ × ℕ) (coded× (coded_list coded_ℕ) coded_ℕ)
+    (λ f. (f.bytes, f.stamp)) (λ t. record { bytes = t.0; stamp = t.1 }) (λ _. refl)
 
 abbrev pub state_code : Coded State
-state_code = code_by (ℕ × (finmap.FinMap path_cmp ℕ × List (Option File))) (coded× coded_ℕ (coded× (finmap.code path_code coded_ℕ) (coded_list (coded_option file_code)))) (λ s. (s.folders, (s.names, s.files))) (λ t. record { folders = t.0; names = t.1.0; files = t.1.1 }) (λ _. refl)
+state_code = code_by (ℕ × (finmap.FinMap path_cmp ℕ × List (Option File)))
+    (coded× coded_ℕ (coded× (finmap.code path_code coded_ℕ) (coded_list (coded_option file_code))))
+    (λ s. (s.folders, (s.names, s.files))) (λ t. record { folders = t.0; names = t.1.0; files = t.1.1 }) (λ _. refl)
 
 -- What contracts see of plain directories: their state, and how many calls there were.
 pub record Counted : Type 0 where
@@ -69,4 +74,5 @@ pub record Counted : Type 0 where
   pub calls : ℕ
 
 abbrev pub counted_code : Coded Counted
-counted_code = code_by (State × ℕ) (coded× state_code coded_ℕ) (λ c. (c.state, c.calls)) (λ t. record { state = t.0; calls = t.1 }) (λ _. refl)
+counted_code = code_by (State × ℕ) (coded× state_code coded_ℕ)
+    (λ c. (c.state, c.calls)) (λ t. record { state = t.0; calls = t.1 }) (λ _. refl)

@@ -1,5 +1,6 @@
 -- The names of a maildir's files, read by their first colon.
-use Rattle.std.specs.Prelude.{ℕ, Bool, not, ◌&&◌, ◌||◌, ◌==◌, nat_eq, nat_lt, nat_le, List, ◌++◌, length, drop, Option, None, Some, if◌then◌else◌, codes}
+use Rattle.std.specs.Prelude.{ℕ, Bool, not, ◌&&◌, ◌||◌, ◌==◌, nat_eq, nat_lt, nat_le}
+use Rattle.std.specs.Prelude.{List, ◌++◌, length, drop, Option, None, Some, if◌then◌else◌, codes}
 use Rattle.std.specs.List.{list_any, list_all, before_first, after_first, starts_with}
 use Rattle.std.specs.FinSet as set
 use Rattle.md_name.specs.declared.info.Info.{Info}
