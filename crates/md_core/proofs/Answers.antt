@@ -6,3 +6,7 @@ pub mod OfExpunge
 pub mod OfSearch
 pub mod OfMove
 pub mod OfCopy
+pub mod OfDeliver
+pub mod OfClean
+pub mod EachSays
+pub mod OfFault

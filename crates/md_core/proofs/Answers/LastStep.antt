@@ -65,7 +65,7 @@ module _ (r : Run) (k job : ℕ) (t : IsTurn r k job) where
   pub done-in : done_at r k ≡ Some (done_in r k job t)
   done-in = ap (option_and_then (done (moment r k))) t.at ∙ done-turned (moment r k) t.event t.task there-own
 
-  pub is-step : IsStep r job k
+  abbrev pub is-step : IsStep r job k
   is-step = record { what = done_in r k job t; at = done-in; own = t.own }
 
   abbrev S : Standing
