@@ -10,3 +10,5 @@ pub mod OfDeliver
 pub mod OfClean
 pub mod EachSays
 pub mod OfFault
+pub mod Touches
+pub mod Tries

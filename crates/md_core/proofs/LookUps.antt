@@ -49,7 +49,7 @@ named-unique (b ∷ u) (c ∷ cs) colonless is =
     before c cs false (ap is_colon (sym same) ∙ plain.0) ∙ (λ i. sym same i ∷ named-unique u cs plain.1 rest i)
 
 -- and the other way round
-unique-named : (u name : List ℕ) → unique_of name ≡ u → is_named u name ≡ true
+pub unique-named : (u name : List ℕ) → unique_of name ≡ u → is_named u name ≡ true
 unfolding unique_of
 unique-named u name is = ap (λ v. is_named v name) (sym is) ∙ itself name
   where

@@ -18,9 +18,7 @@ use Rattle.md_core.specs.Interleaving.{IsRun}
 use Rattle.md_core.proofs.Good.{IsGood, TaskFits}
 use Rattle.md_core.proofs.EachTurn.{each-turn}
 use Rattle.md_core.proofs.Events.{happens-turned}
-use Rattle.md_core.proofs.Extended.{is_run-first}
-use Rattle.md_core.proofs.GoodRuns.{good-moment}
-use Rattle.md_core.proofs.Interleaves.{folders-stay}
+use Rattle.md_core.proofs.GoodRuns.{good-moment, kept-moment}
 use Rattle.md_core.proofs.Runs.{moment-more}
 use Rattle.md_core.proofs.Answers.LastStep.{IsTurn, turn_by, reply_in, after_in, left_by}
 use Rattle.md_core.proofs.Answers.Turns.{TurnSays}
@@ -55,7 +53,7 @@ module _ (r : Run) (run : IsRun r) where
 
   -- no event makes or takes away a folder
   pub folders-at : (k : ℕ) → (moment r k).dirs.folders ≡ r.image.folders
-  folders-at k = folders-stay each-turn (record r { events = take k r.events }) (is_run-first r run k)
+  folders-at = kept-moment r run each-turn (λ es m. m.dirs.folders ≡ r.image.folders) refl (λ es m m' e what of good g was. g.does.folders ∙ was)
 
   -- a clean is of a folder that is there
   clean-within : (o : Run) (folder : ℕ) → submit_refusal o (call.Clean folder) ≡ None → folder < o.image.folders

@@ -73,7 +73,7 @@ pub record IsPathOf (s : State) (u : List ℕ) (p : Path) : Type 0 where
 -- How the tries go on by a turn from one state of directories to another: what was found is there then, and a try is over only where
 -- the path was gone.
 abbrev pub TriesOn : State → State → List ℕ → Trying → Trying → Type 0
-TriesOn s s' u idle next = Unit {0}
+TriesOn s s' u idle next = ⊥
 TriesOn s s' u (looking tries) idle = ⊥
 TriesOn s s' u (looking tries) (looking left) = left ≡ tries
 TriesOn s s' u (looking tries) (acting p left) = (left ≡ tries) × IsPathOf s' u p
