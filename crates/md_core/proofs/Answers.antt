@@ -12,3 +12,5 @@ pub mod EachSays
 pub mod OfFault
 pub mod Touches
 pub mod Tries
+pub mod StaysInCur
+pub mod OfSpan

@@ -23,6 +23,7 @@ pub mod Copy
 pub mod Clean
 pub mod EachTurn
 pub mod Places
+pub mod Placed
 pub mod Events
 pub mod Runs
 pub mod Extended
