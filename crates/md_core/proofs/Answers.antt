@@ -14,3 +14,4 @@ pub mod Touches
 pub mod Tries
 pub mod StaysInCur
 pub mod OfSpan
+pub mod OfMailbox

@@ -70,6 +70,14 @@ Pending r job (Clean c) = Unit {0}
 abbrev IsPending : Run → ℕ → ℕ → Task → Type 0
 IsPending r k job task = (c : Call) → call_at r.calls job ≡ Some c → Pending r job task
 
+-- the answers of a look-up, and that of a message that is lost
+abbrev pub IsOfLook : Answer → Type 0
+IsOfLook answer.NotThere = Unit {0}
+IsOfLook answer.NotTrashed = Unit {0}
+IsOfLook answer.OtherInfo = Unit {0}
+IsOfLook answer.Lost = Unit {0}
+IsOfLook a = ⊥
+
 -- how a job stands that is pending so, if it works
 abbrev AtWork : Run → ℕ → Standing → Type 0
 AtWork r job (working task) = Pending r job task
@@ -177,6 +185,40 @@ module _ (r : Run) (run : IsRun r) where
   told-taken s asked (Copy c) job given pending h = h
   told-taken s asked (Clean c) job given pending h = h
 
+  -- no delivery and no clean looks for a message
+  delivery-looks : (job : ℕ) (given : DirReply) (stage : Stage) (a : Answer) → IsOfLook a → DeliveryTells stage given a → PendingAt r job stage → ⊥
+  delivery-looks job given (Undo b) a look told was = subst IsOfLook (told ∙ was.0) look
+  delivery-looks job given Start answer.NotThere look told was = told
+  delivery-looks job given Start answer.NotTrashed look told was = told
+  delivery-looks job given Start answer.OtherInfo look told was = told
+  delivery-looks job given Start answer.Lost look told was = told
+  delivery-looks job given Start a look told was = absurd look
+  delivery-looks job given (Writing start k) answer.NotThere look told was = told
+  delivery-looks job given (Writing start k) answer.NotTrashed look told was = told
+  delivery-looks job given (Writing start k) answer.OtherInfo look told was = told
+  delivery-looks job given (Writing start k) answer.Lost look told was = told
+  delivery-looks job given (Writing start k) a look told was = absurd look
+  delivery-looks job given Linked answer.NotThere look told was = told
+  delivery-looks job given Linked answer.NotTrashed look told was = told
+  delivery-looks job given Linked answer.OtherInfo look told was = told
+  delivery-looks job given Linked answer.Lost look told was = told
+  delivery-looks job given Linked a look told was = absurd look
+
+  clean-looks : (given : DirReply) (a : Answer) → IsOfLook a → CleanTells given a → ⊥
+  clean-looks given answer.NotThere look told = told
+  clean-looks given answer.NotTrashed look told = told
+  clean-looks given answer.OtherInfo look told = told
+  clean-looks given answer.Lost look told = told
+  clean-looks given a look told = absurd look
+
+  told-look : (s : State) (asked : Call) (task : Task) (job : ℕ) (given : DirReply) (a : Answer) → IsOfLook a → Pending r job task → Told s asked task given a → Tells s asked task given a
+  told-look s asked (Deliver d) job given a look pending h = absurd (delivery-looks job given d.stage a look h pending)
+  told-look s asked (Mark m) job given a look pending h = h
+  told-look s asked (Move m) job given a look pending h = h
+  told-look s asked (Expunge x) job given a look pending h = h
+  told-look s asked (Copy c) job given a look pending h = h
+  told-look s asked (Clean c) job given a look pending h = absurd (clean-looks given a look h)
+
   -- what the last turn of an answered job tells
   module _ (job : ℕ) (asked : Call) (of : call_at r.calls job ≡ Some asked) (a : Answer) (last : LastStep r job a) where
     abbrev reply-then : DirReply
@@ -193,3 +235,6 @@ module _ (r : Run) (run : IsRun r) where
 
     pub says-taken : a ≡ answer.NameTaken → ⊥
     says-taken is = told-taken (moment r last.k).dirs asked last.turn.task job reply-then pending-last (subst (Told (moment r last.k).dirs asked last.turn.task reply-then) is last-tells)
+
+    pub last-look : IsOfLook a → Tells (moment r last.k).dirs asked last.turn.task reply-then a
+    last-look look = told-look (moment r last.k).dirs asked last.turn.task job reply-then a look pending-last last-tells
