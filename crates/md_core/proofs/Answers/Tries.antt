@@ -41,6 +41,9 @@ path-listed : (s : State) (u : List ℕ) (p : Path) → HasOnePath s → IsPathO
 path-listed s u p one h = listed-there (mailbox_of s) s p h.file
     (shows-mailbox s (unique_of p.name) (entry_of s p h.file) one (record { path = p; file = h.file; there = h.there; message = h.message; unique = refl; entry = refl }))
 
+no-entry : {x : Listed} → Some x ≡ None → ⊥
+no-entry is = cc
+
 listed-path : (s : State) (p : Path) → IsListed s p → (n : ℕ) × (file_at s p ≡ Some n)
 listed-path s p h = by (get (mailbox_of s) (unique_of p.name)) refl
   where
@@ -55,9 +58,7 @@ listed-path s p h = by (get (mailbox_of s) (unique_of p.name)) refl
         (at.file, ap (file_at s) (sym path) ∙ at.there)
 
     by : (o : Option Entry) → get (mailbox_of s) (unique_of p.name) ≡ o → (n : ℕ) × (file_at s p ≡ Some n)
-    by None is =
-        let none : None ≡ Some (record { folder = p.folder; place = p.place; name = p.name; size = h.size }) = ap (option_map (listed (unique_of p.name))) (sym is) ∙ sym (get-names (mailbox_of s) (unique_of p.name)) ∙ h.at in
-        cc
+    by None is = absurd (no-entry (sym (ap (option_map (listed (unique_of p.name))) (sym is) ∙ sym (get-names (mailbox_of s) (unique_of p.name)) ∙ h.at)))
     by (Some e) is =
         let some : Some (listed (unique_of p.name) e) ≡ Some (record { folder = p.folder; place = p.place; name = p.name; size = h.size }) =
         ap (option_map (listed (unique_of p.name))) (sym is) ∙ sym (get-names (mailbox_of s) (unique_of p.name)) ∙ h.at in
