@@ -46,3 +46,4 @@ pub mod Checking
 pub mod Taking
 pub mod Loading
 pub mod Searching
+pub mod Answers
