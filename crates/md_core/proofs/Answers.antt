@@ -1,1 +1,5 @@
 pub mod LastStep
+pub mod Turns
+pub mod Tmp
+pub mod Asking
+pub mod Cleaner

@@ -1,0 +1,123 @@
+-- Runs by the numbers of their moments: what a turn finds and leaves, and what holds at each moment by induction.
+use Rattle.std.proofs.Common.{ℕ, zero, suc, ◌≡◌, ◌≢◌, ◌≤◌, ◌+◌, List, [], ◌∷◌, Option, Some, Bool, true, false, cond, not, ◌==◌, max, refl, sym, ap, subst, ◌∙◌, length, slice_get, arith}
+use Rattle.std.specs.List.{position_or_len}
+use Rattle.std.proofs.lemmas.Bool.Decides.{nat_tests}
+use Rattle.std.proofs.lemmas.Option.{slice_get_within}
+use Rattle.md_dirs.specs.State.{State, IsSound}
+use Rattle.md_dirs.proofs.Sound.{by_number}
+use Rattle.md_core.specs.declared.jobs.call.Call.{Call}
+use Rattle.md_core.specs.declared.jobs.step.Moment.{Moment}
+use Rattle.md_core.specs.declared.jobs.task.Task.{Task}
+use Rattle.md_core.specs.Turn.{ask_of, state_by}
+use Rattle.md_core.specs.Machine.{Machine, Standing, working, Marked, job_at, moment_of, taken}
+use Rattle.md_core.specs.Runs.{Run, moment, done_at, call_at, first_step}
+use Rattle.md_core.specs.Interleaving.{IsRun}
+use Rattle.md_core.specs.Answering.{IsStep}
+use Rattle.md_core.proofs.Good.{IsGood, TaskFits, Makes}
+use Rattle.md_core.proofs.EachTurn.{each-turn}
+use Rattle.md_core.proofs.Events.{happens-turned}
+use Rattle.md_core.proofs.Going.{AllApart}
+use Rattle.md_core.proofs.GoodRuns.{good-moment, all-apart}
+use Rattle.md_core.proofs.Places.{at_place}
+use Rattle.md_core.proofs.Runs.{moment-more}
+use Rattle.md_core.proofs.Answers.LastStep.{IsTurn, turn_by, reply_in, done_in, done-in, turn-at}
+
+-- a job that works has its call, which its task fits
+call-there : (calls : List Call) (m : Machine) (n : ℕ) (job : Standing) → IsGood calls m → job_at m.jobs n ≡ Some job → (asked : Call) × (call_at calls n ≡ Some asked)
+call-there calls m zero job good is = cc
+call-there calls m (suc i) job good is = at_place calls i
+    (λ asked of. (asked, of))
+    (λ past. absurd (let within = slice_get_within m.jobs i job is in let same = good.as_many in omega arith))
+
+fits-there : (calls : List Call) (m : Machine) (n : ℕ) (asked : Call) (task : Task) → IsGood calls m → call_at calls n ≡ Some asked → job_at m.jobs n ≡ Some (working task) → TaskFits m.dirs asked task
+fits-there calls m zero asked task good of is = cc
+fits-there calls m (suc i) asked task good of is = good.fits i asked task of is
+
+module _ (r : Run) (run : IsRun r) (k n : ℕ) (t : IsTurn r k n) where
+  good-now : IsGood r.calls (moment r k)
+  good-now = good-moment r run each-turn k
+
+  pub its-call : (asked : Call) × (call_at r.calls n ≡ Some asked)
+  its-call = call-there r.calls (moment r k) n (working t.task) good-now t.there
+
+  pub its-fits : (asked : Call) → call_at r.calls n ≡ Some asked → TaskFits (moment r k).dirs asked t.task
+  its-fits asked of = fits-there r.calls (moment r k) n asked t.task good-now of t.there
+
+  pub its-sound : IsSound (moment r k).dirs
+  its-sound = good-now.sound
+
+-- what a turn leaves
+module _ (r : Run) (k n : ℕ) (t : IsTurn r k n) where
+  abbrev pub at : Moment
+  at = moment_of (moment r k).clock t.event.event
+
+  next-machine : moment r (k + 1) ≡ taken (moment r k) t.event.event.job at (turn_by (moment r k) t.event t.task) (reply_in (moment r k) t.event t.task)
+  next-machine = moment-more r k t.event t.at ∙ happens-turned (moment r k) t.event t.task (ap (job_at (moment r k).jobs) t.own ∙ t.there)
+
+  pub next-dirs : (moment r (k + 1)).dirs ≡ state_by (ask_of (turn_by (moment r k) t.event t.task).asked at.clock) (moment r k).dirs (reply_in (moment r k) t.event t.task)
+  next-dirs = ap (λ (m : Machine). m.dirs) next-machine
+
+  pub next-clock : (moment r (k + 1)).clock ≡ at.clock
+  next-clock = ap (λ (m : Machine). m.clock) next-machine
+
+  pub clock-grows : (moment r k).clock ≤ at.clock
+  clock-grows = omega arith
+
+-- What holds at the beginning, and is kept by each turn, holds at each moment.
+module _ (r : Run) (run : IsRun r) (P : ℕ → Type 0) (start : P 0) (step : (k n : ℕ) → IsTurn r k n → P k → P (k + 1)) where
+  pub each-moment : (k : ℕ) → k ≤ length r.events → P k
+  each-moment zero within = start
+  each-moment (suc k) within =
+      let e1 : k + 1 ≡ suc k = omega arith in
+      subst P e1 (at_place r.events k
+      (λ e at. step k e.event.job (turn-at r run k e at) (each-moment k (omega arith)))
+      (λ past. absurd (omega arith)))
+
+-- two jobs whose calls make one name are one
+pub one-maker : (calls : List Call) → AllApart calls → (i j : ℕ) (a b : Call) (u : List ℕ) → call_at calls i ≡ Some a → call_at calls j ≡ Some b → Makes a u → Makes b u → i ≡ j
+one-maker calls apart zero j a b u ata atb ma mb = cc
+one-maker calls apart (suc i) zero a b u ata atb ma mb = cc
+one-maker calls apart (suc i) (suc j) a b u ata atb ma mb =
+    by_number i j (λ same. ap suc same) (λ differ. absurd (apart i j a b differ ata atb u ma mb))
+
+-- the first of a kind in a list, where none came before a place
+module _ {X : Type 0} (p : X → Bool) where
+  first-later : (xs : List X) (k : ℕ) (x : X) → slice_get xs k ≡ Some x → p x ≡ false → k ≤ position_or_len p xs → k + 1 ≤ position_or_len p xs
+  first-later [] k x is not_this below = cc
+  first-later (z ∷ zs) zero x is not_this below =
+      let same : z ≡ x = cc in
+      let none : p z ≡ false = ap p same ∙ not_this in
+      subst (λ (b : Bool). 0 + 1 ≤ cond (not b) (1 + position_or_len p zs) 0) (sym none) (omega arith)
+  first-later (z ∷ zs) (suc k) x is not_this below = by (p z) (first-later zs k x is not_this) below
+    where
+      by : (b : Bool) → (k ≤ position_or_len p zs → k + 1 ≤ position_or_len p zs) → suc k ≤ cond (not b) (1 + position_or_len p zs) 0 → suc k + 1 ≤ cond (not b) (1 + position_or_len p zs) 0
+      by true rest h = absurd (omega arith)
+      by false rest h = let more = rest (omega arith) in omega (arith, more)
+
+  first-now : (xs : List X) (k : ℕ) (x : X) → slice_get xs k ≡ Some x → p x ≡ true → k ≤ position_or_len p xs → position_or_len p xs ≡ k
+  first-now [] k x is this below = cc
+  first-now (z ∷ zs) zero x is this below =
+      let same : z ≡ x = cc in
+      ap (λ (b : Bool). cond (not b) (1 + position_or_len p zs) 0) (ap p same ∙ this)
+  first-now (z ∷ zs) (suc k) x is this below = by (p z) (first-now zs k x is this) below
+    where
+      by : (b : Bool) → (k ≤ position_or_len p zs → position_or_len p zs ≡ k) → suc k ≤ cond (not b) (1 + position_or_len p zs) 0 → cond (not b) (1 + position_or_len p zs) 0 ≡ suc k
+      by true rest h = absurd (omega arith)
+      by false rest h = let more = rest (omega arith) in omega (arith, more)
+
+-- where a job has taken no step before this event, it is its first, or another's
+module _ (r : Run) (k n j : ℕ) (t : IsTurn r k n) (none : k ≤ first_step r j) where
+  pub not-yet : j ≢ n → k + 1 ≤ first_step r j
+  not-yet differ =
+      let its = t.own in
+      let not_this : (t.event.event.job == j) ≡ false = grind (arith, nat_tests) in
+      first-later (λ (e : Marked). e.event.job == j) r.events k t.event t.at not_this none
+
+  pub is-first : j ≡ n → first_step r j ≡ k
+  is-first same =
+      let its = t.own in
+      let this : (t.event.event.job == j) ≡ true = grind (arith, nat_tests) in
+      first-now (λ (e : Marked). e.event.job == j) r.events k t.event t.at this none
+
+  pub first-is : j ≡ n → IsStep r j (first_step r j)
+  first-is same = record { what = done_in r k n t; at = ap (done_at r) (is-first same) ∙ done-in r k n t; own = t.own ∙ sym same }
