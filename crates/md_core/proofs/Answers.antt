@@ -1,5 +1,9 @@
 pub mod LastStep
-pub mod Turns
+pub mod Moments
 pub mod Tmp
 pub mod Asking
+pub mod Touched
+pub mod Writing
+pub mod Stamps
+pub mod Listed
 pub mod Cleaner

@@ -33,18 +33,18 @@ fits-there : (calls : List Call) (m : Machine) (n : ℕ) (asked : Call) (task : 
 fits-there calls m zero asked task good of is = cc
 fits-there calls m (suc i) asked task good of is = good.fits i asked task of is
 
-module _ (r : Run) (run : IsRun r) (k n : ℕ) (t : IsTurn r k n) where
+module _ (r : Run) (run : IsRun r) (k : ℕ) where
   good-now : IsGood r.calls (moment r k)
   good-now = good-moment r run each-turn k
 
-  pub its-call : (asked : Call) × (call_at r.calls n ≡ Some asked)
-  its-call = call-there r.calls (moment r k) n (working t.task) good-now t.there
+  pub its-call : (n : ℕ) (job : Standing) → job_at (moment r k).jobs n ≡ Some job → (asked : Call) × (call_at r.calls n ≡ Some asked)
+  its-call n job is = call-there r.calls (moment r k) n job good-now is
 
-  pub its-fits : (asked : Call) → call_at r.calls n ≡ Some asked → TaskFits (moment r k).dirs asked t.task
-  its-fits asked of = fits-there r.calls (moment r k) n asked t.task good-now of t.there
+  pub its-fits : (n : ℕ) (asked : Call) (task : Task) → call_at r.calls n ≡ Some asked → job_at (moment r k).jobs n ≡ Some (working task) → TaskFits (moment r k).dirs asked task
+  its-fits n asked task of is = fits-there r.calls (moment r k) n asked task good-now of is
 
-  pub its-sound : IsSound (moment r k).dirs
-  its-sound = good-now.sound
+  pub sound-now : IsSound (moment r k).dirs
+  sound-now = good-now.sound
 
 -- what a turn leaves
 module _ (r : Run) (k n : ℕ) (t : IsTurn r k n) where
@@ -119,5 +119,5 @@ module _ (r : Run) (k n j : ℕ) (t : IsTurn r k n) (none : k ≤ first_step r j
       let this : (t.event.event.job == j) ≡ true = grind (arith, nat_tests) in
       first-now (λ (e : Marked). e.event.job == j) r.events k t.event t.at this none
 
-  pub first-is : j ≡ n → IsStep r j (first_step r j)
+  abbrev pub first-is : j ≡ n → IsStep r j (first_step r j)
   first-is same = record { what = done_in r k n t; at = ap (done_at r) (is-first same) ∙ done-in r k n t; own = t.own ∙ sym same }
