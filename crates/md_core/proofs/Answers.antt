@@ -6,4 +6,7 @@ pub mod Touched
 pub mod Writing
 pub mod Stamps
 pub mod Listed
+pub mod Late
+pub mod Plain
+pub mod Given
 pub mod Cleaner

@@ -1,15 +1,16 @@
 -- Runs by the numbers of their moments: what a turn finds and leaves, and what holds at each moment by induction.
-use Rattle.std.proofs.Common.{ℕ, zero, suc, ◌≡◌, ◌≢◌, ◌≤◌, ◌+◌, List, [], ◌∷◌, Option, Some, Bool, true, false, cond, not, ◌==◌, max, refl, sym, ap, subst, ◌∙◌, length, slice_get, arith}
+use Rattle.std.proofs.Common.{ℕ, zero, suc, ◌≡◌, ◌≢◌, ◌≤◌, ◌+◌, ◌-◌, List, [], ◌∷◌, Option, Some, None, Bool, true, false, cond, not, ◌==◌, max, refl, sym, ap, subst, ◌∙◌, length, slice_get, arith}
 use Rattle.std.specs.List.{position_or_len}
+use Rattle.std.specs.Option.{option_and_then}
 use Rattle.std.proofs.lemmas.Bool.Decides.{nat_tests}
-use Rattle.std.proofs.lemmas.Option.{slice_get_within}
+use Rattle.std.proofs.lemmas.Option.{slice_get_within, slice_get_past}
 use Rattle.md_dirs.specs.State.{State, IsSound}
 use Rattle.md_dirs.proofs.Sound.{by_number}
 use Rattle.md_core.specs.declared.jobs.call.Call.{Call}
 use Rattle.md_core.specs.declared.jobs.step.Moment.{Moment}
 use Rattle.md_core.specs.declared.jobs.task.Task.{Task}
 use Rattle.md_core.specs.Turn.{ask_of, state_by}
-use Rattle.md_core.specs.Machine.{Machine, Standing, working, Marked, job_at, moment_of, taken}
+use Rattle.md_core.specs.Machine.{Machine, Standing, working, Marked, Done, done, job_at, moment_of, taken}
 use Rattle.md_core.specs.Runs.{Run, moment, done_at, call_at, first_step}
 use Rattle.md_core.specs.Interleaving.{IsRun}
 use Rattle.md_core.specs.Answering.{IsStep}
@@ -19,7 +20,7 @@ use Rattle.md_core.proofs.Events.{happens-turned}
 use Rattle.md_core.proofs.Going.{AllApart}
 use Rattle.md_core.proofs.GoodRuns.{good-moment, all-apart}
 use Rattle.md_core.proofs.Places.{at_place}
-use Rattle.md_core.proofs.Runs.{moment-more}
+use Rattle.md_core.proofs.Runs.{moment-more, moment-over}
 use Rattle.md_core.proofs.Answers.LastStep.{IsTurn, turn_by, reply_in, done_in, done-in, turn-at}
 
 -- a job that works has its call, which its task fits
@@ -62,6 +63,37 @@ module _ (r : Run) (k n : ℕ) (t : IsTurn r k n) where
 
   pub clock-grows : (moment r k).clock ≤ at.clock
   clock-grows = omega arith
+
+-- what an event did is what the turn of its job did
+pub turn-done : (r : Run) → IsRun r → (k : ℕ) (what : Done) → done_at r k ≡ Some what → (n : ℕ) × (t : IsTurn r k n) × (what ≡ done_in r k n t)
+turn-done r run k what is = at_place r.events k
+    (λ e at.
+    let t = turn-at r run k e at in
+    (e.event.job, t, (let same : Some what ≡ Some (done_in r k e.event.job t) = sym is ∙ done-in r k e.event.job t in cc)))
+    (λ past. let none : done_at r k ≡ None = ap (option_and_then (done (moment r k))) (slice_get_past r.events k past) in cc)
+
+-- the clock never goes back
+clock-next : (r : Run) → IsRun r → (k : ℕ) → (moment r k).clock ≤ (moment r (k + 1)).clock
+clock-next r run k = at_place r.events k
+    (λ e at.
+    let t = turn-at r run k e at in
+    let now = next-clock r k e.event.job t in
+    let grows = clock-grows r k e.event.job t in
+    omega (arith, now, grows))
+    (λ past. let same = ap (λ (m : Machine). m.clock) (moment-over r k past) in omega (arith, same))
+
+clock-behind : (r : Run) → IsRun r → (i d : ℕ) → (moment r i).clock ≤ (moment r (i + d)).clock
+clock-behind r run i zero = let e : i ≡ i + 0 = omega arith in subst (λ (n : ℕ). (moment r i).clock ≤ (moment r n).clock) e (omega arith)
+clock-behind r run i (suc d) =
+    let e : (i + d) + 1 ≡ i + suc d = omega arith in
+    let before = clock-behind r run i d in
+    let next = clock-next r run (i + d) in
+    subst (λ (n : ℕ). (moment r i).clock ≤ (moment r n).clock) e (omega (arith, before, next))
+
+pub clock-later : (r : Run) → IsRun r → (i k : ℕ) → i ≤ k → (moment r i).clock ≤ (moment r k).clock
+clock-later r run i k before =
+    let e : i + (k - i) ≡ k = omega (arith, before) in
+    subst (λ (n : ℕ). (moment r i).clock ≤ (moment r n).clock) e (clock-behind r run i (k - i))
 
 -- What holds at the beginning, and is kept by each turn, holds at each moment.
 module _ (r : Run) (run : IsRun r) (P : ℕ → Type 0) (start : P 0) (step : (k n : ℕ) → IsTurn r k n → P k → P (k + 1)) where

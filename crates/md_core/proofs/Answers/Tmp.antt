@@ -79,9 +79,9 @@ module _ (s : State) (p : Path) (in_tmp : p.place ≡ Tmp) (sound : IsSound s) (
     names = refl;
     stamps = λ n is. by_number n m
         (λ same. inr (
-          ap (λ i. stamp_of (file_by (slice_set s.files i (grown bytes clock (file_by s.files i))) n)) (sym same)
-          ∙ ap stamp_of (file_by-set_same s.files n (grown bytes clock (file_by s.files n)) (number-within s sound p n is))
-          ∙ grown-stamp bytes (file_by s.files n) (sound.filed p n is)))
+        ap (λ i. stamp_of (file_by (slice_set s.files i (grown bytes clock (file_by s.files i))) n)) (sym same)
+        ∙ ap stamp_of (file_by-set_same s.files n (grown bytes clock (file_by s.files n)) (number-within s sound p n is))
+        ∙ grown-stamp bytes (file_by s.files n) (sound.filed p n is)))
         (λ differ. inl (ap stamp_of (file_by-set_other s.files m n (grown bytes clock (file_by s.files m)) differ)));
   }
 

@@ -66,16 +66,19 @@ module _ (r : Run) (run : IsRun r) (k n : ℕ) (t : IsTurn r k n) (job : ℕ) (a
       | inl made-now ↦
           let by = creates (moment r k).dirs its t.event.event.job (at r k n t) p in_tmp t.task fits made-now.call in
           inr (inl (record { own = same-job by.0; delivery = by.1.0; task = by.1.1; starts = by.1.2; makes = made-now }))
-      | inr takes ↦ inr (inr (takes.gone, elim (unlinks (moment r k).dirs its t.event.event.job (at r k n t) p in_tmp t.task fits takes.call) [
-        | inl also ↦ inl (same-job also)
-        | inr clean ↦ inr (record {
-          what = done_in r k n t;
-          at = done-in r k n t;
-          asked = takes.call;
-          ok = takes.ok;
-          folder = clean.0;
-          by = ap (call_at r.calls) t.own ∙ of-its ∙ ap Some clean.1;
-        })
-      ]))
+      | inr takes ↦ inr (inr (
+        takes.gone,
+        elim (unlinks (moment r k).dirs its t.event.event.job (at r k n t) p in_tmp t.task fits takes.call) [
+          | inl also ↦ inl (same-job also)
+          | inr clean ↦ inr (record {
+            what = done_in r k n t;
+            at = done-in r k n t;
+            asked = takes.call;
+            ok = takes.ok;
+            folder = clean.0;
+            by = ap (call_at r.calls) t.own ∙ of-its ∙ ap Some clean.1;
+          })
+        ],
+      ))
     ]
   ]
