@@ -10,3 +10,5 @@ pub mod Late
 pub mod Plain
 pub mod Given
 pub mod Cleaner
+pub mod Cleaned
+pub mod OfTime

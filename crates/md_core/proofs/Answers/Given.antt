@@ -194,3 +194,12 @@ timed-of r k job own (Move m) says = absurd says
 timed-of r k job own (Expunge x) says = absurd says
 timed-of r k job own (Copy c) says = absurd says
 timed-of r k job own (Clean c) says = elim says [ inl is ↦ cc | inr is ↦ (let e = is.1 in cc) ]
+
+-- Cleaned is an answer of a clean
+pub clean-of : (r : Run) (k job own : ℕ) (task : Task) (n : ℕ) → TaskSays r k job own task (answer.Cleaned n) → (c : Cleaning) × (task ≡ Clean c)
+clean-of r k job own (Deliver d) n says = absurd says
+clean-of r k job own (Mark m) n says = absurd says
+clean-of r k job own (Move m) n says = absurd says
+clean-of r k job own (Expunge x) n says = absurd says
+clean-of r k job own (Copy c) n says = absurd says
+clean-of r k job own (Clean c) n says = (c, refl)

@@ -59,7 +59,7 @@ unmarked : (folder f : ℕ) (v : List ℕ) (m : marks.Mark) (tries : ℕ) → ca
 unmarked folder f v (mark.Seen given) tries is = cc
 unmarked folder f v (mark.Flag add remove) tries is = cc
 
-cleans : (s : State) (f : ℕ) (task : Task) → TaskFits s (call.Clean f) task → (c : Cleaning) × (task ≡ Clean c)
+pub cleans : (s : State) (f : ℕ) (task : Task) → TaskFits s (call.Clean f) task → (c : Cleaning) × (task ≡ Clean c)
 cleans s f (Deliver d) fits = let e = fits.of in cc
 cleans s f (Mark m) fits = absurd (unmarked m.folder f m.unique m.mark fits.tries fits.of)
 cleans s f (Move m) fits = let e = fits.of in cc
