@@ -1,9 +1,8 @@
 -- Which tasks ask what of a path in tmp: only a delivery of its name makes it, and only that or a clean takes it away.
-use Rattle.std.proofs.Common.{ℕ, ◌≡◌, ◌⊎◌, inl, inr, Bool, true, false, cond, nat_lt, length, refl, sym, ap, subst, ◌∙◌}
+use Rattle.std.proofs.Common.{ℕ, ◌≡◌, ◌⊎◌, inl, inr, Bool, true, false, cond, nat_lt, length, refl, ap, subst, ◌∙◌}
 use Rattle.md_dirs.specs.State.{State}
 use Rattle.md_dirs.specs.declared.paths.Path.{Path}
-use Rattle.md_dirs.specs.declared.paths.Place.{Place}
-use Rattle.md_dirs.specs.declared.paths.Place.TheVariants.{Tmp, New, Cur}
+use Rattle.md_dirs.specs.declared.paths.Place.TheVariants.{Tmp, Cur}
 use Rattle.md_core.specs.declared.jobs.answer.Answer.TheVariants as answer
 use Rattle.md_core.specs.declared.jobs.call.Call.{Call}
 use Rattle.md_core.specs.declared.jobs.call.Call.TheVariants as call
@@ -38,7 +37,7 @@ use Rattle.md_core.specs.Machines.Move as moved_by
 use Rattle.md_core.specs.Machines.Expunge as expunged_by
 use Rattle.md_core.specs.Machines.Copy as copied_by
 use Rattle.md_core.specs.Machines.Clean as cleaned_by
-use Rattle.md_core.specs.Turn.{Turn, Asked, create, unlink}
+use Rattle.md_core.specs.Turn.{Asked, create, unlink}
 use Rattle.md_core.proofs.Good.{SearchFits, TaskFits, DeliveryFits, Makes}
 use Rattle.md_core.proofs.Frames.{makes-delivery}
 use Rattle.md_core.proofs.Answers.Tmp.{LeavesTmp}

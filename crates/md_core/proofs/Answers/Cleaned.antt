@@ -1,5 +1,5 @@
 -- What a clean did, event by event: it looked, and then took away one old name after another, or found it gone.
-use Rattle.std.proofs.Common.{ℕ, zero, suc, ◌≡◌, ◌≢◌, ◌≤◌, ◌⊎◌, ◌+◌, ◌-◌, ◌++◌, ◌==◌, inl, inr, List, [], ◌∷◌, Option, Some, None, Bool, true, false, cond, map, filter, take, length, slice_get, refl, sym, ap, subst, ◌∙◌, arith}
+use Rattle.std.proofs.Common.{ℕ, zero, suc, ◌≡◌, ◌≢◌, ◌≤◌, ◌⊎◌, ◌+◌, ◌-◌, ◌++◌, ◌==◌, inl, inr, List, [], ◌∷◌, Option, Some, Bool, true, false, cond, map, filter, take, length, refl, sym, ap, subst, ◌∙◌, arith}
 use Rattle.std.specs.List.{All}
 use Rattle.std.specs.Prelude.{count_by}
 use Rattle.std.specs.Option.{option_to_list, option_and_then}
@@ -13,9 +13,7 @@ use Rattle.md_dirs.specs.Rows.{rows_of}
 use Rattle.md_dirs.specs.declared.paths.Place.TheVariants.{Tmp}
 use Rattle.md_dirs.specs.declared.rows.Row.{Row}
 use Rattle.md_dirs.proofs.Sound.{by_number}
-use Rattle.md_core.specs.declared.jobs.answer.Answer.{Answer}
 use Rattle.md_core.specs.declared.jobs.answer.Answer.TheVariants as answer
-use Rattle.md_core.specs.declared.jobs.call.Call.{Call}
 use Rattle.md_core.specs.declared.jobs.call.Call.TheVariants as call
 use Rattle.md_core.specs.declared.jobs.cleaning.Cleaning.{Cleaning}
 use Rattle.md_core.specs.declared.jobs.cleaning.Stage.{Stage}
@@ -25,11 +23,11 @@ use Rattle.md_core.specs.declared.jobs.step.DirReply.TheVariants as reply
 use Rattle.md_core.specs.declared.jobs.task.Task.{Task}
 use Rattle.md_core.specs.declared.jobs.task.Task.TheVariants.{Deliver, Mark, Move, Expunge, Copy, Clean}
 use Rattle.md_core.specs.Machine.{Machine, Standing, working, answered, Marked, Done, happens, done, job_at, new_job, standing_of, turn_of}
-use Rattle.md_core.specs.Machines.Clean.{new_cleaning, old_rows, after_next, at_stage, tmp, stage_turn}
+use Rattle.md_core.specs.Machines.Clean.{old_rows, after_next, at_stage, tmp, stage_turn}
 use Rattle.md_core.specs.Turn.{Turn, Asked, list, unlink, rows_for}
 use Rattle.md_core.specs.Runs.{Run, beginning, run_from, moment, jobs_of, call_at, first_step, dirs_at_first}
 use Rattle.md_core.specs.Interleaving.{IsRun}
-use Rattle.md_core.specs.Answering.{deeds_from, deeds_of, is_ok, HasCleaned}
+use Rattle.md_core.specs.Answering.{deeds_from, is_ok, HasCleaned}
 use Rattle.md_core.proofs.Good.{CleaningFits, TaskFits}
 use Rattle.md_core.proofs.GoodRuns.{new_at}
 use Rattle.md_core.proofs.Places.{take-one_more}

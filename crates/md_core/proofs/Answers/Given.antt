@@ -1,5 +1,5 @@
 -- The answers of a time, of a lost file in tmp and of a clean: which tasks give them, and what a delivery then knows.
-use Rattle.std.proofs.Common.{ℕ, ◌≡◌, ◌≤◌, ◌⊎◌, inl, inr, List, [], ◌∷◌, Option, Some, None, Bool, true, false, cond, nat_lt, length, is_some, refl, sym, ap, subst, ◌∙◌, arith}
+use Rattle.std.proofs.Common.{ℕ, ◌≡◌, ◌≤◌, ◌⊎◌, inl, inr, List, [], ◌∷◌, Option, Some, None, Bool, true, false, cond, nat_lt, length, is_some, refl, sym, subst, arith}
 use Rattle.std.proofs.lemmas.Bool.Decides.{nat_tests}
 use Rattle.md_dirs.specs.State.{State, file_at, has_folder}
 use Rattle.md_dirs.specs.declared.calls.DirError.{DirError}
@@ -23,7 +23,7 @@ use Rattle.md_core.specs.Machine.{working, turn_of}
 use Rattle.md_core.specs.Machines.Clean as cleaned_by
 use Rattle.md_core.specs.Machines.Deliver.{at_stage, target, create_turn, append_turn, link_turn, unlink_turn, stage_turn, is_in_time}
 use Rattle.md_core.specs.Turn.{Turn, ask_of, reply_by, reply_of, rows_for}
-use Rattle.md_core.specs.Runs.{Run, moment, call_at}
+use Rattle.md_core.specs.Runs.{Run, moment}
 use Rattle.md_core.specs.Interleaving.{IsRun}
 use Rattle.md_core.proofs.Good.{DeliveryFits, TaskFits}
 use Rattle.md_core.proofs.Answers.LastStep.{IsTurn, is_within, LastStep, reply_in}
@@ -180,26 +180,26 @@ abbrev pub OfDelivery : Run → ℕ → ℕ → ℕ → Task → Answer → Type
 OfDelivery r k job own task a = (d : Delivery) × (task ≡ Deliver d) × DeliverySays r k job d.tmp own a
 
 pub gone-of : (r : Run) (k job own : ℕ) (task : Task) → TaskSays r k job own task answer.TmpGone → OfDelivery r k job own task answer.TmpGone
-gone-of r k job own (Deliver d) says = (d, refl, says)
-gone-of r k job own (Mark m) says = absurd says
-gone-of r k job own (Move m) says = absurd says
-gone-of r k job own (Expunge x) says = absurd says
-gone-of r k job own (Copy c) says = absurd says
-gone-of r k job own (Clean c) says = elim says [ inl is ↦ cc | inr is ↦ (let e = is.1 in cc) ]
+gone-of r k job now (Deliver d) says = (d, refl, says)
+gone-of r k job now (Mark m) says = absurd says
+gone-of r k job now (Move m) says = absurd says
+gone-of r k job now (Expunge x) says = absurd says
+gone-of r k job now (Copy c) says = absurd says
+gone-of r k job now (Clean c) says = elim says [ inl is ↦ cc | inr is ↦ (let e = is.1 in cc) ]
 
 pub timed-of : (r : Run) (k job own : ℕ) (task : Task) → TaskSays r k job own task answer.TimedOut → OfDelivery r k job own task answer.TimedOut
-timed-of r k job own (Deliver d) says = (d, refl, says)
-timed-of r k job own (Mark m) says = absurd says
-timed-of r k job own (Move m) says = absurd says
-timed-of r k job own (Expunge x) says = absurd says
-timed-of r k job own (Copy c) says = absurd says
-timed-of r k job own (Clean c) says = elim says [ inl is ↦ cc | inr is ↦ (let e = is.1 in cc) ]
+timed-of r k job now (Deliver d) says = (d, refl, says)
+timed-of r k job now (Mark m) says = absurd says
+timed-of r k job now (Move m) says = absurd says
+timed-of r k job now (Expunge x) says = absurd says
+timed-of r k job now (Copy c) says = absurd says
+timed-of r k job now (Clean c) says = elim says [ inl is ↦ cc | inr is ↦ (let e = is.1 in cc) ]
 
 -- Cleaned is an answer of a clean
 pub clean-of : (r : Run) (k job own : ℕ) (task : Task) (n : ℕ) → TaskSays r k job own task (answer.Cleaned n) → (c : Cleaning) × (task ≡ Clean c)
-clean-of r k job own (Deliver d) n says = absurd says
-clean-of r k job own (Mark m) n says = absurd says
-clean-of r k job own (Move m) n says = absurd says
-clean-of r k job own (Expunge x) n says = absurd says
-clean-of r k job own (Copy c) n says = absurd says
-clean-of r k job own (Clean c) n says = (c, refl)
+clean-of r k job now (Deliver d) n says = absurd says
+clean-of r k job now (Mark m) n says = absurd says
+clean-of r k job now (Move m) n says = absurd says
+clean-of r k job now (Expunge x) n says = absurd says
+clean-of r k job now (Copy c) n says = absurd says
+clean-of r k job now (Clean c) n says = (c, refl)

@@ -1,5 +1,5 @@
 -- What a clean still has to take away was old when it looked: of a delivery's file, the delivery had begun long before.
-use Rattle.std.proofs.Common.{ℕ, ◌≡◌, ◌≢◌, ◌≤◌, ◌⊎◌, ◌+◌, ◌-◌, inl, inr, List, [], ◌∷◌, Option, Some, None, Bool, length, slice_get, refl, sym, ap, subst, ◌∙◌, arith}
+use Rattle.std.proofs.Common.{ℕ, ◌≡◌, ◌≤◌, ◌⊎◌, ◌+◌, ◌-◌, inl, inr, List, [], ◌∷◌, Some, None, length, refl, sym, ap, subst, ◌∙◌, arith}
 use Rattle.std.proofs.lemmas.Bool.Decides.{nat_tests}
 use Rattle.md_dirs.specs.State.{State, file_at}
 use Rattle.md_dirs.specs.Path.{path_of as path}
@@ -18,7 +18,7 @@ use Rattle.md_core.specs.declared.jobs.step.DirReply.{DirReply}
 use Rattle.md_core.specs.declared.jobs.step.DirReply.TheVariants as reply
 use Rattle.md_core.specs.declared.jobs.task.Task.{Task}
 use Rattle.md_core.specs.declared.jobs.task.Task.TheVariants.{Deliver, Mark, Move, Expunge, Copy, Clean}
-use Rattle.md_core.specs.Machine.{Marked, Done, working, job_at, new_job, turn_of}
+use Rattle.md_core.specs.Machine.{Done, working, job_at, new_job, turn_of}
 use Rattle.md_core.specs.Machines.Clean.{least_seconds, new_cleaning, is_old, old_rows, after_next, at_stage, tmp, stage_turn}
 use Rattle.md_core.specs.Turn.{Turn, unlink, rows_for}
 use Rattle.md_core.specs.Runs.{Run, moment, call_at, first_step}

@@ -5,7 +5,6 @@ use Rattle.md_dirs.specs.State.{State, file_at, file_by}
 use Rattle.md_dirs.specs.Path.{path_of}
 use Rattle.md_dirs.specs.Rows.{rows_of, row_of, row_by, is_in}
 use Rattle.md_dirs.specs.declared.paths.File.{File}
-use Rattle.md_dirs.specs.declared.paths.Path.{Path}
 use Rattle.md_dirs.specs.declared.paths.Place.{Place}
 use Rattle.md_dirs.specs.declared.rows.Row.{Row}
 use Rattle.md_dirs.proofs.PathOrder.{path_total, path_exact}

@@ -1,10 +1,10 @@
 -- Runs by the numbers of their moments: what a turn finds and leaves, and what holds at each moment by induction.
-use Rattle.std.proofs.Common.{ℕ, zero, suc, ◌≡◌, ◌≢◌, ◌≤◌, ◌+◌, ◌-◌, List, [], ◌∷◌, Option, Some, None, Bool, true, false, cond, not, ◌==◌, max, refl, sym, ap, subst, ◌∙◌, length, slice_get, arith}
+use Rattle.std.proofs.Common.{ℕ, zero, suc, ◌≡◌, ◌≢◌, ◌≤◌, ◌+◌, ◌-◌, List, [], ◌∷◌, Some, None, Bool, true, false, cond, not, ◌==◌, sym, ap, subst, ◌∙◌, length, slice_get, arith}
 use Rattle.std.specs.List.{position_or_len}
 use Rattle.std.specs.Option.{option_and_then}
 use Rattle.std.proofs.lemmas.Bool.Decides.{nat_tests}
 use Rattle.std.proofs.lemmas.Option.{slice_get_within, slice_get_past}
-use Rattle.md_dirs.specs.State.{State, IsSound}
+use Rattle.md_dirs.specs.State.{IsSound}
 use Rattle.md_dirs.proofs.Sound.{by_number}
 use Rattle.md_core.specs.declared.jobs.call.Call.{Call}
 use Rattle.md_core.specs.declared.jobs.step.Moment.{Moment}
@@ -18,7 +18,7 @@ use Rattle.md_core.proofs.Good.{IsGood, TaskFits, Makes}
 use Rattle.md_core.proofs.EachTurn.{each-turn}
 use Rattle.md_core.proofs.Events.{happens-turned}
 use Rattle.md_core.proofs.Going.{AllApart}
-use Rattle.md_core.proofs.GoodRuns.{good-moment, all-apart}
+use Rattle.md_core.proofs.GoodRuns.{good-moment}
 use Rattle.md_core.proofs.Places.{at_place}
 use Rattle.md_core.proofs.Runs.{moment-more, moment-over}
 use Rattle.md_core.proofs.Answers.LastStep.{IsTurn, turn_by, reply_in, done_in, done-in, turn-at}

@@ -1,5 +1,5 @@
 -- A job that acts on one message gives no answer of a time, of a lost file in tmp, or of a clean.
-use Rattle.std.proofs.Common.{ℕ, ◌-◌, List, Option, Some, None, Bool, true, false, cond, nat_le}
+use Rattle.std.proofs.Common.{ℕ, List, Option, Some, None, Bool, true, false, cond, nat_le}
 use Rattle.md_dirs.specs.declared.paths.Place.{Place}
 use Rattle.md_dirs.specs.declared.paths.Place.TheVariants.{Tmp, New, Cur}
 use Rattle.md_dirs.specs.declared.rows.Row.{Row}

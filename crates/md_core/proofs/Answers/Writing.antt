@@ -1,13 +1,11 @@
 -- A delivery that writes has begun, at the moment of its own clock that it keeps, and has its file in tmp, or a clean took that away since.
-use Rattle.std.proofs.Common.{ℕ, ◌≡◌, ◌≢◌, ◌<◌, ◌≤◌, ◌⊎◌, ◌+◌, inl, inr, List, Option, Some, None, Bool, true, false, cond, length, nat_lt, slice_get, refl, sym, ap, subst, ◌∙◌, arith}
+use Rattle.std.proofs.Common.{ℕ, ◌≡◌, ◌≢◌, ◌<◌, ◌≤◌, ◌⊎◌, ◌+◌, inl, inr, List, Some, None, Bool, true, false, cond, length, nat_lt, slice_get, refl, sym, ap, subst, ◌∙◌, arith}
 use Rattle.md_dirs.specs.State.{State, file_at}
-use Rattle.md_dirs.specs.Calls.{created}
 use Rattle.md_dirs.specs.declared.paths.Path.{Path}
 use Rattle.md_dirs.specs.declared.rows.Row.{Row}
 use Rattle.md_dirs.specs.declared.paths.Place.TheVariants.{Tmp}
 use Rattle.md_dirs.proofs.PathOrder.{path_total, path_exact}
 use Rattle.md_dirs.proofs.Maps as maps
-use Rattle.md_core.specs.declared.jobs.answer.Answer.{Answer}
 use Rattle.md_core.specs.declared.jobs.answer.Answer.TheVariants as answer
 use Rattle.md_core.specs.declared.jobs.call.Call.{Call}
 use Rattle.md_core.specs.declared.jobs.call.Call.TheVariants as call

@@ -1,6 +1,4 @@
 use Rattle.md_core.proofs.Answers.Cleaner.{cleaners-spare}
-use Rattle.md_core.proofs.Answers.OfTime.{says_of_time}
-use Rattle.md_core.proofs.Answers.Cleaned.{HasTaken}
 use Rattle.md_core.proofs.laws.cleaners_spare_deliveries.Goals as goal
 
 pub returns : goal.returns
