@@ -47,7 +47,8 @@ module _ (number : ℕ) (d : Delivery) (at : Moment) where
   abbrev asked_at : Stage → Asked
   asked_at stage = (delivered_by.stage_turn number d at stage).asked
 
-  writing-by : (P : Asked → Type 0) (start k : ℕ) → P (append_turn d start k).asked → P (link_turn number d).asked → P (unlink_turn d answer.TimedOut).asked → P (asked_at (Writing start k))
+  writing-by : (P : Asked → Type 0) (start k : ℕ) → P (append_turn d start k).asked → P (link_turn number d).asked →
+      P (unlink_turn d answer.TimedOut).asked → P (asked_at (Writing start k))
   writing-by P start k appends links unlinks = by (is_in_time start at.own) (nat_lt k (length d.body))
     where
       by : (b more : Bool) → P (cond b (cond more (append_turn d start k) (link_turn number d)) (unlink_turn d answer.TimedOut)).asked
@@ -63,7 +64,8 @@ module _ (number : ℕ) (d : Delivery) (at : Moment) where
 
   delivery-creates : (p : Path) (stage : Stage) → asked_at stage ≡ create p → (stage ≡ Start) × (d.tmp ≡ p)
   delivery-creates p Start is = (refl, cc)
-  delivery-creates p (Writing start k) is = writing-by (λ asked. asked ≡ create p → (Writing start k ≡ Start) × (d.tmp ≡ p)) start k (λ h. cc) (λ h. cc) (λ h. cc) is
+  delivery-creates p (Writing start k) is =
+      writing-by (λ asked. asked ≡ create p → (Writing start k ≡ Start) × (d.tmp ≡ p)) start k (λ h. cc) (λ h. cc) (λ h. cc) is
   delivery-creates p Linked is = cc
   delivery-creates p (Undo a) is = cc
 
@@ -82,12 +84,14 @@ marking-leaves : (number : ℕ) (m : Marking) (stage : marking.Stage) → Leaves
 marking-leaves number m (marking_stage.Look tries) = tt
 marking-leaves number m (marking_stage.Act name flags tries) = (marked-place m.mark, refl)
 
-moving-leaves : (number : ℕ) (m : Moving) (stage : search.Stage) → SearchFits true m.unique stage → LeavesTmp (moved_by.stage_turn number m stage).asked
+moving-leaves : (number : ℕ) (m : Moving) (stage : search.Stage) → SearchFits true m.unique stage →
+    LeavesTmp (moved_by.stage_turn number m stage).asked
 moving-leaves number m (LookNew tries) fits = tt
 moving-leaves number m (LookCur tries) fits = tt
 moving-leaves number m (Act place row tries) fits = (fits.0, fits.0)
 
-copying-leaves : (number : ℕ) (c : Copying) (stage : search.Stage) → SearchFits false c.unique stage → LeavesTmp (copied_by.stage_turn number c stage).asked
+copying-leaves : (number : ℕ) (c : Copying) (stage : search.Stage) → SearchFits false c.unique stage →
+    LeavesTmp (copied_by.stage_turn number c stage).asked
 copying-leaves number c (LookNew tries) fits = tt
 copying-leaves number c (LookCur tries) fits = tt
 copying-leaves number c (Act place row tries) fits = fits.0
@@ -100,7 +104,8 @@ cleaning-leaves : (c : Cleaning) (own : ℕ) (stage : cleaning.Stage) → Leaves
 cleaning-leaves c own cleaning_stage.Look = tt
 cleaning-leaves c own (cleaning_stage.Remove name rest files) = tt
 
-pub asks-fair : (s : State) (asked : Call) (number : ℕ) (task : Task) (at : Moment) → TaskFits s asked task → LeavesTmp (turn_of number task at).asked
+pub asks-fair : (s : State) (asked : Call) (number : ℕ) (task : Task) (at : Moment) → TaskFits s asked task →
+    LeavesTmp (turn_of number task at).asked
 asks-fair s asked number (Deliver d) at fits = delivery-leaves number d at d.stage
 asks-fair s asked number (Mark m) at fits = marking-leaves number m m.stage
 asks-fair s asked number (Move m) at fits = moving-leaves number m m.stage fits.stage
@@ -109,21 +114,25 @@ asks-fair s asked number (Copy c) at fits = copying-leaves number c c.stage fits
 asks-fair s asked number (Clean c) at fits = cleaning-leaves c at.own c.stage
 
 -- the turns that ask no create and no unlink
-marking-asks : (number : ℕ) (m : Marking) (p : Path) (stage : marking.Stage) → ((marked_by.stage_turn number m stage).asked ≡ create p) ⊎ ((marked_by.stage_turn number m stage).asked ≡ unlink p) → ⊥
+marking-asks : (number : ℕ) (m : Marking) (p : Path) (stage : marking.Stage) →
+    ((marked_by.stage_turn number m stage).asked ≡ create p) ⊎ ((marked_by.stage_turn number m stage).asked ≡ unlink p) → ⊥
 marking-asks number m p (marking_stage.Look tries) is = elim is [ inl h ↦ cc | inr h ↦ cc ]
 marking-asks number m p (marking_stage.Act name flags tries) is = elim is [ inl h ↦ cc | inr h ↦ cc ]
 
-moving-asks : (number : ℕ) (m : Moving) (p : Path) (stage : search.Stage) → ((moved_by.stage_turn number m stage).asked ≡ create p) ⊎ ((moved_by.stage_turn number m stage).asked ≡ unlink p) → ⊥
+moving-asks : (number : ℕ) (m : Moving) (p : Path) (stage : search.Stage) →
+    ((moved_by.stage_turn number m stage).asked ≡ create p) ⊎ ((moved_by.stage_turn number m stage).asked ≡ unlink p) → ⊥
 moving-asks number m p (LookNew tries) is = elim is [ inl h ↦ cc | inr h ↦ cc ]
 moving-asks number m p (LookCur tries) is = elim is [ inl h ↦ cc | inr h ↦ cc ]
 moving-asks number m p (Act place row tries) is = elim is [ inl h ↦ cc | inr h ↦ cc ]
 
-copying-asks : (number : ℕ) (c : Copying) (p : Path) (stage : search.Stage) → ((copied_by.stage_turn number c stage).asked ≡ create p) ⊎ ((copied_by.stage_turn number c stage).asked ≡ unlink p) → ⊥
+copying-asks : (number : ℕ) (c : Copying) (p : Path) (stage : search.Stage) →
+    ((copied_by.stage_turn number c stage).asked ≡ create p) ⊎ ((copied_by.stage_turn number c stage).asked ≡ unlink p) → ⊥
 copying-asks number c p (LookNew tries) is = elim is [ inl h ↦ cc | inr h ↦ cc ]
 copying-asks number c p (LookCur tries) is = elim is [ inl h ↦ cc | inr h ↦ cc ]
 copying-asks number c p (Act place row tries) is = elim is [ inl h ↦ cc | inr h ↦ cc ]
 
-expunging-asks : (number : ℕ) (x : Expunging) (p : Path) → p.place ≡ Tmp → (stage : expunging.Stage) → ((expunged_by.stage_turn number x stage).asked ≡ create p) ⊎ ((expunged_by.stage_turn number x stage).asked ≡ unlink p) → ⊥
+expunging-asks : (number : ℕ) (x : Expunging) (p : Path) → p.place ≡ Tmp → (stage : expunging.Stage) →
+    ((expunged_by.stage_turn number x stage).asked ≡ create p) ⊎ ((expunged_by.stage_turn number x stage).asked ≡ unlink p) → ⊥
 expunging-asks number x p in_tmp (expunging_stage.Look tries) is = elim is [ inl h ↦ cc | inr h ↦ cc ]
 expunging-asks number x p in_tmp (expunging_stage.Act name tries) is = elim is [
   | inl h ↦ cc
@@ -140,8 +149,10 @@ delivery-makes s asked d p fits is = subst (λ (q : Path). Makes asked q.name) i
 
 module _ (s : State) (asked : Call) (number : ℕ) (at : Moment) (p : Path) (in_tmp : p.place ≡ Tmp) where
   -- a delivery at its start made the path
-  pub creates : (task : Task) → TaskFits s asked task → (turn_of number task at).asked ≡ create p → Makes asked p.name × ((d : Delivery) × (task ≡ Deliver d) × (d.stage ≡ Start) × (d.tmp ≡ p))
-  creates (Deliver d) fits is = let h = delivery-creates number d at p d.stage is in (delivery-makes s asked d p fits h.1, (d, refl, h.0, h.1))
+  pub creates : (task : Task) → TaskFits s asked task → (turn_of number task at).asked ≡ create p →
+      Makes asked p.name × ((d : Delivery) × (task ≡ Deliver d) × (d.stage ≡ Start) × (d.tmp ≡ p))
+  creates (Deliver d) fits is =
+      let h = delivery-creates number d at p d.stage is in (delivery-makes s asked d p fits h.1, (d, refl, h.0, h.1))
   creates (Mark m) fits is = absurd (marking-asks number m p m.stage (inl is))
   creates (Move m) fits is = absurd (moving-asks number m p m.stage (inl is))
   creates (Expunge x) fits is = absurd (expunging-asks number x p in_tmp x.stage (inl is))
@@ -149,7 +160,8 @@ module _ (s : State) (asked : Call) (number : ℕ) (at : Moment) (p : Path) (in_
   creates (Clean c) fits is = absurd (cleaning-creates c at.own p c.stage is)
 
   -- a delivery of its name or a clean took it away
-  pub unlinks : (task : Task) → TaskFits s asked task → (turn_of number task at).asked ≡ unlink p → Makes asked p.name ⊎ ((folder : ℕ) × (asked ≡ call.Clean folder))
+  pub unlinks : (task : Task) → TaskFits s asked task → (turn_of number task at).asked ≡ unlink p →
+      Makes asked p.name ⊎ ((folder : ℕ) × (asked ≡ call.Clean folder))
   unlinks (Deliver d) fits is = inl (delivery-makes s asked d p fits (delivery-unlinks number d at p d.stage is))
   unlinks (Mark m) fits is = absurd (marking-asks number m p m.stage (inr is))
   unlinks (Move m) fits is = absurd (moving-asks number m p m.stage (inr is))

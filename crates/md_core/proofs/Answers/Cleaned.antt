@@ -37,7 +37,8 @@ use Rattle.md_core.proofs.Answers.Late.{cleans}
 use Rattle.md_core.proofs.Answers.Moments.{its-fits, at, each-moment, not-yet, is-first}
 
 -- what events did, with one more
-deeds-more : (m : Machine) (es : List Marked) (e : Marked) → deeds_from m (es ++ e ∷ []) ≡ deeds_from m es ++ option_to_list (done (run_from m es) e)
+deeds-more : (m : Machine) (es : List Marked) (e : Marked) →
+    deeds_from m (es ++ e ∷ []) ≡ deeds_from m es ++ option_to_list (done (run_from m es) e)
 unfolding deeds_from run_from
 deeds-more m [] e = append-nil (option_to_list (done m e))
 deeds-more m (x ∷ es) e =
@@ -69,7 +70,8 @@ module _ (r : Run) (job : ℕ) where
     deeds-next =
         let from = beginning r.image r.calls in
         let es = take k r.events in
-        let this : done (moment r k) t.event ≡ Some (done_in r k n t) = sym (ap (option_and_then (done (moment r k))) t.at) ∙ done-in r k n t in
+        let this : done (moment r k) t.event ≡ Some (done_in r k n t) =
+        sym (ap (option_and_then (done (moment r k))) t.at) ∙ done-in r k n t in
         ap (λ (xs : List Marked). filter is_own (deeds_from from xs)) (take-one_more r.events k t.event t.at)
         ∙ ap (filter is_own) (deeds-more from es t.event ∙ ap (λ (o : Option Done). deeds_from from es ++ option_to_list o) this)
         ∙ filter-append is_own (deeds_from from es) (done_in r k n t ∷ [])
@@ -99,7 +101,8 @@ module _ (r : Run) (job : ℕ) where
       pub unlinks : List Done
       pub deeds_are : deeds k ≡ look ∷ unlinks
       pub listed : look.asked ≡ list folder Tmp
-      pub names : map (λ d. d.asked) unlinks ++ map takes left ≡ map (λ row. takes row.name) (old_rows look.at.own (rows_of (dirs_at_first r job) folder Tmp))
+      pub names : map (λ d. d.asked) unlinks ++ map takes left ≡ map (λ row. takes row.name)
+          (old_rows look.at.own (rows_of (dirs_at_first r job) folder Tmp))
       pub replies : All IsFoundOrNot unlinks
       pub count : files ≡ count_by (λ d. is_ok d.reply) unlinks + length left
 
@@ -155,13 +158,15 @@ module _ (r : Run) (job : ℕ) where
             deeds_are = deeds-own k job t refl ∙ ap (λ (ds : List Done). ds ++ this ∷ []) none;
             listed = asked ∙ ap (λ f. list f Tmp) in_folder;
             names = map-twice (λ (row : Row). row.name) takes old
-                ∙ (λ i. map (λ (row : Row). takes row.name) (old_rows (at r k job t).own (rows_of (moment r (sym same i)).dirs (in_folder i) Tmp)));
+                ∙ (λ i. map (λ (row : Row). takes row.name)
+                (old_rows (at r k job t).own (rows_of (moment r (sym same i)).dirs (in_folder i) Tmp)));
             replies = All-nil IsFoundOrNot;
             count = omega (arith, size);
           }
 
       -- one name more
-      more-taken : (name : List ℕ) (left : List (List ℕ)) (files files' : ℕ) → HasTaken k (name ∷ left) files → this.asked ≡ takes name → IsFoundOrNot this →
+      more-taken : (name : List ℕ) (left : List (List ℕ)) (files files' : ℕ) → HasTaken k (name ∷ left) files → this.asked ≡ takes name →
+          IsFoundOrNot this →
           files' ≡ cond (is_ok this.reply) files (files - 1) → HasTaken (k + 1) left files'
       more-taken name left files files' h asked found counts =
           let split = sum_by-append (λ (d : Done). cond (is_ok d.reply) 1 0) h.unlinks (this ∷ []) in
@@ -193,16 +198,19 @@ module _ (r : Run) (job : ℕ) where
       abbrev StandsAfter : Turn Cleaning → DirReply → Type 0
       StandsAfter turn rep =
           this.asked ≡ turn.asked → this.reply ≡ rep →
-          Stands (k + 1) (standing_of (Clean (turn.follows rep (rows_for turn.asked s)).task) (turn.follows rep (rows_for turn.asked s)).answer)
+          Stands (k + 1)
+          (standing_of (Clean (turn.follows rep (rows_for turn.asked s)).task) (turn.follows rep (rows_for turn.asked s)).answer)
 
-      next-taken : (c : Cleaning) → c.folder ≡ folder → (name : List ℕ) (rest : List Row) (files files' : ℕ) → HasTaken k (name ∷ map (λ row. row.name) rest) files →
+      next-taken : (c : Cleaning) → c.folder ≡ folder → (name : List ℕ) (rest : List Row) (files files' : ℕ) →
+          HasTaken k (name ∷ map (λ row. row.name) rest) files →
           this.asked ≡ unlink (tmp c name) → IsFoundOrNot this → files' ≡ cond (is_ok this.reply) files (files - 1) →
           Stands (k + 1) (standing_of (Clean (after_next c rest files').task) (after_next c rest files').answer)
       next-taken c in_folder name rest files files' h asked found counts =
           next-stands (k + 1) c rest files'
           (more-taken name (map (λ row. row.name) rest) files files' h (asked ∙ ap (λ f. unlink (path f Tmp name)) in_folder) found counts)
 
-      stage-stands : (c : Cleaning) → c.folder ≡ folder → (stage : Stage) → AtStage k stage → (rep : DirReply) → StandsAfter (stage_turn (at_stage c stage) (at r k job t).own stage) rep
+      stage-stands : (c : Cleaning) → c.folder ≡ folder → (stage : Stage) → AtStage k stage → (rep : DirReply) →
+          StandsAfter (stage_turn (at_stage c stage) (at r k job t).own stage) rep
       stage-stands c in_folder Look now reply.Ok asked replied =
           let old = old_rows (at r k job t).own (rows_of s c.folder Tmp) in
           next-stands (k + 1) (at_stage c Look) old (length old) (look-taken c in_folder now.0 now.1 asked)
@@ -210,23 +218,31 @@ module _ (r : Run) (job : ℕ) where
       stage-stands c in_folder Look now reply.NotFound asked replied = tt
       stage-stands c in_folder Look now reply.Fault asked replied = tt
       stage-stands c in_folder (Remove name rest files) now reply.Ok asked replied =
-          next-taken (at_stage c (Remove name rest files)) in_folder name rest files files now asked (inl replied) (sym (ap (λ x. cond (is_ok x) files (files - 1)) replied))
+          next-taken (at_stage c (Remove name rest files)) in_folder name rest files files now asked (inl replied)
+          (sym (ap (λ x. cond (is_ok x) files (files - 1)) replied))
       stage-stands c in_folder (Remove name rest files) now reply.Exists asked replied = tt
       stage-stands c in_folder (Remove name rest files) now reply.NotFound asked replied =
-          next-taken (at_stage c (Remove name rest files)) in_folder name rest files (files - 1) now asked (inr replied) (sym (ap (λ x. cond (is_ok x) files (files - 1)) replied))
+          next-taken (at_stage c (Remove name rest files)) in_folder name rest files (files - 1) now asked (inr replied)
+          (sym (ap (λ x. cond (is_ok x) files (files - 1)) replied))
       stage-stands c in_folder (Remove name rest files) now reply.Fault asked replied = tt
 
-      own-stands : call_at r.calls job ≡ Some (call.Clean folder) → IsRun r → Stands k (working t.task) → Stands (k + 1) (standing_of (left_by r k job t).task (left_by r k job t).answer)
+      own-stands : call_at r.calls job ≡ Some (call.Clean folder) → IsRun r → Stands k (working t.task) →
+          Stands (k + 1) (standing_of (left_by r k job t).task (left_by r k job t).answer)
       own-stands of run now =
           let clean = cleans (moment r k).dirs folder t.task (its-fits r run k job (call.Clean folder) t.task of t.there) in
-          let fits : CleaningFits (call.Clean folder) clean.0 = subst (TaskFits (moment r k).dirs (call.Clean folder)) clean.1 (its-fits r run k job (call.Clean folder) t.task of t.there) in
+          let fits : CleaningFits (call.Clean folder) clean.0 =
+          subst (TaskFits (moment r k).dirs (call.Clean folder)) clean.1 (its-fits r run k job (call.Clean folder) t.task of t.there) in
           let in_folder : clean.0.folder ≡ folder = (let same = fits in cc) in
           by t.task clean.0 clean.1 in_folder now (reply_in (moment r k) t.event t.task) refl refl
         where
           by : (task : Task) (c : Cleaning) → task ≡ Clean c → c.folder ≡ folder → Stands k (working task) → (rep : DirReply) →
               this.asked ≡ (turn_of t.event.event.job task (at r k job t)).asked → this.reply ≡ rep →
-              Stands (k + 1) (standing_of ((turn_of t.event.event.job task (at r k job t)).follows rep (rows_for (turn_of t.event.event.job task (at r k job t)).asked s)).task
-              ((turn_of t.event.event.job task (at r k job t)).follows rep (rows_for (turn_of t.event.event.job task (at r k job t)).asked s)).answer)
+              Stands (k + 1)
+              (standing_of
+              ((turn_of t.event.event.job task (at r k job t)).follows rep
+              (rows_for (turn_of t.event.event.job task (at r k job t)).asked s)).task
+              ((turn_of t.event.event.job task (at r k job t)).follows rep
+              (rows_for (turn_of t.event.event.job task (at r k job t)).asked s)).answer)
           by (Clean x) c is in_folder now rep asked replied =
               let same : x ≡ c = cc in
               stage-stands x (ap (λ (y : Cleaning). y.folder) same ∙ in_folder) x.stage now rep asked replied
@@ -284,7 +300,8 @@ module _ (r : Run) (run : IsRun r) (job folder : ℕ) (of : call_at r.calls job 
   stands-start : StandsAt 0
   stands-start st is = by job of (ap (λ (m : Machine). job_at m.jobs job) (sym (moment-start r)) ∙ is)
     where
-      by : (j : ℕ) → call_at r.calls j ≡ Some (call.Clean folder) → job_at (beginning r.image r.calls).jobs j ≡ Some st → Stands r job folder 0 st
+      by : (j : ℕ) → call_at r.calls j ≡ Some (call.Clean folder) → job_at (beginning r.image r.calls).jobs j ≡ Some st →
+          Stands r job folder 0 st
       by zero of-j at-j = cc
       by (suc i) of-j at-j =
           let new = new_at r.calls i st at-j in
@@ -303,12 +320,15 @@ module _ (r : Run) (run : IsRun r) (job folder : ℕ) (of : call_at r.calls job 
   pub has-cleaned : (n : ℕ) → job_at (jobs_of r) job ≡ Some (answered (answer.Cleaned n)) → HasCleaned r job folder n
   has-cleaned n is =
       let end = length r.events in
-      let h : HasTaken r job folder end [] n = each-moment r run StandsAt stands-start stands-turn end (omega arith) (answered (answer.Cleaned n)) (ap (λ (m : Machine). job_at m.jobs job) (moment-end r) ∙ is) in
+      let h : HasTaken r job folder end [] n =
+      each-moment r run StandsAt stands-start stands-turn end (omega arith) (answered (answer.Cleaned n))
+      (ap (λ (m : Machine). job_at m.jobs job) (moment-end r) ∙ is) in
       let counted = h.count in
       record {
         look = h.look;
         unlinks = h.unlinks;
-        deeds = ap (λ (es : List Marked). filter (is_own r job) (deeds_from (beginning r.image r.calls) es)) (sym (take_all end r.events (omega arith))) ∙ h.deeds_are;
+        deeds = ap (λ (es : List Marked). filter (is_own r job) (deeds_from (beginning r.image r.calls) es))
+            (sym (take_all end r.events (omega arith))) ∙ h.deeds_are;
         listed = h.listed;
         names = sym (append-nil (map (λ (d : Done). d.asked) h.unlinks)) ∙ h.names;
         replies = h.replies;

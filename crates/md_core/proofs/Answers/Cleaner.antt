@@ -39,15 +39,18 @@ delivering r run k job t d is =
 
 module _ (r : Run) (run : IsRun r) (seconds : ℕ) (few : seconds ≤ 14400) (apart : AreApart r seconds) where
   -- a delivery in time is not so long behind its first step
-  in-time : (first clock own start : ℕ) → first + least_seconds ≤ clock + seconds → clock ≤ own + seconds → own - start < most_seconds → start ≤ first + seconds → ⊥
+  in-time : (first clock own start : ℕ) → first + least_seconds ≤ clock + seconds → clock ≤ own + seconds → own - start < most_seconds →
+      start ≤ first + seconds → ⊥
   in-time first clock own start late ahead short began = omega arith
 
   -- two steps at one event are one
   same-own : (job k : ℕ) (a b : IsStep r job k) → a.what.at.own ≡ b.what.at.own
-  same-own job k a b = let same : a.what ≡ b.what = (let e : Some a.what ≡ Some b.what = sym a.at ∙ b.at in cc) in ap (λ (d : Done). d.at.own) same
+  same-own job k a b =
+      let same : a.what ≡ b.what = (let e : Some a.what ≡ Some b.what = sym a.at ∙ b.at in cc) in ap (λ (d : Done). d.at.own) same
 
   -- the clock of an event is at most that of a later one
-  clock-of : (k : ℕ) (p : Path) (cleaned : IsCleanedAway r k p) (i n : ℕ) (t : IsTurn r i n) → k < i → cleaned.what.at.clock ≤ (at r i n t).clock
+  clock-of : (k : ℕ) (p : Path) (cleaned : IsCleanedAway r k p) (i n : ℕ) (t : IsTurn r i n) → k < i →
+      cleaned.what.at.clock ≤ (at r i n t).clock
   clock-of k p cleaned i n t before =
       let done = turn-done r run k cleaned.what cleaned.at in
       let clock : cleaned.what.at.clock ≡ (at r k done.0 done.1).clock = ap (λ (d : Done). d.at.clock) done.2 in
@@ -61,7 +64,8 @@ module _ (r : Run) (run : IsRun r) (seconds : ℕ) (few : seconds ≤ 14400) (ap
       let last = last-step r run job TmpGone is in
       let k = last.k in
       let t = last.turn in
-      let of : OfDelivery r k job (at r k job t).own t.task TmpGone = gone-of r k job (at r k job t).own t.task (task-says r run job TmpGone last) in
+      let of : OfDelivery r k job (at r k job t).own t.task TmpGone =
+      gone-of r k job (at r k job t).own t.task (task-says r run job TmpGone last) in
       let d = of.0 in
       let start = of.2.0 in
       let h = of.2.1 in
@@ -76,7 +80,8 @@ module _ (r : Run) (run : IsRun r) (seconds : ℕ) (few : seconds ≤ 14400) (ap
       let same = same-own job (first_step r job) late.0 h.begun in
       let own = h.own in
       let began = (apart (first_step r job) late.0.what late.0.at).0 in
-      in-time late.0.what.at.clock (at r k job t).clock (at r k job t).own start (omega (arith, long, later)) ahead short (omega (arith, same, own, began))
+      in-time late.0.what.at.clock (at r k job t).clock (at r k job t).own start (omega (arith, long, later)) ahead short
+      (omega (arith, same, own, began))
 
 pub cleaners-spare : (r : Run) → IsRun r → CleanersSpare r
 cleaners-spare r run seconds few apart = record {

@@ -61,7 +61,9 @@ TaskSays r k job own (Copy c) a = IsPlain a
 TaskSays r k job own (Clean c) a = CleanSays a
 
 -- a reply that a file was not found, where a file is there
-no-file : (o : Option ℕ) (rest : Option DirError) (faulted : Bool) → reply.NotFound ≡ cond faulted reply.Fault (reply_by (cond (is_some o) rest (Some NotFound))) → (reply.NotFound ≡ reply_by rest → ⊥) → o ≡ None
+no-file : (o : Option ℕ) (rest : Option DirError) (faulted : Bool) →
+    reply.NotFound ≡ cond faulted reply.Fault (reply_by (cond (is_some o) rest (Some NotFound))) → (reply.NotFound ≡ reply_by rest → ⊥) →
+    o ≡ None
 no-file o rest true is other = cc
 no-file None rest false is other = refl
 no-file (Some n) rest false is other = absurd (other is)
@@ -71,7 +73,8 @@ next-says : (c : Cleaning) (rows : List Row) (files : ℕ) (a : Answer) → (cle
 next-says c [] files a is = inr (files, cc)
 next-says c (row ∷ rest) files a is = cc
 
-clean-says : (c : Cleaning) (own : ℕ) (stage : cleaning.Stage) (rep : DirReply) (rows : List Row) (a : Answer) → ((cleaned_by.stage_turn c own stage).follows rep rows).answer ≡ Some a → CleanSays a
+clean-says : (c : Cleaning) (own : ℕ) (stage : cleaning.Stage) (rep : DirReply) (rows : List Row) (a : Answer) →
+    ((cleaned_by.stage_turn c own stage).follows rep rows).answer ≡ Some a → CleanSays a
 clean-says c own cleaning_stage.Look reply.Ok rows a is = next-says c _ _ a is
 clean-says c own cleaning_stage.Look reply.Exists rows a is = inl cc
 clean-says c own cleaning_stage.Look reply.NotFound rows a is = inl cc
@@ -116,7 +119,8 @@ module _ (r : Run) (run : IsRun r) (k job : ℕ) (t : IsTurn r k job) where
       append-says : is_in_time start own ≡ true → (rep : DirReply) → Says (append_turn x start i) rep
       append-says in_time reply.Ok is = tt
       append-says in_time reply.Exists is = tt
-      append-says in_time reply.NotFound is = (start, h, in_time, cleaned-away (no-file (file_at s d.tmp) None t.event.faulted is (λ e. cc)))
+      append-says in_time reply.NotFound is =
+          (start, h, in_time, cleaned-away (no-file (file_at s d.tmp) None t.event.faulted is (λ e. cc)))
       append-says in_time reply.Fault is = tt
 
       found-folder : (b c : Bool) → b ≡ true → reply.NotFound ≡ reply_by (cond b (cond c (Some Exists) None) (Some NotFound)) → ⊥
@@ -130,11 +134,19 @@ module _ (r : Run) (run : IsRun r) (k job : ℕ) (t : IsTurn r k job) where
       link-says in_time reply.NotFound is =
           let inside = fits.in_folder in
           let within : has_folder s (target d) ≡ true = grind (arith, nat_tests) in
-          let other = found-folder (has_folder s (target d)) (is_some (file_at s (target d))) within in
-          (start, h, in_time, cleaned-away (no-file (file_at s d.tmp) (cond (has_folder s (target d)) (cond (is_some (file_at s (target d))) (Some Exists) None) (Some NotFound)) t.event.faulted is other))
+          let other = found-folder (has_folder s (target d)) (is_some (file_at s (target d))) within in (
+            start,
+            h,
+            in_time,
+            cleaned-away
+                (no-file (file_at s d.tmp)
+                (cond (has_folder s (target d)) (cond (is_some (file_at s (target d))) (Some Exists) None)
+                (Some NotFound)) t.event.faulted is other),
+          )
       link-says in_time reply.Fault is = tt
 
-      writing-says : (b : Bool) → is_in_time start own ≡ b → (more : Bool) (rep : DirReply) → Says (cond b (cond more (append_turn x start i) (link_turn n x)) (unlink_turn x answer.TimedOut)) rep
+      writing-says : (b : Bool) → is_in_time start own ≡ b → (more : Bool) (rep : DirReply) →
+          Says (cond b (cond more (append_turn x start i) (link_turn n x)) (unlink_turn x answer.TimedOut)) rep
       writing-says true in_time true rep = append-says in_time rep
       writing-says true in_time false rep = link-says in_time rep
       writing-says false late more rep = λ is. (start, h, late)
@@ -146,7 +158,8 @@ module _ (r : Run) (run : IsRun r) (k job : ℕ) (t : IsTurn r k job) where
       | inr is ↦ subst (DeliverySays r k job d.tmp own) (sym is) tt
     ]
 
-    stage-says : (stage : Stage) → AtStage r k job d.tmp stage → (rep : DirReply) → Says (stage_turn n (at_stage d stage) (at r k job t) stage) rep
+    stage-says : (stage : Stage) → AtStage r k job d.tmp stage → (rep : DirReply) →
+        Says (stage_turn n (at_stage d stage) (at r k job t) stage) rep
     stage-says Start h rep = create-says rep
     stage-says (Writing start i) h rep = writing-says start i h (is_in_time start own) refl (nat_lt i (length d.body)) rep
     stage-says Linked h rep = λ is. tt
@@ -158,8 +171,11 @@ module _ (r : Run) (run : IsRun r) (k job : ℕ) (t : IsTurn r k job) where
   -- any task
   by-task : (asked : Call) (task : Task) → TaskFits s asked task → AtTask r k job task → (rep : DirReply) →
       rep ≡ reply_of (ask_of (turn_of n task (at r k job t)).asked (at r k job t).clock) s t.event.faulted → (a : Answer) →
-      ((turn_of n task (at r k job t)).follows rep (rows_for (turn_of n task (at r k job t)).asked s)).answer ≡ Some a → TaskSays r k job own task a
-  by-task asked (Deliver d) fits now rep replied a is = subst (Gives d asked fits []) is (delivery-says d asked fits (rows_for (stage_turn n d (at r k job t) d.stage).asked s) now rep replied)
+      ((turn_of n task (at r k job t)).follows rep (rows_for (turn_of n task (at r k job t)).asked s)).answer ≡ Some a →
+      TaskSays r k job own task a
+  by-task asked (Deliver d) fits now rep replied a is =
+      subst (Gives d asked fits []) is
+      (delivery-says d asked fits (rows_for (stage_turn n d (at r k job t) d.stage).asked s) now rep replied)
   by-task asked (Mark m) fits now rep replied a is = subst GivesPlain is (marking-plain n m m.stage rep _)
   by-task asked (Move m) fits now rep replied a is = subst GivesPlain is (moving-plain n m m.stage rep _)
   by-task asked (Expunge x) fits now rep replied a is = subst GivesPlain is (expunging-plain n x x.stage rep _)
@@ -167,19 +183,22 @@ module _ (r : Run) (run : IsRun r) (k job : ℕ) (t : IsTurn r k job) where
   by-task asked (Clean c) fits now rep replied a is = clean-says c own c.stage rep _ a is
 
 -- what the task of the last step says with its answer
-pub task-says : (r : Run) → IsRun r → (job : ℕ) (a : Answer) → (last : LastStep r job a) → TaskSays r last.k job (at r last.k job last.turn).own last.turn.task a
+pub task-says : (r : Run) → IsRun r → (job : ℕ) (a : Answer) → (last : LastStep r job a) →
+    TaskSays r last.k job (at r last.k job last.turn).own last.turn.task a
 task-says r run job a last =
     let k = last.k in
     let t = last.turn in
     let asked = its-call r run k job (working t.task) t.there in
     let within : k ≤ length r.events = (let less = is_within r k job t in omega (arith, less)) in
-    by-task r run k job t asked.0 t.task (its-fits r run k job asked.0 t.task asked.1 t.there) (at-task r run k job t.task within t.there) (reply_in (moment r k) t.event t.task) refl a last.answer
+    by-task r run k job t asked.0 t.task (its-fits r run k job asked.0 t.task asked.1 t.there) (at-task r run k job t.task within t.there)
+    (reply_in (moment r k) t.event t.task) refl a last.answer
 
 -- TimedOut and TmpGone are answers of deliveries
 abbrev pub OfDelivery : Run → ℕ → ℕ → ℕ → Task → Answer → Type 0
 OfDelivery r k job own task a = (d : Delivery) × (task ≡ Deliver d) × DeliverySays r k job d.tmp own a
 
-pub gone-of : (r : Run) (k job own : ℕ) (task : Task) → TaskSays r k job own task answer.TmpGone → OfDelivery r k job own task answer.TmpGone
+pub gone-of : (r : Run) (k job own : ℕ) (task : Task) → TaskSays r k job own task answer.TmpGone →
+    OfDelivery r k job own task answer.TmpGone
 gone-of r k job now (Deliver d) says = (d, refl, says)
 gone-of r k job now (Mark m) says = absurd says
 gone-of r k job now (Move m) says = absurd says
@@ -187,7 +206,8 @@ gone-of r k job now (Expunge x) says = absurd says
 gone-of r k job now (Copy c) says = absurd says
 gone-of r k job now (Clean c) says = elim says [ inl is ↦ cc | inr is ↦ (let e = is.1 in cc) ]
 
-pub timed-of : (r : Run) (k job own : ℕ) (task : Task) → TaskSays r k job own task answer.TimedOut → OfDelivery r k job own task answer.TimedOut
+pub timed-of : (r : Run) (k job own : ℕ) (task : Task) → TaskSays r k job own task answer.TimedOut →
+    OfDelivery r k job own task answer.TimedOut
 timed-of r k job now (Deliver d) says = (d, refl, says)
 timed-of r k job now (Mark m) says = absurd says
 timed-of r k job now (Move m) says = absurd says
@@ -196,7 +216,8 @@ timed-of r k job now (Copy c) says = absurd says
 timed-of r k job now (Clean c) says = elim says [ inl is ↦ cc | inr is ↦ (let e = is.1 in cc) ]
 
 -- Cleaned is an answer of a clean
-pub clean-of : (r : Run) (k job own : ℕ) (task : Task) (n : ℕ) → TaskSays r k job own task (answer.Cleaned n) → (c : Cleaning) × (task ≡ Clean c)
+pub clean-of : (r : Run) (k job own : ℕ) (task : Task) (n : ℕ) → TaskSays r k job own task (answer.Cleaned n) →
+    (c : Cleaning) × (task ≡ Clean c)
 clean-of r k job now (Deliver d) n says = absurd says
 clean-of r k job now (Mark m) n says = absurd says
 clean-of r k job now (Move m) n says = absurd says

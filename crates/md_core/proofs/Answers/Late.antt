@@ -46,7 +46,8 @@ IsLeft u Look = ⊥
 IsLeft u (Remove name rest files) = (name ≡ u) ⊎ IsLeftIn u rest
 
 module _ (u : List ℕ) (c : Cleaning) where
-  left-next : (rows : List Row) (files : ℕ) → (after_next c rows files).answer ≡ None → IsLeft u (after_next c rows files).task.stage → IsLeftIn u rows
+  left-next : (rows : List Row) (files : ℕ) → (after_next c rows files).answer ≡ None → IsLeft u (after_next c rows files).task.stage →
+      IsLeftIn u rows
   left-next [] files unanswered left = cc
   left-next (row ∷ rest) files unanswered left = elim left [ inl is ↦ (row, inl refl, is) | inr later ↦ (later.0, inr later.1, later.2) ]
 
@@ -117,10 +118,12 @@ module _ (r : Run) (run : IsRun r) (seconds : ℕ) (apart : AreApart r seconds) 
         (turn.follows rep (rows_for turn.asked s)).answer ≡ None → (turn.follows rep (rows_for turn.asked s)).task.folder ≡ folder →
         IsLeft u (turn.follows rep (rows_for turn.asked s)).task.stage → IsLateAt (k + 1)
 
-    stage-leads : (c : Cleaning) (stage : Stage) → (c.folder ≡ folder → IsLeft u stage → IsLateAt k) → (rep : DirReply) → Leads (stage_turn (at_stage c stage) (at r k n t).own stage) rep
+    stage-leads : (c : Cleaning) (stage : Stage) → (c.folder ≡ folder → IsLeft u stage → IsLateAt k) → (rep : DirReply) →
+        Leads (stage_turn (at_stage c stage) (at r k n t).own stage) rep
     stage-leads c Look before reply.Ok unanswered in_folder left =
         let old = old_rows (at r k n t).own (rows_of s c.folder Tmp) in
-        late-look c (sym (folder-next u (at_stage c Look) old (length old)) ∙ in_folder) (left-next u (at_stage c Look) old (length old) unanswered left)
+        late-look c (sym (folder-next u (at_stage c Look) old (length old)) ∙ in_folder)
+        (left-next u (at_stage c Look) old (length old) unanswered left)
     stage-leads c Look before reply.Exists unanswered in_folder left = cc
     stage-leads c Look before reply.NotFound unanswered in_folder left = cc
     stage-leads c Look before reply.Fault unanswered in_folder left = cc
@@ -136,8 +139,12 @@ module _ (r : Run) (run : IsRun r) (seconds : ℕ) (apart : AreApart r seconds) 
     own-turn : (left_by r k n t).answer ≡ None → AtTask k n t.task → AtTask (k + 1) n (left_by r k n t).task
     own-turn unanswered h = by t.task h (reply_in (moment r k) t.event t.task) unanswered
       where
-        by : (task : Task) → AtTask k n task → (rep : DirReply) → ((turn_of t.event.event.job task (at r k n t)).follows rep (rows_for (turn_of t.event.event.job task (at r k n t)).asked s)).answer ≡ None →
-            AtTask (k + 1) n ((turn_of t.event.event.job task (at r k n t)).follows rep (rows_for (turn_of t.event.event.job task (at r k n t)).asked s)).task
+        by : (task : Task) → AtTask k n task → (rep : DirReply) →
+            ((turn_of t.event.event.job task (at r k n t)).follows rep
+            (rows_for (turn_of t.event.event.job task (at r k n t)).asked s)).answer ≡ None →
+            AtTask (k + 1) n
+            ((turn_of t.event.event.job task (at r k n t)).follows rep
+            (rows_for (turn_of t.event.event.job task (at r k n t)).asked s)).task
         by (Deliver d) now rep none = tt
         by (Mark m) now rep none = tt
         by (Move m) now rep none = tt
@@ -176,22 +183,27 @@ module _ (r : Run) (run : IsRun r) (seconds : ℕ) (apart : AreApart r seconds) 
       (λ k n task e at-k differ is h. other-turn k e.event.job (turn-at r run k e at-k) task h)
 
   -- a path that a clean's turn asks to be taken away was left to it
-  left-now : (c : Cleaning) (own : ℕ) (stage : Stage) → (stage_turn (at_stage c stage) own stage).asked ≡ unlink (path folder Tmp u) → (c.folder ≡ folder) × IsLeft u stage
+  left-now : (c : Cleaning) (own : ℕ) (stage : Stage) → (stage_turn (at_stage c stage) own stage).asked ≡ unlink (path folder Tmp u) →
+      (c.folder ≡ folder) × IsLeft u stage
   left-now c own Look is = cc
   left-now c own (Remove name rest files) is =
       let same : tmp c name ≡ path folder Tmp u = cc in
       (ap (λ (p : Path). p.folder) same, inl (ap (λ (p : Path). p.name) same))
 
   -- a clean that takes the file of the delivery away comes late
-  pub late-clean : (k : ℕ) (cleaned : IsCleanedAway r k (path folder Tmp u)) → (begun : IsStep r job (first_step r job)) × (begun.what.at.clock + least_seconds ≤ cleaned.what.at.clock + seconds)
+  pub late-clean : (k : ℕ) (cleaned : IsCleanedAway r k (path folder Tmp u)) →
+      (begun : IsStep r job (first_step r job)) × (begun.what.at.clock + least_seconds ≤ cleaned.what.at.clock + seconds)
   late-clean k cleaned =
       let done = turn-done r run k cleaned.what cleaned.at in
       let n = done.0 in
       let t = done.1 in
-      let its : call_at r.calls n ≡ Some (call.Clean cleaned.folder) = ap (call_at r.calls) (sym t.own ∙ ap (λ (d : Done). d.job) (sym done.2)) ∙ cleaned.by in
+      let its : call_at r.calls n ≡ Some (call.Clean cleaned.folder) =
+      ap (call_at r.calls) (sym t.own ∙ ap (λ (d : Done). d.job) (sym done.2)) ∙ cleaned.by in
       let clean = cleans (moment r k).dirs cleaned.folder t.task (its-fits r run k n (call.Clean cleaned.folder) t.task its t.there) in
       let asks = ap (λ (d : Done). d.asked) (sym done.2) ∙ cleaned.asked in
-      let left = left-now clean.0 (at r k n t).own clean.0.stage (ap (λ (x : Task). (turn_of t.event.event.job x (at r k n t)).asked) (sym clean.1) ∙ asks) in
+      let left =
+      left-now clean.0 (at r k n t).own clean.0.stage
+      (ap (λ (x : Task). (turn_of t.event.event.job x (at r k n t)).asked) (sym clean.1) ∙ asks) in
       let within : k ≤ length r.events = (let less = is_within r k n t in omega (arith, less)) in
       let late = subst (λ (x : Task). AtTask k n x) clean.1 (late-task k n t.task within t.there) left.0 left.1 in
       let before = late.late in

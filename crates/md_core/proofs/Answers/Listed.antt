@@ -17,7 +17,8 @@ pub has-filter : {X : Type 0} (p : X → Bool) (xs : List X) (x : X) → Has (fi
 has-filter p [] x has = absurd has
 has-filter p (y ∷ ys) x has = by (has-filter p ys x) (p y) refl has
   where
-    by : (Has (filter p ys) x → Has ys x × (p x ≡ true)) → (b : Bool) → p y ≡ b → Has (cond b (y ∷ filter p ys) (filter p ys)) x → Has (y ∷ ys) x × (p x ≡ true)
+    by : (Has (filter p ys) x → Has ys x × (p x ≡ true)) → (b : Bool) → p y ≡ b → Has (cond b (y ∷ filter p ys) (filter p ys)) x →
+        Has (y ∷ ys) x × (p x ≡ true)
     by rest true is h = elim h [ inl same ↦ (inl same, ap p same ∙ is) | inr later ↦ (let l = rest later in (inr l.0, l.1)) ]
     by rest false is h = let l = rest h in (inr l.0, l.1)
 
@@ -37,5 +38,9 @@ listed-file s folder place row has =
     let e = shown.0 in
     let inside = has-filter (λ e. is_in folder place e.0) (entries s.names) e shown.1 in
     let name : row.name ≡ e.0.name = ap (λ (x : Row). x.name) shown.2 ∙ name-row e.0.name (file_by s.files e.1) in
-    let place-is : e.0 ≡ path_of folder place row.name = path-in folder place e.0 inside.1 ∙ ap (path_of folder place) (sym name) in
-    (e.1, ap (file_at s) (sym place-is) ∙ has-get path_total path_exact s.names e inside.0, ap (λ (x : Row). x.stamp) shown.2 ∙ row-stamp e.0.name (file_by s.files e.1))
+    let place-is : e.0 ≡ path_of folder place row.name = path-in folder place e.0 inside.1 ∙ ap (path_of folder place) (sym name) in (
+      e.1,
+      ap (file_at s) (sym place-is) ∙ has-get path_total path_exact s.names e inside.0,
+      ap (λ (x : Row). x.stamp) shown.2
+          ∙ row-stamp e.0.name (file_by s.files e.1),
+    )

@@ -24,13 +24,15 @@ use Rattle.md_core.proofs.Runs.{moment-more, moment-over}
 use Rattle.md_core.proofs.Answers.LastStep.{IsTurn, turn_by, reply_in, done_in, done-in, turn-at}
 
 -- a job that works has its call, which its task fits
-call-there : (calls : List Call) (m : Machine) (n : ℕ) (job : Standing) → IsGood calls m → job_at m.jobs n ≡ Some job → (asked : Call) × (call_at calls n ≡ Some asked)
+call-there : (calls : List Call) (m : Machine) (n : ℕ) (job : Standing) → IsGood calls m → job_at m.jobs n ≡ Some job →
+    (asked : Call) × (call_at calls n ≡ Some asked)
 call-there calls m zero job good is = cc
 call-there calls m (suc i) job good is = at_place calls i
     (λ asked of. (asked, of))
     (λ past. absurd (let within = slice_get_within m.jobs i job is in let same = good.as_many in omega arith))
 
-fits-there : (calls : List Call) (m : Machine) (n : ℕ) (asked : Call) (task : Task) → IsGood calls m → call_at calls n ≡ Some asked → job_at m.jobs n ≡ Some (working task) → TaskFits m.dirs asked task
+fits-there : (calls : List Call) (m : Machine) (n : ℕ) (asked : Call) (task : Task) → IsGood calls m → call_at calls n ≡ Some asked →
+    job_at m.jobs n ≡ Some (working task) → TaskFits m.dirs asked task
 fits-there calls m zero asked task good of is = cc
 fits-there calls m (suc i) asked task good of is = good.fits i asked task of is
 
@@ -41,7 +43,8 @@ module _ (r : Run) (run : IsRun r) (k : ℕ) where
   pub its-call : (n : ℕ) (job : Standing) → job_at (moment r k).jobs n ≡ Some job → (asked : Call) × (call_at r.calls n ≡ Some asked)
   its-call n job is = call-there r.calls (moment r k) n job good-now is
 
-  pub its-fits : (n : ℕ) (asked : Call) (task : Task) → call_at r.calls n ≡ Some asked → job_at (moment r k).jobs n ≡ Some (working task) → TaskFits (moment r k).dirs asked task
+  pub its-fits : (n : ℕ) (asked : Call) (task : Task) → call_at r.calls n ≡ Some asked →
+      job_at (moment r k).jobs n ≡ Some (working task) → TaskFits (moment r k).dirs asked task
   its-fits n asked task of is = fits-there r.calls (moment r k) n asked task good-now of is
 
   pub sound-now : IsSound (moment r k).dirs
@@ -52,10 +55,12 @@ module _ (r : Run) (k n : ℕ) (t : IsTurn r k n) where
   abbrev pub at : Moment
   at = moment_of (moment r k).clock t.event.event
 
-  next-machine : moment r (k + 1) ≡ taken (moment r k) t.event.event.job at (turn_by (moment r k) t.event t.task) (reply_in (moment r k) t.event t.task)
+  next-machine : moment r (k + 1) ≡ taken (moment r k) t.event.event.job at (turn_by (moment r k) t.event t.task)
+      (reply_in (moment r k) t.event t.task)
   next-machine = moment-more r k t.event t.at ∙ happens-turned (moment r k) t.event t.task (ap (job_at (moment r k).jobs) t.own ∙ t.there)
 
-  pub next-dirs : (moment r (k + 1)).dirs ≡ state_by (ask_of (turn_by (moment r k) t.event t.task).asked at.clock) (moment r k).dirs (reply_in (moment r k) t.event t.task)
+  pub next-dirs : (moment r (k + 1)).dirs ≡ state_by (ask_of (turn_by (moment r k) t.event t.task).asked at.clock) (moment r k).dirs
+      (reply_in (moment r k) t.event t.task)
   next-dirs = ap (λ (m : Machine). m.dirs) next-machine
 
   pub next-clock : (moment r (k + 1)).clock ≡ at.clock
@@ -65,7 +70,8 @@ module _ (r : Run) (k n : ℕ) (t : IsTurn r k n) where
   clock-grows = omega arith
 
 -- what an event did is what the turn of its job did
-pub turn-done : (r : Run) → IsRun r → (k : ℕ) (what : Done) → done_at r k ≡ Some what → (n : ℕ) × (t : IsTurn r k n) × (what ≡ done_in r k n t)
+pub turn-done : (r : Run) → IsRun r → (k : ℕ) (what : Done) → done_at r k ≡ Some what →
+    (n : ℕ) × (t : IsTurn r k n) × (what ≡ done_in r k n t)
 turn-done r run k what is = at_place r.events k
     (λ e at.
     let t = turn-at r run k e at in
@@ -106,7 +112,8 @@ module _ (r : Run) (run : IsRun r) (P : ℕ → Type 0) (start : P 0) (step : (k
       (λ past. absurd (omega arith)))
 
 -- two jobs whose calls make one name are one
-pub one-maker : (calls : List Call) → AllApart calls → (i j : ℕ) (a b : Call) (u : List ℕ) → call_at calls i ≡ Some a → call_at calls j ≡ Some b → Makes a u → Makes b u → i ≡ j
+pub one-maker : (calls : List Call) → AllApart calls → (i j : ℕ) (a b : Call) (u : List ℕ) → call_at calls i ≡ Some a →
+    call_at calls j ≡ Some b → Makes a u → Makes b u → i ≡ j
 one-maker calls apart zero j a b u ata atb ma mb = cc
 one-maker calls apart (suc i) zero a b u ata atb ma mb = cc
 one-maker calls apart (suc i) (suc j) a b u ata atb ma mb =
@@ -114,7 +121,8 @@ one-maker calls apart (suc i) (suc j) a b u ata atb ma mb =
 
 -- the first of a kind in a list, where none came before a place
 module _ {X : Type 0} (p : X → Bool) where
-  first-later : (xs : List X) (k : ℕ) (x : X) → slice_get xs k ≡ Some x → p x ≡ false → k ≤ position_or_len p xs → k + 1 ≤ position_or_len p xs
+  first-later : (xs : List X) (k : ℕ) (x : X) → slice_get xs k ≡ Some x → p x ≡ false → k ≤ position_or_len p xs →
+      k + 1 ≤ position_or_len p xs
   first-later [] k x is not_this below = cc
   first-later (z ∷ zs) zero x is not_this below =
       let same : z ≡ x = cc in
@@ -122,7 +130,8 @@ module _ {X : Type 0} (p : X → Bool) where
       subst (λ (b : Bool). 0 + 1 ≤ cond (not b) (1 + position_or_len p zs) 0) (sym none) (omega arith)
   first-later (z ∷ zs) (suc k) x is not_this below = by (p z) (first-later zs k x is not_this) below
     where
-      by : (b : Bool) → (k ≤ position_or_len p zs → k + 1 ≤ position_or_len p zs) → suc k ≤ cond (not b) (1 + position_or_len p zs) 0 → suc k + 1 ≤ cond (not b) (1 + position_or_len p zs) 0
+      by : (b : Bool) → (k ≤ position_or_len p zs → k + 1 ≤ position_or_len p zs) → suc k ≤ cond (not b) (1 + position_or_len p zs) 0 →
+          suc k + 1 ≤ cond (not b) (1 + position_or_len p zs) 0
       by true rest h = absurd (omega arith)
       by false rest h = let more = rest (omega arith) in omega (arith, more)
 
@@ -133,7 +142,8 @@ module _ {X : Type 0} (p : X → Bool) where
       ap (λ (b : Bool). cond (not b) (1 + position_or_len p zs) 0) (ap p same ∙ this)
   first-now (z ∷ zs) (suc k) x is this below = by (p z) (first-now zs k x is this) below
     where
-      by : (b : Bool) → (k ≤ position_or_len p zs → position_or_len p zs ≡ k) → suc k ≤ cond (not b) (1 + position_or_len p zs) 0 → cond (not b) (1 + position_or_len p zs) 0 ≡ suc k
+      by : (b : Bool) → (k ≤ position_or_len p zs → position_or_len p zs ≡ k) → suc k ≤ cond (not b) (1 + position_or_len p zs) 0 →
+          cond (not b) (1 + position_or_len p zs) 0 ≡ suc k
       by true rest h = absurd (omega arith)
       by false rest h = let more = rest (omega arith) in omega (arith, more)
 

@@ -48,7 +48,8 @@ module _ (r : Run) (run : IsRun r) (job : ℕ) (c : Call) (of : call_at r.calls 
       let last = last-step r run job answer.TimedOut is in
       let k = last.k in
       let t = last.turn in
-      let of-it : OfDelivery r k job (at r k job t).own t.task answer.TimedOut = timed-of r k job (at r k job t).own t.task (task-says r run job answer.TimedOut last) in
+      let of-it : OfDelivery r k job (at r k job t).own t.task answer.TimedOut =
+      timed-of r k job (at r k job t).own t.task (task-says r run job answer.TimedOut last) in
       let start = of-it.2.0 in
       let h = of-it.2.1 in
       let own = h.own in
@@ -68,8 +69,24 @@ module _ (r : Run) (run : IsRun r) (job : ℕ) (c : Call) (of : call_at r.calls 
       record {
         k = gone.event;
         cleaned = gone.cleaned;
-        before = record { from = first_step r job; to = k; begun = begun; goes_on = is-step r k job t; after = omega (arith, after); before = omega (arith, before) };
-        after = record { from = first_step r job; to = k; begun = begun; goes_on = is-step r k job t; after = omega (arith, after); before = omega (arith, before) };
+        before = record {
+          from = first_step r job;
+          to = k;
+          begun = begun;
+          goes_on = is-step r k job t;
+          after = omega
+              (arith, after);
+          before = omega (arith, before);
+        };
+        after = record {
+          from = first_step r job;
+          to = k;
+          begun = begun;
+          goes_on = is-step r k job t;
+          after = omega
+              (arith, after);
+          before = omega (arith, before);
+        };
       }
 
   is-cleaned : (n : ℕ) → job_at (jobs_of r) job ≡ Some (answered (answer.Cleaned n)) → IsCleaned r job c n
@@ -86,13 +103,16 @@ module _ (r : Run) (run : IsRun r) (job : ℕ) (c : Call) (of : call_at r.calls 
       let last = last-step r run job answer.TmpGone is in
       let k = last.k in
       let t = last.turn in
-      let of-it : OfDelivery r k job (at r k job t).own t.task answer.TmpGone = gone-of r k job (at r k job t).own t.task (task-says r run job answer.TmpGone last) in
+      let of-it : OfDelivery r k job (at r k job t).own t.task answer.TmpGone =
+      gone-of r k job (at r k job t).own t.task (task-says r run job answer.TmpGone last) in
       let d = of-it.0 in
       let its = delivering r run k job t d of-it.1 in
-      let gone : IsGone r job (path d.tmp.folder Tmp d.tmp.name) = subst (IsGone r job) its.path_is (is-gone k t d.tmp of-it.2.1.begun of-it.2.3) in
+      let gone : IsGone r job (path d.tmp.folder Tmp d.tmp.name) =
+      subst (IsGone r job) its.path_is (is-gone k t d.tmp of-it.2.1.begun of-it.2.3) in
       subst (IsTmpGone r job) (sym (call-is d its)) gone
 
-pub says_of_time : (r : Run) → IsRun r → (job : ℕ) (c : Call) (a : Answer) → call_at r.calls job ≡ Some c → job_at (jobs_of r) job ≡ Some (answered a) → IsOfTime a → Says r job c a
+pub says_of_time : (r : Run) → IsRun r → (job : ℕ) (c : Call) (a : Answer) → call_at r.calls job ≡ Some c →
+    job_at (jobs_of r) job ≡ Some (answered a) → IsOfTime a → Says r job c a
 says_of_time r run job c answer.TimedOut of is which = is-timed-out r run job c of is
 says_of_time r run job c answer.TmpGone of is which = is-tmp-gone r run job c of is
 says_of_time r run job c (answer.Cleaned n) of is which = is-cleaned r run job c of n is

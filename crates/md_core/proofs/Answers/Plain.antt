@@ -82,7 +82,8 @@ module _ (number : ℕ) (m : Marking) (tries : ℕ) where
   mark-act name flags reply.NotFound = plain-if _ _ (nat_le tries 1) tt tt
   mark-act name flags reply.Fault = tt
 
-pub marking-plain : (number : ℕ) (m : Marking) (stage : marking.Stage) (r : DirReply) (rows : List Row) → GivesPlain ((marked_by.stage_turn number m stage).follows r rows).answer
+pub marking-plain : (number : ℕ) (m : Marking) (stage : marking.Stage) (r : DirReply) (rows : List Row) →
+    GivesPlain ((marked_by.stage_turn number m stage).follows r rows).answer
 marking-plain number m (marking_stage.Look tries) r rows = mark-look number m tries r rows
 marking-plain number m (marking_stage.Act name flags tries) r rows = mark-act number m tries name flags r
 
@@ -104,7 +105,8 @@ module _ (number : ℕ) (x : Expunging) (tries : ℕ) where
   expunge-act name reply.NotFound = plain-if _ _ (nat_le tries 1) tt tt
   expunge-act name reply.Fault = tt
 
-pub expunging-plain : (number : ℕ) (x : Expunging) (stage : expunging.Stage) (r : DirReply) (rows : List Row) → GivesPlain ((expunged_by.stage_turn number x stage).follows r rows).answer
+pub expunging-plain : (number : ℕ) (x : Expunging) (stage : expunging.Stage) (r : DirReply) (rows : List Row) →
+    GivesPlain ((expunged_by.stage_turn number x stage).follows r rows).answer
 expunging-plain number x (expunging_stage.Look tries) r rows = expunge-look number x tries r (row_named x.unique rows)
 expunging-plain number x (expunging_stage.Act name tries) r rows = expunge-act number x tries name r
 
@@ -140,24 +142,36 @@ leads-plain t at (To stage) h = tt
 leads-plain t at (Ends a) h = h
 
 -- a move and a copy
-move-act : (number : ℕ) (m : Moving) (place : Place) (row : Row) (tries : ℕ) (r : DirReply) → GivesPlain (moved_by.after_rename number m place row.name tries r).answer
+move-act : (number : ℕ) (m : Moving) (place : Place) (row : Row) (tries : ℕ) (r : DirReply) →
+    GivesPlain (moved_by.after_rename number m place row.name tries r).answer
 move-act number m place row tries reply.Ok = tt
 move-act number m place row tries reply.Exists = tt
 move-act number m place row tries reply.NotFound = leads-plain m (moved_by.at_stage m) (after_lost tries) (search-lost tries)
 move-act number m place row tries reply.Fault = tt
 
-pub moving-plain : (number : ℕ) (m : Moving) (stage : Stage) (r : DirReply) (rows : List Row) → GivesPlain ((moved_by.stage_turn number m stage).follows r rows).answer
-moving-plain number m (LookNew tries) r rows = leads-plain m (moved_by.at_stage m) (after_look true New tries r (row_named m.unique rows)) (search-look true New tries r (row_named m.unique rows))
-moving-plain number m (LookCur tries) r rows = leads-plain m (moved_by.at_stage m) (after_look true Cur tries r (row_named m.unique rows)) (search-look true Cur tries r (row_named m.unique rows))
+pub moving-plain : (number : ℕ) (m : Moving) (stage : Stage) (r : DirReply) (rows : List Row) →
+    GivesPlain ((moved_by.stage_turn number m stage).follows r rows).answer
+moving-plain number m (LookNew tries) r rows =
+    leads-plain m (moved_by.at_stage m) (after_look true New tries r (row_named m.unique rows))
+    (search-look true New tries r (row_named m.unique rows))
+moving-plain number m (LookCur tries) r rows =
+    leads-plain m (moved_by.at_stage m) (after_look true Cur tries r (row_named m.unique rows))
+    (search-look true Cur tries r (row_named m.unique rows))
 moving-plain number m (Act place row tries) r rows = move-act number m place row tries r
 
-copy-act : (number : ℕ) (c : Copying) (place : Place) (row : Row) (tries : ℕ) (r : DirReply) → GivesPlain (copied_by.after_link number c place row tries r).answer
+copy-act : (number : ℕ) (c : Copying) (place : Place) (row : Row) (tries : ℕ) (r : DirReply) →
+    GivesPlain (copied_by.after_link number c place row tries r).answer
 copy-act number c place row tries reply.Ok = tt
 copy-act number c place row tries reply.Exists = tt
 copy-act number c place row tries reply.NotFound = leads-plain c (copied_by.at_stage c) (after_lost tries) (search-lost tries)
 copy-act number c place row tries reply.Fault = tt
 
-pub copying-plain : (number : ℕ) (c : Copying) (stage : Stage) (r : DirReply) (rows : List Row) → GivesPlain ((copied_by.stage_turn number c stage).follows r rows).answer
-copying-plain number c (LookNew tries) r rows = leads-plain c (copied_by.at_stage c) (after_look false New tries r (row_named c.unique rows)) (search-look false New tries r (row_named c.unique rows))
-copying-plain number c (LookCur tries) r rows = leads-plain c (copied_by.at_stage c) (after_look false Cur tries r (row_named c.unique rows)) (search-look false Cur tries r (row_named c.unique rows))
+pub copying-plain : (number : ℕ) (c : Copying) (stage : Stage) (r : DirReply) (rows : List Row) →
+    GivesPlain ((copied_by.stage_turn number c stage).follows r rows).answer
+copying-plain number c (LookNew tries) r rows =
+    leads-plain c (copied_by.at_stage c) (after_look false New tries r (row_named c.unique rows))
+    (search-look false New tries r (row_named c.unique rows))
+copying-plain number c (LookCur tries) r rows =
+    leads-plain c (copied_by.at_stage c) (after_look false Cur tries r (row_named c.unique rows))
+    (search-look false Cur tries r (row_named c.unique rows))
 copying-plain number c (Act place row tries) r rows = copy-act number c place row tries r

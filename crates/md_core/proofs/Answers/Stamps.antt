@@ -28,13 +28,15 @@ pub record IsStamped (r : Run) (job k n : ℕ) : Type 0 where
   pub stamped : begun.what.at.clock ≤ stamp_at (moment r k).dirs n
 
 -- no path uses the name of a delivery at the beginning
-unused-at : (r : Run) → IsRun r → (job folder : ℕ) (u body : List ℕ) (chunk : ℕ) → call_at r.calls job ≡ Some (Deliver folder u body chunk) → IsUnused r.image u
+unused-at : (r : Run) → IsRun r → (job folder : ℕ) (u body : List ℕ) (chunk : ℕ) →
+    call_at r.calls job ≡ Some (Deliver folder u body chunk) → IsUnused r.image u
 unused-at r run zero folder u body chunk of = cc
 unused-at r run (suc i) folder u body chunk of =
     let a = accepted (record r { calls = take i r.calls }) folder u body chunk (run.accepted i (Deliver folder u body chunk) of) in
     unused-path r.image u a.valid a.unused
 
-module _ (r : Run) (run : IsRun r) (job folder : ℕ) (u body : List ℕ) (chunk : ℕ) (of : call_at r.calls job ≡ Some (Deliver folder u body chunk)) where
+module _ (r : Run) (run : IsRun r) (job folder : ℕ) (u body : List ℕ) (chunk : ℕ)
+    (of : call_at r.calls job ≡ Some (Deliver folder u body chunk)) where
   abbrev p : Path
   p = path folder Tmp u
 
@@ -43,7 +45,8 @@ module _ (r : Run) (run : IsRun r) (job folder : ℕ) (u body : List ℕ) (chunk
 
   stamped-start : Stamped 0
   stamped-start n is =
-      let none : file_at (moment r 0).dirs p ≡ None = ap (λ (m : Machine). file_at m.dirs p) (moment-start r) ∙ unused-at r run job folder u body chunk of p refl in
+      let none : file_at (moment r 0).dirs p ≡ None =
+      ap (λ (m : Machine). file_at m.dirs p) (moment-start r) ∙ unused-at r run job folder u body chunk of p refl in
       cc
 
   module _ (k n : ℕ) (t : IsTurn r k n) (before : Stamped k) (file : ℕ) (is : file_at (moment r (k + 1)).dirs p ≡ Some file) where

@@ -53,14 +53,17 @@ module _ (s : State) (p : Path) (in_tmp : p.place ≡ Tmp) (sound : IsSound s) (
 
   -- a path in new or cur is another
   elsewhere : (q : Path) → is_tmp q.place ≡ false → p ≢ q
-  elsewhere q other same = let h : is_tmp q.place ≡ is_tmp p.place = ap (λ (x : Path). is_tmp x.place) (sym same) in let t : is_tmp p.place ≡ true = ap is_tmp in_tmp in cc
+  elsewhere q other same =
+      let h : is_tmp q.place ≡ is_tmp p.place =
+      ap (λ (x : Path). is_tmp x.place) (sym same) in let t : is_tmp p.place ≡ true = ap is_tmp in_tmp in cc
 
   touches-create : (q : Path) → Touches s (created q clock s) p (create q) reply.Ok clock
   touches-create q = by_path p q
       (λ same. inr (inl (record {
         call = ap create (sym same);
         stamps = λ n is.
-            let here : file_at (created q clock s) p ≡ Some (length s.files) = maps.at_put path_total path_exact s.names q p (length s.files) same in
+            let here : file_at (created q clock s) p ≡ Some (length s.files) =
+            maps.at_put path_total path_exact s.names q p (length s.files) same in
             let number : length s.files ≡ n = cc in
             ap (stamp_at (created q clock s)) (sym number) ∙ ap stamp_of (file_by-last s.files (Some (empty_file clock)));
       })))
@@ -93,13 +96,15 @@ module _ (s : State) (p : Path) (in_tmp : p.place ≡ Tmp) (sound : IsSound s) (
   }
 
   -- files are given back that no path names
-  keeps-swept : (x : State) (o : Option ℕ) → file_at x p ≡ file_at s p → ((n : ℕ) → stamp_at x n ≡ stamp_at s n) → KeepsPath s (swept o x) p clock
+  keeps-swept : (x : State) (o : Option ℕ) → file_at x p ≡ file_at s p → ((n : ℕ) → stamp_at x n ≡ stamp_at s n) →
+      KeepsPath s (swept o x) p clock
   keeps-swept x o names stamps = record {
     names = names;
     stamps = λ n is. inl (ap stamp_of (swept-kept o x p n (names ∙ is)) ∙ stamps n);
   }
 
-  keeps-rename : (old new : Path) → p ≢ old → p ≢ new → (b : Bool) → KeepsPath s (cond b s (swept (file_at s new) (named new (unnamed old s) (file_at s old)))) p clock
+  keeps-rename : (old new : Path) → p ≢ old → p ≢ new → (b : Bool) →
+      KeepsPath s (cond b s (swept (file_at s new) (named new (unnamed old s) (file_at s old)))) p clock
   keeps-rename old new from to true = stays
   keeps-rename old new from to false = by (file_at s old)
     where
@@ -120,7 +125,8 @@ module _ (s : State) (p : Path) (in_tmp : p.place ≡ Tmp) (sound : IsSound s) (
   done (create q) leaves = touches-create q
   done (append q bytes) leaves = inl (keeps-append bytes (file_at s q))
   done (link old new) leaves = inl (keeps-link new (file_at s old) (elsewhere new leaves))
-  done (rename old new) leaves = inl (keeps-rename old new (elsewhere old leaves.0) (elsewhere new leaves.1) (is_one_file (file_at s old) (file_at s new)))
+  done (rename old new) leaves =
+      inl (keeps-rename old new (elsewhere old leaves.0) (elsewhere new leaves.1) (is_one_file (file_at s old) (file_at s new)))
   done (unlink q) leaves = touches-unlink q
   done (list folder place) leaves = inl stays
 

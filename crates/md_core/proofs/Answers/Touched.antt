@@ -33,7 +33,9 @@ module _ (r : Run) (run : IsRun r) (k n : ℕ) (t : IsTurn r k n) (job : ℕ) (a
   s' = (moment r (k + 1)).dirs
 
   abbrev Touched : Type 0
-  Touched = KeepsPath (moment r k).dirs s' p (at r k n t).clock ⊎ (IsMade r k n job t p ⊎ ((file_at s' p ≡ None) × ((job ≡ n) ⊎ IsCleanedAway r k p)))
+  Touched =
+      KeepsPath (moment r k).dirs s' p (at r k n t).clock ⊎
+      (IsMade r k n job t p ⊎ ((file_at s' p ≡ None) × ((job ≡ n) ⊎ IsCleanedAway r k p)))
 
   abbrev its : Call
   its = (its-call r run k n _ t.there).0

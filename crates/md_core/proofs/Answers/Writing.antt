@@ -104,7 +104,11 @@ module _ (r : Run) (run : IsRun r) (k job : ℕ) (t : IsTurn r k job) (d : Deliv
         begun = first-is r k job job t none refl;
         own = refl;
         before = omega (arith, first);
-        there = inl (length s.files, ap (λ (x : State). file_at x d.tmp) dirs ∙ maps.at_put path_total path_exact s.names d.tmp d.tmp (length s.files) refl);
+        there = inl (
+          length s.files,
+          ap (λ (x : State). file_at x d.tmp) dirs
+              ∙ maps.at_put path_total path_exact s.names d.tmp d.tmp (length s.files) refl,
+        );
       }
   start-leads none reply.Exists dirs unanswered = cc
   start-leads none reply.NotFound dirs unanswered = cc
@@ -129,12 +133,14 @@ module _ (r : Run) (run : IsRun r) (k job : ℕ) (t : IsTurn r k job) (d : Deliv
     link-leads reply.NotFound dirs unanswered = cc
     link-leads reply.Fault dirs unanswered = inl refl
 
-    writing-leads : (b more : Bool) (rep : DirReply) → Leads (cond b (cond more (append_turn x start i) (link_turn n x)) (unlink_turn x answer.TimedOut)) rep
+    writing-leads : (b more : Bool) (rep : DirReply) →
+        Leads (cond b (cond more (append_turn x start i) (link_turn n x)) (unlink_turn x answer.TimedOut)) rep
     writing-leads true true rep = append-leads rep
     writing-leads true false rep = link-leads rep
     writing-leads false more rep = λ dirs unanswered. cc
 
-  stage-leads : (stage : Stage) → AtStage r k job d.tmp stage → (rep : DirReply) → Leads (stage_turn n (at_stage d stage) (at r k job t) stage) rep
+  stage-leads : (stage : Stage) → AtStage r k job d.tmp stage → (rep : DirReply) →
+      Leads (stage_turn n (at_stage d stage) (at r k job t) stage) rep
   stage-leads Start h rep = start-leads h rep
   stage-leads (Writing start i) h rep = writing-leads start i h (is_in_time start (at r k job t).own) (nat_lt i (length d.body)) rep
   stage-leads Linked h rep = λ dirs unanswered. cc
@@ -142,9 +148,11 @@ module _ (r : Run) (run : IsRun r) (k job : ℕ) (t : IsTurn r k job) (d : Deliv
 
 -- a new delivery has not begun
 new-at : (r : Run) (job : ℕ) (c : Call) (task : Task) → call_at r.calls job ≡ Some c → new_job c ≡ working task → AtTask r 0 job task
-new-at r job (call.Deliver a b c d) task of is = subst (AtTask r 0 job) (let e : Deliver (new_delivery a b c d) ≡ task = cc in e) (omega arith)
+new-at r job (call.Deliver a b c d) task of is =
+    subst (AtTask r 0 job) (let e : Deliver (new_delivery a b c d) ≡ task = cc in e) (omega arith)
 new-at r job (call.Seen a b c d) task of is = subst (AtTask r 0 job) (let e : Mark (new_marking a b (mark.Seen c) d) ≡ task = cc in e) tt
-new-at r job (call.Flag a b c d x) task of is = subst (AtTask r 0 job) (let e : Mark (new_marking a b (mark.Flag c d) x) ≡ task = cc in e) tt
+new-at r job (call.Flag a b c d x) task of is =
+    subst (AtTask r 0 job) (let e : Mark (new_marking a b (mark.Flag c d) x) ≡ task = cc in e) tt
 new-at r job (call.Move a b c d) task of is = subst (AtTask r 0 job) (let e : Move (new_moving a b c d) ≡ task = cc in e) tt
 new-at r job (call.Expunge a b c) task of is = subst (AtTask r 0 job) (let e : Expunge (new_expunging a b c) ≡ task = cc in e) tt
 new-at r job (call.Copy a b c d x) task of is = subst (AtTask r 0 job) (let e : Copy (new_copying a b c d x) ≡ task = cc in e) tt
@@ -152,15 +160,21 @@ new-at r job (call.Clean a) task of is = subst (AtTask r 0 job) (let e : Clean (
 
 module _ (r : Run) (run : IsRun r) where
   -- the turn of the job
-  own-turn : (k job : ℕ) (t : IsTurn r k job) → (left_by r k job t).answer ≡ None → AtTask r k job t.task → AtTask r (k + 1) job (left_by r k job t).task
+  own-turn : (k job : ℕ) (t : IsTurn r k job) → (left_by r k job t).answer ≡ None → AtTask r k job t.task →
+      AtTask r (k + 1) job (left_by r k job t).task
   own-turn k job t unanswered h =
       let asked = its-call r run k job _ t.there in
-      by asked.0 t.task (its-fits r run k job asked.0 t.task asked.1 t.there) h (reply_in (moment r k) t.event t.task) (next-dirs r k job t) unanswered
+      by asked.0 t.task (its-fits r run k job asked.0 t.task asked.1 t.there) h (reply_in (moment r k) t.event t.task)
+      (next-dirs r k job t) unanswered
     where
       by : (asked : Call) (task : Task) → TaskFits (moment r k).dirs asked task → AtTask r k job task → (rep : DirReply) →
-          (moment r (k + 1)).dirs ≡ state_by (ask_of (turn_of t.event.event.job task (at r k job t)).asked (at r k job t).clock) (moment r k).dirs rep →
-          ((turn_of t.event.event.job task (at r k job t)).follows rep (rows_for (turn_of t.event.event.job task (at r k job t)).asked (moment r k).dirs)).answer ≡ None →
-          AtTask r (k + 1) job ((turn_of t.event.event.job task (at r k job t)).follows rep (rows_for (turn_of t.event.event.job task (at r k job t)).asked (moment r k).dirs)).task
+          (moment r (k + 1)).dirs ≡ state_by (ask_of (turn_of t.event.event.job task (at r k job t)).asked (at r k job t).clock)
+          (moment r k).dirs rep →
+          ((turn_of t.event.event.job task (at r k job t)).follows rep
+          (rows_for (turn_of t.event.event.job task (at r k job t)).asked (moment r k).dirs)).answer ≡ None →
+          AtTask r (k + 1) job
+          ((turn_of t.event.event.job task (at r k job t)).follows rep
+          (rows_for (turn_of t.event.event.job task (at r k job t)).asked (moment r k).dirs)).task
       by asked (Deliver d) fits now rep dirs none = stage-leads r run k job t d fits.in_tmp _ d.stage now rep dirs none
       by asked (Mark m) fits now rep dirs none = tt
       by asked (Move m) fits now rep dirs none = tt
@@ -173,7 +187,8 @@ module _ (r : Run) (run : IsRun r) where
     abbrev t : IsTurn r k e.event.job
     t = turn-at r run k e at-k
 
-    still-writing : (d : Delivery) (asked : Call) (start : ℕ) → call_at r.calls job ≡ Some asked → DeliveryFits (moment r k).dirs asked d → HasBegun r job k start d.tmp → HasBegun r job (k + 1) start d.tmp
+    still-writing : (d : Delivery) (asked : Call) (start : ℕ) → call_at r.calls job ≡ Some asked →
+        DeliveryFits (moment r k).dirs asked d → HasBegun r job k start d.tmp → HasBegun r job (k + 1) start d.tmp
     still-writing d asked start of fits h =
         elim (touched r run k e.event.job t job asked of d.tmp fits.in_tmp (makes-delivery (moment r k).dirs asked d fits)) [
           | inl keeps ↦ begun-kept r job k start d.tmp h _ keeps
@@ -183,7 +198,8 @@ module _ (r : Run) (run : IsRun r) where
           ]
         ]
 
-    still-stage : (d : Delivery) (asked : Call) → call_at r.calls job ≡ Some asked → DeliveryFits (moment r k).dirs asked d → (stage : Stage) → AtStage r k job d.tmp stage → AtStage r (k + 1) job d.tmp stage
+    still-stage : (d : Delivery) (asked : Call) → call_at r.calls job ≡ Some asked → DeliveryFits (moment r k).dirs asked d →
+        (stage : Stage) → AtStage r k job d.tmp stage → AtStage r (k + 1) job d.tmp stage
     still-stage d asked of fits Start none = not-yet r k e.event.job job t none differ
     still-stage d asked of fits (Writing start i) h = still-writing d asked start of fits h
     still-stage d asked of fits Linked h = tt
