@@ -15,3 +15,16 @@ pub mod Tries
 pub mod StaysInCur
 pub mod OfSpan
 pub mod OfMailbox
+pub mod Moments
+pub mod Tmp
+pub mod Asking
+pub mod Touched
+pub mod Writing
+pub mod Stamps
+pub mod Listed
+pub mod Late
+pub mod Plain
+pub mod Given
+pub mod Cleaner
+pub mod Cleaned
+pub mod OfTime
