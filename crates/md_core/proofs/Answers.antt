@@ -28,3 +28,4 @@ pub mod Given
 pub mod Cleaner
 pub mod Cleaned
 pub mod OfTime
+pub mod AllSay
