@@ -159,7 +159,3 @@ Says r job c (answer.Flags s) = Unit {0}
 Says r job c answer.Moved = Unit {0}
 Says r job c answer.Expunged = Unit {0}
 Says r job c answer.Copied = Unit {0}
-
--- every answer of a run says so
-abbrev pub AllSay : Run → Type 0
-AllSay r = (job : ℕ) (c : Call) (a : Answer) → call_at r.calls job ≡ Some c → job_at (jobs_of r) job ≡ Some (answered a) → Says r job c a

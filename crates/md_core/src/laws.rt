@@ -2,7 +2,6 @@
 ghost use Rattle.std.specs.Prelude.{ℕ, take};
 ghost use Rattle.md_core.specs.Runs.{Run};
 ghost use Rattle.md_core.specs.Interleaving.{IsRun, Interleaves};
-ghost use Rattle.md_core.specs.Answering.{AllSay};
 ghost use Rattle.md_core.specs.Sparing.{CleanersSpare};
 
 /// The interleaving theorem holds of every run: whatever calls were submitted, in whatever order their steps came, and whichever
@@ -14,13 +13,6 @@ pub fn every_run_interleaves()
 /// The first events of a run are a run, so that the theorem holds of each of its moments.
 pub fn the_first_events_are_a_run()
     ensures { (r : Run) → IsRun r → (k : ℕ) → IsRun (record r { events = take k r.events }) }
-{}
-
-/// Every answer of a run that came without an effect says what happened: of which moment it is the answer, that the message was touched
-/// as often as the call had tries, that the time was over, that a clean took the file, that a directory call faulted, or which files were
-/// taken.
-pub fn every_answer_says()
-    ensures { (r : Run) → IsRun r → AllSay r }
 {}
 
 /// The cleaner's theorem: where the clocks of all jobs keep within 4 hours of the store's, no clean takes the file of a delivery that goes on.
