@@ -31,6 +31,7 @@ use Rattle.md_core.proofs.GoodRuns.{new_at, all-apart, good-moment, what-at, goi
 use Rattle.md_core.proofs.Histories.{Has, Tells, tells-more}
 use Rattle.md_core.proofs.Comes.{wholes-moment}
 use Rattle.md_core.proofs.Bounds.{bounded-machine, left-some}
+use Rattle.md_core.proofs.Answers.AllSay.{all-say}
 
 -- what goes on simulates its call
 pub simulates : (calls : List Call) (m m' : Machine) (what : Done) (g : Goes calls m m' what) → Simulates g.asked what m m'
@@ -202,6 +203,7 @@ module _ (turns : EachTurn) (r : Run) (run : IsRun r) where
         success = λ a is success. by_success (suc j) a (effects_by r (suc j)) (subst (λ (x : Standing). Has (suc j) x (effects_by r (suc j))) is own) success;
         failure = λ a is failure. by_failure (suc j) a (effects_by r (suc j)) (subst (λ (x : Standing). Has (suc j) x (effects_by r (suc j))) is own) failure;
         unanswered = λ t is some. by_link (suc j) t (effects_by r (suc j)) (subst (λ (x : Standing). Has (suc j) x (effects_by r (suc j))) is own) some;
+        says = λ a is. all-say r run (suc j) asked a from (at ∙ ap Some is);
         bounded = subst (λ (n : ℕ). steps_of r (suc j) + job_left (dirs_of r) job ≤ n) whole most;
         ends = λ all. ends-by (dirs_of r) job (omega (arith, most, whole, all));
       }

@@ -23,6 +23,7 @@ pub mod Copy
 pub mod Clean
 pub mod EachTurn
 pub mod Places
+pub mod Placed
 pub mod Events
 pub mod Runs
 pub mod Extended
@@ -46,3 +47,4 @@ pub mod Checking
 pub mod Taking
 pub mod Loading
 pub mod Searching
+pub mod Answers

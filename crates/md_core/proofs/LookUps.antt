@@ -49,7 +49,7 @@ named-unique (b ∷ u) (c ∷ cs) colonless is =
     before c cs false (ap is_colon (sym same) ∙ plain.0) ∙ (λ i. sym same i ∷ named-unique u cs plain.1 rest i)
 
 -- and the other way round
-unique-named : (u name : List ℕ) → unique_of name ≡ u → is_named u name ≡ true
+pub unique-named : (u name : List ℕ) → unique_of name ≡ u → is_named u name ≡ true
 unfolding unique_of
 unique-named u name is = ap (λ v. is_named v name) (sym is) ∙ itself name
   where
@@ -90,7 +90,7 @@ info-in name message = ap (λ b. info_in_parts (cond {A = Option (List ℕ × In
 
 -- ---- rows
 
-name-row : (name : List ℕ) (o : Option File) → (row_by name o).name ≡ name
+pub name-row : (name : List ℕ) (o : Option File) → (row_by name o).name ≡ name
 name-row name None = refl
 name-row name (Some file) = refl
 
@@ -146,7 +146,7 @@ same-place Cur Tmp is = cc
 same-place Cur New is = cc
 
 -- a path in a directory is that of its name there
-path-in : (folder : ℕ) (place : Place) (p : Path) → is_in folder place p ≡ true → p ≡ path_of folder place p.name
+pub path-in : (folder : ℕ) (place : Place) (p : Path) → is_in folder place p ≡ true → p ≡ path_of folder place p.name
 path-in folder place p is =
     let f : p.folder ≡ folder = eqb-true _ _ (and_first _ _ is) in
     let at : p.place ≡ place = same-place _ _ (and_second _ _ is) in

@@ -29,6 +29,7 @@ use Rattle.md_core.specs.Machine.{done as done_of}
 use Rattle.md_core.specs.Runs.{Run, moment, machine_of, dirs_of, done_at, jobs_of, effects_of, step_refusal, call_at, box, dirs_at_first}
 use Rattle.md_core.specs.Loading.{load_refusal}
 use Rattle.md_core.specs.Submitting.{submit_refusal}
+use Rattle.md_core.specs.Answering.{Says}
 
 -- The runs of a world: sound directories at the beginning, with no fault; each call accepted by the checks when it was submitted; and each
 -- event of a job that was there and had no answer.
@@ -179,6 +180,8 @@ pub record JobLaw (r : Run) (number : ℕ) (call : Call) (job : Standing) : Type
   pub success : (a : Answer) → job ≡ answered a → is_success a ≡ true → (e : Effect) × (effects_by r number ≡ e ∷ []) × (e.answer ≡ a)
   pub failure : (a : Answer) → job ≡ answered a → is_success a ≡ false → effects_by r number ≡ []
   pub unanswered : (t : Task) → job ≡ working t → effects_by r number ≢ [] → is_past_link t ≡ true
+  -- an answer that came without an effect says what happened
+  pub says : (a : Answer) → job ≡ answered a → Says r number call a
   -- the steps that it has taken, and those that it may still take, are together no more than its call takes
   pub bounded : steps_of r number + job_left (dirs_of r) job ≤ most_steps r number call
   -- given that many steps it has its answer, whatever the replies were

@@ -9,6 +9,8 @@ pub mod Runs
 pub mod Used
 pub mod Loading
 pub mod Submitting
+pub mod Answering
+pub mod Sparing
 pub mod Interleaving
 pub mod Worlds
 pub mod Looking

@@ -19,7 +19,8 @@ use Rattle.md_view.specs.Law.{names_at, names_after, shown_in, entry_in, entry_a
 use Rattle.md_view.proofs.Keyed.{lookup, get-by_unique, in-order, first}
 use Rattle.md_view.proofs.Merged.{join-sorted, merged-join, lookup-merged}
 use Rattle.md_view.proofs.Readings.{entry_at, reading-sorted, lookup-reading}
-use Rattle.md_view.proofs.Staying.{IsPlaced, IsInCur, never-in_tmp, stays-in_cur, opening_of, count_at, counts-rise, names-counted}
+use Rattle.md_core.proofs.Placed.{IsPlaced, IsInCur}
+use Rattle.md_view.proofs.Staying.{never-in_tmp, stays-in_cur, opening_of, count_at, counts-rise, names-counted}
 
 -- a message is in new or cur
 pub not_in_tmp : (s : State) (u : List ℕ) (x : Listed) → get (names_of (mailbox_of s)) u ≡ Some x → x.place ≢ Tmp

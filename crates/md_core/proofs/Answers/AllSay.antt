@@ -1,0 +1,28 @@
+-- Every answer of a run says what happened.
+use Rattle.std.proofs.Common.{ℕ, ◌≡◌, Some}
+use Rattle.md_core.specs.declared.jobs.answer.Answer.{Answer}
+use Rattle.md_core.specs.declared.jobs.answer.Answer.TheVariants as answer
+use Rattle.md_core.specs.declared.jobs.call.Call.{Call}
+use Rattle.md_core.specs.Machine.{answered, job_at}
+use Rattle.md_core.specs.Runs.{Run, jobs_of, call_at}
+use Rattle.md_core.specs.Interleaving.{IsRun}
+use Rattle.md_core.specs.Answering.{Says}
+use Rattle.md_core.proofs.Answers.OfMailbox.{says_of_mailbox}
+use Rattle.md_core.proofs.Answers.OfTime.{says_of_time}
+
+pub all-say : (r : Run) → IsRun r → (job : ℕ) (c : Call) (a : Answer) → call_at r.calls job ≡ Some c →
+    job_at (jobs_of r) job ≡ Some (answered a) → Says r job c a
+all-say r run job c answer.TimedOut of is = says_of_time r run job c answer.TimedOut of is tt
+all-say r run job c answer.TmpGone of is = says_of_time r run job c answer.TmpGone of is tt
+all-say r run job c (answer.Cleaned n) of is = says_of_time r run job c (answer.Cleaned n) of is tt
+all-say r run job c answer.NotThere of is = says_of_mailbox r run job c answer.NotThere of is tt
+all-say r run job c answer.NotTrashed of is = says_of_mailbox r run job c answer.NotTrashed of is tt
+all-say r run job c answer.OtherInfo of is = says_of_mailbox r run job c answer.OtherInfo of is tt
+all-say r run job c answer.Lost of is = says_of_mailbox r run job c answer.Lost of is tt
+all-say r run job c answer.Fault of is = says_of_mailbox r run job c answer.Fault of is tt
+all-say r run job c answer.NameTaken of is = says_of_mailbox r run job c answer.NameTaken of is tt
+all-say r run job c answer.Delivered of is = tt
+all-say r run job c (answer.Flags s) of is = tt
+all-say r run job c answer.Moved of is = tt
+all-say r run job c answer.Expunged of is = tt
+all-say r run job c answer.Copied of is = tt
