@@ -57,11 +57,14 @@ impl<D: Dirs> World<D> {
     ghost use Rattle.std.specs.Prelude.{◌≡◌};
     ghost use Rattle.md_core.specs.Interleaving.{IsRun, Interleaves};
     ghost use Rattle.md_core.specs.Runs.{dirs_of, failures_of, calls_made_of};
+    ghost use Rattle.md_core.specs.Sparing.{CleanersSpare};
 
-    /// The interleaving theorem, of any world: whatever calls were submitted, and whatever order their steps came in.
+    /// The interleaving theorem and the cleaner's theorem, of any world: whatever calls were submitted, and whatever order their steps came
+    /// in.
     pub fn interleaves(&self)
         ensures run { IsRun self.now }
         ensures theorem { Interleaves self.now }
+        ensures cleaners { CleanersSpare self.now }
     {
         let _kept = &self.clock;
     }

@@ -1,6 +1,7 @@
 use Rattle.std.proofs.Common.{subst}
 use Rattle.md_core.specs.Runs.{Run}
 use Rattle.md_core.specs.Interleaving.{IsRun}
+use Rattle.md_core.proofs.Answers.Cleaner.{cleaners-spare}
 use Rattle.md_core.proofs.EachTurn.{each-turn}
 use Rattle.md_core.proofs.Interleaves.{interleaves}
 use Rattle.md_core.proofs.world.World.interleaves.Goals as goal
@@ -10,3 +11,6 @@ returns-clause-run g c = subst (λ (r : Run). IsRun r) c.self.view_is c.self.inv
 
 pub returns-clause-theorem : goal.returns-clause-theorem
 returns-clause-theorem g c = interleaves each-turn c.args.self.now (returns-clause-run g c)
+
+pub returns-clause-cleaners : goal.returns-clause-cleaners
+returns-clause-cleaners g c = cleaners-spare c.args.self.now (returns-clause-run g c)
