@@ -9,8 +9,10 @@ pub mod OfCopy
 pub mod OfDeliver
 pub mod OfClean
 pub mod EachSays
+pub mod Told
 pub mod OfFault
 pub mod Touches
+pub mod Paths
 pub mod Tries
 pub mod StaysInCur
 pub mod OfSpan

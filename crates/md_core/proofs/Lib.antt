@@ -28,6 +28,7 @@ pub mod Events
 pub mod Runs
 pub mod Extended
 pub mod Wholeness
+pub mod Growing
 pub mod Going
 pub mod Knowing
 pub mod Keeping

@@ -23,7 +23,8 @@ abbrev pub IsInCur : Option Listed → Type 0
 IsInCur = IsPlaced (λ p. p ≡ Cur)
 
 -- An effect leaves a unique name placed so, where cur is such a place, and each place is that may get the name if it is fresh.
-module _ (P : Place → Type 0) (cur : P Cur) (folders : ℕ) (m : Names) (IsFresh : List ℕ → Type 0) (u : List ℕ) (fresh : (p : Place) → p ≢ Tmp → IsFresh u → P p) where
+module _ (P : Place → Type 0) (cur : P Cur) (folders : ℕ) (m : Names) (IsFresh : List ℕ → Type 0) (u : List ℕ)
+    (fresh : (p : Place) → p ≢ Tmp → IsFresh u → P p) where
   placed : (o : Option Listed) (x : Listed) → o ≡ Some x → IsPlaced P o → P x.place
   placed o x is h = subst (IsPlaced P) is h
 
@@ -33,7 +34,8 @@ module _ (P : Place → Type 0) (cur : P Cur) (folders : ℕ) (m : Names) (IsFre
       (λ is. subst (IsPlaced P) (sym (at_drop nat_list_cmp_total exact_bytes m old u is)) tt)
       (λ not. subst (IsPlaced P) (sym (beside_drop nat_list_cmp_total exact_bytes m old u not)) was)
 
-  put-in : (n : Names) (name : List ℕ) (x : Listed) → (u ≡ name → P x.place) → IsPlaced P (finmap.get n u) → IsPlaced P (finmap.get (finmap.insert n name x) u)
+  put-in : (n : Names) (name : List ℕ) (x : Listed) → (u ≡ name → P x.place) → IsPlaced P (finmap.get n u) →
+      IsPlaced P (finmap.get (finmap.insert n name x) u)
   put-in n name x there was = by_name u name
       (λ is. subst (IsPlaced P) (sym (at_put nat_list_cmp_total exact_bytes n name u x is)) (there is))
       (λ not. subst (IsPlaced P) (sym (beside_put nat_list_cmp_total exact_bytes n name u x not)) was)
@@ -41,7 +43,8 @@ module _ (P : Place → Type 0) (cur : P Cur) (folders : ℕ) (m : Names) (IsFre
   new_not_tmp : (p : Place) → p ≡ New → p ≢ Tmp
   new_not_tmp p is tmp = let e : New ≡ Tmp = sym is ∙ tmp in cc
 
-  pub placed-kept : (a : Answer) (c : Change) → IsAllowed folders m IsFresh a c → IsPlaced P (finmap.get m u) → IsPlaced P (finmap.get (changed m c) u)
+  pub placed-kept : (a : Answer) (c : Change) → IsAllowed folders m IsFresh a c → IsPlaced P (finmap.get m u) →
+      IsPlaced P (finmap.get (changed m c) u)
   placed-kept answer.Delivered (change.Add folder place name size) h was =
       put-in m (unique_of name) _ (λ is. fresh place (new_not_tmp place h.1) (subst IsFresh (sym h.3 ∙ sym is) h.5)) was
   placed-kept answer.Copied (change.Add folder place name size) h was =

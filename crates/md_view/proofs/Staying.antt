@@ -1,7 +1,7 @@
 -- A message that is in cur stays there as long as it is there: none goes back to new, and no unique name comes again. And none is ever in tmp.
-use Rattle.std.proofs.Common.{ℕ, zero, suc, ◌≡◌, ◌≢◌, ◌≤◌, ◌+◌, ◌-◌, ◌++◌, inl, inr, List, [], ◌∷◌, Option, Some, None, refl, sym, ap, subst, ◌∙◌, length, take, arith}
+use Rattle.std.proofs.Common.{ℕ, zero, suc, ◌≡◌, ◌≢◌, ◌≤◌, ◌+◌, ◌-◌, ◌++◌, inl, inr, List, [], ◌∷◌, Some, None, refl, sym, ap, subst, ◌∙◌, length, take, arith}
 use Rattle.std.proofs.lemmas.Bool.{cases_lt}
-use Rattle.std.proofs.lemmas.List.{append-nil, append_assoc, length-append, take_at, take_all}
+use Rattle.std.proofs.lemmas.List.{append-nil, length-append, take_at, take_all}
 use Rattle.std.specs.Option.{option_to_list}
 use Rattle.std.specs.FinMap as finmap
 use Rattle.md_dirs.specs.declared.paths.Place.{Place}
@@ -13,6 +13,7 @@ use Rattle.md_core.specs.Machine.{Machine}
 use Rattle.md_core.specs.Runs.{Run, moment, effects_of}
 use Rattle.md_core.specs.Interleaving.{Interleaves}
 use Rattle.md_core.proofs.Effects.{after-push}
+use Rattle.md_core.proofs.Growing.{Grows, grows}
 use Rattle.md_core.proofs.Placed.{IsPlaced, IsInCur, placed-kept}
 use Rattle.md_core.proofs.Places.{at_place, take-one_more}
 use Rattle.md_core.proofs.Runs.{moment-past, moment-over}
@@ -74,23 +75,11 @@ module _ (r : Run) (all : Interleaves r) where
   abbrev effects_at : ℕ → List Effect
   effects_at k = (moment r k).effects
 
-  -- the history at a later moment begins with that of an earlier one
-  abbrev Grows : ℕ → ℕ → Type 0
-  Grows k l = (more : List Effect) × (effects_at l ≡ effects_at k ++ more)
-
-  grows-one : (k : ℕ) → Grows k (k + 1)
+  grows-one : (k : ℕ) → Grows r k (k + 1)
   grows-one k = elim (cases_lt k (length r.events)) [
     | inl within ↦ let h = all.happened k within in (option_to_list h.what.effect, h.simulates.history)
     | inr past ↦ ([], ap (λ (m : Machine). m.effects) (moment-over r k past) ∙ sym (append-nil (effects_at k)))
   ]
-
-  grows : (k d : ℕ) → Grows k (k + d)
-  grows k zero = let e : k ≡ k + 0 = omega arith in subst (Grows k) e ([], sym (append-nil (effects_at k)))
-  grows k (suc d) =
-      let e : (k + d) + 1 ≡ k + suc d = omega arith in
-      let before = grows k d in
-      let one = grows-one (k + d) in
-      subst (Grows k) e (before.0 ++ one.0, one.1 ∙ ap (λ (es : List Effect). es ++ one.0) before.1 ∙ append_assoc (effects_at k) before.0 one.0)
 
   -- how many effects there were before a moment
   abbrev pub count_at : ℕ → ℕ
@@ -98,14 +87,13 @@ module _ (r : Run) (all : Interleaves r) where
 
   pub counts-rise : (i j : ℕ) → i ≤ j → count_at i ≤ count_at j
   counts-rise i j within =
-      let e : i + (j - i) ≡ j = omega arith in
-      let later = subst (Grows i) e (grows i (j - i)) in
+      let later = grows r grows-one i j within in
       let long : count_at j ≡ count_at i + length later.0 = ap length later.1 ∙ length-append (effects_at i) later.0 in
       omega (arith, long)
 
   pub names-counted : (k : ℕ) → names_at r k ≡ names_after opening_of (effects_of r) (count_at k)
   names-counted k =
-      let later = grows k (length r.events) in
+      let later = grows r grows-one k (k + length r.events) (omega arith) in
       let whole : effects_of r ≡ effects_at k ++ later.0 = sym (ap (λ (m : Machine). m.effects) (moment-past r (k + length r.events) (omega arith))) ∙ later.1 in
       let front : take (count_at k) (effects_of r) ≡ effects_at k = ap (take (count_at k)) whole ∙ take_at (effects_at k) later.0 (count_at k) refl in
       sym (all.names k) ∙ ap (after opening_of) (sym front)

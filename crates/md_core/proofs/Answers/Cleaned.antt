@@ -34,7 +34,7 @@ use Rattle.md_core.proofs.Places.{take-one_more}
 use Rattle.md_core.proofs.Runs.{moment-start, moment-end}
 use Rattle.md_core.proofs.Answers.LastStep.{IsTurn, left_by, reply_in, done_in, done-in, stands-after, stands-other}
 use Rattle.md_core.proofs.Answers.Late.{cleans}
-use Rattle.md_core.proofs.Answers.Moments.{its-fits, at, each-moment, not-yet, is-first}
+use Rattle.md_core.proofs.Answers.Moments.{its-fits, at, asked_by, after_task, each-moment, not-yet, is-first}
 
 -- what events did, with one more
 deeds-more : (m : Machine) (es : List Marked) (e : Marked) →
@@ -236,13 +236,8 @@ module _ (r : Run) (job : ℕ) where
           by t.task clean.0 clean.1 in_folder now (reply_in (moment r k) t.event t.task) refl refl
         where
           by : (task : Task) (c : Cleaning) → task ≡ Clean c → c.folder ≡ folder → Stands k (working task) → (rep : DirReply) →
-              this.asked ≡ (turn_of t.event.event.job task (at r k job t)).asked → this.reply ≡ rep →
-              Stands (k + 1)
-              (standing_of
-              ((turn_of t.event.event.job task (at r k job t)).follows rep
-              (rows_for (turn_of t.event.event.job task (at r k job t)).asked s)).task
-              ((turn_of t.event.event.job task (at r k job t)).follows rep
-              (rows_for (turn_of t.event.event.job task (at r k job t)).asked s)).answer)
+              this.asked ≡ asked_by r k job t task → this.reply ≡ rep →
+              Stands (k + 1) (standing_of (after_task r k job t task rep).task (after_task r k job t task rep).answer)
           by (Clean x) c is in_folder now rep asked replied =
               let same : x ≡ c = cc in
               stage-stands x (ap (λ (y : Cleaning). y.folder) same ∙ in_folder) x.stage now rep asked replied

@@ -1,8 +1,7 @@
 -- What each turn of a run says, whatever its task.
-use Rattle.std.proofs.Common.{ℕ, zero, suc, ◌≡◌, ◌<◌, ◌+◌, List, Option, Some, None, Bool, true, false, cond, refl, sym, ap, subst, ◌∙◌, arith, nat_lt, nat_le, take, slice_get, MatchOption}
+use Rattle.std.proofs.Common.{ℕ, zero, suc, ◌≡◌, ◌<◌, ◌+◌, Some, None, Bool, true, false, cond, refl, sym, ap, subst, ◌∙◌, arith, take, MatchOption}
 use Rattle.std.proofs.lemmas.Bool.Decides.{nat_tests}
 use Rattle.md_dirs.specs.State.{State}
-use Rattle.md_core.specs.declared.error.CoreError.{CoreError}
 use Rattle.md_core.specs.declared.error.CoreError.TheVariants as core
 use Rattle.md_core.specs.declared.jobs.call.Call.{Call}
 use Rattle.md_core.specs.declared.jobs.call.Call.TheVariants as call
@@ -10,10 +9,10 @@ use Rattle.md_core.specs.declared.jobs.step.DirReply.{DirReply}
 use Rattle.md_core.specs.declared.jobs.step.Moment.{Moment}
 use Rattle.md_core.specs.declared.jobs.task.Task.{Task}
 use Rattle.md_core.specs.declared.jobs.task.Task.TheVariants.{Deliver, Mark, Move, Expunge, Copy, Clean}
-use Rattle.md_core.specs.Machine.{Machine, working, Marked, job_at, moment_of}
+use Rattle.md_core.specs.Machine.{Machine, working, job_at, moment_of}
 use Rattle.md_core.specs.Runs.{Run, moment, call_at}
 use Rattle.md_core.specs.Submitting.{submit_refusal, no_folder, too_many}
-use Rattle.md_core.specs.Turn.{After, ask_of, rows_for, reply_of, state_by}
+use Rattle.md_core.specs.Turn.{After, ask_of, state_by}
 use Rattle.md_core.specs.Interleaving.{IsRun}
 use Rattle.md_core.proofs.Good.{IsGood, TaskFits}
 use Rattle.md_core.proofs.EachTurn.{each-turn}
@@ -53,13 +52,15 @@ module _ (r : Run) (run : IsRun r) where
 
   -- no event makes or takes away a folder
   pub folders-at : (k : ℕ) → (moment r k).dirs.folders ≡ r.image.folders
-  folders-at = kept-moment r run each-turn (λ es m. m.dirs.folders ≡ r.image.folders) refl (λ es m m' e what of good g was. g.does.folders ∙ was)
+  folders-at =
+      kept-moment r run each-turn (λ es m. m.dirs.folders ≡ r.image.folders) refl (λ es m m' e what of good g was. g.does.folders ∙ was)
 
   -- a clean is of a folder that is there
   clean-within : (o : Run) (folder : ℕ) → submit_refusal o (call.Clean folder) ≡ None → folder < o.image.folders
   clean-within o folder none = by (no_folder o folder) refl none
     where
-      by : (b : Bool) → no_folder o folder ≡ b → cond b (Some core.NoFolder) (cond (too_many o) (Some core.TooManyJobs) None) ≡ None → folder < o.image.folders
+      by : (b : Bool) → no_folder o folder ≡ b → cond b (Some core.NoFolder) (cond (too_many o) (Some core.TooManyJobs) None) ≡ None →
+          folder < o.image.folders
       by true is refused = cc
       by false is refused = grind (arith, nat_tests)
 
@@ -68,7 +69,8 @@ module _ (r : Run) (run : IsRun r) where
     pub fits-at : job_at (moment r k).jobs job ≡ Some (working task) → TaskFits (moment r k).dirs asked task
     fits-at there = by job of there
       where
-        by : (j : ℕ) → call_at r.calls j ≡ Some asked → job_at (moment r k).jobs j ≡ Some (working task) → TaskFits (moment r k).dirs asked task
+        by : (j : ℕ) → call_at r.calls j ≡ Some asked → job_at (moment r k).jobs j ≡ Some (working task) →
+            TaskFits (moment r k).dirs asked task
         by zero from at = cc
         by (suc i) from at = (is-good k).fits i asked task from at
 
@@ -85,13 +87,16 @@ module _ (r : Run) (run : IsRun r) where
     at = moment_of m.clock t.event.event
 
     -- the directories after it
-    pub dirs-after : (moment r (k + 1)).dirs ≡ state_by (ask_of (turn_by m t.event t.task).asked at.clock) m.dirs (reply_in m t.event t.task)
-    dirs-after = ap (λ (x : Machine). x.dirs) (moment-more r k t.event t.at ∙ happens-turned m t.event t.task (ap (job_at m.jobs) t.own ∙ t.there))
+    pub dirs-after : (moment r (k + 1)).dirs ≡ state_by (ask_of (turn_by m t.event t.task).asked at.clock) m.dirs
+        (reply_in m t.event t.task)
+    dirs-after =
+        ap (λ (x : Machine). x.dirs) (moment-more r k t.event t.at ∙ happens-turned m t.event t.task (ap (job_at m.jobs) t.own ∙ t.there))
 
     abbrev Says : State → Task → Type 0
     Says s' task = TaskSays m.dirs s' asked (reply_in m t.event task) task (after_in m t.event task)
 
-    by-task : (task : Task) → TaskFits m.dirs asked task → Says (state_by (ask_of (turn_by m t.event task).asked at.clock) m.dirs (reply_in m t.event task)) task
+    by-task : (task : Task) → TaskFits m.dirs asked task →
+        Says (state_by (ask_of (turn_by m t.event task).asked at.clock) m.dirs (reply_in m t.event task)) task
     by-task (Deliver d) fits = delivery-says m.dirs t.event.event.job asked at t.event.faulted d fits
     by-task (Mark x) fits = marking-says m.dirs t.event.event.job asked at (is-good k).one_path t.event.faulted x fits
     by-task (Move x) fits = moving-says m.dirs t.event.event.job asked at (is-good k).one_path t.event.faulted x fits

@@ -19,7 +19,7 @@ use Rattle.md_core.specs.declared.jobs.step.DirReply.{DirReply}
 use Rattle.md_core.specs.declared.jobs.step.DirReply.TheVariants as reply
 use Rattle.md_core.specs.declared.jobs.task.Task.{Task}
 use Rattle.md_core.specs.declared.jobs.task.Task.TheVariants.{Deliver, Mark, Move, Expunge, Copy, Clean}
-use Rattle.md_core.specs.Machine.{working, turn_of}
+use Rattle.md_core.specs.Machine.{working}
 use Rattle.md_core.specs.Machines.Clean as cleaned_by
 use Rattle.md_core.specs.Machines.Deliver.{at_stage, target, create_turn, append_turn, link_turn, unlink_turn, stage_turn, is_in_time}
 use Rattle.md_core.specs.Turn.{Turn, ask_of, reply_by, reply_of, rows_for}
@@ -27,7 +27,7 @@ use Rattle.md_core.specs.Runs.{Run, moment}
 use Rattle.md_core.specs.Interleaving.{IsRun}
 use Rattle.md_core.proofs.Good.{DeliveryFits, TaskFits}
 use Rattle.md_core.proofs.Answers.LastStep.{IsTurn, is_within, LastStep, reply_in}
-use Rattle.md_core.proofs.Answers.Moments.{its-call, its-fits, at}
+use Rattle.md_core.proofs.Answers.Moments.{its-call, its-fits, at, asked_by, after_task}
 use Rattle.md_core.proofs.Answers.Plain.{IsPlain, GivesPlain, marking-plain, moving-plain, expunging-plain, copying-plain}
 use Rattle.md_core.proofs.Answers.Writing.{IsTaken, HasBegun, AtStage, AtTask, at-task}
 
@@ -170,9 +170,8 @@ module _ (r : Run) (run : IsRun r) (k job : ℕ) (t : IsTurn r k job) where
 
   -- any task
   by-task : (asked : Call) (task : Task) → TaskFits s asked task → AtTask r k job task → (rep : DirReply) →
-      rep ≡ reply_of (ask_of (turn_of n task (at r k job t)).asked (at r k job t).clock) s t.event.faulted → (a : Answer) →
-      ((turn_of n task (at r k job t)).follows rep (rows_for (turn_of n task (at r k job t)).asked s)).answer ≡ Some a →
-      TaskSays r k job own task a
+      rep ≡ reply_of (ask_of (asked_by r k job t task) (at r k job t).clock) s t.event.faulted → (a : Answer) →
+      (after_task r k job t task rep).answer ≡ Some a → TaskSays r k job own task a
   by-task asked (Deliver d) fits now rep replied a is =
       subst (Gives d asked fits []) is
       (delivery-says d asked fits (rows_for (stage_turn n d (at r k job t) d.stage).asked s) now rep replied)

@@ -1,6 +1,5 @@
 -- The steps of a job: each comes at a moment at which the job works, and the last of a job that is answered gives its answer.
-use Rattle.std.proofs.Common.{ℕ, zero, suc, ◌≡◌, ◌≢◌, ◌<◌, ◌≤◌, ◌+◌, ◌-◌, inl, inr, List, Option, Some, None, refl, sym, ap, subst, ◌∙◌, length, slice_get, slice_set, arith}
-use Rattle.std.proofs.lemmas.Bool.{cases_lt}
+use Rattle.std.proofs.Common.{ℕ, zero, suc, ◌≡◌, ◌≢◌, ◌<◌, ◌≤◌, ◌+◌, ◌-◌, List, Option, Some, None, refl, sym, ap, subst, ◌∙◌, length, slice_get, slice_set, arith}
 use Rattle.std.proofs.lemmas.Option.{slice_get_within}
 use Rattle.std.specs.Option.{option_and_then}
 use Rattle.md_dirs.proofs.Sound.{by_number, get-set_same, get-set_other}
@@ -10,7 +9,7 @@ use Rattle.md_core.specs.declared.jobs.call.Call.TheVariants as call
 use Rattle.md_core.specs.declared.jobs.step.DirReply.{DirReply}
 use Rattle.md_core.specs.declared.jobs.task.Task.{Task}
 use Rattle.md_core.specs.Turn.{After, Turn, rows_for}
-use Rattle.md_core.specs.Machine.{Machine, Standing, working, answered, Marked, Done, job_at, new_job, moment_of, turn_of, replied, standing_of, happens, done, done_by}
+use Rattle.md_core.specs.Machine.{Machine, Standing, working, answered, Marked, Done, job_at, new_job, moment_of, turn_of, replied, standing_of, done, done_by}
 use Rattle.md_core.specs.Runs.{Run, moment, beginning, jobs_of, call_at, done_at}
 use Rattle.md_core.specs.Interleaving.{IsRun}
 use Rattle.md_core.specs.Answering.{IsStep}
@@ -44,13 +43,15 @@ abbrev pub left_by : (r : Run) (k job : ℕ) → IsTurn r k job → After Task
 left_by r k job t = after_in (moment r k) t.event t.task
 
 -- a number and a list of jobs, in which that number is replaced
-set-here : (jobs : List Standing) (number job : ℕ) (old new : Standing) → number ≡ job → job_at jobs job ≡ Some old → job_at (slice_set jobs (number - 1) new) job ≡ Some new
+set-here : (jobs : List Standing) (number job : ℕ) (old new : Standing) → number ≡ job → job_at jobs job ≡ Some old →
+    job_at (slice_set jobs (number - 1) new) job ≡ Some new
 set-here jobs number zero old new same is = cc
 set-here jobs number (suc j) old new same is =
     let place : number - 1 ≡ j = omega (arith, same) in
     ap (λ i. slice_get (slice_set jobs i new) j) place ∙ get-set_same jobs j new (slice_get_within jobs j old is)
 
-set-there : (jobs : List Standing) (number job : ℕ) (new : Standing) → 0 < number → job ≢ number → job_at (slice_set jobs (number - 1) new) job ≡ job_at jobs job
+set-there : (jobs : List Standing) (number job : ℕ) (new : Standing) → 0 < number → job ≢ number →
+    job_at (slice_set jobs (number - 1) new) job ≡ job_at jobs job
 set-there jobs number zero new some differ = refl
 set-there jobs number (suc j) new some differ = get-set_other jobs (number - 1) j new (λ same. differ (omega (arith, same, some)))
 
@@ -76,16 +77,20 @@ module _ (r : Run) (k job : ℕ) (t : IsTurn r k job) where
 
   -- how the job stands after it, and another
   pub stands-after : job_at (moment r (k + 1)).jobs job ≡ Some S
-  stands-after = ap (λ (js : List Standing). job_at js job) jobs-after ∙ set-here (moment r k).jobs t.event.event.job job (working t.task) S t.own t.there
+  stands-after =
+      ap (λ (js : List Standing). job_at js job) jobs-after
+      ∙ set-here (moment r k).jobs t.event.event.job job (working t.task) S t.own t.there
 
   pub stands-other : (other : ℕ) → other ≢ job → job_at (moment r (k + 1)).jobs other ≡ job_at (moment r k).jobs other
   stands-other other differ =
       ap (λ (js : List Standing). job_at js other) jobs-after
-      ∙ set-there (moment r k).jobs t.event.event.job other S (job_at-within (moment r k).jobs t.event.event.job (working t.task) there-own).0
+      ∙ set-there (moment r k).jobs t.event.event.job other S
+      (job_at-within (moment r k).jobs t.event.event.job (working t.task) there-own).0
       (λ same. differ (same ∙ t.own))
 
 -- a job at the beginning is new
-new-there : (calls : List Call) (job : ℕ) (s : Standing) (r : Run) → job_at (beginning r.image calls).jobs job ≡ Some s → (c : Call) × (call_at calls job ≡ Some c) × (s ≡ new_job c)
+new-there : (calls : List Call) (job : ℕ) (s : Standing) (r : Run) → job_at (beginning r.image calls).jobs job ≡ Some s →
+    (c : Call) × (call_at calls job ≡ Some c) × (s ≡ new_job c)
 new-there calls zero s r is = cc
 new-there calls (suc i) s r is = new_at calls i s is
 
@@ -107,7 +112,8 @@ module _ (r : Run) (run : IsRun r) where
       record { event = e; at = at; own = refl; task = goes.0; there = goes.1 }
 
   -- a job after an event is as it was before, or the event was its turn
-  pub by_event : {C : Type 0} (k job : ℕ) → (job_at (moment r (k + 1)).jobs job ≡ job_at (moment r k).jobs job → C) → (IsTurn r k job → C) → C
+  pub by_event : {C : Type 0} (k job : ℕ) → (job_at (moment r (k + 1)).jobs job ≡ job_at (moment r k).jobs job → C) →
+      (IsTurn r k job → C) → C
   by_event {C = C} k job other own = at_place r.events k
       (λ e at. by_number job e.event.job
       (λ same. own (subst (IsTurn r k) (sym same) (turn-at k e at)))
@@ -115,11 +121,14 @@ module _ (r : Run) (run : IsRun r) where
       (λ past. other (ap (λ (m : Machine). job_at m.jobs job) (moment-over r k past)))
 
   -- a job that works at a moment worked at each earlier one
-  works-one : (k job : ℕ) (task : Task) → job_at (moment r (k + 1)).jobs job ≡ Some (working task) → (t : Task) × (job_at (moment r k).jobs job ≡ Some (working t))
+  works-one : (k job : ℕ) (task : Task) → job_at (moment r (k + 1)).jobs job ≡ Some (working task) →
+      (t : Task) × (job_at (moment r k).jobs job ≡ Some (working t))
   works-one k job task is = by_event k job (λ same. (task, sym same ∙ is)) (λ t. (t.task, t.there))
 
-  pub works-before : (i d job : ℕ) (task : Task) → job_at (moment r (i + d)).jobs job ≡ Some (working task) → (t : Task) × (job_at (moment r i).jobs job ≡ Some (working t))
-  works-before i zero job task is = let e : i + 0 ≡ i = omega arith in (task, subst (λ n. job_at (moment r n).jobs job ≡ Some (working task)) e is)
+  pub works-before : (i d job : ℕ) (task : Task) → job_at (moment r (i + d)).jobs job ≡ Some (working task) →
+      (t : Task) × (job_at (moment r i).jobs job ≡ Some (working t))
+  works-before i zero job task is =
+      let e : i + 0 ≡ i = omega arith in (task, subst (λ n. job_at (moment r n).jobs job ≡ Some (working task)) e is)
   works-before i (suc d) job task is =
       let e : i + suc d ≡ (i + d) + 1 = omega arith in
       let one = works-one (i + d) job task (subst (λ n. job_at (moment r n).jobs job ≡ Some (working task)) e is) in
@@ -133,7 +142,8 @@ pub record LastStep (r : Run) (job : ℕ) (a : Answer) : Type 0 where
   pub unanswered : (i : ℕ) → i ≤ k → (t : Task) × (job_at (moment r i).jobs job ≡ Some (working t))
 
 module _ (r : Run) (run : IsRun r) (job : ℕ) (a : Answer) where
-  unanswered-till : (k : ℕ) (task : Task) → job_at (moment r k).jobs job ≡ Some (working task) → (i : ℕ) → i ≤ k → (t : Task) × (job_at (moment r i).jobs job ≡ Some (working t))
+  unanswered-till : (k : ℕ) (task : Task) → job_at (moment r k).jobs job ≡ Some (working task) → (i : ℕ) → i ≤ k →
+      (t : Task) × (job_at (moment r i).jobs job ≡ Some (working t))
   unanswered-till k task is i before =
       let e : k ≡ i + (k - i) = omega (arith, before) in
       works-before r run i (k - i) job task (subst (λ n. job_at (moment r n).jobs job ≡ Some (working task)) e is)
@@ -149,7 +159,8 @@ module _ (r : Run) (run : IsRun r) (job : ℕ) (a : Answer) where
       absurd (new-works new.0 a (sym new.2))
   till (suc k) is =
       let e : suc k ≡ k + 1 = omega arith in
-      let is' : job_at (moment r (k + 1)).jobs job ≡ Some (answered a) = subst (λ n. job_at (moment r n).jobs job ≡ Some (answered a)) e is in
+      let is' : job_at (moment r (k + 1)).jobs job ≡ Some (answered a) =
+      subst (λ n. job_at (moment r n).jobs job ≡ Some (answered a)) e is in
       by_event r run k job
       (λ same. till k (sym same ∙ is'))
       (λ t. record {
@@ -166,7 +177,8 @@ module _ (r : Run) (run : IsRun r) (job : ℕ) (a : Answer) where
 module _ (r : Run) (run : IsRun r) (P : ℕ → ℕ → Task → Type 0)
     (start : (job : ℕ) (c : Call) (task : Task) → call_at r.calls job ≡ Some c → new_job c ≡ working task → P 0 job task)
     (own : (k job : ℕ) (t : IsTurn r k job) → (left_by r k job t).answer ≡ None → P k job t.task → P (k + 1) job (left_by r k job t).task)
-    (other : (k job : ℕ) (task : Task) (e : Marked) → slice_get r.events k ≡ Some e → job ≢ e.event.job → job_at (moment r k).jobs job ≡ Some (working task) → P k job task → P (k + 1) job task) where
+    (other : (k job : ℕ) (task : Task) (e : Marked) → slice_get r.events k ≡ Some e → job ≢ e.event.job →
+    job_at (moment r k).jobs job ≡ Some (working task) → P k job task → P (k + 1) job task) where
   works-on : (task task' : Task) (o : Option Answer) → Some (standing_of task o) ≡ Some (working task') → (o ≡ None) × (task ≡ task')
   works-on task task' None is = let e : working task ≡ working task' = cc in (refl, cc)
   works-on task task' (Some b) is = cc
@@ -177,7 +189,8 @@ module _ (r : Run) (run : IsRun r) (P : ℕ → ℕ → Task → Type 0)
       start job new.0 task new.1 (sym new.2)
   holds (suc k) job task within is =
       let e : k + 1 ≡ suc k = omega arith in
-      let is' : job_at (moment r (k + 1)).jobs job ≡ Some (working task) = subst (λ n. job_at (moment r n).jobs job ≡ Some (working task)) (sym e) is in
+      let is' : job_at (moment r (k + 1)).jobs job ≡ Some (working task) =
+      subst (λ n. job_at (moment r n).jobs job ≡ Some (working task)) (sym e) is in
       let before : k ≤ length r.events = omega (arith, within) in
       subst (λ n. P n job task) e (at_place r.events k
       (λ x at. by_number job x.event.job
@@ -186,6 +199,7 @@ module _ (r : Run) (run : IsRun r) (P : ℕ → ℕ → Task → Type 0)
       let on = works-on (left_by r k job t).task task (left_by r k job t).answer (sym (stands-after r k job t) ∙ is') in
       subst (P (k + 1) job) on.1 (own k job t on.0 (holds k job t.task before t.there)))
       (λ differ.
-      let was : job_at (moment r k).jobs job ≡ Some (working task) = sym (stands-other r k x.event.job (turn-at r run k x at) job differ) ∙ is' in
+      let was : job_at (moment r k).jobs job ≡ Some (working task) =
+      sym (stands-other r k x.event.job (turn-at r run k x at) job differ) ∙ is' in
       other k job task x at differ was (holds k job task before was)))
       (λ past. absurd (omega (arith, past, within))))

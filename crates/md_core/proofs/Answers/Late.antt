@@ -18,7 +18,7 @@ use Rattle.md_core.specs.declared.jobs.step.DirReply.{DirReply}
 use Rattle.md_core.specs.declared.jobs.step.DirReply.TheVariants as reply
 use Rattle.md_core.specs.declared.jobs.task.Task.{Task}
 use Rattle.md_core.specs.declared.jobs.task.Task.TheVariants.{Deliver, Mark, Move, Expunge, Copy, Clean}
-use Rattle.md_core.specs.Machine.{Done, working, job_at, new_job, turn_of}
+use Rattle.md_core.specs.Machine.{Done, working, job_at, new_job}
 use Rattle.md_core.specs.Machines.Clean.{least_seconds, new_cleaning, is_old, old_rows, after_next, at_stage, tmp, stage_turn}
 use Rattle.md_core.specs.Turn.{Turn, unlink, rows_for}
 use Rattle.md_core.specs.Runs.{Run, moment, call_at, first_step}
@@ -28,7 +28,7 @@ use Rattle.md_core.specs.Sparing.{AreApart}
 use Rattle.md_core.proofs.Good.{TaskFits, call_by}
 use Rattle.md_core.proofs.Members.{Has}
 use Rattle.md_core.proofs.Answers.LastStep.{IsTurn, is_within, left_by, turn-at, holds, reply_in, done_in, done-in}
-use Rattle.md_core.proofs.Answers.Moments.{its-fits, at, next-clock, clock-grows, turn-done}
+use Rattle.md_core.proofs.Answers.Moments.{its-fits, at, asked_by, after_task, next-clock, clock-grows, turn-done}
 use Rattle.md_core.proofs.Answers.Stamps.{stamped-at}
 use Rattle.md_core.proofs.Answers.Listed.{has-filter, listed-file}
 
@@ -139,12 +139,8 @@ module _ (r : Run) (run : IsRun r) (seconds : ℕ) (apart : AreApart r seconds) 
     own-turn : (left_by r k n t).answer ≡ None → AtTask k n t.task → AtTask (k + 1) n (left_by r k n t).task
     own-turn unanswered h = by t.task h (reply_in (moment r k) t.event t.task) unanswered
       where
-        by : (task : Task) → AtTask k n task → (rep : DirReply) →
-            ((turn_of t.event.event.job task (at r k n t)).follows rep
-            (rows_for (turn_of t.event.event.job task (at r k n t)).asked s)).answer ≡ None →
-            AtTask (k + 1) n
-            ((turn_of t.event.event.job task (at r k n t)).follows rep
-            (rows_for (turn_of t.event.event.job task (at r k n t)).asked s)).task
+        by : (task : Task) → AtTask k n task → (rep : DirReply) → (after_task r k n t task rep).answer ≡ None →
+            AtTask (k + 1) n (after_task r k n t task rep).task
         by (Deliver d) now rep none = tt
         by (Mark m) now rep none = tt
         by (Move m) now rep none = tt
@@ -201,9 +197,7 @@ module _ (r : Run) (run : IsRun r) (seconds : ℕ) (apart : AreApart r seconds) 
       ap (call_at r.calls) (sym t.own ∙ ap (λ (d : Done). d.job) (sym done.2)) ∙ cleaned.by in
       let clean = cleans (moment r k).dirs cleaned.folder t.task (its-fits r run k n (call.Clean cleaned.folder) t.task its t.there) in
       let asks = ap (λ (d : Done). d.asked) (sym done.2) ∙ cleaned.asked in
-      let left =
-      left-now clean.0 (at r k n t).own clean.0.stage
-      (ap (λ (x : Task). (turn_of t.event.event.job x (at r k n t)).asked) (sym clean.1) ∙ asks) in
+      let left = left-now clean.0 (at r k n t).own clean.0.stage (ap (asked_by r k n t) (sym clean.1) ∙ asks) in
       let within : k ≤ length r.events = (let less = is_within r k n t in omega (arith, less)) in
       let late = subst (λ (x : Task). AtTask k n x) clean.1 (late-task k n t.task within t.there) left.0 left.1 in
       let before = late.late in

@@ -7,10 +7,11 @@ use Rattle.std.proofs.lemmas.Option.{slice_get_within, slice_get_past}
 use Rattle.md_dirs.specs.State.{IsSound}
 use Rattle.md_dirs.proofs.Sound.{by_number}
 use Rattle.md_core.specs.declared.jobs.call.Call.{Call}
+use Rattle.md_core.specs.declared.jobs.step.DirReply.{DirReply}
 use Rattle.md_core.specs.declared.jobs.step.Moment.{Moment}
 use Rattle.md_core.specs.declared.jobs.task.Task.{Task}
-use Rattle.md_core.specs.Turn.{ask_of, state_by}
-use Rattle.md_core.specs.Machine.{Machine, Standing, working, Marked, Done, done, job_at, moment_of, taken}
+use Rattle.md_core.specs.Turn.{Asked, After, ask_of, rows_for, state_by}
+use Rattle.md_core.specs.Machine.{Machine, Standing, working, Marked, Done, done, job_at, moment_of, turn_of, taken}
 use Rattle.md_core.specs.Runs.{Run, moment, done_at, call_at, first_step}
 use Rattle.md_core.specs.Interleaving.{IsRun}
 use Rattle.md_core.specs.Answering.{IsStep}
@@ -54,6 +55,13 @@ module _ (r : Run) (run : IsRun r) (k : ℕ) where
 module _ (r : Run) (k n : ℕ) (t : IsTurn r k n) where
   abbrev pub at : Moment
   at = moment_of (moment r k).clock t.event.event
+
+  -- what a task would ask at this event, and how it would stand after a reply
+  abbrev pub asked_by : Task → Asked
+  asked_by task = (turn_of t.event.event.job task at).asked
+
+  abbrev pub after_task : Task → DirReply → After Task
+  after_task task rep = (turn_of t.event.event.job task at).follows rep (rows_for (asked_by task) (moment r k).dirs)
 
   next-machine : moment r (k + 1) ≡ taken (moment r k) t.event.event.job at (turn_by (moment r k) t.event t.task)
       (reply_in (moment r k) t.event t.task)

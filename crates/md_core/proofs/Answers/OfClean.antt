@@ -1,5 +1,5 @@
 -- What each turn of a clean says: it fails only where a call faults.
-use Rattle.std.proofs.Common.{ℕ, ◌≡◌, ◌<◌, ◌-◌, List, [], ◌∷◌, Option, Some, None, Bool, length, refl, MatchOption}
+use Rattle.std.proofs.Common.{ℕ, ◌≡◌, ◌<◌, ◌-◌, List, [], ◌∷◌, Bool, length, refl, MatchOption}
 use Rattle.md_dirs.specs.Calls as dirs
 use Rattle.md_dirs.specs.Rows.{rows_of}
 use Rattle.md_dirs.specs.State.{State}
@@ -43,7 +43,8 @@ module _ (s : State) (at : Moment) (faulted : Bool) (c : Cleaning) where
     abbrev z : Cleaning
     z = at_stage c (Remove name rest files)
 
-    unlink-says : (r : DirReply) → r ≡ reply_of (dirs.unlink (tmp c name)) s faulted → CleanSays r ((unlink_turn z name rest files).follows r [])
+    unlink-says : (r : DirReply) → r ≡ reply_of (dirs.unlink (tmp c name)) s faulted →
+        CleanSays r ((unlink_turn z name rest files).follows r [])
     unlink-says reply.Ok replied = next-says z reply.Ok rest files
     unlink-says reply.Exists replied = absurd (unlink-exists s faulted (tmp c name) replied)
     unlink-says reply.NotFound replied = next-says z reply.NotFound rest (files - 1)

@@ -9,10 +9,8 @@ use Rattle.md_dirs.specs.declared.paths.Place.{Place}
 use Rattle.md_dirs.specs.declared.paths.Place.TheVariants.{New, Cur}
 use Rattle.md_dirs.specs.declared.rows.Row.{Row}
 use Rattle.md_name.specs.Letters.{Set}
-use Rattle.md_core.specs.declared.jobs.answer.Answer.{Answer}
 use Rattle.md_core.specs.declared.jobs.answer.Answer.TheVariants as answer
 use Rattle.md_core.specs.declared.jobs.call.Call.{Call}
-use Rattle.md_core.specs.declared.jobs.call.Call.TheVariants as call
 use Rattle.md_core.specs.declared.jobs.copying.Copying.{Copying}
 use Rattle.md_core.specs.declared.jobs.search.Stage.{Stage}
 use Rattle.md_core.specs.declared.jobs.search.Stage.TheVariants.{LookNew, LookCur, Act}
@@ -50,16 +48,19 @@ module _ (s : State) (number : ℕ) (asked : Call) (at : Moment) (one : HasOnePa
 
   module _ (stage : Stage) (fits : CopyingFits s asked (at_stage c stage)) where
     -- a path of what it looks for
-    its-path : (place : Place) (row : Row) → IsPathOf s c.unique (source c place row.name) → IsPathOf s (sought asked) (source c place row.name)
+    its-path : (place : Place) (row : Row) → IsPathOf s c.unique (source c place row.name) →
+        IsPathOf s (sought asked) (source c place row.name)
     its-path place row h = subst (λ (u : List ℕ). IsPathOf s u (source c place row.name)) (ap sought (sym fits.of)) h
 
     -- a message with other info is not copied
     is-other : IsOther s c.folder c.unique → IsAlone s asked answer.OtherInfo
     is-other h = subst (λ (a : Call). IsAlone s a answer.OtherInfo) (sym fits.of)
-        (ap (λ (o : Option Entry). (copied (mailbox_of s) c.to c.fresh o).answer) (such-inside c.folder (finmap.get (mailbox_of s) c.unique) h.entry h.there h.inside)
+        (ap (λ (o : Option Entry). (copied (mailbox_of s) c.to c.fresh o).answer)
+        (such-inside c.folder (finmap.get (mailbox_of s) c.unique) h.entry h.there h.inside)
         ∙ ap (λ (o : Option Set). (copy_by (mailbox_of s) c.to c.fresh h.entry o (finmap.get (mailbox_of s) c.fresh)).answer) h.other)
 
-  new-leads : (tries : ℕ) → CopyingFits s asked (at_stage c (LookNew tries)) → (r : DirReply) (next : Next) → Knows s c.folder c.unique false New tries r next → SaysNext (LookNew tries) r next
+  new-leads : (tries : ℕ) → CopyingFits s asked (at_stage c (LookNew tries)) → (r : DirReply) (next : Next) →
+      Knows s c.folder c.unique false New tries r next → SaysNext (LookNew tries) r next
   new-leads tries fits r (To (LookNew left)) h = absurd h
   new-leads tries fits r (To (LookCur left)) h = record { tries = h.0; looked = h.1 }
   new-leads tries fits r (To (Act place row left)) h = record { tries = (h.0, its-path (LookNew tries) fits place row h.1); looked = tt }
@@ -68,7 +69,8 @@ module _ (s : State) (number : ℕ) (asked : Call) (at : Moment) (one : HasOnePa
   new-leads tries fits r (Ends answer.Fault) h = h
   new-leads tries fits r (Ends a) h = absurd h
 
-  cur-leads : (tries : ℕ) → CopyingFits s asked (at_stage c (LookCur tries)) → (r : DirReply) (next : Next) → Knows s c.folder c.unique false Cur tries r next → SaysNext (LookCur tries) r next
+  cur-leads : (tries : ℕ) → CopyingFits s asked (at_stage c (LookCur tries)) → (r : DirReply) (next : Next) →
+      Knows s c.folder c.unique false Cur tries r next → SaysNext (LookCur tries) r next
   cur-leads tries fits r (To (LookNew left)) h = absurd h
   cur-leads tries fits r (To (LookCur left)) h = record { tries = h.0; looked = h.1 }
   cur-leads tries fits r (To (Act place row left)) h = record { tries = (h.0, its-path (LookCur tries) fits place row h.1); looked = tt }
@@ -82,8 +84,10 @@ module _ (s : State) (number : ℕ) (asked : Call) (at : Moment) (one : HasOnePa
   found tries place r = after_look false place tries r (row_named c.unique (rows_of s c.folder place))
 
   -- a directory is listed
-  look-says : (stage : Stage) (place : Place) (tries : ℕ) → ((r : DirReply) → r ≡ reply_of (dirs.list c.folder place) s faulted → SaysNext stage r (found tries place r)) →
-      (r : DirReply) → r ≡ reply_of (dirs.list c.folder place) s faulted → SaysBy s number asked (at_stage c stage) at.clock (look_turn (at_stage c stage) place tries) r
+  look-says : (stage : Stage) (place : Place) (tries : ℕ) →
+      ((r : DirReply) → r ≡ reply_of (dirs.list c.folder place) s faulted → SaysNext stage r (found tries place r)) →
+      (r : DirReply) → r ≡ reply_of (dirs.list c.folder place) s faulted →
+      SaysBy s number asked (at_stage c stage) at.clock (look_turn (at_stage c stage) place tries) r
   look-says stage place tries h reply.Ok replied = h reply.Ok replied
   look-says stage place tries h reply.Exists replied = h reply.Exists replied
   look-says stage place tries h reply.NotFound replied = h reply.NotFound replied
@@ -96,7 +100,8 @@ module _ (s : State) (number : ℕ) (asked : Call) (at : Moment) (one : HasOnePa
         let name = copy-name c.fresh row.name fits.fresh fits.stage.1 fits.stage.3 in
         fits.none (target c place row.name) (and_from _ _ (ap not fits.stage.0) name.message) name.unique
 
-    again : file_at s (source c place row.name) ≡ None → (next : Next) → IsAgain tries next → SaysNext (Act place row tries) reply.NotFound next
+    again : file_at s (source c place row.name) ≡ None → (next : Next) → IsAgain tries next →
+        SaysNext (Act place row tries) reply.NotFound next
     again none (To (LookNew left)) h = record { tries = (h, none); looked = tt }
     again none (To (LookCur left)) h = absurd h
     again none (To (Act p q left)) h = absurd h
@@ -104,20 +109,27 @@ module _ (s : State) (number : ℕ) (asked : Call) (at : Moment) (one : HasOnePa
     again none (Ends a) h = absurd h
 
     act-says : (r : DirReply) → r ≡ reply_of (dirs.link (source c place row.name) (target c place row.name)) s faulted →
-        SaysBy s number asked (at_stage c (Act place row tries)) at.clock (link_turn number (at_stage c (Act place row tries)) place row tries) r
+        SaysBy s number asked (at_stage c (Act place row tries)) at.clock
+        (link_turn number (at_stage c (Act place row tries)) place row tries) r
     act-says reply.Ok replied = tt
     act-says reply.Exists replied = absurd (link-exists s faulted (source c place row.name) (target c place row.name) unused replied)
-    act-says reply.NotFound replied = again (link-not_found s faulted (source c place row.name) (target c place row.name) unused fits.to_folder replied) (after_lost tries) (lost-again tries)
+    act-says reply.NotFound replied =
+        again (link-not_found s faulted (source c place row.name) (target c place row.name) unused fits.to_folder replied)
+        (after_lost tries) (lost-again tries)
     act-says reply.Fault replied = refl
 
   stage-says : (stage : Stage) → CopyingFits s asked (at_stage c stage) →
-      SaysBy s number asked (at_stage c stage) at.clock (stage_turn number (at_stage c stage) stage) (reply_of (ask_of (stage_turn number (at_stage c stage) stage).asked at.clock) s faulted)
+      SaysBy s number asked (at_stage c stage) at.clock (stage_turn number (at_stage c stage) stage)
+      (reply_of (ask_of (stage_turn number (at_stage c stage) stage).asked at.clock) s faulted)
   stage-says (LookNew tries) fits = look-says (LookNew tries) New tries
-      (λ r replied. new-leads tries fits r (found tries New r) (look-knows s c.folder c.unique false fits.valid one tries faulted New refl fits.in_folder r replied)) _ refl
+      (λ r replied. new-leads tries fits r (found tries New r)
+      (look-knows s c.folder c.unique false fits.valid one tries faulted New refl fits.in_folder r replied)) _ refl
   stage-says (LookCur tries) fits = look-says (LookCur tries) Cur tries
-      (λ r replied. cur-leads tries fits r (found tries Cur r) (look-knows s c.folder c.unique false fits.valid one tries faulted Cur refl fits.in_folder r replied)) _ refl
+      (λ r replied. cur-leads tries fits r (found tries Cur r)
+      (look-knows s c.folder c.unique false fits.valid one tries faulted Cur refl fits.in_folder r replied)) _ refl
   stage-says (Act place row tries) fits = act-says place row tries fits _ refl
 
   -- What a turn of a copy says, whatever its stage.
-  pub copying-says : CopyingFits s asked c → SaysBy s number asked c at.clock (copying_turn number c) (reply_of (ask_of (copying_turn number c).asked at.clock) s faulted)
+  pub copying-says : CopyingFits s asked c →
+      SaysBy s number asked c at.clock (copying_turn number c) (reply_of (ask_of (copying_turn number c).asked at.clock) s faulted)
   copying-says fits = stage-says c.stage fits

@@ -1,7 +1,6 @@
 -- What each turn of a delivery says, by its stage and the reply: its names are not used before, so that it fails only where a call faults,
 -- or its file in tmp is gone, or its time is over.
-use Rattle.std.proofs.Common.{ℕ, ◌≡◌, [], Option, Some, None, Bool, true, false, cond, length, nat_lt, refl, sym, ap, ◌∙◌, MatchOption}
-use Rattle.std.proofs.lemmas.Bool.{and_from}
+use Rattle.std.proofs.Common.{ℕ, ◌≡◌, [], None, Bool, true, false, cond, length, nat_lt, refl, MatchOption}
 use Rattle.md_dirs.specs.Calls as dirs
 use Rattle.md_dirs.specs.State.{State, file_at}
 use Rattle.md_core.specs.declared.jobs.answer.Answer.{Answer}
@@ -41,12 +40,14 @@ DeliverySays stage r after = MatchOption after.answer (Undoes r after.task.stage
 module _ (s : State) (number : ℕ) (asked : Call) (at : Moment) (faulted : Bool) (d : Delivery) where
   -- what a turn says, with the reply that the directories give
   abbrev SaysOne : Stage → Turn Delivery → Type 0
-  SaysOne stage turn = let r = reply_of (ask_of turn.asked at.clock) s faulted in DeliverySays stage r (turn.follows r (rows_for turn.asked s))
+  SaysOne stage turn =
+      let r = reply_of (ask_of turn.asked at.clock) s faulted in DeliverySays stage r (turn.follows r (rows_for turn.asked s))
 
   create-says : DeliveryFits s asked (at_stage d Start) → (r : DirReply) → r ≡ reply_of (dirs.create d.tmp at.clock) s faulted →
       DeliverySays Start r ((create_turn (at_stage d Start) at.own).follows r [])
   create-says fits reply.Ok replied = tt
-  create-says fits reply.Exists replied = absurd (create-exists s faulted d.tmp at.clock (fits.stage d.tmp (tmp-key d.tmp fits.in_tmp)) replied)
+  create-says fits reply.Exists replied =
+      absurd (create-exists s faulted d.tmp at.clock (fits.stage d.tmp (tmp-key d.tmp fits.in_tmp)) replied)
   create-says fits reply.NotFound replied = absurd (create-not_found s faulted d.tmp at.clock fits.in_folder replied)
   create-says fits reply.Fault replied = refl
 
@@ -54,7 +55,8 @@ module _ (s : State) (number : ℕ) (asked : Call) (at : Moment) (faulted : Bool
     abbrev x : Delivery
     x = at_stage d (Writing start k)
 
-    append-says : (r : DirReply) → r ≡ reply_of (dirs.append d.tmp (piece d k) at.clock) s faulted → DeliverySays (Writing start k) r ((append_turn x start k).follows r [])
+    append-says : (r : DirReply) → r ≡ reply_of (dirs.append d.tmp (piece d k) at.clock) s faulted →
+        DeliverySays (Writing start k) r ((append_turn x start k).follows r [])
     append-says reply.Ok replied = tt
     append-says reply.Exists replied = absurd (append-exists s faulted d.tmp (piece d k) at.clock replied)
     append-says reply.NotFound replied = tt
@@ -63,13 +65,15 @@ module _ (s : State) (number : ℕ) (asked : Call) (at : Moment) (faulted : Bool
     unused : file_at s (target d) ≡ None
     unused = fits.stage.1 (target d) fits.name.message fits.name.plain
 
-    link-says : (r : DirReply) → r ≡ reply_of (dirs.link d.tmp (target d)) s faulted → DeliverySays (Writing start k) r ((link_turn number x).follows r [])
+    link-says : (r : DirReply) → r ≡ reply_of (dirs.link d.tmp (target d)) s faulted →
+        DeliverySays (Writing start k) r ((link_turn number x).follows r [])
     link-says reply.Ok replied = tt
     link-says reply.Exists replied = absurd (link-exists s faulted d.tmp (target d) unused replied)
     link-says reply.NotFound replied = tt
     link-says reply.Fault replied = (refl, refl)
 
-    writing-says : (in_time more : Bool) → SaysOne (Writing start k) (cond in_time (cond more (append_turn x start k) (link_turn number x)) (unlink_turn x answer.TimedOut))
+    writing-says : (in_time more : Bool) →
+        SaysOne (Writing start k) (cond in_time (cond more (append_turn x start k) (link_turn number x)) (unlink_turn x answer.TimedOut))
     writing-says true true = append-says (reply_of (dirs.append d.tmp (piece d k) at.clock) s faulted) refl
     writing-says true false = link-says (reply_of (dirs.link d.tmp (target d)) s faulted) refl
     writing-says false more = tt

@@ -3,14 +3,13 @@ use Rattle.std.proofs.Common.{ℕ, ◌≡◌, ◌<◌, ◌-◌, List, Option, So
 use Rattle.std.proofs.lemmas.Bool.Decides.{nat_tests}
 use Rattle.std.specs.FinMap as finmap
 use Rattle.std.specs.FinMap.{get}
-use Rattle.std.specs.FinSet as set
 use Rattle.md_dirs.specs.Calls as dirs
 use Rattle.md_dirs.specs.Rows.{rows_of, row_named}
 use Rattle.md_dirs.specs.State.{State, file_at}
 use Rattle.md_dirs.specs.declared.paths.Place.TheVariants.{Cur}
 use Rattle.md_dirs.specs.declared.rows.Row.{Row}
 use Rattle.md_name.specs.Letters.{Set}
-use Rattle.md_name.specs.Names.{unique_of, info_of, flags_of}
+use Rattle.md_name.specs.Names.{flags_of}
 use Rattle.md_name.specs.declared.info.Info.{Info}
 use Rattle.md_core.specs.declared.jobs.answer.Answer.{Answer}
 use Rattle.md_core.specs.declared.jobs.answer.Answer.TheVariants as answer
@@ -43,7 +42,9 @@ SaysBy s number asked x clock turn r =
 -- a message without the flag T is not expunged
 not_trashed : (box : Mailbox) (u : List ℕ) (o : Option Set) → has_trashed o ≡ false → (expunge_by box u o).answer ≡ answer.NotTrashed
 not_trashed box u None is = refl
-not_trashed box u (Some had) is = ap (λ b. (cond {A = Outcome} b (record { answer = answer.Expunged; after = finmap.remove box u }) (refused answer.NotTrashed box)).answer) is
+not_trashed box u (Some had) is =
+    ap (λ b. (cond {A = Outcome} b (record { answer = answer.Expunged; after = finmap.remove box u })
+    (refused answer.NotTrashed box)).answer) is
 
 module _ (s : State) (number : ℕ) (asked : Call) (at : Moment) (one : HasOnePath s) (faulted : Bool) (x : Expunging) where
   -- the message is looked for
@@ -64,17 +65,32 @@ module _ (s : State) (number : ℕ) (asked : Call) (at : Moment) (one : HasOnePa
       there : such (is_in_place Cur x.folder) (get (mailbox_of s) x.unique) ≡ Some entry
       there = such-there Cur x.folder (get (mailbox_of s) x.unique) entry (row-entry s x.folder Cur x.unique row refl one h) refl refl
 
-      found-says : (b : Bool) → is_trashed row.name ≡ b → SaysLook (cond b (goes_on (at_stage x (Act row.name tries))) (ends y answer.NotTrashed))
+      found-says : (b : Bool) → is_trashed row.name ≡ b →
+          SaysLook (cond b (goes_on (at_stage x (Act row.name tries))) (ends y answer.NotTrashed))
       found-says true is = record {
-        tries = (refl, record { file = h.file; there = h.there; message = row-message s x.folder Cur x.unique row refl h; unique = h.unique ∙ ap sought (sym fits.of) });
+        tries = (
+          refl,
+          record {
+            file = h.file;
+            there = h.there;
+            message = row-message s x.folder Cur x.unique row refl h;
+            unique = h.unique
+                ∙ ap sought (sym fits.of);
+          },
+        );
         looked = tt;
       }
       found-says false is =
-          let shown : has_trashed (flags_in entry) ≡ false = ap (λ (i : Info). has_trashed (flags_of i)) (sym (info-in row.name h.named)) ∙ is in
-          by-call answer.NotTrashed (ap (λ (o : Option Entry). (expunged (mailbox_of s) x.unique o).answer) there ∙ not_trashed (mailbox_of s) x.unique (flags_in entry) shown)
+          let shown : has_trashed (flags_in entry) ≡ false =
+          ap (λ (i : Info). has_trashed (flags_of i)) (sym (info-in row.name h.named)) ∙ is in
+          by-call answer.NotTrashed
+          (ap (λ (o : Option Entry). (expunged (mailbox_of s) x.unique o).answer) there
+          ∙ not_trashed (mailbox_of s) x.unique (flags_in entry) shown)
 
     row-says : (o : Option Row) → row_named x.unique (rows_of s x.folder Cur) ≡ o → SaysLook (after_row y tries o)
-    row-says None is = by-call answer.NotThere (ap (λ (o : Option Entry). (expunged (mailbox_of s) x.unique o).answer) (no-entry s x.folder Cur x.unique is))
+    row-says None is =
+        by-call answer.NotThere
+        (ap (λ (o : Option Entry). (expunged (mailbox_of s) x.unique o).answer) (no-entry s x.folder Cur x.unique is))
     row-says (Some row) is = found-says row (found-row s x.folder Cur x.unique row fits.valid is) (is_trashed row.name) refl
 
     look-says : (r : DirReply) → r ≡ reply_of (dirs.list x.folder Cur) s faulted → SaysBy s number asked y at.clock (look_turn y tries) r
@@ -93,17 +109,20 @@ module _ (s : State) (number : ℕ) (asked : Call) (at : Moment) (one : HasOnePa
     again none true is = (grind (arith, nat_tests), none)
     again none false is = let more : 1 < tries = grind (arith, nat_tests) in record { tries = (omega (arith, more), none); looked = tt }
 
-    act-says : (r : DirReply) → r ≡ reply_of (dirs.unlink (source x name)) s faulted → SaysBy s number asked z at.clock (unlink_turn number z name tries) r
+    act-says : (r : DirReply) → r ≡ reply_of (dirs.unlink (source x name)) s faulted →
+        SaysBy s number asked z at.clock (unlink_turn number z name tries) r
     act-says reply.Ok replied = tt
     act-says reply.Exists replied = absurd (unlink-exists s faulted (source x name) replied)
     act-says reply.NotFound replied = again (unlink-not_found s faulted (source x name) replied) (nat_le tries 1) refl
     act-says reply.Fault replied = refl
 
   stage-says : (stage : Stage) → ExpungingFits s asked (at_stage x stage) →
-      SaysBy s number asked (at_stage x stage) at.clock (stage_turn number (at_stage x stage) stage) (reply_of (ask_of (stage_turn number (at_stage x stage) stage).asked at.clock) s faulted)
+      SaysBy s number asked (at_stage x stage) at.clock (stage_turn number (at_stage x stage) stage)
+      (reply_of (ask_of (stage_turn number (at_stage x stage) stage).asked at.clock) s faulted)
   stage-says (Look tries) fits = look-says tries fits (reply_of (dirs.list x.folder Cur) s faulted) refl
   stage-says (Act name tries) fits = act-says name tries fits (reply_of (dirs.unlink (source x name)) s faulted) refl
 
   -- What a turn of an expunge says, whatever its stage.
-  pub expunging-says : ExpungingFits s asked x → SaysBy s number asked x at.clock (expunging_turn number x) (reply_of (ask_of (expunging_turn number x).asked at.clock) s faulted)
+  pub expunging-says : ExpungingFits s asked x →
+      SaysBy s number asked x at.clock (expunging_turn number x) (reply_of (ask_of (expunging_turn number x).asked at.clock) s faulted)
   expunging-says fits = stage-says x.stage fits

@@ -1,5 +1,5 @@
 -- A job is answered that it faulted only where one of its directory calls did, and never that its name is taken.
-use Rattle.std.proofs.Common.{ℕ, ◌≡◌, ◌≢◌, ◌+◌, ◌≤◌, List, Option, Some, None, refl, sym, ap, subst, ◌∙◌, length, MatchOption, arith}
+use Rattle.std.proofs.Common.{ℕ, ◌≡◌, ◌+◌, ◌≤◌, List, Some, None, refl, subst, ◌∙◌, length, arith}
 use Rattle.md_dirs.specs.State.{State}
 use Rattle.md_core.specs.declared.jobs.answer.Answer.{Answer}
 use Rattle.md_core.specs.declared.jobs.answer.Answer.TheVariants as answer
@@ -19,7 +19,7 @@ use Rattle.md_core.specs.declared.jobs.step.DirReply.TheVariants as reply
 use Rattle.md_core.specs.declared.jobs.task.Task.{Task}
 use Rattle.md_core.specs.declared.jobs.task.Task.TheVariants.{Deliver, Mark, Move, Expunge, Copy, Clean}
 use Rattle.md_core.specs.Turn.{After}
-use Rattle.md_core.specs.Machine.{Machine, Standing, working, answered, Marked, job_at, new_job}
+use Rattle.md_core.specs.Machine.{Standing, working, answered, job_at, new_job}
 use Rattle.md_core.specs.Runs.{Run, moment, call_at}
 use Rattle.md_core.specs.Interleaving.{IsRun}
 use Rattle.md_core.specs.Answering.{IsFaulted}
@@ -27,14 +27,8 @@ use Rattle.md_core.proofs.Answers.LastStep.{IsTurn, LastStep, reply_in, left_by,
 use Rattle.md_core.proofs.Answers.Turns.{TriesOn, mark_trying, expunge_trying, search_trying, trying_of, idle, sought, Tells}
 use Rattle.md_core.proofs.Answers.OfDeliver.{DeliveryTells, Undoes}
 use Rattle.md_core.proofs.Answers.OfClean.{CleanTells}
+use Rattle.md_core.proofs.Answers.Told.{at-none, Told, told, IsOfLook}
 use Rattle.md_core.proofs.Answers.EachSays.{TaskSays, UndoesTask, IsClean, turn-says}
-
--- what an option that is known matches
-pub at-none : {A : Type 0} (o : Option A) (P : Type 0) (Q : A → Type 0) → o ≡ None → MatchOption o P Q → P
-at-none o P Q is h = subst (λ x. MatchOption x P Q) is h
-
-pub at-some : {A : Type 0} (o : Option A) (P : Type 0) (Q : A → Type 0) (a : A) → o ≡ Some a → MatchOption o P Q → Q a
-at-some o P Q a is h = subst (λ x. MatchOption x P Q) is h
 
 -- a job that acts on one message goes on as one
 module _ (s s' : State) (u : List ℕ) where
@@ -70,35 +64,10 @@ Pending r job (Clean c) = Unit {0}
 abbrev IsPending : Run → ℕ → ℕ → Task → Type 0
 IsPending r k job task = (c : Call) → call_at r.calls job ≡ Some c → Pending r job task
 
--- the answers of a look-up, and that of a message that is lost
-abbrev pub IsOfLook : Answer → Type 0
-IsOfLook answer.NotThere = Unit {0}
-IsOfLook answer.NotTrashed = Unit {0}
-IsOfLook answer.OtherInfo = Unit {0}
-IsOfLook answer.Lost = Unit {0}
-IsOfLook a = ⊥
-
 -- how a job stands that is pending so, if it works
 abbrev AtWork : Run → ℕ → Standing → Type 0
 AtWork r job (working task) = Pending r job task
 AtWork r job (answered a) = Unit {0}
-
--- what an answer tells of the turn that gave it, whatever the task
-abbrev pub Told : State → Call → Task → DirReply → Answer → Type 0
-Told s asked (Deliver d) given a = DeliveryTells d.stage given a
-Told s asked (Mark m) given a = Tells s asked (Mark m) given a
-Told s asked (Move m) given a = Tells s asked (Move m) given a
-Told s asked (Expunge x) given a = Tells s asked (Expunge x) given a
-Told s asked (Copy c) given a = Tells s asked (Copy c) given a
-Told s asked (Clean c) given a = CleanTells given a
-
-told : (s s' : State) (asked : Call) (task : Task) (given : DirReply) (after : After Task) (a : Answer) → TaskSays s s' asked given task after → after.answer ≡ Some a → Told s asked task given a
-told s s' asked (Deliver d) given after a says is = at-some after.answer _ _ a is says
-told s s' asked (Mark m) given after a says is = at-some after.answer _ _ a is says
-told s s' asked (Move m) given after a says is = at-some after.answer _ _ a is says
-told s s' asked (Expunge x) given after a says is = at-some after.answer _ _ a is says
-told s s' asked (Copy c) given after a says is = at-some after.answer _ _ a is says
-told s s' asked (Clean c) given after a says is = at-some after.answer _ _ a is says
 
 module _ (r : Run) (job : ℕ) where
   -- a job that has tries takes no file away
@@ -121,13 +90,27 @@ module _ (r : Run) (job : ℕ) where
   pending-delivery task given h faulted = absurd h
 
   -- so does a job that goes on
-  pending-on : (s s' : State) (asked : Call) (task : Task) (given : DirReply) (after : After Task) → TaskSays s s' asked given task after → after.answer ≡ None →
+  pending-on : (s s' : State) (asked : Call) (task : Task) (given : DirReply) (after : After Task) →
+      TaskSays s s' asked given task after → after.answer ≡ None →
       (given ≡ reply.Fault → IsFaulted r job) → Pending r job after.task
-  pending-on s s' asked (Deliver d) given after says none faulted = pending-delivery after.task given (at-none after.answer _ _ none says) faulted
-  pending-on s s' asked (Mark m) given after says none faulted = not-idle after.task (λ is. mark-tries s s' (sought asked) m m.stage (subst (TriesOn s s' (sought asked) (mark_trying m m.stage)) is (at-none after.answer _ _ none says).tries))
-  pending-on s s' asked (Move m) given after says none faulted = not-idle after.task (λ is. search-tries s s' (sought asked) m.folder m.stage (subst (TriesOn s s' (sought asked) (search_trying m.folder m.stage)) is (at-none after.answer _ _ none says).tries))
-  pending-on s s' asked (Expunge x) given after says none faulted = not-idle after.task (λ is. expunge-tries s s' (sought asked) x.folder x.stage (subst (TriesOn s s' (sought asked) (expunge_trying x.folder x.stage)) is (at-none after.answer _ _ none says).tries))
-  pending-on s s' asked (Copy c) given after says none faulted = not-idle after.task (λ is. search-tries s s' (sought asked) c.folder c.stage (subst (TriesOn s s' (sought asked) (search_trying c.folder c.stage)) is (at-none after.answer _ _ none says).tries))
+  pending-on s s' asked (Deliver d) given after says none faulted =
+      pending-delivery after.task given (at-none after.answer _ _ none says) faulted
+  pending-on s s' asked (Mark m) given after says none faulted =
+      not-idle after.task
+      (λ is. mark-tries s s' (sought asked) m m.stage
+      (subst (TriesOn s s' (sought asked) (mark_trying m m.stage)) is (at-none after.answer _ _ none says).tries))
+  pending-on s s' asked (Move m) given after says none faulted =
+      not-idle after.task
+      (λ is. search-tries s s' (sought asked) m.folder m.stage
+      (subst (TriesOn s s' (sought asked) (search_trying m.folder m.stage)) is (at-none after.answer _ _ none says).tries))
+  pending-on s s' asked (Expunge x) given after says none faulted =
+      not-idle after.task
+      (λ is. expunge-tries s s' (sought asked) x.folder x.stage
+      (subst (TriesOn s s' (sought asked) (expunge_trying x.folder x.stage)) is (at-none after.answer _ _ none says).tries))
+  pending-on s s' asked (Copy c) given after says none faulted =
+      not-idle after.task
+      (λ is. search-tries s s' (sought asked) c.folder c.stage
+      (subst (TriesOn s s' (sought asked) (search_trying c.folder c.stage)) is (at-none after.answer _ _ none says).tries))
   pending-on s s' asked (Clean c) given after says none faulted = clean after.task (at-none after.answer _ _ none says)
     where
       clean : (task : Task) → IsClean task → Pending r job task
@@ -153,11 +136,13 @@ module _ (r : Run) (run : IsRun r) where
   pending-at : (k job : ℕ) (task : Task) → k ≤ length r.events → job_at (moment r k).jobs job ≡ Some (working task) → IsPending r k job task
   pending-at = holds r run (IsPending r)
       (λ job c task of new c' of'. pending-new r job c task new)
-      (λ k job t none was c of. pending-on r job (moment r k).dirs (moment r (k + 1)).dirs c t.task (reply_in (moment r k) t.event t.task) (left_by r k job t) (turn-says r run k job c of t) none (faulted-at k job t))
+      (λ k job t none was c of. pending-on r job (moment r k).dirs (moment r (k + 1)).dirs c t.task (reply_in (moment r k) t.event t.task)
+      (left_by r k job t) (turn-says r run k job c of t) none (faulted-at k job t))
       (λ k job task e at differ there was. was)
 
   -- what the last turn of a job that faulted tells
-  told-fault : (s : State) (asked : Call) (task : Task) (job : ℕ) (given : DirReply) → (given ≡ reply.Fault → IsFaulted r job) → Pending r job task → Told s asked task given answer.Fault → IsFaulted r job
+  told-fault : (s : State) (asked : Call) (task : Task) (job : ℕ) (given : DirReply) → (given ≡ reply.Fault → IsFaulted r job) →
+      Pending r job task → Told s asked task given answer.Fault → IsFaulted r job
   told-fault s asked (Deliver d) job given faulted pending h = by d.stage pending h
     where
       by : (stage : Stage) → PendingAt r job stage → DeliveryTells stage given answer.Fault → IsFaulted r job
@@ -171,7 +156,8 @@ module _ (r : Run) (run : IsRun r) where
   told-fault s asked (Copy c) job given faulted pending h = faulted h
   told-fault s asked (Clean c) job given faulted pending h = faulted h
 
-  told-taken : (s : State) (asked : Call) (task : Task) (job : ℕ) (given : DirReply) → Pending r job task → Told s asked task given answer.NameTaken → ⊥
+  told-taken : (s : State) (asked : Call) (task : Task) (job : ℕ) (given : DirReply) → Pending r job task →
+      Told s asked task given answer.NameTaken → ⊥
   told-taken s asked (Deliver d) job given pending h = by d.stage pending h
     where
       by : (stage : Stage) → PendingAt r job stage → DeliveryTells stage given answer.NameTaken → ⊥
@@ -186,7 +172,8 @@ module _ (r : Run) (run : IsRun r) where
   told-taken s asked (Clean c) job given pending h = h
 
   -- no delivery and no clean looks for a message
-  delivery-looks : (job : ℕ) (given : DirReply) (stage : Stage) (a : Answer) → IsOfLook a → DeliveryTells stage given a → PendingAt r job stage → ⊥
+  delivery-looks : (job : ℕ) (given : DirReply) (stage : Stage) (a : Answer) → IsOfLook a → DeliveryTells stage given a →
+      PendingAt r job stage → ⊥
   delivery-looks job given (Undo b) a look told was = subst IsOfLook (told ∙ was.0) look
   delivery-looks job given Start answer.NotThere look told was = told
   delivery-looks job given Start answer.NotTrashed look told was = told
@@ -211,7 +198,8 @@ module _ (r : Run) (run : IsRun r) where
   clean-looks given answer.Lost look told = told
   clean-looks given a look told = absurd look
 
-  told-look : (s : State) (asked : Call) (task : Task) (job : ℕ) (given : DirReply) (a : Answer) → IsOfLook a → Pending r job task → Told s asked task given a → Tells s asked task given a
+  told-look : (s : State) (asked : Call) (task : Task) (job : ℕ) (given : DirReply) (a : Answer) → IsOfLook a → Pending r job task →
+      Told s asked task given a → Tells s asked task given a
   told-look s asked (Deliver d) job given a look pending h = absurd (delivery-looks job given d.stage a look h pending)
   told-look s asked (Mark m) job given a look pending h = h
   told-look s asked (Move m) job given a look pending h = h
@@ -225,16 +213,24 @@ module _ (r : Run) (run : IsRun r) where
     reply-then = reply_in (moment r last.k) last.turn.event last.turn.task
 
     pub last-tells : Told (moment r last.k).dirs asked last.turn.task reply-then a
-    last-tells = told (moment r last.k).dirs (moment r (last.k + 1)).dirs asked last.turn.task reply-then (left_by r last.k job last.turn) a (turn-says r run last.k job asked of last.turn) last.answer
+    last-tells =
+        told (moment r last.k).dirs (moment r (last.k + 1)).dirs asked last.turn.task reply-then (left_by r last.k job last.turn) a
+        (turn-says r run last.k job asked of last.turn) last.answer
 
     pending-last : Pending r job last.turn.task
-    pending-last = pending-at last.k job last.turn.task (let within = is_within r last.k job last.turn in omega (arith, within)) last.turn.there asked of
+    pending-last =
+        pending-at last.k job last.turn.task
+        (let within = is_within r last.k job last.turn in omega (arith, within)) last.turn.there asked of
 
     pub says-fault : a ≡ answer.Fault → IsFaulted r job
-    says-fault is = told-fault (moment r last.k).dirs asked last.turn.task job reply-then (faulted-at last.k job last.turn) pending-last (subst (Told (moment r last.k).dirs asked last.turn.task reply-then) is last-tells)
+    says-fault is =
+        told-fault (moment r last.k).dirs asked last.turn.task job reply-then (faulted-at last.k job last.turn) pending-last
+        (subst (Told (moment r last.k).dirs asked last.turn.task reply-then) is last-tells)
 
     pub says-taken : a ≡ answer.NameTaken → ⊥
-    says-taken is = told-taken (moment r last.k).dirs asked last.turn.task job reply-then pending-last (subst (Told (moment r last.k).dirs asked last.turn.task reply-then) is last-tells)
+    says-taken is =
+        told-taken (moment r last.k).dirs asked last.turn.task job reply-then pending-last
+        (subst (Told (moment r last.k).dirs asked last.turn.task reply-then) is last-tells)
 
     pub last-look : IsOfLook a → Tells (moment r last.k).dirs asked last.turn.task reply-then a
     last-look look = told-look (moment r last.k).dirs asked last.turn.task job reply-then a look pending-last last-tells

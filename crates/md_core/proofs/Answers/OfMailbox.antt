@@ -19,13 +19,16 @@ IsOfMailbox answer.TmpGone = ⊥
 IsOfMailbox (answer.Cleaned n) = ⊥
 IsOfMailbox a = Unit {0}
 
-pub says_of_mailbox : (r : Run) → IsRun r → (job : ℕ) (c : Call) (a : Answer) → call_at r.calls job ≡ Some c → job_at (jobs_of r) job ≡ Some (answered a) → IsOfMailbox a → Says r job c a
+pub says_of_mailbox : (r : Run) → IsRun r → (job : ℕ) (c : Call) (a : Answer) → call_at r.calls job ≡ Some c →
+    job_at (jobs_of r) job ≡ Some (answered a) → IsOfMailbox a → Says r job c a
 says_of_mailbox r run job c a of is its = by a (last-step r run job a is) its
   where
     by : (a : Answer) → LastStep r job a → IsOfMailbox a → Says r job c a
     by answer.NotThere last its = says-none r run last.k job c of last.turn (last-look r run job c of answer.NotThere last tt)
-    by answer.NotTrashed last its = at-step r job last.k c answer.NotTrashed (is-step r last.k job last.turn) (last-look r run job c of answer.NotTrashed last tt)
-    by answer.OtherInfo last its = at-step r job last.k c answer.OtherInfo (is-step r last.k job last.turn) (last-look r run job c of answer.OtherInfo last tt)
+    by answer.NotTrashed last its =
+        at-step r job last.k c answer.NotTrashed (is-step r last.k job last.turn) (last-look r run job c of answer.NotTrashed last tt)
+    by answer.OtherInfo last its =
+        at-step r job last.k c answer.OtherInfo (is-step r last.k job last.turn) (last-look r run job c of answer.OtherInfo last tt)
     by answer.Lost last its = says-lost r run last.k job c of last.turn (last-look r run job c of answer.Lost last tt)
     by answer.Fault last its = says-fault r run job c of answer.Fault last refl
     by answer.NameTaken last its = says-taken r run job c of answer.NameTaken last refl

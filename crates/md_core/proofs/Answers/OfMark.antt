@@ -4,11 +4,10 @@ use Rattle.std.proofs.lemmas.Bool.{and_from, eq-eqb}
 use Rattle.std.proofs.lemmas.Bool.Decides.{nat_tests}
 use Rattle.std.specs.FinMap.{get}
 use Rattle.md_dirs.specs.Calls as dirs
-use Rattle.md_dirs.specs.Path.{place_index, path_of}
+use Rattle.md_dirs.specs.Path.{place_index}
 use Rattle.md_dirs.specs.Rows.{rows_of, row_named}
 use Rattle.md_dirs.specs.State.{State, file_at}
 use Rattle.md_dirs.specs.declared.paths.Place.{Place}
-use Rattle.md_dirs.specs.declared.paths.Place.TheVariants.{New, Cur}
 use Rattle.md_dirs.specs.declared.rows.Row.{Row}
 use Rattle.md_name.specs.Letters.{Set}
 use Rattle.md_name.specs.Names.{unique_of, info_of, flags_of, split_of}
@@ -58,13 +57,17 @@ alone-none : (box : Mailbox) (folder : ℕ) (u : List ℕ) (k : Marks) (tries : 
 alone-none box folder u (Seen given) tries none = ap (λ (o : Option Entry). (seen box u given o).answer) none
 alone-none box folder u (Flag add remove) tries none = ap (λ (o : Option Entry). (flag box u add remove o).answer) none
 
-alone-other : (box : Mailbox) (folder : ℕ) (u : List ℕ) (k : Marks) (tries : ℕ) (e : Entry) → such (is_in_place (place_by k) folder) (get box u) ≡ Some e → flags_in e ≡ None →
+alone-other : (box : Mailbox) (folder : ℕ) (u : List ℕ) (k : Marks) (tries : ℕ) (e : Entry) →
+    such (is_in_place (place_by k) folder) (get box u) ≡ Some e → flags_in e ≡ None →
     (alone (call_by folder u k tries) box).answer ≡ answer.OtherInfo
-alone-other box folder u (Seen given) tries e is none = ap (λ (o : Option Entry). (seen box u given o).answer) is ∙ ap (λ (o : Option Set). (seen_by box u given e o).answer) none
-alone-other box folder u (Flag add remove) tries e is none = ap (λ (o : Option Entry). (flag box u add remove o).answer) is ∙ ap (λ (o : Option Set). (flag_by box u add remove e o).answer) none
+alone-other box folder u (Seen given) tries e is none =
+    ap (λ (o : Option Entry). (seen box u given o).answer) is ∙ ap (λ (o : Option Set). (seen_by box u given e o).answer) none
+alone-other box folder u (Flag add remove) tries e is none =
+    ap (λ (o : Option Entry). (flag box u add remove o).answer) is ∙ ap (λ (o : Option Set). (flag_by box u add remove e o).answer) none
 
 -- an entry of a place is such a one
-pub such-there : (place : Place) (folder : ℕ) (o : Option Entry) (e : Entry) → o ≡ Some e → e.folder ≡ folder → e.place ≡ place → such (is_in_place place folder) o ≡ Some e
+pub such-there : (place : Place) (folder : ℕ) (o : Option Entry) (e : Entry) → o ≡ Some e → e.folder ≡ folder → e.place ≡ place →
+    such (is_in_place place folder) o ≡ Some e
 such-there place folder o e is inside at =
     ap (such (is_in_place place folder)) is
     ∙ ap (λ b. cond b (Some e) None) (and_from _ _ (eq-eqb _ _ (ap place_index at)) (eq-eqb _ _ inside))
@@ -86,30 +89,47 @@ module _ (s : State) (number : ℕ) (asked : Call) (at : Moment) (one : HasOnePa
       is_sought = h.unique ∙ sym (sought-mark m.folder m.unique m.mark fits.tries) ∙ ap sought (sym fits.of)
 
       if_kept : (had : Set) (b : Bool) → is_kept m.mark had ≡ b →
-          SaysLook (cond b (record { task = x; answer = Some (answer.Flags (wanted m.mark had)); effect = Some (kept number (wanted m.mark had)) })
+          SaysLook (cond b
+          (record { task = x; answer = Some (answer.Flags (wanted m.mark had)); effect = Some (kept number (wanted m.mark had)) })
           (record { task = at_stage m (Act row.name (wanted m.mark had) tries); answer = None; effect = None }))
       if_kept had true is = tt
       if_kept had false is = record {
-        tries = (refl, record { file = h.file; there = h.there; message = row-message s m.folder (place_by m.mark) m.unique row (no_tmp m.mark) h; unique = is_sought });
+        tries = (
+          refl,
+          record {
+            file = h.file;
+            there = h.there;
+            message = row-message s m.folder (place_by m.mark) m.unique row
+                (no_tmp m.mark) h;
+            unique = is_sought;
+          },
+        );
         looked = tt;
       }
 
       flags-says : (o : Option Set) → flags_of (info_of row.name) ≡ o → SaysLook (after_flags number x tries row.name o)
-      flags-says None is = by-call answer.OtherInfo (alone-other (mailbox_of s) m.folder m.unique m.mark fits.tries (entry_of s (source m row.name) h.file)
-          (such-there (place_by m.mark) m.folder (get (mailbox_of s) m.unique) (entry_of s (source m row.name) h.file) (row-entry s m.folder (place_by m.mark) m.unique row (no_tmp m.mark) one h) refl refl) is)
+      flags-says None is =
+          by-call answer.OtherInfo (alone-other (mailbox_of s) m.folder m.unique m.mark fits.tries (entry_of s (source m row.name) h.file)
+          (such-there (place_by m.mark) m.folder (get (mailbox_of s) m.unique) (entry_of s (source m row.name) h.file)
+          (row-entry s m.folder (place_by m.mark) m.unique row (no_tmp m.mark) one h) refl refl) is)
       flags-says (Some had) is = if_kept had (is_kept m.mark had) refl
 
       split_is : split_of row.name ≡ Some (unique_of row.name, info_of row.name)
       split_is = ap (λ b. cond {A = Option (List ℕ × Info)} b (Some (unique_of row.name, info_of row.name)) None) h.named
 
       found-says : SaysLook (after_row number x tries (Some row))
-      found-says = subst (λ (o : Option (List ℕ × Info)). SaysLook (after_split number x tries row.name o)) (sym split_is) (flags-says (flags_of (info_of row.name)) refl)
+      found-says =
+          subst (λ (o : Option (List ℕ × Info)). SaysLook (after_split number x tries row.name o)) (sym split_is)
+          (flags-says (flags_of (info_of row.name)) refl)
 
     row-says : (o : Option Row) → row_named m.unique (rows_of s m.folder (place_by m.mark)) ≡ o → SaysLook (after_row number x tries o)
-    row-says None is = by-call answer.NotThere (alone-none (mailbox_of s) m.folder m.unique m.mark fits.tries (no-entry s m.folder (place_by m.mark) m.unique is))
+    row-says None is =
+        by-call answer.NotThere
+        (alone-none (mailbox_of s) m.folder m.unique m.mark fits.tries (no-entry s m.folder (place_by m.mark) m.unique is))
     row-says (Some row) is = found-says row (found-row s m.folder (place_by m.mark) m.unique row fits.valid is)
 
-    look-says : (r : DirReply) → r ≡ reply_of (dirs.list m.folder (place_by m.mark)) s faulted → SaysBy s number asked x at.clock (look_turn number x tries) r
+    look-says : (r : DirReply) → r ≡ reply_of (dirs.list m.folder (place_by m.mark)) s faulted →
+        SaysBy s number asked x at.clock (look_turn number x tries) r
     look-says reply.Ok replied = row-says (row_named m.unique (rows_of s m.folder (place_by m.mark))) refl
     look-says reply.Exists replied = absurd (list-exists s faulted m.folder (place_by m.mark) fits.in_folder replied)
     look-says reply.NotFound replied = absurd (list-not_found s faulted m.folder (place_by m.mark) fits.in_folder replied)
@@ -121,21 +141,27 @@ module _ (s : State) (number : ℕ) (asked : Call) (at : Moment) (one : HasOnePa
     y = at_stage m (Act name flags tries)
 
     again : file_at s (source m name) ≡ None → (b : Bool) → nat_le tries 1 ≡ b → TurnSays s s asked (Mark y) reply.NotFound
-        (as_after (cond b (record { task = y; answer = Some answer.Lost; effect = None }) (record { task = at_stage m (Look (tries - 1)); answer = None; effect = None })))
+        (as_after (cond b (record { task = y; answer = Some answer.Lost; effect = None })
+        (record { task = at_stage m (Look (tries - 1)); answer = None; effect = None })))
     again none true is = (grind (arith, nat_tests), none)
     again none false is = let more : 1 < tries = grind (arith, nat_tests) in record { tries = (omega (arith, more), none); looked = tt }
 
-    act-says : (r : DirReply) → r ≡ reply_of (dirs.rename (source m name) (target m flags)) s faulted → SaysBy s number asked y at.clock (act_turn number y name flags tries) r
+    act-says : (r : DirReply) → r ≡ reply_of (dirs.rename (source m name) (target m flags)) s faulted →
+        SaysBy s number asked y at.clock (act_turn number y name flags tries) r
     act-says reply.Ok replied = tt
     act-says reply.Exists replied = absurd (rename-exists s faulted (source m name) (target m flags) replied)
-    act-says reply.NotFound replied = again (rename-not_found s faulted (source m name) (target m flags) fits.in_folder replied) (nat_le tries 1) refl
+    act-says reply.NotFound replied =
+        again (rename-not_found s faulted (source m name) (target m flags) fits.in_folder replied) (nat_le tries 1) refl
     act-says reply.Fault replied = refl
 
   stage-says : (stage : Stage) → MarkingFits s asked (at_stage m stage) →
-      SaysBy s number asked (at_stage m stage) at.clock (stage_turn number (at_stage m stage) stage) (reply_of (ask_of (stage_turn number (at_stage m stage) stage).asked at.clock) s faulted)
+      SaysBy s number asked (at_stage m stage) at.clock (stage_turn number (at_stage m stage) stage)
+      (reply_of (ask_of (stage_turn number (at_stage m stage) stage).asked at.clock) s faulted)
   stage-says (Look tries) fits = look-says tries fits (reply_of (dirs.list m.folder (place_by m.mark)) s faulted) refl
-  stage-says (Act name flags tries) fits = act-says name flags tries fits (reply_of (dirs.rename (source m name) (target m flags)) s faulted) refl
+  stage-says (Act name flags tries) fits =
+      act-says name flags tries fits (reply_of (dirs.rename (source m name) (target m flags)) s faulted) refl
 
   -- What a turn of a marking says, whatever its stage.
-  pub marking-says : MarkingFits s asked m → SaysBy s number asked m at.clock (marking_turn number m) (reply_of (ask_of (marking_turn number m).asked at.clock) s faulted)
+  pub marking-says : MarkingFits s asked m →
+      SaysBy s number asked m at.clock (marking_turn number m) (reply_of (ask_of (marking_turn number m).asked at.clock) s faulted)
   marking-says fits = stage-says m.stage fits

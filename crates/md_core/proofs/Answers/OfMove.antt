@@ -1,5 +1,5 @@
 -- What each turn of a move says, by its stage and the reply.
-use Rattle.std.proofs.Common.{ℕ, ◌≡◌, List, Option, Some, None, Bool, true, refl, sym, ap, subst, ◌∙◌}
+use Rattle.std.proofs.Common.{ℕ, ◌≡◌, List, None, Bool, true, refl, sym, ap, subst}
 use Rattle.md_dirs.specs.Calls as dirs
 use Rattle.md_dirs.specs.State.{State, file_at}
 use Rattle.md_dirs.specs.Rows.{rows_of, row_named}
@@ -38,11 +38,13 @@ module _ (s : State) (number : ℕ) (asked : Call) (at : Moment) (one : HasOnePa
   SaysNext stage r next = TurnSays s s asked (Move (at_stage m stage)) r (as_after Move (leads (at_stage m stage) (at_stage m) next))
 
   -- a path of what it looks for
-  its-path : (stage : Stage) (fits : MovingFits s asked (at_stage m stage)) (place : Place) (row : Row) → IsPathOf s m.unique (source m place row.name) →
+  its-path : (stage : Stage) (fits : MovingFits s asked (at_stage m stage)) (place : Place) (row : Row) →
+      IsPathOf s m.unique (source m place row.name) →
       IsPathOf s (sought asked) (source m place row.name)
   its-path stage fits place row h = subst (λ (u : List ℕ). IsPathOf s u (source m place row.name)) (ap sought (sym fits.of)) h
 
-  new-leads : (tries : ℕ) → MovingFits s asked (at_stage m (LookNew tries)) → (r : DirReply) (next : Next) → Knows s m.folder m.unique true New tries r next → SaysNext (LookNew tries) r next
+  new-leads : (tries : ℕ) → MovingFits s asked (at_stage m (LookNew tries)) → (r : DirReply) (next : Next) →
+      Knows s m.folder m.unique true New tries r next → SaysNext (LookNew tries) r next
   new-leads tries fits r (To (LookNew left)) h = absurd h
   new-leads tries fits r (To (LookCur left)) h = record { tries = h.0; looked = h.1 }
   new-leads tries fits r (To (Act place row left)) h = record { tries = (h.0, its-path (LookNew tries) fits place row h.1); looked = tt }
@@ -51,7 +53,8 @@ module _ (s : State) (number : ℕ) (asked : Call) (at : Moment) (one : HasOnePa
   new-leads tries fits r (Ends answer.Fault) h = h
   new-leads tries fits r (Ends a) h = absurd h
 
-  cur-leads : (tries : ℕ) → MovingFits s asked (at_stage m (LookCur tries)) → (r : DirReply) (next : Next) → Knows s m.folder m.unique true Cur tries r next → SaysNext (LookCur tries) r next
+  cur-leads : (tries : ℕ) → MovingFits s asked (at_stage m (LookCur tries)) → (r : DirReply) (next : Next) →
+      Knows s m.folder m.unique true Cur tries r next → SaysNext (LookCur tries) r next
   cur-leads tries fits r (To (LookNew left)) h = absurd h
   cur-leads tries fits r (To (LookCur left)) h = record { tries = h.0; looked = h.1 }
   cur-leads tries fits r (To (Act place row left)) h = record { tries = (h.0, its-path (LookCur tries) fits place row h.1); looked = tt }
@@ -65,8 +68,10 @@ module _ (s : State) (number : ℕ) (asked : Call) (at : Moment) (one : HasOnePa
   found tries place r = after_look true place tries r (row_named m.unique (rows_of s m.folder place))
 
   -- a directory is listed
-  look-says : (stage : Stage) (place : Place) (tries : ℕ) → ((r : DirReply) → r ≡ reply_of (dirs.list m.folder place) s faulted → SaysNext stage r (found tries place r)) →
-      (r : DirReply) → r ≡ reply_of (dirs.list m.folder place) s faulted → SaysBy s number asked (at_stage m stage) at.clock (look_turn (at_stage m stage) place tries) r
+  look-says : (stage : Stage) (place : Place) (tries : ℕ) →
+      ((r : DirReply) → r ≡ reply_of (dirs.list m.folder place) s faulted → SaysNext stage r (found tries place r)) →
+      (r : DirReply) → r ≡ reply_of (dirs.list m.folder place) s faulted →
+      SaysBy s number asked (at_stage m stage) at.clock (look_turn (at_stage m stage) place tries) r
   look-says stage place tries h reply.Ok replied = h reply.Ok replied
   look-says stage place tries h reply.Exists replied = h reply.Exists replied
   look-says stage place tries h reply.NotFound replied = h reply.NotFound replied
@@ -74,7 +79,8 @@ module _ (s : State) (number : ℕ) (asked : Call) (at : Moment) (one : HasOnePa
 
   -- the name that was found is taken to the other folder
   module _ (place : Place) (row : Row) (tries : ℕ) (fits : MovingFits s asked (at_stage m (Act place row tries))) where
-    again : file_at s (source m place row.name) ≡ None → (next : Next) → IsAgain tries next → SaysNext (Act place row tries) reply.NotFound next
+    again : file_at s (source m place row.name) ≡ None → (next : Next) → IsAgain tries next →
+        SaysNext (Act place row tries) reply.NotFound next
     again none (To (LookNew left)) h = record { tries = (h, none); looked = tt }
     again none (To (LookCur left)) h = absurd h
     again none (To (Act p q left)) h = absurd h
@@ -82,20 +88,27 @@ module _ (s : State) (number : ℕ) (asked : Call) (at : Moment) (one : HasOnePa
     again none (Ends a) h = absurd h
 
     act-says : (r : DirReply) → r ≡ reply_of (dirs.rename (source m place row.name) (target m place row.name)) s faulted →
-        SaysBy s number asked (at_stage m (Act place row tries)) at.clock (rename_turn number (at_stage m (Act place row tries)) place row.name tries) r
+        SaysBy s number asked (at_stage m (Act place row tries)) at.clock
+        (rename_turn number (at_stage m (Act place row tries)) place row.name tries) r
     act-says reply.Ok replied = tt
     act-says reply.Exists replied = absurd (rename-exists s faulted (source m place row.name) (target m place row.name) replied)
-    act-says reply.NotFound replied = again (rename-not_found s faulted (source m place row.name) (target m place row.name) fits.to_folder replied) (after_lost tries) (lost-again tries)
+    act-says reply.NotFound replied =
+        again (rename-not_found s faulted (source m place row.name) (target m place row.name) fits.to_folder replied) (after_lost tries)
+        (lost-again tries)
     act-says reply.Fault replied = refl
 
   stage-says : (stage : Stage) → MovingFits s asked (at_stage m stage) →
-      SaysBy s number asked (at_stage m stage) at.clock (stage_turn number (at_stage m stage) stage) (reply_of (ask_of (stage_turn number (at_stage m stage) stage).asked at.clock) s faulted)
+      SaysBy s number asked (at_stage m stage) at.clock (stage_turn number (at_stage m stage) stage)
+      (reply_of (ask_of (stage_turn number (at_stage m stage) stage).asked at.clock) s faulted)
   stage-says (LookNew tries) fits = look-says (LookNew tries) New tries
-      (λ r replied. new-leads tries fits r (found tries New r) (look-knows s m.folder m.unique true fits.valid one tries faulted New refl fits.in_folder r replied)) _ refl
+      (λ r replied. new-leads tries fits r (found tries New r)
+      (look-knows s m.folder m.unique true fits.valid one tries faulted New refl fits.in_folder r replied)) _ refl
   stage-says (LookCur tries) fits = look-says (LookCur tries) Cur tries
-      (λ r replied. cur-leads tries fits r (found tries Cur r) (look-knows s m.folder m.unique true fits.valid one tries faulted Cur refl fits.in_folder r replied)) _ refl
+      (λ r replied. cur-leads tries fits r (found tries Cur r)
+      (look-knows s m.folder m.unique true fits.valid one tries faulted Cur refl fits.in_folder r replied)) _ refl
   stage-says (Act place row tries) fits = act-says place row tries fits _ refl
 
   -- What a turn of a move says, whatever its stage.
-  pub moving-says : MovingFits s asked m → SaysBy s number asked m at.clock (moving_turn number m) (reply_of (ask_of (moving_turn number m).asked at.clock) s faulted)
+  pub moving-says : MovingFits s asked m →
+      SaysBy s number asked m at.clock (moving_turn number m) (reply_of (ask_of (moving_turn number m).asked at.clock) s faulted)
   moving-says fits = stage-says m.stage fits

@@ -12,8 +12,6 @@ use Rattle.md_dirs.specs.declared.paths.Place.TheVariants.{Tmp, New, Cur}
 use Rattle.md_dirs.specs.declared.rows.Row.{Row}
 use Rattle.md_name.specs.Letters.{Set}
 use Rattle.md_name.specs.Names.{flags_of, is_unique_name}
-use Rattle.md_name.specs.declared.info.Info.{Info}
-use Rattle.md_core.specs.declared.jobs.answer.Answer.{Answer}
 use Rattle.md_core.specs.declared.jobs.answer.Answer.TheVariants as answer
 use Rattle.md_core.specs.declared.jobs.search.Stage.TheVariants.{LookNew, LookCur, Act}
 use Rattle.md_core.specs.declared.jobs.search.Next.{Next}
@@ -46,7 +44,8 @@ Knows s folder u any place tries r (Ends answer.Fault) = r ≡ reply.Fault
 Knows s folder u any place tries r (Ends a) = ⊥
 
 module _ (s : State) (folder : ℕ) (u : List ℕ) (any : Bool) (valid : is_unique_name u ≡ true) (one : HasOnePath s) (tries : ℕ) where
-  none-knows : (place : Place) → is_tmp place ≡ false → such (is_in_place place folder) (get (mailbox_of s) u) ≡ None → Knows s folder u any place tries reply.Ok (after_none place tries)
+  none-knows : (place : Place) → is_tmp place ≡ false → such (is_in_place place folder) (get (mailbox_of s) u) ≡ None →
+      Knows s folder u any place tries reply.Ok (after_none place tries)
   none-knows Tmp no_tmp none = cc
   none-knows New no_tmp none = (refl, none)
   none-knows Cur no_tmp none = (refl, none)
@@ -55,11 +54,13 @@ module _ (s : State) (folder : ℕ) (u : List ℕ) (any : Bool) (valid : is_uniq
   no-flags None is = refl
   no-flags (Some flags) is = cc
 
-  row-knows : (place : Place) → is_tmp place ≡ false → (o : Option Row) → row_named u (rows_of s folder place) ≡ o → Knows s folder u any place tries reply.Ok (after_row any place tries o)
+  row-knows : (place : Place) → is_tmp place ≡ false → (o : Option Row) → row_named u (rows_of s folder place) ≡ o →
+      Knows s folder u any place tries reply.Ok (after_row any place tries o)
   row-knows place no_tmp None is = none-knows place no_tmp (no-entry s folder place u is)
   row-knows place no_tmp (Some row) is = by (acts_on any row.name) refl
     where
-      by : (b : Bool) → acts_on any row.name ≡ b → Knows s folder u any place tries reply.Ok (cond b (To (Act place row tries)) (Ends answer.OtherInfo))
+      by : (b : Bool) → acts_on any row.name ≡ b →
+          Knows s folder u any place tries reply.Ok (cond b (To (Act place row tries)) (Ends answer.OtherInfo))
       by true acts =
           let h = found-row s folder place u row valid is in
           (refl, record { file = h.file; there = h.there; message = row-message s folder place u row no_tmp h; unique = h.unique })
@@ -76,7 +77,8 @@ module _ (s : State) (folder : ℕ) (u : List ℕ) (any : Bool) (valid : is_uniq
           )
 
   -- a look-up in new or cur, in a folder that is there
-  pub look-knows : (faulted : Bool) (place : Place) → is_tmp place ≡ false → folder < s.folders → (r : DirReply) → r ≡ reply_of (dirs.list folder place) s faulted →
+  pub look-knows : (faulted : Bool) (place : Place) → is_tmp place ≡ false → folder < s.folders → (r : DirReply) →
+      r ≡ reply_of (dirs.list folder place) s faulted →
       Knows s folder u any place tries r (after_look any place tries r (row_named u (rows_of s folder place)))
   look-knows faulted place no_tmp within reply.Ok replied = row-knows place no_tmp (row_named u (rows_of s folder place)) refl
   look-knows faulted place no_tmp within reply.Exists replied = absurd (list-exists s faulted folder place within replied)

@@ -1,5 +1,5 @@
 -- What one look-up says is so at its moment; and what a search says that looked in new and then in cur is so at one of the two moments.
-use Rattle.std.proofs.Common.{ℕ, ◌≡◌, ◌<◌, ◌≤◌, ◌+◌, ◌⊎◌, inl, inr, List, Option, Some, None, Bool, true, false, cond, not, ◌==◌, ◌&&◌, refl, sym, ap, subst, ◌∙◌, length, arith}
+use Rattle.std.proofs.Common.{ℕ, ◌≡◌, ◌<◌, ◌≤◌, ◌+◌, ◌⊎◌, inl, inr, List, Option, Some, None, Bool, true, false, cond, not, refl, sym, ap, subst, ◌∙◌, length, arith}
 use Rattle.std.proofs.lemmas.Bool.{eq-eqb, and_from, and_parts, not-true}
 use Rattle.std.specs.FinMap.{get}
 use Rattle.md_dirs.specs.Path.{place_index}
@@ -15,19 +15,19 @@ use Rattle.md_core.specs.declared.jobs.search.Stage.TheVariants.{LookNew, LookCu
 use Rattle.md_core.specs.declared.jobs.step.DirReply.{DirReply}
 use Rattle.md_core.specs.declared.jobs.task.Task.{Task}
 use Rattle.md_core.specs.declared.jobs.task.Task.TheVariants.{Deliver, Mark, Move, Expunge, Copy, Clean}
-use Rattle.md_core.specs.Mailbox.{Entry, mailbox_of, is_tmp, is_message}
+use Rattle.md_core.specs.Mailbox.{Entry, is_tmp}
 use Rattle.md_core.specs.Alone.{moved, copied, such, is_in_place, is_in_folder}
-use Rattle.md_core.specs.Machine.{Machine, Standing, working, answered, job_at, new_job}
+use Rattle.md_core.specs.Machine.{Standing, working, answered, job_at, new_job}
 use Rattle.md_core.specs.Runs.{Run, moment, box, call_at}
 use Rattle.md_core.specs.Turn.{After}
 use Rattle.md_core.specs.Interleaving.{IsRun}
-use Rattle.md_core.specs.Answering.{IsStep, IsInSpan, IsOfSpan}
+use Rattle.md_core.specs.Answering.{IsStep, IsOfSpan}
 use Rattle.md_core.proofs.Good.{TaskFits}
 use Rattle.md_core.proofs.Shown.{mailbox-shows}
 use Rattle.md_core.proofs.Answers.LastStep.{IsTurn, reply_in, left_by, is-step, is_within, holds}
 use Rattle.md_core.proofs.Answers.Turns.{IsAlone, IsPastNew, IsPastCur, FindsNone, HasLooked}
 use Rattle.md_core.proofs.Answers.EachSays.{TaskSays, UndoesTask, IsClean, turn-says, fits-at}
-use Rattle.md_core.proofs.Answers.OfFault.{at-none}
+use Rattle.md_core.proofs.Answers.Told.{at-none}
 use Rattle.md_core.proofs.Answers.StaysInCur.{stays-in_cur}
 
 -- what a call would be answered alone at a step of its job
@@ -104,7 +104,8 @@ module _ (r : Run) (k job : ℕ) where
   clean-searched (Clean c) h = tt
   clean-searched task h = absurd h
 
-  searched-on : (s' : State) (c : Call) (step : IsStep r job k) (task : Task) (given : DirReply) (after : After Task) → TaskSays (moment r k).dirs s' c given task after →
+  searched-on : (s' : State) (c : Call) (step : IsStep r job k) (task : Task) (given : DirReply) (after : After Task) →
+      TaskSays (moment r k).dirs s' c given task after →
       after.answer ≡ None → SearchedBy r (k + 1) job after.task
   searched-on s' c step (Deliver d) given after says none = undoing-searched given after.task (at-none after.answer _ _ none says)
   searched-on s' c step (Mark m) given after says none = just-searched step after.task (at-none after.answer _ _ none says).looked
@@ -115,7 +116,8 @@ module _ (r : Run) (k job : ℕ) where
 
   later : (folder : ℕ) (u : List ℕ) (stage : Stage) → SearchedAt r k job folder u stage → SearchedAt r (k + 1) job folder u stage
   later folder u (LookNew tries) h = tt
-  later folder u (LookCur tries) h = record { from = h.from; begun = h.begun; before = (let b = h.before in omega (arith, b)); none = h.none }
+  later folder u (LookCur tries) h =
+      record { from = h.from; begun = h.begun; before = (let b = h.before in omega (arith, b)); none = h.none }
   later folder u (Act place row tries) h = tt
 
   still-searched : (task : Task) → SearchedBy r k job task → SearchedBy r (k + 1) job task
@@ -131,7 +133,8 @@ module _ (r : Run) (run : IsRun r) where
   searched-at = holds r run (Searched r)
       (λ job c task of new c' of'. subst (AtWork r job) new (new-searched r job c))
       (λ k job t none was c of.
-      searched-on r k job (moment r (k + 1)).dirs c (is-step r k job t) t.task (reply_in (moment r k) t.event t.task) (left_by r k job t) (turn-says r run k job c of t) none)
+      searched-on r k job (moment r (k + 1)).dirs c (is-step r k job t) t.task (reply_in (moment r k) t.event t.task) (left_by r k job t)
+      (turn-says r run k job c of t) none)
       (λ k job task e at differ there was c of. still-searched r k job task (was c of))
 
   -- ---- not in new, and then not in cur
@@ -144,10 +147,12 @@ module _ (r : Run) (run : IsRun r) where
     outside : (o : Option Entry) (e : Entry) → o ≡ Some e → is_in_folder folder e ≡ false → such (is_in_folder folder) o ≡ None
     outside o e is out = ap (such (is_in_folder folder)) is ∙ ap (λ b. cond b (Some e) None) out
 
-    in-place : (place : Place) (o : Option Entry) (e : Entry) → o ≡ Some e → such (is_in_place place folder) o ≡ None → is_in_folder folder e ≡ true → e.place ≡ place → ⊥
+    in-place : (place : Place) (o : Option Entry) (e : Entry) → o ≡ Some e → such (is_in_place place folder) o ≡ None →
+        is_in_folder folder e ≡ true → e.place ≡ place → ⊥
     in-place place o e is none inside at =
         let yes : is_in_place place folder e ≡ true = and_from _ _ (eq-eqb _ _ (ap place_index at)) inside in
-        let some : such (is_in_place place folder) o ≡ Some e = ap (such (is_in_place place folder)) is ∙ ap (λ b. cond b (Some e) None) yes in
+        let some : such (is_in_place place folder) o ≡ Some e =
+        ap (such (is_in_place place folder)) is ∙ ap (λ b. cond b (Some e) None) yes in
         let both : Some e ≡ None = sym some ∙ none in
         cc
 
@@ -160,11 +165,13 @@ module _ (r : Run) (run : IsRun r) where
         by (Some e) is = on (is_in_folder folder e) refl
           where
             on : (b : Bool) → is_in_folder folder e ≡ b → InFolder j ≡ None
-            on true inside = absurd (in-place Cur (get (box (moment r j)) u) e is not_cur inside (stays-in_cur r run i u x there at j within e is))
+            on true inside =
+                absurd (in-place Cur (get (box (moment r j)) u) e is not_cur inside (stays-in_cur r run i u x there at j within e is))
             on false out = outside (get (box (moment r j)) u) e is out
 
     -- a message is in new or cur
-    by-place : (x : Entry) → get (box (moment r i)) u ≡ Some x → is_in_folder folder x ≡ true → (p : Place) → x.place ≡ p → InFolder j ≡ None
+    by-place : (x : Entry) → get (box (moment r i)) u ≡ Some x → is_in_folder folder x ≡ true → (p : Place) → x.place ≡ p →
+        InFolder j ≡ None
     by-place x there inside Tmp at =
         let h = mailbox-shows (moment r i).dirs u x there in
         let no : is_tmp h.path.place ≡ false = not-true (is_tmp h.path.place) (and_parts (not (is_tmp h.path.place)) _ h.message).0 in
@@ -186,8 +193,10 @@ module _ (r : Run) (run : IsRun r) where
 
   -- what a search says that ended behind cur
   module _ (k job : ℕ) (c : Call) (step : IsStep r job k) (folder : ℕ) (u : List ℕ)
-      (alone-none : (i : ℕ) → such (is_in_folder folder) (get (box (moment r i)) u) ≡ None → IsAlone (moment r i).dirs c answer.NotThere) where
-    search-none : (stage : Stage) → IsPastCur (moment r k).dirs folder u stage → SearchedAt r k job folder u stage → IsOfSpan r job c answer.NotThere
+      (alone-none : (i : ℕ) → such (is_in_folder folder) (get (box (moment r i)) u) ≡ None →
+      IsAlone (moment r i).dirs c answer.NotThere) where
+    search-none : (stage : Stage) → IsPastCur (moment r k).dirs folder u stage → SearchedAt r k job folder u stage →
+        IsOfSpan r job c answer.NotThere
     search-none (LookNew tries) none was = absurd none
     search-none (LookCur tries) none was = let b = was.before in elim (not-there was.from k (omega (arith, b)) folder u was.none none) [
       | inl first ↦ at-step r job was.from c answer.NotThere was.begun (alone-none was.from first)
@@ -196,18 +205,24 @@ module _ (r : Run) (run : IsRun r) where
     search-none (Act place row tries) none was = absurd none
 
   -- nothing was found at the last turn of a job
-  pub says-none : (k job : ℕ) (c : Call) → call_at r.calls job ≡ Some c → (t : IsTurn r k job) → FindsNone (moment r k).dirs c t.task → IsOfSpan r job c answer.NotThere
-  says-none k job c of t finds = by t.task finds (searched-at k job t.task (let within = is_within r k job t in omega (arith, within)) t.there c of) (fits-at r run k job c of t.task t.there)
+  pub says-none : (k job : ℕ) (c : Call) → call_at r.calls job ≡ Some c → (t : IsTurn r k job) → FindsNone (moment r k).dirs c t.task →
+      IsOfSpan r job c answer.NotThere
+  says-none k job c of t finds =
+      by t.task finds (searched-at k job t.task (let within = is_within r k job t in omega (arith, within)) t.there c of)
+      (fits-at r run k job c of t.task t.there)
     where
       step : IsStep r job k
       step = is-step r k job t
 
-      by : (task : Task) → FindsNone (moment r k).dirs c task → SearchedBy r k job task → TaskFits (moment r k).dirs c task → IsOfSpan r job c answer.NotThere
+      by : (task : Task) → FindsNone (moment r k).dirs c task → SearchedBy r k job task → TaskFits (moment r k).dirs c task →
+          IsOfSpan r job c answer.NotThere
       by (Deliver d) h was fits = absurd h
       by (Mark m) h was fits = at-step r job k c answer.NotThere step h
       by (Move m) h was fits = search-none k job c step m.folder m.unique
-          (λ i none. subst (λ (x : Call). IsAlone (moment r i).dirs x answer.NotThere) (sym fits.of) (ap (λ (o : Option Entry). (moved (box (moment r i)) m.unique m.to o).answer) none)) m.stage h was
+          (λ i none. subst (λ (x : Call). IsAlone (moment r i).dirs x answer.NotThere) (sym fits.of)
+          (ap (λ (o : Option Entry). (moved (box (moment r i)) m.unique m.to o).answer) none)) m.stage h was
       by (Expunge x) h was fits = at-step r job k c answer.NotThere step h
       by (Copy x) h was fits = search-none k job c step x.folder x.unique
-          (λ i none. subst (λ (y : Call). IsAlone (moment r i).dirs y answer.NotThere) (sym fits.of) (ap (λ (o : Option Entry). (copied (box (moment r i)) x.to x.fresh o).answer) none)) x.stage h was
+          (λ i none. subst (λ (y : Call). IsAlone (moment r i).dirs y answer.NotThere) (sym fits.of)
+          (ap (λ (o : Option Entry). (copied (box (moment r i)) x.to x.fresh o).answer) none)) x.stage h was
       by (Clean x) h was fits = absurd h

@@ -1,19 +1,18 @@
 -- What a reply that a call was not done says of the directories.
-use Rattle.std.proofs.Common.{ℕ, ◌≡◌, ◌<◌, List, Option, Some, None, Bool, true, false, cond, is_some, nat_lt, refl, sym, ap, subst, ◌∙◌, arith}
+use Rattle.std.proofs.Common.{ℕ, ◌≡◌, ◌<◌, List, Option, Some, None, Bool, true, false, cond, is_some, nat_lt, refl, ap, arith}
 use Rattle.std.proofs.lemmas.Bool.Decides.{nat_tests}
 use Rattle.md_dirs.specs.Calls as dirs
-use Rattle.md_dirs.specs.Calls.{Ask}
 use Rattle.md_dirs.specs.State.{State, file_at, has_folder}
 use Rattle.md_dirs.specs.declared.calls.DirError.{DirError}
 use Rattle.md_dirs.specs.declared.calls.DirError.TheVariants.{Exists, NotFound, Fault, NoMemory}
 use Rattle.md_dirs.specs.declared.paths.Path.{Path}
 use Rattle.md_dirs.specs.declared.paths.Place.{Place}
 use Rattle.md_core.specs.Turn.{reply_of, reply_by}
-use Rattle.md_core.specs.declared.jobs.step.DirReply.{DirReply}
 use Rattle.md_core.specs.declared.jobs.step.DirReply.TheVariants as reply
 
 -- a call that says that a name is there, or isn't, was refused for that
-by-exists : (refusal : Option DirError) (faulted : Bool) → reply.Exists ≡ cond faulted reply.Fault (reply_by refusal) → refusal ≡ Some Exists
+by-exists : (refusal : Option DirError) (faulted : Bool) → reply.Exists ≡ cond faulted reply.Fault (reply_by refusal) →
+    refusal ≡ Some Exists
 by-exists refusal true is = cc
 by-exists None false is = cc
 by-exists (Some Exists) false is = refl
@@ -21,7 +20,8 @@ by-exists (Some NotFound) false is = cc
 by-exists (Some Fault) false is = cc
 by-exists (Some NoMemory) false is = cc
 
-by-not_found : (refusal : Option DirError) (faulted : Bool) → reply.NotFound ≡ cond faulted reply.Fault (reply_by refusal) → refusal ≡ Some NotFound
+by-not_found : (refusal : Option DirError) (faulted : Bool) → reply.NotFound ≡ cond faulted reply.Fault (reply_by refusal) →
+    refusal ≡ Some NotFound
 by-not_found refusal true is = cc
 by-not_found None false is = cc
 by-not_found (Some Exists) false is = cc
@@ -39,7 +39,8 @@ only true e f refused = cc
 only false e f refused = cc
 
 -- a call on a name that is there is refused for want of a folder, if for anything
-gone : (o : Option ℕ) (housed : Bool) (later : Option DirError) → housed ≡ true → later ≡ None → cond (is_some o) (cond housed later (Some NotFound)) (Some NotFound) ≡ Some NotFound → o ≡ None
+gone : (o : Option ℕ) (housed : Bool) (later : Option DirError) → housed ≡ true → later ≡ None →
+    cond (is_some o) (cond housed later (Some NotFound)) (Some NotFound) ≡ Some NotFound → o ≡ None
 gone None housed later is none refused = refl
 gone (Some n) true later is none refused = cc
 gone (Some n) false later is none refused = cc
@@ -100,14 +101,16 @@ module _ (s : State) (faulted : Bool) where
         by (Some n) false refused = cc
 
     pub rename-not_found : new.folder < s.folders → reply.NotFound ≡ reply_of (dirs.rename old new) s faulted → file_at s old ≡ None
-    rename-not_found within is = gone (file_at s old) (has_folder s new) None (has-folder new.folder s.folders within) refl (by-not_found _ faulted is)
+    rename-not_found within is =
+        gone (file_at s old) (has_folder s new) None (has-folder new.folder s.folders within) refl (by-not_found _ faulted is)
 
     -- a name that gets a second
     module _ (unused : file_at s new ≡ None) where
       pub link-exists : reply.Exists ≡ reply_of (dirs.link old new) s faulted → ⊥
       link-exists is = by (file_at s old) (has_folder s new) (file_at s new) unused (by-exists _ faulted is)
         where
-          by : (o : Option ℕ) (b : Bool) (n : Option ℕ) → n ≡ None → cond (is_some o) (cond b (cond (is_some n) (Some Exists) None) (Some NotFound)) (Some NotFound) ≡ Some Exists → ⊥
+          by : (o : Option ℕ) (b : Bool) (n : Option ℕ) → n ≡ None →
+              cond (is_some o) (cond b (cond (is_some n) (Some Exists) None) (Some NotFound)) (Some NotFound) ≡ Some Exists → ⊥
           by None b n none refused = cc
           by (Some m) false n none refused = cc
           by (Some m) true None none refused = cc
@@ -115,5 +118,6 @@ module _ (s : State) (faulted : Bool) where
 
       pub link-not_found : new.folder < s.folders → reply.NotFound ≡ reply_of (dirs.link old new) s faulted → file_at s old ≡ None
       link-not_found within is =
-          let free : cond {A = Option DirError} (is_some (file_at s new)) (Some Exists) None ≡ None = ap (λ (o : Option ℕ). cond {A = Option DirError} (is_some o) (Some Exists) None) unused in
+          let free : cond {A = Option DirError} (is_some (file_at s new)) (Some Exists) None ≡ None =
+          ap (λ (o : Option ℕ). cond {A = Option DirError} (is_some o) (Some Exists) None) unused in
           gone (file_at s old) (has_folder s new) _ (has-folder new.folder s.folders within) free (by-not_found _ faulted is)

@@ -1,11 +1,10 @@
 -- A message that is in cur at a moment of a run is in cur at each later one, or gone.
-use Rattle.std.proofs.Common.{ℕ, zero, suc, ◌≡◌, ◌≢◌, ◌≤◌, ◌+◌, ◌-◌, List, Option, Some, None, IfSome, refl, sym, ap, subst, ◌∙◌, length, arith}
+use Rattle.std.proofs.Common.{ℕ, zero, suc, ◌≡◌, ◌≤◌, ◌+◌, ◌-◌, List, Option, Some, None, IfSome, refl, sym, ap, subst, ◌∙◌, length, arith}
 use Rattle.std.specs.FinMap.{get}
 use Rattle.std.specs.Option.{option_map}
-use Rattle.md_dirs.specs.declared.paths.Place.{Place}
-use Rattle.md_dirs.specs.declared.paths.Place.TheVariants.{Tmp, Cur}
+use Rattle.md_dirs.specs.declared.paths.Place.TheVariants.{Cur}
 use Rattle.md_core.specs.declared.jobs.effect.Effect.{Effect}
-use Rattle.md_core.specs.Mailbox.{Entry, Mailbox, mailbox_of}
+use Rattle.md_core.specs.Mailbox.{Entry, Mailbox}
 use Rattle.md_core.specs.History.{Names, names_of, listed}
 use Rattle.md_core.specs.Machine.{Machine, Done}
 use Rattle.md_core.specs.Runs.{Run, moment, box}
@@ -30,9 +29,11 @@ cur-kept r m m' what g u size known was = by what.effect g.does.as_alone g.does.
         IfSome o (Affects what.job g.asked m.dirs.folders (box m) (box m')) → IsInCur (get (names_of (box m')) u)
     by None same first affects = subst (λ (b : Mailbox). IsInCur (get (names_of b) u)) (sym same) was
     by (Some e) alone first affects =
-        let unmade : Makes g.asked u → ⊥ = known.unmade g.place g.asked g.task g.of g.there (ap (λ n. own_effect n g.task) (sym g.number_is) ∙ first) in
+        let unmade : Makes g.asked u → ⊥ =
+        known.unmade g.place g.asked g.task g.of g.there (ap (λ n. own_effect n g.task) (sym g.number_is) ∙ first) in
         subst (λ (n : Names). IsInCur (get n u)) (sym affects.changes)
-        (placed-kept (λ p. p ≡ Cur) refl m.dirs.folders (names_of (box m)) (Makes g.asked) u (λ p not_tmp makes. absurd (unmade makes)) e.answer e.change affects.allowed was)
+        (placed-kept (λ p. p ≡ Cur) refl m.dirs.folders (names_of (box m)) (Makes g.asked) u
+        (λ p not_tmp makes. absurd (unmade makes)) e.answer e.change affects.allowed was)
 
 module _ (r : Run) (run : IsRun r) (i : ℕ) (u : List ℕ) (x : Entry) (there : get (box (moment r i)) u ≡ Some x) (at : x.place ≡ Cur) where
   abbrev Stays : ℕ → Type 0
@@ -51,7 +52,8 @@ module _ (r : Run) (run : IsRun r) (i : ℕ) (u : List ℕ) (x : Entry) (there :
         known-more r.calls (moment r k) (moment r (k + 1)) (what-at r run each-turn k e is) g u (length x.bytes) was.0,
         cur-kept r (moment r k) (moment r (k + 1)) (what-at r run each-turn k e is) g u (length x.bytes) was.0 was.1,
       ))
-      (λ past. subst (λ (m : Machine). Known r.calls m u (length x.bytes) × IsInCur (get (names_of (box m)) u)) (sym (moment-over r k past)) was)
+      (λ past. subst (λ (m : Machine). Known r.calls m u (length x.bytes) × IsInCur (get (names_of (box m)) u))
+      (sym (moment-over r k past)) was)
 
   stays-by : (d : ℕ) → Stays (i + d)
   stays-by zero = let e : i ≡ i + 0 = omega arith in subst Stays e stays-first

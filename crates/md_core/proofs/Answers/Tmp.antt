@@ -1,4 +1,5 @@
--- What directory calls do to one path in tmp: they keep it and its file, whose stamp may become that of the call, or make it, or take it away.
+-- What directory calls do to one path in tmp: they keep it and its file, whose stamp may become that of the call, or make it, or take it
+-- away.
 use Rattle.std.proofs.Common.{ℕ, ◌≡◌, ◌≢◌, ◌⊎◌, inl, inr, List, Option, Some, None, Bool, true, false, cond, refl, sym, ap, ◌∙◌, slice_set, length, IsSome}
 use Rattle.std.specs.FinMap as finmap
 use Rattle.md_dirs.specs.State.{State, IsSound, file_at, file_by}

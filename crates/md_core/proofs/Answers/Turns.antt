@@ -1,5 +1,5 @@
 -- What a turn of a job that acts on one message says: of the answer that it gives, or of how the job goes on.
-use Rattle.std.proofs.Common.{ℕ, ◌≡◌, ◌+◌, ◌≤◌, List, [], Option, Some, None, true, MatchOption}
+use Rattle.std.proofs.Common.{ℕ, ◌≡◌, ◌+◌, ◌≤◌, List, [], Some, None, true, MatchOption}
 use Rattle.std.specs.FinMap.{get}
 use Rattle.md_dirs.specs.State.{State, file_at}
 use Rattle.md_dirs.specs.Path.{path_of}

@@ -17,21 +17,21 @@ use Rattle.md_core.specs.declared.jobs.step.DirReply.{DirReply}
 use Rattle.md_core.specs.declared.jobs.step.DirReply.TheVariants as reply
 use Rattle.md_core.specs.declared.jobs.task.Task.{Task}
 use Rattle.md_core.specs.declared.jobs.task.Task.TheVariants.{Deliver, Mark, Move, Expunge, Copy, Clean}
-use Rattle.md_core.specs.Machine.{Marked, working, job_at, new_job, turn_of}
+use Rattle.md_core.specs.Machine.{Marked, working, job_at, new_job}
 use Rattle.md_core.specs.Machines.Deliver.{new_delivery, at_stage, piece, append_turn, link_turn, unlink_turn, stage_turn, is_in_time}
 use Rattle.md_core.specs.Machines.Mark.{new_marking}
 use Rattle.md_core.specs.Machines.Move.{new_moving}
 use Rattle.md_core.specs.Machines.Expunge.{new_expunging}
 use Rattle.md_core.specs.Machines.Copy.{new_copying}
 use Rattle.md_core.specs.Machines.Clean.{new_cleaning}
-use Rattle.md_core.specs.Turn.{Turn, append, ask_of, rows_for, state_by}
+use Rattle.md_core.specs.Turn.{Turn, append, ask_of, state_by}
 use Rattle.md_core.specs.Runs.{Run, moment, call_at, first_step}
 use Rattle.md_core.specs.Interleaving.{IsRun}
 use Rattle.md_core.specs.Answering.{IsStep, IsCleanedAway}
 use Rattle.md_core.proofs.Good.{DeliveryFits, TaskFits}
 use Rattle.md_core.proofs.Frames.{makes-delivery}
 use Rattle.md_core.proofs.Answers.LastStep.{IsTurn, left_by, turn-at, holds, reply_in}
-use Rattle.md_core.proofs.Answers.Moments.{its-call, its-fits, sound-now, at, next-dirs, not-yet, is-first, first-is}
+use Rattle.md_core.proofs.Answers.Moments.{its-call, its-fits, sound-now, at, asked_by, after_task, next-dirs, not-yet, is-first, first-is}
 use Rattle.md_core.proofs.Answers.Tmp.{KeepsPath, touches}
 use Rattle.md_core.proofs.Answers.Touched.{touched}
 
@@ -168,13 +168,8 @@ module _ (r : Run) (run : IsRun r) where
       (next-dirs r k job t) unanswered
     where
       by : (asked : Call) (task : Task) → TaskFits (moment r k).dirs asked task → AtTask r k job task → (rep : DirReply) →
-          (moment r (k + 1)).dirs ≡ state_by (ask_of (turn_of t.event.event.job task (at r k job t)).asked (at r k job t).clock)
-          (moment r k).dirs rep →
-          ((turn_of t.event.event.job task (at r k job t)).follows rep
-          (rows_for (turn_of t.event.event.job task (at r k job t)).asked (moment r k).dirs)).answer ≡ None →
-          AtTask r (k + 1) job
-          ((turn_of t.event.event.job task (at r k job t)).follows rep
-          (rows_for (turn_of t.event.event.job task (at r k job t)).asked (moment r k).dirs)).task
+          (moment r (k + 1)).dirs ≡ state_by (ask_of (asked_by r k job t task) (at r k job t).clock) (moment r k).dirs rep →
+          (after_task r k job t task rep).answer ≡ None → AtTask r (k + 1) job (after_task r k job t task rep).task
       by asked (Deliver d) fits now rep dirs none = stage-leads r run k job t d fits.in_tmp _ d.stage now rep dirs none
       by asked (Mark m) fits now rep dirs none = tt
       by asked (Move m) fits now rep dirs none = tt
