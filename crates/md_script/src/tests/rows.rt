@@ -13,7 +13,7 @@ struct Row {
     prints: &'static [u8],
 }
 
-const ROWS: [Row; 33] = [
+const ROWS: [Row; 37] = [
     Row {
         shows: "a delivery is written in pieces, linked, and listed",
         script: b"folder inbox\njob deliver inbox 1000.M1P7Q1.a 4 hello\\n\nfinish 1 1000\nlist inbox\n",
@@ -179,6 +179,26 @@ const ROWS: [Row; 33] = [
         script: b"unique 1 2 3 4 a\nsummary\nfolder i\nlist i\n",
         prints: b"unique 1.M2P3Q4.a\nend\n",
     },
+    Row {
+        shows: "a message that goes to cur between the two readings is in both, and is listed as it is in cur",
+        script: b"folder i\nfile i new u 0 x\njob seen i u S 1\nfirst i\nfinish 1 1\nsecond i\n",
+        prints: b"job 1\n1 list new ok\n1 rename ok\n1 answer flags S\ncur u S 1\n",
+    },
+    Row {
+        shows: "a message that comes to new after the first reading isn't listed",
+        script: b"folder a\nfolder b\nfile a new u 0 x\njob move a u b 1\nfinish 1 1\nfirst a\njob move b u a 1\nfinish 2 1\nsecond a\n",
+        prints: b"job 1\n1 list new ok\n1 rename ok\n1 answer moved\njob 2\n2 list new ok\n2 rename ok\n2 answer moved\n",
+    },
+    Row {
+        shows: "a message that was in new at the first reading is listed as it was then",
+        script: b"folder a\nfolder b\nfile a new u 0 x\njob move a u b 1\nfirst a\nfinish 1 1\njob move b u a 1\nfinish 2 1\nsecond a\n",
+        prints: b"job 1\n1 list new ok\n1 rename ok\n1 answer moved\njob 2\n2 list new ok\n2 rename ok\n2 answer moved\nnew u - 1\n",
+    },
+    Row {
+        shows: "a first reading takes the place of an older one of its folder, and of no other",
+        script: b"folder i\nfolder j\nfile i new u 0 x\nfile j new v 0 yy\nfirst i\nfirst j\njob move i u j 1\nfinish 1 1\nfirst i\nsecond i\nsecond j\n",
+        prints: b"job 1\n1 list new ok\n1 rename ok\n1 answer moved\nnew v - 2\n",
+    },
 ];
 
 #[test]
@@ -204,7 +224,7 @@ struct Refused {
     text: &'static str,
 }
 
-const REFUSED: [Refused; 49] = [
+const REFUSED: [Refused; 53] = [
     Refused {
         script: b"folder a\nfolder b\njob move a u b 1\nfinish 1 1\nstep 1 1\n",
         prints: b"job 1\n1 list new ok\n1 list cur ok\n1 answer notthere\n",
@@ -459,6 +479,26 @@ const REFUSED: [Refused; 49] = [
         script: b"summary a\\tb",
         prints: b"",
         text: "line 1: bad escape",
+    },
+    Refused {
+        script: b"folder i\nsecond i\n",
+        prints: b"",
+        text: "line 2: no first reading",
+    },
+    Refused {
+        script: b"folder i\nfile i cur u:2,S 0 x\nfirst i\nsecond i\nsecond i\n",
+        prints: b"cur u S 1\n",
+        text: "line 5: no first reading",
+    },
+    Refused {
+        script: b"folder i\nfolder j\nfirst j\nsecond i\n",
+        prints: b"",
+        text: "line 4: no first reading",
+    },
+    Refused {
+        script: b"folder i\nfirst i\nfolder j\n",
+        prints: b"",
+        text: "line 3: too late",
     },
 ];
 
