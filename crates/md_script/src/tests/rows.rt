@@ -1,7 +1,7 @@
 //! Scripts of known transcripts.
 
 use crate::tests::plain::played;
-use crate::{PlayError, PlayKind, Writer, play};
+use crate::{PlayError, PlayKind, Writer, count_lines, play, transcript};
 use std::io;
 use std::io::Write;
 use std::test::Fail;
@@ -160,9 +160,9 @@ const ROWS: [Row; 37] = [
         prints: b"date=Wed, 31 Dec 1969 23:59:59 +0000\nseconds=-1\nend\n",
     },
     Row {
-        shows: "messages without a header",
-        script: b"summary\nsummary \\nSubject: x\nsummary : x\\n\nsummary \\r\\nSubject: a\\n\n",
-        prints: b"end\nend\nend\nend\n",
+        shows: "messages without a header, and one with a NUL in it",
+        script: b"summary\nsummary \\nSubject: x\nsummary : x\\n\nsummary \\r\\nSubject: a\\n\nsummary Subject: a\0b\\n\n",
+        prints: b"end\nend\nend\nend\nsubject=a\0b\nend\n",
     },
     Row {
         shows: "a carriage return that ends no line is a byte of its value",
@@ -213,6 +213,20 @@ fn scripts_print_their_transcripts(rt: HostRuntime) -> Result<(), Fail> {
         let plain = played(rt.alloc(), row.script)?;
         assert_eq!(rt; plain.refusal, None, "{}", row.shows);
         assert_eq!(rt; plain.text.as_slice(), row.prints, "{}", row.shows);
+    }
+    Ok(())
+}
+
+#[test]
+fn a_script_that_is_cut_short_prints_the_front(rt: HostRuntime) -> Result<(), Fail> {
+    let row = &ROWS[0];
+    for len in 0..row.script.len() {
+        let front = &row.script[..len];
+        let printed = transcript(rt.alloc(), front)?;
+        assert!(rt; row.prints.starts_with(&printed.text), "{len}");
+        if let Some(refused) = printed.refusal {
+            assert_eq!(rt; refused.line, count_lines(front), "{len}");
+        }
     }
     Ok(())
 }
