@@ -23,7 +23,7 @@ use Rattle.md_script.specs.Commands.{Command, command_at}
 use Rattle.md_script.specs.Words.{Gives}
 use Rattle.md_script.specs.Step.{Steps}
 use Rattle.md_script.specs.Kinds.{core_kind}
-use Rattle.md_script.specs.Sessions.{unless_refused, submitted, stepped, unfaulted, event_refusal, step_text, Session, obey, session_line}
+use Rattle.md_script.specs.Sessions.{unless_refused, submitted, stepped, unfaulted, event_refusal, step_text, Session, Store, on_run, obey, session_line}
 use Rattle.md_script.specs.Texts.{job_text, shown_text, out_text}
 
 -- a refusal by the store is the line's, and want of memory is none
@@ -86,6 +86,13 @@ pub refused_too : {S T : Type 0} (o : Option CoreError) (done : S × List ℕ) (
 refused_too None done other s t text text' kind is = λ some. absurd (let no = (is some).0 in cc)
 refused_too (Some refusal) done other s t text text' kind is = λ some. (let same : Core refusal ≡ kind = (let given = (is some).0 in cc) in ap Err same, (is some).1)
 
+-- what is done to the run of a store
+pub on-run : (t u : Store) (r : Run) (answer : Result (Run × List ℕ) PlayKind) (before after : List ℕ) (result : Result (Unit {0}) PlayKind)
+    → (let after : Store = record t { run = r } in after) ≡ u → Steps answer r before after result → Steps (on_run t answer) u before after result
+on-run t u r answer before after (Ok done) same is =
+    (is.0, ap (λ (x : Result (Run × List ℕ) PlayKind). on_run t x) is.1 ∙ (λ i. Ok (same i, is.0)), is.2)
+on-run t u r answer before after (Err kind) same is = λ some. (ap (λ (x : Result (Run × List ℕ) PlayKind). on_run t x) (is some).0, (is some).1)
+
 -- a line whose command was read
 pub obeyed : {S : Type 0} (step : Result (S × List ℕ) PlayKind) (read : Result Command PlayKind) (act : Command → Result (S × List ℕ) PlayKind) (command : Command) (s' : S) (text text' : List ℕ) (result : Result (Unit {0}) PlayKind)
     → step ≡ read >>= act → read ≡ Ok command → Steps (act command) s' text text' result → Steps step s' text text' result
@@ -100,10 +107,10 @@ unread view step read act s' text kind by is = λ some. (by ∙ ap (λ (x : Resu
 
 -- what a session reads its lines with
 abbrev pub Reads : Session → List (List ℕ) → Bool → Type 0
-Reads s folders is_open = (s.folders ≡ folders) × (is_some s.run ≡ is_open)
+Reads s folders is_open = (s.folders ≡ folders) × (is_some s.store ≡ is_open)
 
-pub reads_by : (s : Session) (folders : List (List ℕ)) (files : List ImageFile) (run : Option Run) (is_open : Bool) → (let view : Session = record { folders = folders; files = files; run = run } in view) ≡ s → is_open ≡ is_some run → Reads s folders is_open
-reads_by s folders files run is_open view_is open_is = (ap (λ (t : Session). t.folders) (sym view_is), ap (λ (t : Session). is_some t.run) (sym view_is) ∙ sym open_is)
+pub reads_by : (s : Session) (folders : List (List ℕ)) (files : List ImageFile) (store : Option Store) (is_open : Bool) → (let view : Session = record { folders = folders; files = files; store = store } in view) ≡ s → is_open ≡ is_some store → Reads s folders is_open
+reads_by s folders files store is_open view_is open_is = (ap (λ (t : Session). t.folders) (sym view_is), ap (λ (t : Session). is_some t.store) (sym view_is) ∙ sym open_is)
 
 pub line-is : (s : Session) (folders : List (List ℕ)) (is_open : Bool) (line : List ℕ) → Reads s folders is_open → session_line s line ≡ command_at folders (Playing is_open) line >>= obey s
 unfolding session_line

@@ -8,11 +8,8 @@ pub mod Runs
 pub mod Acts
 pub mod Opening
 pub mod Finishing
-pub mod Gathering
-pub mod MadeOf
-pub mod PutEach
-pub mod Said
-pub mod InOrder
 pub mod Spelled
 pub mod Made
 pub mod Printing
+pub mod Kept
+pub mod Waits

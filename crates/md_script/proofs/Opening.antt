@@ -1,5 +1,5 @@
 -- The store of a session, opened where it was not.
-use Rattle.std.proofs.Common.{◌≡◌, ℕ, List, Option, Some, None, true, false, is_some, length, Ok, refl, sym, ap, subst, ◌∙◌}
+use Rattle.std.proofs.Common.{◌≡◌, ℕ, List, Option, Some, None, true, false, is_some, length, Result, Ok, refl, sym, ap, subst, ◌∙◌}
 use Rattle.md_dirs.specs.declared.image.ImageFile.{ImageFile}
 use Rattle.md_core.specs.Runs.{Run}
 use Rattle.md_script.specs.declared.verb.Mode.{Mode}
@@ -8,23 +8,27 @@ use Rattle.md_script.specs.declared.verb.Verb.{Verb}
 use Rattle.md_script.specs.declared.verb.Verb.TheVariants.{File}
 use Rattle.md_script.specs.Verb.{admitted}
 use Rattle.md_script.specs.Held.{unopened, TakesFiles}
-use Rattle.md_script.specs.Sessions.{Session, store_of, come_to, opened}
+use Rattle.md_script.specs.Sessions.{Session, Store, new_store, store_of, come_to, opened}
+use Rattle.md_script.specs.Bind.{◌>>=◌}
+use Rattle.md_script.specs.declared.error.PlayKind.{PlayKind}
 
 -- the session that the parts of a store are
-abbrev pub held : List (List ℕ) → List ImageFile → Option Run → Session
-held folders files run = record { folders = folders; files = unopened run files; run = run }
+abbrev pub held : List (List ℕ) → List ImageFile → Option Store → Session
+held folders files store = record { folders = folders; files = unopened store files; store = store }
 
 -- what opening leaves
 abbrev pub Opened : Session → Session → Type 0
-Opened s t = (r : Run) × (store_of s ≡ Ok r) × (t ≡ come_to s r)
+Opened s t = (u : Store) × (store_of s ≡ Ok u) × (t ≡ come_to s u)
 
-pub was_open : (s : Session) (folders : List (List ℕ)) (files : List ImageFile) (run : Option Run) → held folders files run ≡ s → is_some run ≡ true → Opened s s
+pub was_open : (s : Session) (folders : List (List ℕ)) (files : List ImageFile) (store : Option Store) → held folders files store ≡ s → is_some store ≡ true → Opened s s
 was_open s folders files None is some = cc
-was_open s folders files (Some r) is some = subst (λ (t : Session). Opened t t) is (r, refl, refl)
+was_open s folders files (Some u) is some = subst (λ (t : Session). Opened t t) is (u, refl, refl)
 
-pub is_opened : (s t : Session) (folders : List (List ℕ)) (files : List ImageFile) (run : Option Run) (r : Run) → held folders files run ≡ s → is_some run ≡ false
-    → (count : ℕ) (taken : List ImageFile) → count ≡ length folders → taken ≡ files → opened count taken ≡ Ok r → t ≡ held folders files (Some r) → Opened s t
-is_opened s t folders files None r is none count taken all same made after = subst (λ (u : Session). Opened u t) is (r, sym (λ i. opened (all i) (same i)) ∙ made, after)
+pub is_opened : (s t : Session) (folders : List (List ℕ)) (files : List ImageFile) (store : Option Store) (r : Run) → held folders files store ≡ s → is_some store ≡ false
+    → (count : ℕ) (taken : List ImageFile) → count ≡ length folders → taken ≡ files → opened count taken ≡ Ok r → t ≡ held folders files (Some (new_store r)) → Opened s t
+is_opened s t folders files None r is none count taken all same made after =
+    let opens : opened (length folders) files ≡ Ok r = sym (λ i. opened (all i) (same i)) ∙ made in
+    subst (λ (u : Session). Opened u t) is (new_store r, ap (λ (x : Result Run PlayKind). x >>= (λ r. Ok (new_store r))) opens, after)
 is_opened s t folders files (Some other) r is none count taken all same made after = cc
 
 -- a line that may name a file is read before the store is open

@@ -25,6 +25,8 @@ pub data Command : Type 0 where
   step : (event : Event) → Command
   finish : (event : Event) → Command
   list : (folder : ℕ) → Command
+  first : (folder : ℕ) → Command
+  second : (folder : ℕ) → Command
   read : (unique : List ℕ) → Command
   make_name : (sec micro pid count : ℕ) (host : List ℕ) → Command
   summarize : (message : List ℕ) → Command
@@ -76,12 +78,12 @@ event_at rest = do
   own ← own_at now.1
   Ok (record { job = job.0; now = now.0; own = own })
 
--- the words of `list` after the first
-unfoldable pub list_line : List (List ℕ) → Rest → Result Command PlayKind
-list_line folders rest = do
+-- the words of `list`, `first` and `second` after the first: a folder
+unfoldable pub only_folder : List (List ℕ) → Rest → Result ℕ PlayKind
+only_folder folders rest = do
   folder ← folder_at folders rest
   _ ← end_at folder.1
-  Ok (list folder.0)
+  Ok folder.0
 
 -- the words of `read` after the first
 unfoldable pub read_line : Rest → Result Command PlayKind
@@ -108,7 +110,9 @@ verb_line folders mode verb.File rest = file_of folders rest >>= (λ file. Ok (m
 verb_line folders mode verb.Job rest = job_line folders rest >>= (λ call. Ok (submit call))
 verb_line folders mode verb.Step rest = event_at rest >>= (λ event. Ok (step event))
 verb_line folders mode verb.Finish rest = event_at rest >>= (λ event. Ok (finish event))
-verb_line folders mode verb.List rest = list_line folders rest
+verb_line folders mode verb.List rest = only_folder folders rest >>= (λ folder. Ok (list folder))
+verb_line folders mode verb.First rest = only_folder folders rest >>= (λ folder. Ok (first folder))
+verb_line folders mode verb.Second rest = only_folder folders rest >>= (λ folder. Ok (second folder))
 verb_line folders mode verb.Read rest = read_line rest
 verb_line folders mode verb.Unique rest = unique_line rest
 verb_line folders mode verb.Summary rest = body_at rest >>= (λ message. Ok (summarize message))

@@ -2,6 +2,8 @@
 use Rattle.std.specs.Prelude.{◌≡◌, ◌≢◌, ◌<◌, ℕ, false, List, [], length, Option, Some, None, Result, Ok, Err}
 use Rattle.md_dirs.specs.declared.image.ImageFile.{ImageFile}
 use Rattle.md_core.specs.Runs.{Run}
+use Rattle.md_view.specs.declared.listing.Listing.{Listing}
+use Rattle.md_view.specs.Law.{HasBegun}
 use Rattle.md_script.specs.declared.error.PlayKind.{PlayKind}
 use Rattle.md_script.specs.declared.error.PlayKind.TheVariants.{NoMemory}
 use Rattle.md_script.specs.declared.command.Command.{Command as Held}
@@ -10,8 +12,8 @@ use Rattle.md_script.specs.declared.verb.Mode.{Mode}
 use Rattle.md_script.specs.declared.verb.Mode.TheVariants.{Playing, SettingUp}
 use Rattle.md_script.specs.Folders.{most_folders}
 use Rattle.md_name.specs.declared.unique.UniqueParts.{UniqueParts}
-use Rattle.md_script.specs.Sessions.{Session, store_of, come_to, named}
-use Rattle.md_script.specs.Commands.{Command, make_folder, make_file, submit, step, finish, list, read, make_name, summarize}
+use Rattle.md_script.specs.Sessions.{Session, Store, First, store_of, come_to, named}
+use Rattle.md_script.specs.Commands.{Command, make_folder, make_file, submit, step, finish, list, first, second, read, make_name, summarize}
 
 abbrev pub seen : Held → Command
 seen (held.Folder name) = make_folder name.now
@@ -20,6 +22,8 @@ seen (held.Submit call) = submit call
 seen (held.Step event) = step event
 seen (held.Finish event) = finish event
 seen (held.List folder) = list folder
+seen (held.First folder) = first folder
+seen (held.Second folder) = second folder
 seen (held.Read unique) = read unique.now
 seen (held.Unique parts) = make_name parts.sec parts.micro parts.pid parts.count parts.host.now
 seen (held.Summary message) = summarize message.items
@@ -40,13 +44,21 @@ IsFit folders mode (held.File file) = TakesFiles mode
 IsFit folders mode command = Unit {0}
 
 -- The files of a session, as it holds them: an open store has none beside it.
-abbrev pub unopened : Option Run → List ImageFile → List ImageFile
+abbrev pub unopened : Option Store → List ImageFile → List ImageFile
 unopened None files = files
-unopened (Some r) files = []
+unopened (Some t) files = []
+
+-- a listing that has begun, as a kept reading
+abbrev pub first_by : Listing → First
+first_by l = record { folder = l.folder; moment = l.begun }
+
+-- listings that have begun in a run may be finished in the other
+abbrev pub MayWait : Run → Run → Type 0
+MayWait r r' = (l : Listing) → HasBegun r l → HasBegun r' l
 
 -- The store of a session was opened, or it is refused, unless memory ran out.
 abbrev pub Opens : Session → Session → Result (Unit {0}) PlayKind → Type 0
-Opens old new (Ok done) = (r : Run) × (store_of old ≡ Ok r) × (new ≡ come_to old r)
+Opens old new (Ok done) = (t : Store) × (store_of old ≡ Ok t) × (new ≡ come_to old t)
 Opens old new (Err kind) = kind ≢ NoMemory → store_of old ≡ Err kind
 
 -- A reader that takes no memory returned this command, or this refusal.

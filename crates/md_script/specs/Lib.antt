@@ -14,7 +14,6 @@ pub mod Printed
 pub mod Texts
 pub mod Sessions
 pub mod Setups
-pub mod Listing
 pub mod Sources
 pub mod Sinks
 pub mod Reading

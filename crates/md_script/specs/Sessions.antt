@@ -1,8 +1,9 @@
 -- What each command of a played script does: the transcript's clauses. They speak of runs, of what their steps show and of the mailbox,
 -- and of no part of the code.
-use Rattle.std.specs.Prelude.{ℕ, zero, suc, ◌+◌, List, [], ◌∷◌, ◌++◌, false}
-use Rattle.std.specs.Prelude.{Option, Some, None, Result, Ok, Err, if◌then◌else◌, length, is_some, is_none}
+use Rattle.std.specs.Prelude.{ℕ, zero, suc, ◌+◌, ◌==◌, not, filter, List, [], ◌∷◌, ◌++◌, false}
+use Rattle.std.specs.Prelude.{Option, Some, None, Result, Ok, Err, if◌then◌else◌, length, is_some, is_none, ok_or}
 use Rattle.std.specs.Option.{option_map}
+use Rattle.std.specs.List.{find}
 use Rattle.std.specs.FinMap as finmap
 use Rattle.md_dirs.specs.State.{State}
 use Rattle.md_dirs.specs.Image.{image_state, image_refusal}
@@ -18,21 +19,32 @@ use Rattle.md_core.specs.Mailbox.{Entry, mailbox_of}
 use Rattle.md_core.specs.Machine.{Marked, job_at, done, step_out}
 use Rattle.md_core.specs.Runs.{Run, new_run, machine_of, dirs_of, jobs_of, and_event, and_call, step_refusal, steps_left}
 use Rattle.md_core.specs.Submitting.{submit_refusal}
+use Rattle.md_view.specs.Law.{names_at, listing_of}
 use Rattle.md_script.specs.declared.error.PlayKind.{PlayKind}
-use Rattle.md_script.specs.declared.error.PlayKind.TheVariants.{SamePath, Core, Name}
+use Rattle.md_script.specs.declared.error.PlayKind.TheVariants.{SamePath, Core, Name, NoFirst}
 use Rattle.md_script.specs.declared.verb.Mode.TheVariants.{Playing}
 use Rattle.md_script.specs.Bind.{◌>>=◌}
 use Rattle.md_script.specs.Words.{require}
-use Rattle.md_script.specs.Commands.{Command, make_folder, make_file, submit, step, finish, list, read, make_name, summarize, command_at}
-use Rattle.md_script.specs.Texts.{job_text, shown_text, listing_text, bytes_text, unique_text, summary_text}
+use Rattle.md_script.specs.Commands.{Command, make_folder, make_file, submit, step, finish, list, first, second, read, make_name, summarize, command_at}
+use Rattle.md_script.specs.Texts.{job_text, shown_text, entries_text, bytes_text, unique_text, summary_text}
 use Rattle.md_script.specs.Transcript.{Transcript, transcript_of}
 
--- A session: the names of the folders and the files that the store begins with, each in the order of their lines; and the run of the
--- store, once it was needed. From then on it has no files beside it.
+-- A first reading that is kept: new of this folder was read at this moment of the run.
+pub record First : Type 0 where
+  pub folder : ℕ
+  pub moment : ℕ
+
+-- An open store: its run, and the first readings that are kept, of each folder one at most.
+pub record Store : Type 0 where
+  pub run : Run
+  pub firsts : List First
+
+-- A session: the names of the folders and the files that the store begins with, each in the order of their lines; and the store, once it
+-- was needed. From then on it has no files beside it.
 pub record Session : Type 0 where
   pub folders : List (List ℕ)
   pub files : List ImageFile
-  pub run : Option Run
+  pub store : Option Store
 
 -- refused by the store, or done
 abbrev pub unless_refused : {X : Type 0} → Option CoreError → X → Result X PlayKind
@@ -51,18 +63,22 @@ opened folders files = do
   image ← image_of folders files
   unless_refused (load_refusal image) (new_run image 0 0)
 
--- a run, which begins where it is first needed
-abbrev pub run_over : ℕ → List ImageFile → Option Run → Result Run PlayKind
-run_over folders files None = opened folders files
-run_over folders files (Some r) = Ok r
+-- a store that was just opened
+abbrev pub new_store : Run → Store
+new_store r = record { run = r; firsts = [] }
 
--- the run of a session's store, which is opened where it was not
-abbrev pub store_of : Session → Result Run PlayKind
-store_of s = run_over (length s.folders) s.files s.run
+-- a store, which is opened where it is first needed
+abbrev pub store_over : ℕ → List ImageFile → Option Store → Result Store PlayKind
+store_over folders files None = opened folders files >>= (λ r. Ok (new_store r))
+store_over folders files (Some t) = Ok t
 
--- a session whose store has come to this run
-abbrev pub come_to : Session → Run → Session
-come_to s r = record { folders = s.folders; files = []; run = Some r }
+-- the store of a session, which is opened where it was not
+abbrev pub store_of : Session → Result Store PlayKind
+store_of s = store_over (length s.folders) s.files s.store
+
+-- a session whose store has come to this
+abbrev pub come_to : Session → Store → Session
+come_to s t = record { folders = s.folders; files = []; store = Some t }
 
 -- an event without a fault: the directories of a script never fault
 abbrev pub unfaulted : Event → Marked
@@ -98,17 +114,41 @@ stepped r event = unless_refused (event_refusal r event) (and_event r (unfaulted
 unfoldable pub finished : Run → Event → Result (Run × List ℕ) PlayKind
 finished r event = unless_refused (event_refusal r event) (steps_of (steps_left r event.job) r event)
 
--- the messages of a folder
-unfoldable pub listing_of : Run → ℕ → Result (Run × List ℕ) PlayKind
-listing_of r folder = Ok (r, listing_text (mailbox_of (dirs_of r)) folder)
+-- the messages of a folder: its new and its cur, both read now
+unfoldable pub listed : Run → ℕ → Result (Run × List ℕ) PlayKind
+listed r folder = Ok (r, entries_text (listing_of (names_at r) folder (length r.events) (length r.events)))
 
 -- the bytes of the message of a unique name
-unfoldable pub reading_of : Run → List ℕ → Result (Run × List ℕ) PlayKind
-reading_of r unique = Ok (r, bytes_text (option_map (λ (e : Entry). e.bytes) (finmap.get (mailbox_of (dirs_of r)) unique)))
+unfoldable pub shown : Run → List ℕ → Result (Run × List ℕ) PlayKind
+shown r unique = Ok (r, bytes_text (option_map (λ (e : Entry). e.bytes) (finmap.get (mailbox_of (dirs_of r)) unique)))
+
+-- what is done to the run of a store: the readings that it keeps stay
+abbrev pub on_run : Store → Result (Run × List ℕ) PlayKind → Result (Store × List ℕ) PlayKind
+on_run t answer = answer >>= (λ done. Ok (record t { run = done.0 }, done.1))
+
+-- the kept reading of a folder
+abbrev pub first_of : ℕ → List First → Option First
+first_of folder firsts = find (λ f. f.folder == folder) firsts
+
+-- the kept readings of the other folders
+abbrev pub others : ℕ → List First → List First
+others folder firsts = filter (λ f. not (f.folder == folder)) firsts
+
+-- reads new of a folder, and keeps the reading in place of an older one
+unfoldable pub read_first : Store → ℕ → Result (Store × List ℕ) PlayKind
+read_first t folder =
+    let now : First = record { folder = folder; moment = length t.run.events } in
+    Ok (record t { firsts = others folder t.firsts ++ now ∷ [] }, [])
+
+-- Reads cur of a folder: the messages of the new that was read first, and of the cur that is read now. The kept reading is used up.
+unfoldable pub read_second : Store → ℕ → Result (Store × List ℕ) PlayKind
+read_second t folder = do
+  kept ← ok_or (first_of folder t.firsts) NoFirst
+  Ok (record t { firsts = others folder t.firsts }, entries_text (listing_of (names_at t.run) folder kept.moment (length t.run.events)))
 
 -- What is done to the store of a session. It is opened where it was not, and nothing is done where it can't be.
-abbrev pub in_store : Session → (Run → Result (Run × List ℕ) PlayKind) → Result (Session × List ℕ) PlayKind
-in_store s act = store_of s >>= (λ r. act r >>= (λ done. Ok (come_to s done.0, done.1)))
+abbrev pub in_store : Session → (Store → Result (Store × List ℕ) PlayKind) → Result (Session × List ℕ) PlayKind
+in_store s act = store_of s >>= (λ t. act t >>= (λ done. Ok (come_to s done.0, done.1)))
 
 -- a name that is made, unless it is refused
 abbrev pub unless_bad : Option NameError → List ℕ → Result (List ℕ) PlayKind
@@ -126,21 +166,23 @@ says s answer = answer >>= (λ text. Ok (s, text))
 abbrev pub obey : Session → Command → Result (Session × List ℕ) PlayKind
 obey s (make_folder name) = Ok (record s { folders = s.folders ++ name ∷ [] }, [])
 obey s (make_file file) = Ok (record s { files = s.files ++ file ∷ [] }, [])
-obey s (submit call) = in_store s (λ r. submitted r call)
-obey s (step event) = in_store s (λ r. stepped r event)
-obey s (finish event) = in_store s (λ r. finished r event)
-obey s (list folder) = in_store s (λ r. listing_of r folder)
-obey s (read unique) = in_store s (λ r. reading_of r unique)
+obey s (submit call) = in_store s (λ t. on_run t (submitted t.run call))
+obey s (step event) = in_store s (λ t. on_run t (stepped t.run event))
+obey s (finish event) = in_store s (λ t. on_run t (finished t.run event))
+obey s (list folder) = in_store s (λ t. on_run t (listed t.run folder))
+obey s (first folder) = in_store s (λ t. read_first t folder)
+obey s (second folder) = in_store s (λ t. read_second t folder)
+obey s (read unique) = in_store s (λ t. on_run t (shown t.run unique))
 obey s (make_name sec micro pid count host) = says s (named sec micro pid count host)
 obey s (summarize message) = says s (Ok (summary_text (summary_of message)))
 
 -- a line of a session: the command that it spells, and what that does
 unfoldable pub session_line : Session → List ℕ → Result (Session × List ℕ) PlayKind
-session_line s line = command_at s.folders (Playing (is_some s.run)) line >>= obey s
+session_line s line = command_at s.folders (Playing (is_some s.store)) line >>= obey s
 
 -- a session without a folder
 abbrev pub new_session : Session
-new_session = record { folders = []; files = []; run = None }
+new_session = record { folders = []; files = []; store = None }
 
 -- the transcript of a script: what its lines print, one after another, over a new session
 abbrev pub transcript : List ℕ → Transcript Session

@@ -1,11 +1,11 @@
 -- What is printed. Each line ends with a line feed.
-use Rattle.std.specs.Prelude.{ℕ, ℤ, ◌==◌, List, [], ◌∷◌, ◌++◌, Option, Some, None, filter, flat_map, length, codes}
+use Rattle.std.specs.Prelude.{ℕ, ℤ, List, [], ◌∷◌, ◌++◌, Option, Some, None, flat_map, codes}
 use Rattle.std.specs.Fmt.{decimal, signed_decimal}
-use Rattle.std.specs.FinMap as finmap
 use Rattle.md_dirs.specs.declared.paths.Place.{Place}
 use Rattle.md_dirs.specs.declared.paths.Place.TheVariants.{Tmp, New, Cur}
 use Rattle.md_name.specs.Letters.{Set, spelling}
-use Rattle.md_name.specs.Names.{info_by, flags_of}
+use Rattle.md_name.specs.declared.info.Info.{Info}
+use Rattle.md_name.specs.Names.{split_of, flags_of}
 use Rattle.md_name.specs.Made.{made_unique}
 use Rattle.md_head.specs.declared.shown.Summary.{Summary}
 use Rattle.md_core.specs.declared.jobs.answer.Answer.{Answer}
@@ -15,7 +15,7 @@ use Rattle.md_core.specs.declared.jobs.step.DirCall.TheVariants as dir
 use Rattle.md_core.specs.declared.jobs.step.DirReply.{DirReply}
 use Rattle.md_core.specs.declared.jobs.step.DirReply.TheVariants as reply
 use Rattle.md_core.specs.declared.jobs.step.StepOut.{StepOut}
-use Rattle.md_core.specs.Mailbox.{Entry, Mailbox}
+use Rattle.md_view.specs.declared.entry.Entry.{Entry}
 use Rattle.md_script.specs.Escapes.{escaped}
 
 abbrev pub line_end : List ℕ
@@ -84,19 +84,20 @@ abbrev pub flags_text : Option Set → List ℕ
 flags_text None = codes "?"
 flags_text (Some s) = letters_text (spelling s)
 
+-- what a name says of flags: none where its info is other than flags
+abbrev pub flags_by : Option (List ℕ × Info) → Option Set
+flags_by None = None
+flags_by (Some parts) = flags_of parts.1
+
 -- `PLACE UNIQUE FLAGS SIZE`
-abbrev pub entry_line : List ℕ × Entry → List ℕ
+abbrev pub entry_line : Entry → List ℕ
 entry_line e =
-    place_text e.1.place ++ codes " " ++ e.0 ++ codes " " ++ flags_text (flags_of (info_by e.1.info)) ++ codes " "
-    ++ decimal (length e.1.bytes) ++ line_end
+    place_text e.place ++ codes " " ++ e.unique ++ codes " " ++ flags_text (flags_by (split_of e.name)) ++ codes " "
+    ++ decimal e.size ++ line_end
 
--- the messages of a folder, in order of unique name
-abbrev pub entries_in : Mailbox → ℕ → List (List ℕ × Entry)
-entries_in m folder = filter (λ e. e.1.folder == folder) (finmap.entries m)
-
--- the listing of a folder where both its readings are made at one moment
-abbrev pub listing_text : Mailbox → ℕ → List ℕ
-listing_text m folder = flat_map entry_line (entries_in m folder)
+-- the lines of a listing
+abbrev pub entries_text : List Entry → List ℕ
+entries_text entries = flat_map entry_line entries
 
 -- `bytes=` and the bytes of a message, or `none`
 abbrev pub bytes_text : Option (List ℕ) → List ℕ

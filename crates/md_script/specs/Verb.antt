@@ -17,9 +17,11 @@ verb_of word =
     else (if bytes_eq word (codes "step") then Some verb.Step
     else (if bytes_eq word (codes "finish") then Some verb.Finish
     else (if bytes_eq word (codes "list") then Some verb.List
+    else (if bytes_eq word (codes "first") then Some verb.First
+    else (if bytes_eq word (codes "second") then Some verb.Second
     else (if bytes_eq word (codes "read") then Some verb.Read
     else (if bytes_eq word (codes "unique") then Some verb.Unique
-    else (if bytes_eq word (codes "summary") then Some verb.Summary else None))))))))
+    else (if bytes_eq word (codes "summary") then Some verb.Summary else None))))))))))
 
 -- A command that can't stand here is refused before its other words are read: folders and files are added before the store is loaded
 -- alone, and what only sets a store up has folders, files and, where they are allowed, jobs.

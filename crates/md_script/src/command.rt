@@ -17,7 +17,7 @@ use jobs::job_line;
 use md_core::{Call, Event};
 use md_dirs::ImageFile;
 use md_name::UniqueParts;
-use others::{event, list_line, read_line, unique_line};
+use others::{event, only_folder, read_line, unique_line};
 use std::alloc::Global;
 
 /// A command, as the words of a line spell it. Folders are numbered from 0 in the order in which they were named, and
@@ -36,6 +36,10 @@ pub(crate) enum Command<'a> {
     Finish(Event),
     /// `list FOLDER`: the messages of a folder.
     List { folder: u32 },
+    /// `first FOLDER`: a reading of new, which is kept.
+    First { folder: u32 },
+    /// `second FOLDER`: a reading of cur, joined with the kept one.
+    Second { folder: u32 },
     /// `read UNIQUE`: the bytes of a message.
     Read { unique: &'a [u8] },
     /// `unique SEC MICRO PID COUNT HOST`: a made unique name.
@@ -69,7 +73,18 @@ pub(crate) fn read_command<'a>(
         Verb::Job => Ok(Command::Submit(job_line(alloc, folders, rest)?)),
         Verb::Step => Ok(Command::Step(event(rest)?)),
         Verb::Finish => Ok(Command::Finish(event(rest)?)),
-        Verb::List => list_line(folders, rest),
+        Verb::List => {
+            let folder = only_folder(folders, rest)?;
+            Ok(Command::List { folder })
+        }
+        Verb::First => {
+            let folder = only_folder(folders, rest)?;
+            Ok(Command::First { folder })
+        }
+        Verb::Second => {
+            let folder = only_folder(folders, rest)?;
+            Ok(Command::Second { folder })
+        }
         Verb::Read => read_line(rest),
         Verb::Unique => unique_line(rest),
         Verb::Summary => {

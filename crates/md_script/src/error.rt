@@ -6,6 +6,7 @@ ghost use Rattle.md_script.specs.Kinds.{core_kind, name_kind, unnumbered};
 use md_core::{CoreError, SubmitRefused};
 use md_head::HeadError;
 use md_name::NameError;
+use md_view::ViewError;
 use std::alloc::{AllocError, AllocFailed};
 use thiserror::Error;
 
@@ -94,6 +95,15 @@ impl From<HeadError> for PlayKind {
     ghost from_gives = { λ _ kind. kind ≡ NoMemory };
 
     fn from(_refused: HeadError) -> PlayKind {
+        PlayKind::NoMemory
+    }
+}
+
+impl From<ViewError> for PlayKind {
+    ghost from_gives = { λ _ kind. kind ≡ NoMemory };
+
+    // The folders that a line names are there, so that only memory can be wanting.
+    fn from(_refused: ViewError) -> PlayKind {
         PlayKind::NoMemory
     }
 }

@@ -27,6 +27,7 @@ mod words;
 
 pub use error::{PlayError, PlayKind};
 pub use lines::count_lines;
+pub use listing::push_entries;
 pub use player::{play, transcript, write_whole};
 pub use reading::read_script;
 pub use run::Printed;

@@ -4,10 +4,12 @@ ghost use Rattle.md_head.specs.Summaries.{summary_of};
 ghost use Rattle.md_script.specs.declared.verb.Mode.TheVariants.{Playing};
 ghost use Rattle.md_script.specs.Step.{Steps};
 ghost use Rattle.md_script.specs.Held.{seen, named_of, IsFit, Opens};
-ghost use Rattle.md_script.specs.Sessions.{obey, session_line, new_session, in_store, submitted, stepped, finished, listing_of, reading_of, says};
+ghost use Rattle.md_script.specs.Sessions.{obey, session_line, new_session, in_store, on_run, submitted, stepped, finished, listed, shown, read_first, read_second, says};
 ghost use Rattle.md_script.specs.Texts.{summary_text};
 
 mod acts;
+mod kept;
+mod open;
 mod opening;
 mod printing;
 
@@ -18,10 +20,11 @@ use crate::session::Session;
 use crate::storage::Storage;
 use crate::summary::{push_summary, push_unique};
 use crate::verb::Mode;
-use md_core::{Call, Event, World};
+use md_core::{Call, Event};
 use md_dirs::ImageFile;
 use md_head::summary;
 use md_name::{UniqueParts, make_unique};
+use open::OpenStore;
 pub use opening::open_store;
 use std::alloc::{AllocError, Global};
 use std::marker::Model;
@@ -34,7 +37,7 @@ pub(crate) struct StoreSession<D: Storage> {
     alloc: Global,
     folders: Folders,
     files: Vec<ImageFile>,
-    world: Option<World<D>>,
+    store: Option<OpenStore<D>>,
 }
 
 impl<D: Storage> Model for StoreSession<D> {
@@ -48,7 +51,7 @@ impl<D: Storage> Model for StoreSession<D> {
 
     ghost coded = { Prim.hlevel (codes, state_code, flags.the_row.coded) };
 
-    ghost view = { λ s. record { folders = s.folders; files = unopened s.world s.files.items; run = s.world } };
+    ghost view = { λ s. record { folders = s.folders; files = unopened s.store s.files.items; store = s.store } };
 }
 
 impl<D: Storage> StoreSession<D> {
@@ -60,13 +63,13 @@ impl<D: Storage> StoreSession<D> {
             alloc,
             folders: Folders::new(alloc),
             files: Vec::new(alloc),
-            world: None,
+            store: None,
         }
     }
 
     // Does what a command says.
     fn obey(&mut self, command: Command<'_>, out: &mut Vec<u8>) -> Result<(), PlayKind>
-        requires { IsFit self.old.folders (Playing (is_some self.old.run)) command }
+        requires { IsFit self.old.folders (Playing (is_some self.old.store)) command }
         ensures { Steps (obey self.old (seen command.entry)) self.new out.old.items out.new.items result }
     {
         match command {
@@ -76,6 +79,8 @@ impl<D: Storage> StoreSession<D> {
             Command::Step(event) => self.step(event, out),
             Command::Finish(event) => self.finish(event, out),
             Command::List { folder } => self.list(folder, out),
+            Command::First { folder } => self.first(folder),
+            Command::Second { folder } => self.second(folder, out),
             Command::Read { unique } => self.read(unique, out),
             Command::Unique(parts) => self.unique(parts, out),
             Command::Summary { message } => self.summary(&message, out),
@@ -86,7 +91,7 @@ impl<D: Storage> StoreSession<D> {
 impl<D: Storage> StoreSession<D> {
     // Adds a file that the store will begin with.
     fn add_file(&mut self, file: ImageFile) -> Result<(), AllocError>
-        requires { is_some self.old.run ≡ false }
+        requires { is_some self.old.store ≡ false }
         ensures { OnOk result (self.new ≡ record self.old { files = self.old.files ++ file ∷ [] }) }
     {
         Ok(self.files.push(file)?)
@@ -96,61 +101,82 @@ impl<D: Storage> StoreSession<D> {
     fn open(&mut self) -> Result<(), PlayKind>
         ensures { Opens self.old self.new result }
     {
-        if self.world.is_none() {
+        if self.store.is_none() {
             let files = mem::replace(&mut self.files, Vec::new(self.alloc));
-            self.world = Some(open_store(self.alloc, self.folders.count(), files)?);
+            let world = open_store(self.alloc, self.folders.count(), files)?;
+            self.store = Some(OpenStore::new(self.alloc, world));
         }
         Ok(())
     }
 
     fn submit(&mut self, call: Call, out: &mut Vec<u8>) -> Result<(), PlayKind>
-        ensures { Steps (in_store self.old (λ r. submitted r call)) self.new out.old.items out.new.items result }
+        ensures { Steps (in_store self.old (λ t. on_run t (submitted t.run call))) self.new out.old.items out.new.items result }
     {
         self.open()?;
-        let Some(world) = &mut self.world else {
+        let Some(store) = &mut self.store else {
             unreachable!()
         };
-        acts::submit(world, call, out)
+        store.submit(call, out)
     }
 
     fn step(&mut self, event: Event, out: &mut Vec<u8>) -> Result<(), PlayKind>
-        ensures { Steps (in_store self.old (λ r. stepped r event)) self.new out.old.items out.new.items result }
+        ensures { Steps (in_store self.old (λ t. on_run t (stepped t.run event))) self.new out.old.items out.new.items result }
     {
         self.open()?;
-        let Some(world) = &mut self.world else {
+        let Some(store) = &mut self.store else {
             unreachable!()
         };
-        acts::step(self.alloc, world, event, out)
+        store.step(event, out)
     }
 
     fn finish(&mut self, event: Event, out: &mut Vec<u8>) -> Result<(), PlayKind>
-        ensures { Steps (in_store self.old (λ r. finished r event)) self.new out.old.items out.new.items result }
+        ensures { Steps (in_store self.old (λ t. on_run t (finished t.run event))) self.new out.old.items out.new.items result }
     {
         self.open()?;
-        let Some(world) = &mut self.world else {
+        let Some(store) = &mut self.store else {
             unreachable!()
         };
-        acts::finish(self.alloc, world, event, out)
+        store.finish(event, out)
     }
 
     fn list(&mut self, folder: u32, out: &mut Vec<u8>) -> Result<(), PlayKind>
-        ensures { Steps (in_store self.old (λ r. listing_of r folder)) self.new out.old.items out.new.items result }
+        ensures { Steps (in_store self.old (λ t. on_run t (listed t.run folder))) self.new out.old.items out.new.items result }
     {
         self.open()?;
-        let Some(world) = &self.world else {
+        let Some(store) = &self.store else {
             unreachable!()
         };
-        acts::list(self.alloc, world, folder, out)
+        store.list(folder, out)
+    }
+
+    fn first(&mut self, folder: u32) -> Result<(), PlayKind>
+        ensures { Steps (in_store self.old (λ t. read_first t folder)) self.new [] [] result }
+    {
+        self.open()?;
+        let Some(store) = &mut self.store else {
+            unreachable!()
+        };
+        store.first(folder)
+    }
+
+    fn second(&mut self, folder: u32, out: &mut Vec<u8>) -> Result<(), PlayKind>
+        ensures { Steps (in_store self.old (λ t. read_second t folder)) self.new out.old.items out.new.items result }
+    {
+        self.open()?;
+        let Some(store) = &mut self.store else {
+            unreachable!()
+        };
+        store.second(folder, out)
     }
 
     fn read(&mut self, unique: &[u8], out: &mut Vec<u8>) -> Result<(), PlayKind>
-        ensures { Steps (in_store self.old (λ r. reading_of r unique.now)) self.new out.old.items out.new.items result }
+        ensures { Steps (in_store self.old (λ t. on_run t (shown t.run unique.now))) self.new out.old.items out.new.items result }
     {
         self.open()?;
-        let Some(world) = &self.world else {
+        let Some(store) = &self.store else {
             unreachable!()
         };
-        acts::read(world, unique, out)
+        store.read(unique, out)
     }
 }
 
@@ -177,7 +203,7 @@ impl<D: Storage> Session for StoreSession<D> {
 
     fn run_line(&mut self, line: &[u8], out: &mut Vec<u8>) -> Result<(), PlayKind> {
         let mode = Mode::Playing {
-            is_loaded: self.world.is_some(),
+            is_loaded: self.store.is_some(),
         };
         let command = read_command(self.alloc, &self.folders, mode, line)?;
         self.obey(command, out)

@@ -23,6 +23,8 @@ pub(crate) enum Verb {
     Step,
     Finish,
     List,
+    First,
+    Second,
     Read,
     Unique,
     Summary,
@@ -56,6 +58,10 @@ pub(crate) fn verb_from(word: &[u8]) -> Option<Verb>
         Some(Verb::Finish)
     } else if word == b"list".as_slice() {
         Some(Verb::List)
+    } else if word == b"first".as_slice() {
+        Some(Verb::First)
+    } else if word == b"second".as_slice() {
+        Some(Verb::Second)
     } else if word == b"read".as_slice() {
         Some(Verb::Read)
     } else if word == b"unique".as_slice() {

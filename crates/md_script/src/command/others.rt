@@ -2,7 +2,7 @@
 ghost use Rattle.std.specs.Prelude.{◌≡◌, IfOk};
 ghost use Rattle.std.specs.Option.{option_copied};
 ghost use Rattle.md_script.specs.Held.{Spells, IsFit};
-ghost use Rattle.md_script.specs.Commands.{own_at, event_at, list_line, read_line, unique_line};
+ghost use Rattle.md_script.specs.Commands.{own_at, event_at, only_folder, read_line, unique_line};
 
 use crate::command::Command;
 use crate::command::image::folder;
@@ -36,15 +36,14 @@ fn own(rest: Rest<'_>) -> Result<Option<u64>, PlayKind>
     Ok(Some(own))
 }
 
-/// The words of `list` after the first.
-#[tactic(auto, unfolding(crate::specs::Commands::list_line))]
-pub(super) fn list_line<'a>(folders: &Folders, rest: Rest<'a>) -> Result<Command<'a>, PlayKind>
-    ensures command { Spells result (list_line folders.now (option_copied rest.entry)) }
-    ensures fit { (mode : _) → IfOk result (IsFit folders.now mode) }
+/// The words of `list`, `first` and `second` after the first: a folder, by its number.
+#[tactic(auto, unfolding(crate::specs::Commands::only_folder))]
+pub(super) fn only_folder(folders: &Folders, rest: Rest<'_>) -> Result<u32, PlayKind>
+    ensures { result ≡ only_folder folders.now (option_copied rest.entry) }
 {
     let (folder, rest) = folder(folders, rest)?;
     end(rest)?;
-    Ok(Command::List { folder })
+    Ok(folder)
 }
 
 /// The words of `read` after the first.

@@ -3,13 +3,15 @@ ghost use Rattle.std.specs.Prelude.{◌≡◌, ◌<◌, true, is_some, OnOk};
 ghost use Rattle.md_core.specs.Machine.{job_at};
 ghost use Rattle.md_core.specs.Runs.{steps_left, jobs_of, answer_of};
 ghost use Rattle.md_script.specs.Step.{Steps};
-ghost use Rattle.md_script.specs.Sessions.{submitted, stepped, finished, listing_of, reading_of};
+ghost use Rattle.md_script.specs.Held.{MayWait};
+ghost use Rattle.md_script.specs.Sessions.{submitted, stepped, finished, listed, shown};
 
 use crate::error::PlayKind;
-use crate::listing::push_listing;
+use crate::listing::push_entries;
 use crate::storage::Storage;
 use crate::store::printing::{push_bytes, push_job, push_step};
 use md_core::{Call, Event, World};
+use md_view::Listing;
 use std::alloc::Global;
 
 /// Submits a call, and prints the number of its job.
@@ -18,8 +20,10 @@ pub(super) fn submit<D: Storage>(
     call: Call,
     out: &mut Vec<u8>,
 ) -> Result<(), PlayKind>
-    ensures { Steps (submitted world.old call) world.new out.old.items out.new.items result }
+    ensures submit { Steps (submitted world.old call) world.new out.old.items out.new.items result }
+    ensures waits { MayWait world.old world.new }
 {
+    world.interleaves();
     let job = world.submit(call)?;
     push_job(out, job)?;
     Ok(())
@@ -33,8 +37,10 @@ pub(super) fn step<D: Storage>(
     out: &mut Vec<u8>,
 ) -> Result<(), PlayKind>
     ensures step { Steps (stepped world.old event) world.new out.old.items out.new.items result }
+    ensures waits { MayWait world.old world.new }
     ensures nearer { OnOk result (steps_left world.new event.job < steps_left world.old event.job) }
 {
+    world.interleaves();
     // The kit's borrow checker refuses a `?` here, where no signature names `Answer`.
     let shown = match world.step(event.job, event.now, event.own) {
         Ok(shown) => shown,
@@ -55,6 +61,7 @@ pub(super) fn finish<D: Storage>(
     out: &mut Vec<u8>,
 ) -> Result<(), PlayKind>
     ensures finish { Steps (finished world.old event) world.new out.old.items out.new.items result }
+    ensures waits { MayWait world.old world.new }
     ensures answered { OnOk result (is_some (answer_of (job_at (jobs_of world.new) event.job)) ≡ true) }
 {
     step(alloc, world, event, out)?;
@@ -65,27 +72,29 @@ pub(super) fn finish<D: Storage>(
 }
 
 /// Prints the messages of a folder.
-#[tactic(auto, unfolding(crate::specs::Sessions::listing_of))]
+#[tactic(auto, unfolding(crate::specs::Sessions::listed))]
 pub(super) fn list<D: Storage>(
     alloc: Global,
     world: &World<D>,
     folder: u32,
     out: &mut Vec<u8>,
 ) -> Result<(), PlayKind>
-    ensures { Steps (listing_of world.now folder) world.now out.old.items out.new.items result }
+    ensures { Steps (listed world.now folder) world.now out.old.items out.new.items result }
 {
-    push_listing(alloc, world, folder, out)?;
+    let listing = Listing::begin(alloc, world, folder)?;
+    let entries = listing.finish(alloc, world)?;
+    push_entries(alloc, out, &entries)?;
     Ok(())
 }
 
 /// Prints the bytes of the message of a unique name, or that there is none.
-#[tactic(auto, unfolding(crate::specs::Sessions::reading_of))]
+#[tactic(auto, unfolding(crate::specs::Sessions::shown))]
 pub(super) fn read<D: Storage>(
     world: &World<D>,
     unique: &[u8],
     out: &mut Vec<u8>,
 ) -> Result<(), PlayKind>
-    ensures { Steps (reading_of world.now unique.now) world.now out.old.items out.new.items result }
+    ensures { Steps (shown world.now unique.now) world.now out.old.items out.new.items result }
 {
     push_bytes(out, world.read(unique))?;
     Ok(())

@@ -27,7 +27,7 @@ fn two_folders(rt: &impl Abort, alloc: Global) -> Result<Folders, Fail> {
 #[test]
 fn the_first_bad_word_names_the_refusal(rt: HostRuntime) -> Result<(), Fail> {
     let folders = two_folders(&rt, rt.alloc())?;
-    let cases: [(&[u8], PlayKind); 40] = [
+    let cases: [(&[u8], PlayKind); 43] = [
         (b"lis", PlayKind::BadCommand),
         (b"list", PlayKind::BadCommand),
         (b"List i", PlayKind::BadCommand),
@@ -39,6 +39,9 @@ fn the_first_bad_word_names_the_refusal(rt: HostRuntime) -> Result<(), Fail> {
         (b"list i\r", PlayKind::UnknownFolder),
         (b"list inb", PlayKind::UnknownFolder),
         (b"list k x", PlayKind::UnknownFolder),
+        (b"first i x", PlayKind::BadCommand),
+        (b"second", PlayKind::BadCommand),
+        (b"second k x", PlayKind::UnknownFolder),
         (b"folder", PlayKind::BadCommand),
         (b"folder ", PlayKind::BadCommand),
         (b"folder k x", PlayKind::BadCommand),
@@ -94,9 +97,11 @@ fn a_folder_that_comes_too_late_is_refused_first(rt: HostRuntime) -> Result<(), 
 #[test]
 fn lines_spell_commands(rt: HostRuntime) -> Result<(), Fail> {
     let folders = two_folders(&rt, rt.alloc())?;
-    let cases: [(&[u8], &str); 9] = [
+    let cases: [(&[u8], &str); 11] = [
         (b"folder k", "Folder { name: [107] }"),
         (b"list j", "List { folder: 1 }"),
+        (b"first i", "First { folder: 0 }"),
+        (b"second j", "Second { folder: 1 }"),
         (b"step 007 0", "Step(Event { job: 7, now: 0, own: None })"),
         (
             b"step 00000000000000000001 1 2",

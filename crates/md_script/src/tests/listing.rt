@@ -1,7 +1,8 @@
 //! Listings with known answers.
-use crate::listing::push_listing;
+use crate::push_entries;
 use md_core::{Call, Event, World};
 use md_dirs::{Bytes, PlainDirs};
+use md_view::{Listing, ViewError};
 use std::alloc::{AllocError, Global};
 use std::test::Fail;
 
@@ -16,9 +17,10 @@ fn delivery(alloc: Global, unique: &[u8]) -> Result<Call, AllocError> {
 }
 
 /// The listing of folder 0.
-fn listing(alloc: Global, world: &World<PlainDirs>) -> Result<Vec<u8>, AllocError> {
+fn listing(alloc: Global, world: &World<PlainDirs>) -> Result<Vec<u8>, ViewError> {
+    let entries = Listing::begin(alloc, world, 0)?.finish(alloc, world)?;
     let mut out = Vec::new(alloc);
-    push_listing(alloc, world, 0, &mut out)?;
+    push_entries(alloc, &mut out, &entries)?;
     Ok(out)
 }
 

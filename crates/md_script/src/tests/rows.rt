@@ -1,7 +1,7 @@
 //! Scripts of known transcripts.
 
 use crate::tests::plain::played;
-use crate::{PlayError, PlayKind, Writer, play};
+use crate::{PlayError, PlayKind, Writer, count_lines, play, transcript};
 use std::io;
 use std::io::Write;
 use std::test::Fail;
@@ -13,7 +13,7 @@ struct Row {
     prints: &'static [u8],
 }
 
-const ROWS: [Row; 33] = [
+const ROWS: [Row; 37] = [
     Row {
         shows: "a delivery is written in pieces, linked, and listed",
         script: b"folder inbox\njob deliver inbox 1000.M1P7Q1.a 4 hello\\n\nfinish 1 1000\nlist inbox\n",
@@ -160,9 +160,9 @@ const ROWS: [Row; 33] = [
         prints: b"date=Wed, 31 Dec 1969 23:59:59 +0000\nseconds=-1\nend\n",
     },
     Row {
-        shows: "messages without a header",
-        script: b"summary\nsummary \\nSubject: x\nsummary : x\\n\nsummary \\r\\nSubject: a\\n\n",
-        prints: b"end\nend\nend\nend\n",
+        shows: "messages without a header, and one with a NUL in it",
+        script: b"summary\nsummary \\nSubject: x\nsummary : x\\n\nsummary \\r\\nSubject: a\\n\nsummary Subject: a\0b\\n\n",
+        prints: b"end\nend\nend\nend\nsubject=a\0b\nend\n",
     },
     Row {
         shows: "a carriage return that ends no line is a byte of its value",
@@ -178,6 +178,26 @@ const ROWS: [Row; 33] = [
         shows: "names and summaries need no store: a folder is added behind them",
         script: b"unique 1 2 3 4 a\nsummary\nfolder i\nlist i\n",
         prints: b"unique 1.M2P3Q4.a\nend\n",
+    },
+    Row {
+        shows: "a message that goes to cur between the two readings is in both, and is listed as it is in cur",
+        script: b"folder i\nfile i new u 0 x\njob seen i u S 1\nfirst i\nfinish 1 1\nsecond i\n",
+        prints: b"job 1\n1 list new ok\n1 rename ok\n1 answer flags S\ncur u S 1\n",
+    },
+    Row {
+        shows: "a message that comes to new after the first reading isn't listed",
+        script: b"folder a\nfolder b\nfile a new u 0 x\njob move a u b 1\nfinish 1 1\nfirst a\njob move b u a 1\nfinish 2 1\nsecond a\n",
+        prints: b"job 1\n1 list new ok\n1 rename ok\n1 answer moved\njob 2\n2 list new ok\n2 rename ok\n2 answer moved\n",
+    },
+    Row {
+        shows: "a message that was in new at the first reading is listed as it was then",
+        script: b"folder a\nfolder b\nfile a new u 0 x\njob move a u b 1\nfirst a\nfinish 1 1\njob move b u a 1\nfinish 2 1\nsecond a\n",
+        prints: b"job 1\n1 list new ok\n1 rename ok\n1 answer moved\njob 2\n2 list new ok\n2 rename ok\n2 answer moved\nnew u - 1\n",
+    },
+    Row {
+        shows: "a first reading takes the place of an older one of its folder, and of no other",
+        script: b"folder i\nfolder j\nfile i new u 0 x\nfile j new v 0 yy\nfirst i\nfirst j\njob move i u j 1\nfinish 1 1\nfirst i\nsecond i\nsecond j\n",
+        prints: b"job 1\n1 list new ok\n1 rename ok\n1 answer moved\nnew v - 2\n",
     },
 ];
 
@@ -197,6 +217,20 @@ fn scripts_print_their_transcripts(rt: HostRuntime) -> Result<(), Fail> {
     Ok(())
 }
 
+#[test]
+fn a_script_that_is_cut_short_prints_the_front(rt: HostRuntime) -> Result<(), Fail> {
+    let row = &ROWS[0];
+    for len in 0..row.script.len() {
+        let front = &row.script[..len];
+        let printed = transcript(rt.alloc(), front)?;
+        assert!(rt; row.prints.starts_with(&printed.text), "{len}");
+        if let Some(refused) = printed.refusal {
+            assert_eq!(rt; refused.line, count_lines(front), "{len}");
+        }
+    }
+    Ok(())
+}
+
 /// A script that is refused: what it prints before, and the refusal.
 struct Refused {
     script: &'static [u8],
@@ -204,7 +238,7 @@ struct Refused {
     text: &'static str,
 }
 
-const REFUSED: [Refused; 49] = [
+const REFUSED: [Refused; 53] = [
     Refused {
         script: b"folder a\nfolder b\njob move a u b 1\nfinish 1 1\nstep 1 1\n",
         prints: b"job 1\n1 list new ok\n1 list cur ok\n1 answer notthere\n",
@@ -459,6 +493,26 @@ const REFUSED: [Refused; 49] = [
         script: b"summary a\\tb",
         prints: b"",
         text: "line 1: bad escape",
+    },
+    Refused {
+        script: b"folder i\nsecond i\n",
+        prints: b"",
+        text: "line 2: no first reading",
+    },
+    Refused {
+        script: b"folder i\nfile i cur u:2,S 0 x\nfirst i\nsecond i\nsecond i\n",
+        prints: b"cur u S 1\n",
+        text: "line 5: no first reading",
+    },
+    Refused {
+        script: b"folder i\nfolder j\nfirst j\nsecond i\n",
+        prints: b"",
+        text: "line 4: no first reading",
+    },
+    Refused {
+        script: b"folder i\nfirst i\nfolder j\n",
+        prints: b"",
+        text: "line 3: too late",
     },
 ];
 

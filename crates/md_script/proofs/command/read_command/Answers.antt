@@ -7,9 +7,6 @@ returns-in-Folder-clause-fit c = c.folder_line.ensures.fit c.args.mode
 pub returns-in_ok-file_line-in-File-clause-fit : goal.returns-in_ok-file_line-in-File-clause-fit
 returns-in_ok-file_line-in-File-clause-fit c = takes_files c.args.mode c.in-Some.verb c.in-File.is c.in_ok-admit.ensures
 
-pub returns-in-List-clause-fit : goal.returns-in-List-clause-fit
-returns-in-List-clause-fit c = c.list_line.ensures.fit c.args.mode
-
 pub returns-in-Read-clause-fit : goal.returns-in-Read-clause-fit
 returns-in-Read-clause-fit c = c.read_line.ensures.fit c.args.folders.now c.args.mode
 

@@ -7,7 +7,7 @@ use Rattle.md_script.proofs.store.acts.finish.Goals as goal
 pub loop-alloc-init : goal.loop-alloc-init
 loop-alloc-init g c =
     let step = c.in_ok-step.ensures.step in
-    (step.0, step.2, finishes-start _ _ _ _ step.1 c.in_ok-step.ensures.nearer)
+    (step.0, step.2, finishes-start _ _ _ _ step.1 c.in_ok-step.ensures.nearer, c.in_ok-step.ensures.waits)
 
 pub loop-alloc-preserved : goal.loop-alloc-preserved
 loop-alloc-preserved g c =
@@ -16,6 +16,7 @@ loop-alloc-preserved g c =
       so_far.0 ++ step.0,
       step.2 ∙ ap (λ text. text ++ step.0) so_far.1 ∙ append_assoc c.args.out.now.items so_far.0 step.0,
       finishes-more _ _ _ _ _ _ so_far.2 step.1 c.in_ok-step-2.ensures.nearer,
+      λ l begun. c.in_ok-step-2.ensures.waits l (so_far.3 l begun),
     )
 
 pub returns-clause-finish : goal.returns-clause-finish
@@ -35,3 +36,9 @@ returns-in_err-step-2-clause-finish g c =
     (finishes-unrefused c.args.world.now c.args.event c.loop-alloc.world c.loop-alloc.invariant.0 c.loop-alloc.invariant.2 (ap is_some (sym c.answer.ensures) ∙ c.loop-alloc-test.ensures)
     (finished c.args.world.now c.args.event) c.step-in-loop-alloc.new.world c.step-in-loop-alloc.new.world c.loop-alloc.out.items c.args.out.now.items c.step-in-loop-alloc.new.out.items
     c.in_err-step-2.field-0.0 c.in_err-step-2.ensures.step)
+
+pub returns-clause-waits : goal.returns-clause-waits
+returns-clause-waits g c = c.loop-alloc.invariant.3
+
+pub returns-in_err-step-2-clause-waits : goal.returns-in_err-step-2-clause-waits
+returns-in_err-step-2-clause-waits g c = λ l begun. c.in_err-step-2.ensures.waits l (c.loop-alloc.invariant.3 l begun)
