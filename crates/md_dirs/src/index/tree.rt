@@ -1,12 +1,6 @@
 // The directories of all folders, side by side.
-ghost use Rattle.std.specs.Prelude.{◌≡◌, ◌<◌, ◌+◌, ◌^◌, ℕ, OnOk, OnErr, None, IfOk, IfSome, IsSome, IsTrue, All, map, slice_get, vec_len, find as first_with};
-ghost use Rattle.std.specs.Option.{option_map};
-ghost use Rattle.std.specs.FinMap as finmap;
-ghost use Rattle.md_dirs.specs.Path.{path_of};
-ghost use Rattle.md_dirs.specs.State.{file_by};
-ghost use Rattle.md_dirs.specs.Rows.{is_named};
-ghost use Rattle.md_dirs.specs.Index.{directory_number, directory_at, rows_in};
-ghost use Rattle.md_dirs.specs.Files.{files_of, name_row};
+ghost use Rattle.std.specs.Prelude.{◌≡◌, ◌<◌, ◌+◌, ◌^◌, ℕ, OnOk, None, vec_len};
+ghost use Rattle.md_dirs.specs.Index.{directory_at};
 
 use crate::files::Kept;
 use crate::index::loose::LooseTree;
