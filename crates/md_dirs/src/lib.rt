@@ -12,6 +12,8 @@ pub mod laws;
 mod paths;
 mod plain;
 mod rows;
+mod store;
+mod stored;
 #[cfg(test)]
 mod tests;
 
