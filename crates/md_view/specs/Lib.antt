@@ -1,3 +1,4 @@
 pub mod Readings
 pub mod Rows
 pub mod Law
+pub mod Named
