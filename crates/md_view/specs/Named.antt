@@ -1,11 +1,13 @@
 -- The names of a store, as listings show them, and what a change makes of them.
-use Rattle.std.specs.Prelude.{ℕ, ◌≡◌, ◌<◌, ◌==◌, ◌&&◌, List, Some, Bool, true, false, not, is_some, nat_eq, nat_lt, if◌then◌else◌}
+use Rattle.std.specs.Prelude.{ℕ, ◌≡◌, ◌<◌, ◌==◌, ◌&&◌, List, Some, Bool, true, false, not, is_some, nat_eq, nat_lt, refl, if◌then◌else◌}
 use Rattle.std.specs.Option.{option_map_or}
 use Rattle.std.specs.Cmp.Lexicographic.{pointwise}
 use Rattle.std.specs.FinMap as finmap
+use Rattle.std.specs.Coded.{Coded, code_by, coded×, coded_ℕ, coded_list}
 use Rattle.md_dirs.specs.Path.{place_index}
-use Rattle.md_dirs.specs.State.{State}
+use Rattle.md_dirs.specs.State.{State, place_by}
 use Rattle.md_dirs.specs.declared.paths.Place.{Place}
+use Rattle.md_dirs.specs.declared.paths.Place.TheVariants.{Tmp, New, Cur}
 use Rattle.md_name.specs.Names.{unique_of, is_message_name}
 use Rattle.md_core.specs.Mailbox.{mailbox_of, is_tmp}
 use Rattle.md_core.specs.History.{Listed, Names, names_of, changed}
@@ -16,6 +18,22 @@ use Rattle.md_core.specs.declared.jobs.effect.Change.TheVariants.{Add, Rename, R
 pub record Named : Type 0 where
   pub folders : ℕ
   pub names : Names
+
+-- What follows writes names as tuples of numbers and lists, as a type that contracts see as names asks for it.
+abbrev pub listed_code : Coded Listed
+listed_code =
+    code_by (ℕ × (Place × (List ℕ × ℕ))) (coded× coded_ℕ (coded× (code_by ℕ coded_ℕ place_index place_by back) (coded× (coded_list coded_ℕ) coded_ℕ)))
+    (λ x. (x.folder, (x.place, (x.name, x.size)))) (λ t. record { folder = t.0; place = t.1.0; name = t.1.1.0; size = t.1.1.1 }) (λ _. refl)
+  where
+    back : (p : Place) → place_by (place_index p) ≡ p
+    back Tmp = refl
+    back New = refl
+    back Cur = refl
+
+abbrev pub named_code : Coded Named
+named_code =
+    code_by (ℕ × Names) (coded× coded_ℕ (finmap.code (coded_list coded_ℕ) listed_code))
+    (λ n. (n.folders, n.names)) (λ t. record { folders = t.0; names = t.1 }) (λ _. refl)
 
 -- the names that directories show
 abbrev pub named_of : State → Named
