@@ -10,3 +10,5 @@ pub mod Staying
 pub mod LawHolds
 pub mod Made
 pub mod Waiting
+pub mod Fitting
+pub mod Placing
