@@ -1,6 +1,8 @@
 -- Where an entry goes in a list in order, and what the list shows once it came or went there.
-use Rattle.std.proofs.Common.{ℕ, zero, suc, ◌≡◌, ◌≢◌, ◌≤◌, ◌<◌, ◌+◌, List, [], ◌∷◌, Option, Some, None, Bool, true, false, cond, T, not, map, length, slice_get, slice_set, refl, sym, ap, subst, ◌∙◌, arith, get_or}
+use Rattle.std.proofs.Common.{ℕ, zero, suc, ◌≡◌, ◌≢◌, ◌≤◌, ◌<◌, ◌+◌, List, [], ◌∷◌, Option, Some, None, inl, inr, Bool, true, false, cond, T, not, map, length, slice_get, slice_set, refl, sym, ap, subst, ◌∙◌, arith, get_or}
 use Rattle.std.specs.Prelude.{insert, remove}
+use Rattle.std.proofs.lemmas.Bool.{cases_lt}
+use Rattle.std.specs.List.Sorted.{IsPartitionedBy, IsPartitionPoint}
 use Rattle.std.specs.declared.cmp.Ordering.{Ordering}
 use Rattle.std.specs.declared.cmp.Ordering.TheVariants.{Less, Equal, Greater}
 use Rattle.std.specs.Ordering.{eq_by_cmp, is_lt, is_eq, ordering_reverse}
@@ -12,7 +14,7 @@ use Rattle.md_dirs.specs.declared.paths.Place.TheVariants.{New}
 use Rattle.md_core.specs.Mailbox.{name_cmp}
 use Rattle.md_view.specs.declared.entry.Entry.{Entry}
 use Rattle.md_view.specs.Readings.{keyed, IsInOrder}
-use Rattle.md_view.specs.Held.{found, place_for, Shows}
+use Rattle.md_view.specs.Held.{found, place_for, HasAt, Shows}
 use Rattle.md_view.proofs.Keyed.{IsBelow, IsSorted, both, first, second, less, is_less, turned, tie-itself, tie-same, below-less, lookup-below, in-order, ordered}
 
 -- how an entry stands to a unique name
@@ -65,6 +67,51 @@ module _ (u : List ℕ) where
         ] to
       ] refl from
 
+-- halving finds that place
+module _ (u : List ℕ) (es : List Entry) (sorted : IsSorted es) where
+  abbrev pub is_before : Entry → Bool
+  is_before e = is_lt (name_cmp e.unique u)
+
+  pub parts-there : IsPartitionedBy is_before es
+  parts-there i j d upto within passes = elim (cases_lt j (place_for u es)) [
+    | inl low ↦ ap is_lt (before-place u es d i (omega arith))
+    | inr high ↦ let high_is = from-place u es sorted d j high within in let never : true ≡ false = sym passes ∙ high_is in cc
+  ]
+
+  nothing : Entry
+  nothing = record { unique = []; place = New; name = []; size = 0 }
+
+  pub point-place : (i : ℕ) → i ≤ length es → IsPartitionPoint (λ e. is_before e ≡ true) (λ e. is_before e ≡ false) es i → i ≡ place_for u es
+  point-place i within point =
+      let far = place-within u es in
+      elim (cases_lt i (place_for u es)) [
+        | inl low ↦
+            let low_is : is_before (get_or es i nothing) ≡ true = ap is_lt (before-place u es nothing i low) in
+            let high_is : is_before (get_or es i nothing) ≡ false = point.1 i nothing (omega arith) (omega (arith, far, low)) in
+            let never : true ≡ false = sym low_is ∙ high_is in cc
+        | inr high ↦ elim (cases_lt (place_for u es) i) [
+          | inl low ↦
+              let low_is : is_before (get_or es (place_for u es) nothing) ≡ true = point.0 (place_for u es) nothing (omega arith) low in
+              let high_is : is_before (get_or es (place_for u es) nothing) ≡ false = from-place u es sorted nothing (place_for u es) (omega arith) (omega (arith, within, low)) in
+              let never : true ≡ false = sym low_is ∙ high_is in cc
+          | inr back ↦ omega (arith, high, back)
+        ]
+      ]
+
+  -- where the last entry is below the name, all are
+  pub place-last : (n : ℕ) (e : Entry) → length es ≡ n + 1 → e ≡ get_or es n e → is_before e ≡ true → place_for u es ≡ length es
+  place-last n e count is passes =
+      let far = place-within u es in
+      elim (cases_lt (place_for u es) (length es)) [
+        | inl low ↦
+            let high_is : is_before (get_or es n e) ≡ false = from-place u es sorted e n (omega (arith, low, count)) (omega (arith, count)) in
+            let never : true ≡ false = sym passes ∙ ap is_before is ∙ high_is in cc
+        | inr high ↦ omega (arith, far, high)
+      ]
+
+  pub place-none : length es ≡ 0 → place_for u es ≡ length es
+  place-none none = let far = place-within u es in omega (arith, far, none)
+
 -- what stands at a place, if it has the name
 abbrev pub picked : List ℕ → Option Entry → Option Entry
 picked u None = None
@@ -86,6 +133,22 @@ found-at u (e ∷ es) sorted = by (found-at u es (second _ _ sorted)) (name_cmp 
     by rest Greater is =
         ap (λ r. cond (is_eq r) (Some e) (found u es)) is ∙ rest
         ∙ sym (ap (λ b. picked u (slice_get (e ∷ es) (cond b (suc (place_for u es)) 0))) (turned-is u e.unique Greater is))
+
+module _ (u : List ℕ) (es : List Entry) (sorted : IsSorted es) (at : ℕ) (is : at ≡ place_for u es) where
+  pub found-has : (h : HasAt es at u) → found u es ≡ Some h.entry
+  found-has h =
+      found-at u es sorted ∙ ap (λ k. picked u (slice_get es k)) (sym is) ∙ ap (picked u) h.is
+      ∙ ap (λ (v : List ℕ). cond (eq_by_cmp name_cmp u v) (Some h.entry) None) h.unique ∙ ap (λ b. cond b (Some h.entry) None) (tie-itself u)
+
+  pub found-not : (HasAt es at u → ⊥) → found u es ≡ None
+  found-not not = found-at u es sorted ∙ ap (λ k. picked u (slice_get es k)) (sym is) ∙ by (slice_get es at) refl
+    where
+      by : (o : Option Entry) → slice_get es at ≡ o → picked u o ≡ None
+      by None it = refl
+      by (Some e) it = elim (eq_by_cmp name_cmp u e.unique) as (λ b. eq_by_cmp name_cmp u e.unique ≡ b → cond b (Some e) None ≡ None) [
+        | true ↦ λ tie. absurd (not (record { entry = e; is = it; unique = sym (tie-same u e.unique tie) }))
+        | false ↦ λ _. refl
+      ] refl
 
 -- a new entry goes to its place
 keyed-insert : (e : Entry) (es : List Entry) → found e.unique es ≡ None → map keyed (insert es (place_for e.unique es) e) ≡ put name_cmp e.unique e (map keyed es)
@@ -212,3 +275,21 @@ module _ (u : List ℕ) (es : List Entry) (order : IsInOrder es) where
         ∙ sym (ap (λ (w : List ℕ). cond (eq_by_cmp name_cmp w u) None (found v es)) is ∙ ap (λ b. cond b None (found v es)) (tie-itself u)))
         (λ is. elim (eq_by_cmp name_cmp v u) as (λ t. eq_by_cmp name_cmp v u ≡ t → found v es ≡ cond t None (found v es)) [ true ↦ λ t. absurd (is (tie-same v u t)) | false ↦ λ t. refl ] refl);
   }
+
+-- the same by whether the place has the name
+module _ (u : List ℕ) (es : List Entry) (order : IsInOrder es) (at : ℕ) (is : at ≡ place_for u es) where
+  there : (h : HasAt es at u) → slice_get es (place_for u es) ≡ Some h.entry
+  there h = ap (slice_get es) (sym is) ∙ h.is
+
+  pub take-there : HasAt es at u → Shows u None es (remove es at)
+  take-there h = subst (λ k. Shows u None es (remove es k)) (sym is) (shows-remove u es order h.entry (there h) h.unique)
+
+  pub take-none : (HasAt es at u → ⊥) → Shows u None es es
+  take-none not = shows-none u es order (found-not u es (ordered _ order) at is not)
+
+module _ (e : Entry) (es : List Entry) (order : IsInOrder es) (at : ℕ) (is : at ≡ place_for e.unique es) where
+  pub put-there : HasAt es at e.unique → Shows e.unique (Some e) es (slice_set es at e)
+  put-there h = subst (λ k. Shows e.unique (Some e) es (slice_set es k e)) (sym is) (shows-set e es order h.entry (there e.unique es order at is h) h.unique)
+
+  pub put-new : (HasAt es at e.unique → ⊥) → Shows e.unique (Some e) es (insert es at e)
+  put-new not = subst (λ k. Shows e.unique (Some e) es (insert es k e)) (sym is) (shows-insert e es order (found-not e.unique es (ordered _ order) at is not))

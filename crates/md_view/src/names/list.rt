@@ -12,10 +12,8 @@ fn is_behind(entries: &[Entry], unique: &[u8]) -> bool
     requires { IsInOrder entries.now }
     ensures { IsTrue result → place_for unique.now entries.now ≡ length entries.now }
 {
-    match entries.last() {
-        Some(last) => last.unique.as_slice() < unique,
-        None => true,
-    }
+    let count = entries.len();
+    count == 0 || entries[count - 1].unique.as_slice().cmp(unique).is_lt()
 }
 
 // How many entries in front are below a unique name. Names come in the order of time, so the last entry is looked at first.
@@ -26,7 +24,7 @@ fn place_of(entries: &[Entry], unique: &[u8]) -> usize
     if is_behind(entries, unique) {
         return entries.len();
     }
-    entries.partition_point(|entry| entry.unique.as_slice() < unique)
+    entries.partition_point(|entry| entry.unique.as_slice().cmp(unique).is_lt())
 }
 
 // Whether the entry at a position has a unique name.
