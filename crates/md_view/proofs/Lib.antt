@@ -12,3 +12,5 @@ pub mod Made
 pub mod Waiting
 pub mod Fitting
 pub mod Placing
+pub mod Holding
+pub mod Changing
