@@ -14,3 +14,4 @@ pub mod Fitting
 pub mod Placing
 pub mod Holding
 pub mod Changing
+pub mod Applying

@@ -102,10 +102,11 @@ fn is_free_beside(folders: &[FolderNames], old: &[u8], name: &[u8]) -> bool
     requires message { is_message_name old.now ≡ true }
     ensures { result ≡ is_free_name (finmap.remove (held_names folders.now).names (unique_of old.now)) name.now }
 {
-    match (split(old), split(name)) {
-        (Some((old_unique, _)), Some((unique, _))) => {
-            unique == old_unique || !is_taken(folders, unique)
-        }
-        _ => false,
-    }
+    let Some((old_unique, _)) = split(old) else {
+        return false;
+    };
+    let Some((unique, _)) = split(name) else {
+        return false;
+    };
+    unique == old_unique || !is_taken(folders, unique)
 }
