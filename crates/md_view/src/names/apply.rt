@@ -1,5 +1,5 @@
 // What a change makes of the names.
-ghost use Rattle.std.specs.Prelude.{◌≡◌, true, IsSome, IfSome, IfOk, OnOk, OnErr};
+ghost use Rattle.std.specs.Prelude.{◌≡◌, ◌↔◌, true, IsTrue, IsSome, IfSome, IfOk, OnOk, OnErr};
 ghost use Rattle.md_name.specs.Names.{unique_of, is_message_name};
 ghost use Rattle.md_core.specs.declared.jobs.effect.Change.TheVariants.{Add, Rename, Remove};
 ghost use Rattle.md_view.specs.Named.{applied, fits as fits_names};
@@ -138,11 +138,25 @@ fn rename(
     let entry = entry_of(alloc, to_place, to_name, size)?;
     let to_lists = &mut folders[to_folder as usize];
     to_lists.put(to_place, entry)?;
-    if folder != to_folder || place != to_place || unique != to_unique {
+    if !is_one_place(folder, place, unique, to_folder, to_place, to_unique) {
         let lists = &mut folders[folder as usize];
         lists.take(place, unique);
     }
     Ok(())
+}
+
+// Whether two entries have one directory and one unique name.
+fn is_one_place(
+    folder: u32,
+    place: Place,
+    unique: &[u8],
+    to_folder: u32,
+    to_place: Place,
+    to_unique: &[u8],
+) -> bool
+    ensures { IsTrue result ↔ ((folder ≡ to_folder) × (place ≡ to_place) × (unique.now ≡ to_unique.now)) }
+{
+    folder == to_folder && place == to_place && unique == to_unique
 }
 
 // The size of the message of a unique name in a directory.
