@@ -1,13 +1,12 @@
 -- Lists to which a change was made hold the names after it, and how a change that fits is known by the lists.
-use Rattle.std.proofs.Common.{ℕ, ◌≡◌, ◌≢◌, ◌≤◌, ◌<◌, ◌+◌, ◌^◌, List, [], Option, Some, None, IsSome, inl, inr, Bool, true, false, cond, ◌&&◌, ◌==◌, not, is_some, length, slice_get, slice_set, refl, sym, ap, subst, ◌∙◌, arith, eqb-true, ltb-true}
-use Rattle.std.specs.Prelude.{nat_eq, nat_lt}
+use Rattle.std.proofs.Common.{ℕ, ◌≡◌, ◌≢◌, ◌≤◌, ◌<◌, ◌^◌, List, [], Option, Some, None, IsSome, IfSome, Bool, true, false, cond, ◌&&◌, not, is_some, length, slice_get, slice_set, refl, sym, ap, subst, ◌∙◌, arith, eqb-true, ltb-true}
+use Rattle.std.specs.Prelude.{nat_eq}
 use Rattle.std.specs.List.{list_any}
 use Rattle.std.specs.Option.{option_and_then, option_map_or}
 use Rattle.std.specs.Cmp.Lexicographic.{pointwise}
 use Rattle.std.specs.FinMap as finmap
 use Rattle.std.specs.FinMap.{get}
 use Rattle.std.proofs.lemmas.List.{length-set}
-use Rattle.std.proofs.lemmas.Option.{slice_get_past, slice_get_cases}
 use Rattle.std.proofs.lemmas.Cmp.{nat_list_cmp_total, nat_eq_equiv}
 use Rattle.std.proofs.lemmas.Map.Lookups.{exact_bytes}
 use Rattle.std.proofs.lemmas.Slice.Eq.{bytes_eq-Decides}
@@ -17,14 +16,13 @@ use Rattle.md_dirs.specs.declared.paths.Place.{Place}
 use Rattle.md_dirs.proofs.Maps.{by_key, at_put, beside_put, at_drop, beside_drop}
 use Rattle.md_core.specs.Mailbox.{is_tmp}
 use Rattle.md_core.specs.History.{Listed, Names, IsThere, size_in}
-use Rattle.md_core.specs.declared.jobs.effect.Change.{Change}
 use Rattle.md_core.specs.declared.jobs.effect.Change.TheVariants as change
 use Rattle.md_view.specs.declared.entry.Entry.{Entry}
 use Rattle.md_view.specs.Readings.{shown, is_at}
 use Rattle.md_view.specs.Named.{Named, IsMessage, AreMessages, is_listed, has_name, is_there, is_free, fits, applied}
 use Rattle.md_view.specs.Held.{FolderLists, list_of, listed_in, AreHeld, found, has_unique, ShowsAt}
 use Rattle.md_view.proofs.Readings.{entry_at}
-use Rattle.md_view.proofs.Rows.{same_place, and-first, and-second, and-both, if-some}
+use Rattle.md_view.proofs.Rows.{same_place, and-first, and-second, if-some}
 use Rattle.md_view.proofs.Holding.{shown_at, AreLists, held-lists, lists-held, taken}
 use Rattle.md_view.proofs.Changing.{is_spot, but, set-lists, added, removed, renamed, replaced}
 
@@ -213,6 +211,21 @@ module _ (n : Named) (fs : List FolderLists) (held : AreHeld n fs) where
           sym (ap (λ (o : Option Listed). option_map_or (λ (x : Listed). x.size) o 0) rename-there.at),
         )
 
+    found-old : (u : List ℕ) (gs : List FolderLists) → gs ≡ fs → u ≡ unique_of name → found u (listed_in gs folder place) ≡ Some rename-found.0
+    found-old u gs same is = (λ i. found (is i) (listed_in (same i) folder place)) ∙ rename-found.1
+
+    pub rename-old : (u : List ℕ) (gs : List FolderLists) → gs ≡ fs → u ≡ unique_of name → IsSome (found u (listed_in gs folder place))
+    rename-old u gs same is = subst IsSome (sym (found-old u gs same is)) refl
+
+    -- the entry that is put in is that of the new message, if its size is the old one's
+    pub rename-put : (u : List ℕ) (gs : List FolderLists) → gs ≡ fs → u ≡ unique_of name → (size : ℕ) → IfSome (found u (listed_in gs folder place)) (λ e. size ≡ e.size)
+        → (entry : Entry) → entry ≡ record { unique = unique_of to_name; place = to_place; name = to_name; size = size } → (f f' : FolderLists)
+        → ShowsAt to_place entry.unique (Some entry) f f' → ShowsAt to_place (unique_of to_name) (Some (shown (unique_of to_name, new_message))) f f'
+    rename-put u gs same is size sized entry made f f' shows =
+        let old : size ≡ rename-found.0.size = subst (λ (o : Option Entry). IfSome o (λ e. size ≡ e.size)) (found-old u gs same is) sized in
+        subst (λ (e : Entry). ShowsAt to_place e.unique (Some e) f f')
+        (made ∙ (λ i. record { unique = unique_of to_name; place = to_place; name = to_name; size = (old ∙ rename-found.2) i })) shows
+
     abbrev names_then : Names
     names_then = finmap.insert (finmap.remove n.names (unique_of name)) (unique_of to_name) new_message
 
@@ -249,3 +262,8 @@ module _ (n : Named) (fs : List FolderLists) (held : AreHeld n fs) where
             (held-after names_then (slice_set (slice_set fs to_folder f') folder g') (length-set (slice_set fs to_folder f') folder g' ∙ long) messages-then _
             (set-lists (slice_set fs to_folder f') _ put-lists folder place (unique_of name) None g g' there (subst (λ k. folder < k) (sym long) low) take)
             (renamed n.names (unique_of name) (record { folder = folder; place = place; name = name; size = rename-there.size }) rename-there.at (unique_of to_name) new_message rename-free.1 meet))
+
+-- a name that has no parts is no message's
+pub no-parts : {X : Type 0} (b : Bool) (x : X) → None ≡ cond b (Some x) None → b ≡ false
+no-parts true x is = cc
+no-parts false x is = refl

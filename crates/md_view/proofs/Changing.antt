@@ -1,32 +1,25 @@
 -- What a change that fits makes of the lists.
-use Rattle.std.proofs.Common.{ℕ, ◌≡◌, ◌≢◌, ◌≤◌, ◌<◌, ◌+◌, ◌^◌, List, [], Option, Some, None, inl, inr, Bool, true, false, cond, ◌&&◌, ◌||◌, ◌==◌, not, is_some, length, slice_get, slice_set, refl, sym, ap, subst, ◌∙◌, arith, eqb-true}
+use Rattle.std.proofs.Common.{ℕ, ◌≡◌, ◌≢◌, ◌<◌, List, [], Option, Some, None, Bool, true, false, cond, ◌&&◌, ◌==◌, not, length, slice_get, slice_set, refl, sym, ap, subst, ◌∙◌, eqb-true}
 use Rattle.std.specs.Option.{option_and_then, option_map_or}
 use Rattle.std.specs.Ordering.{eq_by_cmp}
 use Rattle.std.specs.FinMap as finmap
 use Rattle.std.specs.FinMap.{get}
 use Rattle.std.proofs.lemmas.Cmp.{nat_list_cmp_total, nat_eq_equiv}
 use Rattle.std.proofs.lemmas.Map.Lookups.{exact_bytes}
-use Rattle.std.proofs.lemmas.Slice.Eq.{bytes_eq-Decides}
-use Rattle.std.specs.Cmp.Lexicographic.{pointwise}
-use Rattle.std.specs.Prelude.{nat_eq}
-use Rattle.md_name.specs.Names.{unique_of, is_message_name}
 use Rattle.md_dirs.specs.Path.{place_index}
 use Rattle.md_dirs.specs.declared.paths.Place.{Place}
-use Rattle.md_dirs.specs.declared.paths.Place.TheVariants.{Tmp, New, Cur}
 use Rattle.md_dirs.proofs.Maps.{by_key, at_put, beside_put, at_drop, beside_drop}
 use Rattle.md_dirs.proofs.Sound.{get-set_same, get-set_other}
-use Rattle.md_core.specs.Mailbox.{name_cmp, is_tmp}
-use Rattle.md_core.specs.History.{Listed, Names, IsThere, size_in, changed}
-use Rattle.md_core.specs.declared.jobs.effect.Change.{Change}
-use Rattle.md_core.specs.declared.jobs.effect.Change.TheVariants as change
+use Rattle.md_core.specs.Mailbox.{name_cmp}
+use Rattle.md_core.specs.History.{Listed, Names}
 use Rattle.md_view.specs.declared.entry.Entry.{Entry}
-use Rattle.md_view.specs.Readings.{shown, is_at, IsInOrder}
-use Rattle.md_view.specs.Named.{Named, IsMessage, AreMessages, is_listed, has_name, is_there, is_free, fits, applied}
-use Rattle.md_view.specs.Held.{FolderLists, list_of, listed_in, AreHeld, found, Shows, ShowsAt}
+use Rattle.md_view.specs.Readings.{shown, IsInOrder}
+use Rattle.md_view.specs.Named.{is_there}
+use Rattle.md_view.specs.Held.{FolderLists, list_of, listed_in, found, ShowsAt}
 use Rattle.md_view.proofs.Keyed.{tie-itself, tie-same}
 use Rattle.md_view.proofs.Readings.{entry_at}
-use Rattle.md_view.proofs.Rows.{same_place, and-first, and-second}
-use Rattle.md_view.proofs.Holding.{shown_at, AreLists, held-lists, lists-held}
+use Rattle.md_view.proofs.Rows.{same_place}
+use Rattle.md_view.proofs.Holding.{shown_at, AreLists}
 
 abbrev pub is_spot : ℕ → Place → ℕ → Place → Bool
 is_spot folder place at_folder at_place = folder == at_folder && place_index place == place_index at_place

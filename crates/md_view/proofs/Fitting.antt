@@ -1,5 +1,5 @@
 -- A change that a legal history allows fits the names.
-use Rattle.std.proofs.Common.{ℕ, ◌≡◌, ◌≢◌, ◌<◌, List, Option, Some, None, Bool, true, false, cond, ◌&&◌, ◌==◌, not, is_some, refl, sym, ap, subst, ◌∙◌, lt-ltb}
+use Rattle.std.proofs.Common.{ℕ, ◌≡◌, ◌≢◌, ◌<◌, List, Option, None, true, false, cond, not, is_some, refl, sym, ap, subst, ◌∙◌, lt-ltb}
 use Rattle.std.specs.Option.{option_map_or}
 use Rattle.std.specs.FinMap as finmap
 use Rattle.std.specs.FinMap.{get}

@@ -1,7 +1,6 @@
 -- Names that are held: what their lists show, and that the lists make the names.
 use Rattle.std.proofs.Common.{ℕ, zero, suc, ◌≡◌, ◌≤◌, ◌<◌, ◌+◌, ◌++◌, ◌^◌, List, [], ◌∷◌, Option, Some, None, inl, inr, Bool, true, false, cond, ◌&&◌, ◌||◌, ◌==◌, is_some, map, length, slice_get, refl, sym, ap, subst, ◌∙◌, arith, eqb-true}
 use Rattle.std.proofs.lemmas.Bool.{cases_lt}
-use Rattle.std.proofs.lemmas.Option.{slice_get_cases, slice_get_past}
 use Rattle.std.specs.List.{list_any}
 use Rattle.std.specs.Option.{option_map, option_and_then, option_or, option_map_or}
 use Rattle.std.specs.Ordering.{eq_by_cmp}
@@ -14,8 +13,8 @@ use Rattle.md_core.specs.Mailbox.{name_cmp, is_tmp}
 use Rattle.md_core.specs.History.{Listed, Names}
 use Rattle.md_core.proofs.Naming.{same_names}
 use Rattle.md_view.specs.declared.entry.Entry.{Entry}
-use Rattle.md_view.specs.Readings.{shown, is_at, keyed, reading_of, IsInOrder}
-use Rattle.md_view.specs.Named.{Named, IsMessage, AreMessages}
+use Rattle.md_view.specs.Readings.{shown, reading_of, IsInOrder}
+use Rattle.md_view.specs.Named.{Named, AreMessages}
 use Rattle.md_view.specs.Held.{FolderLists, list_of, listed_in, by_folder, listed_from, held_names, AreHeld, HoldNames, found, has_unique}
 use Rattle.md_view.proofs.Keyed.{IsSorted, lookup-append, sorted-values, in-order, ordered}
 use Rattle.md_view.proofs.Readings.{entry_at, reading-sorted, lookup-reading}

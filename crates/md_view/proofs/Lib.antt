@@ -15,3 +15,4 @@ pub mod Placing
 pub mod Holding
 pub mod Changing
 pub mod Applying
+pub mod Opening

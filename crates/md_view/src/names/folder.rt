@@ -134,7 +134,8 @@ pub fn all_of<D: Dirs>(alloc: Global, world: &World<D>) -> Result<Vec<FolderName
 {
     world.interleaves();
     let mut folders = Vec::new(alloc);
-    for folder in 0..world.folders() {
+    let count = world.folders();
+    for folder in 0..count {
         folders.push(FolderNames::of(alloc, world, folder)?)?;
     }
     Ok(folders)

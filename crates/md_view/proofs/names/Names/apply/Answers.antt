@@ -1,6 +1,5 @@
-use Rattle.std.proofs.Common.{◌≡◌, sym, ap, subst, ◌∙◌}
+use Rattle.std.proofs.Common.{ap, ◌∙◌}
 use Rattle.md_view.specs.Named.{Named, applied}
-use Rattle.md_view.specs.Held.{held_names}
 use Rattle.md_view.proofs.Holding.{held-is, holds}
 use Rattle.md_view.proofs.names.Names.apply.Goals as goal
 

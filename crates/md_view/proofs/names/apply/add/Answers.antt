@@ -1,12 +1,10 @@
-use Rattle.std.proofs.Common.{ℕ, ◌≡◌, ◌<◌, List, Option, Some, Ok, Err, slice_set, refl, sym, ap, subst, ◌∙◌}
-use Rattle.std.specs.declared.result.Result.{Result}
+use Rattle.std.proofs.Common.{Some, Ok, Err, slice_set, refl, subst}
 use Rattle.std.specs.Result.{OnOk}
 use Rattle.std.proofs.lemmas.Option.{slice_get_read}
-use Rattle.md_name.specs.Names.{unique_of}
 use Rattle.md_core.specs.declared.jobs.effect.Change.TheVariants.{Add}
 use Rattle.md_view.specs.declared.entry.Entry.{Entry}
 use Rattle.md_view.specs.Named.{applied}
-use Rattle.md_view.specs.Held.{FolderLists, ShowsAt, AreHeld, held_names}
+use Rattle.md_view.specs.Held.{ShowsAt, AreHeld, held_names}
 use Rattle.md_view.proofs.Rows.{and-first}
 use Rattle.md_view.proofs.Applying.{within-listed, add-held}
 use Rattle.md_view.proofs.names.apply.add.Goals as goal

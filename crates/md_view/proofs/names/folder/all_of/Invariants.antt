@@ -1,4 +1,4 @@
-use Rattle.std.proofs.Common.{ℕ, ◌≡◌, ◌≤◌, length, slice_get, Some}
+use Rattle.std.proofs.Common.{ℕ, ◌≡◌, length, slice_get, Some}
 use Rattle.md_core.specs.History.{names_of}
 use Rattle.md_core.specs.Mailbox.{mailbox_of}
 use Rattle.md_core.specs.Runs.{dirs_of}

@@ -1,4 +1,4 @@
-use Rattle.std.proofs.Common.{ℕ, ◌≡◌, List, Some, true, false, arith, sym, ap, subst, ◌∙◌}
+use Rattle.std.proofs.Common.{ℕ, ◌≡◌, List, Some, true, false, arith, sym, subst, ◌∙◌}
 use Rattle.md_view.specs.declared.entry.Entry.{Entry}
 use Rattle.md_view.specs.Held.{place_for, HasAt, Shows}
 use Rattle.md_view.proofs.Placing.{place-within, put-there, put-new}

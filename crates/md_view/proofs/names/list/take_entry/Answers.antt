@@ -1,4 +1,4 @@
-use Rattle.std.proofs.Common.{ℕ, ◌≡◌, List, None, true, false, sym, ap, subst, ◌∙◌}
+use Rattle.std.proofs.Common.{◌≡◌, List, None, true, false, sym, ap, subst, ◌∙◌}
 use Rattle.md_view.specs.declared.entry.Entry.{Entry}
 use Rattle.md_view.specs.Held.{place_for, HasAt, Shows}
 use Rattle.md_view.proofs.Placing.{take-there, take-none}
