@@ -10,3 +10,9 @@ pub mod Staying
 pub mod LawHolds
 pub mod Made
 pub mod Waiting
+pub mod Fitting
+pub mod Placing
+pub mod Holding
+pub mod Changing
+pub mod Applying
+pub mod Opening

@@ -1,3 +1,5 @@
 pub mod Readings
 pub mod Rows
 pub mod Law
+pub mod Named
+pub mod Held

@@ -8,6 +8,7 @@ mod error;
 pub mod laws;
 mod listing;
 mod merge;
+mod names;
 mod read;
 #[cfg(test)]
 mod tests;
@@ -16,4 +17,5 @@ pub use entry::Entry;
 pub use error::ViewError;
 pub use listing::Listing;
 pub use merge::join;
+pub use names::Names;
 pub use read::reading;

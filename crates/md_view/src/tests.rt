@@ -1,4 +1,5 @@
 // What no clause says: worked listings, with what happens between their two readings. The bytes of each file are its name.
+mod names;
 
 use crate::{Entry, ViewError, join, reading};
 use md_core::{Call, CoreError, World};

@@ -1,0 +1,112 @@
+// Whether a change fits the names.
+ghost use Rattle.std.specs.Prelude.{◌≡◌, true};
+ghost use Rattle.std.specs.List.{list_any};
+ghost use Rattle.std.specs.FinMap as finmap;
+ghost use Rattle.md_name.specs.Names.{unique_of, is_message_name};
+ghost use Rattle.md_view.specs.Named.{fits as fits_names, is_listed as is_listed_in, is_free as is_free_name, is_there as is_name_there};
+ghost use Rattle.md_view.specs.Held.{has_unique, held_names, HoldNames};
+
+use crate::names::folder::FolderNames;
+use md_core::Change;
+use md_dirs::Place;
+use md_name::split;
+
+/// Whether a change fits: its directories are new or cur of folders that are there, the old name is there, and the new name is a message's
+/// whose unique name no other message has.
+pub fn fits(folders: &[FolderNames], change: &Change) -> bool
+    requires { HoldNames folders.now }
+    ensures { result ≡ fits_names (held_names folders.now) change.now }
+{
+    match change {
+        Change::Add {
+            folder,
+            place,
+            name,
+            ..
+        } => is_listed(folders, *folder, *place) && is_free(folders, name.as_slice()),
+        Change::Rename {
+            folder,
+            place,
+            name,
+            to_folder,
+            to_place,
+            to_name,
+        } => {
+            is_listed(folders, *folder, *place)
+                && is_listed(folders, *to_folder, *to_place)
+                && is_there(folders, *folder, *place, name.as_slice())
+                && is_free_beside(folders, name.as_slice(), to_name.as_slice())
+        }
+        Change::Remove {
+            folder,
+            place,
+            name,
+        } => {
+            is_listed(folders, *folder, *place)
+                && is_there(folders, *folder, *place, name.as_slice())
+        }
+        Change::Same => true,
+    }
+}
+
+// Whether this is new or cur of a folder that is there.
+fn is_listed(folders: &[FolderNames], folder: u32, place: Place) -> bool
+    ensures { result ≡ is_listed_in (held_names folders.now) folder place }
+{
+    (folder as usize) < folders.len() && !matches!(place, Place::Tmp)
+}
+
+// Whether a message has this name in this directory.
+fn is_there(folders: &[FolderNames], folder: u32, place: Place, name: &[u8]) -> bool
+    requires { HoldNames folders.now }
+    ensures { result ≡ is_name_there (held_names folders.now) folder place name.now }
+{
+    let Some(lists) = folders.get(folder as usize) else {
+        return false;
+    };
+    let Some((unique, _)) = split(name) else {
+        return false;
+    };
+    match lists.find(place, unique) {
+        Some(entry) => entry.name.as_slice() == name,
+        None => false,
+    }
+}
+
+// Whether some message has a unique name.
+fn is_taken(folders: &[FolderNames], unique: &[u8]) -> bool
+    ensures { result ≡ list_any (has_unique unique.now) folders.now }
+{
+    for lists in folders {
+        if lists.has(unique) {
+            return true;
+        }
+    }
+    false
+}
+
+// Whether a message may get this name: no other has its unique name.
+fn is_free(folders: &[FolderNames], name: &[u8]) -> bool
+    requires { HoldNames folders.now }
+    ensures { result ≡ is_free_name (held_names folders.now).names name.now }
+{
+    match split(name) {
+        Some((unique, _)) => !is_taken(folders, unique),
+        None => false,
+    }
+}
+
+// The same for a message that has an old name.
+fn is_free_beside(folders: &[FolderNames], old: &[u8], name: &[u8]) -> bool
+    requires names { HoldNames folders.now }
+    requires message { is_message_name old.now ≡ true }
+    ensures { result ≡ is_free_name (finmap.remove (held_names folders.now).names (unique_of old.now)) name.now }
+{
+    let Some((old_unique, _)) = split(old) else {
+        return false;
+    };
+    let Some((unique, _)) = split(name) else {
+        return false;
+    };
+    unique == old_unique || !is_taken(folders, unique)
+}

@@ -1,0 +1,76 @@
+// Entries in order of unique name: where one stands, by halving, and how one comes and goes.
+ghost use Rattle.std.specs.Prelude.{◌≡◌, IsTrue, ◌↔◌, None, Some, OnOk, OnErr, length};
+ghost use Rattle.std.specs.Option.{option_map};
+ghost use Rattle.md_view.specs.Readings.{IsInOrder};
+ghost use Rattle.md_view.specs.Held.{found, place_for, HasAt, Shows};
+
+use crate::entry::Entry;
+use std::alloc::AllocError;
+
+// Whether the last entry is below a unique name, so that all are.
+fn is_behind(entries: &[Entry], unique: &[u8]) -> bool
+    requires { IsInOrder entries.now }
+    ensures { IsTrue result → place_for unique.now entries.now ≡ length entries.now }
+{
+    let count = entries.len();
+    count == 0 || entries[count - 1].unique.as_slice().cmp(unique).is_lt()
+}
+
+// How many entries in front are below a unique name. Names come in the order of time, so the last entry is looked at first.
+fn place_of(entries: &[Entry], unique: &[u8]) -> usize
+    requires { IsInOrder entries.now }
+    ensures { result ≡ place_for unique.now entries.now }
+{
+    if is_behind(entries, unique) {
+        return entries.len();
+    }
+    entries.partition_point(|entry| entry.unique.as_slice().cmp(unique).is_lt())
+}
+
+// Whether the entry at a position has a unique name.
+fn is_at(entries: &[Entry], at: usize, unique: &[u8]) -> bool
+    requires order { IsInOrder entries.now }
+    requires at { at ≡ place_for unique.now entries.now }
+    ensures { IsTrue result ↔ HasAt entries.now at unique.now }
+{
+    at < entries.len() && entries[at].unique.as_slice() == unique
+}
+
+/// The entry of a unique name.
+pub fn find_entry<'a>(entries: &'a [Entry], unique: &[u8]) -> Option<&'a Entry>
+    requires { IsInOrder entries.now }
+    ensures { option_map (λ entry. entry.now) result ≡ found unique.now entries.now }
+{
+    let at = place_of(entries, unique);
+    if is_at(entries, at, unique) {
+        Some(&entries[at])
+    } else {
+        None
+    }
+}
+
+/// Puts an entry in its place, or in that of the entry of its unique name, if there is one.
+pub fn put_entry(entries: &mut Vec<Entry>, entry: Entry) -> Result<(), AllocError>
+    requires { IsInOrder entries.old.items }
+    ensures ok { OnOk result (Shows entry.unique (Some entry) entries.old.items entries.new.items) }
+    ensures err { OnErr result (entries.new.items ≡ entries.old.items) }
+{
+    let at = place_of(entries, entry.unique.as_slice());
+    if is_at(entries, at, entry.unique.as_slice()) {
+        entries[at] = entry;
+    } else {
+        entries.insert(at, entry)?;
+    }
+    Ok(())
+}
+
+/// Takes the entry of a unique name out, if there is one.
+pub fn take_entry(entries: &mut Vec<Entry>, unique: &[u8])
+    requires { IsInOrder entries.old.items }
+    ensures { Shows unique.now None entries.old.items entries.new.items }
+{
+    let at = place_of(entries, unique);
+    if is_at(entries, at, unique) {
+        let _gone = entries.remove(at);
+    }
+}
