@@ -166,7 +166,7 @@ module _ (names : ℕ → Names) (folder i j : ℕ) (order : i ≤ j) (u : List 
       by (in_cur x was at new cur) (in_new y is at' new' cur') = absurd (never-back x y was at is at')
 
 -- where no message is in tmp, and none in cur goes back to new
-good-listing : (names : ℕ → Names) (folder i j : ℕ) → i ≤ j → ((u : List ℕ) (k : ℕ) (x : Listed) → get (names k) u ≡ Some x → x.place ≢ Tmp)
+pub good-listing : (names : ℕ → Names) (folder i j : ℕ) → i ≤ j → ((u : List ℕ) (k : ℕ) (x : Listed) → get (names k) u ≡ Some x → x.place ≢ Tmp)
     → ((u : List ℕ) (x : Listed) → get (names i) u ≡ Some x → x.place ≡ Cur → IsInCur (get (names j) u)) → IsGoodListing names folder i j
 good-listing names folder i j order no_tmp stays = record {
   some_moment = λ u. some_moment names folder i j order u (no_tmp u) (stays u);

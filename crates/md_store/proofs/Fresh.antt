@@ -1,0 +1,27 @@
+-- Worlds with no event, and the first page.
+use Rattle.std.proofs.Common.{◌≡◌, [], sym, ap, ◌∙◌}
+use Rattle.md_core.specs.Machine.{Machine}
+use Rattle.md_core.specs.Runs.{Run, beginning, run_from, machine_of, dirs_of, effects_of}
+use Rattle.md_core.proofs.Runs.{run_from-none}
+use Rattle.md_view.specs.Named.{Named}
+use Rattle.md_store.specs.declared.rule.View.{View}
+use Rattle.md_store.specs.Pages.{Page}
+use Rattle.md_store.specs.Histories.{led}
+use Rattle.md_store.specs.Locks.{IsFresh}
+use Rattle.md_store.specs.Publishing.{Shows, knower}
+
+module _ (r : Run) (fresh : IsFresh r) where
+  machine : machine_of r ≡ beginning r.image r.calls
+  machine = ap (run_from (beginning r.image r.calls)) fresh ∙ run_from-none (beginning r.image r.calls)
+
+  pub fresh-dirs : dirs_of r ≡ r.image
+  fresh-dirs = ap (λ (m : Machine). m.dirs) machine
+
+  pub fresh-effects : effects_of r ≡ []
+  fresh-effects = ap (λ (m : Machine). m.effects) machine
+
+-- a writer that published a page with no history knows its names
+pub first-known : (v : View) (p : Page) (w : View) (opening : Named) → Shows v p w → p.front.log ≡ [] → p.names ≡ opening → w ≡ knower opening p
+first-known v p w opening s none is =
+    let same : s.0 ≡ opening = ap (led s.0) (sym none) ∙ s.3.names ∙ is in
+    s.1 ∙ ap (λ (o : Named). knower o p) same

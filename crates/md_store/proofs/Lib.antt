@@ -1,0 +1,10 @@
+pub mod Beginnings
+pub mod Growing
+pub mod Legal
+pub mod Good
+pub mod Looking
+pub mod Keeps
+pub mod Moves
+pub mod Told
+pub mod Fresh
+pub mod Submits

@@ -1,0 +1,59 @@
+-- What readings and listings of what is published show.
+use Rattle.std.specs.Prelude.{◌≡◌, ◌<◌, ℕ, length, Option, Some, None, List}
+use mathlib.Core.List.{IsPrefix}
+use Rattle.md_dirs.specs.declared.paths.Place.TheVariants.{New, Cur}
+use Rattle.md_core.specs.declared.jobs.effect.Effect.{Effect}
+use Rattle.md_core.specs.History.{Names}
+use Rattle.md_view.specs.declared.entry.Entry.{Entry}
+use Rattle.md_view.specs.Law.{names_after, IsGoodListing}
+use Rattle.md_view.specs.Named.{Named, AreMessages}
+use Rattle.md_view.specs.Readings.{reading_of, join_of}
+use Rattle.md_store.specs.Histories.{led, IsLegalFrom, read_at, listing}
+use Rattle.md_store.specs.Pages.{Log, Page}
+use Rattle.md_store.specs.declared.rule.View.{View}
+
+-- a first reading: its folder, and the entries of new
+pub record Reading : Type 0 where
+  pub folder : ℕ
+  pub entries : List Entry
+
+-- What names show of a folder: its new, or, where new was read before, the join of that reading with its cur.
+abbrev pub seen_in : Option (List Entry) → ℕ → Names → List Entry
+seen_in None folder names = reading_of names folder New
+seen_in (Some new) folder names = join_of new (reading_of names folder Cur)
+
+-- the page was looked at: it begins with what was held, and shows these entries
+pub record IsLooked (p : Page) (held : List Effect) (folder : ℕ) (new : Option (List Entry)) (entries : List Entry) (front : Log) : Type 0 where
+  pub front_is : front ≡ p.front
+  pub held_begins : IsPrefix held p.front.log
+  pub folder_is_there : folder < p.names.folders
+  pub entries_are : entries ≡ seen_in new folder p.names.names
+
+-- What a seat that knows its store saw: a legal history which begins with what was held, and these entries at its end.
+pub record Looks (v : View) (held : List Effect) (folder : ℕ) (new : Option (List Entry)) (entries : List Entry) (front : Log) : Type 0 where
+  pub book_is : front.book ≡ v.held.book
+  pub held_begins : IsPrefix held front.log
+  pub legal : IsLegalFrom v.opening front.log
+  pub messages : AreMessages v.opening
+  pub folder_is_there : folder < v.opening.folders
+  pub entries_are : entries ≡ seen_in new folder (led v.opening front.log).names
+
+-- The listing law, for a listing whose new is that of a beginning of the history that is held, and whose cur is that of its end.
+abbrev pub IsGoodFrom : ℕ → Named → List Effect → List Effect → Type 0
+IsGoodFrom folder opening h1 now = IsGoodListing (names_after opening.names now) folder (length h1) (length now)
+
+-- What a second reading gives: the join of the first one with cur at the end of what is held. Where the first is that of a history which
+-- begins what is held, the join is a good listing between the two.
+pub record Finishes (opening : Named) (first : Reading) (now : List Effect) (entries : List Entry) : Type 0 where
+  pub entries_are : entries ≡ join_of first.entries (read_at first.folder Cur opening now)
+  pub law : (h1 : List Effect) → IsPrefix h1 now → IsGoodFrom first.folder opening h1 now
+
+-- A listing from a history that begins with what was held to one that is held now. Both are legal, and the listing law holds between them.
+pub record Lists (folder : ℕ) (opening : Named) (before now : List Effect) (entries : List Entry) : Type 0 where
+  pub h1 : List Effect
+  pub held_begins : IsPrefix before h1
+  pub h1_begins : IsPrefix h1 now
+  pub first_legal : IsLegalFrom opening h1
+  pub legal : IsLegalFrom opening now
+  pub entries_are : entries ≡ listing folder opening h1 now
+  pub law : IsGoodFrom folder opening h1 now

@@ -1,0 +1,20 @@
+-- What is published, and what is to be published next.
+use Rattle.std.specs.Prelude.{List}
+use Rattle.logbook.specs.Pages.{Book}
+use Rattle.md_core.specs.declared.jobs.effect.Effect.{Effect}
+use Rattle.md_view.specs.Named.{Named}
+
+-- a beginning of the history of a book
+pub record Log : Type 0 where
+  pub book : Book
+  pub log : List Effect
+
+-- the names that are published, and the history that led to them
+pub record Page : Type 0 where
+  pub front : Log
+  pub names : Named
+
+-- an effect that is to be published, and the history that ends with it
+pub record Note : Type 0 where
+  pub effect : Effect
+  pub front : Log

@@ -1,0 +1,65 @@
+-- What each seat at the table of what is published knows, and the rule that keeps it true.
+use Rattle.std.specs.Prelude.{◌≡◌, ◌⊎◌, ℕ, true, false, List, [], ◌∷◌, ◌++◌}
+use Rattle.std.specs.FinMap as finmap
+use mathlib.Core.Option.{some}
+use mathlib.Core.List.{IsPrefix}
+use lib.ListN.{get_elem?}
+use Rattle.logbook.specs.Pages.{Book}
+use Rattle.md_core.specs.declared.jobs.effect.Effect.{Effect}
+use Rattle.md_view.specs.Named.{Named, AreMessages, applied}
+use Rattle.md_store.specs.Histories.{led, IsLegalFrom}
+use Rattle.md_store.specs.Pages.{Log, Page, Note}
+use Rattle.md_store.specs.declared.rule.View.{View}
+
+abbrev pub no_book : Book
+no_book = record { number = 0; log_name = 0; cells_name = 0 }
+
+abbrev pub no_names : Named
+no_names = record { folders = 0; names = finmap.empty }
+
+-- a seat that knows nothing
+abbrev pub newcomer : View
+newcomer = record { opened = false; opening = no_names; held = record { book = no_book; log = [] } }
+
+-- a seat that knows the opening names and this page
+abbrev pub knower : Named → Page → View
+knower opening p = record { opened = true; opening = opening; held = p.front }
+
+-- what a seat knows is so: it holds a beginning of the published history; and one that was told of its store knows the opening names and the book
+abbrev pub Fits : Named → Page → View → Type 0
+Fits opening p v = (v.opened ≡ true → (v.opening ≡ opening) × (v.held.book ≡ p.front.book)) × IsPrefix v.held.log p.front.log
+
+-- the published history is legal, and leads from the opening names to the published ones; both are names of messages
+pub record Leads (opening : Named) (p : Page) : Type 0 where
+  pub legal : IsLegalFrom opening p.front.log
+  pub names : led opening p.front.log ≡ p.names
+  pub opening_messages : AreMessages opening
+  pub messages : AreMessages p.names
+
+-- The rule: there are opening names from which the published history leads, and what each seat knows is so.
+abbrev pub Kept : Page → List View → Type 0
+Kept p views = (opening : Named) × Leads opening p × ((j : ℕ) (v : View) → get_elem? views j ≡ some v → Fits opening p v)
+
+-- what a seat with the view v learns where the page y is published or entered: w, which is all of the page. It begins with what v held
+abbrev pub Seen : View → Page → Page → View → Type 0
+Seen v x y w = (opening : Named) × (w ≡ knower opening y) × Fits opening y v × Leads opening y
+
+-- the page after a note
+abbrev pub turned : Page → Note → Page
+turned p n = record { front = n.front; names = applied p.names n.effect.change }
+
+-- the note adds one effect to the page, and the history stays legal
+abbrev pub CanFollow : Named → Page → Note → Type 0
+CanFollow opening p n = (n.front.book ≡ p.front.book) × (n.front.log ≡ p.front.log ++ n.effect ∷ []) × IsLegalFrom opening n.front.log
+
+-- nothing waits, or the writer knows the opening names and one note waits that can follow
+abbrev pub MayPublish : View → Page → List Note → Type 0
+MayPublish v p pending = (pending ≡ []) ⊎ ((n : Note) × (pending ≡ n ∷ []) × (v.opened ≡ true) × CanFollow v.opening p n)
+
+-- the writer, which had the view v, knows the page, and the opening names that it knew
+abbrev pub Shows : View → Page → View → Type 0
+Shows v y w = (opening : Named) × (w ≡ knower opening y) × (v.opened ≡ true → v.opening ≡ opening) × Leads opening y
+
+-- the seat knows which store it is of
+abbrev pub IsOf : Named → Book → View → Type 0
+IsOf opening book v = (v.opened ≡ true) × (v.opening ≡ opening) × (v.held.book ≡ book)

@@ -1,0 +1,20 @@
+// Which store it is.
+use std::marker::Brand;
+
+/// Names a store: its opening names, and the book of its history. Each call of a program picks them.
+pub trait Naming {
+    ghost use Rattle.logbook.specs.Pages.{Book};
+    ghost use Rattle.md_view.specs.Named.{Named};
+
+    ghost opening: { Named };
+
+    ghost book: { Book };
+}
+
+impl Naming for Brand {
+    ghost use Rattle.md_store.specs.Publishing.{no_names, no_book};
+
+    ghost opening = { no_names };
+
+    ghost book = { no_book };
+}

@@ -1,0 +1,194 @@
+// Passes, and listings that take no lock.
+ghost use Rattle.std.specs.Prelude.{◌≡◌, ◌<◌, ◌≤◌, true, IfOk, IfErr, IfSome, OnOk, OnErr, option_map};
+ghost use mathlib.Core.List.{IsPrefix};
+ghost use Rattle.left_right.specs.Sides.{view};
+ghost use Rattle.md_dirs.specs.declared.paths.Place.TheVariants.{New};
+ghost use Rattle.md_view.specs.Named.{AreMessages};
+ghost use Rattle.md_view.specs.Readings.{IsInOrder};
+ghost use Rattle.md_store.specs.declared.error.ListError.TheVariants as refusal;
+ghost use Rattle.md_store.specs.Histories.{led, IsLegalFrom, read_at};
+ghost use Rattle.md_store.specs.Listing.{seen_in, IsLooked, Looks, Finishes};
+ghost use Rattle.md_store.specs.Publishing.{IsOf};
+
+use crate::book::Front;
+use crate::error::ListError;
+use crate::naming::Naming;
+use crate::reading::FirstReading;
+use crate::rule::{Sees, StoreReader};
+use crate::shown::Shown;
+use core::mem::replace_with;
+use md_dirs::Place;
+use md_view::{Entry, Names, join};
+use std::alloc::{AllocError, Global};
+use std::marker::{Model, PhantomData};
+
+/// A caller's token: a reader, and the history that the caller has seen or was told of. Contracts see that history.
+#[derive(Drop)]
+pub struct Pass<J: Naming> {
+    reader: StoreReader,
+    front: Front,
+    of: PhantomData<J>,
+}
+
+impl<J: Naming> Model for Pass<J> {
+    ghost use Rattle.std.specs.Prelude.{◌≡◌, List};
+    ghost use Rattle.std.specs.Coded.{codes};
+    ghost use Rattle.md_name.specs.contracts.flags.Flags as flags;
+    ghost use Rattle.left_right.specs.Sides.{view as seat_view};
+    ghost use Rattle.md_core.specs.declared.jobs.effect.Effect.{Effect};
+    ghost use Rattle.md_store.specs.Publishing.{IsOf};
+
+    ghost Value = { List Effect };
+
+    ghost coded = { Prim.hlevel (codes, flags.the_row.coded) };
+
+    ghost view = { λ p. p.front.log };
+
+    ghost invariant = { λ p. IsOf J.opening J.book (seat_view p.reader.place) × (p.front.book ≡ J.book) };
+}
+
+impl<J: Naming> Pass<J> {
+    pub(crate) fn new(reader: StoreReader, front: Front) -> Pass<J>
+        requires { IsOf J.opening J.book (view reader.place) × (front.book ≡ J.book) }
+        ensures { result ≡ front.log }
+    {
+        Pass {
+            reader,
+            front,
+            of: PhantomData,
+        }
+    }
+
+    /// Tells the pass of a history.
+    pub(crate) fn learn(&mut self, front: &Front)
+        requires { front.now.book ≡ J.book }
+        ensures held { IsPrefix self.old self.new }
+        ensures told { IsPrefix front.now.log self.new }
+    {
+        self.front = self.front.longer(front);
+    }
+
+    // What is published now of a folder: its new, or the join of a first reading with its cur. It begins with all that the pass held.
+    fn read(
+        &mut self,
+        alloc: Global,
+        folder: u32,
+        first: Option<&[Entry]>,
+    ) -> Result<Vec<Entry>, ListError>
+        requires order { IfSome first (λ entries. IsInOrder entries.now) }
+        ensures held { IsPrefix self.old self.new }
+        ensures legal { OnOk result (IsLegalFrom J.opening self.new) }
+        ensures messages { OnOk result (AreMessages J.opening) }
+        ensures folder { OnOk result (folder < J.opening.folders) }
+        ensures no_folder { IfErr result (λ e. e ≡ refusal.NoFolder → J.opening.folders ≤ folder) }
+        ensures entries { IfOk result (λ v. v.items ≡ seen_in (option_map (λ entries. entries.now) first.entry) folder (led J.opening self.new).names) }
+        ensures err { OnErr result (self.new ≡ self.old) }
+    {
+        let Pass {
+            reader,
+            front,
+            of: _,
+        } = self;
+        let (entries, seen) = replace_with(reader, (alloc, folder, first, &*front), entered)?;
+        *front = seen;
+        Ok(entries)
+    }
+
+    /// Reads new of a folder. It takes no lock.
+    pub(crate) fn first(&mut self, alloc: Global, folder: u32) -> Result<FirstReading<J>, ListError>
+        ensures held { IsPrefix self.old self.new }
+        ensures legal { OnOk result (IsLegalFrom J.opening self.new) }
+        ensures folder { OnOk result (folder < J.opening.folders) }
+        ensures no_folder { IfErr result (λ e. e ≡ refusal.NoFolder → J.opening.folders ≤ folder) }
+        ensures entries { IfOk result (λ f. (f.folder ≡ folder) × (f.entries ≡ read_at folder New J.opening self.new)) }
+    {
+        let entries = self.read(alloc, folder, None)?;
+        Ok(FirstReading::new(folder, entries))
+    }
+
+    /// Reads cur of the folder of a first reading, and joins the two. It takes no lock.
+    pub(crate) fn second(
+        &mut self,
+        alloc: Global,
+        first: &FirstReading<J>,
+    ) -> Result<Vec<Entry>, ListError>
+        ensures held { IsPrefix self.old self.new }
+        ensures legal { OnOk result (IsLegalFrom J.opening self.new) }
+        ensures folder { OnOk result (first.now.folder < J.opening.folders) }
+        ensures no_folder { IfErr result (λ e. e ≡ refusal.NoFolder → J.opening.folders ≤ first.now.folder) }
+        ensures entries { IfOk result (λ v. Finishes J.opening first.now self.new v.items) }
+    {
+        self.read(alloc, first.folder(), Some(first.entries()))
+    }
+}
+
+// Enters what is published, looks, and leaves.
+fn entered(
+    reader: StoreReader,
+    x: (Global, u32, Option<&[Entry]>, &Front),
+) -> (StoreReader, Result<(Vec<Entry>, Front), ListError>)
+    requires seat { ((view reader.place).opened ≡ true) × (x.3.now.book ≡ (view reader.place).held.book) }
+    requires order { IfSome x.2 (λ entries. IsInOrder entries.now) }
+    ensures kept { IsOf (view reader.place).opening (view reader.place).held.book (view result.0.place) }
+    ensures entries { IfOk result.1 (λ r. Looks (view reader.place) x.entry.3.now.log x.entry.1 (option_map (λ entries. entries.now) x.entry.2) r.0.items r.1) }
+    ensures no_folder { IfErr result.1 (λ e. e ≡ refusal.NoFolder → (view reader.place).opening.folders ≤ x.entry.1) }
+{
+    match reader.enter_as::<Sees>() {
+        Ok(reading) => {
+            let looked = look(reading.get(), x.0, x.1, x.2, x.3);
+            (reading.leave(), looked)
+        }
+        Err(reader) => (reader, Err(ListError::Closed)),
+    }
+}
+
+// What a page shows of a folder, where it begins with what is held.
+fn look(
+    shown: &Shown,
+    alloc: Global,
+    folder: u32,
+    first: Option<&[Entry]>,
+    held: &Front,
+) -> Result<(Vec<Entry>, Front), ListError>
+    requires book { held.now.book ≡ shown.now.front.book }
+    requires order { IfSome first (λ entries. IsInOrder entries.now) }
+    ensures ok { IfOk result (λ r. IsLooked shown.now held.now.log folder (option_map (λ entries. entries.now) first.entry) r.0.items r.1) }
+    ensures no_folder { IfErr result (λ e. e ≡ refusal.NoFolder → shown.now.names.folders ≤ folder) }
+{
+    let front = shown.front();
+    if !held.begins(front) {
+        return Err(ListError::Closed);
+    }
+    let names = shown.names();
+    if folder >= names.folders() {
+        return Err(ListError::NoFolder);
+    }
+    let entries = seen(alloc, names, folder, first)?;
+    Ok((entries, front.again()))
+}
+
+// New of a folder, or the join of a first reading with its cur.
+fn seen(
+    alloc: Global,
+    names: &Names,
+    folder: u32,
+    first: Option<&[Entry]>,
+) -> Result<Vec<Entry>, AllocError>
+    requires { IfSome first (λ entries. IsInOrder entries.now) }
+    ensures { IfOk result (λ all. all.items ≡ seen_in (option_map (λ entries. entries.now) first.entry) folder names.now.names) }
+{
+    let Some(new) = first else {
+        return copied(alloc, names.entries(folder, Place::New));
+    };
+    join(alloc, new, names.entries(folder, Place::Cur)).map_err(|_| AllocError)
+}
+
+fn copied(alloc: Global, entries: &[Entry]) -> Result<Vec<Entry>, AllocError>
+    ensures { IfOk result (λ all. all.items ≡ entries.now) }
+{
+    let mut all = Vec::with_capacity(alloc, entries.len())?;
+    for entry in entries {
+        all.push(entry.again(alloc)?)?;
+    }
+    Ok(all)
+}

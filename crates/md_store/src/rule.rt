@@ -1,0 +1,55 @@
+//! The rule of what is published.
+use crate::book::Front;
+use crate::shown::{Post, Shown};
+use atomic_table::{Join, Split};
+use crossbeam_utils::rule::{Outcome, Protocol};
+use left_right::reader::Reader;
+use left_right::writer::Writer;
+use md_view::Names;
+
+/// What a seat knows. No value of it is made.
+pub struct View {
+    pub opened: bool,
+    pub opening: Names,
+    pub held: Front,
+}
+
+pub struct Published;
+
+impl Protocol<Shown, View> for Published {
+    ghost use Rattle.md_store.specs.Publishing.{Kept, newcomer};
+
+    ghost holds = { Kept };
+
+    ghost first = { newcomer };
+}
+
+/// Publishing, and entering what is published.
+pub struct Sees;
+
+impl Outcome<Shown, View> for Sees {
+    ghost use Rattle.md_store.specs.Publishing.{Seen};
+
+    ghost then = { Seen };
+}
+
+/// Telling a new seat which store it is of.
+pub struct Seats;
+
+impl Split<View> for Seats {
+    ghost left = { λ v. v };
+
+    ghost right = { λ v. v };
+}
+
+impl Join<View> for Seats {
+    ghost use Rattle.md_store.specs.Publishing.{newcomer};
+
+    ghost both = { λ v w. w };
+
+    ghost spent = { newcomer };
+}
+
+pub type StoreReader = Reader<Shown, View, Published>;
+
+pub type StoreWriter = Writer<Shown, Post, View, Published>;

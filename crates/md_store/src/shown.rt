@@ -1,0 +1,102 @@
+// What is published: the names, with the history that led to them.
+ghost use Rattle.std.specs.Prelude.{◌≡◌, ◌++◌, ◌∷◌, [], IfOk, MatchResult};
+ghost use Rattle.md_store.specs.Publishing.{turned};
+
+use crate::book::Front;
+use left_right::Absorb;
+use md_core::Effect;
+use md_view::Names;
+use std::alloc::AllocError;
+use std::marker::Model;
+
+/// An effect that is to be published, and the history that ends with it.
+#[derive(Drop)]
+pub struct Post {
+    effect: Effect,
+    front: Front,
+}
+
+impl Model for Post {
+    ghost use Rattle.std.specs.Coded.{codes};
+    ghost use Rattle.md_name.specs.contracts.flags.Flags as flags;
+    ghost use Rattle.md_store.specs.Pages.{Note};
+
+    ghost Value = { Note };
+
+    ghost coded = { Prim.hlevel (codes, flags.the_row.coded) };
+
+    ghost view = { λ p. record { effect = p.effect; front = p.front } };
+}
+
+impl Post {
+    pub fn new(effect: Effect, front: Front) -> Post
+        ensures { (result.effect ≡ effect) × (result.front ≡ front) }
+    {
+        Post { effect, front }
+    }
+}
+
+/// The names, and the history that led to them from the opening names.
+#[derive(Drop)]
+pub struct Shown {
+    names: Names,
+    front: Front,
+}
+
+impl Model for Shown {
+    ghost use Rattle.std.specs.Coded.{codes};
+    ghost use Rattle.md_name.specs.contracts.flags.Flags as flags;
+    ghost use Rattle.md_view.specs.Named.{named_code};
+    ghost use Rattle.md_store.specs.Pages.{Page};
+
+    ghost Value = { Page };
+
+    ghost coded = { Prim.hlevel (codes, named_code, flags.the_row.coded) };
+
+    ghost view = { λ s. record { front = s.front; names = s.names } };
+}
+
+impl Shown {
+    pub fn new(names: Names, front: Front) -> Shown
+        ensures { (result.front ≡ front) × (result.names ≡ names) }
+    {
+        Shown { names, front }
+    }
+
+    pub fn front(&self) -> &Front
+        ensures { result.now ≡ self.now.front }
+    {
+        &self.front
+    }
+
+    pub fn names(&self) -> &Names
+        ensures { result.now ≡ self.now.names }
+    {
+        &self.names
+    }
+
+    // Takes in the next effect.
+    fn take(&mut self, post: &Post) -> Result<(), AllocError>
+        ensures { MatchResult result (λ _. self.new ≡ turned self.old post.now) (λ _. self.new ≡ self.old) }
+    {
+        if self.names.apply(&post.effect.change).is_err() {
+            return Err(AllocError);
+        }
+        self.front = post.front.again();
+        Ok(())
+    }
+}
+
+impl Absorb<Post> for Shown {
+    ghost use Rattle.md_store.specs.Publishing.{turned};
+
+    type State = Shown;
+
+    ghost state = { λ s. s };
+
+    ghost applied = { turned };
+
+    fn absorb_first(&mut self, operation: &Post, _other: &Shown) -> Result<(), AllocError> {
+        self.take(operation)
+    }
+}

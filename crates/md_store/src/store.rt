@@ -1,0 +1,138 @@
+// The store that threads share.
+ghost use Rattle.std.specs.Prelude.{◌≡◌, ◌⊎◌, ◌<◌, ◌≤◌, None, IfOk, IfErr, OnOk, OnErr, MatchResult};
+ghost use mathlib.Core.List.{IsPrefix};
+ghost use Rattle.md_dirs.specs.declared.paths.Place.TheVariants.{New};
+ghost use Rattle.md_core.specs.declared.error.CoreError.TheVariants as core;
+ghost use Rattle.md_view.specs.Named.{named_of};
+ghost use Rattle.md_store.specs.declared.error.ListError.TheVariants as refusal;
+ghost use Rattle.md_store.specs.Histories.{IsLegalFrom, read_at};
+ghost use Rattle.md_store.specs.Listing.{Lists, Finishes};
+ghost use Rattle.md_store.specs.Refusals.{plain_refusal, IsWhy};
+ghost use Rattle.md_store.specs.Telling.{IsTold};
+
+use crate::error::{ListError, StoreError};
+use crate::locked::Locked;
+use crate::naming::Naming;
+use crate::pass::Pass;
+use crate::reading::FirstReading;
+use crate::step::StoreStep;
+use md_core::{Call, CoreError, JobId, SubmitRefused, World};
+use md_dirs::{Bytes, Dirs};
+use md_view::Entry;
+use std::alloc::Global;
+use std::sync::{Mutex, MutexGuard, Wait};
+
+/// A store that threads share: a world behind a lock, and what of it is published. Each caller has a pass of the same naming type.
+pub struct Store<D: Dirs, J: Naming> {
+    lock: Mutex<Locked<D, J>>,
+}
+
+impl<D: Dirs, J: Naming> Store<D, J> {
+    pub(crate) fn new(lock: Mutex<Locked<D, J>>) -> Store<D, J> {
+        Store { lock }
+    }
+
+    /// Submits a call, and gives the number of its job. A call that is refused comes back.
+    pub fn submit<R: Wait>(&self, rt: &R, call: Call) -> Result<JobId, SubmitRefused>
+        ensures call { IfErr result (λ r. r.call ≡ call) }
+        ensures refused { MatchResult result (λ _. plain_refusal J.opening.folders call ≡ None) (λ r. IsWhy (plain_refusal J.opening.folders call) r.error) }
+    {
+        let mut guard = self.lock.lock(rt);
+        guard.lags();
+        let made = guard.submit(call);
+        MutexGuard::unlock(guard);
+        made
+    }
+
+    /// Makes the next directory call of a job, publishes its effect, and tells the pass of all that is published.
+    ///
+    /// `own` is the moment by the clock of the job's host; a job without one goes by the store's.
+    pub fn step<R: Wait>(
+        &self,
+        rt: &R,
+        pass: &mut Pass<J>,
+        job: JobId,
+        now: u64,
+        own: Option<u64>,
+    ) -> Result<StoreStep, CoreError>
+        ensures held { IsPrefix pass.old pass.new }
+        ensures told { IfOk result (λ s. IsTold s.news s.out.answer job pass.new) }
+        ensures refused { OnErr result (pass.new ≡ pass.old) }
+        ensures error { IfErr result (λ e. (e ≡ core.NoJob) ⊎ (e ≡ core.Answered) ⊎ (e ≡ core.NoMemory)) }
+    {
+        let mut guard = self.lock.lock(rt);
+        let made = guard.step(rt, pass, job, now, own);
+        MutexGuard::unlock(guard);
+        made
+    }
+
+    /// A copy of the bytes of the message of a unique name, in new or cur of any folder. None where there is no such message.
+    pub fn read<R: Wait>(
+        &self,
+        rt: &R,
+        alloc: Global,
+        unique: &[u8],
+    ) -> Result<Option<Bytes>, StoreError> {
+        let guard = self.lock.lock(rt);
+        let read = guard.read(alloc, unique);
+        MutexGuard::unlock(guard);
+        read
+    }
+
+    /// Lists a folder, in order of unique name: its new as of one moment, joined with its cur as of a later one. It takes no lock, and shows
+    /// at least what the pass has seen or was told of.
+    pub fn list(
+        &self,
+        alloc: Global,
+        pass: &mut Pass<J>,
+        folder: u32,
+    ) -> Result<Vec<Entry>, ListError>
+        ensures held { IsPrefix pass.old pass.new }
+        ensures entries { IfOk result (λ v. Lists folder J.opening pass.old pass.new v.items) }
+        ensures folder { OnOk result (folder < J.opening.folders) }
+        ensures no_folder { IfErr result (λ e. e ≡ refusal.NoFolder → J.opening.folders ≤ folder) }
+    {
+        let first = self.first(alloc, pass, folder)?;
+        self.second(alloc, pass, &first)
+    }
+
+    /// Reads new of a folder: the first half of a listing.
+    pub fn first(
+        &self,
+        alloc: Global,
+        pass: &mut Pass<J>,
+        folder: u32,
+    ) -> Result<FirstReading<J>, ListError>
+        ensures held { IsPrefix pass.old pass.new }
+        ensures legal { OnOk result (IsLegalFrom J.opening pass.new) }
+        ensures folder { OnOk result (folder < J.opening.folders) }
+        ensures no_folder { IfErr result (λ e. e ≡ refusal.NoFolder → J.opening.folders ≤ folder) }
+        ensures entries { IfOk result (λ f. (f.folder ≡ folder) × (f.entries ≡ read_at folder New J.opening pass.new)) }
+    {
+        pass.first(alloc, folder)
+    }
+
+    /// Reads cur of the folder of a first reading, and joins the two: the second half of a listing.
+    pub fn second(
+        &self,
+        alloc: Global,
+        pass: &mut Pass<J>,
+        first: &FirstReading<J>,
+    ) -> Result<Vec<Entry>, ListError>
+        ensures held { IsPrefix pass.old pass.new }
+        ensures legal { OnOk result (IsLegalFrom J.opening pass.new) }
+        ensures folder { OnOk result (first.now.folder < J.opening.folders) }
+        ensures no_folder { IfErr result (λ e. e ≡ refusal.NoFolder → J.opening.folders ≤ first.now.folder) }
+        ensures entries { IfOk result (λ v. Finishes J.opening first.now pass.new v.items) }
+    {
+        pass.second(alloc, first)
+    }
+
+    /// The world, once the threads that used the store have ended.
+    pub fn close<R: Wait>(self, rt: &R) -> World<D>
+        ensures { named_of result.image ≡ J.opening }
+    {
+        let Store { lock } = self;
+        lock.into_inner().close(rt)
+    }
+}
