@@ -1,5 +1,5 @@
 -- Listings that have begun wait for whatever is done to a store.
-use Rattle.std.proofs.Common.{◌≡◌, List, [], ◌∷◌, inl, inr, sym, subst}
+use Rattle.std.proofs.Common.{◌≡◌, [], ◌∷◌, inl, inr, sym, subst}
 use Rattle.md_core.specs.declared.jobs.call.Call.{Call}
 use Rattle.md_core.specs.Machine.{Marked}
 use Rattle.md_core.specs.Runs.{Run, and_call, and_event}

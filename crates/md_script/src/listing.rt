@@ -1,7 +1,7 @@
 //! The lines of listings.
 ghost use Rattle.std.specs.Prelude.{◌≡◌, ◌++◌, OnOk};
 ghost use Rattle.md_name.specs.Letters.{spelling};
-ghost use Rattle.md_name.specs.Names.{split_of, flags_of};
+ghost use Rattle.md_name.specs.Names.{split_of};
 ghost use Rattle.md_script.specs.Texts.{place_text, letters_text, flags_by, flags_text, entry_line, entries_text};
 
 use crate::digits::push_number;

@@ -23,6 +23,7 @@ pub(super) fn submit<D: Storage>(
     ensures submit { Steps (submitted world.old call) world.new out.old.items out.new.items result }
     ensures waits { MayWait world.old world.new }
 {
+    // The theorem of the run: listings that have begun wait for what is done now.
     world.interleaves();
     let job = world.submit(call)?;
     push_job(out, job)?;
@@ -40,6 +41,7 @@ pub(super) fn step<D: Storage>(
     ensures waits { MayWait world.old world.new }
     ensures nearer { OnOk result (steps_left world.new event.job < steps_left world.old event.job) }
 {
+    // The theorem of the run: listings that have begun wait for this step.
     world.interleaves();
     // The kit's borrow checker refuses a `?` here, where no signature names `Answer`.
     let shown = match world.step(event.job, event.now, event.own) {

@@ -1,5 +1,5 @@
 //! An open store: its world, and the first readings that are kept.
-ghost use Rattle.std.specs.Prelude.{◌≡◌, [], OnOk, Ok};
+ghost use Rattle.std.specs.Prelude.{◌≡◌, []};
 ghost use Rattle.md_script.specs.Step.{Steps};
 ghost use Rattle.md_script.specs.Sessions.{new_store, on_run, submitted, stepped, finished, listed, shown, read_first, read_second};
 

@@ -1,4 +1,4 @@
-use Rattle.std.proofs.Common.{◌==◌, ◌∙◌, sym, ap, refl}
+use Rattle.std.proofs.Common.{◌==◌, sym, refl}
 use Rattle.md_view.specs.Law.{HasBegun}
 use Rattle.md_script.proofs.Kept.{found, begun-others, not-kept, second-read}
 use Rattle.md_script.proofs.store.open.OpenStore.second.Goals as goal
