@@ -1,5 +1,5 @@
 -- Lists to which a change was made hold the names after it, and how a change that fits is known by the lists.
-use Rattle.std.proofs.Common.{ℕ, ◌≡◌, ◌≢◌, ◌≤◌, ◌<◌, ◌^◌, List, [], Option, Some, None, IsSome, IfSome, Bool, true, false, cond, ◌&&◌, not, is_some, length, slice_get, slice_set, refl, sym, ap, subst, ◌∙◌, arith, eqb-true, ltb-true}
+use Rattle.std.proofs.Common.{ℕ, ◌≡◌, ◌≢◌, ◌≤◌, ◌<◌, ◌^◌, List, Option, Some, None, IsSome, IfSome, Bool, true, false, cond, ◌&&◌, not, is_some, length, slice_get, slice_set, refl, sym, ap, subst, ◌∙◌, arith, eqb-true, ltb-true}
 use Rattle.std.specs.Prelude.{nat_eq}
 use Rattle.std.specs.List.{list_any}
 use Rattle.std.specs.Option.{option_and_then, option_map_or}
@@ -22,13 +22,9 @@ use Rattle.md_view.specs.Readings.{shown, is_at}
 use Rattle.md_view.specs.Named.{Named, IsMessage, AreMessages, is_listed, has_name, is_there, is_free, fits, applied}
 use Rattle.md_view.specs.Held.{FolderLists, list_of, listed_in, AreHeld, found, has_unique, ShowsAt}
 use Rattle.md_view.proofs.Readings.{entry_at}
-use Rattle.md_view.proofs.Rows.{same_place, and-first, and-second, if-some}
-use Rattle.md_view.proofs.Holding.{shown_at, AreLists, held-lists, lists-held, taken}
+use Rattle.md_view.proofs.Rows.{same_place, and-first, and-second, if-some, not-true}
+use Rattle.md_view.proofs.Holding.{shown_at, AreLists, held-lists, lists-held, taken, found-in}
 use Rattle.md_view.proofs.Changing.{is_spot, but, set-lists, added, removed, renamed, replaced}
-
-not-true : (b : Bool) → not b ≡ true → b ≡ false
-not-true true is = cc
-not-true false is = refl
 
 no-some : (o : Option Listed) → is_some o ≡ false → o ≡ None
 no-some None is = refl
@@ -79,12 +75,6 @@ abbrev pub new_names : ℕ → Names → Named
 new_names folders names = record { folders = folders; names = names }
 
 module _ (n : Named) (fs : List FolderLists) (held : AreHeld n fs) where
-  listed-at : (folder : ℕ) (f : FolderLists) → slice_get fs folder ≡ Some f → (place : Place) → list_of place f ≡ listed_in fs folder place
-  listed-at folder f at place = sym (ap (λ (o : Option FolderLists). option_map_or (list_of place) o []) at)
-
-  found-at : (folder : ℕ) (f : FolderLists) → slice_get fs folder ≡ Some f → (place : Place) (u : List ℕ) → found u (list_of place f) ≡ shown_at n.names folder place u
-  found-at folder f at place u = ap (found u) (listed-at folder f at place) ∙ (held-lists n fs held).at folder place u
-
   there-shown : (folder : ℕ) (place : Place) (name : List ℕ) (h : IsThere n.names folder place name)
       → shown_at n.names folder place (unique_of name) ≡ Some (shown (unique_of name, record { folder = folder; place = place; name = name; size = h.size }))
   there-shown folder place name h =
@@ -112,11 +102,11 @@ module _ (n : Named) (fs : List FolderLists) (held : AreHeld n fs) where
     pub there-none : found (unique_of name) (list_of place f) ≡ None → is_there n folder place name ≡ false
     there-none none = is-false _ (λ is.
         let h = there-facts n folder place name is in
-        let never : None ≡ Some _ = sym none ∙ found-at folder f at place (unique_of name) ∙ there-shown folder place name h in
+        let never : None ≡ Some _ = sym none ∙ found-in n fs held folder f at place (unique_of name) ∙ there-shown folder place name h in
         cc)
 
     pub there-found : (e : Entry) → found (unique_of name) (list_of place f) ≡ Some e → is_there n folder place name ≡ pointwise nat_eq e.name name
-    there-found e is = by (get n.names (unique_of name)) refl (sym (found-at folder f at place (unique_of name)) ∙ is)
+    there-found e is = by (get n.names (unique_of name)) refl (sym (found-in n fs held folder f at place (unique_of name)) ∙ is)
       where
         by : (o : Option Listed) → get n.names (unique_of name) ≡ o → shown_at n.names folder place (unique_of name) ≡ Some e → is_there n folder place name ≡ pointwise nat_eq e.name name
         by None got is = let never : None ≡ Some e = sym (ap (option_and_then (entry_at folder place (unique_of name))) got) ∙ is in cc

@@ -16,9 +16,10 @@ use Rattle.md_view.specs.declared.entry.Entry.{Entry}
 use Rattle.md_view.specs.Readings.{shown, IsInOrder}
 use Rattle.md_view.specs.Named.{is_there}
 use Rattle.md_view.specs.Held.{FolderLists, list_of, listed_in, found, ShowsAt}
-use Rattle.md_view.proofs.Keyed.{tie-itself, tie-same}
+use Rattle.md_view.proofs.Keyed.{tie-itself}
 use Rattle.md_view.proofs.Readings.{entry_at}
-use Rattle.md_view.proofs.Rows.{same_place}
+use Rattle.md_view.proofs.Rows.{same_place, and-true, and-false}
+use Rattle.md_view.proofs.Placing.{apart}
 use Rattle.md_view.proofs.Holding.{shown_at, AreLists}
 
 abbrev pub is_spot : ℕ → Place → ℕ → Place → Bool
@@ -27,17 +28,6 @@ is_spot folder place at_folder at_place = folder == at_folder && place_index pla
 -- what lists show once one directory shows something else of one unique name
 abbrev pub but : ℕ → Place → List ℕ → Option Entry → (ℕ → Place → List ℕ → Option Entry) → ℕ → Place → List ℕ → Option Entry
 but folder place u what g at_folder at_place v = cond (is_spot folder place at_folder at_place && eq_by_cmp name_cmp v u) what (g at_folder at_place v)
-
-and-true : (b : Bool) → (b && true) ≡ b
-and-true true = refl
-and-true false = refl
-
-and-false : (b : Bool) → (b && false) ≡ false
-and-false true = refl
-and-false false = refl
-
-apart : (u v : List ℕ) → u ≢ v → eq_by_cmp name_cmp u v ≡ false
-apart u v not = elim (eq_by_cmp name_cmp u v) as (λ t. eq_by_cmp name_cmp u v ≡ t → t ≡ false) [ true ↦ λ t. absurd (not (tie-same u v t)) | false ↦ λ t. refl ] refl
 
 module _ (fs : List FolderLists) (g : ℕ → Place → List ℕ → Option Entry) (lists : AreLists fs g) (folder : ℕ) (place : Place) (u : List ℕ) (what : Option Entry)
     (f f' : FolderLists) (at : slice_get fs folder ≡ Some f) (within : folder < length fs) (shows : ShowsAt place u what f f') where

@@ -48,14 +48,6 @@ lists-held n fs few count messages lists = record {
   lists = λ folder place. reading-is n.names folder place (listed_in fs folder place) (ordered _ (lists.order folder place)) (lists.at folder place);
 }
 
-and-true : (b : Bool) → (b && true) ≡ b
-and-true true = refl
-and-true false = refl
-
-and-false : (b : Bool) → (b && false) ≡ false
-and-false true = refl
-and-false false = refl
-
 find-both : (u : List ℕ) (xs ys : List (List ℕ × Listed)) → find name_cmp u (xs ++ ys) ≡ option_or (find name_cmp u xs) (find name_cmp u ys)
 find-both u [] ys = refl
 find-both u (x ∷ xs) ys =
@@ -174,10 +166,11 @@ shares-said u m folder = by (m.folder == folder) refl
         (λ i. Some (record { folder = sym same i; place = m.place; name = m.name; size = m.size }))
 
 module _ (n : Named) (fs : List FolderLists) (held : AreHeld n fs) where
+  -- a folder's lists, by its position
   lists-of : (folder : ℕ) (f : FolderLists) → slice_get fs folder ≡ Some f → (place : Place) → list_of place f ≡ listed_in fs folder place
   lists-of folder f at place = sym (ap (λ (o : Option FolderLists). option_map_or (list_of place) o []) at)
 
-  found-in : (folder : ℕ) (f : FolderLists) → slice_get fs folder ≡ Some f → (place : Place) (u : List ℕ) → found u (list_of place f) ≡ shown_at n.names folder place u
+  pub found-in : (folder : ℕ) (f : FolderLists) → slice_get fs folder ≡ Some f → (place : Place) (u : List ℕ) → found u (list_of place f) ≡ shown_at n.names folder place u
   found-in folder f at place u = ap (found u) (lists-of folder f at place) ∙ (held-lists n fs held).at folder place u
 
   either : (u : List ℕ) (folder : ℕ) (o : Option Listed) → get n.names u ≡ o

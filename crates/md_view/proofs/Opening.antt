@@ -18,12 +18,8 @@ use Rattle.md_view.specs.Readings.{shown, is_at, reading_of}
 use Rattle.md_view.specs.Named.{Named, named_of, IsMessage, AreMessages}
 use Rattle.md_view.specs.Held.{FolderLists, list_of, AreHeld}
 use Rattle.md_view.proofs.Readings.{entry_at}
-use Rattle.md_view.proofs.Rows.{and-first, and-second}
+use Rattle.md_view.proofs.Rows.{and-first, and-second, not-true}
 use Rattle.md_view.proofs.Holding.{shown_at, reading-is}
-
-not-true : (b : Bool) → not b ≡ true → b ≡ false
-not-true true is = cc
-not-true false is = refl
 
 -- each name of sound directories is a message's
 pub sound-messages : (s : State) → IsSound s → AreMessages (named_of s)

@@ -6,7 +6,7 @@ use Rattle.std.specs.List.Sorted.{IsPartitionedBy, IsPartitionPoint}
 use Rattle.std.specs.declared.cmp.Ordering.{Ordering}
 use Rattle.std.specs.declared.cmp.Ordering.TheVariants.{Less, Equal, Greater}
 use Rattle.std.specs.Ordering.{eq_by_cmp, is_lt, is_eq, ordering_reverse}
-use Rattle.std.specs.FinMap.Entries.{put, where_key, by_order, is_sorted-put, find-put, is_sorted-where_key, find-where_key}
+use Rattle.std.specs.FinMap.Entries.{find, is_sorted, put, where_key, by_order, is_sorted-put, find-put, is_sorted-where_key, find-where_key}
 use Rattle.std.proofs.lemmas.Cmp.{nat_list_cmp_total}
 use Rattle.std.proofs.lemmas.Map.Lookups.{exact_bytes}
 use Rattle.md_dirs.proofs.Maps.{by_key}
@@ -16,6 +16,10 @@ use Rattle.md_view.specs.declared.entry.Entry.{Entry}
 use Rattle.md_view.specs.Readings.{keyed, IsInOrder}
 use Rattle.md_view.specs.Held.{found, place_for, HasAt, Shows}
 use Rattle.md_view.proofs.Keyed.{IsBelow, IsSorted, both, first, second, less, is_less, turned, tie-itself, tie-same, below-less, lookup-below, in-order, ordered}
+
+-- two names that aren't one don't tie
+pub apart : (u v : List ℕ) → u ≢ v → eq_by_cmp name_cmp u v ≡ false
+apart u v not = elim (eq_by_cmp name_cmp u v) as (λ t. eq_by_cmp name_cmp u v ≡ t → t ≡ false) [ true ↦ λ t. absurd (not (tie-same u v t)) | false ↦ λ t. refl ] refl
 
 -- how an entry stands to a unique name
 turned-is : (u v : List ℕ) (o : Ordering) → name_cmp u v ≡ o → is_lt (name_cmp v u) ≡ is_lt (ordering_reverse o)
@@ -235,8 +239,8 @@ keyed-remove u old (x ∷ es) sorted at same = by (λ there. keyed-remove u old 
 
 shows-put : (e : Entry) (es fs : List Entry) → IsSorted es → map keyed fs ≡ put name_cmp e.unique e (map keyed es) → Shows e.unique (Some e) es fs
 shows-put e es fs sorted is = record {
-  order = in-order _ (subst (λ (l : List (List ℕ × Entry)). T (Rattle.std.specs.FinMap.Entries.is_sorted name_cmp l)) (sym is) (is_sorted-put name_cmp nat_list_cmp_total e.unique e (map keyed es) sorted));
-  at = λ v. ap (Rattle.std.specs.FinMap.Entries.find name_cmp v) is ∙ find-put name_cmp nat_list_cmp_total v e.unique e (map keyed es);
+  order = in-order _ (subst (λ (l : List (List ℕ × Entry)). T (is_sorted name_cmp l)) (sym is) (is_sorted-put name_cmp nat_list_cmp_total e.unique e (map keyed es) sorted));
+  at = λ v. ap (find name_cmp v) is ∙ find-put name_cmp nat_list_cmp_total v e.unique e (map keyed es);
 }
 
 module _ (e : Entry) (es : List Entry) (order : IsInOrder es) where
@@ -252,16 +256,13 @@ module _ (u : List ℕ) (es : List Entry) (order : IsInOrder es) where
       (λ is. ap (λ (w : List ℕ). cond (other u w) o None) is ∙ ap (λ b. cond (not b) o None) (tie-itself u)
       ∙ sym (ap (λ (w : List ℕ). cond (eq_by_cmp name_cmp w u) None o) is ∙ ap (λ b. cond b None o) (tie-itself u)))
       (λ is. ap (λ b. cond (not b) o None) (apart u v (λ same. is (sym same))) ∙ sym (ap (λ b. cond b None o) (apart v u is)))
-    where
-      apart : (a b : List ℕ) → a ≢ b → eq_by_cmp name_cmp a b ≡ false
-      apart a b is = elim (eq_by_cmp name_cmp a b) as (λ t. eq_by_cmp name_cmp a b ≡ t → t ≡ false) [ true ↦ λ t. absurd (is (tie-same a b t)) | false ↦ λ t. refl ] refl
 
   pub shows-remove : (old : Entry) → slice_get es (place_for u es) ≡ Some old → old.unique ≡ u → Shows u None es (remove es (place_for u es))
   shows-remove old at same =
       let is = keyed-remove u old es (ordered _ order) at same in record {
-        order = in-order _ (subst (λ (l : List (List ℕ × Entry)). T (Rattle.std.specs.FinMap.Entries.is_sorted name_cmp l)) (sym is) (is_sorted-where_key name_cmp (other u) (map keyed es) (ordered _ order)));
+        order = in-order _ (subst (λ (l : List (List ℕ × Entry)). T (is_sorted name_cmp l)) (sym is) (is_sorted-where_key name_cmp (other u) (map keyed es) (ordered _ order)));
         at = λ v.
-            ap (Rattle.std.specs.FinMap.Entries.find name_cmp v) is
+            ap (find name_cmp v) is
             ∙ find-where_key name_cmp (other u) v (λ x tie. ap (other u) (sym (exact_bytes v x tie))) (map keyed es)
             ∙ swap-cond v (found v es);
       }

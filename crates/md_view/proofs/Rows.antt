@@ -62,6 +62,18 @@ pub and-both : (a b : Bool) → a ≡ true → b ≡ true → (a && b) ≡ true
 and-both true b p q = q
 and-both false b p q = cc
 
+pub and-true : (b : Bool) → (b && true) ≡ b
+and-true true = refl
+and-true false = refl
+
+pub and-false : (b : Bool) → (b && false) ≡ false
+and-false true = refl
+and-false false = refl
+
+pub not-true : (b : Bool) → not b ≡ true → b ≡ false
+not-true true is = cc
+not-true false is = refl
+
 pub if-some : {X : Type 0} (b : Bool) (x y : X) → cond b (Some x) None ≡ Some y → (b ≡ true) × (x ≡ y)
 if-some true x y is = (refl, (let e : x ≡ y = cc in e))
 if-some false x y is = cc

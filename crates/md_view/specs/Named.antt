@@ -22,7 +22,8 @@ pub record Named : Type 0 where
 -- What follows writes names as tuples of numbers and lists, as a type that contracts see as names asks for it.
 abbrev pub listed_code : Coded Listed
 listed_code =
-    code_by (ℕ × (Place × (List ℕ × ℕ))) (coded× coded_ℕ (coded× (code_by ℕ coded_ℕ place_index place_by back) (coded× (coded_list coded_ℕ) coded_ℕ)))
+    code_by (ℕ × (Place × (List ℕ × ℕ)))
+    (coded× coded_ℕ (coded× (code_by ℕ coded_ℕ place_index place_by back) (coded× (coded_list coded_ℕ) coded_ℕ)))
     (λ x. (x.folder, (x.place, (x.name, x.size)))) (λ t. record { folder = t.0; place = t.1.0; name = t.1.1.0; size = t.1.1.1 }) (λ _. refl)
   where
     back : (p : Place) → place_by (place_index p) ≡ p

@@ -52,8 +52,8 @@ impl Names {
     }
 
     /// Makes a change, where it fits, and otherwise none: where a folder or the old name isn't there, a place is tmp, the new name is no
-    /// message's, or another message has its unique name. A rename that keeps its place in the order moves no other name, and a name at the end
-    /// of the order none either. It is refused only for want of memory, and then nothing has changed.
+    /// message's, or another message has its unique name. A rename that keeps its place in the order moves no other name, and a name at the
+    /// end of the order none either. It is refused only for want of memory, and then nothing has changed.
     pub fn apply(&mut self, change: &Change) -> Result<(), ViewError>
         ensures names { OnOk result (self.new ≡ applied self.old change.now) }
         ensures unchanged { OnErr result (self.new ≡ self.old) }

@@ -129,7 +129,8 @@ fn rename(
 ) -> Result<(), AllocError>
     requires names { HoldNames folders.old.items }
     requires fits { fits_names (held_names folders.old.items) (Rename folder place name.now to_folder to_place to_name.now) ≡ true }
-    ensures ok { OnOk result (AreHeld (applied (held_names folders.old.items) (Rename folder place name.now to_folder to_place to_name.now)) folders.new.items) }
+    ensures ok { let change = Rename folder place name.now to_folder to_place to_name.now in
+        OnOk result (AreHeld (applied (held_names folders.old.items) change) folders.new.items) }
     ensures err { OnErr result (folders.new.items ≡ folders.old.items) }
 {
     let unique = unique_part(name);
