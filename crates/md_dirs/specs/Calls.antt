@@ -85,8 +85,8 @@ named p s (Some n) = record s { names = finmap.insert s.names p n }
 abbrev pub link : Path → Path → Ask
 link o n = record {
   refusal = λ s.
-    if is_some (file_at s o) then (if has_folder s n then (if is_some (file_at s n) then Some Exists else None) else Some NotFound)
-    else Some NotFound;
+      if is_some (file_at s o) then (if has_folder s n then (if is_some (file_at s n) then Some Exists else None) else Some NotFound)
+      else Some NotFound;
   after = λ s. named n s (file_at s o);
 }
 

@@ -1,5 +1,6 @@
 // What directories keep their paths in.
-ghost use Rattle.std.specs.Prelude.{◌≡◌, ◌<◌, ◌+◌, ◌^◌, OnOk, OnErr, IfOk, IfSome, IsSome, IsTrue, All, None, map, slice_get, find as first_with};
+ghost use Rattle.std.specs.Prelude.{◌≡◌, ◌<◌, ◌+◌, ◌^◌, OnOk, OnErr, IfOk, IfSome, IsSome, IsTrue, All, None, map, slice_get};
+ghost use Rattle.std.specs.Prelude.{find as first_with};
 ghost use Rattle.std.specs.Option.{option_map};
 ghost use Rattle.std.specs.FinMap as finmap;
 ghost use Rattle.md_dirs.specs.Path.{path_of};
@@ -73,7 +74,8 @@ pub trait PathStore: Paths {
 
     /// The first name of a directory that is a unique name, or a unique name, a colon and more, and the number of its file.
     fn find(&self, folder: u32, place: Place, unique: &[u8]) -> Option<(&[u8], usize)>
-        ensures { option_map (λ r. (r.0.now, r.1)) result ≡ first_with (λ e. is_named unique.now e.0) (rows_in (Self.names self.now) folder place) };
+        ensures { option_map (λ r. (r.0.now, r.1)) result
+            ≡ first_with (λ e. is_named unique.now e.0) (rows_in (Self.names self.now) folder place) };
 
     /// The rows of a directory, copied. It is refused only for want of memory.
     fn rows_of(
