@@ -18,6 +18,8 @@ mod rule;
 mod shown;
 mod step;
 mod store;
+#[cfg(test)]
+mod tests;
 mod writing;
 
 pub use error::{ListError, OpenError, StoreError};
