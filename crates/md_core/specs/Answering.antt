@@ -1,11 +1,12 @@
 -- What an answer says that comes without an effect: of which moment it is the answer, or what happened to its job.
-use Rattle.std.specs.Prelude.{ℕ, ◌≡◌, ◌+◌, ◌-◌, ◌≤◌, ◌++◌, ◌⊎◌, List, [], ◌∷◌, Some, Bool, true, false, not, ◌==◌, ◌&&◌, map, filter, drop, length, count_by}
+use Rattle.std.specs.Prelude.{ℕ, ◌≡◌, ◌+◌, ◌-◌, ◌≤◌, ◌++◌, ◌⊎◌, List, [], ◌∷◌, Some, Bool, true, false, not, ◌==◌, ◌&&◌, nat_le, map, filter, drop, length, count_by}
 use Rattle.std.specs.List.{All}
 use Rattle.std.specs.Option.{option_to_list}
 use Rattle.md_dirs.specs.Path.{path_of as path}
 use Rattle.md_dirs.specs.Rows.{rows_of, is_named}
 use Rattle.md_dirs.specs.declared.paths.Path.{Path}
 use Rattle.md_dirs.specs.declared.paths.Place.TheVariants.{Tmp}
+use Rattle.md_dirs.specs.declared.rows.Row.{Row}
 use Rattle.md_core.specs.declared.jobs.answer.Answer.{Answer}
 use Rattle.md_core.specs.declared.jobs.answer.Answer.TheVariants as answer
 use Rattle.md_core.specs.declared.jobs.call.Call.{Call}
@@ -18,8 +19,6 @@ use Rattle.md_core.specs.declared.jobs.step.DirReply.TheVariants as reply
 use Rattle.md_core.specs.Alone.{alone}
 use Rattle.md_core.specs.Turn.{Asked, list, unlink}
 use Rattle.md_core.specs.Machine.{Machine, Done, Marked, answered, done, happens, job_at}
-use Rattle.md_core.specs.Machines.Clean.{old_rows}
-use Rattle.md_core.specs.Machines.Deliver.{most_seconds}
 use Rattle.md_core.specs.Runs.{Run, beginning, moment, done_at, jobs_of, call_at, box, first_step, dirs_at_first}
 
 -- event k is a step of the job, and this is what it did
@@ -82,7 +81,7 @@ pub record IsOutOfTime (r : Run) (job : ℕ) : Type 0 where
   pub to : ℕ
   pub begun : IsStep r job (first_step r job)
   pub late : IsStep r job to
-  pub seconds : most_seconds ≤ late.what.at.own - begun.what.at.own
+  pub seconds : 86400 ≤ late.what.at.own - begun.what.at.own
 
 abbrev pub IsTimedOut : Run → ℕ → Call → Type 0
 IsTimedOut r job (call.Deliver folder u body chunk) = IsOutOfTime r job
@@ -127,15 +126,19 @@ abbrev pub is_ok : DirReply → Bool
 is_ok reply.Ok = true
 is_ok r = false
 
--- What a clean of a folder did that counted n files: it listed tmp, and then unlinked each name that was old by its own clock at that
--- listing, once and in order; each of them was found or not, and it counts those that were.
+-- whether a row's file has not been used for 36 hours, by a clock. A clock behind the stamp counts as no time
+abbrev pub is_unused : ℕ → Row → Bool
+is_unused own row = nat_le 129600 (own - row.stamp)
+
+-- What a clean of a folder did that counted n files: it listed tmp, and then unlinked each name whose file was not used for 36 hours by
+-- its own clock at that listing, once and in order; each of them was found or not, and it counts those that were.
 pub record HasCleaned (r : Run) (job folder n : ℕ) : Type 0 where
   pub look : Done
   pub unlinks : List Done
   pub deeds : deeds_of r job ≡ look ∷ unlinks
   pub listed : look.asked ≡ list folder Tmp
   pub names : map (λ d. d.asked) unlinks
-      ≡ map (λ row. unlink (path folder Tmp row.name)) (old_rows look.at.own (rows_of (dirs_at_first r job) folder Tmp))
+      ≡ map (λ row. unlink (path folder Tmp row.name)) (filter (is_unused look.at.own) (rows_of (dirs_at_first r job) folder Tmp))
   pub replies : All (λ d. (d.reply ≡ reply.Ok) ⊎ (d.reply ≡ reply.NotFound)) unlinks
   pub count : n ≡ count_by (λ d. is_ok d.reply) unlinks
 
