@@ -1,5 +1,6 @@
 -- What an answer says that comes without an effect: of which moment it is the answer, or what happened to its job.
-use Rattle.std.specs.Prelude.{ℕ, ◌≡◌, ◌+◌, ◌-◌, ◌≤◌, ◌++◌, ◌⊎◌, List, [], ◌∷◌, Some, Bool, true, false, not, ◌==◌, ◌&&◌, nat_le, map, filter, drop, length, count_by}
+use Rattle.std.specs.Prelude.{ℕ, ◌≡◌, ◌+◌, ◌-◌, ◌≤◌, ◌++◌, ◌⊎◌, ◌==◌, ◌&&◌, List, [], ◌∷◌, Some, Bool, true, false, not, nat_le}
+use Rattle.std.specs.Prelude.{map, filter, drop, length, count_by}
 use Rattle.std.specs.List.{All}
 use Rattle.std.specs.Option.{option_to_list}
 use Rattle.md_dirs.specs.Path.{path_of as path}
@@ -146,7 +147,20 @@ abbrev pub IsCleaned : Run → ℕ → Call → ℕ → Type 0
 IsCleaned r job (call.Clean folder) n = HasCleaned r job folder n
 IsCleaned r job c n = ⊥
 
--- What each answer without an effect says of its job and its call. Those that say that the call was done are spoken of by its effect.
+-- the step of a job that gave its answer was to unlink a path
+pub record HasUnlinked (r : Run) (job : ℕ) (p : Path) (a : Answer) : Type 0 where
+  pub k : ℕ
+  pub step : IsStep r job k
+  pub asked : step.what.asked ≡ unlink p
+  pub answer : step.what.answer ≡ Some a
+
+-- a delivery that is done has last unlinked its name in tmp, whatever the reply was
+abbrev pub IsDelivered : Run → ℕ → Call → Type 0
+IsDelivered r job (call.Deliver folder u body chunk) = HasUnlinked r job (path folder Tmp u) answer.Delivered
+IsDelivered r job c = Unit {0}
+
+-- What each answer says of its job and its call. Those that say that the call was done are spoken of by its effect; Delivered says besides
+-- that nothing of the delivery is left to do.
 abbrev pub Says : Run → ℕ → Call → Answer → Type 0
 Says r job c answer.NotThere = IsOfSpan r job c answer.NotThere
 Says r job c answer.NotTrashed = IsOfSpan r job c answer.NotTrashed
@@ -157,7 +171,7 @@ Says r job c answer.TmpGone = IsTmpGone r job c
 Says r job c answer.Fault = IsFaulted r job
 Says r job c answer.NameTaken = ⊥
 Says r job c (answer.Cleaned n) = IsCleaned r job c n
-Says r job c answer.Delivered = Unit {0}
+Says r job c answer.Delivered = IsDelivered r job c
 Says r job c (answer.Flags s) = Unit {0}
 Says r job c answer.Moved = Unit {0}
 Says r job c answer.Expunged = Unit {0}
