@@ -30,4 +30,5 @@ pub mod Given
 pub mod Cleaner
 pub mod Cleaned
 pub mod OfTime
+pub mod Unlinks
 pub mod AllSay

@@ -1,11 +1,13 @@
 -- What an answer says that comes without an effect: of which moment it is the answer, or what happened to its job.
-use Rattle.std.specs.Prelude.{ℕ, ◌≡◌, ◌+◌, ◌-◌, ◌≤◌, ◌++◌, ◌⊎◌, List, [], ◌∷◌, Some, Bool, true, false, not, ◌==◌, ◌&&◌, map, filter, drop, length, count_by}
+use Rattle.std.specs.Prelude.{ℕ, ◌≡◌, ◌+◌, ◌-◌, ◌≤◌, ◌++◌, ◌⊎◌, ◌==◌, ◌&&◌, List, [], ◌∷◌, Some, Bool, true, false, not, nat_le}
+use Rattle.std.specs.Prelude.{map, filter, drop, length, count_by}
 use Rattle.std.specs.List.{All}
 use Rattle.std.specs.Option.{option_to_list}
 use Rattle.md_dirs.specs.Path.{path_of as path}
 use Rattle.md_dirs.specs.Rows.{rows_of, is_named}
 use Rattle.md_dirs.specs.declared.paths.Path.{Path}
 use Rattle.md_dirs.specs.declared.paths.Place.TheVariants.{Tmp}
+use Rattle.md_dirs.specs.declared.rows.Row.{Row}
 use Rattle.md_core.specs.declared.jobs.answer.Answer.{Answer}
 use Rattle.md_core.specs.declared.jobs.answer.Answer.TheVariants as answer
 use Rattle.md_core.specs.declared.jobs.call.Call.{Call}
@@ -18,8 +20,6 @@ use Rattle.md_core.specs.declared.jobs.step.DirReply.TheVariants as reply
 use Rattle.md_core.specs.Alone.{alone}
 use Rattle.md_core.specs.Turn.{Asked, list, unlink}
 use Rattle.md_core.specs.Machine.{Machine, Done, Marked, answered, done, happens, job_at}
-use Rattle.md_core.specs.Machines.Clean.{old_rows}
-use Rattle.md_core.specs.Machines.Deliver.{most_seconds}
 use Rattle.md_core.specs.Runs.{Run, beginning, moment, done_at, jobs_of, call_at, box, first_step, dirs_at_first}
 
 -- event k is a step of the job, and this is what it did
@@ -82,7 +82,7 @@ pub record IsOutOfTime (r : Run) (job : ℕ) : Type 0 where
   pub to : ℕ
   pub begun : IsStep r job (first_step r job)
   pub late : IsStep r job to
-  pub seconds : most_seconds ≤ late.what.at.own - begun.what.at.own
+  pub seconds : 86400 ≤ late.what.at.own - begun.what.at.own
 
 abbrev pub IsTimedOut : Run → ℕ → Call → Type 0
 IsTimedOut r job (call.Deliver folder u body chunk) = IsOutOfTime r job
@@ -127,15 +127,19 @@ abbrev pub is_ok : DirReply → Bool
 is_ok reply.Ok = true
 is_ok r = false
 
--- What a clean of a folder did that counted n files: it listed tmp, and then unlinked each name that was old by its own clock at that
--- listing, once and in order; each of them was found or not, and it counts those that were.
+-- whether a row's file has not been used for 36 hours, by a clock. A clock behind the stamp counts as no time
+abbrev pub is_unused : ℕ → Row → Bool
+is_unused own row = nat_le 129600 (own - row.stamp)
+
+-- What a clean of a folder did that counted n files: it listed tmp, and then unlinked each name whose file was not used for 36 hours by
+-- its own clock at that listing, once and in order; each of them was found or not, and it counts those that were.
 pub record HasCleaned (r : Run) (job folder n : ℕ) : Type 0 where
   pub look : Done
   pub unlinks : List Done
   pub deeds : deeds_of r job ≡ look ∷ unlinks
   pub listed : look.asked ≡ list folder Tmp
   pub names : map (λ d. d.asked) unlinks
-      ≡ map (λ row. unlink (path folder Tmp row.name)) (old_rows look.at.own (rows_of (dirs_at_first r job) folder Tmp))
+      ≡ map (λ row. unlink (path folder Tmp row.name)) (filter (is_unused look.at.own) (rows_of (dirs_at_first r job) folder Tmp))
   pub replies : All (λ d. (d.reply ≡ reply.Ok) ⊎ (d.reply ≡ reply.NotFound)) unlinks
   pub count : n ≡ count_by (λ d. is_ok d.reply) unlinks
 
@@ -143,7 +147,20 @@ abbrev pub IsCleaned : Run → ℕ → Call → ℕ → Type 0
 IsCleaned r job (call.Clean folder) n = HasCleaned r job folder n
 IsCleaned r job c n = ⊥
 
--- What each answer without an effect says of its job and its call. Those that say that the call was done are spoken of by its effect.
+-- the step of a job that gave its answer was to unlink a path
+pub record HasUnlinked (r : Run) (job : ℕ) (p : Path) (a : Answer) : Type 0 where
+  pub k : ℕ
+  pub step : IsStep r job k
+  pub asked : step.what.asked ≡ unlink p
+  pub answer : step.what.answer ≡ Some a
+
+-- a delivery that is done has last unlinked its name in tmp, whatever the reply was
+abbrev pub IsDelivered : Run → ℕ → Call → Type 0
+IsDelivered r job (call.Deliver folder u body chunk) = HasUnlinked r job (path folder Tmp u) answer.Delivered
+IsDelivered r job c = Unit {0}
+
+-- What each answer says of its job and its call. Those that say that the call was done are spoken of by its effect; Delivered says besides
+-- that nothing of the delivery is left to do.
 abbrev pub Says : Run → ℕ → Call → Answer → Type 0
 Says r job c answer.NotThere = IsOfSpan r job c answer.NotThere
 Says r job c answer.NotTrashed = IsOfSpan r job c answer.NotTrashed
@@ -154,7 +171,7 @@ Says r job c answer.TmpGone = IsTmpGone r job c
 Says r job c answer.Fault = IsFaulted r job
 Says r job c answer.NameTaken = ⊥
 Says r job c (answer.Cleaned n) = IsCleaned r job c n
-Says r job c answer.Delivered = Unit {0}
+Says r job c answer.Delivered = IsDelivered r job c
 Says r job c (answer.Flags s) = Unit {0}
 Says r job c answer.Moved = Unit {0}
 Says r job c answer.Expunged = Unit {0}

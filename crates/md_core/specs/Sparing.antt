@@ -5,7 +5,6 @@ use Rattle.md_dirs.specs.declared.paths.Place.TheVariants.{Tmp}
 use Rattle.md_core.specs.declared.jobs.answer.Answer.TheVariants.{TmpGone}
 use Rattle.md_core.specs.declared.jobs.call.Call.TheVariants.{Deliver}
 use Rattle.md_core.specs.Machine.{Done, answered, job_at}
-use Rattle.md_core.specs.Machines.Clean.{least_seconds}
 use Rattle.md_core.specs.Runs.{Run, done_at, jobs_of, call_at, first_step}
 use Rattle.md_core.specs.Answering.{IsStep, IsCleanedAway}
 
@@ -19,7 +18,7 @@ pub record Spares (r : Run) (seconds : ℕ) : Type 0 where
   pub never_gone : (job : ℕ) → job_at (jobs_of r) job ≢ Some (answered TmpGone)
   pub late : (k job folder : ℕ) (u body : List ℕ) (chunk : ℕ) → call_at r.calls job ≡ Some (Deliver folder u body chunk)
       → (cleaned : IsCleanedAway r k (path folder Tmp u))
-      → (begun : IsStep r job (first_step r job)) × (begun.what.at.clock + least_seconds ≤ cleaned.what.at.clock + seconds)
+      → (begun : IsStep r job (first_step r job)) × (begun.what.at.clock + 129600 ≤ cleaned.what.at.clock + seconds)
 
 -- The cleaner's theorem, with one clock (0 seconds apart) and with clocks up to 4 hours apart.
 abbrev pub CleanersSpare : Run → Type 0

@@ -1,4 +1,4 @@
--- What each answer says that isn't of time or of a clean.
+-- What each answer says that isn't of a delivery that is done, of time or of a clean.
 use Rattle.std.proofs.Common.{ℕ, ◌≡◌, Some, refl}
 use Rattle.md_core.specs.declared.jobs.answer.Answer.{Answer}
 use Rattle.md_core.specs.declared.jobs.answer.Answer.TheVariants as answer
@@ -12,8 +12,9 @@ use Rattle.md_core.proofs.Answers.OfFault.{says-fault, says-taken, last-look}
 use Rattle.md_core.proofs.Answers.OfSpan.{at-step, says-none}
 use Rattle.md_core.proofs.Answers.Tries.{says-lost}
 
--- the answers that are not of time or of a clean
+-- the answers that are not of a delivery that is done, of time or of a clean
 abbrev pub IsOfMailbox : Answer → Type 0
+IsOfMailbox answer.Delivered = ⊥
 IsOfMailbox answer.TimedOut = ⊥
 IsOfMailbox answer.TmpGone = ⊥
 IsOfMailbox (answer.Cleaned n) = ⊥
@@ -35,7 +36,7 @@ says_of_mailbox r run job c a of is its = by a (last-step r run job a is) its
     by answer.TimedOut last its = absurd its
     by answer.TmpGone last its = absurd its
     by (answer.Cleaned n) last its = absurd its
-    by answer.Delivered last its = tt
+    by answer.Delivered last its = absurd its
     by (answer.Flags s) last its = tt
     by answer.Moved last its = tt
     by answer.Expunged last its = tt
