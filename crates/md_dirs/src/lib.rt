@@ -12,8 +12,6 @@ pub mod laws;
 mod paths;
 mod plain;
 mod rows;
-mod store;
-mod stored;
 #[cfg(test)]
 mod tests;
 

@@ -4,15 +4,15 @@ ghost use Rattle.std.specs.FinMap as finmap;
 ghost use Rattle.md_dirs.specs.Index.{directory_at};
 
 use crate::index::names::Names;
-use crate::paths::{Path, Place, number_of};
-use crate::store::Paths;
+use crate::index::tree::Tree;
+use crate::paths::{Path, number_of};
 use indexmap::IndexMap;
 use std::alloc::{AllocError, Global};
 use std::marker::Model;
 
 /// The names of one directory, each with the number of its file, in any order.
 #[derive(Drop)]
-pub struct LooseNames {
+struct LooseNames {
     rows: IndexMap<Vec<u8>, usize>,
 }
 
@@ -50,8 +50,8 @@ impl LooseNames {
         Ok(())
     }
 
-    /// The names in order, by one sort.
-    pub fn sorted(self) -> Result<Names, AllocError>
+    // The names in order, by one sort.
+    fn sorted(self) -> Result<Names, AllocError>
         ensures { IfOk result (λ names. names ≡ self) }
     {
         let LooseNames { mut rows } = self;
@@ -82,7 +82,7 @@ fn make_directory(
 /// The directories of all folders, by their numbers, their names in any order.
 #[derive(Drop)]
 pub struct LooseTree {
-    pub(crate) directories: Vec<LooseNames>,
+    directories: Vec<LooseNames>,
 }
 
 impl Model for LooseTree {
@@ -95,28 +95,50 @@ impl Model for LooseTree {
     ghost view = { λ t. names_of t.directories.items };
 }
 
-impl Paths for LooseTree {
-    ghost names = { λ p. p };
-
-    fn new(alloc: Global) -> Self {
+impl LooseTree {
+    /// No directory has a name. It takes no memory.
+    pub fn new(alloc: Global) -> Self
+        ensures { result ≡ finmap.empty }
+    {
         LooseTree {
             directories: Vec::new(alloc),
         }
     }
 
-    fn file_of(&self, folder: u32, place: Place, name: &[u8]) -> Option<usize> {
-        let number = number_of(folder, place);
+    /// The number of the file of a path.
+    pub fn file_at(&self, path: &Path) -> Option<usize>
+        ensures { result ≡ finmap.get self.now path.now }
+    {
+        let number = number_of(path.folder, path.place);
         if number >= self.directories.len() {
             return None;
         }
-        self.directories[number].file_of(name)
+        self.directories[number].file_of(path.name.as_slice())
     }
 
-    fn put(&mut self, alloc: Global, path: Path, file: usize) -> Result<(), AllocError> {
+    /// Gives a path to a file. Where memory is wanting, nothing has changed.
+    pub fn put(&mut self, alloc: Global, path: Path, file: usize) -> Result<(), AllocError>
+        ensures ok { OnOk result (self.new ≡ finmap.insert self.old path file) }
+        ensures err { OnErr result (self.new ≡ self.old) }
+    {
         let number = number_of(path.folder, path.place);
         make_directory(&mut self.directories, alloc, number)?;
         let directory = &mut self.directories[number];
         directory.put(path.name.into_vec(), file)?;
         Ok(())
+    }
+
+    /// The same with each directory in order.
+    pub fn sorted(self, alloc: Global) -> Result<Tree, AllocError>
+        ensures { IfOk result (λ tree. tree ≡ self) }
+    {
+        let LooseTree { directories } = self;
+        let mut sorted = Vec::with_capacity(alloc, directories.len())?;
+        for names in directories {
+            sorted.push(names.sorted()?)?;
+        }
+        Ok(Tree {
+            directories: sorted,
+        })
     }
 }
