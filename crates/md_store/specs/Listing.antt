@@ -23,14 +23,16 @@ seen_in None folder names = reading_of names folder New
 seen_in (Some new) folder names = join_of new (reading_of names folder Cur)
 
 -- the page was looked at: it begins with what was held, and shows these entries
-pub record IsLooked (p : Page) (held : List Effect) (folder : ℕ) (new : Option (List Entry)) (entries : List Entry) (front : Log) : Type 0 where
+pub record IsLooked (p : Page) (held : List Effect) (folder : ℕ) (new : Option (List Entry))
+    (entries : List Entry) (front : Log) : Type 0 where
   pub front_is : front ≡ p.front
   pub held_begins : IsPrefix held p.front.log
   pub folder_is_there : folder < p.names.folders
   pub entries_are : entries ≡ seen_in new folder p.names.names
 
 -- What a seat that knows its store saw: a legal history which begins with what was held, and these entries at its end.
-pub record Looks (v : View) (held : List Effect) (folder : ℕ) (new : Option (List Entry)) (entries : List Entry) (front : Log) : Type 0 where
+pub record Looks (v : View) (held : List Effect) (folder : ℕ) (new : Option (List Entry))
+    (entries : List Entry) (front : Log) : Type 0 where
   pub book_is : front.book ≡ v.held.book
   pub held_begins : IsPrefix held front.log
   pub legal : IsLegalFrom v.opening front.log

@@ -17,9 +17,10 @@ pub record Both : Type 0 where
   pub run : Run
   pub published : List Effect
 
--- The run began with the opening names. Its effects are published, or all but the last, of which a note may wait. The front has the published
--- effects, or all.
-pub record IsLocked (opening : Named) (book : Book) (run : Run) (shown : Page) (seat : View) (front : Log) (pending : List Note) : Type 0 where
+-- The run began with the opening names. Its effects are published, or all but the last, of which a note may wait. The front has the
+-- published effects, or all.
+pub record IsLocked (opening : Named) (book : Book) (run : Run) (shown : Page)
+    (seat : View) (front : Log) (pending : List Note) : Type 0 where
   pub image : named_of run.image ≡ opening
   pub book_is : shown.front.book ≡ book
   pub seat_is : seat ≡ knower opening shown

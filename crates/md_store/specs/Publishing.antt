@@ -25,7 +25,8 @@ newcomer = record { opened = false; opening = no_names; held = record { book = n
 abbrev pub knower : Named → Page → View
 knower opening p = record { opened = true; opening = opening; held = p.front }
 
--- what a seat knows is so: it holds a beginning of the published history; and one that was told of its store knows the opening names and the book
+-- what a seat knows is so: it holds a beginning of the published history; and one that was told of its store knows the opening names and
+-- the book
 abbrev pub Fits : Named → Page → View → Type 0
 Fits opening p v = (v.opened ≡ true → (v.opening ≡ opening) × (v.held.book ≡ p.front.book)) × IsPrefix v.held.log p.front.log
 

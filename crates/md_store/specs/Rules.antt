@@ -4,7 +4,8 @@ use mathlib.Core.List.{IsPrefix}
 use Rattle.logbook.specs.Pages.{Cell, Step, View, Book, Named}
 use Rattle.md_core.specs.declared.jobs.effect.Effect.{Effect}
 
--- A book has two words, both at home in it. The head, which has the key 0, holds how many effects the history has; the other word isn't used.
+-- A book has two words, both at home in it. The head, which has the key 0, holds how many effects the history has; the other word isn't
+-- used.
 pub record IsCounted (cells : List Cell) (history : List Effect) : Type 0 where
   pub words : cells ≡ (length history, true) ∷ (0, true) ∷ []
 
@@ -16,7 +17,7 @@ head_of book = record { tracked = true; key = 0; book = book }
 abbrev pub GoesOn : List Effect → List Effect → Type 0
 GoesOn earlier later = IsPrefix earlier later × (length earlier < length later)
 
--- What an exchange at the head tells, by what it found there. Where it found the number that it expected, the history is what was seen and the new
--- effect; otherwise as many effects were seen as it found.
+-- What an exchange at the head tells, by what it found there. Where it found the number that it expected, the history is what was seen and
+-- the new effect; otherwise as many effects were seen as it found.
 abbrev pub Appends : Step Effect → View Effect ℕ → ℕ → View Effect ℕ → Type 0
 Appends step before found after = MatchBool (found == step.old) (after.0 ≡ before.0 ++ step.ask ∷ []) (length after.0 ≡ found)

@@ -13,10 +13,12 @@ use Rattle.md_store.specs.declared.news.News.TheVariants.{NoEffect, Told, Later}
 abbrev pub EndsWith : List Effect → ℕ → Type 0
 EndsWith history job = (base : List Effect) × (e : Effect) × (history ≡ base ++ e ∷ []) × (e.job ≡ job)
 
--- What a step tells, by its news: of whether it was an effect, of the store after it, of the job, and of what the pass held before and holds now.
+-- What a step tells, by its news: of whether it was an effect, of the store after it, of the job, and of what the pass held before and
+-- holds now.
 abbrev pub Tells : News → Bool → Both → ℕ → List Effect → List Effect → Type 0
 Tells NoEffect effect s job before now = (effect ≡ false) × (s.published ≡ effects_of s.run) × IsPrefix s.published now
-Tells Told effect s job before now = (effect ≡ true) × (s.published ≡ effects_of s.run) × EndsWith s.published job × IsPrefix s.published now
+Tells Told effect s job before now =
+    (effect ≡ true) × (s.published ≡ effects_of s.run) × EndsWith s.published job × IsPrefix s.published now
 Tells Later effect s job before now =
     (effect ≡ true) × EndsWith (effects_of s.run) job × ((e : Effect) × (effects_of s.run ≡ s.published ++ e ∷ [])) × (now ≡ before)
 
