@@ -44,8 +44,8 @@ pub record IsOfSomeMoment (names : ℕ → Names) (folder i j : ℕ) (u : List �
   pub to : k ≤ j
   pub is : entry_among (listing_of names folder i j) u ≡ entry_in (names k) folder u
 
--- The listing law: each unique name is shown as it was at some moment between the two readings; one that is in the folder at both is listed;
--- and none is listed twice.
+-- The listing law: each unique name is shown as it was at some moment between the two readings; one that is in the folder at both is
+-- listed; and none is listed twice.
 pub record IsGoodListing (names : ℕ → Names) (folder i j : ℕ) : Type 0 where
   pub some_moment : (u : List ℕ) → IsOfSomeMoment names folder i j u
   pub at_both : (u : List ℕ) → IsSome (entry_in (names i) folder u) → IsSome (entry_in (names j) folder u)

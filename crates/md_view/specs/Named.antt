@@ -67,8 +67,8 @@ is_there n folder place name = option_map_or (has_name folder place name) (finma
 abbrev pub is_free : Names → List ℕ → Bool
 is_free names name = is_message_name name && not (is_some (finmap.get names (unique_of name)))
 
--- Whether a change fits the names: its directories are new or cur of folders that are there, the old name is there, and the new name is a message's
--- whose unique name no other message has.
+-- Whether a change fits the names: its directories are new or cur of folders that are there, the old name is there, and the new name is
+-- a message's whose unique name no other message has.
 abbrev pub fits : Named → Change → Bool
 fits n (Add folder place name size) = is_listed n folder place && is_free n.names name
 fits n (Rename folder place name to_folder to_place to_name) =
