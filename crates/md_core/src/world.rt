@@ -45,12 +45,15 @@ impl<D: Dirs> Model for World<D> {
 
     ghost coded = { Prim.hlevel (codes, state_code, flags.the_row.coded) };
 
-    ghost view = { λ w. run_of (device (D.state w.image.value) (D.failures w.image.value) (D.calls w.image.value)) w.jobs.items w.log.events.items w.log.marks.items };
+    ghost view = { λ w.
+        run_of (device (D.state w.image.value) (D.failures w.image.value) (D.calls w.image.value)) w.jobs.items w.log.events.items
+        w.log.marks.items };
 
     ghost invariant = { λ w.
         let first = device (D.state w.image.value) (D.failures w.image.value) (D.calls w.image.value) in
         let now = device (D.state w.dirs) (D.failures w.dirs) (D.calls w.dirs) in
-        IsWorld (run_of first w.jobs.items w.log.events.items w.log.marks.items) (machine_by now w.clock w.jobs.items w.log.effects.items) now w.used w.log.events.items w.log.marks.items };
+        let run = run_of first w.jobs.items w.log.events.items w.log.marks.items in
+        IsWorld run (machine_by now w.clock w.jobs.items w.log.effects.items) now w.used w.log.events.items w.log.marks.items };
 }
 
 impl<D: Dirs> World<D> {

@@ -143,9 +143,10 @@ impl Cleaning {
     }
 
     fn unlink<D: Dirs>(&mut self, dirs: &mut D, at: Moment, tmp: Path) -> Result<Turned, CoreError>
-        ensures ok { (name : _) (rest : _) (files : _) → self.old.stage ≡ Stage.Remove name rest files → tmp ≡ tmp_of self.old name → IfOk result (λ t.
-            Takes (unlink_turn self.old name rest files) at (device (D.state dirs.old) (D.failures dirs.old) (D.calls dirs.old)) t.out t.effect
-            self.new (device (D.state dirs.new) (D.failures dirs.new) (D.calls dirs.new))) }
+        ensures ok { (name : _) (rest : _) (files : _) → self.old.stage ≡ Stage.Remove name rest files → tmp ≡ tmp_of self.old name
+            → IfOk result (λ t. Takes (unlink_turn self.old name rest files) at
+            (device (D.state dirs.old) (D.failures dirs.old) (D.calls dirs.old)) t.out t.effect self.new
+            (device (D.state dirs.new) (D.failures dirs.new) (D.calls dirs.new))) }
         ensures memory { IfErr result (λ e. e ≡ CoreError.NoMemory) }
         ensures task { OnErr result (self.new ≡ self.old) }
         ensures dirs { OnErr result (IsUntouched (device (D.state dirs.old) (D.failures dirs.old) (D.calls dirs.old))

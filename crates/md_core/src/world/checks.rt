@@ -1,6 +1,7 @@
 //! What is checked of a call when it is submitted, and in which order.
 ghost use Rattle.std.specs.Prelude.{◌≡◌, ◌||◌, not};
 ghost use Rattle.md_name.specs.Names.{is_unique_name as is_unique};
+ghost use Rattle.md_core.specs.declared.jobs.call.Call.TheVariants.{Deliver, Move, Copy};
 ghost use Rattle.md_core.specs.Submitting.{submit_refusal, no_folder, too_many, is_used as is_used_by, bad_tries, first_met as first_met_by, checks_of_look_up};
 
 use crate::error::CoreError;
@@ -51,64 +52,92 @@ impl<D: Dirs> World<D> {
                 unique,
                 body,
                 chunk,
-            } => first_met(&[
-                (self.lacks(*folder), CoreError::NoFolder),
-                (!is_unique_name(unique.as_slice()), CoreError::BadUnique),
-                (*chunk == 0, CoreError::BadChunk),
-                (body.len() > MOST_BYTES, CoreError::BodyTooLong),
-                (self.is_full(), CoreError::TooManyJobs),
-                (self.is_used(unique.as_slice()), CoreError::NameUsed),
-            ]),
+            } => self.deliver_refusal(*folder, unique.as_slice(), body.as_slice(), *chunk),
             Call::Seen {
                 folder,
                 unique,
                 tries,
                 ..
-            } => self.look_up_refusal(*folder, unique.as_slice(), *tries),
-            Call::Flag {
+            }
+            | Call::Flag {
                 folder,
                 unique,
                 tries,
                 ..
+            }
+            | Call::Expunge {
+                folder,
+                unique,
+                tries,
             } => self.look_up_refusal(*folder, unique.as_slice(), *tries),
             Call::Move {
                 folder,
                 unique,
                 to,
                 tries,
-            } => first_met(&[
-                (self.lacks_either(*folder, *to), CoreError::NoFolder),
-                (*to == *folder, CoreError::SameFolder),
-                (!is_unique_name(unique.as_slice()), CoreError::BadUnique),
-                (is_bad_tries(*tries), CoreError::BadTries),
-                (self.is_full(), CoreError::TooManyJobs),
-            ]),
-            Call::Expunge {
-                folder,
-                unique,
-                tries,
-            } => self.look_up_refusal(*folder, unique.as_slice(), *tries),
+            } => self.move_refusal(*folder, unique.as_slice(), *to, *tries),
             Call::Copy {
                 folder,
                 unique,
                 to,
                 fresh,
                 tries,
-            } => first_met(&[
-                (self.lacks_either(*folder, *to), CoreError::NoFolder),
-                (
-                    is_bad_pair(unique.as_slice(), fresh.as_slice()),
-                    CoreError::BadUnique,
-                ),
-                (is_bad_tries(*tries), CoreError::BadTries),
-                (self.is_full(), CoreError::TooManyJobs),
-                (self.is_used(fresh.as_slice()), CoreError::NameUsed),
-            ]),
+            } => self.copy_refusal(*folder, unique.as_slice(), *to, fresh.as_slice(), *tries),
             Call::Clean { folder } => first_met(&[
                 (self.lacks(*folder), CoreError::NoFolder),
                 (self.is_full(), CoreError::TooManyJobs),
             ]),
         }
+    }
+
+    fn deliver_refusal(
+        &self,
+        folder: u32,
+        unique: &[u8],
+        body: &[u8],
+        chunk: u64,
+    ) -> Option<CoreError>
+        ensures { result ≡ submit_refusal self.now (Deliver folder unique.now body.now chunk) }
+    {
+        first_met(&[
+            (self.lacks(folder), CoreError::NoFolder),
+            (!is_unique_name(unique), CoreError::BadUnique),
+            (chunk == 0, CoreError::BadChunk),
+            (body.len() > MOST_BYTES, CoreError::BodyTooLong),
+            (self.is_full(), CoreError::TooManyJobs),
+            (self.is_used(unique), CoreError::NameUsed),
+        ])
+    }
+
+    fn move_refusal(&self, folder: u32, unique: &[u8], to: u32, tries: u64) -> Option<CoreError>
+        ensures { result ≡ submit_refusal self.now (Move folder unique.now to tries) }
+    {
+        first_met(&[
+            (self.lacks_either(folder, to), CoreError::NoFolder),
+            (to == folder, CoreError::SameFolder),
+            (!is_unique_name(unique), CoreError::BadUnique),
+            (is_bad_tries(tries), CoreError::BadTries),
+            (self.is_full(), CoreError::TooManyJobs),
+        ])
+    }
+
+    fn copy_refusal(
+        &self,
+        folder: u32,
+        unique: &[u8],
+        to: u32,
+        fresh: &[u8],
+        tries: u64,
+    ) -> Option<CoreError>
+        ensures { result ≡ submit_refusal self.now (Copy folder unique.now to fresh.now tries) }
+    {
+        first_met(&[
+            (self.lacks_either(folder, to), CoreError::NoFolder),
+            (is_bad_pair(unique, fresh), CoreError::BadUnique),
+            (is_bad_tries(tries), CoreError::BadTries),
+            (self.is_full(), CoreError::TooManyJobs),
+            (self.is_used(fresh), CoreError::NameUsed),
+        ])
     }
 
     // The checks of a call that looks for one message and acts on it.

@@ -28,7 +28,8 @@ impl Log {
 
     /// Makes room for one more step.
     pub(crate) fn reserve(&mut self) -> Result<(), AllocError>
-        ensures same { (self.new.events.items ≡ self.old.events.items) × (self.new.marks.items ≡ self.old.marks.items) × (self.new.effects.items ≡ self.old.effects.items) }
+        ensures same { (self.new.events.items ≡ self.old.events.items) × (self.new.marks.items ≡ self.old.marks.items)
+            × (self.new.effects.items ≡ self.old.effects.items) }
         ensures room { OnOk result (HasRoom self.new) }
     {
         self.events.reserve(1)?;

@@ -51,7 +51,8 @@ impl Seen {
     // Looks at one more name, and refuses it where it has a fault.
     fn add(&mut self, place: Place, row: RowRef<'_>) -> Result<(), CoreError>
         ensures fault { let fault = fault_after self.old.messages (somewhere place row.entry) in MatchResult result (λ _. fault ≡ None) (IsFault fault) }
-        ensures messages { OnOk result ((u : _) → is_among u self.new.messages ≡ (is_message_of u (somewhere place row.entry) || is_among u self.old.messages)) }
+        ensures messages { OnOk result ((u : _) →
+            is_among u self.new.messages ≡ (is_message_of u (somewhere place row.entry) || is_among u self.old.messages)) }
         ensures tmp { OnOk result ((u : _) → is_among u self.new.tmp ≡ (is_tmp_of u (somewhere place row.entry) || is_among u self.old.tmp)) }
         ensures clock { OnOk result (self.new.clock ≡ max self.old.clock row.entry.stamp) }
     {

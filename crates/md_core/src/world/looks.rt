@@ -32,7 +32,8 @@ impl<D: Dirs> World<D> {
 
     /// The row at a position of the ordered names of a directory.
     pub fn names(&self, folder: u32, place: Place, at: usize) -> Option<RowRef<'_>>
-        ensures { option_map (λ r. record { name = r.name.now; stamp = r.stamp; size = r.size }) result ≡ slice_get (rows_of (dirs_of self.now) folder place) at }
+        ensures { option_map (λ r. record { name = r.name.now; stamp = r.stamp; size = r.size }) result
+            ≡ slice_get (rows_of (dirs_of self.now) folder place) at }
     {
         self.dirs.row_at(folder, place, at)
     }

@@ -15,7 +15,9 @@ use md_dirs::Dirs;
 
 // Where a job stands that is there and has no answer.
 fn unanswered(jobs: &[Job], job: JobId) -> Result<usize, CoreError>
-    ensures refused { MatchResult result (λ _. step_refusal (job_at (standings jobs.now) job) ≡ None) (λ e. step_refusal (job_at (standings jobs.now) job) ≡ Some e) }
+    ensures refused { MatchResult result
+        (λ _. step_refusal (job_at (standings jobs.now) job) ≡ None)
+        (λ e. step_refusal (job_at (standings jobs.now) job) ≡ Some e) }
     ensures place { IfOk result (λ at. (at + 1 ≡ job) × (at < length jobs.now)) }
 {
     if job == 0 || job > jobs.len() as u64 {
