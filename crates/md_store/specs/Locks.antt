@@ -5,7 +5,7 @@ use Rattle.md_core.specs.declared.jobs.effect.Effect.{Effect}
 use Rattle.md_core.specs.Runs.{Run, effects_of}
 use Rattle.md_view.specs.Named.{Named, named_of}
 use Rattle.md_store.specs.Pages.{Log, Page, Note}
-use Rattle.md_store.specs.Publishing.{knower, CanFollow}
+use Rattle.md_store.specs.Publishing.{knower, WaitsFor}
 use Rattle.md_store.specs.declared.rule.View.{View}
 
 -- all effects are published, or all but the last
@@ -27,7 +27,7 @@ pub record IsLocked (opening : Named) (book : Book) (run : Run) (shown : Page)
   pub lag : Lags (effects_of run) shown.front.log
   pub front_book : front.book ≡ book
   pub front_is : (front.log ≡ shown.front.log) ⊎ (front.log ≡ effects_of run)
-  pub waits : (pending ≡ []) ⊎ ((n : Note) × (pending ≡ n ∷ []) × CanFollow opening shown n × (n.front.log ≡ effects_of run))
+  pub waits : (pending ≡ []) ⊎ WaitsFor (effects_of run) opening shown pending
 
 -- a world with no event
 abbrev pub IsFresh : Run → Type 0

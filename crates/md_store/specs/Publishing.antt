@@ -53,6 +53,10 @@ turned p n = record { front = n.front; names = applied p.names n.effect.change }
 abbrev pub CanFollow : Named → Page → Note → Type 0
 CanFollow opening p n = (n.front.book ≡ p.front.book) × (n.front.log ≡ p.front.log ++ n.effect ∷ []) × IsLegalFrom opening n.front.log
 
+-- one note waits, and after it the published history is this one
+abbrev pub WaitsFor : List Effect → Named → Page → List Note → Type 0
+WaitsFor effects opening p pending = (n : Note) × (pending ≡ n ∷ []) × CanFollow opening p n × (n.front.log ≡ effects)
+
 -- nothing waits, or the writer knows the opening names and one note waits that can follow
 abbrev pub MayPublish : View → Page → List Note → Type 0
 MayPublish v p pending = (pending ≡ []) ⊎ ((n : Note) × (pending ≡ n ∷ []) × (v.opened ≡ true) × CanFollow v.opening p n)

@@ -56,7 +56,9 @@ impl<D: Dirs, J: Naming> Model for Locked<D, J> {
 
     ghost view = { λ l. record { run = l.world; published = l.writer.desk.shown.value.front.log } };
 
-    ghost invariant = { λ l. (l.head ≡ head_of J.book) × IsLocked J.opening J.book l.world l.writer.desk.shown.value (seat_view l.writer.desk.place) l.front (drop l.writer.behind l.writer.log.items) };
+    ghost invariant = { λ l. (l.head ≡ head_of J.book)
+        × IsLocked J.opening J.book l.world l.writer.desk.shown.value (seat_view l.writer.desk.place) l.front
+        (drop l.writer.behind l.writer.log.items) };
 }
 
 impl<D: Dirs, J: Naming> Locked<D, J> {
@@ -138,7 +140,9 @@ impl<D: Dirs, J: Naming> Locked<D, J> {
 
     // Refuses a step of a job that isn't there or has its answer.
     fn check(&self, job: JobId) -> Result<(), CoreError>
-        ensures { MatchResult result (λ _. step_refusal (job_at (jobs_of self.now.run) job) ≡ None) (λ e. step_refusal (job_at (jobs_of self.now.run) job) ≡ Some e) }
+        ensures { MatchResult result
+            (λ _. step_refusal (job_at (jobs_of self.now.run) job) ≡ None)
+            (λ e. step_refusal (job_at (jobs_of self.now.run) job) ≡ Some e) }
     {
         let _ = &self.front;
         match self.world.refusal(job) {

@@ -130,7 +130,8 @@ fn entered(
     requires seat { ((view reader.place).opened ≡ true) × (x.3.now.book ≡ (view reader.place).held.book) }
     requires order { IfSome x.2 (λ entries. IsInOrder entries.now) }
     ensures kept { IsOf (view reader.place).opening (view reader.place).held.book (view result.0.place) }
-    ensures entries { IfOk result.1 (λ r. Looks (view reader.place) x.entry.3.now.log x.entry.1 (option_map (λ entries. entries.now) x.entry.2) r.0.items r.1) }
+    ensures entries { IfOk result.1 (λ r.
+        Looks (view reader.place) x.entry.3.now.log x.entry.1 (option_map (λ entries. entries.now) x.entry.2) r.0.items r.1) }
     ensures no_folder { IfErr result.1 (λ e. e ≡ refusal.NoFolder → (view reader.place).opening.folders ≤ x.entry.1) }
 {
     match reader.enter_as::<Sees>() {

@@ -1,10 +1,9 @@
 // The note of the one effect that is not published yet.
-ghost use Rattle.std.specs.Prelude.{◌≡◌, ◌<◌, ◌⊎◌, ◌∷◌, [], length, drop, MatchBool, MatchResult};
+ghost use Rattle.std.specs.Prelude.{◌≡◌, ◌<◌, ◌⊎◌, [], length, drop, MatchBool, MatchResult};
 ghost use Rattle.left_right.specs.Sides.{view};
 ghost use Rattle.md_store.specs.Histories.{IsLegalFrom};
 ghost use Rattle.md_store.specs.Locks.{Lags};
-ghost use Rattle.md_store.specs.Pages.{Note};
-ghost use Rattle.md_store.specs.Publishing.{CanFollow};
+ghost use Rattle.md_store.specs.Publishing.{WaitsFor};
 ghost use Rattle.md_store.specs.Rules.{head_of};
 
 use crate::book::{Front, Head};
@@ -26,7 +25,8 @@ pub(crate) fn post(
 ) -> Result<(), AllocError>
     requires head { head.now ≡ head_of front.old.book }
     requires book { front.old.book ≡ writer.old.desk.shown.value.front.book }
-    requires waits { (drop writer.old.behind writer.old.log.items ≡ []) ⊎ ((n : Note) × (drop writer.old.behind writer.old.log.items ≡ n ∷ []) × CanFollow (view writer.old.desk.place).opening writer.old.desk.shown.value n × (n.front.log ≡ effects.now)) }
+    requires waits { (drop writer.old.behind writer.old.log.items ≡ [])
+        ⊎ WaitsFor effects.now (view writer.old.desk.place).opening writer.old.desk.shown.value (drop writer.old.behind writer.old.log.items) }
     requires lag { Lags effects.now writer.old.desk.shown.value.front.log }
     requires left { length writer.old.desk.shown.value.front.log < length effects.now }
     requires known { (front.old.log ≡ writer.old.desk.shown.value.front.log) ⊎ (front.old.log ≡ effects.now) }
@@ -35,7 +35,7 @@ pub(crate) fn post(
     ensures known { MatchResult result (λ _. front.new.log ≡ effects.now) (λ _. (front.new.log ≡ front.old.log) ⊎ (front.new.log ≡ effects.now)) }
     ensures desk { writer.new.desk ≡ writer.old.desk }
     ensures pending { MatchResult result
-        (λ _. (n : Note) × (drop writer.new.behind writer.new.log.items ≡ n ∷ []) × CanFollow (view writer.old.desk.place).opening writer.old.desk.shown.value n × (n.front.log ≡ effects.now))
+        (λ _. WaitsFor effects.now (view writer.old.desk.place).opening writer.old.desk.shown.value (drop writer.new.behind writer.new.log.items))
         (λ _. drop writer.new.behind writer.new.log.items ≡ drop writer.old.behind writer.old.log.items) }
 {
     let at = writer.published().front().len();

@@ -35,7 +35,9 @@ impl<D: Dirs, J: Naming> Store<D, J> {
     /// Submits a call, and gives the number of its job. A call that is refused comes back.
     pub fn submit<R: Wait>(&self, rt: &R, call: Call) -> Result<JobId, SubmitRefused>
         ensures call { IfErr result (λ r. r.call ≡ call) }
-        ensures refused { MatchResult result (λ _. plain_refusal J.opening.folders call ≡ None) (λ r. IsWhy (plain_refusal J.opening.folders call) r.error) }
+        ensures refused { MatchResult result
+            (λ _. plain_refusal J.opening.folders call ≡ None)
+            (λ r. IsWhy (plain_refusal J.opening.folders call) r.error) }
     {
         let mut guard = self.lock.lock(rt);
         guard.lags();

@@ -11,8 +11,12 @@ use std::sync::Wait;
 fn published<R: Wait>(writer: StoreWriter, rt: &R) -> (StoreWriter, Result<(), AllocError>)
     requires { MayPublish (view writer.desk.place) writer.desk.shown.value (drop writer.behind writer.log.items) }
     ensures { MatchResult result.1
-        (λ _. (result.0.desk.shown.value ≡ fold turned writer.desk.shown.value (drop writer.behind writer.log.items)) × (drop result.0.behind result.0.log.items ≡ []) × Shows (view writer.desk.place) result.0.desk.shown.value (view result.0.desk.place))
-        (λ _. (result.0.desk.shown.value ≡ writer.desk.shown.value) × (drop result.0.behind result.0.log.items ≡ drop writer.behind writer.log.items) × (view result.0.desk.place ≡ view writer.desk.place)) }
+        (λ _. (result.0.desk.shown.value ≡ fold turned writer.desk.shown.value (drop writer.behind writer.log.items))
+        × (drop result.0.behind result.0.log.items ≡ [])
+        × Shows (view writer.desk.place) result.0.desk.shown.value (view result.0.desk.place))
+        (λ _. (result.0.desk.shown.value ≡ writer.desk.shown.value)
+        × (drop result.0.behind result.0.log.items ≡ drop writer.behind writer.log.items)
+        × (view result.0.desk.place ≡ view writer.desk.place)) }
 {
     writer.publish_as::<Sees, R>(rt)
 }
@@ -21,8 +25,12 @@ fn published<R: Wait>(writer: StoreWriter, rt: &R) -> (StoreWriter, Result<(), A
 pub fn publish<R: Wait>(writer: &mut StoreWriter, rt: &R) -> Result<(), AllocError>
     requires { MayPublish (view writer.old.desk.place) writer.old.desk.shown.value (drop writer.old.behind writer.old.log.items) }
     ensures { MatchResult result
-        (λ _. (writer.new.desk.shown.value ≡ fold turned writer.old.desk.shown.value (drop writer.old.behind writer.old.log.items)) × (drop writer.new.behind writer.new.log.items ≡ []) × Shows (view writer.old.desk.place) writer.new.desk.shown.value (view writer.new.desk.place))
-        (λ _. (writer.new.desk.shown.value ≡ writer.old.desk.shown.value) × (drop writer.new.behind writer.new.log.items ≡ drop writer.old.behind writer.old.log.items) × (view writer.new.desk.place ≡ view writer.old.desk.place)) }
+        (λ _. (writer.new.desk.shown.value ≡ fold turned writer.old.desk.shown.value (drop writer.old.behind writer.old.log.items))
+        × (drop writer.new.behind writer.new.log.items ≡ [])
+        × Shows (view writer.old.desk.place) writer.new.desk.shown.value (view writer.new.desk.place))
+        (λ _. (writer.new.desk.shown.value ≡ writer.old.desk.shown.value)
+        × (drop writer.new.behind writer.new.log.items ≡ drop writer.old.behind writer.old.log.items)
+        × (view writer.new.desk.place ≡ view writer.old.desk.place)) }
 {
     replace_with(writer, rt, published::<R>)
 }
