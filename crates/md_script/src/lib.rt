@@ -19,7 +19,6 @@ mod setting;
 mod setup;
 mod sink;
 mod source;
-mod storage;
 mod store;
 mod summary;
 mod verb;
@@ -34,7 +33,6 @@ pub use run::Printed;
 pub use setup::{Setup, image};
 pub use sink::{Put, Sink, Writer};
 pub use source::{Got, Reader, Source};
-pub use storage::Storage;
 pub use store::open_store;
 pub use summary::push_summary;
 

@@ -5,7 +5,8 @@ ghost use Rattle.md_dirs.specs.Index.{directory_at};
 
 use crate::index::names::Names;
 use crate::index::tree::Tree;
-use crate::paths::{Path, number_of};
+use crate::path_store::Paths;
+use crate::paths::{Path, Place, number_of};
 use indexmap::IndexMap;
 use std::alloc::{AllocError, Global};
 use std::marker::Model;
@@ -96,38 +97,6 @@ impl Model for LooseTree {
 }
 
 impl LooseTree {
-    /// No directory has a name. It takes no memory.
-    pub fn new(alloc: Global) -> Self
-        ensures { result ≡ finmap.empty }
-    {
-        LooseTree {
-            directories: Vec::new(alloc),
-        }
-    }
-
-    /// The number of the file of a path.
-    pub fn file_at(&self, path: &Path) -> Option<usize>
-        ensures { result ≡ finmap.get self.now path.now }
-    {
-        let number = number_of(path.folder, path.place);
-        if number >= self.directories.len() {
-            return None;
-        }
-        self.directories[number].file_of(path.name.as_slice())
-    }
-
-    /// Gives a path to a file. Where memory is wanting, nothing has changed.
-    pub fn put(&mut self, alloc: Global, path: Path, file: usize) -> Result<(), AllocError>
-        ensures ok { OnOk result (self.new ≡ finmap.insert self.old path file) }
-        ensures err { OnErr result (self.new ≡ self.old) }
-    {
-        let number = number_of(path.folder, path.place);
-        make_directory(&mut self.directories, alloc, number)?;
-        let directory = &mut self.directories[number];
-        directory.put(path.name.into_vec(), file)?;
-        Ok(())
-    }
-
     /// The same with each directory in order.
     pub fn sorted(self, alloc: Global) -> Result<Tree, AllocError>
         ensures { IfOk result (λ tree. tree ≡ self) }
@@ -140,5 +109,31 @@ impl LooseTree {
         Ok(Tree {
             directories: sorted,
         })
+    }
+}
+
+impl Paths for LooseTree {
+    ghost names = { λ p. p };
+
+    fn new(alloc: Global) -> Self {
+        LooseTree {
+            directories: Vec::new(alloc),
+        }
+    }
+
+    fn file_of(&self, folder: u32, place: Place, name: &[u8]) -> Option<usize> {
+        let number = number_of(folder, place);
+        if number >= self.directories.len() {
+            return None;
+        }
+        self.directories[number].file_of(name)
+    }
+
+    fn put(&mut self, alloc: Global, path: Path, file: usize) -> Result<(), AllocError> {
+        let number = number_of(path.folder, path.place);
+        make_directory(&mut self.directories, alloc, number)?;
+        let directory = &mut self.directories[number];
+        directory.put(path.name.into_vec(), file)?;
+        Ok(())
     }
 }

@@ -8,9 +8,10 @@ ghost use Rattle.md_dirs.specs.Rows.{is_named};
 ghost use Rattle.md_dirs.specs.Index.{directory_number, directory_at, rows_in};
 ghost use Rattle.md_dirs.specs.Files.{files_of, name_row};
 
-use crate::changes::Paths;
 use crate::files::Kept;
+use crate::index::loose::LooseTree;
 use crate::index::names::Names;
+use crate::path_store::{PathStore, Paths};
 use crate::paths::{Path, Place, number_of};
 use crate::rows::Row;
 use std::alloc::{AllocError, Global};
@@ -51,20 +52,16 @@ fn make_directory(
     Ok(())
 }
 
-impl Tree {
-    /// No directory has a name. It takes no memory.
-    pub fn new(alloc: Global) -> Self
-        ensures { result ≡ finmap.empty }
-    {
+impl Paths for Tree {
+    ghost names = { λ p. p };
+
+    fn new(alloc: Global) -> Self {
         Tree {
             directories: Vec::new(alloc),
         }
     }
 
-    /// The number of the file of a name in a directory.
-    pub fn file_of(&self, folder: u32, place: Place, name: &[u8]) -> Option<usize>
-        ensures { result ≡ finmap.get self.now (path_of folder place name.now) }
-    {
+    fn file_of(&self, folder: u32, place: Place, name: &[u8]) -> Option<usize> {
         let number = number_of(folder, place);
         if number >= self.directories.len() {
             return None;
@@ -72,11 +69,23 @@ impl Tree {
         self.directories[number].file_of(name)
     }
 
-    /// Takes a path away, and gives the number of its file. It takes no memory.
-    pub fn take(&mut self, path: &Path) -> Option<usize>
-        ensures file { result ≡ finmap.get self.old path.now }
-        ensures gone { self.new ≡ finmap.remove self.old path.now }
-    {
+    fn put(&mut self, alloc: Global, path: Path, file: usize) -> Result<(), AllocError> {
+        let number = number_of(path.folder, path.place);
+        make_directory(&mut self.directories, alloc, number)?;
+        let directory = &mut self.directories[number];
+        directory.put(path.name.into_vec(), file)?;
+        Ok(())
+    }
+}
+
+impl PathStore for Tree {
+    type Loose = LooseTree;
+
+    fn ordered(alloc: Global, loose: LooseTree) -> Result<Self, AllocError> {
+        loose.sorted(alloc)
+    }
+
+    fn take(&mut self, path: &Path) -> Option<usize> {
         let number = number_of(path.folder, path.place);
         if number >= self.directories.len() {
             return None;
@@ -85,68 +94,14 @@ impl Tree {
         directory.take(path.name.as_slice())
     }
 
-    /// The number of the file of a path.
-    pub fn file_at(&self, path: &Path) -> Option<usize>
-        ensures { result ≡ finmap.get self.now path.now }
-    {
-        self.file_of(path.folder, path.place, path.name.as_slice())
-    }
-
-    /// The name at a position of a directory, in order of the names, and the number of its file.
-    pub fn row_at(&self, folder: u32, place: Place, at: usize) -> Option<(&[u8], usize)>
-        ensures row { option_map (λ r. (r.0.now, r.1)) result ≡ slice_get (rows_in self.now folder place) at }
-        ensures few { IfSome result (λ _. at + 1 < 2 ^ 64) }
-    {
-        let number = number_of(folder, place);
-        if number >= self.directories.len() {
-            return None;
-        }
-        self.directories[number].row_at(at)
-    }
-
-    /// The first name of a directory that is a unique name, or a unique name, a colon and more, and the number of its file.
-    pub fn find(&self, folder: u32, place: Place, unique: &[u8]) -> Option<(&[u8], usize)>
-        ensures { option_map (λ r. (r.0.now, r.1)) result ≡ first_with (λ e. is_named unique.now e.0) (rows_in self.now folder place) }
-    {
-        let number = number_of(folder, place);
-        if number >= self.directories.len() {
-            return None;
-        }
-        self.directories[number].find(unique)
-    }
-
-    /// The rows of a directory, copied. It is refused only for want of memory.
-    pub fn rows_of(
-        &self,
-        alloc: Global,
-        folder: u32,
-        place: Place,
-        slots: &[Option<Kept>],
-    ) -> Result<Vec<Row>, AllocError>
-        requires { All (λ e. IsSome (file_by (files_of slots.now) e.1)) (rows_in self.now folder place) }
-        ensures { IfOk result (λ shown. shown.items ≡ map (name_row (files_of slots.now)) (rows_in self.now folder place)) }
-    {
-        let number = number_of(folder, place);
-        if number >= self.directories.len() {
-            return Ok(Vec::new(alloc));
-        }
-        self.directories[number].rows(alloc, slots)
-    }
-
-    /// Gives the file of a path another path, also in place of the file that this named: `is_free` says that it named none.
-    /// Where memory is wanting, nothing has changed.
-    pub fn rename(
+    fn rename(
         &mut self,
         alloc: Global,
         old: &Path,
         new: Path,
         file: usize,
         is_free: bool,
-    ) -> Result<(), AllocError>
-        requires { IsTrue is_free → finmap.get self.old new ≡ None }
-        ensures ok { OnOk result (self.new ≡ finmap.remove (finmap.insert self.old new file) old.now) }
-        ensures err { OnErr result (self.new ≡ self.old) }
-    {
+    ) -> Result<(), AllocError> {
         let number = number_of(old.folder, old.place);
         if is_free
             && number == number_of(new.folder, new.place)
@@ -160,16 +115,34 @@ impl Tree {
         let _gone = self.take(old);
         Ok(())
     }
-}
 
-impl Paths for Tree {
-    ghost names = { λ p. p };
+    fn row_at(&self, folder: u32, place: Place, at: usize) -> Option<(&[u8], usize)> {
+        let number = number_of(folder, place);
+        if number >= self.directories.len() {
+            return None;
+        }
+        self.directories[number].row_at(at)
+    }
 
-    fn put(&mut self, alloc: Global, path: Path, file: usize) -> Result<(), AllocError> {
-        let number = number_of(path.folder, path.place);
-        make_directory(&mut self.directories, alloc, number)?;
-        let directory = &mut self.directories[number];
-        directory.put(path.name.into_vec(), file)?;
-        Ok(())
+    fn find(&self, folder: u32, place: Place, unique: &[u8]) -> Option<(&[u8], usize)> {
+        let number = number_of(folder, place);
+        if number >= self.directories.len() {
+            return None;
+        }
+        self.directories[number].find(unique)
+    }
+
+    fn rows_of(
+        &self,
+        alloc: Global,
+        folder: u32,
+        place: Place,
+        slots: &[Option<Kept>],
+    ) -> Result<Vec<Row>, AllocError> {
+        let number = number_of(folder, place);
+        if number >= self.directories.len() {
+            return Ok(Vec::new(alloc));
+        }
+        self.directories[number].rows(alloc, slots)
     }
 }

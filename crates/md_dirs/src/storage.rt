@@ -1,0 +1,34 @@
+// Directories that can begin with files.
+ghost use Rattle.std.specs.Prelude.{◌≡◌, ◌⊎◌, None, Some, IfOk, IfErr};
+ghost use Rattle.md_dirs.specs.Image.{image_state, image_refusal};
+ghost use Rattle.md_dirs.specs.declared.calls.DirError.TheVariants.{NoMemory};
+
+use crate::calls::{DirError, Dirs};
+use crate::image::ImageFile;
+use crate::path_store::PathStore;
+use crate::stored::StoredDirs;
+use std::alloc::Global;
+
+/// Directories that can begin with files, and that never fail.
+pub trait Storage: Dirs + Drop {
+    /// The directories that files are, made in their order: `NotFound` or `Exists` at the first that can't be made. `NoMemory` may come
+    /// in place of either.
+    fn holding(alloc: Global, folders: u32, files: Vec<ImageFile>) -> Result<Self, DirError>
+        ensures accepted { IfOk result (λ _. image_refusal folders files.items ≡ None) }
+        ensures made { IfOk result (λ dirs. Self.state dirs ≡ image_state folders files.items) }
+        ensures fresh { IfOk result (λ dirs. Self.calls dirs ≡ 0) }
+        ensures refused { IfErr result (λ e. (e ≡ NoMemory) ⊎ (image_refusal folders files.items ≡ Some e)) };
+
+    // A law: no call of theirs was a fault.
+    ghost never_fails: { (dirs : Self) → Self.failures dirs ≡ 0 };
+}
+
+impl<N: PathStore> Storage for StoredDirs<N> {
+    ghost use Rattle.std.specs.Prelude.{refl};
+
+    ghost never_fails = { λ _. refl };
+
+    fn holding(alloc: Global, folders: u32, files: Vec<ImageFile>) -> Result<Self, DirError> {
+        StoredDirs::from_image(alloc, folders, files)
+    }
+}
