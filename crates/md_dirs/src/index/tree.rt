@@ -1,16 +1,9 @@
 // The directories of all folders, side by side.
-ghost use Rattle.std.specs.Prelude.{◌≡◌, ◌<◌, ◌+◌, ◌^◌, ℕ, OnOk, OnErr, None, IfOk, IfSome, IsSome, IsTrue, All, map, slice_get, vec_len, find as first_with};
-ghost use Rattle.std.specs.Option.{option_map};
-ghost use Rattle.std.specs.FinMap as finmap;
-ghost use Rattle.md_dirs.specs.Path.{path_of};
-ghost use Rattle.md_dirs.specs.State.{file_by};
-ghost use Rattle.md_dirs.specs.Rows.{is_named};
-ghost use Rattle.md_dirs.specs.Index.{directory_number, directory_at, rows_in};
-ghost use Rattle.md_dirs.specs.Files.{files_of, name_row};
+ghost use Rattle.std.specs.Prelude.{◌≡◌, ◌<◌, ◌^◌, ℕ, OnOk, map, vec_len};
+ghost use Rattle.md_dirs.specs.Index.{directory_at};
 
 use crate::files::Kept;
-use crate::index::loose::LooseTree;
-use crate::index::names::Names;
+use crate::index::table::{SortedTable, Table};
 use crate::path_store::{PathStore, Paths};
 use crate::paths::{Path, Place, number_of};
 use crate::rows::Row;
@@ -19,40 +12,41 @@ use std::marker::Model;
 
 /// The directories of all folders, by their numbers, up to the last that had a name.
 #[derive(Drop)]
-pub struct Tree {
-    pub(crate) directories: Vec<Names>,
+pub struct Tree<T: Table> {
+    directories: Vec<T>,
 }
 
-impl Model for Tree {
+impl<T: Table> Model for Tree<T> {
+    ghost use Rattle.std.specs.Prelude.{map};
     ghost use Rattle.md_dirs.specs.Index.{PathMap, map_code, names_of};
 
     ghost Value = { PathMap };
 
     ghost coded = { map_code };
 
-    ghost view = { λ t. names_of t.directories.items };
+    ghost view = { λ t. names_of (map T.names t.directories.items) };
 }
 
 // Makes empty directories up to one. Where memory is wanting, there may be more of them.
-fn make_directory(
-    directories: &mut Vec<Names>,
+fn make_directory<T: Table>(
+    directories: &mut Vec<T>,
     alloc: Global,
     number: usize,
 ) -> Result<(), AllocError>
     requires { number < 2 ^ 40 }
     ensures there { OnOk result (number < vec_len directories.new) }
-    ensures same { (k : ℕ) → directory_at directories.new.items k ≡ directory_at directories.old.items k }
+    ensures same { (k : ℕ) → directory_at (map T.names directories.new.items) k ≡ directory_at (map T.names directories.old.items) k }
 {
     if number >= directories.len() {
         directories.reserve(number - directories.len() + 1)?;
     }
     while directories.len() <= number {
-        directories.push(Names::new(alloc))?;
+        directories.push(T::new(alloc))?;
     }
     Ok(())
 }
 
-impl Paths for Tree {
+impl<T: Table> Paths for Tree<T> {
     ghost names = { λ p. p };
 
     fn new(alloc: Global) -> Self {
@@ -78,11 +72,18 @@ impl Paths for Tree {
     }
 }
 
-impl PathStore for Tree {
-    type Loose = LooseTree;
+impl<T: SortedTable> PathStore for Tree<T> {
+    type Loose = Tree<T::Loose>;
 
-    fn ordered(alloc: Global, loose: LooseTree) -> Result<Self, AllocError> {
-        loose.sorted(alloc)
+    fn ordered(alloc: Global, loose: Tree<T::Loose>) -> Result<Self, AllocError> {
+        let Tree { directories } = loose;
+        let mut sorted = Vec::with_capacity(alloc, directories.len())?;
+        for names in directories {
+            sorted.push(T::sorted(names)?)?;
+        }
+        Ok(Tree {
+            directories: sorted,
+        })
     }
 
     fn take(&mut self, path: &Path) -> Option<usize> {

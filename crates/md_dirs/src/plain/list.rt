@@ -1,11 +1,7 @@
 // All paths in one list.
-ghost use Rattle.std.specs.Prelude.{◌≡◌, ◌<◌, ◌+◌, ◌^◌, OnOk, OnErr, IfOk, IfSome, IsSome, All, map, slice_get, find as first_with};
-ghost use Rattle.std.specs.Option.{option_map};
-ghost use Rattle.std.specs.FinMap as finmap;
-ghost use Rattle.md_dirs.specs.Path.{path_of};
+ghost use Rattle.std.specs.Prelude.{◌≡◌, IfOk, IsSome, All, map};
 ghost use Rattle.md_dirs.specs.State.{file_by};
-ghost use Rattle.md_dirs.specs.Rows.{is_named as is_named_by};
-ghost use Rattle.md_dirs.specs.Index.{rows_in, named_row};
+ghost use Rattle.md_dirs.specs.Index.{named_row};
 ghost use Rattle.md_dirs.specs.Files.{files_of, name_row};
 
 use crate::files::{Kept, shown_row};

@@ -1,7 +1,7 @@
 use Rattle.std.proofs.Common.{◌∙◌, sym}
 use Rattle.md_dirs.proofs.NameRows.{get-rows, get-within, row-key}
 use Rattle.md_dirs.proofs.Renamed.{in_order-set, found-key, renamed-is}
-use Rattle.md_dirs.proofs.index.names.Names.rename.Goals as goal
+use Rattle.md_dirs.proofs.index.names.NamesSortedTable.rename.Goals as goal
 
 pub replace_row-requires-clause-free : goal.replace_row-requires-clause-free
 replace_row-requires-clause-free c =

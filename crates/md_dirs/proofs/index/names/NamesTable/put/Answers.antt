@@ -1,5 +1,5 @@
 use Rattle.md_dirs.proofs.NameRows.{in_order, not_falling, put-is}
-use Rattle.md_dirs.proofs.index.names.Names.put.Goals as goal
+use Rattle.md_dirs.proofs.index.names.NamesTable.put.Goals as goal
 
 pub invariant_of-self-2 : goal.invariant_of-self-2
 invariant_of-self-2 c =

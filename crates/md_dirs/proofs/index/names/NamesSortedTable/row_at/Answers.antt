@@ -1,7 +1,7 @@
 use Rattle.std.proofs.Common.{sym, None, Some, arith}
 use Rattle.std.proofs.lemmas.Option.{slice_get_within}
 use Rattle.md_dirs.proofs.NameRows.{row-at}
-use Rattle.md_dirs.proofs.index.names.Names.row_at.Goals as goal
+use Rattle.md_dirs.proofs.index.names.NamesSortedTable.row_at.Goals as goal
 
 pub returns-in_err-name-clause-row : goal.returns-in_err-name-clause-row
 returns-in_err-name-clause-row c = rw (c.from_residual.ensures, ← c.self.view_is) (row-at c.self.inside.rows.entries c.args.at None c.self.invariant (sym c.in_err-name.ensures.entry))

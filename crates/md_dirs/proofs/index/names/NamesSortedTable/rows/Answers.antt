@@ -7,7 +7,7 @@ use Rattle.md_dirs.specs.Files.{files_of, name_row}
 use Rattle.md_dirs.specs.Index.{rows_by_name}
 use Rattle.md_dirs.specs.Rows.{row_by}
 use Rattle.md_dirs.proofs.NameRows.{entries-rows, read-row, take-read, all-read, length-rows}
-use Rattle.md_dirs.proofs.index.names.Names.rows.Goals as goal
+use Rattle.md_dirs.proofs.index.names.NamesSortedTable.rows.Goals as goal
 
 pub shown_row-requires : goal.shown_row-requires
 shown_row-requires c =

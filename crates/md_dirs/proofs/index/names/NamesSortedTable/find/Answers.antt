@@ -2,7 +2,7 @@ use Rattle.std.proofs.Common.{ℕ, List, Some, None, ◌∙◌, sym, ap, cond}
 use Rattle.std.specs.Option.{option_and_then}
 use Rattle.md_dirs.specs.Rows.{is_named as is_named_by}
 use Rattle.md_dirs.proofs.NameRows.{entries-rows, read-row, row-none}
-use Rattle.md_dirs.proofs.index.names.Names.find.Goals as goal
+use Rattle.md_dirs.proofs.index.names.NamesSortedTable.find.Goals as goal
 
 pub returns-in_err-name : goal.returns-in_err-name
 returns-in_err-name c =

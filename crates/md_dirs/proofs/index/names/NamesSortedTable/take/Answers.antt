@@ -1,6 +1,6 @@
 use Rattle.std.proofs.Common.{◌∙◌, sym}
 use Rattle.md_dirs.proofs.NameRows.{in_order-removed, get-rows, taken-is, by}
-use Rattle.md_dirs.proofs.index.names.Names.take.Goals as goal
+use Rattle.md_dirs.proofs.index.names.NamesSortedTable.take.Goals as goal
 
 pub invariant_of-self : goal.invariant_of-self
 invariant_of-self c = rw c.shift_remove.ensures.entries (in_order-removed (by c.args.name.now) c.self.inside.rows.entries c.self.invariant)
