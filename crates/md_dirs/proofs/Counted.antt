@@ -19,19 +19,7 @@ use Rattle.md_dirs.specs.declared.files.Kept.{Kept}
 use Rattle.md_dirs.proofs.PathOrder.{path_total, path_exact}
 use Rattle.md_dirs.proofs.Kept.{find-other}
 use Rattle.md_dirs.proofs.Sound.{by_number, get-set_same, get-set_other}
-
-first : (a b : Bool) → T (a && b) → T a
-first true b p = tt
-first false b p = p
-
-second : (a b : Bool) → T (a && b) → T b
-second true b p = p
-second false b p = absurd p
-
-less : (o : Ordering) → T (is_lt o) → o ≡ Less
-less Less p = refl
-less Equal p = absurd p
-less Greater p = absurd p
+use Rattle.md_dirs.proofs.Sorted.{first, second, less}
 
 -- one, where a path names the file of a number
 abbrev pub hits : ℕ → Option ℕ → ℕ

@@ -19,23 +19,7 @@ use Rattle.md_dirs.proofs.PathOrder.{path_total, path_exact}
 use Rattle.md_dirs.proofs.NameRows.{name_total, name_exact}
 use Rattle.md_dirs.proofs.Maps as maps
 use Rattle.md_dirs.proofs.Sound.{by_path, by_number}
-
-both : (a b : Bool) → T a → T b → T (a && b)
-both true b p q = q
-both false b p q = p
-
-first : (a b : Bool) → T (a && b) → T a
-first true b p = tt
-first false b p = p
-
-second : (a b : Bool) → T (a && b) → T b
-second true b p = p
-second false b p = absurd p
-
-less : (o : Ordering) → T (is_lt o) → o ≡ Less
-less Less p = refl
-less Equal p = absurd p
-less Greater p = absurd p
+use Rattle.md_dirs.proofs.Sorted.{first, second, both, less}
 
 -- numbers of directories
 place_by-index : (place : Place) → place_by (place_index place) ≡ place

@@ -17,7 +17,7 @@ use Rattle.std.proofs.lemmas.Cmp.{nat_list_cmp_total}
 use Rattle.std.proofs.lemmas.List.{take_more}
 use Rattle.std.proofs.lemmas.Map.Lookups.{CmpEqualImpliesEq, exact_bytes}
 use Rattle.md_dirs.specs.Index.{name_cmp, rows_by_name}
-use Rattle.md_dirs.proofs.Sorted.{holds, is_true}
+use Rattle.md_dirs.proofs.Sorted.{holds, is_true, first, second, both, less}
 use Rattle.md_dirs.proofs.Rowed.{get-map}
 
 pub name_total : IsTotalOrder name_cmp
@@ -33,24 +33,7 @@ same = pointwise nat_eq
 ties : (x y : List ℕ) → same x y ≡ eq_by_cmp name_cmp x y
 ties = lists_ties nat_cmp unsigned_ties
 
-both : (a b : Bool) → T a → T b → T (a && b)
-both true b p q = q
-both false b p q = p
-
-first : (a b : Bool) → T (a && b) → T a
-first true b p = tt
-first false b p = p
-
-second : (a b : Bool) → T (a && b) → T b
-second true b p = p
-second false b p = absurd p
-
-less : (o : Ordering) → T (is_lt o) → o ≡ Less
-less Less p = refl
-less Equal p = absurd p
-less Greater p = absurd p
-
-is_less : (x y : List ℕ) → name_cmp x y ≡ Less → T (is_lt (name_cmp x y))
+pub is_less : (x y : List ℕ) → name_cmp x y ≡ Less → T (is_lt (name_cmp x y))
 is_less x y is = subst (λ r. T (is_lt r)) (sym is) tt
 
 pub below-trans : (p q : List ℕ) (es : List (List ℕ × ℕ)) → name_cmp p q ≡ Less → T (below_all name_cmp q es) → T (below_all name_cmp p es)

@@ -11,29 +11,9 @@ use Rattle.std.specs.FinMap as finmap
 use Rattle.std.specs.FinMap.{is_sorted, from_sorted, same_map, get-insert, get-remove}
 use Rattle.std.specs.FinMap.Entries.{below_all}
 use Rattle.md_dirs.specs.Index.{name_cmp, rows_by_name, FitsAt, Renames}
-use Rattle.md_dirs.proofs.Sorted.{holds, is_true}
+use Rattle.md_dirs.proofs.Sorted.{holds, is_true, first, second, both, less}
 use Rattle.md_dirs.proofs.Counted.{map-set}
-use Rattle.md_dirs.proofs.NameRows.{Row, InOrder, by, same, name_total, name_exact, get-rows, length-rows, below-trans, turned-test, renamed-lookups}
-
-first : (a b : Bool) → T (a && b) → T a
-first true b p = tt
-first false b p = p
-
-second : (a b : Bool) → T (a && b) → T b
-second true b p = p
-second false b p = absurd p
-
-both : (a b : Bool) → T a → T b → T (a && b)
-both true b p q = q
-both false b p q = p
-
-less : (o : Ordering) → T (is_lt o) → o ≡ Less
-less Less p = refl
-less Equal p = absurd p
-less Greater p = absurd p
-
-is_less : (x y : List ℕ) → name_cmp x y ≡ Less → T (is_lt (name_cmp x y))
-is_less x y is = subst (λ r. T (is_lt r)) (sym is) tt
+use Rattle.md_dirs.proofs.NameRows.{Row, InOrder, by, same, name_total, name_exact, is_less, get-rows, length-rows, below-trans, turned-test, renamed-lookups}
 
 -- lists
 set-front : {X : Type 0} (xs : List X) (i : ℕ) (x y : X) → i < length xs → slice_set (xs ++ x ∷ []) i y ≡ slice_set xs i y ++ x ∷ []

@@ -20,27 +20,11 @@ use Rattle.md_dirs.proofs.Sound.{by_number}
 use Rattle.md_dirs.proofs.Rowed.{get-map}
 use Rattle.md_dirs.proofs.Directories.{path-number, same-directory, lower-directory, is-here, is-elsewhere}
 use Rattle.md_dirs.proofs.Zones.{zone-sorted, name-point, name-missing, first-is-info}
+use Rattle.md_dirs.proofs.Sorted.{first, second, both, less}
 
 -- the number of a row's directory
 abbrev pub number_at : Path × ℕ → ℕ
 number_at e = directory_number e.0.folder e.0.place
-
-first : (a b : Bool) → T (a && b) → T a
-first true b p = tt
-first false b p = p
-
-second : (a b : Bool) → T (a && b) → T b
-second true b p = p
-second false b p = absurd p
-
-both : (a b : Bool) → T a → T b → T (a && b)
-both true b p q = q
-both false b p q = p
-
-less : (o : Ordering) → T (is_lt o) → o ≡ Less
-less Less p = refl
-less Equal p = absurd p
-less Greater p = absurd p
 
 here : (folder : ℕ) (place : Place) (p : Path) → directory_number p.folder p.place ≡ directory_number folder place → is_in folder place p ≡ true
 here folder place p is = ap (is_in folder place) (sym (path-number p)) ∙ is-here (directory_number p.folder p.place) folder place p.name is

@@ -45,6 +45,10 @@ pub record Renames {Z : Type 0} (old : List (Vec ℕ Z × ℕ)) (i : ℕ) (name 
 abbrev pub order_at : List (List ℕ × ℕ) → ℕ → List ℕ → Ordering
 order_at rows i name = name_cmp (slice_index_or rows i ([], 0)).0 name
 
+-- a name is above the last row, if there is one
+abbrev pub EndsBelow : List (List ℕ × ℕ) → List ℕ → Type 0
+EndsBelow rows name = 0 < length rows → order_at rows (length rows - 1) name ≡ Less
+
 -- a name is above the row before a position and below the row behind it
 pub record FitsAt (rows : List (List ℕ × ℕ)) (i : ℕ) (name : List ℕ) : Type 0 where
   pub after : 0 < i → order_at rows (i - 1) name ≡ Less

@@ -2,7 +2,7 @@
 ghost use Rattle.std.specs.Prelude.{◌≡◌, ◌<◌, None, OnOk, OnErr, IsTrue, length, nat_lt, slice_set};
 ghost use Rattle.std.specs.FinMap.{is_sorted};
 ghost use Rattle.md_dirs.specs.Find.{zone, name_at, IsInfoPoint, IsFirstPlace};
-ghost use Rattle.md_dirs.specs.Index.{name_cmp, rows_by_name, order_at, FitsAt, get_name, Renames};
+ghost use Rattle.md_dirs.specs.Index.{name_cmp, rows_by_name, order_at, EndsBelow, FitsAt, get_name, Renames};
 
 use crate::files::{Kept, shown_row};
 use crate::index::loose::LooseNames;
@@ -80,6 +80,14 @@ fn first_place(rows: &IndexMap<Vec<u8>, usize>, unique: &[u8]) -> usize
     info_point(rows, unique)
 }
 
+// Whether a name is above the last row, so that it goes behind all.
+fn is_behind(rows: &IndexMap<Vec<u8>, usize>, name: &[u8]) -> bool
+    ensures { IsTrue result → EndsBelow (rows_by_name rows.now.entries) name.now }
+{
+    let count = rows.len();
+    count == 0 || compare_at(rows, count - 1, name).is_lt()
+}
+
 // Whether a name may take the place of the row at a position: it is above the row before and below the row behind.
 fn keeps_place(rows: &IndexMap<Vec<u8>, usize>, at: usize, name: &[u8]) -> bool
     requires { at < length rows.now.entries }
@@ -123,9 +131,13 @@ impl Table for Names {
         self.rows.get(name).copied()
     }
 
-    // At the end of the order no row moves.
+    // Names come in the order of time, so the last row is looked at first. Behind it no row moves.
     fn put(&mut self, name: Vec<u8>, file: usize) -> Result<(), AllocError> {
-        self.rows.insert_sorted(name, file)?;
+        if is_behind(&self.rows, name.as_slice()) {
+            self.rows.insert(name, file)?;
+        } else {
+            self.rows.insert_sorted(name, file)?;
+        }
         Ok(())
     }
 }
