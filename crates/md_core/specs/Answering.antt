@@ -18,9 +18,9 @@ use Rattle.md_core.specs.declared.jobs.effect.Effect.{Effect}
 use Rattle.md_core.specs.declared.jobs.step.DirReply.{DirReply}
 use Rattle.md_core.specs.declared.jobs.step.DirReply.TheVariants as reply
 use Rattle.md_core.specs.Alone.{alone}
-use Rattle.md_core.specs.Turn.{Asked, list, unlink}
-use Rattle.md_core.specs.Machine.{Machine, Done, Marked, answered, done, happens, job_at}
-use Rattle.md_core.specs.Runs.{Run, beginning, moment, done_at, jobs_of, call_at, box, first_step, dirs_at_first}
+use Rattle.md_core.specs.Turn.{create, list, unlink}
+use Rattle.md_core.specs.Machine.{Machine, Done, Marked, done, happens}
+use Rattle.md_core.specs.Runs.{Run, beginning, moment, done_at, call_at, box, first_step, dirs_at_first}
 
 -- event k is a step of the job, and this is what it did
 pub record IsStep (r : Run) (job k : ℕ) : Type 0 where
@@ -77,15 +77,21 @@ IsLost r job (call.Expunge folder u tries) = IsTouched r job u tries
 IsLost r job (call.Copy folder u to fresh tries) = IsTouched r job u tries
 IsLost r job (call.Clean folder) = ⊥
 
--- by its own clock, a step of the job came 24 hours or more behind its first
-pub record IsOutOfTime (r : Run) (job : ℕ) : Type 0 where
-  pub to : ℕ
+-- the step of a job that gave its answer was to unlink a path
+pub record HasUnlinked (r : Run) (job : ℕ) (p : Path) (a : Answer) : Type 0 where
+  pub k : ℕ
+  pub step : IsStep r job k
+  pub asked : step.what.asked ≡ unlink p
+  pub answer : step.what.answer ≡ Some a
+
+-- by its own clock, the step of a job that gave its answer came 24 hours or more behind its first, and was to unlink a path
+pub record IsOutOfTime (r : Run) (job : ℕ) (p : Path) : Type 0 where
   pub begun : IsStep r job (first_step r job)
-  pub late : IsStep r job to
-  pub seconds : 86400 ≤ late.what.at.own - begun.what.at.own
+  pub last : HasUnlinked r job p answer.TimedOut
+  pub seconds : 86400 ≤ last.step.what.at.own - begun.what.at.own
 
 abbrev pub IsTimedOut : Run → ℕ → Call → Type 0
-IsTimedOut r job (call.Deliver folder u body chunk) = IsOutOfTime r job
+IsTimedOut r job (call.Deliver folder u body chunk) = IsOutOfTime r job (path folder Tmp u)
 IsTimedOut r job c = ⊥
 
 -- at event k a clean takes a path away
@@ -138,6 +144,7 @@ pub record HasCleaned (r : Run) (job folder n : ℕ) : Type 0 where
   pub unlinks : List Done
   pub deeds : deeds_of r job ≡ look ∷ unlinks
   pub listed : look.asked ≡ list folder Tmp
+  pub ok : look.reply ≡ reply.Ok
   pub names : map (λ d. d.asked) unlinks
       ≡ map (λ row. unlink (path folder Tmp row.name)) (filter (is_unused look.at.own) (rows_of (dirs_at_first r job) folder Tmp))
   pub replies : All (λ d. (d.reply ≡ reply.Ok) ⊎ (d.reply ≡ reply.NotFound)) unlinks
@@ -147,20 +154,26 @@ abbrev pub IsCleaned : Run → ℕ → Call → ℕ → Type 0
 IsCleaned r job (call.Clean folder) n = HasCleaned r job folder n
 IsCleaned r job c n = ⊥
 
--- the step of a job that gave its answer was to unlink a path
-pub record HasUnlinked (r : Run) (job : ℕ) (p : Path) (a : Answer) : Type 0 where
-  pub k : ℕ
-  pub step : IsStep r job k
-  pub asked : step.what.asked ≡ unlink p
-  pub answer : step.what.answer ≡ Some a
-
 -- a delivery that is done has last unlinked its name in tmp, whatever the reply was
 abbrev pub IsDelivered : Run → ℕ → Call → Type 0
 IsDelivered r job (call.Deliver folder u body chunk) = HasUnlinked r job (path folder Tmp u) answer.Delivered
 IsDelivered r job c = Unit {0}
 
--- What each answer says of its job and its call. Those that say that the call was done are spoken of by its effect; Delivered says besides
--- that nothing of the delivery is left to do.
+-- the create of a path faulted, so that the job made no file
+pub record HasMadeNone (r : Run) (job : ℕ) (p : Path) : Type 0 where
+  pub k : ℕ
+  pub step : IsStep r job k
+  pub asked : step.what.asked ≡ create p
+  pub faulted : step.what.reply ≡ reply.Fault
+
+-- a delivery that faulted made no file in tmp, or has last unlinked its name there, whatever the reply was
+abbrev pub IsUndone : Run → ℕ → Call → Type 0
+IsUndone r job (call.Deliver folder u body chunk) =
+    HasMadeNone r job (path folder Tmp u) ⊎ HasUnlinked r job (path folder Tmp u) answer.Fault
+IsUndone r job c = Unit {0}
+
+-- What each answer says of its job and its call. Those that say that the call was done are spoken of by its effect. However a delivery
+-- ends, nothing of it is left to do: its name in tmp was unlinked last, unless that was never made or was gone.
 abbrev pub Says : Run → ℕ → Call → Answer → Type 0
 Says r job c answer.NotThere = IsOfSpan r job c answer.NotThere
 Says r job c answer.NotTrashed = IsOfSpan r job c answer.NotTrashed
@@ -168,7 +181,7 @@ Says r job c answer.OtherInfo = IsOfSpan r job c answer.OtherInfo
 Says r job c answer.Lost = IsLost r job c
 Says r job c answer.TimedOut = IsTimedOut r job c
 Says r job c answer.TmpGone = IsTmpGone r job c
-Says r job c answer.Fault = IsFaulted r job
+Says r job c answer.Fault = IsFaulted r job × IsUndone r job c
 Says r job c answer.NameTaken = ⊥
 Says r job c (answer.Cleaned n) = IsCleaned r job c n
 Says r job c answer.Delivered = IsDelivered r job c

@@ -1,6 +1,6 @@
 -- What holds of every run, whatever the order of its events and whichever directory calls fault.
 use Rattle.std.specs.Prelude.{ℕ, ◌≡◌, ◌≢◌, ◌+◌, ◌*◌, ◌≤◌, ◌<◌, ◌++◌, ◌∷◌, ◌⊎◌, List, [], Option, Some}
-use Rattle.std.specs.Prelude.{None, Bool, true, false, ◌==◌, filter, length, take, slice_get, suc, IfSome, is_some, count_by}
+use Rattle.std.specs.Prelude.{None, Bool, true, false, ◌==◌, filter, length, take, slice_get, IfSome, is_some, count_by}
 use Rattle.std.specs.Option.{option_to_list}
 use Rattle.std.specs.FinMap as finmap
 use Rattle.md_dirs.specs.State.{State, IsSound, file_at}

@@ -9,7 +9,7 @@ use Rattle.md_core.specs.Interleaving.{IsRun}
 use Rattle.md_core.specs.Answering.{Says}
 use Rattle.md_core.proofs.Answers.OfMailbox.{says_of_mailbox}
 use Rattle.md_core.proofs.Answers.OfTime.{says_of_time}
-use Rattle.md_core.proofs.Answers.Unlinks.{is-delivered}
+use Rattle.md_core.proofs.Answers.Unlinks.{is-delivered, is-faulted, is-undone}
 
 pub all-say : (r : Run) → IsRun r → (job : ℕ) (c : Call) (a : Answer) → call_at r.calls job ≡ Some c →
     job_at (jobs_of r) job ≡ Some (answered a) → Says r job c a
@@ -20,7 +20,7 @@ all-say r run job c answer.NotThere of is = says_of_mailbox r run job c answer.N
 all-say r run job c answer.NotTrashed of is = says_of_mailbox r run job c answer.NotTrashed of is tt
 all-say r run job c answer.OtherInfo of is = says_of_mailbox r run job c answer.OtherInfo of is tt
 all-say r run job c answer.Lost of is = says_of_mailbox r run job c answer.Lost of is tt
-all-say r run job c answer.Fault of is = says_of_mailbox r run job c answer.Fault of is tt
+all-say r run job c answer.Fault of is = (is-faulted r run job c of is, is-undone r run job c of is)
 all-say r run job c answer.NameTaken of is = says_of_mailbox r run job c answer.NameTaken of is tt
 all-say r run job c answer.Delivered of is = is-delivered r run job c of is
 all-say r run job c (answer.Flags s) of is = tt

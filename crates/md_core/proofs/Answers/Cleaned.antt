@@ -22,7 +22,7 @@ use Rattle.md_core.specs.declared.jobs.step.DirReply.{DirReply}
 use Rattle.md_core.specs.declared.jobs.step.DirReply.TheVariants as reply
 use Rattle.md_core.specs.declared.jobs.task.Task.{Task}
 use Rattle.md_core.specs.declared.jobs.task.Task.TheVariants.{Deliver, Mark, Move, Expunge, Copy, Clean}
-use Rattle.md_core.specs.Machine.{Machine, Standing, working, answered, Marked, Done, happens, done, job_at, new_job, standing_of, turn_of}
+use Rattle.md_core.specs.Machine.{Machine, Standing, working, answered, Marked, Done, happens, done, job_at, new_job, standing_of}
 use Rattle.md_core.specs.Machines.Clean.{old_rows, after_next, at_stage, tmp, stage_turn}
 use Rattle.md_core.specs.Turn.{Turn, Asked, list, unlink, rows_for}
 use Rattle.md_core.specs.Runs.{Run, beginning, run_from, moment, jobs_of, call_at, first_step, dirs_at_first}
@@ -101,6 +101,7 @@ module _ (r : Run) (job : ℕ) where
       pub unlinks : List Done
       pub deeds_are : deeds k ≡ look ∷ unlinks
       pub listed : look.asked ≡ list folder Tmp
+      pub ok : look.reply ≡ reply.Ok
       pub names : map (λ d. d.asked) unlinks ++ map takes left ≡ map (λ row. takes row.name)
           (old_rows look.at.own (rows_of (dirs_at_first r job) folder Tmp))
       pub replies : All IsFoundOrNot unlinks
@@ -147,8 +148,9 @@ module _ (r : Run) (job : ℕ) where
       this = done_in r k job t
 
       look-taken : (c : Cleaning) → c.folder ≡ folder → deeds k ≡ [] → k ≤ first_step r job → this.asked ≡ list c.folder Tmp →
+          this.reply ≡ reply.Ok →
           let old = old_rows (at r k job t).own (rows_of s c.folder Tmp) in HasTaken (k + 1) (map (λ row. row.name) old) (length old)
-      look-taken c in_folder none first asked =
+      look-taken c in_folder none first asked replied =
           let old = old_rows (at r k job t).own (rows_of s c.folder Tmp) in
           let same : first_step r job ≡ k = is-first r k job job t first refl in
           let size : length (map (λ (row : Row). row.name) old) ≡ length old = length-map old (λ row. row.name) in
@@ -157,6 +159,7 @@ module _ (r : Run) (job : ℕ) where
             unlinks = [];
             deeds_are = deeds-own k job t refl ∙ ap (λ (ds : List Done). ds ++ this ∷ []) none;
             listed = asked ∙ ap (λ f. list f Tmp) in_folder;
+            ok = replied;
             names = map-twice (λ (row : Row). row.name) takes old
                 ∙ (λ i. map (λ (row : Row). takes row.name)
                 (old_rows (at r k job t).own (rows_of (moment r (sym same i)).dirs (in_folder i) Tmp)));
@@ -176,6 +179,7 @@ module _ (r : Run) (job : ℕ) where
             unlinks = h.unlinks ++ this ∷ [];
             deeds_are = deeds-own k job t refl ∙ ap (λ (ds : List Done). ds ++ this ∷ []) h.deeds_are;
             listed = h.listed;
+            ok = h.ok;
             names = ap (λ (xs : List Asked). xs ++ map takes left) (map-append (λ (d : Done). d.asked) h.unlinks (this ∷ []))
                 ∙ append_assoc (map (λ (d : Done). d.asked) h.unlinks) (this.asked ∷ []) (map takes left)
                 ∙ ap (λ (a : Asked). map (λ (d : Done). d.asked) h.unlinks ++ a ∷ map takes left) asked ∙ h.names;
@@ -213,7 +217,7 @@ module _ (r : Run) (job : ℕ) where
           StandsAfter (stage_turn (at_stage c stage) (at r k job t).own stage) rep
       stage-stands c in_folder Look now reply.Ok asked replied =
           let old = old_rows (at r k job t).own (rows_of s c.folder Tmp) in
-          next-stands (k + 1) (at_stage c Look) old (length old) (look-taken c in_folder now.0 now.1 asked)
+          next-stands (k + 1) (at_stage c Look) old (length old) (look-taken c in_folder now.0 now.1 asked replied)
       stage-stands c in_folder Look now reply.Exists asked replied = tt
       stage-stands c in_folder Look now reply.NotFound asked replied = tt
       stage-stands c in_folder Look now reply.Fault asked replied = tt
@@ -254,6 +258,7 @@ module _ (r : Run) (job : ℕ) where
       unlinks = h.unlinks;
       deeds_are = same ∙ h.deeds_are;
       listed = h.listed;
+      ok = h.ok;
       names = h.names;
       replies = h.replies;
       count = h.count;
@@ -325,6 +330,7 @@ module _ (r : Run) (run : IsRun r) (job folder : ℕ) (of : call_at r.calls job 
         deeds = ap (λ (es : List Marked). filter (is_own r job) (deeds_from (beginning r.image r.calls) es))
             (sym (take_all end r.events (omega arith))) ∙ h.deeds_are;
         listed = h.listed;
+        ok = h.ok;
         names = sym (append-nil (map (λ (d : Done). d.asked) h.unlinks)) ∙ h.names;
         replies = h.replies;
         count = omega (arith, counted);

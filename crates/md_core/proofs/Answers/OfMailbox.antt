@@ -1,4 +1,4 @@
--- What each answer says that isn't of a delivery that is done, of time or of a clean.
+-- What each answer says that isn't of a delivery that is done, of a fault, of time or of a clean.
 use Rattle.std.proofs.Common.{ℕ, ◌≡◌, Some, refl}
 use Rattle.md_core.specs.declared.jobs.answer.Answer.{Answer}
 use Rattle.md_core.specs.declared.jobs.answer.Answer.TheVariants as answer
@@ -8,13 +8,14 @@ use Rattle.md_core.specs.Runs.{Run, jobs_of, call_at}
 use Rattle.md_core.specs.Interleaving.{IsRun}
 use Rattle.md_core.specs.Answering.{Says}
 use Rattle.md_core.proofs.Answers.LastStep.{LastStep, is-step, last-step}
-use Rattle.md_core.proofs.Answers.OfFault.{says-fault, says-taken, last-look}
+use Rattle.md_core.proofs.Answers.OfFault.{says-taken, last-look}
 use Rattle.md_core.proofs.Answers.OfSpan.{at-step, says-none}
 use Rattle.md_core.proofs.Answers.Tries.{says-lost}
 
--- the answers that are not of a delivery that is done, of time or of a clean
+-- the answers that are not of a delivery that is done, of a fault, of time or of a clean
 abbrev pub IsOfMailbox : Answer → Type 0
 IsOfMailbox answer.Delivered = ⊥
+IsOfMailbox answer.Fault = ⊥
 IsOfMailbox answer.TimedOut = ⊥
 IsOfMailbox answer.TmpGone = ⊥
 IsOfMailbox (answer.Cleaned n) = ⊥
@@ -31,7 +32,7 @@ says_of_mailbox r run job c a of is its = by a (last-step r run job a is) its
     by answer.OtherInfo last its =
         at-step r job last.k c answer.OtherInfo (is-step r last.k job last.turn) (last-look r run job c of answer.OtherInfo last tt)
     by answer.Lost last its = says-lost r run last.k job c of last.turn (last-look r run job c of answer.Lost last tt)
-    by answer.Fault last its = says-fault r run job c of answer.Fault last refl
+    by answer.Fault last its = absurd its
     by answer.NameTaken last its = says-taken r run job c of answer.NameTaken last refl
     by answer.TimedOut last its = absurd its
     by answer.TmpGone last its = absurd its

@@ -15,12 +15,13 @@ use Rattle.md_core.specs.Runs.{Run, moment, jobs_of, call_at, first_step}
 use Rattle.md_core.specs.Interleaving.{IsRun}
 use Rattle.md_core.specs.Answering.{IsStep, IsOutOfTime, IsGone, IsTimedOut, IsTmpGone, IsCleaned, Says}
 use Rattle.md_core.proofs.Good.{CleaningFits, TaskFits}
-use Rattle.md_core.proofs.Answers.LastStep.{IsTurn, last-step, is-step, done_in, done-in}
+use Rattle.md_core.proofs.Answers.LastStep.{IsTurn, last-step, is-step}
 use Rattle.md_core.proofs.Answers.Moments.{its-fits, at}
 use Rattle.md_core.proofs.Answers.Writing.{IsTaken}
 use Rattle.md_core.proofs.Answers.Given.{OfDelivery, task-says, gone-of, timed-of, clean-of}
 use Rattle.md_core.proofs.Answers.Cleaner.{IsDelivering, delivering}
 use Rattle.md_core.proofs.Answers.Cleaned.{has-cleaned}
+use Rattle.md_core.proofs.Answers.Unlinks.{asks-unlink}
 
 abbrev pub IsOfTime : Answer → Type 0
 IsOfTime answer.TimedOut = Unit {0}
@@ -54,13 +55,15 @@ module _ (r : Run) (run : IsRun r) (job : ℕ) (c : Call) (of : call_at r.calls 
       let h = of-it.2.1 in
       let own = h.own in
       let long : most_seconds ≤ (at r k job t).own - start = (let e = of-it.2.2 in grind (arith, nat_tests)) in
-      let out : IsOutOfTime r job = record {
-        to = k;
+      let d = of-it.0 in
+      let its = delivering r run k job t d of-it.1 in
+      let asked = asks-unlink r run job d.tmp.folder d.tmp.name d.body d.chunk answer.TimedOut tt its.of last in
+      let out : IsOutOfTime r job (path d.tmp.folder Tmp d.tmp.name) = record {
         begun = h.begun;
-        late = record { what = done_in r k job t; at = done-in r k job t; own = t.own };
+        last = record { k = k; step = is-step r k job t; asked = asked; answer = last.answer };
         seconds = omega (arith, long, own);
       } in
-      subst (IsTimedOut r job) (sym (call-is of-it.0 (delivering r run k job t of-it.0 of-it.1))) out
+      subst (IsTimedOut r job) (sym (call-is d its)) out
 
   is-gone : (k : ℕ) (t : IsTurn r k job) (p : Path) (begun : IsStep r job (first_step r job)) → IsTaken r job k p → IsGone r job p
   is-gone k t p begun gone =
