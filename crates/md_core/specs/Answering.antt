@@ -120,6 +120,24 @@ pub record IsFaulted (r : Run) (job : ℕ) : Type 0 where
   pub step : IsStep r job k
   pub faulted : step.what.reply ≡ reply.Fault
 
+-- the create of a path faulted, so that the job made no file
+pub record HasMadeNone (r : Run) (job : ℕ) (p : Path) : Type 0 where
+  pub k : ℕ
+  pub step : IsStep r job k
+  pub asked : step.what.asked ≡ create p
+  pub faulted : step.what.reply ≡ reply.Fault
+
+-- a delivery that faulted made no file in tmp, or has last unlinked its name there, whatever the reply was
+abbrev pub IsUndone : Run → ℕ → Call → Type 0
+IsUndone r job (call.Deliver folder u body chunk) =
+    HasMadeNone r job (path folder Tmp u) ⊎ HasUnlinked r job (path folder Tmp u) answer.Fault
+IsUndone r job c = Unit {0}
+
+-- a delivery that is done has last unlinked its name in tmp, whatever the reply was
+abbrev pub IsDelivered : Run → ℕ → Call → Type 0
+IsDelivered r job (call.Deliver folder u body chunk) = HasUnlinked r job (path folder Tmp u) answer.Delivered
+IsDelivered r job c = Unit {0}
+
 -- what events did, one after another
 unfoldable pub deeds_from : Machine → List Marked → List Done
 deeds_from m [] = []
@@ -154,26 +172,8 @@ abbrev pub IsCleaned : Run → ℕ → Call → ℕ → Type 0
 IsCleaned r job (call.Clean folder) n = HasCleaned r job folder n
 IsCleaned r job c n = ⊥
 
--- a delivery that is done has last unlinked its name in tmp, whatever the reply was
-abbrev pub IsDelivered : Run → ℕ → Call → Type 0
-IsDelivered r job (call.Deliver folder u body chunk) = HasUnlinked r job (path folder Tmp u) answer.Delivered
-IsDelivered r job c = Unit {0}
-
--- the create of a path faulted, so that the job made no file
-pub record HasMadeNone (r : Run) (job : ℕ) (p : Path) : Type 0 where
-  pub k : ℕ
-  pub step : IsStep r job k
-  pub asked : step.what.asked ≡ create p
-  pub faulted : step.what.reply ≡ reply.Fault
-
--- a delivery that faulted made no file in tmp, or has last unlinked its name there, whatever the reply was
-abbrev pub IsUndone : Run → ℕ → Call → Type 0
-IsUndone r job (call.Deliver folder u body chunk) =
-    HasMadeNone r job (path folder Tmp u) ⊎ HasUnlinked r job (path folder Tmp u) answer.Fault
-IsUndone r job c = Unit {0}
-
 -- What each answer says of its job and its call. Those that say that the call was done are spoken of by its effect. However a delivery
--- ends, nothing of it is left to do: its name in tmp was unlinked last, unless that was never made or was gone.
+-- ends, nothing of it is left to do: its name in tmp was unlinked last, unless it was never made or was gone.
 abbrev pub Says : Run → ℕ → Call → Answer → Type 0
 Says r job c answer.NotThere = IsOfSpan r job c answer.NotThere
 Says r job c answer.NotTrashed = IsOfSpan r job c answer.NotTrashed

@@ -10,7 +10,10 @@ mod memory;
 mod moves;
 mod runs;
 mod small;
+mod stops;
 mod submits;
+mod threads;
+mod tries;
 
 use crate::{Call, CoreError, Event, JobId, RunStop, StepOut, SubmitRefused, World};
 use md_dirs::{Bytes, Dirs, Place, PlainDirs};
@@ -74,17 +77,28 @@ fn step<D: Dirs>(
     job: JobId,
     now: u64,
 ) -> Result<StepOut, CoreError> {
+    step_by(rt, world, job, now, None)
+}
+
+// A refused step leaves the log, the effects and the answer, and is made again where memory was wanting.
+fn step_by<D: Dirs>(
+    rt: &impl Abort,
+    world: &mut World<D>,
+    job: JobId,
+    now: u64,
+    own: Option<u64>,
+) -> Result<StepOut, CoreError> {
     let events = world.log().len();
     let effects = world.effects().len();
     let answer = world.answer(job);
-    match world.step(job, now, None) {
+    match world.step(job, now, own) {
         Ok(out) => Ok(out),
         Err(error) => {
             assert_eq!(rt; world.log().len(), events);
             assert_eq!(rt; world.effects().len(), effects);
             assert_eq!(rt; world.answer(job), answer);
             if error == CoreError::NoMemory {
-                return world.step(job, now, None);
+                return world.step(job, now, own);
             }
             Err(error)
         }
@@ -112,11 +126,12 @@ fn one_delivery<D: Dirs + Drop>(
     alloc: Global,
     dirs: D,
 ) -> Result<World<D>, CoreError> {
-    let mut world = load(alloc, dirs)?;
     let call = delivery(alloc, 0, NAME, copied(alloc, BODY)?, 4)?;
-    let job = submit(rt, &mut world, call).map_err(|refused| refused.error)?;
-    assert_eq!(rt; job, 1);
-    Ok(world)
+    let mut world = load(alloc, dirs)?;
+    match submit(rt, &mut world, call) {
+        Ok(_) => Ok(world),
+        Err(refused) => Err(refused.error),
+    }
 }
 
 fn plain_delivery(rt: &impl Abort, alloc: Global) -> Result<World<PlainDirs>, CoreError> {

@@ -1,9 +1,10 @@
 // Worked runs of cleans.
-use super::moves::{Shown, lists};
+use super::moves::{Shown, lists, takes_at};
 use super::{load, submit};
-use crate::{Answer, Call, CoreError, DirCall, DirReply, StepOut, World};
+use crate::{Answer, Call, DirCall, DirReply, World};
 use md_dirs::{Bytes, DirError, ImageFile, Path, Place, PlainDirs};
 use std::alloc::Global;
+use std::process::Abort;
 use std::test::Fail;
 
 const LISTED: Shown = (DirCall::List(Place::Tmp), DirReply::Ok, None, false);
@@ -50,43 +51,26 @@ fn world_of(alloc: Global, files: &[(&[u8], u64)]) -> Result<World<PlainDirs>, F
     Ok(load(alloc, dirs)?)
 }
 
-// Whether the next step of a job at these moments shows this.
-fn shows(
-    world: &mut World<PlainDirs>,
-    job: u64,
-    now: u64,
-    own: Option<u64>,
-    step: Shown,
-) -> Result<bool, CoreError> {
-    let out = match world.step(job, now, own) {
-        Err(CoreError::NoMemory) => world.step(job, now, own)?,
-        out => out?,
-    };
-    let (call, reply, answer, effect) = step;
-    Ok(
-        out == StepOut {
-            call,
-            reply,
-            answer,
-            effect,
-        },
-    )
+// The files of tmp with their stamps; the moments of a clean, its steps, and the names that it leaves.
+type Row<'a> = (
+    &'a [(&'a [u8], u64)],
+    u64,
+    Option<u64>,
+    &'a [Shown],
+    &'a [&'a [u8]],
+);
+
+fn leaves(rt: &impl Abort, world: &mut World<PlainDirs>, row: &Row<'_>) -> Result<(), Fail> {
+    let (_, now, own, steps, left) = row;
+    let job = submit(rt, world, Call::Clean { folder: 0 })?;
+    takes_at(rt, world, job, (*now, *own), steps)?;
+    assert!(rt; lists(world, 0, Place::Tmp, left));
+    Ok(())
 }
 
-// Whether the next steps of a job at these moments show these.
-fn all_show(
-    world: &mut World<PlainDirs>,
-    job: u64,
-    now: u64,
-    own: Option<u64>,
-    steps: &[Shown],
-) -> Result<bool, CoreError> {
-    for step in steps {
-        if !shows(world, job, now, own, *step)? {
-            return Ok(false);
-        }
-    }
-    Ok(true)
+fn cleans(rt: &impl Abort, alloc: Global, row: &Row<'_>) -> Result<(), Fail> {
+    let mut world = world_of(alloc, row.0)?;
+    leaves(rt, &mut world, row)
 }
 
 #[test]
@@ -94,54 +78,28 @@ fn a_clean_removes_what_was_not_used_for_36_hours(rt: HostRuntime) -> Result<(),
     let x = [(b"x" as &[u8], 1000)];
     let x_and_y = [(b"x" as &[u8], 1000), (b"y", 130_600)];
     let both = [(b".x" as &[u8], 0), (b"y:2,", 0)];
-    for (files, now, own, steps, left) in [
-        (
-            &x as &[(&[u8], u64)],
-            130_599,
-            None,
-            &[NONE_OLD] as &[Shown],
-            &[b"x" as &[u8]] as &[&[u8]],
-        ),
-        (&x, 130_600, None, &[LISTED, cleaned(DirReply::Ok, 1)], &[]),
+    let one = [LISTED, cleaned(DirReply::Ok, 1)];
+    let two = [LISTED, REMOVED, cleaned(DirReply::Ok, 2)];
+    let rows: [Row<'_>; 7] = [
+        (&x, 130_599, None, &[NONE_OLD], &[b"x"]),
+        (&x, 130_600, None, &one, &[]),
         // The clock begins at the greatest stamp, and never goes back.
-        (
-            &x_and_y,
-            5,
-            None,
-            &[LISTED, cleaned(DirReply::Ok, 1)],
-            &[b"y"],
-        ),
-        (
-            &both,
-            129_600,
-            None,
-            &[LISTED, REMOVED, cleaned(DirReply::Ok, 2)],
-            &[],
-        ),
+        (&x_and_y, 5, None, &one, &[b"y"]),
+        (&both, 129_600, None, &two, &[]),
         // The age is by the own moment of the job.
         (&x, 116_199, Some(130_599), &[NONE_OLD], &[b"x"]),
-        (
-            &x,
-            116_200,
-            Some(130_600),
-            &[LISTED, cleaned(DirReply::Ok, 1)],
-            &[],
-        ),
+        (&x, 116_200, Some(130_600), &one, &[]),
         (&x, 130_600, Some(0), &[NONE_OLD], &[b"x"]),
-    ] {
-        let mut world = world_of(rt.alloc(), files)?;
-        let job = submit(&rt, &mut world, Call::Clean { folder: 0 })?;
-        assert!(rt; all_show(&mut world, job, now, own, steps)?);
-        assert!(rt; lists(&world, 0, Place::Tmp, left));
+    ];
+    for row in &rows {
+        cleans(&rt, rt.alloc(), row)?;
     }
     Ok(())
 }
 
-#[test]
-fn each_file_is_counted_by_the_clean_that_removed_it(rt: HostRuntime) -> Result<(), Fail> {
-    let mut world = world_of(rt.alloc(), &[(b"x", 0), (b"y", 0), (b"z", 0)])?;
+fn each_counts_its_own(rt: &impl Abort, world: &mut World<PlainDirs>) -> Result<(), Fail> {
     for _ in 0..2 {
-        submit(&rt, &mut world, Call::Clean { folder: 0 })?;
+        submit(rt, world, Call::Clean { folder: 0 })?;
     }
     for (job, step) in [
         (1, LISTED),
@@ -153,8 +111,14 @@ fn each_file_is_counted_by_the_clean_that_removed_it(rt: HostRuntime) -> Result<
         (2, cleaned(DirReply::Ok, 2)),
         (1, cleaned(DirReply::NotFound, 1)),
     ] {
-        assert!(rt; shows(&mut world, job, 129_600, None, step)?);
+        takes_at(rt, world, job, (129_600, None), &[step])?;
     }
-    assert!(rt; lists(&world, 0, Place::Tmp, &[]));
+    assert!(rt; lists(world, 0, Place::Tmp, &[]));
     Ok(())
+}
+
+#[test]
+fn each_file_is_counted_by_the_clean_that_removed_it(rt: HostRuntime) -> Result<(), Fail> {
+    let mut world = world_of(rt.alloc(), &[(b"x", 0), (b"y", 0), (b"z", 0)])?;
+    each_counts_its_own(&rt, &mut world)
 }

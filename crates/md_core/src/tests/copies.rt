@@ -41,6 +41,11 @@ fn is_copied(
     Ok(())
 }
 
+fn shows(rt: &impl Abort, alloc: Global, name: &[u8], copy: &[u8]) -> Result<(), Fail> {
+    let mut world = world_of(alloc, Some((Place::Cur, name)))?;
+    is_copied(rt, alloc, &mut world, name, copy)
+}
+
 #[test]
 fn a_copy_shows_the_flags_in_their_one_spelling(rt: HostRuntime) -> Result<(), Fail> {
     for (name, copy) in [
@@ -48,8 +53,7 @@ fn a_copy_shows_the_flags_in_their_one_spelling(rt: HostRuntime) -> Result<(), F
         (b"u:2,", b"v:2,"),
         (b"u", b"v"),
     ] {
-        let mut world = world_of(rt.alloc(), Some((Place::Cur, name)))?;
-        is_copied(&rt, rt.alloc(), &mut world, name, copy)?;
+        shows(&rt, rt.alloc(), name, copy)?;
     }
     Ok(())
 }
@@ -67,29 +71,28 @@ fn is_lost(rt: &impl Abort, alloc: Global, world: &mut World<PlainDirs>) -> Resu
     takes(rt, world, copy, &[LOST])?;
     assert!(rt; lists(world, 0, Place::Cur, &[]));
     assert!(rt; lists(world, 1, Place::Cur, &[b"u"]));
+    // The fresh name is used all the same.
+    assert!(rt; is_used(rt, alloc, world, b"v")?);
     Ok(())
 }
 
 #[test]
 fn a_message_that_is_gone_at_the_link_is_lost(rt: HostRuntime) -> Result<(), Fail> {
     let mut world = world_of(rt.alloc(), Some((Place::Cur, b"u")))?;
-    is_lost(&rt, rt.alloc(), &mut world)?;
-    // The fresh name is used all the same.
-    assert!(rt; is_used(&rt, rt.alloc(), &mut world, b"v")?);
+    is_lost(&rt, rt.alloc(), &mut world)
+}
+
+fn is_other(rt: &impl Abort, alloc: Global, world: &mut World<PlainDirs>) -> Result<(), Fail> {
+    let job = submit(rt, world, copying(alloc, 0)?)?;
+    let other = Some(Answer::OtherInfo);
+    let found = (DirCall::List(Place::New), DirReply::Ok, other, false);
+    takes(rt, world, job, &[found])?;
+    assert!(rt; lists(world, 0, Place::New, &[b"u:1,x"]));
     Ok(())
 }
 
 #[test]
 fn a_message_with_other_info_is_not_copied(rt: HostRuntime) -> Result<(), Fail> {
     let mut world = world_of(rt.alloc(), Some((Place::New, b"u:1,x")))?;
-    let job = submit(&rt, &mut world, copying(rt.alloc(), 0)?)?;
-    let other = (
-        DirCall::List(Place::New),
-        DirReply::Ok,
-        Some(Answer::OtherInfo),
-        false,
-    );
-    takes(&rt, &mut world, job, &[other])?;
-    assert!(rt; lists(&world, 0, Place::New, &[b"u:1,x"]));
-    Ok(())
+    is_other(&rt, rt.alloc(), &mut world)
 }

@@ -1,10 +1,11 @@
 // Worked runs of expunges.
 use super::moves::{Shown, lists, takes, world_of};
 use super::{copied, submit};
-use crate::{Answer, Call, DirCall, DirReply};
-use md_dirs::Place;
+use crate::{Answer, Call, DirCall, DirReply, World};
+use md_dirs::{Place, PlainDirs};
 use md_name::Flags;
 use std::alloc::{AllocError, Global};
+use std::process::Abort;
 use std::test::Fail;
 
 const LIST: DirCall = DirCall::List(Place::Cur);
@@ -44,44 +45,74 @@ fn untrashing(alloc: Global, trashed: Flags) -> Result<Call, AllocError> {
     })
 }
 
+// A message of this place and name, and the steps of its expunge, after which it stays or is gone.
+type Row<'a> = (Place, &'a [u8], &'a [Shown], bool);
+
+fn expunges(
+    rt: &impl Abort,
+    alloc: Global,
+    world: &mut World<PlainDirs>,
+    row: &Row<'_>,
+) -> Result<(), Fail> {
+    let (place, name, steps, stays) = row;
+    let job = submit(rt, world, expunging(alloc, 1)?)?;
+    takes(rt, world, job, steps)?;
+    assert_eq!(rt; lists(world, 0, *place, &[*name]), *stays);
+    assert_eq!(rt; world.read(b"u").is_some(), *stays);
+    Ok(())
+}
+
+fn ends_so(rt: &impl Abort, alloc: Global, row: &Row<'_>) -> Result<(), Fail> {
+    let mut world = world_of(alloc, Some((row.0, row.1)))?;
+    expunges(rt, alloc, &mut world, row)
+}
+
 #[test]
 fn a_message_of_cur_goes_where_it_is_trashed(rt: HostRuntime) -> Result<(), Fail> {
-    for (place, name, steps, stays) in [
-        (
-            Place::Cur,
-            b"u:2,TTS" as &[u8],
-            &[IN_CUR, EXPUNGED] as &[Shown],
-            false,
-        ),
+    let rows: [Row<'_>; 5] = [
+        (Place::Cur, b"u:2,TTS", &[IN_CUR, EXPUNGED], false),
         (Place::Cur, b"u:2,S", &[NOT_TRASHED], true),
         (Place::Cur, b"u", &[NOT_TRASHED], true),
         (Place::Cur, b"u:1,T", &[NOT_TRASHED], true),
         (Place::New, b"u:2,T", &[NOT_THERE], true),
-    ] {
-        let mut world = world_of(rt.alloc(), Some((place, name)))?;
-        let call = expunging(rt.alloc(), 1)?;
-        let job = submit(&rt, &mut world, call)?;
-        takes(&rt, &mut world, job, steps)?;
-        assert_eq!(rt; lists(&world, 0, place, &[name]), stays);
-        assert_eq!(rt; world.read(b"u").is_some(), stays);
+    ];
+    for row in &rows {
+        ends_so(&rt, rt.alloc(), row)?;
     }
     Ok(())
 }
 
+// Another job takes the flag T away between the look-up and the unlink of an expunge, which then takes these steps.
+fn is_untrashed(
+    rt: &impl Abort,
+    alloc: Global,
+    world: &mut World<PlainDirs>,
+    tries: u64,
+    later: &[Shown],
+) -> Result<(), Fail> {
+    let renamed = Some(Answer::Flags(Flags::parse(b"S")?));
+    let expunge = submit(rt, world, expunging(alloc, tries)?)?;
+    let flag = submit(rt, world, untrashing(alloc, Flags::parse(b"T")?)?)?;
+    takes(rt, world, expunge, &[IN_CUR])?;
+    let steps = [IN_CUR, (DirCall::Rename, DirReply::Ok, renamed, true)];
+    takes(rt, world, flag, &steps)?;
+    takes(rt, world, expunge, later)?;
+    assert!(rt; lists(world, 0, Place::Cur, &[b"u:2,S"]));
+    Ok(())
+}
+
+fn is_looked_for_again(
+    rt: &impl Abort,
+    alloc: Global,
+    tries: u64,
+    later: &[Shown],
+) -> Result<(), Fail> {
+    let mut world = world_of(alloc, Some((Place::Cur, b"u:2,ST")))?;
+    is_untrashed(rt, alloc, &mut world, tries, later)
+}
+
 #[test]
 fn a_name_that_is_gone_at_the_unlink_is_looked_for_again(rt: HostRuntime) -> Result<(), Fail> {
-    let renamed = Some(Answer::Flags(Flags::parse(b"S")?));
-    for (tries, later) in [(1, &[LOST] as &[Shown]), (2, &[GONE, NOT_TRASHED])] {
-        let mut world = world_of(rt.alloc(), Some((Place::Cur, b"u:2,ST")))?;
-        let call = expunging(rt.alloc(), tries)?;
-        let expunge = submit(&rt, &mut world, call)?;
-        let call = untrashing(rt.alloc(), Flags::parse(b"T")?)?;
-        let flag = submit(&rt, &mut world, call)?;
-        takes(&rt, &mut world, expunge, &[IN_CUR])?;
-        let steps = [IN_CUR, (DirCall::Rename, DirReply::Ok, renamed, true)];
-        takes(&rt, &mut world, flag, &steps)?;
-        takes(&rt, &mut world, expunge, later)?;
-        assert!(rt; lists(&world, 0, Place::Cur, &[b"u:2,S"]));
-    }
-    Ok(())
+    is_looked_for_again(&rt, rt.alloc(), 1, &[LOST])?;
+    is_looked_for_again(&rt, rt.alloc(), 2, &[GONE, NOT_TRASHED])
 }

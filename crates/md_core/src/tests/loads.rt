@@ -6,8 +6,8 @@ use std::alloc::{AllocError, Global};
 use std::process::Abort;
 use std::test::Fail;
 
-// A file by its folder, its place, its name and its stamp.
-type Named<'a> = (u32, Place, &'a [u8], u64);
+/// A file by its folder, its place, its name and its stamp.
+pub(super) type Named<'a> = (u32, Place, &'a [u8], u64);
 
 // Directories of two folders.
 fn built(alloc: Global, files: &[Named<'_>]) -> Result<PlainDirs, DirError> {
@@ -108,50 +108,63 @@ fn names_have_no_separator(rt: HostRuntime) -> Result<(), Fail> {
     Ok(())
 }
 
+// A name of the second folder, of 255 bytes.
+fn long_name(first: u8, unique: usize) -> [u8; 255] {
+    let mut name = [b'u'; 255];
+    name[0] = first;
+    if unique < 255 {
+        name[unique] = b':';
+    }
+    name
+}
+
+// A place, the first byte of a name, the length of its unique part and of the whole, and the refusal.
+static LONG: [(Place, u8, usize, usize, Option<CoreError>); 8] = [
+    (Place::Cur, b'u', 200, 200, None),
+    (Place::Cur, b'u', 200, 201, None),
+    (Place::Cur, b'u', 200, 255, None),
+    (Place::New, b'u', 201, 201, Some(CoreError::LongUnique)),
+    (Place::Cur, b'u', 201, 201, Some(CoreError::LongUnique)),
+    (Place::Cur, b'u', 201, 255, Some(CoreError::LongUnique)),
+    // A file in tmp and a name that begins with a dot are no messages.
+    (Place::Tmp, b'u', 201, 201, None),
+    (Place::New, b'.', 201, 201, None),
+];
+
 #[test]
 fn unique_parts_have_200_bytes_at_most(rt: HostRuntime) -> Result<(), Fail> {
-    let mut name = [b'u'; 255];
-    name[200] = b':';
-    for len in [200, 201, 255] {
-        let files = [(1, Place::Cur, &name[..len], 0)];
-        assert!(rt; refusal(&rt, rt.alloc(), &files)? == None, "{len}");
+    for (place, first, unique, len, want) in LONG {
+        assert!(rt; len <= 255);
+        let name = long_name(first, unique);
+        let found = refusal(&rt, rt.alloc(), &[(1, place, &name[..len], 0)])?;
+        assert_eq!(rt; found, want, "{unique} of {len}");
     }
-    name[200] = b'u';
-    for place in [Place::New, Place::Cur] {
-        let files = [(1, place, &name[..201], 0)];
-        assert!(rt; refusal(&rt, rt.alloc(), &files)? == Some(CoreError::LongUnique));
-    }
-    // A file in tmp and a name that begins with a dot are no messages.
-    let tmp = [(1, Place::Tmp, &name[..201], 0)];
-    assert!(rt; refusal(&rt, rt.alloc(), &tmp)? == None);
-    name[0] = b'.';
-    let dot = [(1, Place::New, &name[..201], 0)];
-    assert!(rt; refusal(&rt, rt.alloc(), &dot)? == None);
     Ok(())
 }
 
+// Files beside the message a, and whether it has their unique part too.
+static SECOND: [(Named<'static>, bool); 8] = [
+    ((0, Place::New, b"a:2,S", 0), true),
+    ((0, Place::Cur, b"a", 0), true),
+    ((1, Place::New, b"a:x", 0), true),
+    ((1, Place::Cur, b"a:", 0), true),
+    ((0, Place::Tmp, b"a", 0), false),
+    ((1, Place::Tmp, b"a:2,S", 0), false),
+    ((1, Place::New, b".a", 0), false),
+    ((1, Place::Cur, b"a!", 0), false),
+];
+
 #[test]
 fn a_unique_part_has_one_message(rt: HostRuntime) -> Result<(), Fail> {
-    let first = (0, Place::New, b"a".as_slice(), 0);
-    let again: [Named<'_>; 4] = [
-        (0, Place::New, b"a:2,S", 0),
-        (0, Place::Cur, b"a", 0),
-        (1, Place::New, b"a:x", 0),
-        (1, Place::Cur, b"a:", 0),
-    ];
-    for second in again {
-        let files = [first, second];
-        assert!(rt; refusal(&rt, rt.alloc(), &files)? == Some(CoreError::DuplicateUnique));
-    }
-    let others: [Named<'_>; 4] = [
-        (0, Place::Tmp, b"a", 0),
-        (1, Place::Tmp, b"a:2,S", 0),
-        (1, Place::New, b".a", 0),
-        (1, Place::Cur, b"a!", 0),
-    ];
-    for second in others {
-        let files = [first, second];
-        assert!(rt; refusal(&rt, rt.alloc(), &files)? == None);
+    for (at, (second, is_alike)) in SECOND.iter().enumerate() {
+        let files = [(0, Place::New, b"a".as_slice(), 0), *second];
+        let found = refusal(&rt, rt.alloc(), &files)?;
+        let want = if *is_alike {
+            Some(CoreError::DuplicateUnique)
+        } else {
+            None
+        };
+        assert_eq!(rt; found, want, "row {at}");
     }
     Ok(())
 }
@@ -170,26 +183,43 @@ fn files_that_are_no_messages_may_be_alike(rt: HostRuntime) -> Result<(), Fail> 
     Ok(())
 }
 
+// Files with two faults, and that which is met first.
+static FAULTS: [(&[Named<'static>], CoreError); 5] = [
+    // By folder.
+    (
+        &[(1, Place::Tmp, b"a/b", 0), (0, Place::Cur, &[b'a'; 201], 0)],
+        CoreError::LongUnique,
+    ),
+    // By place: tmp, then new, then cur.
+    (
+        &[(1, Place::New, &[b'a'; 201], 0), (1, Place::Tmp, b"z/", 0)],
+        CoreError::BadName,
+    ),
+    (
+        &[
+            (1, Place::Cur, b"!/", 0),
+            (1, Place::New, b"u", 0),
+            (0, Place::Cur, b"u:2,", 0),
+        ],
+        CoreError::DuplicateUnique,
+    ),
+    // By name.
+    (
+        &[(0, Place::New, b"b/", 0), (0, Place::New, &[b'a'; 201], 0)],
+        CoreError::LongUnique,
+    ),
+    (
+        &[(0, Place::New, b"Z/", 0), (0, Place::New, &[b'a'; 201], 0)],
+        CoreError::BadName,
+    ),
+];
+
 #[test]
 fn the_first_fault_is_the_refusal(rt: HostRuntime) -> Result<(), Fail> {
-    let long = [b'a'; 201];
-    // By folder.
-    let files: [Named<'_>; 2] = [(1, Place::Tmp, b"a/b", 0), (0, Place::Cur, &long, 0)];
-    assert!(rt; refusal(&rt, rt.alloc(), &files)? == Some(CoreError::LongUnique));
-    // By place: tmp, then new, then cur.
-    let files: [Named<'_>; 2] = [(1, Place::New, &long, 0), (1, Place::Tmp, b"z/", 0)];
-    assert!(rt; refusal(&rt, rt.alloc(), &files)? == Some(CoreError::BadName));
-    let files: [Named<'_>; 3] = [
-        (1, Place::Cur, b"!/", 0),
-        (1, Place::New, b"u", 0),
-        (0, Place::Cur, b"u:2,", 0),
-    ];
-    assert!(rt; refusal(&rt, rt.alloc(), &files)? == Some(CoreError::DuplicateUnique));
-    // By name.
-    let files: [Named<'_>; 2] = [(0, Place::New, b"b/", 0), (0, Place::New, &long, 0)];
-    assert!(rt; refusal(&rt, rt.alloc(), &files)? == Some(CoreError::LongUnique));
-    let files: [Named<'_>; 2] = [(0, Place::New, b"Z/", 0), (0, Place::New, &long, 0)];
-    assert!(rt; refusal(&rt, rt.alloc(), &files)? == Some(CoreError::BadName));
+    for (at, (files, want)) in FAULTS.iter().enumerate() {
+        let found = refusal(&rt, rt.alloc(), files)?;
+        assert_eq!(rt; found, Some(*want), "row {at}");
+    }
     Ok(())
 }
 
@@ -212,6 +242,13 @@ static NOT_READ: [&[u8]; 9] = [
     b"", b"t", b".hid", b"b:2,S", b"c:", b"d:x", b"b\xff", b"z", b"\xff",
 ];
 
+fn reads_them(world: &World<PlainDirs>) -> bool {
+    let all_read = READ
+        .iter()
+        .all(|(unique, bytes)| world.read(unique) == Some(*bytes));
+    all_read && NOT_READ.iter().all(|unique| world.read(unique) == None)
+}
+
 #[test]
 fn messages_are_read_by_their_unique_names(rt: HostRuntime) -> Result<(), Fail> {
     let files: [Named<'_>; 12] = [
@@ -229,12 +266,7 @@ fn messages_are_read_by_their_unique_names(rt: HostRuntime) -> Result<(), Fail> 
         (1, Place::Cur, b"\xff\xfe", 0),
     ];
     let world = load(&rt, rt.alloc(), &files)??;
-    for (unique, bytes) in READ {
-        assert!(rt; world.read(unique) == Some(bytes));
-    }
-    for unique in NOT_READ {
-        assert!(rt; world.read(unique) == None);
-    }
+    assert!(rt; reads_them(&world));
     Ok(())
 }
 
@@ -294,6 +326,21 @@ pub(super) fn is_used(
     }
 }
 
+// In tmp the whole name is used.
+fn are_used(rt: &impl Abort, alloc: Global, world: &mut World<PlainDirs>) -> Result<(), Fail> {
+    for (name, used) in [
+        (b"t".as_slice(), true),
+        (b"n", true),
+        (b"c", true),
+        (b"hid", true),
+        (b"x", false),
+    ] {
+        let found = is_used(rt, alloc, world, name)?;
+        assert_eq!(rt; found, used, "{name:?}");
+    }
+    Ok(())
+}
+
 #[test]
 fn names_of_the_beginning_are_used(rt: HostRuntime) -> Result<(), Fail> {
     let files: [Named<'_>; 5] = [
@@ -304,20 +351,7 @@ fn names_of_the_beginning_are_used(rt: HostRuntime) -> Result<(), Fail> {
         (1, Place::Cur, b"hid:", 0),
     ];
     let mut world = load(&rt, rt.alloc(), &files)??;
-    // In tmp the whole name is used.
-    for (name, used) in [
-        (b"t".as_slice(), true),
-        (b"n", true),
-        (b"c", true),
-        (b"hid", true),
-        (b"x", false),
-    ] {
-        assert!(rt;
-            is_used(&rt, rt.alloc(), &mut world, name)? == used,
-            "{name:?}"
-        );
-    }
-    Ok(())
+    are_used(&rt, rt.alloc(), &mut world)
 }
 
 /// The stamp of the first file of tmp of folder 0, once a delivery began at this moment.
@@ -346,7 +380,16 @@ fn the_clock_begins_at_the_greatest_stamp(rt: HostRuntime) -> Result<(), Fail> {
         (0, Place::New, b"z", 5),
     ];
     let mut world = load(&rt, rt.alloc(), &files)??;
-    let stamp = stamp_at(&rt, rt.alloc(), &mut world, 7)?;
-    assert_eq!(rt; stamp, Some(130_600));
+    has_stamp(&rt, rt.alloc(), &mut world, 130_600)
+}
+
+fn has_stamp(
+    rt: &impl Abort,
+    alloc: Global,
+    world: &mut World<PlainDirs>,
+    stamp: u64,
+) -> Result<(), Fail> {
+    let found = stamp_at(rt, alloc, world, 7)?;
+    assert_eq!(rt; found, Some(stamp));
     Ok(())
 }

@@ -11,7 +11,7 @@ use std::test::Fail;
 
 const IN_NEW: Shown = (DirCall::List(Place::New), DirReply::Ok, None, false);
 
-const IN_CUR: Shown = (DirCall::List(Place::Cur), DirReply::Ok, None, false);
+pub(super) const IN_CUR: Shown = (DirCall::List(Place::Cur), DirReply::Ok, None, false);
 
 // A seen-move that adds S.
 fn seeing(alloc: Global) -> Result<Call, Fail> {
@@ -23,8 +23,8 @@ fn seeing(alloc: Global) -> Result<Call, Fail> {
     })
 }
 
-// A flag change that adds these letters.
-fn flagging(alloc: Global, add: &[u8], tries: u64) -> Result<Call, Fail> {
+/// A flag change that adds these letters.
+pub(super) fn flagging(alloc: Global, add: &[u8], tries: u64) -> Result<Call, Fail> {
     Ok(Call::Flag {
         folder: 0,
         unique: copied(alloc, b"u")?,
@@ -40,16 +40,6 @@ fn gives(call: DirCall, letters: &[u8]) -> Result<Shown, Fail> {
     Ok((call, DirReply::Ok, Some(Answer::Flags(flags)), true))
 }
 
-#[test]
-fn a_seen_message_goes_to_cur_with_its_flags_joined(rt: HostRuntime) -> Result<(), Fail> {
-    let steps = [IN_NEW, gives(DirCall::Rename, b"FS")?];
-    let mut world = world_of(rt.alloc(), Some((Place::New, b"u:2,F")))?;
-    marks(&rt, &mut world, seeing(rt.alloc())?, &steps)?;
-    assert!(rt; lists(&world, 0, Place::New, &[]));
-    assert!(rt; lists(&world, 0, Place::Cur, &[b"u:2,FS"]));
-    Ok(())
-}
-
 // Submits a call, whose job takes these steps.
 fn marks(
     rt: &impl Abort,
@@ -62,25 +52,49 @@ fn marks(
     Ok(())
 }
 
-#[test]
-fn flags_that_are_there_leave_the_spelling(rt: HostRuntime) -> Result<(), Fail> {
-    let same = [gives(DirCall::List(Place::Cur), b"STa")?];
-    let other = [IN_CUR, gives(DirCall::Rename, b"FSTa")?];
-    let mut world = world_of(rt.alloc(), Some((Place::Cur, b"u:2,TSSa")))?;
-    marks(&rt, &mut world, flagging(rt.alloc(), b"S", 1)?, &same)?;
-    assert!(rt; lists(&world, 0, Place::Cur, &[b"u:2,TSSa"]));
-    marks(&rt, &mut world, flagging(rt.alloc(), b"F", 1)?, &other)?;
-    assert!(rt; lists(&world, 0, Place::Cur, &[b"u:2,FSTa"]));
+fn goes_to_cur(rt: &impl Abort, alloc: Global, world: &mut World<PlainDirs>) -> Result<(), Fail> {
+    let steps = [IN_NEW, gives(DirCall::Rename, b"FS")?];
+    marks(rt, world, seeing(alloc)?, &steps)?;
+    assert!(rt; lists(world, 0, Place::New, &[]));
+    assert!(rt; lists(world, 0, Place::Cur, &[b"u:2,FS"]));
     Ok(())
 }
 
-// Two flaggers look one after the other, and the first renames; the second, which has so many tries, then takes these steps.
+#[test]
+fn a_seen_message_goes_to_cur_with_its_flags_joined(rt: HostRuntime) -> Result<(), Fail> {
+    let mut world = world_of(rt.alloc(), Some((Place::New, b"u:2,F")))?;
+    goes_to_cur(&rt, rt.alloc(), &mut world)
+}
+
+fn stays_and_changes(
+    rt: &impl Abort,
+    alloc: Global,
+    world: &mut World<PlainDirs>,
+) -> Result<(), Fail> {
+    let same = [gives(DirCall::List(Place::Cur), b"STa")?];
+    let other = [IN_CUR, gives(DirCall::Rename, b"FSTa")?];
+    marks(rt, world, flagging(alloc, b"S", 1)?, &same)?;
+    assert!(rt; lists(world, 0, Place::Cur, &[b"u:2,TSSa"]));
+    marks(rt, world, flagging(alloc, b"F", 1)?, &other)?;
+    assert!(rt; lists(world, 0, Place::Cur, &[b"u:2,FSTa"]));
+    Ok(())
+}
+
+#[test]
+fn flags_that_are_there_leave_the_spelling(rt: HostRuntime) -> Result<(), Fail> {
+    let mut world = world_of(rt.alloc(), Some((Place::Cur, b"u:2,TSSa")))?;
+    stays_and_changes(&rt, rt.alloc(), &mut world)
+}
+
+// Two flaggers look one after the other, and the first renames; the second, which has so many tries, then takes these steps. Then the message
+// has this name.
 fn race(
     rt: &impl Abort,
     alloc: Global,
     world: &mut World<PlainDirs>,
     tries: u64,
     steps: &[Shown],
+    name: &[u8],
 ) -> Result<(), Fail> {
     let first = submit(rt, world, flagging(alloc, b"F", 2)?)?;
     let second = submit(rt, world, flagging(alloc, b"R", tries)?)?;
@@ -88,7 +102,19 @@ fn race(
     takes(rt, world, second, &[IN_CUR])?;
     takes(rt, world, first, &[gives(DirCall::Rename, b"FS")?])?;
     takes(rt, world, second, steps)?;
+    assert!(rt; lists(world, 0, Place::Cur, &[name]));
     Ok(())
+}
+
+fn race_for(
+    rt: &impl Abort,
+    alloc: Global,
+    tries: u64,
+    steps: &[Shown],
+    name: &[u8],
+) -> Result<(), Fail> {
+    let mut world = world_of(alloc, Some((Place::Cur, b"u:2,S")))?;
+    race(rt, alloc, &mut world, tries, steps, name)
 }
 
 #[test]
@@ -101,13 +127,6 @@ fn the_second_of_two_flaggers_looks_again_or_is_lost(rt: HostRuntime) -> Result<
         false,
     );
     let again = [gone, IN_CUR, gives(DirCall::Rename, b"FRS")?];
-    for (tries, steps, name) in [
-        (1, &[lost] as &[Shown], b"u:2,FS" as &[u8]),
-        (2, &again, b"u:2,FRS"),
-    ] {
-        let mut world = world_of(rt.alloc(), Some((Place::Cur, b"u:2,S")))?;
-        race(&rt, rt.alloc(), &mut world, tries, steps)?;
-        assert!(rt; lists(&world, 0, Place::Cur, &[name]));
-    }
-    Ok(())
+    race_for(&rt, rt.alloc(), 1, &[lost], b"u:2,FS")?;
+    race_for(&rt, rt.alloc(), 2, &again, b"u:2,FRS")
 }

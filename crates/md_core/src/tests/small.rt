@@ -25,9 +25,13 @@ fn sent_effect(effect: Effect) -> Effect {
 fn worlds_may_cross_threads(rt: HostRuntime) -> Result<(), Fail> {
     let world = sent_world(plain_delivery(&rt, rt.alloc())?);
     assert_eq!(rt; world.jobs(), 1);
+    Ok(())
+}
+
+#[test]
+fn calls_may_cross_threads(rt: HostRuntime) {
     let call = sent_call(Call::Clean { folder: 3 });
     assert!(rt; matches!(call, Call::Clean { folder: 3 }));
-    Ok(())
 }
 
 #[test]

@@ -72,16 +72,19 @@ fn refusal(
     Ok(Some(refused.error))
 }
 
-#[test]
-fn a_delivery_is_refused_for_its_first_fault(rt: HostRuntime) -> Result<(), Fail> {
-    let alloc = rt.alloc();
-    let mut world = plain_delivery(&rt, alloc)?;
+fn are_refused(rt: &impl Abort, alloc: Global, world: &mut World<PlainDirs>) -> Result<(), Fail> {
     for (at, (folder, unique, len, chunk, want)) in ROWS.iter().enumerate() {
-        let found = refusal(&rt, alloc, &mut world, (*folder, unique, *len, *chunk))?;
+        let found = refusal(rt, alloc, world, (*folder, unique, *len, *chunk))?;
         assert_eq!(rt; found, *want, "row {at}");
     }
     assert_eq!(rt; world.jobs(), 3);
     Ok(())
+}
+
+#[test]
+fn a_delivery_is_refused_for_its_first_fault(rt: HostRuntime) -> Result<(), Fail> {
+    let mut world = plain_delivery(&rt, rt.alloc())?;
+    are_refused(&rt, rt.alloc(), &mut world)
 }
 
 // The delivery of an empty message, under a number.
@@ -93,17 +96,26 @@ fn numbered(alloc: Global, number: u32) -> Result<Call, AllocError> {
     delivery(alloc, 0, name.as_bytes(), zeros(alloc, 0)?, 1)
 }
 
-#[test]
-fn the_ten_thousandth_job_is_the_last(rt: HostRuntime) -> Result<(), Fail> {
-    let alloc = rt.alloc();
-    let mut world = load(alloc, PlainDirs::new(alloc, 1))?;
+// The first 10,000 are accepted.
+fn fills(rt: &impl Abort, alloc: Global, world: &mut World<PlainDirs>) -> Result<(), Fail> {
     for number in 0..10_000 {
-        let job = submit(&rt, &mut world, numbered(alloc, number)?)?;
+        let job = submit(rt, world, numbered(alloc, number)?)?;
         assert_eq!(rt; job, u64::from(number) + 1);
     }
+    Ok(())
+}
+
+fn is_full(rt: &impl Abort, alloc: Global, world: &mut World<PlainDirs>) -> Result<(), Fail> {
+    fills(rt, alloc, world)?;
     for (folder, unique, len, chunk, want) in FULL {
-        let found = refusal(&rt, alloc, &mut world, (folder, unique, len, chunk))?;
+        let found = refusal(rt, alloc, world, (folder, unique, len, chunk))?;
         assert_eq!(rt; found, Some(want));
     }
     Ok(())
+}
+
+#[test]
+fn the_ten_thousandth_job_is_the_last(rt: HostRuntime) -> Result<(), Fail> {
+    let mut world = load(rt.alloc(), PlainDirs::new(rt.alloc(), 1))?;
+    is_full(&rt, rt.alloc(), &mut world)
 }
