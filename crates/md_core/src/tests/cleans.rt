@@ -1,7 +1,7 @@
 // Worked runs of cleans.
 use super::moves::{Shown, lists, takes_at};
 use super::{load, submit};
-use crate::{Answer, Call, DirCall, DirReply, World};
+use crate::{Answer, Call, CoreError, DirCall, DirReply, World};
 use md_dirs::{Bytes, DirError, ImageFile, Path, Place, PlainDirs};
 use std::alloc::Global;
 use std::process::Abort;
@@ -51,47 +51,60 @@ fn world_of(alloc: Global, files: &[(&[u8], u64)]) -> Result<World<PlainDirs>, F
     Ok(load(alloc, dirs)?)
 }
 
-// The files of tmp with their stamps; the moments of a clean, its steps, and the names that it leaves.
-type Row<'a> = (
-    &'a [(&'a [u8], u64)],
+// The files of tmp with their stamps; the moments of a clean, how many files it removes, and the names that it leaves.
+type Row = (
+    &'static [(&'static [u8], u64)],
+    (u64, Option<u64>),
     u64,
-    Option<u64>,
-    &'a [Shown],
-    &'a [&'a [u8]],
+    &'static [&'static [u8]],
 );
 
-fn leaves(rt: &impl Abort, world: &mut World<PlainDirs>, row: &Row<'_>) -> Result<(), Fail> {
-    let (_, now, own, steps, left) = row;
+static ROWS: [Row; 7] = [
+    (&[(b"x", 1000)], (130_599, None), 0, &[b"x"]),
+    (&[(b"x", 1000)], (130_600, None), 1, &[]),
+    // The clock begins at the greatest stamp, and never goes back.
+    (&[(b"x", 1000), (b"y", 130_600)], (5, None), 1, &[b"y"]),
+    (&[(b".x", 0), (b"y:2,", 0)], (129_600, None), 2, &[]),
+    // The age is by the own moment of the job.
+    (&[(b"x", 1000)], (116_199, Some(130_599)), 0, &[b"x"]),
+    (&[(b"x", 1000)], (116_200, Some(130_600)), 1, &[]),
+    (&[(b"x", 1000)], (130_600, Some(0)), 0, &[b"x"]),
+];
+
+// A clean takes these steps that removes so many files.
+fn removes(
+    rt: &impl Abort,
+    world: &mut World<PlainDirs>,
+    job: u64,
+    moment: (u64, Option<u64>),
+    files: u64,
+) -> Result<(), CoreError> {
+    if files == 0 {
+        return takes_at(rt, world, job, moment, &[NONE_OLD]);
+    }
+    takes_at(rt, world, job, moment, &[LISTED])?;
+    for _ in 1..files {
+        takes_at(rt, world, job, moment, &[REMOVED])?;
+    }
+    takes_at(rt, world, job, moment, &[cleaned(DirReply::Ok, files)])
+}
+
+fn leaves(rt: &impl Abort, world: &mut World<PlainDirs>, row: &Row) -> Result<(), Fail> {
+    let (_, moment, files, left) = row;
     let job = submit(rt, world, Call::Clean { folder: 0 })?;
-    takes_at(rt, world, job, (*now, *own), steps)?;
+    removes(rt, world, job, *moment, *files)?;
     assert!(rt; lists(world, 0, Place::Tmp, left));
     Ok(())
 }
 
-fn cleans(rt: &impl Abort, alloc: Global, row: &Row<'_>) -> Result<(), Fail> {
+fn cleans(rt: &impl Abort, alloc: Global, row: &Row) -> Result<(), Fail> {
     let mut world = world_of(alloc, row.0)?;
     leaves(rt, &mut world, row)
 }
 
 #[test]
 fn a_clean_removes_what_was_not_used_for_36_hours(rt: HostRuntime) -> Result<(), Fail> {
-    let x = [(b"x" as &[u8], 1000)];
-    let x_and_y = [(b"x" as &[u8], 1000), (b"y", 130_600)];
-    let both = [(b".x" as &[u8], 0), (b"y:2,", 0)];
-    let one = [LISTED, cleaned(DirReply::Ok, 1)];
-    let two = [LISTED, REMOVED, cleaned(DirReply::Ok, 2)];
-    let rows: [Row<'_>; 7] = [
-        (&x, 130_599, None, &[NONE_OLD], &[b"x"]),
-        (&x, 130_600, None, &one, &[]),
-        // The clock begins at the greatest stamp, and never goes back.
-        (&x_and_y, 5, None, &one, &[b"y"]),
-        (&both, 129_600, None, &two, &[]),
-        // The age is by the own moment of the job.
-        (&x, 116_199, Some(130_599), &[NONE_OLD], &[b"x"]),
-        (&x, 116_200, Some(130_600), &one, &[]),
-        (&x, 130_600, Some(0), &[NONE_OLD], &[b"x"]),
-    ];
-    for row in &rows {
+    for row in &ROWS {
         cleans(&rt, rt.alloc(), row)?;
     }
     Ok(())

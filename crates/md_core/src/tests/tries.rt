@@ -63,7 +63,8 @@ fn is_lost_or_not(
     let is_lost = world.answer(1) == Some(Answer::Lost);
     assert_eq!(rt; is_lost, lost == tries, "{lost} of {tries}");
     // Each try and each of the other jobs takes two steps.
-    let steps = if is_lost { 4 * tries } else { 4 * lost + 2 };
+    let last = if is_lost { 0 } else { 2 };
+    let steps = lost.saturating_mul(4).saturating_add(last);
     assert_eq!(rt; world.log().len(), steps);
     assert_eq!(rt; world.effects().len(), tries);
     Ok(())
