@@ -1,7 +1,7 @@
 // Worked runs of cleans.
 use super::moves::{Shown, lists, takes_at};
 use super::{load, submit};
-use crate::{Answer, Call, CoreError, DirCall, DirReply, World};
+use crate::{Answer, Call, DirCall, DirReply, World};
 use md_dirs::{Bytes, DirError, ImageFile, Path, Place, PlainDirs};
 use std::alloc::Global;
 use std::process::Abort;
@@ -71,28 +71,25 @@ static ROWS: [Row; 7] = [
     (&[(b"x", 1000)], (130_600, Some(0)), 0, &[b"x"]),
 ];
 
-// A clean takes these steps that removes so many files.
-fn removes(
-    rt: &impl Abort,
-    world: &mut World<PlainDirs>,
-    job: u64,
-    moment: (u64, Option<u64>),
-    files: u64,
-) -> Result<(), CoreError> {
+// The step at this place of a clean that removes so many files.
+fn shown(at: u64, files: u64) -> Shown {
     if files == 0 {
-        return takes_at(rt, world, job, moment, &[NONE_OLD]);
+        NONE_OLD
+    } else if at == 0 {
+        LISTED
+    } else if at < files {
+        REMOVED
+    } else {
+        cleaned(DirReply::Ok, files)
     }
-    takes_at(rt, world, job, moment, &[LISTED])?;
-    for _ in 1..files {
-        takes_at(rt, world, job, moment, &[REMOVED])?;
-    }
-    takes_at(rt, world, job, moment, &[cleaned(DirReply::Ok, files)])
 }
 
 fn leaves(rt: &impl Abort, world: &mut World<PlainDirs>, row: &Row) -> Result<(), Fail> {
     let (_, moment, files, left) = row;
     let job = submit(rt, world, Call::Clean { folder: 0 })?;
-    removes(rt, world, job, *moment, *files)?;
+    for at in 0..=*files {
+        takes_at(rt, world, job, *moment, &[shown(at, *files)])?;
+    }
     assert!(rt; lists(world, 0, Place::Tmp, left));
     Ok(())
 }
