@@ -1,2 +1,2 @@
 pub mod Deals
-pub mod Slots
+pub mod Gathering

@@ -6,7 +6,7 @@ ghost use Rattle.md_index.specs.declared.error.IndexError.TheVariants.{BadWorker
 use crate::deal::dealt;
 use crate::error::IndexError;
 use crate::gate::Gate;
-use crate::gather::Slots;
+use crate::gather::gathered;
 use crate::item::{Indexed, Message};
 use crate::worker::brought_by;
 use std::alloc::Global;
@@ -34,10 +34,7 @@ pub fn index<G: Gate, R: Threads + Wait + Sync>(
     }
     let owner = dealt(alloc, messages.len())?;
     let thief = owner.stealer()?;
-    let mut slots = Slots::empty(alloc, messages)?;
     let workers = workers.min(messages.len());
-    for brought in brought_by(rt, alloc, &thief, messages, workers, gate)? {
-        slots.collect(brought);
-    }
-    Ok(slots.filled(alloc, gate)?)
+    let mut loads = brought_by(rt, alloc, &thief, messages, workers, gate)?;
+    Ok(gathered(alloc, messages, &mut loads, gate)?)
 }

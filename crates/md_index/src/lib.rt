@@ -7,6 +7,7 @@ mod error;
 mod gate;
 mod gather;
 mod item;
+mod load;
 #[cfg(test)]
 mod tests;
 mod worker;

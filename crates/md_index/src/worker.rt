@@ -4,15 +4,13 @@ ghost use Rattle.md_index.specs.Index.{IsBrought};
 
 use crate::deal::{Thief, Took};
 use crate::gate::Gate;
-use crate::item::{Indexed, Message};
+use crate::item::Message;
+use crate::load::{Brought, Load};
 use crossbeam_deque::Steal;
 use std::alloc::{AllocError, Global};
 use std::sync::Wait;
 use std::thread;
 use std::thread::Threads;
-
-/// The number of a message, and the entry that was made of it.
-pub(crate) type Brought = (usize, Indexed);
 
 /// The entry of a number that was stolen. None for want of memory, or at a number past the messages, which the owner never pushes.
 fn brought<G: Gate>(
@@ -28,17 +26,19 @@ fn brought<G: Gate>(
     Some((item, made))
 }
 
-/// Steals until nothing is found, or a growth of memory is refused.
+/// Steals until nothing is found, or a growth of memory is refused. It begins with room for `share` entries, so that it seldom grows.
 fn work<G: Gate, R: Wait>(
     rt: &R,
     alloc: Global,
     thief: &Thief,
     messages: &[Message<'_>],
+    share: usize,
     gate: &G,
 ) -> Vec<Brought>
     ensures { All (IsBrought messages.now) result.items }
 {
     let mut all = Vec::new(alloc);
+    let _ = all.reserve(share);
     let mut seat = thief.pass();
     for _ in rt.forever() {
         if all.reserve(1).is_err() {
@@ -57,22 +57,31 @@ fn work<G: Gate, R: Wait>(
 }
 
 /// What the workers bring. It is refused only for want of memory.
-pub(crate) fn brought_by<G: Gate, R: Threads + Wait + Sync>(
+///
+/// None of them is the calling thread, which waits: what a thread allocates stays in the thread's own part of the heap.
+pub(crate) fn brought_by<'a, G: Gate, R: Threads + Wait + Sync>(
     rt: &R,
     alloc: Global,
     thief: &Thief,
-    messages: &[Message<'_>],
+    messages: &'a [Message<'a>],
     workers: usize,
     gate: &G,
-) -> Result<Vec<Vec<Brought>>, AllocError>
-    ensures { IfOk result (λ all. All (λ brought. All (IsBrought messages.now) brought.items) all.items) }
+) -> Result<Vec<Load<'a>>, AllocError>
+    ensures { IfOk result (λ loads. All (λ whose. whose ≡ messages.now) loads.items) }
 {
-    thread::map_indices(
-        rt,
-        alloc,
-        workers,
-        &|_| -> Vec<Brought>
-            ensures { All (IsBrought messages.entry.now) result.items }
-        { work(rt, alloc, thief, messages, gate) },
-    )
+    let share = messages.len() / workers.max(1);
+    let working = || -> Result<Vec<Load<'_>>, AllocError>
+        ensures { IfOk result (λ loads. All (λ whose. whose ≡ messages.entry.now) loads.items) }
+    {
+        thread::map_indices(
+            rt,
+            alloc,
+            workers,
+            &|_| -> Load<'_>
+                ensures { result ≡ messages.entry.now }
+            { Load::of(messages, work(rt, alloc, thief, messages, share, gate)) },
+        )
+    };
+    let (loads, ()) = thread::join(rt, working, || ());
+    loads
 }
