@@ -1,5 +1,5 @@
 //! Puts together what the workers brought.
-ghost use Rattle.std.specs.Prelude.{◌≡◌, ◌<◌, List, All, IfOk, IfSome, length, map};
+ghost use Rattle.std.specs.Prelude.{◌≡◌, List, All, IfOk, IfSome, map};
 ghost use Rattle.md_index.specs.Index.{IsBrought, indexed_of};
 ghost use Rattle.md_index.specs.declared.item.Message.{Message};
 
@@ -8,7 +8,7 @@ use crate::item::{Indexed, Message};
 use crate::load::Load;
 use std::alloc::{AllocError, Global};
 
-/// The entries in the messages' order. It is refused only for want of memory.
+/// The entries in the messages' order. One that is no worker's next at its turn is made here. It is refused only for want of memory.
 pub(crate) fn gathered<G: Gate>(
     alloc: Global,
     messages: &[Message<'_>],
@@ -20,29 +20,15 @@ pub(crate) fn gathered<G: Gate>(
 {
     let mut all = Vec::with_capacity(alloc, messages.len())?;
     for item in 0..messages.len() {
-        let made = entry(alloc, messages, loads, item, gate)?;
-        all.push_reserved(made);
+        match taken(loads, item) {
+            Some(made) => all.push_reserved(made),
+            None => {
+                let made = messages[item].indexed(alloc, item, gate)?;
+                all.push_reserved(made);
+            }
+        }
     }
     Ok(all)
-}
-
-/// The entry of this number: the next of some worker's, or else one that is made here.
-fn entry<G: Gate>(
-    alloc: Global,
-    messages: &[Message<'_>],
-    loads: &mut [Load<'_>],
-    item: usize,
-    gate: &G,
-) -> Result<Indexed, AllocError>
-    requires inside { item < length messages.now }
-    requires whose { All (λ whose. whose ≡ messages.now) loads.old }
-    ensures same { loads.new ≡ loads.old }
-    ensures entry { IfOk result (λ made. IsBrought messages.now (item, made)) }
-{
-    match taken(loads, item) {
-        Some(made) => Ok(made),
-        None => messages[item].indexed(alloc, item, gate),
-    }
 }
 
 /// The entry of this number, if it is the next that some worker brought.
