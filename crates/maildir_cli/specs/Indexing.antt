@@ -15,7 +15,7 @@ use Rattle.md_index.specs.declared.item.Indexed.{Indexed}
 use Rattle.md_script.specs.declared.error.PlayKind.{PlayKind}
 use Rattle.md_script.specs.declared.error.PlayError.{PlayError}
 use Rattle.md_script.specs.Bind.{◌>>=◌}
-use Rattle.md_script.specs.Lines.{lines_of}
+use Rattle.md_head.specs.Header.{lines_of}
 use Rattle.md_script.specs.Play.{Stops}
 use Rattle.md_script.specs.Reading.{IsWhole}
 use Rattle.md_script.specs.Sessions.{opened}

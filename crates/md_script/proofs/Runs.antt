@@ -4,7 +4,7 @@ use Rattle.md_script.specs.declared.error.PlayKind.{PlayKind}
 use Rattle.std.specs.Global.{Vec}
 use Rattle.md_script.specs.declared.error.PlayError.{PlayError}
 use Rattle.md_script.specs.Printed.{Tells}
-use Rattle.md_script.specs.Lines.{lines_of}
+use Rattle.md_head.specs.Header.{lines_of}
 use Rattle.md_script.specs.Step.{line_step}
 use Rattle.md_script.specs.Transcript.{Transcript, run_from, printed, go_on}
 

@@ -1,6 +1,5 @@
 pub mod Bind
 pub mod Kinds
-pub mod Lines
 pub mod Escapes
 pub mod Words
 pub mod Verb

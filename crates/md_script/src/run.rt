@@ -5,8 +5,8 @@ ghost use Rattle.md_script.specs.Transcript.{transcript_of};
 ghost use Rattle.md_script.specs.Printed.{Tells};
 
 use crate::error::{PlayError, PlayKind};
-use crate::lines::cut_line;
 use crate::session::Session;
+use md_head::cut_line;
 use std::alloc::{AllocError, Global};
 
 /// The byte that a line begins with that is passed over.

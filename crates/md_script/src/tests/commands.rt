@@ -24,55 +24,57 @@ fn two_folders(rt: &impl Abort, alloc: Global) -> Result<Folders, Fail> {
     Ok(folders)
 }
 
+/// Lines that spell no command where the folders are `i` and `j`, and why.
+static BAD_LINES: [(&[u8], PlayKind); 43] = [
+    (b"lis", PlayKind::BadCommand),
+    (b"list", PlayKind::BadCommand),
+    (b"List i", PlayKind::BadCommand),
+    (b" list i", PlayKind::BadCommand),
+    (b"list  i", PlayKind::BadCommand),
+    (b"list i ", PlayKind::BadCommand),
+    (b"list i x", PlayKind::BadCommand),
+    (b"list\ti", PlayKind::BadCommand),
+    (b"list i\r", PlayKind::UnknownFolder),
+    (b"list inb", PlayKind::UnknownFolder),
+    (b"list k x", PlayKind::UnknownFolder),
+    (b"first i x", PlayKind::BadCommand),
+    (b"second", PlayKind::BadCommand),
+    (b"second k x", PlayKind::UnknownFolder),
+    (b"folder", PlayKind::BadCommand),
+    (b"folder ", PlayKind::BadCommand),
+    (b"folder k x", PlayKind::BadCommand),
+    (b"folder i x", PlayKind::BadFolder),
+    (b"folder .k x", PlayKind::BadFolder),
+    (b"folder a/b", PlayKind::BadFolder),
+    (b"folder a\0b", PlayKind::BadFolder),
+    (b"folder a\rb", PlayKind::BadFolder),
+    (b"job", PlayKind::BadCommand),
+    (b"job delive i u 4", PlayKind::BadCommand),
+    (b"job deliver", PlayKind::BadCommand),
+    (b"job deliver k", PlayKind::UnknownFolder),
+    (b"job deliver i", PlayKind::BadCommand),
+    (b"job deliver i u", PlayKind::BadCommand),
+    (b"job deliver i u four \\", PlayKind::BadNumber),
+    (b"job deliver i u 4 hello\\", PlayKind::BadEscape),
+    (b"job deliver i u 4 a\\tb", PlayKind::BadEscape),
+    (b"step 1", PlayKind::BadCommand),
+    (b"step 1 2 ", PlayKind::BadCommand),
+    (b"step 1 2 3 4", PlayKind::BadCommand),
+    (b"step x 2 3", PlayKind::BadNumber),
+    (b"step 1 +2", PlayKind::BadNumber),
+    (b"step 1 2 -3 x", PlayKind::BadNumber),
+    (b"finish 18446744073709551616 1", PlayKind::BadNumber),
+    (b"finish 000000000000000000001 1", PlayKind::BadNumber),
+    (b"unique 1 2 3 4", PlayKind::BadCommand),
+    (b"unique 1 2 x 4 a", PlayKind::BadNumber),
+    (b"unique 1 1000000 3 4 a b", PlayKind::BadCommand),
+    (b"summary a\\", PlayKind::BadEscape),
+];
+
 #[test]
 fn the_first_bad_word_names_the_refusal(rt: HostRuntime) -> Result<(), Fail> {
     let folders = two_folders(&rt, rt.alloc())?;
-    let cases: [(&[u8], PlayKind); 43] = [
-        (b"lis", PlayKind::BadCommand),
-        (b"list", PlayKind::BadCommand),
-        (b"List i", PlayKind::BadCommand),
-        (b" list i", PlayKind::BadCommand),
-        (b"list  i", PlayKind::BadCommand),
-        (b"list i ", PlayKind::BadCommand),
-        (b"list i x", PlayKind::BadCommand),
-        (b"list\ti", PlayKind::BadCommand),
-        (b"list i\r", PlayKind::UnknownFolder),
-        (b"list inb", PlayKind::UnknownFolder),
-        (b"list k x", PlayKind::UnknownFolder),
-        (b"first i x", PlayKind::BadCommand),
-        (b"second", PlayKind::BadCommand),
-        (b"second k x", PlayKind::UnknownFolder),
-        (b"folder", PlayKind::BadCommand),
-        (b"folder ", PlayKind::BadCommand),
-        (b"folder k x", PlayKind::BadCommand),
-        (b"folder i x", PlayKind::BadFolder),
-        (b"folder .k x", PlayKind::BadFolder),
-        (b"folder a/b", PlayKind::BadFolder),
-        (b"folder a\0b", PlayKind::BadFolder),
-        (b"folder a\rb", PlayKind::BadFolder),
-        (b"job", PlayKind::BadCommand),
-        (b"job delive i u 4", PlayKind::BadCommand),
-        (b"job deliver", PlayKind::BadCommand),
-        (b"job deliver k", PlayKind::UnknownFolder),
-        (b"job deliver i", PlayKind::BadCommand),
-        (b"job deliver i u", PlayKind::BadCommand),
-        (b"job deliver i u four \\", PlayKind::BadNumber),
-        (b"job deliver i u 4 hello\\", PlayKind::BadEscape),
-        (b"job deliver i u 4 a\\tb", PlayKind::BadEscape),
-        (b"step 1", PlayKind::BadCommand),
-        (b"step 1 2 ", PlayKind::BadCommand),
-        (b"step 1 2 3 4", PlayKind::BadCommand),
-        (b"step x 2 3", PlayKind::BadNumber),
-        (b"step 1 +2", PlayKind::BadNumber),
-        (b"step 1 2 -3 x", PlayKind::BadNumber),
-        (b"finish 18446744073709551616 1", PlayKind::BadNumber),
-        (b"finish 000000000000000000001 1", PlayKind::BadNumber),
-        (b"unique 1 2 3 4", PlayKind::BadCommand),
-        (b"unique 1 2 x 4 a", PlayKind::BadNumber),
-        (b"unique 1 1000000 3 4 a b", PlayKind::BadCommand),
-        (b"summary a\\", PlayKind::BadEscape),
-    ];
-    for (line, want) in cases {
+    for (line, want) in BAD_LINES {
         match read_command(rt.alloc(), &folders, PLAYING, line) {
             Err(stop) => assert_eq!(rt; stop, want, "{line:?}"),
             Ok(command) => assert!(rt; false, "{command:?}"),
@@ -94,41 +96,43 @@ fn a_folder_that_comes_too_late_is_refused_first(rt: HostRuntime) -> Result<(), 
     Ok(())
 }
 
+/// Lines, and the commands that they spell where the folders are `i` and `j`.
+static GOOD_LINES: [(&[u8], &str); 11] = [
+    (b"folder k", "Folder { name: [107] }"),
+    (b"list j", "List { folder: 1 }"),
+    (b"first i", "First { folder: 0 }"),
+    (b"second j", "Second { folder: 1 }"),
+    (b"step 007 0", "Step(Event { job: 7, now: 0, own: None })"),
+    (
+        b"step 00000000000000000001 1 2",
+        "Step(Event { job: 1, now: 1, own: Some(2) })",
+    ),
+    (
+        b"finish 1 18446744073709551615",
+        "Finish(Event { job: 1, now: 18446744073709551615, own: None })",
+    ),
+    (
+        b"job deliver i u 4",
+        "Submit(Deliver { folder: 0, unique: Bytes { items: [117] }, body: Bytes { items: [] }, chunk: 4 })",
+    ),
+    (
+        b"job deliver j u 4 ",
+        "Submit(Deliver { folder: 1, unique: Bytes { items: [117] }, body: Bytes { items: [] }, chunk: 4 })",
+    ),
+    (
+        b"job deliver i u 4  b ",
+        "Submit(Deliver { folder: 0, unique: Bytes { items: [117] }, body: Bytes { items: [32, 98, 32] }, chunk: 4 })",
+    ),
+    (
+        b"job deliver i u 0 \\\\n\\r\\n\r",
+        "Submit(Deliver { folder: 0, unique: Bytes { items: [117] }, body: Bytes { items: [92, 110, 13, 10, 13] }, chunk: 0 })",
+    ),
+];
+
 #[test]
 fn lines_spell_commands(rt: HostRuntime) -> Result<(), Fail> {
     let folders = two_folders(&rt, rt.alloc())?;
-    let cases: [(&[u8], &str); 11] = [
-        (b"folder k", "Folder { name: [107] }"),
-        (b"list j", "List { folder: 1 }"),
-        (b"first i", "First { folder: 0 }"),
-        (b"second j", "Second { folder: 1 }"),
-        (b"step 007 0", "Step(Event { job: 7, now: 0, own: None })"),
-        (
-            b"step 00000000000000000001 1 2",
-            "Step(Event { job: 1, now: 1, own: Some(2) })",
-        ),
-        (
-            b"finish 1 18446744073709551615",
-            "Finish(Event { job: 1, now: 18446744073709551615, own: None })",
-        ),
-        (
-            b"job deliver i u 4",
-            "Submit(Deliver { folder: 0, unique: Bytes { items: [117] }, body: Bytes { items: [] }, chunk: 4 })",
-        ),
-        (
-            b"job deliver j u 4 ",
-            "Submit(Deliver { folder: 1, unique: Bytes { items: [117] }, body: Bytes { items: [] }, chunk: 4 })",
-        ),
-        (
-            b"job deliver i u 4  b ",
-            "Submit(Deliver { folder: 0, unique: Bytes { items: [117] }, body: Bytes { items: [32, 98, 32] }, chunk: 4 })",
-        ),
-        (
-            b"job deliver i u 0 \\\\n\\r\\n\r",
-            "Submit(Deliver { folder: 0, unique: Bytes { items: [117] }, body: Bytes { items: [92, 110, 13, 10, 13] }, chunk: 0 })",
-        ),
-    ];
-    for (line, want) in cases {
+    for (line, want) in GOOD_LINES {
         match read_command(rt.alloc(), &folders, PLAYING, line) {
             Ok(command) => {
                 let text = format!(in rt.alloc(); "{command:?}")?;

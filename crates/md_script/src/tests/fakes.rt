@@ -84,6 +84,24 @@ impl Read for Interrupted<'_> {
     }
 }
 
+/// Gives a script at most so many bytes at a time, and then ends, or fails.
+#[derive(Drop)]
+pub(super) struct Torn<'a> {
+    pub script: &'a [u8],
+    pub at_once: usize,
+    pub fails: bool,
+}
+
+impl Read for Torn<'_> {
+    fn read(&mut self, buf: &mut [u8]) -> io::Result<usize> {
+        if self.fails && self.script.is_empty() {
+            return Err(io::Error::from(ErrorKind::ConnectionReset));
+        }
+        let count = buf.len().min(self.at_once);
+        self.script.read(&mut buf[..count])
+    }
+}
+
 /// Takes a byte at each of the first writes, and then fails.
 #[derive(Drop)]
 pub(super) struct Full {
@@ -115,5 +133,44 @@ impl Write for Unflushed {
 
     fn flush(&mut self) -> io::Result<()> {
         Err(io::Error::from(ErrorKind::StorageFull))
+    }
+}
+
+/// Takes nothing, and doesn't say that it failed.
+#[derive(Drop)]
+pub(super) struct Shut;
+
+impl Write for Shut {
+    fn write(&mut self, _buf: &[u8]) -> io::Result<usize> {
+        Ok(0)
+    }
+
+    fn flush(&mut self) -> io::Result<()> {
+        Ok(())
+    }
+}
+
+/// Keeps a byte at each other write, and is interrupted at the rest.
+#[derive(Drop)]
+pub(super) struct Slow {
+    pub kept: Vec<u8>,
+    pub is_next: bool,
+}
+
+impl Write for Slow {
+    fn write(&mut self, buf: &[u8]) -> io::Result<usize> {
+        self.is_next = !self.is_next;
+        if self.is_next {
+            return Err(io::Error::from(ErrorKind::Interrupted));
+        }
+        if buf.is_empty() {
+            return Ok(0);
+        }
+        self.kept.push(buf[0])?;
+        Ok(1)
+    }
+
+    fn flush(&mut self) -> io::Result<()> {
+        Ok(())
     }
 }

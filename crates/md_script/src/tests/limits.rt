@@ -1,7 +1,8 @@
 //! The limits on a script's bytes and reads.
 
 use super::fakes::Stream;
-use crate::{PlayError, PlayKind, Reader, play};
+use crate::{PlayError, PlayKind, Reader, play, transcript};
+use std::test::Fail;
 
 fn unnumbered(kind: PlayKind) -> Result<(), PlayError> {
     Err(PlayError { line: 0, kind })
@@ -61,4 +62,15 @@ fn a_script_has_at_most_so_many_bytes(rt: HostRuntime) {
         let mut out = Vec::new(rt.alloc());
         assert_eq!(rt; play(rt.alloc(), &mut script, &mut out), want, "{left}");
     }
+}
+
+#[test]
+fn a_line_of_16_mebibytes_is_passed_over_in_a_summary(rt: HostRuntime) -> Result<(), Fail> {
+    let mut script = Vec::from_slice(rt.alloc(), b"summary ")?;
+    script.resize(8 + 16_777_216, b'a')?;
+    script.extend_from_slice(b"\\nSubject: b")?;
+    let printed = transcript(rt.alloc(), &script)?;
+    assert_eq!(rt; printed.refusal, None);
+    assert_eq!(rt; printed.text.as_slice(), b"subject=b\nend\n".as_slice());
+    Ok(())
 }

@@ -13,7 +13,7 @@ struct Row {
     prints: &'static [u8],
 }
 
-const ROWS: [Row; 37] = [
+const ROWS: [Row; 38] = [
     Row {
         shows: "a delivery is written in pieces, linked, and listed",
         script: b"folder inbox\njob deliver inbox 1000.M1P7Q1.a 4 hello\\n\nfinish 1 1000\nlist inbox\n",
@@ -113,6 +113,11 @@ const ROWS: [Row; 37] = [
         shows: "a store that begins with files lists its messages, other info and all, and no name with a dot in front",
         script: b"folder i\nfile i cur u 0 x\nfile i cur v:1,x 0 x\nfile i cur .hid 0 x\nfile i new w:2,F 0 x\nlist i\njob flag i v S - 1\nfinish 1 1\n",
         prints: b"cur u - 1\ncur v ? 1\nnew w F 1\njob 1\n1 list cur ok\n1 answer otherinfo\n",
+    },
+    Row {
+        shows: "a name in cur that begins with the colon is no message's: it is never listed, and no job finds it",
+        script: b"folder i\nfile i cur :2,S 0 x\nlist i\njob expunge i S 1\nfinish 1 1\nread :2,S\nlist i\n",
+        prints: b"job 1\n1 list cur ok\n1 answer notthere\nnone\n",
     },
     Row {
         shows: "the clock begins at the greatest stamp, that of a file in tmp included",
@@ -238,7 +243,7 @@ struct Refused {
     text: &'static str,
 }
 
-const REFUSED: [Refused; 53] = [
+const REFUSED: [Refused; 56] = [
     Refused {
         script: b"folder a\nfolder b\njob move a u b 1\nfinish 1 1\nstep 1 1\n",
         prints: b"job 1\n1 list new ok\n1 list cur ok\n1 answer notthere\n",
@@ -395,6 +400,21 @@ const REFUSED: [Refused; 53] = [
         script: b"folder i\nfile i tmp a/b 0\nstep 7 1\n",
         prints: b"",
         text: "line 3: bad name",
+    },
+    Refused {
+        script: b"folder i\njob seen i u S1 1\n",
+        prints: b"",
+        text: "line 2: bad flag",
+    },
+    Refused {
+        script: b"folder i\njob expunge i u 17\n",
+        prints: b"",
+        text: "line 2: bad tries",
+    },
+    Refused {
+        script: b"job clean i\n",
+        prints: b"",
+        text: "line 1: unknown folder",
     },
     Refused {
         script: b"folder i\nfile i old u x\n",

@@ -2,6 +2,7 @@
 
 use crate::{PlayError, PlayKind, image};
 use md_name::NameError;
+use std::alloc::{AllocError, Global};
 use std::test::Fail;
 
 #[test]
@@ -36,103 +37,78 @@ Clean { folder: 1 }]";
     Ok(())
 }
 
-fn at(line: u64, kind: PlayKind) -> Option<PlayError> {
-    Some(PlayError { line, kind })
+/// A line, and why a script is refused whose second it is and whose first names the folder `i`: where jobs are allowed, and where
+/// they aren't.
+struct Line {
+    text: &'static [u8],
+    with_jobs: Option<PlayKind>,
+    without_jobs: Option<PlayKind>,
+}
+
+/// A line that is refused alike, or taken, with jobs and without.
+const fn alike(text: &'static [u8], kind: Option<PlayKind>) -> Line {
+    Line {
+        text,
+        with_jobs: kind,
+        without_jobs: kind,
+    }
+}
+
+/// A line of a job, which comes too soon for its words where none are allowed.
+const fn job(text: &'static [u8], kind: Option<PlayKind>) -> Line {
+    Line {
+        text,
+        with_jobs: kind,
+        without_jobs: Some(PlayKind::NotInThisRun),
+    }
+}
+
+static LINES: [Line; 16] = [
+    alike(b"folder j", None),
+    job(b"job clean i", None),
+    job(b"job", Some(PlayKind::BadCommand)),
+    job(b"job sea i", Some(PlayKind::BadCommand)),
+    job(b"job move i u j 1", Some(PlayKind::UnknownFolder)),
+    job(
+        b"job seen i u S1 1 x",
+        Some(PlayKind::Name(NameError::BadFlag)),
+    ),
+    job(b"job seen i u - 1 x", Some(PlayKind::BadCommand)),
+    alike(b"step 1 1", Some(PlayKind::NotInThisRun)),
+    alike(b"list", Some(PlayKind::NotInThisRun)),
+    alike(b"unique", Some(PlayKind::NotInThisRun)),
+    alike(b"summary", Some(PlayKind::NotInThisRun)),
+    alike(b"lists", Some(PlayKind::BadCommand)),
+    alike(b"file i old u 0", Some(PlayKind::BadPlace)),
+    alike(b"file i new u", Some(PlayKind::BadCommand)),
+    alike(b"file k old u x", Some(PlayKind::UnknownFolder)),
+    alike(b"file i new u x", Some(PlayKind::BadNumber)),
+];
+
+/// Why a script whose second line this is sets nothing up.
+fn refusal_at_line_2(
+    alloc: Global,
+    line: &[u8],
+    jobs_allowed: bool,
+) -> Result<Option<PlayError>, AllocError> {
+    let mut script = Vec::from_slice(alloc, b"folder i\n")?;
+    script.extend_from_slice(line)?;
+    Ok(image(alloc, &script, jobs_allowed).err())
+}
+
+fn at_line_2(kind: Option<PlayKind>) -> Option<PlayError> {
+    kind.map(|kind| PlayError { line: 2, kind })
 }
 
 #[test]
-fn what_sets_nothing_up_is_refused(rt: HostRuntime) {
-    // Each line is the second of a script whose first names the folder i.
-    let cases: [(&[u8], Option<PlayError>, Option<PlayError>); 16] = [
-        (b"folder j", None, None),
-        (b"job clean i", None, at(2, PlayKind::NotInThisRun)),
-        (
-            b"job",
-            at(2, PlayKind::BadCommand),
-            at(2, PlayKind::NotInThisRun),
-        ),
-        (
-            b"job sea i",
-            at(2, PlayKind::BadCommand),
-            at(2, PlayKind::NotInThisRun),
-        ),
-        (
-            b"job move i u j 1",
-            at(2, PlayKind::UnknownFolder),
-            at(2, PlayKind::NotInThisRun),
-        ),
-        (
-            b"job seen i u S1 1 x",
-            at(2, PlayKind::Name(NameError::BadFlag)),
-            at(2, PlayKind::NotInThisRun),
-        ),
-        (
-            b"job seen i u - 1 x",
-            at(2, PlayKind::BadCommand),
-            at(2, PlayKind::NotInThisRun),
-        ),
-        (
-            b"step 1 1",
-            at(2, PlayKind::NotInThisRun),
-            at(2, PlayKind::NotInThisRun),
-        ),
-        (
-            b"list",
-            at(2, PlayKind::NotInThisRun),
-            at(2, PlayKind::NotInThisRun),
-        ),
-        (
-            b"unique",
-            at(2, PlayKind::NotInThisRun),
-            at(2, PlayKind::NotInThisRun),
-        ),
-        (
-            b"summary",
-            at(2, PlayKind::NotInThisRun),
-            at(2, PlayKind::NotInThisRun),
-        ),
-        (
-            b"lists",
-            at(2, PlayKind::BadCommand),
-            at(2, PlayKind::BadCommand),
-        ),
-        (
-            b"file i old u 0",
-            at(2, PlayKind::BadPlace),
-            at(2, PlayKind::BadPlace),
-        ),
-        (
-            b"file i new u",
-            at(2, PlayKind::BadCommand),
-            at(2, PlayKind::BadCommand),
-        ),
-        (
-            b"file k old u x",
-            at(2, PlayKind::UnknownFolder),
-            at(2, PlayKind::UnknownFolder),
-        ),
-        (
-            b"file i new u x",
-            at(2, PlayKind::BadNumber),
-            at(2, PlayKind::BadNumber),
-        ),
-    ];
-    for (line, with_jobs, without) in cases {
-        let mut script = Vec::new(rt.alloc());
-        let made = script.extend_from_slice(b"folder i\n").is_ok()
-            && script.extend_from_slice(line).is_ok();
-        assert!(rt; made);
-        assert_eq!(rt;
-            image(rt.alloc(), &script, true).err(),
-            with_jobs,
-            "{line:?}"
-        );
-        assert_eq!(rt;
-            image(rt.alloc(), &script, false).err(),
-            without,
-            "{line:?}"
-        );
+fn what_sets_nothing_up_is_refused(rt: HostRuntime) -> Result<(), Fail> {
+    for line in &LINES {
+        let refusal = refusal_at_line_2(rt.alloc(), line.text, true)?;
+        assert_eq!(rt; refusal, at_line_2(line.with_jobs), "{:?}", line.text);
+        let refusal = refusal_at_line_2(rt.alloc(), line.text, false)?;
+        assert_eq!(rt; refusal, at_line_2(line.without_jobs), "{:?}", line.text);
     }
+    Ok(())
 }
 
 #[test]

@@ -1,5 +1,5 @@
 use Rattle.std.proofs.Common.{◌≡◌, ◌+◌, ◌≤◌, length}
-use Rattle.md_script.specs.Lines.{lines_of}
+use Rattle.md_head.specs.Header.{lines_of}
 use Rattle.md_script.proofs.lines.count_lines.Given as goal
 
 abbrev pub invariant-loop-others : goal.invariant-loop-others

@@ -1,5 +1,5 @@
 use Rattle.std.proofs.Common.{◌≡◌, ◌+◌, ◌≤◌, length}
-use Rattle.md_script.specs.Lines.{lines_of}
+use Rattle.md_head.specs.Header.{lines_of}
 use Rattle.md_script.specs.Transcript.{run_from, printed, transcript_of}
 use Rattle.md_script.proofs.run.run.Given as goal
 
