@@ -37,55 +37,34 @@ Clean { folder: 1 }]";
     Ok(())
 }
 
-/// A line, and why a script is refused whose second it is and whose first names the folder `i`: where jobs are allowed, and where
-/// they aren't.
-struct Line {
-    text: &'static [u8],
-    with_jobs: Option<PlayKind>,
-    without_jobs: Option<PlayKind>,
-}
+/// Lines that are taken, or refused, whether jobs are allowed or not.
+static LINES: [(&[u8], Option<PlayKind>); 10] = [
+    (b"folder j", None),
+    (b"step 1 1", Some(PlayKind::NotInThisRun)),
+    (b"list", Some(PlayKind::NotInThisRun)),
+    (b"unique", Some(PlayKind::NotInThisRun)),
+    (b"summary", Some(PlayKind::NotInThisRun)),
+    (b"lists", Some(PlayKind::BadCommand)),
+    (b"file i old u 0", Some(PlayKind::BadPlace)),
+    (b"file i new u", Some(PlayKind::BadCommand)),
+    (b"file k old u x", Some(PlayKind::UnknownFolder)),
+    (b"file i new u x", Some(PlayKind::BadNumber)),
+];
 
-/// A line that is refused alike, or taken, with jobs and without.
-const fn alike(text: &'static [u8], kind: Option<PlayKind>) -> Line {
-    Line {
-        text,
-        with_jobs: kind,
-        without_jobs: kind,
-    }
-}
-
-/// A line of a job, which comes too soon for its words where none are allowed.
-const fn job(text: &'static [u8], kind: Option<PlayKind>) -> Line {
-    Line {
-        text,
-        with_jobs: kind,
-        without_jobs: Some(PlayKind::NotInThisRun),
-    }
-}
-
-static LINES: [Line; 16] = [
-    alike(b"folder j", None),
-    job(b"job clean i", None),
-    job(b"job", Some(PlayKind::BadCommand)),
-    job(b"job sea i", Some(PlayKind::BadCommand)),
-    job(b"job move i u j 1", Some(PlayKind::UnknownFolder)),
-    job(
+/// Lines of jobs. Where none are allowed, they are refused before their other words are read.
+static JOB_LINES: [(&[u8], Option<PlayKind>); 6] = [
+    (b"job clean i", None),
+    (b"job", Some(PlayKind::BadCommand)),
+    (b"job sea i", Some(PlayKind::BadCommand)),
+    (b"job move i u j 1", Some(PlayKind::UnknownFolder)),
+    (
         b"job seen i u S1 1 x",
         Some(PlayKind::Name(NameError::BadFlag)),
     ),
-    job(b"job seen i u - 1 x", Some(PlayKind::BadCommand)),
-    alike(b"step 1 1", Some(PlayKind::NotInThisRun)),
-    alike(b"list", Some(PlayKind::NotInThisRun)),
-    alike(b"unique", Some(PlayKind::NotInThisRun)),
-    alike(b"summary", Some(PlayKind::NotInThisRun)),
-    alike(b"lists", Some(PlayKind::BadCommand)),
-    alike(b"file i old u 0", Some(PlayKind::BadPlace)),
-    alike(b"file i new u", Some(PlayKind::BadCommand)),
-    alike(b"file k old u x", Some(PlayKind::UnknownFolder)),
-    alike(b"file i new u x", Some(PlayKind::BadNumber)),
+    (b"job seen i u - 1 x", Some(PlayKind::BadCommand)),
 ];
 
-/// Why a script whose second line this is sets nothing up.
+/// Why a script sets nothing up whose second line this is, and whose first names the folder `i`.
 fn refusal_at_line_2(
     alloc: Global,
     line: &[u8],
@@ -102,11 +81,18 @@ fn at_line_2(kind: Option<PlayKind>) -> Option<PlayError> {
 
 #[test]
 fn what_sets_nothing_up_is_refused(rt: HostRuntime) -> Result<(), Fail> {
-    for line in &LINES {
-        let refusal = refusal_at_line_2(rt.alloc(), line.text, true)?;
-        assert_eq!(rt; refusal, at_line_2(line.with_jobs), "{:?}", line.text);
-        let refusal = refusal_at_line_2(rt.alloc(), line.text, false)?;
-        assert_eq!(rt; refusal, at_line_2(line.without_jobs), "{:?}", line.text);
+    for (line, want) in LINES {
+        for jobs_allowed in [true, false] {
+            let refusal = refusal_at_line_2(rt.alloc(), line, jobs_allowed)?;
+            assert_eq!(rt; refusal, at_line_2(want), "{line:?}");
+        }
+    }
+    for (line, want) in JOB_LINES {
+        let refusal = refusal_at_line_2(rt.alloc(), line, true)?;
+        assert_eq!(rt; refusal, at_line_2(want), "{line:?}");
+        let refusal = refusal_at_line_2(rt.alloc(), line, false)?;
+        let too_soon = at_line_2(Some(PlayKind::NotInThisRun));
+        assert_eq!(rt; refusal, too_soon, "{line:?}");
     }
     Ok(())
 }
