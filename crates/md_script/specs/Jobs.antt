@@ -1,5 +1,5 @@
 -- The calls that a script submits, and how a line spells one.
-use Rattle.std.specs.Prelude.{◌≡◌, ℕ, Bool, true, false, List, Option, Some, None, Result, Ok, Err, if◌then◌else◌, codes, ok_or}
+use Rattle.std.specs.Prelude.{ℕ, List, Option, Some, None, Result, Ok, Err, if◌then◌else◌, codes, ok_or}
 use Rattle.std.specs.List.{list_all}
 use Rattle.std.specs.Str.{bytes_eq}
 use Rattle.std.specs.FinSet as set
@@ -12,7 +12,7 @@ use Rattle.md_script.specs.declared.error.PlayKind.TheVariants.{BadCommand, Unkn
 use Rattle.md_script.specs.declared.verb.JobVerb.{JobVerb}
 use Rattle.md_script.specs.declared.verb.JobVerb.TheVariants.{Deliver, Seen, Flag, Move, Expunge, Copy, Clean}
 use Rattle.md_script.specs.Bind.{◌>>=◌}
-use Rattle.md_script.specs.Words.{Rest, word_at, end_at, number_at, body_at, require}
+use Rattle.md_script.specs.Words.{Rest, word_at, end_at, number_at, body_at}
 use Rattle.md_script.specs.Folders.{place_of}
 
 -- the next word as the number of a folder
