@@ -12,6 +12,7 @@ unsafe extern "C" {
     fn __libc_calloc(count: usize, size: usize) -> *mut c_void;
     fn __libc_realloc(block: *mut c_void, size: usize) -> *mut c_void;
     fn __libc_memalign(alignment: usize, size: usize) -> *mut c_void;
+    fn __errno_location() -> *mut c_int;
     fn getenv(name: *const c_char) -> *const c_char;
     fn atoll(text: *const c_char) -> i64;
     fn write(file: c_int, bytes: *const c_void, count: usize) -> isize;
@@ -42,24 +43,29 @@ fn is_refused() -> bool {
     asked == at || at != 0 && asked > at && number(c"REFUSE_REST") != 0
 }
 
+fn refusal() -> *mut c_void {
+    unsafe { *__errno_location() = NO_MEMORY };
+    null_mut()
+}
+
 #[unsafe(no_mangle)]
 extern "C" fn malloc(size: usize) -> *mut c_void {
-    if is_refused() { null_mut() } else { unsafe { __libc_malloc(size) } }
+    if is_refused() { refusal() } else { unsafe { __libc_malloc(size) } }
 }
 
 #[unsafe(no_mangle)]
 extern "C" fn calloc(count: usize, size: usize) -> *mut c_void {
-    if is_refused() { null_mut() } else { unsafe { __libc_calloc(count, size) } }
+    if is_refused() { refusal() } else { unsafe { __libc_calloc(count, size) } }
 }
 
 #[unsafe(no_mangle)]
 extern "C" fn realloc(block: *mut c_void, size: usize) -> *mut c_void {
-    if is_refused() { null_mut() } else { unsafe { __libc_realloc(block, size) } }
+    if is_refused() { refusal() } else { unsafe { __libc_realloc(block, size) } }
 }
 
 #[unsafe(no_mangle)]
 extern "C" fn aligned_alloc(alignment: usize, size: usize) -> *mut c_void {
-    if is_refused() { null_mut() } else { unsafe { __libc_memalign(alignment, size) } }
+    if is_refused() { refusal() } else { unsafe { __libc_memalign(alignment, size) } }
 }
 
 #[unsafe(no_mangle)]
