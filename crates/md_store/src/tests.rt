@@ -1,111 +1,90 @@
 // What no clause says: that threads that step and list meet, that a listing enters anew, and each refusal once.
+mod fixtures;
 mod gated;
 mod later;
+mod seen;
 mod small;
+mod stampede;
 mod threads;
 
-ghost use Rattle.std.specs.Prelude.{IfOk};
+ghost use Rattle.std.specs.Prelude.{◌≡◌};
+ghost use Rattle.md_view.specs.Named.{named_of};
 ghost use Rattle.md_store.specs.Locks.{IsFresh};
 
-use crate::{Naming, News, Pass, Store};
-use md_core::{Answer, Call, CoreError, JobId, World};
-use md_dirs::{Bytes, Dirs, ImageFile, Path, Place, PlainDirs};
-use md_name::Flags;
-use md_view::Entry;
-use std::alloc::{AllocError, Global};
+use crate::{Naming, OpenError, OpenRefused, Pass, Prepared, Store, prepare};
+use md_core::World;
+use md_dirs::Dirs;
+use std::alloc::Global;
+use std::marker::Brand;
+use std::process::Abort;
 use std::sync::Wait;
-use std::test::Fail;
+use std::thread::Threads;
 
-// A message of one byte, written in one piece.
-fn delivery(alloc: Global, unique: &[u8]) -> Result<Call, AllocError> {
-    Ok(Call::Deliver {
-        folder: 0,
-        unique: Bytes::copied(alloc, unique)?,
-        body: Bytes::copied(alloc, b"x")?,
-        chunk: 4,
-    })
+// What a test does with an open store, and what it asks of the world behind it. The store and its passes are lent, so that each is let go
+// in one place alone.
+trait Scene<D: Dirs> {
+    fn play<J: Naming + Send + Sync, R: Threads + Wait + Abort + Sync>(
+        &self,
+        rt: &R,
+        alloc: Global,
+        store: &Store<D, J>,
+        passes: &mut [Pass<J>],
+    );
+
+    fn ends<R: Wait + Abort>(&self, rt: &R, alloc: Global, world: &World<D>);
 }
 
-// Adds a flag to the message `flagged`.
-fn flagging(alloc: Global, letter: &[u8]) -> Result<Call, Fail> {
-    let Ok(add) = Flags::parse(letter) else {
-        return Err(Fail::from("no flag"));
-    };
-    Ok(Call::Flag {
-        folder: 0,
-        unique: Bytes::copied(alloc, b"flagged")?,
-        add,
-        remove: Flags::empty(),
-        tries: 16,
-    })
-}
-
-// A world of one folder, whose cur has the message `flagged`.
-fn world(alloc: Global) -> Result<World<PlainDirs>, Fail>
-    ensures { IfOk result (λ w. IsFresh w) }
-{
-    let mut image = Vec::new(alloc);
-    image.push(ImageFile {
-        path: Path {
-            folder: 0,
-            place: Place::Cur,
-            name: Bytes::copied(alloc, b"flagged:2,")?,
-        },
-        bytes: Bytes::copied(alloc, b"x")?,
-        stamp: 0,
-    })?;
-    let Ok(dirs) = PlainDirs::from_image(alloc, 1, image) else {
-        return Err(Fail::from("no directories"));
-    };
-    Ok(World::load(alloc, dirs).map_err(|refused| refused.error)?)
-}
-
-// A world with the deliveries of these names, of four steps each.
-fn deliveries(alloc: Global, names: &[&[u8]]) -> Result<World<PlainDirs>, Fail>
-    ensures { IfOk result (λ w. IsFresh w) }
-{
-    let mut world = world(alloc)?;
-    for name in names {
-        let call = delivery(alloc, name)?;
-        if world.submit(call).is_err() {
-            return Err(Fail::from("not submitted"));
-        }
-    }
-    Ok(world)
-}
-
-// Steps a job to its answer, a step once more where it found no memory, and says whether its effect was told.
-fn finish<D: Dirs, J: Naming, R: Wait>(
+// Opens a store of a world, with so many passes, plays a scene there, and closes it; or says why it wasn't opened. Either way the scene sees
+// the world at the end.
+fn play<D: Dirs + Drop, S: Scene<D>, R: Threads + Wait + Abort + Sync>(
     rt: &R,
-    store: &Store<D, J>,
-    pass: &mut Pass<J>,
-    job: JobId,
-) -> (Option<Answer>, bool) {
-    let mut told = false;
-    for _ in 0..64 {
-        match store.step(rt, pass, job, 1000, None) {
-            Ok(step) => {
-                if step.news == News::Told {
-                    told = true;
-                }
-                if step.out.answer.is_some() {
-                    return (step.out.answer, told);
-                }
-            }
-            Err(CoreError::NoMemory) => {}
-            Err(_) => return (None, told),
-        }
+    alloc: Global,
+    world: World<D>,
+    passes: usize,
+    scene: &S,
+) -> Option<OpenError>
+    requires { IsFresh world }
+{
+    match prepare(world, passes) {
+        Ok(prepared) => play_in::<Brand, D, S, R>(rt, alloc, prepared, scene),
+        Err(refused) => refuse(rt, alloc, refused, scene),
     }
-    (None, told)
 }
 
-// Closes a store, and says how many steps and effects its world has.
-fn closed<J: Naming, R: Wait>(rt: &R, store: Store<PlainDirs, J>) -> (usize, usize) {
+fn play_in<J: Naming + Send + Sync, D: Dirs + Drop, S: Scene<D>, R: Threads + Wait + Abort + Sync>(
+    rt: &R,
+    alloc: Global,
+    prepared: Prepared<D>,
+    scene: &S,
+) -> Option<OpenError>
+    requires { (named_of prepared.run.image ≡ J.opening) × (prepared.book ≡ J.book) }
+{
+    match prepared.open::<J, R>(rt, alloc) {
+        Ok((store, passes)) => {
+            play_over(rt, alloc, store, passes, scene);
+            None
+        }
+        Err(refused) => refuse(rt, alloc, refused, scene),
+    }
+}
+
+fn play_over<
+    J: Naming + Send + Sync,
+    D: Dirs + Drop,
+    S: Scene<D>,
+    R: Threads + Wait + Abort + Sync,
+>(rt: &R, alloc: Global, store: Store<D, J>, mut passes: Vec<Pass<J>>, scene: &S) {
+    scene.play(rt, alloc, &store, passes.as_mut_slice());
     let world = store.close(rt);
-    (world.log().len(), world.effects().len())
+    scene.ends(rt, alloc, &world);
 }
 
-// Whether a message is among the entries.
-fn has(entries: &[Entry], unique: &[u8]) -> bool {
-    entries.iter().any(|entry| entry.unique.as_slice() == unique && entry.size == 1)
+fn refuse<D: Dirs + Drop, S: Scene<D>, R: Wait + Abort>(
+    rt: &R,
+    alloc: Global,
+    refused: OpenRefused<D>,
+    scene: &S,
+) -> Option<OpenError> {
+    scene.ends(rt, alloc, &refused.world);
+    Some(refused.error)
 }

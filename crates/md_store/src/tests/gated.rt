@@ -1,13 +1,10 @@
 // A listing while another thread stands inside a directory call, behind the lock.
-ghost use Rattle.std.specs.Prelude.{◌≡◌};
-ghost use Rattle.md_view.specs.Named.{named_of};
-
-use super::delivery;
-use crate::{Naming, News, Pass, Prepared, Store, prepare};
+use super::fixtures::delivery;
+use super::{Scene, play};
+use crate::{Naming, News, Pass, Store};
 use md_core::World;
 use md_dirs::{DirError, Dirs, Path, Place, PlainDirs, Row, RowRef};
 use std::alloc::Global;
-use std::marker::Brand;
 use std::process::Abort;
 use std::sync::atomic::{AtomicBool, Ordering};
 use std::sync::{Arc, Wait};
@@ -87,84 +84,86 @@ impl Dirs for Gated {
     }
 }
 
+// Makes the next step of the one job. Whether it was told.
+fn is_told<J: Naming, R: Wait>(rt: &R, store: &Store<Gated, J>, pass: &mut Pass<J>) -> bool {
+    match store.step(rt, pass, 1, 1000, None) {
+        Ok(step) => step.news == News::Told,
+        Err(_) => false,
+    }
+}
+
+// How many messages a pass lists.
+fn count<J: Naming>(alloc: Global, store: &Store<Gated, J>, pass: &mut Pass<J>) -> Option<usize> {
+    Some(store.list(alloc, pass, 0).ok()?.len())
+}
+
+// A listing made while the link waits.
+#[derive(Drop)]
+struct Gate {
+    reached: Arc<AtomicBool>,
+    go: Arc<AtomicBool>,
+}
+
+impl Gate {
+    // Waits until the link was reached, lists, and lets the link go on.
+    fn look<J: Naming>(
+        &self,
+        alloc: Global,
+        store: &Store<Gated, J>,
+        pass: &mut Pass<J>,
+    ) -> (bool, Option<usize>) {
+        let was_reached = is_set(&self.reached);
+        let listed = count(alloc, store, pass);
+        self.go.store(true, Ordering::SeqCst);
+        (was_reached, listed)
+    }
+}
+
+impl Scene<Gated> for Gate {
+    fn play<J: Naming + Send + Sync, R: Threads + Wait + Abort + Sync>(
+        &self,
+        rt: &R,
+        alloc: Global,
+        store: &Store<Gated, J>,
+        passes: &mut [Pass<J>],
+    ) {
+        assert!(rt; passes.len() == 2);
+        let (one, two) = passes.split_at_mut(1);
+        let one = &mut one[0];
+        let two = &mut two[0];
+        for _ in 0..2 {
+            assert!(rt; store.step(rt, one, 1, 1000, None).is_ok());
+        }
+        let (told, (was_reached, before)) = thread::join(
+            rt,
+            || is_told(rt, store, one),
+            || self.look(alloc, store, two),
+        );
+        assert!(rt; told && was_reached);
+        assert_eq!(rt; (before, count(alloc, store, two)), (Some(0), Some(1)));
+    }
+
+    fn ends<R: Wait + Abort>(&self, rt: &R, _alloc: Global, world: &World<Gated>) {
+        assert_eq!(rt; (world.log().len(), world.effects().len()), (3, 1));
+    }
+}
+
 #[test]
 fn a_listing_waits_for_no_link(rt: HostRuntime) -> Result<(), Fail> {
     let alloc = rt.alloc();
-    let reached = Arc::new(alloc, AtomicBool::new(false))?;
-    let go = Arc::new(alloc, AtomicBool::new(false))?;
+    let gate = Gate {
+        reached: Arc::new(alloc, AtomicBool::new(false))?,
+        go: Arc::new(alloc, AtomicBool::new(false))?,
+    };
     let dirs = Gated {
         dirs: PlainDirs::new(alloc, 1),
-        reached: Arc::try_clone(&reached)?,
-        go: Arc::try_clone(&go)?,
+        reached: Arc::try_clone(&gate.reached)?,
+        go: Arc::try_clone(&gate.go)?,
     };
-    let mut world = match World::load(alloc, dirs) {
-        Ok(world) => world,
-        Err(_) => return Err(Fail::from("not loaded")),
-    };
-    if world.submit(delivery(alloc, b"a")?).is_err() {
-        return Err(Fail::from("not submitted"));
-    }
-    match prepare(world, 2) {
-        Ok(prepared) => run::<Brand, _>(&rt, alloc, prepared, &reached, &go),
-        Err(_) => Err(Fail::from("not prepared")),
-    }
-}
-
-// Makes the next step of the one job.
-fn link<J: Naming, R: Wait>(
-    rt: &R,
-    store: &Store<Gated, J>,
-    mut pass: Pass<J>,
-) -> (Pass<J>, Option<News>) {
-    match store.step(rt, &mut pass, 1, 1000, None) {
-        Ok(step) => (pass, Some(step.news)),
-        Err(_) => (pass, None),
-    }
-}
-
-// Waits until the link was reached, lists, and lets the link go on.
-fn look<J: Naming>(
-    alloc: Global,
-    store: &Store<Gated, J>,
-    mut pass: Pass<J>,
-    reached: &AtomicBool,
-    go: &AtomicBool,
-) -> (Pass<J>, bool, Option<usize>) {
-    let was_reached = is_set(reached);
-    let listed = store.list(alloc, &mut pass, 0).map(|entries| entries.len());
-    go.store(true, Ordering::SeqCst);
-    (pass, was_reached, listed.ok())
-}
-
-fn run<J: Naming + Send + Sync, R: Threads + Wait + Abort + Sync>(
-    rt: &R,
-    alloc: Global,
-    prepared: Prepared<Gated>,
-    reached: &AtomicBool,
-    go: &AtomicBool,
-) -> Result<(), Fail>
-    requires { (named_of prepared.run.image ≡ J.opening) × (prepared.book ≡ J.book) }
-{
-    let (store, mut passes) = match prepared.open::<J, R>(rt, alloc) {
-        Ok(opened) => opened,
-        Err(_) => return Err(Fail::from("not opened")),
-    };
-    let (Some(mut one), Some(two)) = (passes.pop(), passes.pop()) else {
-        drop(store.close(rt));
-        return Err(Fail::from("two passes"));
-    };
-    let made = store.step(rt, &mut one, 1, 1000, None).is_ok()
-        && store.step(rt, &mut one, 1, 1000, None).is_ok();
-    let lent = &store;
-    let ((_one, linked), (mut two, was_reached, before)) = thread::join(
-        rt,
-        || link(rt, lent, one),
-        || look(alloc, lent, two, reached, go),
-    );
-    let after = store.list(alloc, &mut two, 0).map(|entries| entries.len());
-    drop(store.close(rt));
-    assert!(rt; made && was_reached);
-    assert_eq!(rt; linked, Some(News::Told));
-    assert_eq!(rt; (before, after.ok()), (Some(0), Some(1)));
+    let mut world = World::load(alloc, dirs).map_err(|refused| refused.error)?;
+    world
+        .submit(delivery(alloc, b"a")?)
+        .map_err(|refused| refused.error)?;
+    assert_eq!(rt; play(&rt, alloc, world, 2, &gate), None);
     Ok(())
 }

@@ -1,53 +1,37 @@
-// One refused allocation in the store leaves this passing: an effect whose publishing was refused is published by the next step.
-ghost use Rattle.std.specs.Prelude.{◌≡◌};
-ghost use Rattle.md_view.specs.Named.{named_of};
-
-use super::{closed, deliveries, has};
-use crate::{ListError, Naming, News, Pass, Prepared, Store, prepare};
-use md_core::{Answer, CoreError};
+// A flag change of which one allocation in the store may be refused, whichever it is: the step answers that there is no memory and is made
+// again, or its effect is published by the next step. `rt try --test --fail-alloc N..` refuses each in turn.
+use super::fixtures::{flagging, shows, with_message};
+use super::{Scene, play};
+use crate::{ListError, Naming, News, Pass, Store};
+use md_core::{CoreError, World};
 use md_dirs::PlainDirs;
 use md_view::Entry;
 use std::alloc::Global;
-use std::marker::Brand;
 use std::process::Abort;
 use std::sync::Wait;
 use std::test::Fail;
+use std::thread::Threads;
 
-#[test]
-fn an_effect_is_published_later(rt: HostRuntime) -> Result<(), Fail> {
-    let alloc = rt.alloc();
-    match prepare(deliveries(alloc, &[b"a"])?, 1) {
-        Ok(prepared) => deliver::<Brand, _>(&rt, alloc, prepared),
-        Err(_) => Err(Fail::from("not prepared")),
-    }
-}
+// Two flag changes of one message, of which the second meets the first.
+#[derive(Drop)]
+struct Flaggers;
 
-// Steps the one job to its answer, making a step again where it found no memory. How many effects came later, and the answer.
-fn finish<J: Naming, R: Wait>(
+// Makes a step of a job, once more where it found no memory.
+fn step<J: Naming, R: Wait>(
     rt: &R,
     store: &Store<PlainDirs, J>,
     pass: &mut Pass<J>,
-) -> (u32, Option<Answer>) {
-    let mut later = 0u32;
-    for _ in 0..8 {
-        match store.step(rt, pass, 1, 1000, None) {
-            Ok(step) => {
-                if step.news == News::Later {
-                    later = later.wrapping_add(1);
-                }
-                if step.out.answer.is_some() {
-                    return (later, step.out.answer);
-                }
-            }
-            Err(CoreError::NoMemory) => {}
-            Err(_) => return (later, None),
-        }
+    job: u64,
+) -> Option<News> {
+    let mut made = store.step(rt, pass, job, 1, None);
+    if let Err(CoreError::NoMemory) = made {
+        made = store.step(rt, pass, job, 1, None);
     }
-    (later, None)
+    Some(made.ok()?.news)
 }
 
-// Lists once more where there was no memory.
-fn listed<J: Naming>(
+// Lists, once more where there was no memory.
+fn list<J: Naming>(
     alloc: Global,
     store: &Store<PlainDirs, J>,
     pass: &mut Pass<J>,
@@ -58,29 +42,36 @@ fn listed<J: Naming>(
     }
 }
 
-fn deliver<J: Naming, R: Wait + Abort>(
-    rt: &R,
-    alloc: Global,
-    prepared: Prepared<PlainDirs>,
-) -> Result<(), Fail>
-    requires { (named_of prepared.run.image ≡ J.opening) × (prepared.book ≡ J.book) }
-{
-    let (store, mut passes) = match prepared.open::<J, R>(rt, alloc) {
-        Ok(opened) => opened,
-        Err(_) => return Err(Fail::from("not opened")),
-    };
-    let Some(mut pass) = passes.pop() else {
-        drop(store.close(rt));
-        return Err(Fail::from("no pass"));
-    };
-    let (later, answer) = finish(rt, &store, &mut pass);
-    let entries = listed(alloc, &store, &mut pass);
-    drop(pass);
-    let counts = closed(rt, store);
-    assert!(rt; later <= 1);
-    assert_eq!(rt; answer, Some(Answer::Delivered));
-    let entries = entries.map_err(|_| Fail::from("not listed"))?;
-    assert!(rt; entries.len() == 2 && has(&entries, b"a"));
-    assert_eq!(rt; counts, (4, 1));
+impl Scene<PlainDirs> for Flaggers {
+    fn play<J: Naming + Send + Sync, R: Threads + Wait + Abort + Sync>(
+        &self,
+        rt: &R,
+        alloc: Global,
+        store: &Store<PlainDirs, J>,
+        passes: &mut [Pass<J>],
+    ) {
+        assert!(rt; passes.len() == 1);
+        let pass = &mut passes[0];
+        assert_eq!(rt; step(rt, store, pass, 1), Some(News::NoEffect));
+        let first = step(rt, store, pass, 1);
+        assert!(rt; first == Some(News::Told) || first == Some(News::Later));
+        assert_eq!(rt; step(rt, store, pass, 2), Some(News::NoEffect));
+        let listed = list(alloc, store, pass);
+        assert!(rt; matches!(listed, Ok(entries) if shows(&entries, b"u:2,FS")));
+    }
+
+    fn ends<R: Wait + Abort>(&self, rt: &R, _alloc: Global, world: &World<PlainDirs>) {
+        assert_eq!(rt; (world.log().len(), world.effects().len()), (3, 1));
+    }
+}
+
+#[test]
+fn an_effect_is_published_later(rt: HostRuntime) -> Result<(), Fail> {
+    let alloc = rt.alloc();
+    let mut calls = Vec::new(alloc);
+    calls.push(flagging(alloc, b"u", b"F")?)?;
+    calls.push(flagging(alloc, b"u", b"R")?)?;
+    let world = with_message(alloc, b"u:2,S", calls)?;
+    assert_eq!(rt; play(&rt, alloc, world, 1, &Flaggers), None);
     Ok(())
 }

@@ -1,62 +1,49 @@
 // Each call once, over one thread.
-ghost use Rattle.std.specs.Prelude.{◌≡◌};
-ghost use Rattle.md_view.specs.Named.{named_of};
-
-use super::{closed, deliveries, finish, world};
-use crate::{ListError, Naming, OpenError, Pass, Prepared, Store, prepare};
-use md_core::{Answer, Call, CoreError};
+use super::fixtures::{deliveries, finish, with_message, world};
+use super::{Scene, play};
+use crate::{ListError, Naming, News, OpenError, Pass, Store};
+use md_core::{Answer, Call, CoreError, World};
 use md_dirs::{Bytes, PlainDirs};
 use std::alloc::{AllocError, Global};
-use std::marker::Brand;
 use std::process::Abort;
 use std::sync::Wait;
 use std::test::Fail;
+use std::thread::Threads;
+
+// Looks at how many passes there are.
+#[derive(Drop)]
+struct Passes(usize);
+
+impl Scene<PlainDirs> for Passes {
+    fn play<J: Naming + Send + Sync, R: Threads + Wait + Abort + Sync>(
+        &self,
+        rt: &R,
+        _alloc: Global,
+        _store: &Store<PlainDirs, J>,
+        passes: &mut [Pass<J>],
+    ) {
+        assert_eq!(rt; passes.len(), self.0);
+    }
+
+    fn ends<R: Wait + Abort>(&self, rt: &R, _alloc: Global, world: &World<PlainDirs>) {
+        assert_eq!(rt; world.jobs(), 1);
+    }
+}
 
 #[test]
 fn passes_are_1_to_64(rt: HostRuntime) -> Result<(), Fail> {
     let alloc = rt.alloc();
-    for passes in [0, 65, 64, 2] {
-        match prepare(deliveries(alloc, &[b"a"])?, passes) {
-            Ok(prepared) => open::<Brand, _>(&rt, alloc, prepared, passes)?,
-            Err(refused) => {
-                assert_eq!(rt; refused.error, OpenError::BadPasses);
-                assert_eq!(rt; refused.world.jobs(), 1);
-                assert!(rt; passes == 0 || passes == 65);
-            }
-        }
+    let refused = Some(OpenError::BadPasses);
+    for (passes, refusal) in [(0, refused), (65, refused), (64, None), (2, None)] {
+        let world = with_message(alloc, b"u", deliveries(alloc, &[b"a"])?)?;
+        assert_eq!(rt; play(&rt, alloc, world, passes, &Passes(passes)), refusal);
     }
     Ok(())
 }
 
-fn open<J: Naming, R: Wait + Abort>(
-    rt: &R,
-    alloc: Global,
-    prepared: Prepared<PlainDirs>,
-    passes: usize,
-) -> Result<(), Fail>
-    requires { (named_of prepared.run.image ≡ J.opening) × (prepared.book ≡ J.book) }
-{
-    match prepared.open::<J, R>(rt, alloc) {
-        Ok((store, all)) => {
-            let count = all.len();
-            drop(all);
-            drop(store.close(rt));
-            assert_eq!(rt; count, passes);
-        }
-        Err(refused) => assert!(rt; refused.error != OpenError::BadPasses),
-    }
-    Ok(())
-}
-
-#[test]
-fn read_and_submit_through_the_lock(rt: HostRuntime) -> Result<(), Fail> {
-    let alloc = rt.alloc();
-    let calls = (hello(alloc)?, hello(alloc)?);
-    match prepare(world(alloc)?, 1) {
-        Ok(prepared) => read_and_submit::<Brand, _>(&rt, alloc, prepared, calls),
-        Err(_) => Err(Fail::from("not prepared")),
-    }
-}
+// Submits, delivers and reads, and makes each call that is refused.
+#[derive(Drop)]
+struct Refusals;
 
 // The delivery of `hello` and a line end: it takes five steps.
 fn hello(alloc: Global) -> Result<Call, AllocError> {
@@ -68,71 +55,75 @@ fn hello(alloc: Global) -> Result<Call, AllocError> {
     })
 }
 
-// Submits the delivery, steps it to its answer, and steps it and the job behind it once more.
-fn deliver<J: Naming, R: Wait>(
-    rt: &R,
-    store: &Store<PlainDirs, J>,
-    pass: &mut Pass<J>,
-    call: Call,
-) -> (bool, Option<CoreError>, Option<CoreError>) {
-    if store.submit(rt, call).is_err() {
-        return (false, None, None);
-    }
-    let done = finish(rt, store, pass, 1);
-    let again = store.step(rt, pass, 1, 1000, None).err();
-    let absent = store.step(rt, pass, 2, 1000, None).err();
-    (done == (Some(Answer::Delivered), true), again, absent)
-}
-
-// Whether the message is read, and none under another name.
-fn is_read<J: Naming, R: Wait>(rt: &R, alloc: Global, store: &Store<PlainDirs, J>) -> bool {
-    let read = match store.read(rt, alloc, b"u") {
-        Ok(Some(bytes)) => bytes.as_slice() == b"hello\n".as_slice(),
-        _ => false,
-    };
-    read && matches!(store.read(rt, alloc, b"v"), Ok(None))
-}
-
-// Whether the delivery is refused, its name being used, and comes back.
-fn is_used<J: Naming, R: Wait>(rt: &R, store: &Store<PlainDirs, J>, call: Call) -> bool {
-    match store.submit(rt, call) {
-        Ok(_) => false,
-        Err(refused) => {
-            let comes_back = matches!(refused.call, Call::Deliver { chunk: 4, .. });
-            comes_back && refused.error == CoreError::NameUsed
-        }
+// Submits the delivery.
+fn submits<J: Naming, R: Wait>(rt: &R, alloc: Global, store: &Store<PlainDirs, J>) -> bool {
+    match hello(alloc) {
+        Ok(call) => store.submit(rt, call).is_ok(),
+        Err(_) => false,
     }
 }
 
-fn read_and_submit<J: Naming, R: Wait + Abort>(
+// Whether the bytes of a name are read, or that there are none.
+fn reads<J: Naming, R: Wait>(
     rt: &R,
     alloc: Global,
-    prepared: Prepared<PlainDirs>,
-    calls: (Call, Call),
-) -> Result<(), Fail>
-    requires { (named_of prepared.run.image ≡ J.opening) × (prepared.book ≡ J.book) }
-{
-    let (store, mut passes) = match prepared.open::<J, R>(rt, alloc) {
-        Ok(opened) => opened,
-        Err(_) => return Err(Fail::from("not opened")),
-    };
-    let Some(mut pass) = passes.pop() else {
-        drop(store.close(rt));
-        return Err(Fail::from("no pass"));
-    };
-    let (first, second) = calls;
-    let steps = deliver(rt, &store, &mut pass, first);
-    let read = is_read(rt, alloc, &store);
-    let used = is_used(rt, &store, second);
-    let no_folder = store.list(alloc, &mut pass, 1).err();
-    drop(pass);
-    let counts = closed(rt, store);
-    assert_eq!(rt;
-        steps,
-        (true, Some(CoreError::Answered), Some(CoreError::NoJob))
-    );
-    assert!(rt; read && used);
-    assert_eq!(rt; no_folder, Some(ListError::NoFolder));
-    assert_eq!(rt; counts, (5, 1));
+    store: &Store<PlainDirs, J>,
+    unique: &[u8],
+    wanted: Option<&[u8]>,
+) -> bool {
+    match store.read(rt, alloc, unique) {
+        Ok(read) => read.as_ref().map(|bytes| bytes.as_slice()) == wanted,
+        Err(_) => false,
+    }
+}
+
+// The refusal of a second delivery under one name, which comes back.
+fn refusal<J: Naming, R: Wait>(
+    rt: &R,
+    alloc: Global,
+    store: &Store<PlainDirs, J>,
+) -> Option<CoreError> {
+    let refused = store.submit(rt, hello(alloc).ok()?).err()?;
+    if matches!(refused.call, Call::Deliver { chunk: 4, .. }) {
+        Some(refused.error)
+    } else {
+        None
+    }
+}
+
+impl Scene<PlainDirs> for Refusals {
+    fn play<J: Naming + Send + Sync, R: Threads + Wait + Abort + Sync>(
+        &self,
+        rt: &R,
+        alloc: Global,
+        store: &Store<PlainDirs, J>,
+        passes: &mut [Pass<J>],
+    ) {
+        assert!(rt; passes.len() == 1);
+        let pass = &mut passes[0];
+        assert!(rt; submits(rt, alloc, store));
+        let done = finish(rt, store, pass, 1);
+        assert_eq!(rt; done, (Some(Answer::Delivered), News::Told));
+        assert!(rt; reads(rt, alloc, store, b"u", Some(b"hello\n")));
+        assert!(rt; reads(rt, alloc, store, b"v", None));
+        assert_eq!(rt; refusal(rt, alloc, store), Some(CoreError::NameUsed));
+        let again = store.step(rt, pass, 1, 1000, None);
+        assert_eq!(rt; again.err(), Some(CoreError::Answered));
+        let absent = store.step(rt, pass, 2, 1000, None);
+        assert_eq!(rt; absent.err(), Some(CoreError::NoJob));
+        let listed = store.list(alloc, pass, 1);
+        assert_eq!(rt; listed.err(), Some(ListError::NoFolder));
+    }
+
+    fn ends<R: Wait + Abort>(&self, rt: &R, _alloc: Global, world: &World<PlainDirs>) {
+        assert_eq!(rt; (world.log().len(), world.effects().len()), (5, 1));
+    }
+}
+
+#[test]
+fn read_and_submit_through_the_lock(rt: HostRuntime) -> Result<(), Fail> {
+    let alloc = rt.alloc();
+    let world = world(alloc, 1, Vec::new(alloc), Vec::new(alloc))?;
+    assert_eq!(rt; play(&rt, alloc, world, 1, &Refusals), None);
     Ok(())
 }

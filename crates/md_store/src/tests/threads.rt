@@ -1,156 +1,183 @@
 // Threads that step and list.
-ghost use Rattle.std.specs.Prelude.{◌≡◌, IfOk};
-ghost use Rattle.md_view.specs.Named.{named_of};
-ghost use Rattle.md_store.specs.Locks.{IsFresh};
-
-use super::{closed, deliveries, finish, flagging, has};
-use crate::{Naming, Pass, Prepared, Store, prepare};
+use super::fixtures::{deliveries, finish, flagging, shows, with_message};
+use super::{Scene, play};
+use crate::{Naming, News, Pass, Store};
 use md_core::{Answer, World};
 use md_dirs::PlainDirs;
 use std::alloc::Global;
-use std::marker::Brand;
 use std::process::Abort;
 use std::sync::Wait;
+use std::sync::atomic::{AtomicU64, Ordering};
 use std::test::Fail;
 use std::thread;
 use std::thread::Threads;
 
-const NAMES: [&[u8]; 8] = [b"a", b"b", b"c", b"d", b"e", b"f", b"g", b"h"];
+// Four names for each of four threads.
+static NAMES: [&[u8]; 16] = [
+    b"a", b"b", b"c", b"d", b"e", b"f", b"g", b"h", b"i", b"j", b"k", b"l", b"m", b"n", b"o", b"p",
+];
 
-// Steps four jobs to their answers, and lists after each. It counts the deliveries that were told and then listed.
+// Steps the four deliveries of a thread to their answers, and lists after each. How many of them were told and then listed.
 fn deliver<J: Naming, R: Wait>(
     rt: &R,
     alloc: Global,
     store: &Store<PlainDirs, J>,
-    mut pass: Pass<J>,
-    from: usize,
-) -> (Pass<J>, u32) {
-    let mut listed = 0u32;
+    pass: &mut Pass<J>,
+    thread: usize,
+) -> u64 {
+    let mut listed = 0u64;
     for (number, name) in NAMES.iter().enumerate() {
-        if number < from || number - from >= 4 {
+        if number / 4 != thread {
             continue;
         }
-        let done = finish(rt, store, &mut pass, number as u64 + 1);
-        match store.list(alloc, &mut pass, 0) {
-            Ok(entries) => {
-                if done == (Some(Answer::Delivered), true) && has(&entries, name) {
-                    listed = listed.wrapping_add(1);
-                }
-            }
-            Err(_) => {}
+        let done = finish(rt, store, pass, number as u64 + 1);
+        let is_listed = match store.list(alloc, pass, 0) {
+            Ok(entries) => shows(&entries, name),
+            Err(_) => false,
+        };
+        if is_listed && done == (Some(Answer::Delivered), News::Told) {
+            listed = listed.wrapping_add(1);
         }
     }
-    (pass, listed)
+    listed
 }
 
-// Steps the jobs 5 to 8 to their answers.
-fn flag<J: Naming, R: Wait>(
-    rt: &R,
-    store: &Store<PlainDirs, J>,
-    mut pass: Pass<J>,
-) -> (Pass<J>, bool) {
-    let mut all = true;
-    for job in 5..9 {
-        let (answer, _told) = finish(rt, store, &mut pass, job);
-        all = all && matches!(answer, Some(Answer::Flags(_)));
+// So many threads, of four deliveries each.
+#[derive(Drop)]
+struct Deliverers(usize);
+
+impl Scene<PlainDirs> for Deliverers {
+    fn play<J: Naming + Send + Sync, R: Threads + Wait + Abort + Sync>(
+        &self,
+        rt: &R,
+        alloc: Global,
+        store: &Store<PlainDirs, J>,
+        passes: &mut [Pass<J>],
+    ) {
+        let listed = AtomicU64::new(0);
+        assert!(rt; passes.len() == self.0 && self.0 > 0);
+        thread::for_each_mut(rt, passes, self.0, &|thread, pass| {
+            listed.fetch_add(deliver(rt, alloc, store, pass, thread), Ordering::SeqCst);
+        });
+        let wanted = 4u64.wrapping_mul(self.0 as u64);
+        assert_eq!(rt; listed.load(Ordering::SeqCst), wanted);
     }
-    (pass, all)
+
+    fn ends<R: Wait + Abort>(&self, rt: &R, _alloc: Global, world: &World<PlainDirs>) {
+        assert_eq!(rt; world.log().len(), self.0.wrapping_mul(16));
+        assert_eq!(rt; world.effects().len(), self.0.wrapping_mul(4));
+    }
 }
 
 #[test]
-fn two_threads_deliver(rt: HostRuntime) -> Result<(), Fail> {
+fn threads_deliver(rt: HostRuntime) -> Result<(), Fail> {
     let alloc = rt.alloc();
-    match prepare(deliveries(alloc, &NAMES)?, 2) {
-        Ok(prepared) => deliver_both::<Brand, _>(&rt, alloc, prepared),
-        Err(_) => Err(Fail::from("not prepared")),
+    for threads in [2, 4] {
+        let world = with_message(alloc, b"z", deliveries(alloc, &NAMES)?)?;
+        assert_eq!(rt; play(&rt, alloc, world, threads, &Deliverers(threads)), None);
     }
-}
-
-fn deliver_both<J: Naming + Send + Sync, R: Threads + Wait + Abort + Sync>(
-    rt: &R,
-    alloc: Global,
-    prepared: Prepared<PlainDirs>,
-) -> Result<(), Fail>
-    requires { (named_of prepared.run.image ≡ J.opening) × (prepared.book ≡ J.book) }
-{
-    let (store, mut passes) = match prepared.open::<J, R>(rt, alloc) {
-        Ok(opened) => opened,
-        Err(_) => return Err(Fail::from("not opened")),
-    };
-    let (Some(one), Some(two)) = (passes.pop(), passes.pop()) else {
-        drop(store.close(rt));
-        return Err(Fail::from("two passes"));
-    };
-    let lent = &store;
-    let ((one, a), (two, b)) = thread::join(
-        rt,
-        || deliver(rt, alloc, lent, one, 0),
-        || deliver(rt, alloc, lent, two, 4),
-    );
-    drop(one);
-    drop(two);
-    let counts = closed(rt, store);
-    assert_eq!(rt; (a, b), (4, 4));
-    assert_eq!(rt; counts, (32, 8));
     Ok(())
 }
 
-// Four deliveries and four flaggings.
-fn flaggings(alloc: Global) -> Result<World<PlainDirs>, Fail>
-    ensures { IfOk result (λ w. IsFresh w) }
-{
-    let mut world = deliveries(alloc, &[b"a", b"b", b"c", b"d"])?;
-    let letters: [&[u8]; 4] = [b"F", b"R", b"S", b"T"];
-    for letter in letters {
-        if world.submit(flagging(alloc, letter)?).is_err() {
-            return Err(Fail::from("not submitted"));
+// One thread delivers while a second flags another message. A third pass lists before and behind them: it makes no step, and so it learns
+// of their effects by listing alone.
+#[derive(Drop)]
+struct DelivererAndFlagger;
+
+// Steps the jobs 5 to 8 to their answers. How many of them are flags.
+fn flag<J: Naming, R: Wait>(rt: &R, store: &Store<PlainDirs, J>, pass: &mut Pass<J>) -> u64 {
+    let mut flagged = 0u64;
+    for job in 5..9 {
+        if let (Some(Answer::Flags(_)), News::Told) = finish(rt, store, pass, job) {
+            flagged = flagged.wrapping_add(1);
         }
     }
-    Ok(world)
+    flagged
+}
+
+// How many messages a pass lists.
+fn count<J: Naming>(
+    alloc: Global,
+    store: &Store<PlainDirs, J>,
+    pass: &mut Pass<J>,
+) -> Option<usize> {
+    Some(store.list(alloc, pass, 0).ok()?.len())
+}
+
+impl Scene<PlainDirs> for DelivererAndFlagger {
+    fn play<J: Naming + Send + Sync, R: Threads + Wait + Abort + Sync>(
+        &self,
+        rt: &R,
+        alloc: Global,
+        store: &Store<PlainDirs, J>,
+        passes: &mut [Pass<J>],
+    ) {
+        assert!(rt; passes.len() == 3);
+        let (threads, third) = passes.split_at_mut(2);
+        let third = &mut third[0];
+        assert_eq!(rt; count(alloc, store, third), Some(1));
+        let done = AtomicU64::new(0);
+        thread::for_each_mut(rt, threads, 2, &|thread, pass| {
+            let made = match thread {
+                0 => deliver(rt, alloc, store, pass, thread),
+                _ => flag(rt, store, pass),
+            };
+            done.fetch_add(made, Ordering::SeqCst);
+        });
+        assert_eq!(rt; done.load(Ordering::SeqCst), 8);
+        assert_eq!(rt; count(alloc, store, third), Some(5));
+    }
+
+    fn ends<R: Wait + Abort>(&self, rt: &R, _alloc: Global, world: &World<PlainDirs>) {
+        assert_eq!(rt; world.effects().len(), 8);
+    }
 }
 
 #[test]
 fn a_told_delivery_is_listed(rt: HostRuntime) -> Result<(), Fail> {
     let alloc = rt.alloc();
-    match prepare(flaggings(alloc)?, 3) {
-        Ok(prepared) => deliver_and_flag::<Brand, _>(&rt, alloc, prepared),
-        Err(_) => Err(Fail::from("not prepared")),
+    let mut calls = deliveries(alloc, &[b"a", b"b", b"c", b"d"])?;
+    for letters in [b"F", b"R", b"S", b"T"] {
+        calls.push(flagging(alloc, b"z", letters)?)?;
+    }
+    let world = with_message(alloc, b"z:2,", calls)?;
+    assert_eq!(rt; play(&rt, alloc, world, 3, &DelivererAndFlagger), None);
+    Ok(())
+}
+
+// A pass lists, another thread delivers and ends, and the pass lists once more. It makes no step.
+#[derive(Drop)]
+struct Newcomer;
+
+impl Scene<PlainDirs> for Newcomer {
+    fn play<J: Naming + Send + Sync, R: Threads + Wait + Abort + Sync>(
+        &self,
+        rt: &R,
+        alloc: Global,
+        store: &Store<PlainDirs, J>,
+        passes: &mut [Pass<J>],
+    ) {
+        assert!(rt; passes.len() == 2);
+        let (mine, theirs) = passes.split_at_mut(1);
+        let mine = &mut mine[0];
+        let theirs = &mut theirs[0];
+        let before = count(alloc, store, mine);
+        let (done, _) = thread::join(rt, || finish(rt, store, theirs, 1), || ());
+        let after = store.list(alloc, mine, 0);
+        assert_eq!(rt; before, Some(1));
+        assert_eq!(rt; done, (Some(Answer::Delivered), News::Told));
+        assert!(rt; matches!(after, Ok(entries) if shows(&entries, b"a")));
+    }
+
+    fn ends<R: Wait + Abort>(&self, rt: &R, _alloc: Global, world: &World<PlainDirs>) {
+        assert_eq!(rt; world.effects().len(), 1);
     }
 }
 
-// A third pass lists before the threads run and behind them: it makes no step, and so it learns of their effects by listing alone.
-fn deliver_and_flag<J: Naming + Send + Sync, R: Threads + Wait + Abort + Sync>(
-    rt: &R,
-    alloc: Global,
-    prepared: Prepared<PlainDirs>,
-) -> Result<(), Fail>
-    requires { (named_of prepared.run.image ≡ J.opening) × (prepared.book ≡ J.book) }
-{
-    let (store, mut passes) = match prepared.open::<J, R>(rt, alloc) {
-        Ok(opened) => opened,
-        Err(_) => return Err(Fail::from("not opened")),
-    };
-    let (Some(one), Some(two), Some(mut three)) = (passes.pop(), passes.pop(), passes.pop()) else {
-        drop(store.close(rt));
-        return Err(Fail::from("three passes"));
-    };
-    let lent = &store;
-    let before = store
-        .list(alloc, &mut three, 0)
-        .map(|entries| entries.len());
-    let ((one, listed), (two, flagged)) = thread::join(
-        rt,
-        || deliver(rt, alloc, lent, one, 0),
-        || flag(rt, lent, two),
-    );
-    let after = store
-        .list(alloc, &mut three, 0)
-        .map(|entries| entries.len());
-    drop(one);
-    drop(two);
-    drop(three);
-    drop(store.close(rt));
-    assert_eq!(rt; (listed, flagged), (4, true));
-    assert_eq!(rt; (before.ok(), after.ok()), (Some(1), Some(5)));
+#[test]
+fn a_listing_enters_anew(rt: HostRuntime) -> Result<(), Fail> {
+    let alloc = rt.alloc();
+    let world = with_message(alloc, b"z", deliveries(alloc, &[b"a"])?)?;
+    assert_eq!(rt; play(&rt, alloc, world, 2, &Newcomer), None);
     Ok(())
 }
