@@ -33,7 +33,12 @@ pub fn flagging(alloc: Global, unique: &[u8], letters: &[u8]) -> Result<Call, Al
 }
 
 // A message of one byte.
-pub fn file(alloc: Global, folder: u32, place: Place, name: &[u8]) -> Result<ImageFile, AllocError> {
+pub fn file(
+    alloc: Global,
+    folder: u32,
+    place: Place,
+    name: &[u8],
+) -> Result<ImageFile, AllocError> {
     Ok(ImageFile {
         path: Path {
             folder,
@@ -65,11 +70,7 @@ pub fn world(
 }
 
 // A world of one folder, whose cur has one message.
-pub fn with_message(
-    alloc: Global,
-    name: &[u8],
-    calls: Vec<Call>,
-) -> Result<World<PlainDirs>, Fail>
+pub fn with_message(alloc: Global, name: &[u8], calls: Vec<Call>) -> Result<World<PlainDirs>, Fail>
     ensures { IfOk result (λ w. IsFresh w) }
 {
     let mut image = Vec::new(alloc);

@@ -1,6 +1,6 @@
 // A listing while another thread stands inside a directory call, behind the lock.
 use super::fixtures::delivery;
-use super::{Scene, play};
+use super::scene::{Scene, play};
 use crate::{Naming, News, Pass, Store};
 use md_core::World;
 use md_dirs::{DirError, Dirs, Path, Place, PlainDirs, Row, RowRef};
@@ -119,6 +119,23 @@ impl Gate {
     }
 }
 
+// One thread makes the link, and another looks while it waits.
+fn link_and_look<J: Naming + Send + Sync, R: Threads + Wait + Sync>(
+    rt: &R,
+    alloc: Global,
+    gate: &Gate,
+    store: &Store<Gated, J>,
+    one: &mut Pass<J>,
+    two: &mut Pass<J>,
+) -> (bool, bool, Option<usize>) {
+    let (told, (was_reached, before)) = thread::join(
+        rt,
+        || is_told(rt, store, one),
+        || gate.look(alloc, store, two),
+    );
+    (told, was_reached, before)
+}
+
 impl Scene<Gated> for Gate {
     fn play<J: Naming + Send + Sync, R: Threads + Wait + Abort + Sync>(
         &self,
@@ -134,11 +151,7 @@ impl Scene<Gated> for Gate {
         for _ in 0..2 {
             assert!(rt; store.step(rt, one, 1, 1000, None).is_ok());
         }
-        let (told, (was_reached, before)) = thread::join(
-            rt,
-            || is_told(rt, store, one),
-            || self.look(alloc, store, two),
-        );
+        let (told, was_reached, before) = link_and_look(rt, alloc, self, store, one, two);
         assert!(rt; told && was_reached);
         assert_eq!(rt; (before, count(alloc, store, two)), (Some(0), Some(1)));
     }

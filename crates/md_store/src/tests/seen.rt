@@ -1,6 +1,6 @@
 // What passes see of one another's steps, over one thread.
 use super::fixtures::{delivery, file, finish, flagging, shows, world};
-use super::{Scene, play};
+use super::scene::{Scene, play};
 use crate::{Naming, News, Pass, Store};
 use md_core::{Answer, Call, World};
 use md_dirs::{Bytes, Place, PlainDirs};
@@ -127,9 +127,7 @@ fn is_copied<J: Naming, R: Wait>(
 ) -> bool {
     let copied = finish(rt, store, pass, 6);
     let entries = list(alloc, store, pass, 1);
-    copied == (Some(Answer::Copied), News::Told)
-        && entries.len() == 1
-        && shows(&entries, b"d:2,S")
+    copied == (Some(Answer::Copied), News::Told) && entries.len() == 1 && shows(&entries, b"d:2,S")
 }
 
 impl Scene<PlainDirs> for TwoPasses {

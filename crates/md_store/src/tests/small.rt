@@ -1,6 +1,6 @@
 // Each call once, over one thread.
 use super::fixtures::{deliveries, finish, with_message, world};
-use super::{Scene, play};
+use super::scene::{Scene, play};
 use crate::{ListError, Naming, News, OpenError, Pass, Store};
 use md_core::{Answer, Call, CoreError, World};
 use md_dirs::{Bytes, PlainDirs};

@@ -2,7 +2,7 @@
 // showed two beginnings of the log, no earlier than those of the listing before nor than the effect that its pass was told of last. So no
 // two passes saw the effects in different orders.
 use super::fixtures::{file, finish, world};
-use super::{Scene, play};
+use super::scene::{Scene, play};
 use crate::{Naming, News, Pass, Store};
 use md_core::{Call, Change, Effect, World};
 use md_dirs::{Bytes, ImageFile, Place, PlainDirs};
@@ -19,9 +19,6 @@ use std::thread::Threads;
 const THREADS: usize = 16;
 
 const MESSAGES: u64 = 1000;
-
-/// How many calls a thread makes.
-const CALLS: u64 = 128;
 
 /// A listing is made behind so many calls.
 const CALLS_A_LISTING: u64 = 8;
@@ -167,15 +164,15 @@ fn call(alloc: Global, number: u64) -> Result<Call, AllocError> {
             unique,
             tries: 16,
         },
-        _ => Call::Clean {
-            folder,
-        },
+        _ => Call::Clean { folder },
     })
 }
 
 // The threads' listings, and the sums of the opening names.
 #[derive(Drop)]
 struct Stampede {
+    seed: u64,
+    calls: u64,
     opening: Sums,
     readings: Mutex<Vec<Reading>>,
 }
@@ -226,8 +223,9 @@ impl Stampede {
     ) -> u64 {
         let mut told = 0;
         let mut effects = 0u64;
-        for turn in 0..CALLS {
-            let number = (thread as u64).wrapping_mul(CALLS).wrapping_add(turn);
+        let seed = self.seed.wrapping_add(thread as u64);
+        for turn in 0..self.calls {
+            let number = seed.wrapping_mul(self.calls).wrapping_add(turn);
             if let Some(job) = make(rt, alloc, store, pass, number) {
                 told = job;
                 effects = effects.wrapping_add(1);
@@ -252,12 +250,29 @@ impl Stampede {
     }
 }
 
-// The sums at each beginning of the log.
-fn beginnings(
+// Runs all threads. How many effects were told.
+fn run_all<J: Naming + Send + Sync, R: Threads + Wait + Sync>(
+    rt: &R,
     alloc: Global,
-    opening: Sums,
-    effects: &[Effect],
-) -> Result<Vec<Sums>, AllocError> {
+    stampede: &Stampede,
+    store: &Store<PlainDirs, J>,
+    passes: &mut [Pass<J>],
+) -> u64 {
+    let effects = AtomicU64::new(0);
+    thread::for_each_mut(
+        rt,
+        passes,
+        THREADS,
+        &|thread, pass| {
+            let told = stampede.run(rt, alloc, store, pass, thread);
+            effects.fetch_add(told, Ordering::SeqCst);
+        },
+    );
+    effects.load(Ordering::SeqCst)
+}
+
+// The sums at each beginning of the log.
+fn beginnings(alloc: Global, opening: Sums, effects: &[Effect]) -> Result<Vec<Sums>, AllocError> {
     let mut sums = opening;
     let mut all = Vec::new(alloc);
     all.push(sums)?;
@@ -289,12 +304,7 @@ fn with_effect(effects: &[Effect], job: u64) -> usize {
 }
 
 // The beginning that a listing ended with, where it showed one from here on and a later one.
-fn shown(
-    beginnings: &[Sums],
-    effects: &[Effect],
-    from: usize,
-    reading: &Reading,
-) -> Option<usize> {
+fn shown(beginnings: &[Sums], effects: &[Effect], from: usize, reading: &Reading) -> Option<usize> {
     let told = from.max(with_effect(effects, reading.told));
     let first = found(
         beginnings,
@@ -348,12 +358,7 @@ impl Scene<PlainDirs> for Stampede {
         store: &Store<PlainDirs, J>,
         passes: &mut [Pass<J>],
     ) {
-        let effects = AtomicU64::new(0);
-        thread::for_each_mut(rt, passes, THREADS, &|thread, pass| {
-            let told = self.run(rt, alloc, store, pass, thread);
-            effects.fetch_add(told, Ordering::SeqCst);
-        });
-        assert!(rt; effects.load(Ordering::SeqCst) > 500);
+        assert!(rt; run_all(rt, alloc, self, store, passes) > 500);
     }
 
     fn ends<R: Wait + Abort>(&self, rt: &R, alloc: Global, world: &World<PlainDirs>) {
@@ -362,7 +367,8 @@ impl Scene<PlainDirs> for Stampede {
         let beginnings = beginnings.expect(rt, "no memory");
         assert_eq!(rt; beginnings.last().copied(), sums_of(alloc, world));
         let readings = self.readings.lock(rt);
-        assert_eq!(rt; readings.len(), 256);
+        let listings = self.calls / CALLS_A_LISTING * THREADS as u64;
+        assert_eq!(rt; readings.len() as u64, listings);
         for pass in 0..THREADS {
             assert!(rt; are_in_order(&beginnings, effects, &readings, pass));
         }
@@ -385,19 +391,35 @@ fn image(alloc: Global) -> Result<Vec<ImageFile>, AllocError> {
     Ok(image)
 }
 
-#[test]
-fn a_stampede(rt: HostRuntime) -> Result<(), Fail> {
-    let alloc = rt.alloc();
+/// A stampede of 16 threads with so many calls each, a multiple of 8. Others have the seeds at a distance of 16.
+pub fn make_stampede<R: Threads + Wait + Abort + Sync>(
+    rt: &R,
+    alloc: Global,
+    seed: u64,
+    calls: u64,
+) -> Result<(), Fail> {
     let image = image(alloc)?;
     let mut opening = [0; 4];
     for file in &image {
-        add(&mut opening, file.path.folder, file.path.place, file.path.name.as_slice());
+        add(
+            &mut opening,
+            file.path.folder,
+            file.path.place,
+            file.path.name.as_slice(),
+        );
     }
     let scene = Stampede {
+        seed,
+        calls,
         opening,
         readings: Mutex::new(Vec::new(alloc)),
     };
     let world = world(alloc, 2, image, Vec::new(alloc))?;
-    assert_eq!(rt; play(&rt, alloc, world, THREADS, &scene), None);
+    assert_eq!(rt; play(rt, alloc, world, THREADS, &scene), None);
     Ok(())
+}
+
+#[test]
+fn a_stampede(rt: HostRuntime) -> Result<(), Fail> {
+    make_stampede(&rt, rt.alloc(), 0, 128)
 }

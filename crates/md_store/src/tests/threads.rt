@@ -1,6 +1,6 @@
 // Threads that step and list.
 use super::fixtures::{deliveries, finish, flagging, shows, with_message};
-use super::{Scene, play};
+use super::scene::{Scene, play};
 use crate::{Naming, News, Pass, Store};
 use md_core::{Answer, World};
 use md_dirs::PlainDirs;
@@ -42,6 +42,43 @@ fn deliver<J: Naming, R: Wait>(
     listed
 }
 
+// Steps the jobs 5 to 8 to their answers. How many of them are flags.
+fn flag<J: Naming, R: Wait>(rt: &R, store: &Store<PlainDirs, J>, pass: &mut Pass<J>) -> u64 {
+    let mut flagged = 0u64;
+    for job in 5..9 {
+        if let (Some(Answer::Flags(_)), News::Told) = finish(rt, store, pass, job) {
+            flagged = flagged.wrapping_add(1);
+        }
+    }
+    flagged
+}
+
+// Each pass in a thread of its own: all deliver, or all but the first flag. How many calls were told.
+fn by_threads<J: Naming + Send + Sync, R: Threads + Wait + Sync>(
+    rt: &R,
+    alloc: Global,
+    store: &Store<PlainDirs, J>,
+    passes: &mut [Pass<J>],
+    others_flag: bool,
+) -> u64 {
+    let told = AtomicU64::new(0);
+    let threads = passes.len().max(1);
+    thread::for_each_mut(
+        rt,
+        passes,
+        threads,
+        &|thread, pass| {
+            let made = if others_flag && thread > 0 {
+                flag(rt, store, pass)
+            } else {
+                deliver(rt, alloc, store, pass, thread)
+            };
+            told.fetch_add(made, Ordering::SeqCst);
+        },
+    );
+    told.load(Ordering::SeqCst)
+}
+
 // So many threads, of four deliveries each.
 #[derive(Drop)]
 struct Deliverers(usize);
@@ -54,13 +91,9 @@ impl Scene<PlainDirs> for Deliverers {
         store: &Store<PlainDirs, J>,
         passes: &mut [Pass<J>],
     ) {
-        let listed = AtomicU64::new(0);
-        assert!(rt; passes.len() == self.0 && self.0 > 0);
-        thread::for_each_mut(rt, passes, self.0, &|thread, pass| {
-            listed.fetch_add(deliver(rt, alloc, store, pass, thread), Ordering::SeqCst);
-        });
+        assert_eq!(rt; passes.len(), self.0);
         let wanted = 4u64.wrapping_mul(self.0 as u64);
-        assert_eq!(rt; listed.load(Ordering::SeqCst), wanted);
+        assert_eq!(rt; by_threads(rt, alloc, store, passes, false), wanted);
     }
 
     fn ends<R: Wait + Abort>(&self, rt: &R, _alloc: Global, world: &World<PlainDirs>) {
@@ -74,7 +107,10 @@ fn threads_deliver(rt: HostRuntime) -> Result<(), Fail> {
     let alloc = rt.alloc();
     for threads in [2, 4] {
         let world = with_message(alloc, b"z", deliveries(alloc, &NAMES)?)?;
-        assert_eq!(rt; play(&rt, alloc, world, threads, &Deliverers(threads)), None);
+        assert_eq!(rt;
+            play(&rt, alloc, world, threads, &Deliverers(threads)),
+            None
+        );
     }
     Ok(())
 }
@@ -83,17 +119,6 @@ fn threads_deliver(rt: HostRuntime) -> Result<(), Fail> {
 // of their effects by listing alone.
 #[derive(Drop)]
 struct DelivererAndFlagger;
-
-// Steps the jobs 5 to 8 to their answers. How many of them are flags.
-fn flag<J: Naming, R: Wait>(rt: &R, store: &Store<PlainDirs, J>, pass: &mut Pass<J>) -> u64 {
-    let mut flagged = 0u64;
-    for job in 5..9 {
-        if let (Some(Answer::Flags(_)), News::Told) = finish(rt, store, pass, job) {
-            flagged = flagged.wrapping_add(1);
-        }
-    }
-    flagged
-}
 
 // How many messages a pass lists.
 fn count<J: Naming>(
@@ -116,15 +141,7 @@ impl Scene<PlainDirs> for DelivererAndFlagger {
         let (threads, third) = passes.split_at_mut(2);
         let third = &mut third[0];
         assert_eq!(rt; count(alloc, store, third), Some(1));
-        let done = AtomicU64::new(0);
-        thread::for_each_mut(rt, threads, 2, &|thread, pass| {
-            let made = match thread {
-                0 => deliver(rt, alloc, store, pass, thread),
-                _ => flag(rt, store, pass),
-            };
-            done.fetch_add(made, Ordering::SeqCst);
-        });
-        assert_eq!(rt; done.load(Ordering::SeqCst), 8);
+        assert_eq!(rt; by_threads(rt, alloc, store, threads, true), 8);
         assert_eq!(rt; count(alloc, store, third), Some(5));
     }
 
@@ -160,13 +177,10 @@ impl Scene<PlainDirs> for Newcomer {
         assert!(rt; passes.len() == 2);
         let (mine, theirs) = passes.split_at_mut(1);
         let mine = &mut mine[0];
-        let theirs = &mut theirs[0];
-        let before = count(alloc, store, mine);
-        let (done, _) = thread::join(rt, || finish(rt, store, theirs, 1), || ());
-        let after = store.list(alloc, mine, 0);
-        assert_eq!(rt; before, Some(1));
-        assert_eq!(rt; done, (Some(Answer::Delivered), News::Told));
-        assert!(rt; matches!(after, Ok(entries) if shows(&entries, b"a")));
+        assert_eq!(rt; count(alloc, store, mine), Some(1));
+        // A told delivery counts where its own pass lists it too.
+        assert_eq!(rt; by_threads(rt, alloc, store, theirs, false), 1);
+        assert_eq!(rt; count(alloc, store, mine), Some(2));
     }
 
     fn ends<R: Wait + Abort>(&self, rt: &R, _alloc: Global, world: &World<PlainDirs>) {

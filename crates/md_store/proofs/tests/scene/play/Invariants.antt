@@ -1,5 +1,5 @@
 use Rattle.md_view.specs.Named.{named_of}
-use Rattle.md_store.proofs.tests.play.Given as goal
+use Rattle.md_store.proofs.tests.scene.play.Given as goal
 
 -- the store that was just prepared
 abbrev pub ghosts-play_in : goal.ghosts-play_in
