@@ -1,15 +1,11 @@
-// Worlds and calls for the tests.
-ghost use Rattle.std.specs.Prelude.{IfOk};
-ghost use Rattle.md_store.specs.Locks.{IsFresh};
-
+// Calls, files and steps for the tests.
 use crate::{Naming, News, Pass, Store};
-use md_core::{Answer, Call, CoreError, JobId, World};
-use md_dirs::{Bytes, Dirs, ImageFile, Path, Place, PlainDirs};
+use md_core::{Answer, Call, CoreError, JobId};
+use md_dirs::{Bytes, Dirs, ImageFile, Path, Place};
 use md_name::Flags;
 use md_view::Entry;
 use std::alloc::{AllocError, Global};
 use std::sync::Wait;
-use std::test::Fail;
 
 // A message of one byte, written in one piece: its delivery takes four steps.
 pub fn delivery(alloc: Global, unique: &[u8]) -> Result<Call, AllocError> {
@@ -50,34 +46,6 @@ pub fn file(
     })
 }
 
-// A world of so many folders with these files, in which these calls are submitted.
-pub fn world(
-    alloc: Global,
-    folders: u32,
-    image: Vec<ImageFile>,
-    calls: Vec<Call>,
-) -> Result<World<PlainDirs>, Fail>
-    ensures { IfOk result (λ w. IsFresh w) }
-{
-    let Ok(dirs) = PlainDirs::from_image(alloc, folders, image) else {
-        return Err(Fail::from("no directories"));
-    };
-    let mut world = World::load(alloc, dirs).map_err(|refused| refused.error)?;
-    for call in calls {
-        world.submit(call).map_err(|refused| refused.error)?;
-    }
-    Ok(world)
-}
-
-// A world of one folder, whose cur has one message.
-pub fn with_message(alloc: Global, name: &[u8], calls: Vec<Call>) -> Result<World<PlainDirs>, Fail>
-    ensures { IfOk result (λ w. IsFresh w) }
-{
-    let mut image = Vec::new(alloc);
-    image.push(file(alloc, 0, Place::Cur, name)?)?;
-    world(alloc, 1, image, calls)
-}
-
 // The deliveries of these names.
 pub fn deliveries(alloc: Global, names: &[&[u8]]) -> Result<Vec<Call>, AllocError> {
     let mut calls = Vec::new(alloc);
@@ -85,6 +53,13 @@ pub fn deliveries(alloc: Global, names: &[&[u8]]) -> Result<Vec<Call>, AllocErro
         calls.push(delivery(alloc, name)?)?;
     }
     Ok(calls)
+}
+
+// One message of cur.
+pub fn message(alloc: Global, name: &[u8]) -> Result<Vec<ImageFile>, AllocError> {
+    let mut image = Vec::new(alloc);
+    image.push(file(alloc, 0, Place::Cur, name)?)?;
+    Ok(image)
 }
 
 // Steps a job to its answer, a step once more where it found no memory. Its answer, and the news of its last effect.

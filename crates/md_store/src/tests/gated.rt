@@ -1,10 +1,9 @@
-// A listing while another thread stands inside a directory call, behind the lock.
+// Directories with a gate at each link, and a listing while another thread stands there, behind the lock.
 use super::fixtures::delivery;
-use super::scene::{Scene, play};
+use super::scene::{Scene, play, world};
 use crate::{Naming, News, Pass, Store};
-use md_core::World;
 use md_dirs::{DirError, Dirs, Path, Place, PlainDirs, Row, RowRef};
-use std::alloc::Global;
+use std::alloc::{AllocError, Global};
 use std::process::Abort;
 use std::sync::atomic::{AtomicBool, Ordering};
 use std::sync::{Arc, Wait};
@@ -17,10 +16,46 @@ const MOST_TURNS: u32 = 10_000_000;
 
 // Directories whose link says that it was reached, and waits for a while to be let go on.
 #[derive(Drop)]
-struct Gated {
+pub struct Gated {
     dirs: PlainDirs,
     reached: Arc<AtomicBool>,
     go: Arc<AtomicBool>,
+}
+
+// A gate at each link.
+#[derive(Drop)]
+pub struct Gate {
+    reached: Arc<AtomicBool>,
+    go: Arc<AtomicBool>,
+}
+
+impl Gate {
+    pub fn new(alloc: Global, is_open: bool) -> Result<Gate, AllocError> {
+        Ok(Gate {
+            reached: Arc::new(alloc, AtomicBool::new(false))?,
+            go: Arc::new(alloc, AtomicBool::new(is_open))?,
+        })
+    }
+
+    // The directories with this gate.
+    pub fn before(&self, dirs: PlainDirs) -> Result<Gated, AllocError> {
+        let reached = Arc::try_clone(&self.reached)?;
+        let go = Arc::try_clone(&self.go)?;
+        Ok(Gated { dirs, reached, go })
+    }
+
+    // Waits until the link was reached, lists, and opens the gate.
+    fn look<J: Naming>(
+        &self,
+        alloc: Global,
+        store: &Store<Gated, J>,
+        pass: &mut Pass<J>,
+    ) -> (bool, Option<usize>) {
+        let was_reached = is_set(&self.reached);
+        let listed = count(alloc, store, pass);
+        self.go.store(true, Ordering::SeqCst);
+        (was_reached, listed)
+    }
 }
 
 // Whether the flag was set before the turns were over. Each turn lets other threads run: on a busy machine bare turns are over too soon.
@@ -97,29 +132,26 @@ fn count<J: Naming>(alloc: Global, store: &Store<Gated, J>, pass: &mut Pass<J>) 
     Some(store.list(alloc, pass, 0).ok()?.len())
 }
 
-// A listing made while the link waits.
-#[derive(Drop)]
-struct Gate {
-    reached: Arc<AtomicBool>,
-    go: Arc<AtomicBool>,
-}
-
-impl Gate {
-    // Waits until the link was reached, lists, and lets the link go on.
-    fn look<J: Naming>(
-        &self,
-        alloc: Global,
-        store: &Store<Gated, J>,
-        pass: &mut Pass<J>,
-    ) -> (bool, Option<usize>) {
-        let was_reached = is_set(&self.reached);
-        let listed = count(alloc, store, pass);
-        self.go.store(true, Ordering::SeqCst);
-        (was_reached, listed)
+// One thread makes the link, and another lists while it waits.
+pub fn look_at_gate<J: Naming + Send + Sync, R: Threads + Wait + Abort + Sync>(
+    rt: &R,
+    alloc: Global,
+    gate: &Gate,
+    store: &Store<Gated, J>,
+    passes: &mut [Pass<J>],
+) {
+    assert!(rt; passes.len() == 2);
+    let (one, two) = passes.split_at_mut(1);
+    let one = &mut one[0];
+    let two = &mut two[0];
+    for _ in 0..2 {
+        assert!(rt; store.step(rt, one, 1, 1000, None).is_ok());
     }
+    let (told, (was_reached, before)) = link_and_look(rt, alloc, gate, store, one, two);
+    assert!(rt; told && was_reached);
+    assert_eq!(rt; (before, count(alloc, store, two)), (Some(0), Some(1)));
 }
 
-// One thread makes the link, and another looks while it waits.
 fn link_and_look<J: Naming + Send + Sync, R: Threads + Wait + Sync>(
     rt: &R,
     alloc: Global,
@@ -127,56 +159,22 @@ fn link_and_look<J: Naming + Send + Sync, R: Threads + Wait + Sync>(
     store: &Store<Gated, J>,
     one: &mut Pass<J>,
     two: &mut Pass<J>,
-) -> (bool, bool, Option<usize>) {
-    let (told, (was_reached, before)) = thread::join(
+) -> (bool, (bool, Option<usize>)) {
+    thread::join(
         rt,
         || is_told(rt, store, one),
         || gate.look(alloc, store, two),
-    );
-    (told, was_reached, before)
-}
-
-impl Scene<Gated> for Gate {
-    fn play<J: Naming + Send + Sync, R: Threads + Wait + Abort + Sync>(
-        &self,
-        rt: &R,
-        alloc: Global,
-        store: &Store<Gated, J>,
-        passes: &mut [Pass<J>],
-    ) {
-        assert!(rt; passes.len() == 2);
-        let (one, two) = passes.split_at_mut(1);
-        let one = &mut one[0];
-        let two = &mut two[0];
-        for _ in 0..2 {
-            assert!(rt; store.step(rt, one, 1, 1000, None).is_ok());
-        }
-        let (told, was_reached, before) = link_and_look(rt, alloc, self, store, one, two);
-        assert!(rt; told && was_reached);
-        assert_eq!(rt; (before, count(alloc, store, two)), (Some(0), Some(1)));
-    }
-
-    fn ends<R: Wait + Abort>(&self, rt: &R, _alloc: Global, world: &World<Gated>) {
-        assert_eq!(rt; (world.log().len(), world.effects().len()), (3, 1));
-    }
+    )
 }
 
 #[test]
 fn a_listing_waits_for_no_link(rt: HostRuntime) -> Result<(), Fail> {
     let alloc = rt.alloc();
-    let gate = Gate {
-        reached: Arc::new(alloc, AtomicBool::new(false))?,
-        go: Arc::new(alloc, AtomicBool::new(false))?,
-    };
-    let dirs = Gated {
-        dirs: PlainDirs::new(alloc, 1),
-        reached: Arc::try_clone(&gate.reached)?,
-        go: Arc::try_clone(&gate.go)?,
-    };
-    let mut world = World::load(alloc, dirs).map_err(|refused| refused.error)?;
-    world
-        .submit(delivery(alloc, b"a")?)
-        .map_err(|refused| refused.error)?;
-    assert_eq!(rt; play(&rt, alloc, world, 2, &gate), None);
+    let gate = Gate::new(alloc, false)?;
+    let mut calls = Vec::new(alloc);
+    calls.push(delivery(alloc, b"a")?)?;
+    let world = world(alloc, 1, Vec::new(alloc), calls, &gate)?;
+    let scene = Scene::Gate(&gate);
+    assert_eq!(rt; play(&rt, alloc, world, 2, &scene, (1, 3, 1)), None);
     Ok(())
 }

@@ -1,22 +1,18 @@
 // What passes see of one another's steps, over one thread.
-use super::fixtures::{delivery, file, finish, flagging, shows, world};
-use super::scene::{Scene, play};
+use super::fixtures::{delivery, file, finish, flagging, shows};
+use super::gated::{Gate, Gated};
+use super::scene::{Scene, play, world};
 use crate::{Naming, News, Pass, Store};
-use md_core::{Answer, Call, World};
-use md_dirs::{Bytes, Place, PlainDirs};
+use md_core::{Answer, Call};
+use md_dirs::{Bytes, ImageFile, Place};
 use md_name::Flags;
 use md_view::Entry;
 use std::alloc::{AllocError, Global};
 use std::process::Abort;
 use std::sync::Wait;
 use std::test::Fail;
-use std::thread::Threads;
 
-// What two passes see. The jobs 1 and 2 deliver `a` and `b`, 3 expunges `t`, 4 flags it, 5 takes `n` to cur, and 6 copies `c` to the other
-// folder.
-#[derive(Drop)]
-struct TwoPasses;
-
+// The jobs 1 and 2 deliver `a` and `b`, 3 expunges `t`, 4 flags it, 5 takes `n` to cur, and 6 copies `c` to the other folder.
 fn calls(alloc: Global) -> Result<Vec<Call>, AllocError> {
     let mut calls = Vec::new(alloc);
     calls.push(delivery(alloc, b"a")?)?;
@@ -46,7 +42,7 @@ fn calls(alloc: Global) -> Result<Vec<Call>, AllocError> {
 // A listing of a folder, empty where it is refused.
 fn list<J: Naming>(
     alloc: Global,
-    store: &Store<PlainDirs, J>,
+    store: &Store<Gated, J>,
     pass: &mut Pass<J>,
     folder: u32,
 ) -> Vec<Entry> {
@@ -60,7 +56,7 @@ fn list<J: Naming>(
 fn is_no_less<J: Naming, R: Wait>(
     rt: &R,
     alloc: Global,
-    store: &Store<PlainDirs, J>,
+    store: &Store<Gated, J>,
     told: &mut Pass<J>,
     other: &mut Pass<J>,
 ) -> bool {
@@ -83,7 +79,7 @@ fn is_no_less<J: Naming, R: Wait>(
 fn is_gone<J: Naming, R: Wait>(
     rt: &R,
     alloc: Global,
-    store: &Store<PlainDirs, J>,
+    store: &Store<Gated, J>,
     one: &mut Pass<J>,
     two: &mut Pass<J>,
 ) -> bool {
@@ -102,7 +98,7 @@ fn is_gone<J: Naming, R: Wait>(
 fn is_once<J: Naming, R: Wait>(
     rt: &R,
     alloc: Global,
-    store: &Store<PlainDirs, J>,
+    store: &Store<Gated, J>,
     one: &mut Pass<J>,
     two: &mut Pass<J>,
 ) -> bool {
@@ -122,7 +118,7 @@ fn is_once<J: Naming, R: Wait>(
 fn is_copied<J: Naming, R: Wait>(
     rt: &R,
     alloc: Global,
-    store: &Store<PlainDirs, J>,
+    store: &Store<Gated, J>,
     pass: &mut Pass<J>,
 ) -> bool {
     let copied = finish(rt, store, pass, 6);
@@ -130,37 +126,39 @@ fn is_copied<J: Naming, R: Wait>(
     copied == (Some(Answer::Copied), News::Told) && entries.len() == 1 && shows(&entries, b"d:2,S")
 }
 
-impl Scene<PlainDirs> for TwoPasses {
-    fn play<J: Naming + Send + Sync, R: Threads + Wait + Abort + Sync>(
-        &self,
-        rt: &R,
-        alloc: Global,
-        store: &Store<PlainDirs, J>,
-        passes: &mut [Pass<J>],
-    ) {
-        assert!(rt; passes.len() == 2);
-        let (one, two) = passes.split_at_mut(1);
-        let one = &mut one[0];
-        let two = &mut two[0];
-        assert!(rt; is_no_less(rt, alloc, store, one, two));
-        assert!(rt; is_gone(rt, alloc, store, one, two));
-        assert!(rt; is_once(rt, alloc, store, one, two));
-        assert!(rt; is_copied(rt, alloc, store, one));
-    }
+// What two passes see.
+pub fn look_by_two<J: Naming, R: Wait + Abort>(
+    rt: &R,
+    alloc: Global,
+    store: &Store<Gated, J>,
+    passes: &mut [Pass<J>],
+) {
+    assert!(rt; passes.len() == 2);
+    let (one, two) = passes.split_at_mut(1);
+    let one = &mut one[0];
+    let two = &mut two[0];
+    assert!(rt; is_no_less(rt, alloc, store, one, two));
+    assert!(rt; is_gone(rt, alloc, store, one, two));
+    assert!(rt; is_once(rt, alloc, store, one, two));
+    assert!(rt; is_copied(rt, alloc, store, one));
+}
 
-    fn ends<R: Wait + Abort>(&self, rt: &R, _alloc: Global, world: &World<PlainDirs>) {
-        assert_eq!(rt; world.effects().len(), 5);
-    }
+fn image(alloc: Global) -> Result<Vec<ImageFile>, AllocError> {
+    let mut image = Vec::new(alloc);
+    image.push(file(alloc, 0, Place::New, b"n")?)?;
+    image.push(file(alloc, 0, Place::Cur, b"t:2,T")?)?;
+    image.push(file(alloc, 0, Place::Cur, b"c:2,S")?)?;
+    Ok(image)
 }
 
 #[test]
 fn a_later_listing_shows_no_less(rt: HostRuntime) -> Result<(), Fail> {
     let alloc = rt.alloc();
-    let mut image = Vec::new(alloc);
-    image.push(file(alloc, 0, Place::New, b"n")?)?;
-    image.push(file(alloc, 0, Place::Cur, b"t:2,T")?)?;
-    image.push(file(alloc, 0, Place::Cur, b"c:2,S")?)?;
-    let world = world(alloc, 2, image, calls(alloc)?)?;
-    assert_eq!(rt; play(&rt, alloc, world, 2, &TwoPasses), None);
+    let gate = Gate::new(alloc, true)?;
+    let world = world(alloc, 2, image(alloc)?, calls(alloc)?, &gate)?;
+    assert_eq!(rt;
+        play(&rt, alloc, world, 2, &Scene::TwoPasses, (6, 16, 5)),
+        None
+    );
     Ok(())
 }

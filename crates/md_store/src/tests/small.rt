@@ -1,49 +1,28 @@
 // Each call once, over one thread.
-use super::fixtures::{deliveries, finish, with_message, world};
-use super::scene::{Scene, play};
+use super::fixtures::{deliveries, finish, message};
+use super::gated::{Gate, Gated};
+use super::scene::{Scene, play, world};
 use crate::{ListError, Naming, News, OpenError, Pass, Store};
-use md_core::{Answer, Call, CoreError, World};
-use md_dirs::{Bytes, PlainDirs};
+use md_core::{Answer, Call, CoreError};
+use md_dirs::Bytes;
 use std::alloc::{AllocError, Global};
 use std::process::Abort;
 use std::sync::Wait;
 use std::test::Fail;
-use std::thread::Threads;
-
-// Looks at how many passes there are.
-#[derive(Drop)]
-struct Passes(usize);
-
-impl Scene<PlainDirs> for Passes {
-    fn play<J: Naming + Send + Sync, R: Threads + Wait + Abort + Sync>(
-        &self,
-        rt: &R,
-        _alloc: Global,
-        _store: &Store<PlainDirs, J>,
-        passes: &mut [Pass<J>],
-    ) {
-        assert_eq!(rt; passes.len(), self.0);
-    }
-
-    fn ends<R: Wait + Abort>(&self, rt: &R, _alloc: Global, world: &World<PlainDirs>) {
-        assert_eq!(rt; world.jobs(), 1);
-    }
-}
 
 #[test]
 fn passes_are_1_to_64(rt: HostRuntime) -> Result<(), Fail> {
     let alloc = rt.alloc();
+    let gate = Gate::new(alloc, true)?;
     let refused = Some(OpenError::BadPasses);
     for (passes, refusal) in [(0, refused), (65, refused), (64, None), (2, None)] {
-        let world = with_message(alloc, b"u", deliveries(alloc, &[b"a"])?)?;
-        assert_eq!(rt; play(&rt, alloc, world, passes, &Passes(passes)), refusal);
+        let calls = deliveries(alloc, &[b"a"])?;
+        let world = world(alloc, 1, message(alloc, b"u")?, calls, &gate)?;
+        let opened = play(&rt, alloc, world, passes, &Scene::Nothing, (1, 0, 0));
+        assert_eq!(rt; opened, refusal);
     }
     Ok(())
 }
-
-// Submits, delivers and reads, and makes each call that is refused.
-#[derive(Drop)]
-struct Refusals;
 
 // The delivery of `hello` and a line end: it takes five steps.
 fn hello(alloc: Global) -> Result<Call, AllocError> {
@@ -56,7 +35,7 @@ fn hello(alloc: Global) -> Result<Call, AllocError> {
 }
 
 // Submits the delivery.
-fn submits<J: Naming, R: Wait>(rt: &R, alloc: Global, store: &Store<PlainDirs, J>) -> bool {
+fn submits<J: Naming, R: Wait>(rt: &R, alloc: Global, store: &Store<Gated, J>) -> bool {
     match hello(alloc) {
         Ok(call) => store.submit(rt, call).is_ok(),
         Err(_) => false,
@@ -67,7 +46,7 @@ fn submits<J: Naming, R: Wait>(rt: &R, alloc: Global, store: &Store<PlainDirs, J
 fn reads<J: Naming, R: Wait>(
     rt: &R,
     alloc: Global,
-    store: &Store<PlainDirs, J>,
+    store: &Store<Gated, J>,
     unique: &[u8],
     wanted: Option<&[u8]>,
 ) -> bool {
@@ -81,7 +60,7 @@ fn reads<J: Naming, R: Wait>(
 fn refusal<J: Naming, R: Wait>(
     rt: &R,
     alloc: Global,
-    store: &Store<PlainDirs, J>,
+    store: &Store<Gated, J>,
 ) -> Option<CoreError> {
     let refused = store.submit(rt, hello(alloc).ok()?).err()?;
     if matches!(refused.call, Call::Deliver { chunk: 4, .. }) {
@@ -91,39 +70,37 @@ fn refusal<J: Naming, R: Wait>(
     }
 }
 
-impl Scene<PlainDirs> for Refusals {
-    fn play<J: Naming + Send + Sync, R: Threads + Wait + Abort + Sync>(
-        &self,
-        rt: &R,
-        alloc: Global,
-        store: &Store<PlainDirs, J>,
-        passes: &mut [Pass<J>],
-    ) {
-        assert!(rt; passes.len() == 1);
-        let pass = &mut passes[0];
-        assert!(rt; submits(rt, alloc, store));
-        let done = finish(rt, store, pass, 1);
-        assert_eq!(rt; done, (Some(Answer::Delivered), News::Told));
-        assert!(rt; reads(rt, alloc, store, b"u", Some(b"hello\n")));
-        assert!(rt; reads(rt, alloc, store, b"v", None));
-        assert_eq!(rt; refusal(rt, alloc, store), Some(CoreError::NameUsed));
-        let again = store.step(rt, pass, 1, 1000, None);
-        assert_eq!(rt; again.err(), Some(CoreError::Answered));
-        let absent = store.step(rt, pass, 2, 1000, None);
-        assert_eq!(rt; absent.err(), Some(CoreError::NoJob));
-        let listed = store.list(alloc, pass, 1);
-        assert_eq!(rt; listed.err(), Some(ListError::NoFolder));
-    }
-
-    fn ends<R: Wait + Abort>(&self, rt: &R, _alloc: Global, world: &World<PlainDirs>) {
-        assert_eq!(rt; (world.log().len(), world.effects().len()), (5, 1));
-    }
+// Submits, delivers and reads, and makes each call that is refused.
+pub fn refuse_calls<J: Naming, R: Wait + Abort>(
+    rt: &R,
+    alloc: Global,
+    store: &Store<Gated, J>,
+    passes: &mut [Pass<J>],
+) {
+    assert!(rt; passes.len() == 1);
+    let pass = &mut passes[0];
+    assert!(rt; submits(rt, alloc, store));
+    let done = finish(rt, store, pass, 1);
+    assert_eq!(rt; done, (Some(Answer::Delivered), News::Told));
+    assert!(rt; reads(rt, alloc, store, b"u", Some(b"hello\n")));
+    assert!(rt; reads(rt, alloc, store, b"v", None));
+    assert_eq!(rt; refusal(rt, alloc, store), Some(CoreError::NameUsed));
+    let again = store.step(rt, pass, 1, 1000, None);
+    assert_eq!(rt; again.err(), Some(CoreError::Answered));
+    let absent = store.step(rt, pass, 2, 1000, None);
+    assert_eq!(rt; absent.err(), Some(CoreError::NoJob));
+    let listed = store.list(alloc, pass, 1);
+    assert_eq!(rt; listed.err(), Some(ListError::NoFolder));
 }
 
 #[test]
 fn read_and_submit_through_the_lock(rt: HostRuntime) -> Result<(), Fail> {
     let alloc = rt.alloc();
-    let world = world(alloc, 1, Vec::new(alloc), Vec::new(alloc))?;
-    assert_eq!(rt; play(&rt, alloc, world, 1, &Refusals), None);
+    let gate = Gate::new(alloc, true)?;
+    let world = world(alloc, 1, Vec::new(alloc), Vec::new(alloc), &gate)?;
+    assert_eq!(rt;
+        play(&rt, alloc, world, 1, &Scene::Refusals, (1, 5, 1)),
+        None
+    );
     Ok(())
 }

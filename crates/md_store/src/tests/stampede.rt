@@ -1,22 +1,19 @@
 // Sixteen threads of mixed calls over a thousand messages, with listings between them. At the end the log says of each listing that it
 // showed two beginnings of the log, no earlier than those of the listing before nor than the effect that its pass was told of last. So no
 // two passes saw the effects in different orders.
-use super::fixtures::{file, finish, world};
-use super::scene::{Scene, play};
+use super::fixtures::{file, finish};
 use crate::{Naming, News, Pass, Store};
 use md_core::{Call, Change, Effect, World};
-use md_dirs::{Bytes, ImageFile, Place, PlainDirs};
+use md_dirs::{Bytes, Dirs, ImageFile, Place};
 use md_name::Flags;
 use md_view::{Entry, Names};
 use std::alloc::{AllocError, Global};
-use std::process::Abort;
 use std::sync::atomic::{AtomicU64, Ordering};
 use std::sync::{Mutex, MutexGuard, Wait};
-use std::test::Fail;
 use std::thread;
 use std::thread::Threads;
 
-const THREADS: usize = 16;
+pub const THREADS: usize = 16;
 
 const MESSAGES: u64 = 1000;
 
@@ -170,7 +167,7 @@ fn call(alloc: Global, number: u64) -> Result<Call, AllocError> {
 
 // The threads' listings, and the sums of the opening names.
 #[derive(Drop)]
-struct Stampede {
+pub struct Stampede {
     seed: u64,
     calls: u64,
     opening: Sums,
@@ -178,10 +175,10 @@ struct Stampede {
 }
 
 // Submits a call and steps it to its answer. The job, where its effect was told.
-fn make<J: Naming, R: Wait>(
+fn make<D: Dirs, J: Naming, R: Wait>(
     rt: &R,
     alloc: Global,
-    store: &Store<PlainDirs, J>,
+    store: &Store<D, J>,
     pass: &mut Pass<J>,
     number: u64,
 ) -> Option<u64> {
@@ -193,9 +190,9 @@ fn make<J: Naming, R: Wait>(
 }
 
 // Lists a folder in two halves.
-fn read<J: Naming>(
+fn read<D: Dirs, J: Naming>(
     alloc: Global,
-    store: &Store<PlainDirs, J>,
+    store: &Store<D, J>,
     pass: &mut Pass<J>,
     folder: u32,
 ) -> Option<(u64, u64)> {
@@ -213,11 +210,11 @@ impl Stampede {
     }
 
     // The calls of one thread, and its listings. How many of its effects were told.
-    fn run<J: Naming, R: Wait>(
+    fn run<D: Dirs, J: Naming, R: Wait>(
         &self,
         rt: &R,
         alloc: Global,
-        store: &Store<PlainDirs, J>,
+        store: &Store<D, J>,
         pass: &mut Pass<J>,
         thread: usize,
     ) -> u64 {
@@ -251,11 +248,11 @@ impl Stampede {
 }
 
 // Runs all threads. How many effects were told.
-fn run_all<J: Naming + Send + Sync, R: Threads + Wait + Sync>(
+pub fn run_all<D: Dirs + Send + Sync, J: Naming + Send + Sync, R: Threads + Wait + Sync>(
     rt: &R,
     alloc: Global,
     stampede: &Stampede,
-    store: &Store<PlainDirs, J>,
+    store: &Store<D, J>,
     passes: &mut [Pass<J>],
 ) -> u64 {
     let effects = AtomicU64::new(0);
@@ -340,7 +337,7 @@ fn are_in_order(
 }
 
 // The sums of the names that a world has now.
-fn sums_of(alloc: Global, world: &World<PlainDirs>) -> Option<Sums> {
+fn sums_of<D: Dirs>(alloc: Global, world: &World<D>) -> Option<Sums> {
     let names = Names::of(alloc, world).ok()?;
     Some([
         sum(names.entries(0, Place::New), Place::New),
@@ -350,34 +347,28 @@ fn sums_of(alloc: Global, world: &World<PlainDirs>) -> Option<Sums> {
     ])
 }
 
-impl Scene<PlainDirs> for Stampede {
-    fn play<J: Naming + Send + Sync, R: Threads + Wait + Abort + Sync>(
-        &self,
-        rt: &R,
-        alloc: Global,
-        store: &Store<PlainDirs, J>,
-        passes: &mut [Pass<J>],
-    ) {
-        assert!(rt; run_all(rt, alloc, self, store, passes) > 500);
+// Whether each pass saw ever later beginnings of the log of a world, and the log leads to its names.
+pub fn are_beginnings<D: Dirs, R: Wait>(
+    rt: &R,
+    alloc: Global,
+    stampede: &Stampede,
+    world: &World<D>,
+) -> bool {
+    let effects = world.effects();
+    let Ok(beginnings) = beginnings(alloc, stampede.opening, effects) else {
+        return false;
+    };
+    let readings = stampede.readings.lock(rt);
+    let mut are = !readings.is_empty() && beginnings.last().copied() == sums_of(alloc, world);
+    for pass in 0..THREADS {
+        are = are && are_in_order(&beginnings, effects, &readings, pass);
     }
-
-    fn ends<R: Wait + Abort>(&self, rt: &R, alloc: Global, world: &World<PlainDirs>) {
-        let effects = world.effects();
-        let beginnings = beginnings(alloc, self.opening, effects);
-        let beginnings = beginnings.expect(rt, "no memory");
-        assert_eq!(rt; beginnings.last().copied(), sums_of(alloc, world));
-        let readings = self.readings.lock(rt);
-        let listings = self.calls / CALLS_A_LISTING * THREADS as u64;
-        assert_eq!(rt; readings.len() as u64, listings);
-        for pass in 0..THREADS {
-            assert!(rt; are_in_order(&beginnings, effects, &readings, pass));
-        }
-        MutexGuard::unlock(readings);
-    }
+    MutexGuard::unlock(readings);
+    are
 }
 
 // A thousand messages of two folders, half of them in new.
-fn image(alloc: Global) -> Result<Vec<ImageFile>, AllocError> {
+pub fn image(alloc: Global) -> Result<Vec<ImageFile>, AllocError> {
     let mut image = Vec::new(alloc);
     for number in 0..MESSAGES {
         let folder = (number % 2) as u32;
@@ -391,35 +382,23 @@ fn image(alloc: Global) -> Result<Vec<ImageFile>, AllocError> {
     Ok(image)
 }
 
-/// A stampede of 16 threads with so many calls each, a multiple of 8. Others have the seeds at a distance of 16.
-pub fn make_stampede<R: Threads + Wait + Abort + Sync>(
-    rt: &R,
-    alloc: Global,
-    seed: u64,
-    calls: u64,
-) -> Result<(), Fail> {
-    let image = image(alloc)?;
-    let mut opening = [0; 4];
-    for file in &image {
-        add(
-            &mut opening,
-            file.path.folder,
-            file.path.place,
-            file.path.name.as_slice(),
-        );
+impl Stampede {
+    // A stampede of 16 threads with so many calls each. Others have the seeds at a distance of 16.
+    pub fn new(alloc: Global, image: &[ImageFile], seed: u64, calls: u64) -> Stampede {
+        let mut opening = [0; 4];
+        for file in image {
+            add(
+                &mut opening,
+                file.path.folder,
+                file.path.place,
+                file.path.name.as_slice(),
+            );
+        }
+        Stampede {
+            seed,
+            calls,
+            opening,
+            readings: Mutex::new(Vec::new(alloc)),
+        }
     }
-    let scene = Stampede {
-        seed,
-        calls,
-        opening,
-        readings: Mutex::new(Vec::new(alloc)),
-    };
-    let world = world(alloc, 2, image, Vec::new(alloc))?;
-    assert_eq!(rt; play(rt, alloc, world, THREADS, &scene), None);
-    Ok(())
-}
-
-#[test]
-fn a_stampede(rt: HostRuntime) -> Result<(), Fail> {
-    make_stampede(&rt, rt.alloc(), 0, 128)
 }

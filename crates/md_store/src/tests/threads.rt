@@ -1,10 +1,10 @@
 // Threads that step and list.
-use super::fixtures::{deliveries, finish, flagging, shows, with_message};
-use super::scene::{Scene, play};
+use super::fixtures::{deliveries, finish, flagging, message, shows};
+use super::gated::{Gate, Gated};
+use super::scene::{Scene, play, world};
 use crate::{Naming, News, Pass, Store};
-use md_core::{Answer, World};
-use md_dirs::PlainDirs;
-use std::alloc::Global;
+use md_core::{Answer, Call};
+use std::alloc::{AllocError, Global};
 use std::process::Abort;
 use std::sync::Wait;
 use std::sync::atomic::{AtomicU64, Ordering};
@@ -21,7 +21,7 @@ static NAMES: [&[u8]; 16] = [
 fn deliver<J: Naming, R: Wait>(
     rt: &R,
     alloc: Global,
-    store: &Store<PlainDirs, J>,
+    store: &Store<Gated, J>,
     pass: &mut Pass<J>,
     thread: usize,
 ) -> u64 {
@@ -43,7 +43,7 @@ fn deliver<J: Naming, R: Wait>(
 }
 
 // Steps the jobs 5 to 8 to their answers. How many of them are flags.
-fn flag<J: Naming, R: Wait>(rt: &R, store: &Store<PlainDirs, J>, pass: &mut Pass<J>) -> u64 {
+fn flag<J: Naming, R: Wait>(rt: &R, store: &Store<Gated, J>, pass: &mut Pass<J>) -> u64 {
     let mut flagged = 0u64;
     for job in 5..9 {
         if let (Some(Answer::Flags(_)), News::Told) = finish(rt, store, pass, job) {
@@ -57,7 +57,7 @@ fn flag<J: Naming, R: Wait>(rt: &R, store: &Store<PlainDirs, J>, pass: &mut Pass
 fn by_threads<J: Naming + Send + Sync, R: Threads + Wait + Sync>(
     rt: &R,
     alloc: Global,
-    store: &Store<PlainDirs, J>,
+    store: &Store<Gated, J>,
     passes: &mut [Pass<J>],
     others_flag: bool,
 ) -> u64 {
@@ -80,118 +80,111 @@ fn by_threads<J: Naming + Send + Sync, R: Threads + Wait + Sync>(
 }
 
 // So many threads, of four deliveries each.
-#[derive(Drop)]
-struct Deliverers(usize);
-
-impl Scene<PlainDirs> for Deliverers {
-    fn play<J: Naming + Send + Sync, R: Threads + Wait + Abort + Sync>(
-        &self,
-        rt: &R,
-        alloc: Global,
-        store: &Store<PlainDirs, J>,
-        passes: &mut [Pass<J>],
-    ) {
-        assert_eq!(rt; passes.len(), self.0);
-        let wanted = 4u64.wrapping_mul(self.0 as u64);
-        assert_eq!(rt; by_threads(rt, alloc, store, passes, false), wanted);
-    }
-
-    fn ends<R: Wait + Abort>(&self, rt: &R, _alloc: Global, world: &World<PlainDirs>) {
-        assert_eq!(rt; world.log().len(), self.0.wrapping_mul(16));
-        assert_eq!(rt; world.effects().len(), self.0.wrapping_mul(4));
-    }
+pub fn deliver_by_all<J: Naming + Send + Sync, R: Threads + Wait + Abort + Sync>(
+    rt: &R,
+    alloc: Global,
+    store: &Store<Gated, J>,
+    passes: &mut [Pass<J>],
+) {
+    let wanted = 4u64.wrapping_mul(passes.len() as u64);
+    assert_eq!(rt; by_threads(rt, alloc, store, passes, false), wanted);
 }
 
 #[test]
 fn threads_deliver(rt: HostRuntime) -> Result<(), Fail> {
     let alloc = rt.alloc();
-    for threads in [2, 4] {
-        let world = with_message(alloc, b"z", deliveries(alloc, &NAMES)?)?;
+    let gate = Gate::new(alloc, true)?;
+    for (threads, steps, effects) in [(2, 32, 8), (4, 64, 16)] {
+        let calls = deliveries(alloc, &NAMES)?;
+        let world = world(alloc, 1, message(alloc, b"z")?, calls, &gate)?;
+        let wanted = (16, steps, effects);
         assert_eq!(rt;
-            play(&rt, alloc, world, threads, &Deliverers(threads)),
+            play(&rt, alloc, world, threads, &Scene::Deliverers, wanted),
             None
         );
     }
     Ok(())
 }
 
-// One thread delivers while a second flags another message. A third pass lists before and behind them: it makes no step, and so it learns
-// of their effects by listing alone.
-#[derive(Drop)]
-struct DelivererAndFlagger;
-
 // How many messages a pass lists.
-fn count<J: Naming>(
-    alloc: Global,
-    store: &Store<PlainDirs, J>,
-    pass: &mut Pass<J>,
-) -> Option<usize> {
+fn count<J: Naming>(alloc: Global, store: &Store<Gated, J>, pass: &mut Pass<J>) -> Option<usize> {
     Some(store.list(alloc, pass, 0).ok()?.len())
 }
 
-impl Scene<PlainDirs> for DelivererAndFlagger {
-    fn play<J: Naming + Send + Sync, R: Threads + Wait + Abort + Sync>(
-        &self,
-        rt: &R,
-        alloc: Global,
-        store: &Store<PlainDirs, J>,
-        passes: &mut [Pass<J>],
-    ) {
-        assert!(rt; passes.len() == 3);
-        let (threads, third) = passes.split_at_mut(2);
-        let third = &mut third[0];
-        assert_eq!(rt; count(alloc, store, third), Some(1));
-        assert_eq!(rt; by_threads(rt, alloc, store, threads, true), 8);
-        assert_eq!(rt; count(alloc, store, third), Some(5));
-    }
+// One thread delivers while a second flags another message. A third pass lists before and behind them: it makes no step, and so it learns
+// of their effects by listing alone.
+pub fn deliver_beside_flags<J: Naming + Send + Sync, R: Threads + Wait + Abort + Sync>(
+    rt: &R,
+    alloc: Global,
+    store: &Store<Gated, J>,
+    passes: &mut [Pass<J>],
+) {
+    assert!(rt; passes.len() == 3);
+    let (threads, third) = passes.split_at_mut(2);
+    let third = &mut third[0];
+    assert_eq!(rt; count(alloc, store, third), Some(1));
+    assert_eq!(rt; by_threads(rt, alloc, store, threads, true), 8);
+    assert_eq!(rt; count(alloc, store, third), Some(5));
+}
 
-    fn ends<R: Wait + Abort>(&self, rt: &R, _alloc: Global, world: &World<PlainDirs>) {
-        assert_eq!(rt; world.effects().len(), 8);
+// Four deliveries, and four flags for another message.
+fn deliveries_and_flags(alloc: Global) -> Result<Vec<Call>, AllocError> {
+    let mut calls = deliveries(alloc, &[b"a", b"b", b"c", b"d"])?;
+    for letters in [b"F", b"R", b"S", b"T"] {
+        calls.push(flagging(alloc, b"z", letters)?)?;
     }
+    Ok(calls)
 }
 
 #[test]
 fn a_told_delivery_is_listed(rt: HostRuntime) -> Result<(), Fail> {
     let alloc = rt.alloc();
-    let mut calls = deliveries(alloc, &[b"a", b"b", b"c", b"d"])?;
-    for letters in [b"F", b"R", b"S", b"T"] {
-        calls.push(flagging(alloc, b"z", letters)?)?;
-    }
-    let world = with_message(alloc, b"z:2,", calls)?;
-    assert_eq!(rt; play(&rt, alloc, world, 3, &DelivererAndFlagger), None);
+    let gate = Gate::new(alloc, true)?;
+    let calls = deliveries_and_flags(alloc)?;
+    let world = world(alloc, 1, message(alloc, b"z:2,")?, calls, &gate)?;
+    let scene = Scene::DelivererAndFlagger;
+    assert_eq!(rt; play(&rt, alloc, world, 3, &scene, (8, 24, 8)), None);
     Ok(())
 }
 
 // A pass lists, another thread delivers and ends, and the pass lists once more. It makes no step.
-#[derive(Drop)]
-struct Newcomer;
+pub fn deliver_to_another<J: Naming + Send + Sync, R: Threads + Wait + Abort + Sync>(
+    rt: &R,
+    alloc: Global,
+    store: &Store<Gated, J>,
+    passes: &mut [Pass<J>],
+) {
+    assert!(rt; passes.len() == 2);
+    let (mine, theirs) = passes.split_at_mut(1);
+    let mine = &mut mine[0];
+    assert_eq!(rt; count(alloc, store, mine), Some(1));
+    let (delivered, _) = thread::join(rt, || deliver_first(rt, alloc, store, theirs), || ());
+    assert_eq!(rt; delivered, 1);
+    assert_eq!(rt; count(alloc, store, mine), Some(2));
+}
 
-impl Scene<PlainDirs> for Newcomer {
-    fn play<J: Naming + Send + Sync, R: Threads + Wait + Abort + Sync>(
-        &self,
-        rt: &R,
-        alloc: Global,
-        store: &Store<PlainDirs, J>,
-        passes: &mut [Pass<J>],
-    ) {
-        assert!(rt; passes.len() == 2);
-        let (mine, theirs) = passes.split_at_mut(1);
-        let mine = &mut mine[0];
-        assert_eq!(rt; count(alloc, store, mine), Some(1));
-        // A told delivery counts where its own pass lists it too.
-        assert_eq!(rt; by_threads(rt, alloc, store, theirs, false), 1);
-        assert_eq!(rt; count(alloc, store, mine), Some(2));
-    }
-
-    fn ends<R: Wait + Abort>(&self, rt: &R, _alloc: Global, world: &World<PlainDirs>) {
-        assert_eq!(rt; world.effects().len(), 1);
+// Steps the first delivery to its answer. How many were told and listed.
+fn deliver_first<J: Naming, R: Wait>(
+    rt: &R,
+    alloc: Global,
+    store: &Store<Gated, J>,
+    passes: &mut [Pass<J>],
+) -> u64 {
+    match passes.first_mut() {
+        Some(pass) => deliver(rt, alloc, store, pass, 0),
+        None => 0,
     }
 }
 
 #[test]
 fn a_listing_enters_anew(rt: HostRuntime) -> Result<(), Fail> {
     let alloc = rt.alloc();
-    let world = with_message(alloc, b"z", deliveries(alloc, &[b"a"])?)?;
-    assert_eq!(rt; play(&rt, alloc, world, 2, &Newcomer), None);
+    let gate = Gate::new(alloc, true)?;
+    let calls = deliveries(alloc, &[b"a"])?;
+    let world = world(alloc, 1, message(alloc, b"z")?, calls, &gate)?;
+    assert_eq!(rt;
+        play(&rt, alloc, world, 2, &Scene::Newcomer, (1, 4, 1)),
+        None
+    );
     Ok(())
 }
