@@ -9,13 +9,12 @@ ghost use Rattle.maildir_cli.specs.Indexing.{Indexes, index_from, index_of_scrip
 
 mod folder;
 
+use crate::loading::{load, refused};
+pub(crate) use folder::listing;
 use folder::push_folder;
 use md_core::World;
-use md_dirs::{Dirs, ImageFile, IndexDirs};
-use md_script::{
-    PlayError, PlayKind, Setup, Sink, Source, count_lines, image, open_store, read_script,
-    write_whole,
-};
+use md_dirs::{Dirs, ImageFile};
+use md_script::{PlayError, PlayKind, Setup, Sink, Source, image, read_script, write_whole};
 use std::alloc::{AllocError, Global};
 use std::sync::Wait;
 use std::thread::Threads;
@@ -60,11 +59,7 @@ fn index_text<R: Threads + Wait + Sync>(
     } = image(alloc, script, false)?;
     match text_over(rt, alloc, workers, &folders, files) {
         Ok(text) => Ok(text),
-        Err(PlayKind::NoMemory) => Err(PlayError::from(PlayKind::NoMemory)),
-        Err(kind) => Err(PlayError {
-            line: count_lines(script),
-            kind,
-        }),
+        Err(kind) => Err(refused(script, kind)),
     }
 }
 
@@ -81,11 +76,7 @@ fn text_over<R: Threads + Wait + Sync>(
         (λ text. index_over (names_of names.now) files.items ≡ Ok text.items)
         (λ kind. kind ≢ NoMemory → index_over (names_of names.now) files.items ≡ Err kind) }
 {
-    // No memory holds so many folders.
-    let Ok(count) = u32::try_from(names.len()) else {
-        return Err(PlayKind::NoMemory);
-    };
-    let world: World<IndexDirs> = open_store(alloc, count, files)?;
+    let world = load(alloc, names, files)?;
     Ok(folders_text(rt, alloc, workers, &world, names)?)
 }
 

@@ -6,14 +6,20 @@
 //! that says so.
 #![tactic(auto)]
 
+ghost use Rattle.std.specs.Prelude.{◌≤◌};
+
 mod command;
+mod fault;
 mod indexing;
+mod loading;
 mod options;
 #[cfg(test)]
 mod tests;
+mod threads;
 mod words;
 
 use command::{CliFault, Run, command};
+use fault::RunFault;
 use indexing::run_index;
 use md_script::{PlayError, PlayKind, Reader, Writer, play};
 use std::alloc::AllocGlobal;
@@ -21,6 +27,7 @@ use std::process::ExitCode;
 use std::sync::Wait;
 use std::thread::Threads;
 use std::{env, io};
+use threads::run_threads;
 
 /// The status of a refused script.
 const REFUSED: u8 = 1;
@@ -50,7 +57,7 @@ fn main(rt: HostRuntime) -> ExitCode {
     match command(rt.alloc(), &words) {
         Ok(Run::Play) => play_input(&rt),
         Ok(Run::Index(workers)) => index_input(&rt, &rt, workers as usize),
-        Ok(Run::Threads(_)) => refuse_words(&rt, "this subcommand is still to come"),
+        Ok(Run::Threads(threads)) => run_input(&rt, &rt, threads as usize),
         Err(CliFault::Shown(text)) => show(&rt, &text),
         Err(CliFault::Refused(text)) => refuse_words(&rt, &text),
         Err(CliFault::NoMemory) => refuse(&rt, NO_MEMORY),
@@ -79,6 +86,21 @@ fn index_input<R: Threads + Wait + Sync>(
     }
 }
 
+fn run_input<R: Threads + Wait + Sync>(
+    rt: &HostRuntime,
+    threads: &R,
+    count: usize,
+) -> ExitCode
+    requires { (1 ≤ count) × (count ≤ 16) }
+{
+    let mut reader = Reader::new(rt.reader());
+    let mut writer = Writer::new(io::writer(rt));
+    match run_threads(threads, rt.alloc(), count, &mut reader, &mut writer) {
+        Ok(()) => ExitCode::SUCCESS,
+        Err(fault) => refuse_run(rt, fault),
+    }
+}
+
 fn show(rt: &HostRuntime, text: &str) -> ExitCode {
     match print!(rt; "{text}") {
         Ok(()) => ExitCode::SUCCESS,
@@ -88,6 +110,11 @@ fn show(rt: &HostRuntime, text: &str) -> ExitCode {
 
 fn refuse(rt: &HostRuntime, error: PlayError) -> ExitCode {
     let _ = eprintln!(rt; "{error}");
+    ExitCode::from(REFUSED)
+}
+
+fn refuse_run(rt: &HostRuntime, fault: RunFault) -> ExitCode {
+    let _ = eprintln!(rt; "{fault}");
     ExitCode::from(REFUSED)
 }
 

@@ -1,7 +1,8 @@
-//! What command lines ask for, and what an index prints.
+//! What command lines ask for, and what an index and a run on threads print.
 
 use crate::command::{CliFault, Run, command};
 use crate::indexing::run_index;
+use crate::threads::run_threads;
 use std::alloc::Global;
 use std::sync::Wait;
 use std::test::Fail;
@@ -150,6 +151,71 @@ fn messages_are_indexed(rt: HostRuntime) -> Result<(), Fail> {
     for (script, prints, refused) in INDEXES {
         for workers in [1, 3] {
             let (text, refusal) = indexed(&rt, rt.alloc(), workers, script)?;
+            assert_eq!(rt; text.as_slice(), prints);
+            assert_eq!(rt; refusal.as_str(), refused);
+        }
+    }
+    Ok(())
+}
+
+// A script, and what its run on threads prints or why it is refused. Its jobs may run in any order without a change.
+static RUNS: [(&[u8], &[u8], &str); 9] = [
+    (
+        b"folder i\njob deliver i a 4 x\njob deliver i b 4 yy\n",
+        b"1 answer delivered\n2 answer delivered\nfolder i\nnew a - 1\nnew b - 2\n",
+        "",
+    ),
+    (b"", b"", ""),
+    (b"folder i\nfolder j\n", b"folder i\nfolder j\n", ""),
+    (
+        b"folder i\nfolder j\nfile i new u 0 x\nfile j cur v:2,ST 0 yy\nfile i tmp w 0\njob seen i u F 1\njob expunge j v 1\njob clean i\njob flag i t S - 2\n",
+        b"1 answer flags F\n2 answer expunged\n3 answer cleaned 0\n4 answer notthere\nfolder i\ncur u F 1\nfolder j\n",
+        "",
+    ),
+    (
+        b"folder i\njob clean i\nlist i\n",
+        b"",
+        "line 3: not in this run",
+    ),
+    (
+        b"folder i\nfile i new u 0\nfile i new u 0\njob clean i\n\n",
+        b"",
+        "line 5: same path twice",
+    ),
+    (
+        b"folder i\njob deliver i u 4\njob deliver i u 4\n# the last line\n",
+        b"",
+        "line 4: name used",
+    ),
+    (
+        b"folder i\njob deliver i u 0\njob deliver i",
+        b"",
+        "line 3: bad command",
+    ),
+    (b"folder i\njob clean j\n", b"", "line 2: unknown folder"),
+];
+
+// What a run of a script on threads prints, and why it is refused, if it is.
+fn ran<R: Threads + Wait + Sync>(
+    rt: &R,
+    alloc: Global,
+    threads: usize,
+    script: &[u8],
+) -> Result<(Vec<u8>, String), Fail> {
+    let mut source = script;
+    let mut sink = Vec::new(alloc);
+    let refusal = match run_threads(rt, alloc, threads, &mut source, &mut sink) {
+        Ok(()) => String::new(alloc),
+        Err(fault) => format!(in alloc; "{fault}")?,
+    };
+    Ok((sink, refusal))
+}
+
+#[test]
+fn jobs_are_run_on_threads(rt: HostRuntime) -> Result<(), Fail> {
+    for (script, prints, refused) in RUNS {
+        for threads in [1, 2, 3, 16] {
+            let (text, refusal) = ran(&rt, rt.alloc(), threads, script)?;
             assert_eq!(rt; text.as_slice(), prints);
             assert_eq!(rt; refusal.as_str(), refused);
         }

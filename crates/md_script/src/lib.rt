@@ -33,7 +33,7 @@ pub use run::Printed;
 pub use setup::{Setup, image};
 pub use sink::{Put, Sink, Writer};
 pub use source::{Got, Reader, Source};
-pub use store::open_store;
+pub use store::{open_store, push_answer_line};
 pub use summary::push_summary;
 
 #[cfg(test)]

@@ -25,6 +25,7 @@ use md_head::summary;
 use md_name::{UniqueParts, make_unique};
 use open::OpenStore;
 pub use opening::open_store;
+pub use printing::push_answer_line;
 use std::alloc::{AllocError, Global};
 use std::marker::Model;
 use std::mem;

@@ -39,8 +39,8 @@ pub(super) fn push_step(
     }
 }
 
-// `J answer A`
-fn push_answer_line(
+/// Appends `J answer A`, the line of a job's answer. Where memory runs out, some of it may have been appended.
+pub fn push_answer_line(
     alloc: Global,
     out: &mut Vec<u8>,
     job: JobId,

@@ -1,0 +1,41 @@
+//! The store that a script sets up, and the line that it is refused at.
+ghost use Rattle.std.specs.Prelude.{◌≡◌, ◌≢◌, ◌⊎◌, length};
+ghost use Rattle.md_script.specs.Folders.{names_of};
+ghost use Rattle.md_script.specs.Kinds.{unnumbered};
+ghost use Rattle.md_script.specs.Lines.{lines_of};
+ghost use Rattle.md_script.specs.Sessions.{opened};
+ghost use Rattle.md_script.specs.Words.{Gives};
+ghost use Rattle.md_script.specs.declared.error.PlayKind.TheVariants.{NoMemory};
+
+use md_core::World;
+use md_dirs::{ImageFile, IndexDirs};
+use md_script::{PlayError, PlayKind, count_lines, open_store};
+use std::alloc::Global;
+
+/// The store over folders, as many as there are names, and files.
+pub(crate) fn load(
+    alloc: Global,
+    names: &[Vec<u8>],
+    files: Vec<ImageFile>,
+) -> Result<World<IndexDirs>, PlayKind>
+    ensures { Gives (λ world. world) result (opened (length (names_of names.now)) files.items) }
+{
+    // No memory holds so many folders.
+    let Ok(count) = u32::try_from(names.len()) else {
+        return Err(PlayKind::NoMemory);
+    };
+    open_store(alloc, count, files)
+}
+
+/// What no single line is to blame for is refused at the script's last line, and want of memory at none.
+pub(crate) fn refused(script: &[u8], kind: PlayKind) -> PlayError
+    ensures { ((kind ≡ NoMemory) × (result ≡ unnumbered NoMemory)) ⊎ ((kind ≢ NoMemory) × (result ≡ record { line = length (lines_of script.now); kind = kind })) }
+{
+    match kind {
+        PlayKind::NoMemory => PlayError::from(PlayKind::NoMemory),
+        kind => PlayError {
+            line: count_lines(script),
+            kind,
+        },
+    }
+}
