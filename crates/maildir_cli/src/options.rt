@@ -10,8 +10,8 @@ pub(crate) const MOST_WORKERS: u64 = 64;
 
 const ABOUT: &str =
     "Plays scripts over a Maildir store in memory, and prints what each directory call of its jobs did; \
-or prints the header summaries of its messages. What it prints is proved to be the transcript of the script, \
-or its index.";
+runs its jobs by threads, or prints the header summaries of its messages. What it prints is proved to be the transcript of the script, \
+the report of an interleaving of its jobs, or its index.";
 
 const AFTER: &str =
     "The script is read whole from standard input: at most 67,108,864 bytes, in at most 1,048,576 reads.
@@ -31,7 +31,7 @@ docs/SCRIPT.md has the language, and `man -l docs/maildir_cli.1` the manual.";
 pub(crate) fn options<'a>(alloc: Global) -> Result<Command<'a>, AllocError> {
     let play = Command::new(alloc, "play").about("Plays the script on standard input");
     let threads = counted(alloc, "threads", MOST_THREADS as i64)?.about(
-        "Runs the jobs of the script on N threads, 1 to 16 (still to come)",
+        "Runs the script's jobs by N threads, 1 to 16, and prints their answers and the folders",
     );
     let index = counted(alloc, "index", MOST_WORKERS as i64)?.about(
         "Prints the header summaries of the script's files that are messages, made by N workers, 1 to 64",
