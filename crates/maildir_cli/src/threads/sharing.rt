@@ -93,10 +93,11 @@ fn text_of<J: Naming + Send + Sync, R: Threads + Wait + Sync>(
 /// Passes with the numbers of their threads.
 fn shares<J: Naming>(alloc: Global, passes: Vec<Pass<J>>) -> Result<Vec<Share<J>>, AllocError> {
     let mut all = Vec::new(alloc);
-    let mut number = 0;
-    for pass in passes {
-        all.push(Share { number, pass })?;
-        number += 1;
+    for (number, pass) in passes.into_iter().enumerate() {
+        all.push(Share {
+            number: number as u64,
+            pass,
+        })?;
     }
     Ok(all)
 }
@@ -132,12 +133,10 @@ fn push_listings<J: Naming>(
 ) -> Result<(), RunFault>
     ensures { IfErr result IsStop }
 {
-    let mut folder = 0u32;
-    for name in names {
+    for (folder, name) in names.iter().enumerate() {
         push_folder_name(text, name)?;
-        let entries = store.list(alloc, pass, folder)?;
+        let entries = store.list(alloc, pass, folder as u32)?;
         push_entries(alloc, text, &entries)?;
-        folder = folder.wrapping_add(1);
     }
     Ok(())
 }
