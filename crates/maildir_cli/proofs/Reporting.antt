@@ -1,7 +1,10 @@
 -- Runs on threads: why there is no report, and what the next answer adds to one.
-use Rattle.std.proofs.Common.{◌≡◌, ℕ, ◌+◌, ◌<◌, ◌++◌, ◌⊎◌, inl, inr, true, List, Result, Ok, Err, refl, sym, ap, subst, ◌∙◌, length, arith, ⊎_elim}
+use Rattle.std.proofs.Common.{◌≡◌, ℕ, ◌+◌, ◌<◌, ◌++◌, ◌⊎◌, inl, inr, true, List, Result, Ok, Err, refl, sym, ap, subst, ◌∙◌, zero, suc, is_some, Option, Some, arith, add-one, append_assoc, append-nil, IfOk, OnOk}
+use Rattle.std.specs.Global.{Vec}
+use Rattle.std.specs.declared.alloc.AllocError.{AllocError}
+use Rattle.md_core.specs.declared.jobs.answer.Answer.{Answer}
 use Rattle.md_core.specs.Machine.{Standing, job_at}
-use Rattle.md_core.specs.Runs.{answer_of}
+use Rattle.md_core.specs.Runs.{Run, answer_of}
 use Rattle.md_script.specs.declared.error.PlayKind.TheVariants.{NoMemory}
 use Rattle.md_script.specs.declared.error.PlayError.{PlayError}
 use Rattle.md_script.specs.Kinds.{unnumbered}
@@ -12,12 +15,45 @@ use Rattle.md_script.specs.Texts.{answer_line}
 use Rattle.maildir_cli.specs.declared.fault.RunFault.{RunFault}
 use Rattle.maildir_cli.specs.declared.fault.RunFault.TheVariants.{Play, NoReader, Closed}
 use Rattle.maildir_cli.specs.Begun.{begun_of}
-use Rattle.maildir_cli.specs.Threading.{answers_text, IsStop, IsUnreported, RunsThreads}
+use Rattle.maildir_cli.specs.Threading.{answers_text, report_of, AllAnswered, Interleaving, IsStop, IsUnreported, RunsThreads}
 
 -- one more answer
 pub answers-next : (jobs : List Standing) (n : ℕ) → answers_text jobs (n + 1) ≡ answers_text jobs n ++ answer_line (n + 1) (answer_of (job_at jobs (n + 1)))
 unfolding answers_text
-answers-next jobs n = refl
+answers-next jobs n = ap (answers_text jobs) (add-one n)
+
+-- no answer yet
+pub answers-none : (jobs : List Standing) (start : List ℕ) → start ≡ start ++ answers_text jobs 0
+unfolding answers_text
+answers-none jobs start = sym (append-nil start)
+
+-- a text with the answers of the first jobs, and the line of the next
+pub more-answers : (jobs : List Standing) (n : ℕ) (start before after : List ℕ) (a : Answer) → before ≡ start ++ answers_text jobs n → answer_of (job_at jobs (n + 1)) ≡ Some a
+    → after ≡ before ++ answer_line (n + 1) (Some a) → after ≡ start ++ answers_text jobs (n + 1)
+more-answers jobs n start before after a is has added =
+    added
+    ∙ ap (λ t. t ++ answer_line (n + 1) (Some a)) is
+    ∙ append_assoc start (answers_text jobs n) (answer_line (n + 1) (Some a))
+    ∙ ap (λ (o : Option Answer). start ++ (answers_text jobs n ++ answer_line (n + 1) o)) (sym has)
+    ∙ ap (λ t. start ++ t) (sym (answers-next jobs n))
+
+-- what holds below a number and of it holds below the next
+pub below-next : (P : ℕ → Type 0) (n : ℕ) → ((k : ℕ) → k < n → P k) → P n → (k : ℕ) → k < n + 1 → P k
+below-next P zero below here zero within = here
+below-next P zero below here (suc k) within = absurd (omega arith)
+below-next P (suc n) below here zero within = below zero (omega arith)
+below-next P (suc n) below here (suc k) within = below-next (λ j. P (suc j)) n (λ j inside. below (suc j) (omega arith)) here k (omega arith)
+
+-- one more job has its answer
+pub more-answered : (jobs : List Standing) (n : ℕ) (a : Answer) → ((k : ℕ) → k < n → is_some (answer_of (job_at jobs (k + 1))) ≡ true) → answer_of (job_at jobs (n + 1)) ≡ Some a
+    → (k : ℕ) → k < n + 1 → is_some (answer_of (job_at jobs (k + 1))) ≡ true
+more-answered jobs n a below has = below-next (λ k. is_some (answer_of (job_at jobs (k + 1))) ≡ true) n below (ap is_some has)
+
+-- the report of an interleaving, where it is one once each job has its answer
+pub reported : (names : List (List ℕ)) (begun r : Run) (result : Result (Vec ℕ) AllocError) → (AllAnswered r → Interleaving begun r) → OnOk result (AllAnswered r)
+    → IfOk result (λ text. text.items ≡ report_of names r) → IfOk result (λ text. (x : Run) × Interleaving begun x × (text.items ≡ report_of names x))
+reported names begun r (Ok text) ends answered is = (r, ends answered, is)
+reported names begun r (Err e) ends answered is = tt
 
 -- threads that made no report of a store made none of its script
 pub stopped : (script : List ℕ) (fault : RunFault) → IsStop fault → IsUnreported script fault

@@ -53,8 +53,10 @@ fn threads_text<R: Threads + Wait + Sync>(
 ) -> Result<Vec<u8>, RunFault>
     ensures { MatchResult result (λ text. Reports script.now text.items) (IsUnreported script.now) }
 {
-    let shared = share(rt, alloc, threads, set_up(alloc, script)?)?;
-    let replayed = replay(alloc, set_up(alloc, script)?, shared.world.log())?;
+    let begun = set_up(alloc, script)?;
+    let shared = share(rt, alloc, threads, begun)?;
+    let again = set_up(alloc, script)?;
+    let replayed = replay(alloc, again, shared.world.log())?;
     if shared.text.as_slice() != replayed.as_slice() {
         return Err(RunFault::from(PlayKind::NoMemory));
     }

@@ -19,16 +19,28 @@ pub(super) fn replay(alloc: Global, made: Made, steps: &[Event]) -> Result<Vec<u
     ensures { IfOk result (λ text. (r : _) × Interleaving made.world r × (text.items ≡ report_of (names_of made.names.items) r)) }
 {
     let Made { names, mut world } = made;
-    // They were all taken before.
-    if world.run(steps).is_err() {
+    // They were all taken before, so that memory alone can be wanting.
+    let Ok(()) = world.run(steps) else {
         return Err(AllocError);
-    }
+    };
     // That they are a run, and that these directories never fail.
     world.interleaves();
     world.counts();
+    report(alloc, &world, &names)
+}
+
+/// The lines of the answers of all jobs, and those of the folders. Each job has its answer.
+fn report<D: Dirs>(
+    alloc: Global,
+    world: &World<D>,
+    names: &[Vec<u8>],
+) -> Result<Vec<u8>, AllocError>
+    ensures answered { OnOk result (AllAnswered world.now) }
+    ensures text { IfOk result (λ text. text.items ≡ report_of (names_of names.now) world.now) }
+{
     let mut text = Vec::new(alloc);
-    push_answers(alloc, &mut text, &world)?;
-    push_folders(alloc, &mut text, &world, &names)?;
+    push_answers(alloc, &mut text, world)?;
+    push_folders(alloc, &mut text, world, names)?;
     Ok(text)
 }
 

@@ -40,7 +40,7 @@ pub(super) fn set_up(alloc: Global, script: &[u8]) -> Result<Made, PlayError>
 }
 
 /// The store over folders and files, with jobs.
-#[tactic(auto, unfolding(crate::specs::Begun::begun_over))]
+#[tactic(auto, unfolding(crate::specs::Begun::begun_over), using(crate::proofs::Submitting::opened_fresh))]
 fn world_of(
     alloc: Global,
     names: &[Vec<u8>],

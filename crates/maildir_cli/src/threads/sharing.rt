@@ -133,10 +133,13 @@ fn push_listings<J: Naming>(
 ) -> Result<(), RunFault>
     ensures { IfErr result IsStop }
 {
-    for (folder, name) in names.iter().enumerate() {
+    let mut folder = 0u32;
+    for name in names {
         push_folder_name(text, name)?;
-        let entries = store.list(alloc, pass, folder as u32)?;
+        let entries = store.list(alloc, pass, folder)?;
         push_entries(alloc, text, &entries)?;
+        // A script has at most 64 folders.
+        folder = folder.wrapping_add(1);
     }
     Ok(())
 }
