@@ -1,20 +1,17 @@
 -- Runs on threads: why there is no report, and what the next answer adds to one.
-use Rattle.std.proofs.Common.{◌≡◌, ℕ, ◌+◌, ◌<◌, ◌++◌, ◌⊎◌, inl, inr, true, List, Result, Ok, Err, refl, sym, ap, subst, ◌∙◌, zero, suc, is_some, Option, Some, arith, add-one, append_assoc, append-nil, IfOk, OnOk}
+use Rattle.std.proofs.Common.{◌≡◌, ℕ, ◌+◌, ◌<◌, ◌++◌, inl, inr, true, List, Result, Ok, Err, refl, sym, ap, subst, ◌∙◌, zero, suc, is_some, Option, Some, arith, add-one, append_assoc, append-nil, IfOk, OnOk}
 use Rattle.std.specs.Global.{Vec}
 use Rattle.std.specs.declared.alloc.AllocError.{AllocError}
 use Rattle.md_core.specs.declared.jobs.answer.Answer.{Answer}
 use Rattle.md_core.specs.Machine.{Standing, job_at}
 use Rattle.md_core.specs.Runs.{Run, answer_of}
-use Rattle.md_script.specs.declared.error.PlayKind.TheVariants.{NoMemory}
 use Rattle.md_script.specs.declared.error.PlayError.{PlayError}
-use Rattle.md_script.specs.Kinds.{unnumbered}
 use Rattle.md_script.specs.Reading.{IsWhole}
 use Rattle.md_script.specs.Sinks.{Sink, Untouched}
 use Rattle.md_script.specs.Sources.{Source}
 use Rattle.md_script.specs.Texts.{answer_line}
 use Rattle.maildir_cli.specs.declared.fault.RunFault.{RunFault}
 use Rattle.maildir_cli.specs.declared.fault.RunFault.TheVariants.{Play, NoReader, Closed}
-use Rattle.maildir_cli.specs.Begun.{begun_of}
 use Rattle.maildir_cli.specs.Threading.{answers_text, report_of, AllAnswered, Interleaving, IsStop, IsUnreported, RunsThreads}
 
 -- one more answer

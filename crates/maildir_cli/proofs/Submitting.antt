@@ -1,5 +1,5 @@
 -- Calls that are submitted in turn: what is submitted, and what is refused.
-use Rattle.std.proofs.Common.{ℕ, ◌≡◌, ◌≢◌, ◌+◌, ◌<◌, ◌++◌, List, [], ◌∷◌, Option, Some, None, Result, Ok, Err, refl, sym, ap, subst, ◌∙◌, length, take, drop, map, get_or, MatchResult}
+use Rattle.std.proofs.Common.{ℕ, ◌≡◌, ◌≢◌, ◌+◌, ◌<◌, ◌++◌, List, [], ◌∷◌, Option, Some, None, Result, Ok, Err, refl, sym, ap, ◌∙◌, length, take, drop, map, get_or, MatchResult}
 use Rattle.std.specs.Result.{IsErrAnd}
 use Rattle.md_dirs.proofs.Filled.{parted}
 use Rattle.md_core.specs.declared.error.CoreError.{CoreError}

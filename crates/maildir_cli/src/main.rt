@@ -1,5 +1,6 @@
 //! `maildir_cli play` runs the script on standard input and prints its transcript on standard output. `maildir_cli index N` prints the
-//! header summary of each message of the folders and files that the script names, made by N workers.
+//! header summary of each message of the folders and files that the script names, made by N workers. `maildir_cli threads N` runs the
+//! script's jobs by N threads, and prints their answers and the folders.
 //!
 //! It ends with status 0 where the script ran to its end or help was asked for; with 1 where a line was refused or reading, writing or
 //! memory failed, and then with one line `line N: TEXT` on standard error; and with 2 where its words are wrong, and then with one line
@@ -86,11 +87,7 @@ fn index_input<R: Threads + Wait + Sync>(
     }
 }
 
-fn run_input<R: Threads + Wait + Sync>(
-    rt: &HostRuntime,
-    threads: &R,
-    count: usize,
-) -> ExitCode
+fn run_input<R: Threads + Wait + Sync>(rt: &HostRuntime, threads: &R, count: usize) -> ExitCode
     requires { (1 ≤ count) × (count ≤ 16) }
 {
     let mut reader = Reader::new(rt.reader());

@@ -47,7 +47,11 @@ fn push_all(out: &mut Vec<u8>, name: &[u8], all: &[Indexed]) -> Result<(), Alloc
 }
 
 /// The listing of a folder now.
-pub(crate) fn listing<D: Dirs>(alloc: Global, world: &World<D>, folder: u32) -> Result<Vec<Entry>, ViewError>
+pub(crate) fn listing<D: Dirs>(
+    alloc: Global,
+    world: &World<D>,
+    folder: u32,
+) -> Result<Vec<Entry>, ViewError>
     ensures { IfOk result (λ all. all.items ≡ listing_in (mailbox_of (dirs_of world.now)) folder) }
 {
     let new = reading(alloc, world, folder, Place::New)?;

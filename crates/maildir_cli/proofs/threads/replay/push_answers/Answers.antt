@@ -1,4 +1,4 @@
-use Rattle.std.proofs.Common.{◌∙◌, ap, sym, arith}
+use Rattle.std.proofs.Common.{◌∙◌, sym, arith}
 use Rattle.maildir_cli.proofs.Reporting.{answers-none, more-answers, more-answered}
 use Rattle.maildir_cli.proofs.threads.replay.push_answers.Goals as goal
 
