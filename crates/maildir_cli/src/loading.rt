@@ -29,7 +29,8 @@ pub(crate) fn load(
 
 /// What no single line is to blame for is refused at the script's last line, and want of memory at none.
 pub(crate) fn refused(script: &[u8], kind: PlayKind) -> PlayError
-    ensures { ((kind ≡ NoMemory) × (result ≡ unnumbered NoMemory)) ⊎ ((kind ≢ NoMemory) × (result ≡ record { line = length (lines_of script.now); kind = kind })) }
+    ensures { ((kind ≡ NoMemory) × (result ≡ unnumbered NoMemory))
+        ⊎ ((kind ≢ NoMemory) × (result ≡ record { line = length (lines_of script.now); kind = kind })) }
 {
     match kind {
         PlayKind::NoMemory => PlayError::from(PlayKind::NoMemory),

@@ -1,4 +1,5 @@
 //! What command lines ask for, and what an index and a run on threads print.
+ghost use Rattle.std.specs.Prelude.{◌≤◌};
 
 use crate::command::{CliFault, Run, command};
 use crate::indexing::run_index;
@@ -195,30 +196,33 @@ static RUNS: [(&[u8], &[u8], &str); 9] = [
     (b"folder i\njob clean j\n", b"", "line 2: unknown folder"),
 ];
 
-// What a run of a script on threads prints, and why it is refused, if it is.
-fn ran<R: Threads + Wait + Sync>(
+// Whether a run of a script on so many threads prints this, or is refused so.
+fn runs<R: Threads + Wait + Sync>(
     rt: &R,
     alloc: Global,
     threads: usize,
     script: &[u8],
-) -> Result<(Vec<u8>, String), Fail> {
+    prints: &[u8],
+    refused: &str,
+) -> Result<bool, Fail>
+    requires { (1 ≤ threads) × (threads ≤ 16) }
+{
     let mut source = script;
     let mut sink = Vec::new(alloc);
     let refusal = match run_threads(rt, alloc, threads, &mut source, &mut sink) {
         Ok(()) => String::new(alloc),
         Err(fault) => format!(in alloc; "{fault}")?,
     };
-    Ok((sink, refusal))
+    Ok(sink.as_slice() == prints && refusal.as_str() == refused)
 }
 
 #[test]
 fn jobs_are_run_on_threads(rt: HostRuntime) -> Result<(), Fail> {
     for (script, prints, refused) in RUNS {
-        for threads in [1, 2, 3, 16] {
-            let (text, refusal) = ran(&rt, rt.alloc(), threads, script)?;
-            assert_eq!(rt; text.as_slice(), prints);
-            assert_eq!(rt; refusal.as_str(), refused);
-        }
+        let alone = runs(&rt, rt.alloc(), 1, script, prints, refused)?;
+        let two = runs(&rt, rt.alloc(), 2, script, prints, refused)?;
+        let most = runs(&rt, rt.alloc(), 16, script, prints, refused)?;
+        assert_eq!(rt; (alone, two, most), (true, true, true));
     }
     Ok(())
 }
