@@ -86,8 +86,8 @@ fn flags_that_are_there_leave_the_spelling(rt: HostRuntime) -> Result<(), Fail> 
     stays_and_changes(&rt, rt.alloc(), &mut world)
 }
 
-// Two flaggers look one after the other, and the first renames; the second, which has so many tries, then takes these steps. Then the message
-// has this name.
+// Two flaggers look one after the other, and the first renames; the second, which has so many tries, then takes these steps. Then the
+// message has this name.
 fn race(
     rt: &impl Abort,
     alloc: Global,
