@@ -8,7 +8,7 @@ use Rattle.md_script.specs.declared.error.PlayKind.{PlayKind}
 use Rattle.md_script.specs.declared.error.PlayError.{PlayError}
 use Rattle.md_script.specs.Bind.{◌>>=◌}
 use Rattle.md_script.specs.Folders.{names_of}
-use Rattle.md_script.specs.Lines.{lines_of}
+use Rattle.md_head.specs.Header.{lines_of}
 use Rattle.md_script.specs.Sessions.{opened, unless_refused}
 use Rattle.md_script.specs.Setups.{Setting, setting_of}
 use Rattle.md_script.specs.Transcript.{Transcript}

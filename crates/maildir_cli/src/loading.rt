@@ -2,7 +2,7 @@
 ghost use Rattle.std.specs.Prelude.{◌≡◌, ◌≢◌, ◌⊎◌, length};
 ghost use Rattle.md_script.specs.Folders.{names_of};
 ghost use Rattle.md_script.specs.Kinds.{unnumbered};
-ghost use Rattle.md_script.specs.Lines.{lines_of};
+ghost use Rattle.md_head.specs.Header.{lines_of};
 ghost use Rattle.md_script.specs.Sessions.{opened};
 ghost use Rattle.md_script.specs.Words.{Gives};
 ghost use Rattle.md_script.specs.declared.error.PlayKind.TheVariants.{NoMemory};
