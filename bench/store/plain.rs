@@ -496,7 +496,7 @@ fn lists() {
                 assert_eq!(store.list(&mut pass).len() as u64, MESSAGES);
                 listings += 1;
             }
-            beside.push(start.elapsed().as_nanos() as u64 / listings.max(1));
+            beside.push((start.elapsed().as_nanos() as u64).checked_div(listings).unwrap_or(u64::MAX));
         });
     }
     println!("{} {}", alone.iter().min().unwrap(), beside.iter().min().unwrap());
