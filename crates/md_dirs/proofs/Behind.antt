@@ -9,7 +9,7 @@ use Rattle.std.specs.FinMap.{is_sorted}
 use Rattle.std.specs.FinMap.Entries.{below_all}
 use Rattle.md_dirs.specs.Index.{name_cmp, order_at, rows_by_name, EndsBelow}
 use Rattle.md_dirs.proofs.Sorted.{holds, is_true, first, second, both}
-use Rattle.md_dirs.proofs.NameRows.{Row, InOrder, by, same, name_total, is_less, turned-test}
+use Rattle.md_dirs.proofs.NameRows.{Row, InOrder, by, same, name_total, turned-test, is_less}
 use Rattle.md_dirs.proofs.Renamed.{below-at}
 
 -- what is below a name is another name

@@ -189,18 +189,12 @@ beside-set (x ∷ xs) zero (suc k) d differ = refl
 beside-set (x ∷ xs) (suc i) zero d differ = refl
 beside-set (x ∷ xs) (suc i) (suc k) d differ = beside-set xs i k d (λ is. differ (ap suc is))
 
--- a directory was written that has the same names
-pub set-same : (ds : List NameMap) (i : ℕ) (d : NameMap) → i < length ds → d ≡ directory_at ds i → names_of (slice_set ds i d) ≡ names_of ds
-set-same ds i d within same = same-names ds (slice_set ds i d) (λ k. by_number k i
-    (λ is. ap (directory_at (slice_set ds i d)) is ∙ at-set ds i d within ∙ same ∙ ap (directory_at ds) (sym is))
-    (λ differ. beside-set ds i k d differ))
-
--- one more table without a name
-pub at-more : {X : Type 0} (names : X → NameMap) (xs : List X) (x : X) (k : ℕ) → names x ≡ finmap.empty → directory_at (map names (xs ++ x ∷ [])) k ≡ directory_at (map names xs) k
-at-more names [] x zero none = none
-at-more names [] x (suc k) none = refl
-at-more names (y ∷ ys) x zero none = refl
-at-more names (y ∷ ys) x (suc k) none = at-more names ys x k none
+-- one more directory without a name
+pub at-more : (ds : List NameMap) (k : ℕ) → directory_at (ds ++ finmap.empty ∷ []) k ≡ directory_at ds k
+at-more [] zero = refl
+at-more [] (suc k) = refl
+at-more (x ∷ xs) zero = refl
+at-more (x ∷ xs) (suc k) = at-more xs k
 
 pub past-end : (ds : List NameMap) (k : ℕ) → length ds ≤ k → directory_at ds k ≡ finmap.empty
 past-end [] k past = refl
@@ -222,11 +216,11 @@ gone-past ds p past = same_map path_total path_exact _ _ (λ q. by_path q p
     (λ one. ap (finmap.get (names_of ds)) one ∙ none-past ds p past ∙ sym (maps.at_drop path_total path_exact (names_of ds) p q one))
     (λ differ. sym (maps.beside_drop path_total path_exact (names_of ds) p q differ)))
 
--- a table that is read at its number
-pub read-table : {X : Type 0} (names : X → NameMap) (xs : List X) (i : ℕ) (x : X) → i < length xs → x ≡ get_or xs i x → directory_at (map names xs) i ≡ names x
-read-table names [] i x within is = absurd (omega arith)
-read-table names (y ∷ ys) zero x within is = ap names (sym is)
-read-table names (y ∷ ys) (suc i) x within is = read-table names ys i x (omega arith) is
+-- a directory that is read at its number
+pub read-directory : (ds : List NameMap) (i : ℕ) (d : NameMap) → i < length ds → d ≡ get_or ds i d → directory_at ds i ≡ d
+read-directory [] i d within is = absurd (omega arith)
+read-directory (x ∷ xs) zero d within is = sym is
+read-directory (x ∷ xs) (suc i) d within is = read-directory xs i d (omega arith) is
 
 -- the rows of one directory
 pub is-here : (n : ℕ) (folder : ℕ) (place : Place) (a : List ℕ) → n ≡ directory_number folder place → is_in folder place (path_at n a) ≡ true

@@ -13,7 +13,7 @@ use Rattle.std.specs.FinMap.Entries.{below_all}
 use Rattle.md_dirs.specs.Index.{name_cmp, rows_by_name, FitsAt, Renames}
 use Rattle.md_dirs.proofs.Sorted.{holds, is_true, first, second, both, less}
 use Rattle.md_dirs.proofs.Counted.{map-set}
-use Rattle.md_dirs.proofs.NameRows.{Row, InOrder, by, same, name_total, name_exact, is_less, get-rows, length-rows, below-trans, turned-test, renamed-lookups}
+use Rattle.md_dirs.proofs.NameRows.{Row, InOrder, by, same, name_total, name_exact, get-rows, length-rows, below-trans, turned-test, renamed-lookups, is_less}
 
 -- lists
 set-front : {X : Type 0} (xs : List X) (i : ℕ) (x y : X) → i < length xs → slice_set (xs ++ x ∷ []) i y ≡ slice_set xs i y ++ x ∷ []

@@ -1,12 +1,22 @@
 // How a path comes to directories, and to the count of its file.
 ghost use Rattle.std.specs.Prelude.{◌≡◌, ◌<◌, [], ◌∷◌, ◌++◌, Some, OnOk, OnErr, length, slice_set};
 ghost use Rattle.std.specs.FinMap as finmap;
+ghost use Rattle.md_dirs.specs.Index.{PathMap};
 ghost use Rattle.md_dirs.specs.Files.{slot_at, named_again};
 
 use crate::files::Kept;
-use crate::path_store::Paths;
 use crate::paths::{File, Path};
 use std::alloc::{AllocError, Global};
+
+/// Paths, each with the number of its file.
+pub trait Paths {
+    ghost names: { Self → PathMap };
+
+    /// Gives a path to a file, also in place of the one that it named. Where memory is wanting, nothing has changed.
+    fn put(&mut self, alloc: Global, path: Path, file: usize) -> Result<(), AllocError>
+        ensures ok { OnOk result (names self.new ≡ finmap.insert (names self.old) path file) }
+        ensures err { OnErr result (names self.new ≡ names self.old) };
+}
 
 // Adds a file at the end of the files, with a path as its one name.
 pub fn add_file<N: Paths>(

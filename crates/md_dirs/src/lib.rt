@@ -9,12 +9,9 @@ mod files;
 mod image;
 mod index;
 pub mod laws;
-mod path_store;
 mod paths;
 mod plain;
 mod rows;
-mod storage;
-mod stored;
 #[cfg(test)]
 mod tests;
 
@@ -26,4 +23,3 @@ pub use md_name::Bytes;
 pub use paths::{File, Path, Place};
 pub use plain::PlainDirs;
 pub use rows::{Row, RowRef};
-pub use storage::Storage;

@@ -1,12 +1,232 @@
-// Directories as one list of rows in the order of their paths.
+// Directories as one list of rows in the order of their paths, and the files in the order of their making. The slot of a file that no path names any more is empty.
 mod list;
 mod search;
 
-use crate::stored::StoredDirs;
+use crate::calls::{DirError, Dirs};
+use crate::changes::{Paths, add_file, add_name};
+use crate::count::Count;
+use crate::files::{Kept, found_row, grow_slot, is_same, release_one, shown_row};
+use crate::image::ImageFile;
+use crate::paths::{File, Path, Place};
+use crate::rows::{Row, RowRef};
 use list::PathList;
+use md_name::Bytes;
+use std::alloc::Global;
+use std::marker::Model;
 
 /// The plain directories: one list of rows, in the order of folder, place and name.
 ///
 /// A name, the first row of a directory and one message of it are found by halving. A name that comes or goes moves the rows
-/// behind it.
-pub type PlainDirs = StoredDirs<PathList>;
+/// behind it. Each file knows how many names it has. No call copies the bytes of a file, and room is made before anything is
+/// changed. They never fault.
+#[derive(Drop)]
+pub struct PlainDirs {
+    alloc: Global,
+    folders: u32,
+    names: PathList,
+    slots: Vec<Option<Kept>>,
+    calls: Count,
+}
+
+impl Model for PlainDirs {
+    ghost use Rattle.md_dirs.specs.State.{Counted, counted_code};
+    ghost use Rattle.md_dirs.specs.Files.{IsCounted, kept_state};
+
+    ghost Value = { Counted };
+
+    ghost coded = { counted_code };
+
+    ghost view = { λ d. record { state = kept_state d.folders d.names d.slots.items; calls = d.calls.value } };
+
+    ghost invariant = { λ d. IsCounted d.folders d.names d.slots.items };
+}
+
+impl PlainDirs {
+    ghost use Rattle.std.specs.Prelude.{◌≡◌, ◌⊎◌, Some, None, IfOk, IfErr};
+    ghost use Rattle.md_dirs.specs.State.{bare};
+    ghost use Rattle.md_dirs.specs.Calls.{Obeys};
+    ghost use Rattle.md_dirs.specs.Image.{put, image_state, image_refusal};
+    ghost use Rattle.md_dirs.specs.declared.calls.DirError.TheVariants.{NoMemory};
+
+    /// Folders with no file. It takes no memory.
+    pub fn new(alloc: Global, folders: u32) -> Self
+        ensures { result ≡ record { state = bare folders; calls = 0 } }
+    {
+        PlainDirs {
+            alloc,
+            folders,
+            names: PathList::new(alloc),
+            slots: Vec::new(alloc),
+            calls: Count::zero(),
+        }
+    }
+
+    /// Folders with files, which are made in their order; their bytes are moved in. `NotFound` or `Exists` at the first
+    /// file whose folder is not there or whose path was met before. `NoMemory` may come in place of either.
+    pub fn from_image(
+        alloc: Global,
+        folders: u32,
+        image: Vec<ImageFile>,
+    ) -> Result<PlainDirs, DirError>
+        ensures accepted { IfOk result (λ dirs. image_refusal folders image.items ≡ None) }
+        ensures made { IfOk result (λ dirs. dirs ≡ record { state = image_state folders image.items; calls = 0 }) }
+        ensures refused { IfErr result (λ e. (e ≡ NoMemory) ⊎ (image_refusal folders image.items ≡ Some e)) }
+    {
+        let mut dirs = PlainDirs::new(alloc, folders);
+        for file in image {
+            dirs.put_file(file)?;
+        }
+        Ok(dirs)
+    }
+
+    // Makes a file with its bytes.
+    fn put_file(&mut self, file: ImageFile) -> Result<(), DirError>
+        ensures made { Obeys (put file) self.old.state 0 result self.new.state 0 }
+        ensures calls { self.new.calls ≡ self.old.calls }
+    {
+        if file.path.folder >= self.folders {
+            return Err(DirError::NotFound);
+        }
+        if self.names.file_at(&file.path).is_some() {
+            return Err(DirError::Exists);
+        }
+        let made = File {
+            bytes: file.bytes,
+            stamp: file.stamp,
+        };
+        add_file(
+            &mut self.names,
+            &mut self.slots,
+            self.alloc,
+            file.path,
+            made,
+        )?;
+        Ok(())
+    }
+}
+
+impl Dirs for PlainDirs {
+    ghost state = { λ d. d.state };
+
+    ghost failures = { λ _. 0 };
+
+    ghost calls = { λ d. d.calls };
+
+    fn create(&mut self, path: &Path, now: u64) -> Result<(), DirError> {
+        if path.folder >= self.folders {
+            self.calls.raise();
+            return Err(DirError::NotFound);
+        }
+        if self.names.file_at(path).is_some() {
+            self.calls.raise();
+            return Err(DirError::Exists);
+        }
+        let name = path.again(self.alloc)?;
+        let file = File {
+            bytes: Bytes::of(Vec::new(self.alloc)),
+            stamp: now,
+        };
+        add_file(&mut self.names, &mut self.slots, self.alloc, name, file)?;
+        self.calls.raise();
+        Ok(())
+    }
+
+    fn append(&mut self, path: &Path, bytes: &[u8], now: u64) -> Result<(), DirError> {
+        let Some(file) = self.names.file_at(path) else {
+            self.calls.raise();
+            return Err(DirError::NotFound);
+        };
+        grow_slot(&mut self.slots[file], bytes, now)?;
+        self.calls.raise();
+        Ok(())
+    }
+
+    fn link(&mut self, old: &Path, new: &Path) -> Result<(), DirError> {
+        let Some(file) = self.names.file_at(old) else {
+            self.calls.raise();
+            return Err(DirError::NotFound);
+        };
+        if new.folder >= self.folders {
+            self.calls.raise();
+            return Err(DirError::NotFound);
+        }
+        if self.names.file_at(new).is_some() {
+            self.calls.raise();
+            return Err(DirError::Exists);
+        }
+        let name = new.again(self.alloc)?;
+        add_name(&mut self.names, &mut self.slots, self.alloc, name, file)?;
+        self.calls.raise();
+        Ok(())
+    }
+
+    fn rename(&mut self, old: &Path, new: &Path) -> Result<(), DirError> {
+        let Some(file) = self.names.file_at(old) else {
+            self.calls.raise();
+            return Err(DirError::NotFound);
+        };
+        if new.folder >= self.folders {
+            self.calls.raise();
+            return Err(DirError::NotFound);
+        }
+        let there = self.names.file_at(new);
+        if is_same(there, file) {
+            self.calls.raise();
+            return Ok(());
+        }
+        let name = new.again(self.alloc)?;
+        self.names.put(self.alloc, name, file)?;
+        let _gone = self.names.take(old);
+        release_one(&mut self.slots, there);
+        self.calls.raise();
+        Ok(())
+    }
+
+    fn unlink(&mut self, path: &Path) -> Result<(), DirError> {
+        let Some(file) = self.names.take(path) else {
+            self.calls.raise();
+            return Err(DirError::NotFound);
+        };
+        release_one(&mut self.slots, Some(file));
+        self.calls.raise();
+        Ok(())
+    }
+
+    fn list(&mut self, folder: u32, place: Place) -> Result<Vec<Row>, DirError> {
+        if folder >= self.folders {
+            self.calls.raise();
+            return Err(DirError::NotFound);
+        }
+        let rows = self.names.rows_of(self.alloc, folder, place, &self.slots)?;
+        self.calls.raise();
+        Ok(rows)
+    }
+
+    fn find(&mut self, folder: u32, place: Place, unique: &[u8]) -> Result<Option<Row>, DirError> {
+        if folder >= self.folders {
+            self.calls.raise();
+            return Err(DirError::NotFound);
+        }
+        let found = self.names.find(folder, place, unique);
+        let row = found_row(self.alloc, &self.slots, found)?;
+        self.calls.raise();
+        Ok(row)
+    }
+
+    fn folders(&self) -> u32 {
+        self.folders
+    }
+
+    fn row_at(&self, folder: u32, place: Place, at: usize) -> Option<RowRef<'_>> {
+        let (name, file) = self.names.row_at(folder, place, at)?;
+        Some(shown_row(&self.slots, name, file))
+    }
+
+    fn read(&self, folder: u32, place: Place, name: &[u8]) -> Option<&[u8]> {
+        let file = self.names.file_of(folder, place, name)?;
+        let Some(kept) = &self.slots[file] else {
+            return None;
+        };
+        Some(kept.file.bytes.as_slice())
+    }
+}

@@ -19,6 +19,7 @@ mod setting;
 mod setup;
 mod sink;
 mod source;
+mod storage;
 mod store;
 mod summary;
 mod verb;
@@ -33,6 +34,7 @@ pub use run::Printed;
 pub use setup::{Setup, image};
 pub use sink::{Put, Sink, Writer};
 pub use source::{Got, Reader, Source};
+pub use storage::Storage;
 pub use store::{open_store, push_answer_line};
 pub use summary::push_summary;
 

@@ -1,12 +1,15 @@
 // The names of one directory, hashed and in order.
-ghost use Rattle.std.specs.Prelude.{◌≡◌, ◌<◌, None, OnOk, OnErr, IsTrue, length, nat_lt, slice_set};
+ghost use Rattle.std.specs.Prelude.{◌≡◌, ◌<◌, ◌+◌, ◌^◌, None, OnOk, OnErr, IfOk, IfSome, IsSome, IsTrue, All, length, map, nat_lt, slice_get, slice_set, find as first_with};
+ghost use Rattle.std.specs.Option.{option_map};
+ghost use Rattle.std.specs.FinMap as finmap;
+ghost use Rattle.md_dirs.specs.State.{file_by};
+ghost use Rattle.md_dirs.specs.Files.{files_of, name_row};
 ghost use Rattle.std.specs.FinMap.{is_sorted};
+ghost use Rattle.md_dirs.specs.Rows.{is_named as is_named_by};
 ghost use Rattle.md_dirs.specs.Find.{zone, name_at, IsInfoPoint, IsFirstPlace};
 ghost use Rattle.md_dirs.specs.Index.{name_cmp, rows_by_name, order_at, EndsBelow, FitsAt, get_name, Renames};
 
 use crate::files::{Kept, shown_row};
-use crate::index::loose::LooseNames;
-use crate::index::table::{SortedTable, Table};
 use crate::rows::{Row, is_below_info, is_named};
 use indexmap::IndexMap;
 use std::alloc::{AllocError, Global};
@@ -118,21 +121,29 @@ fn replace_row(
     Ok(())
 }
 
-impl Table for Names {
-    ghost names = { λ d. d };
-
-    fn new(alloc: Global) -> Self {
+impl Names {
+    /// No name. It takes no memory.
+    pub fn new(alloc: Global) -> Self
+        ensures { result ≡ finmap.empty }
+    {
         Names {
             rows: IndexMap::new(alloc),
         }
     }
 
-    fn file_of(&self, name: &[u8]) -> Option<usize> {
+    /// The number of the file of a name.
+    pub fn file_of(&self, name: &[u8]) -> Option<usize>
+        ensures { result ≡ finmap.get self.now name.now }
+    {
         self.rows.get(name).copied()
     }
 
-    // Names come in the order of time, so the last row is looked at first. Behind it no row moves.
-    fn put(&mut self, name: Vec<u8>, file: usize) -> Result<(), AllocError> {
+    /// Gives a name to a file, also in place of the one that it named. At the end of the order no row moves.
+    pub fn put(&mut self, name: Vec<u8>, file: usize) -> Result<(), AllocError>
+        ensures ok { OnOk result (self.new ≡ finmap.insert self.old name.items file) }
+        ensures err { OnErr result (self.new ≡ self.old) }
+    {
+        // Names come in the order of time, so the last row is looked at first.
         if is_behind(&self.rows, name.as_slice()) {
             self.rows.insert(name, file)?;
         } else {
@@ -140,22 +151,22 @@ impl Table for Names {
         }
         Ok(())
     }
-}
 
-impl SortedTable for Names {
-    type Loose = LooseNames;
-
-    fn sorted(loose: LooseNames) -> Result<Self, AllocError> {
-        loose.sorted()
-    }
-
-    // At the end of the order no row moves.
-    fn take(&mut self, name: &[u8]) -> Option<usize> {
+    /// Takes a name away, and gives the number of its file. It takes no memory, and at the end of the order no row moves.
+    pub fn take(&mut self, name: &[u8]) -> Option<usize>
+        ensures file { result ≡ finmap.get self.old name.now }
+        ensures gone { self.new ≡ finmap.remove self.old name.now }
+    {
         self.rows.shift_remove(name)
     }
 
-    // Where the new name keeps the row's place in the order, no row moves.
-    fn rename(&mut self, old: &[u8], new: Vec<u8>, file: usize) -> Result<(), AllocError> {
+    /// Gives the file of a name another name, which is not there yet. Where that keeps the row's place in the order, no row
+    /// moves. Where memory is wanting, nothing has changed.
+    pub fn rename(&mut self, old: &[u8], new: Vec<u8>, file: usize) -> Result<(), AllocError>
+        requires { finmap.get self.old new.items ≡ None }
+        ensures ok { OnOk result (self.new ≡ finmap.remove (finmap.insert self.old new.items file) old.now) }
+        ensures err { OnErr result (self.new ≡ self.old) }
+    {
         if let Some((at, _, _)) = self.rows.get_full(old) {
             if keeps_place(&self.rows, at, new.as_slice()) {
                 replace_row(&mut self.rows, at, new, file)?;
@@ -167,8 +178,11 @@ impl SortedTable for Names {
         Ok(())
     }
 
-    // By hash where it is the unique name, and else by halving.
-    fn find(&self, unique: &[u8]) -> Option<(&[u8], usize)> {
+    /// The first name that is a unique name, or a unique name, a colon and more (maildir(5)), and the number of its file: by
+    /// hash where it is the unique name, and else by halving.
+    pub fn find(&self, unique: &[u8]) -> Option<(&[u8], usize)>
+        ensures { option_map (λ r. (r.0.now, r.1)) result ≡ first_with (λ e. is_named_by unique.now e.0) (finmap.entries self.now) }
+    {
         let (name, file) = self.rows.get_index(first_place(&self.rows, unique))?;
         if is_named(name.as_slice(), unique) {
             Some((name.as_slice(), *file))
@@ -177,14 +191,22 @@ impl SortedTable for Names {
         }
     }
 
-    fn row_at(&self, at: usize) -> Option<(&[u8], usize)> {
+    /// The row at a position in order of the names.
+    pub fn row_at(&self, at: usize) -> Option<(&[u8], usize)>
+        ensures row { option_map (λ r. (r.0.now, r.1)) result ≡ slice_get (finmap.entries self.now) at }
+        ensures few { IfSome result (λ _. at + 1 < 2 ^ 64) }
+    {
         // A map has fewer names than a `usize` may count.
         let _few = self.rows.len();
         let (name, file) = self.rows.get_index(at)?;
         Some((name.as_slice(), *file))
     }
 
-    fn rows(&self, alloc: Global, slots: &[Option<Kept>]) -> Result<Vec<Row>, AllocError> {
+    /// All rows, copied. It is refused only for want of memory.
+    pub fn rows(&self, alloc: Global, slots: &[Option<Kept>]) -> Result<Vec<Row>, AllocError>
+        requires { All (λ e. IsSome (file_by (files_of slots.now) e.1)) (finmap.entries self.now) }
+        ensures { IfOk result (λ shown. shown.items ≡ map (name_row (files_of slots.now)) (finmap.entries self.now)) }
+    {
         let count = self.rows.len();
         let mut shown = Vec::with_capacity(alloc, count)?;
         for at in 0..count {

@@ -1,10 +1,16 @@
 // The directories of all folders, side by side.
-ghost use Rattle.std.specs.Prelude.{◌≡◌, ◌<◌, ◌^◌, ℕ, OnOk, map, vec_len};
-ghost use Rattle.md_dirs.specs.Index.{directory_at};
+ghost use Rattle.std.specs.Prelude.{◌≡◌, ◌<◌, ◌+◌, ◌^◌, ℕ, OnOk, OnErr, None, IfOk, IfSome, IsSome, IsTrue, All, map, slice_get, vec_len, find as first_with};
+ghost use Rattle.std.specs.Option.{option_map};
+ghost use Rattle.std.specs.FinMap as finmap;
+ghost use Rattle.md_dirs.specs.Path.{path_of};
+ghost use Rattle.md_dirs.specs.State.{file_by};
+ghost use Rattle.md_dirs.specs.Rows.{is_named};
+ghost use Rattle.md_dirs.specs.Index.{directory_number, directory_at, rows_in};
+ghost use Rattle.md_dirs.specs.Files.{files_of, name_row};
 
+use crate::changes::Paths;
 use crate::files::Kept;
-use crate::index::table::{SortedTable, Table};
-use crate::path_store::{PathStore, Paths};
+use crate::index::names::Names;
 use crate::paths::{Path, Place, number_of};
 use crate::rows::Row;
 use std::alloc::{AllocError, Global};
@@ -12,50 +18,53 @@ use std::marker::Model;
 
 /// The directories of all folders, by their numbers, up to the last that had a name.
 #[derive(Drop)]
-pub struct Tree<T: Table> {
-    directories: Vec<T>,
+pub struct Tree {
+    pub(crate) directories: Vec<Names>,
 }
 
-impl<T: Table> Model for Tree<T> {
-    ghost use Rattle.std.specs.Prelude.{map};
+impl Model for Tree {
     ghost use Rattle.md_dirs.specs.Index.{PathMap, map_code, names_of};
 
     ghost Value = { PathMap };
 
     ghost coded = { map_code };
 
-    ghost view = { λ t. names_of (map T.names t.directories.items) };
+    ghost view = { λ t. names_of t.directories.items };
 }
 
 // Makes empty directories up to one. Where memory is wanting, there may be more of them.
-fn make_directory<T: Table>(
-    directories: &mut Vec<T>,
+fn make_directory(
+    directories: &mut Vec<Names>,
     alloc: Global,
     number: usize,
 ) -> Result<(), AllocError>
     requires { number < 2 ^ 40 }
     ensures there { OnOk result (number < vec_len directories.new) }
-    ensures same { (k : ℕ) → directory_at (map T.names directories.new.items) k ≡ directory_at (map T.names directories.old.items) k }
+    ensures same { (k : ℕ) → directory_at directories.new.items k ≡ directory_at directories.old.items k }
 {
     if number >= directories.len() {
         directories.reserve(number - directories.len() + 1)?;
     }
     while directories.len() <= number {
-        directories.push(T::new(alloc))?;
+        directories.push(Names::new(alloc))?;
     }
     Ok(())
 }
 
-impl<T: Table> Paths for Tree<T> {
-    ghost names = { λ p. p };
-
-    fn new(alloc: Global) -> Self {
+impl Tree {
+    /// No directory has a name. It takes no memory.
+    pub fn new(alloc: Global) -> Self
+        ensures { result ≡ finmap.empty }
+    {
         Tree {
             directories: Vec::new(alloc),
         }
     }
 
-    fn file_of(&self, folder: u32, place: Place, name: &[u8]) -> Option<usize> {
+    /// The number of the file of a name in a directory.
+    pub fn file_of(&self, folder: u32, place: Place, name: &[u8]) -> Option<usize>
+        ensures { result ≡ finmap.get self.now (path_of folder place name.now) }
+    {
         let number = number_of(folder, place);
         if number >= self.directories.len() {
             return None;
@@ -63,30 +72,11 @@ impl<T: Table> Paths for Tree<T> {
         self.directories[number].file_of(name)
     }
 
-    fn put(&mut self, alloc: Global, path: Path, file: usize) -> Result<(), AllocError> {
-        let number = number_of(path.folder, path.place);
-        make_directory(&mut self.directories, alloc, number)?;
-        let directory = &mut self.directories[number];
-        directory.put(path.name.into_vec(), file)?;
-        Ok(())
-    }
-}
-
-impl<T: SortedTable> PathStore for Tree<T> {
-    type Loose = Tree<T::Loose>;
-
-    fn ordered(alloc: Global, loose: Tree<T::Loose>) -> Result<Self, AllocError> {
-        let Tree { directories } = loose;
-        let mut sorted = Vec::with_capacity(alloc, directories.len())?;
-        for names in directories {
-            sorted.push(T::sorted(names)?)?;
-        }
-        Ok(Tree {
-            directories: sorted,
-        })
-    }
-
-    fn take(&mut self, path: &Path) -> Option<usize> {
+    /// Takes a path away, and gives the number of its file. It takes no memory.
+    pub fn take(&mut self, path: &Path) -> Option<usize>
+        ensures file { result ≡ finmap.get self.old path.now }
+        ensures gone { self.new ≡ finmap.remove self.old path.now }
+    {
         let number = number_of(path.folder, path.place);
         if number >= self.directories.len() {
             return None;
@@ -95,14 +85,68 @@ impl<T: SortedTable> PathStore for Tree<T> {
         directory.take(path.name.as_slice())
     }
 
-    fn rename(
+    /// The number of the file of a path.
+    pub fn file_at(&self, path: &Path) -> Option<usize>
+        ensures { result ≡ finmap.get self.now path.now }
+    {
+        self.file_of(path.folder, path.place, path.name.as_slice())
+    }
+
+    /// The name at a position of a directory, in order of the names, and the number of its file.
+    pub fn row_at(&self, folder: u32, place: Place, at: usize) -> Option<(&[u8], usize)>
+        ensures row { option_map (λ r. (r.0.now, r.1)) result ≡ slice_get (rows_in self.now folder place) at }
+        ensures few { IfSome result (λ _. at + 1 < 2 ^ 64) }
+    {
+        let number = number_of(folder, place);
+        if number >= self.directories.len() {
+            return None;
+        }
+        self.directories[number].row_at(at)
+    }
+
+    /// The first name of a directory that is a unique name, or a unique name, a colon and more, and the number of its file.
+    pub fn find(&self, folder: u32, place: Place, unique: &[u8]) -> Option<(&[u8], usize)>
+        ensures { option_map (λ r. (r.0.now, r.1)) result ≡ first_with (λ e. is_named unique.now e.0) (rows_in self.now folder place) }
+    {
+        let number = number_of(folder, place);
+        if number >= self.directories.len() {
+            return None;
+        }
+        self.directories[number].find(unique)
+    }
+
+    /// The rows of a directory, copied. It is refused only for want of memory.
+    pub fn rows_of(
+        &self,
+        alloc: Global,
+        folder: u32,
+        place: Place,
+        slots: &[Option<Kept>],
+    ) -> Result<Vec<Row>, AllocError>
+        requires { All (λ e. IsSome (file_by (files_of slots.now) e.1)) (rows_in self.now folder place) }
+        ensures { IfOk result (λ shown. shown.items ≡ map (name_row (files_of slots.now)) (rows_in self.now folder place)) }
+    {
+        let number = number_of(folder, place);
+        if number >= self.directories.len() {
+            return Ok(Vec::new(alloc));
+        }
+        self.directories[number].rows(alloc, slots)
+    }
+
+    /// Gives the file of a path another path, also in place of the file that this named: `is_free` says that it named none.
+    /// Where memory is wanting, nothing has changed.
+    pub fn rename(
         &mut self,
         alloc: Global,
         old: &Path,
         new: Path,
         file: usize,
         is_free: bool,
-    ) -> Result<(), AllocError> {
+    ) -> Result<(), AllocError>
+        requires { IsTrue is_free → finmap.get self.old new ≡ None }
+        ensures ok { OnOk result (self.new ≡ finmap.remove (finmap.insert self.old new file) old.now) }
+        ensures err { OnErr result (self.new ≡ self.old) }
+    {
         let number = number_of(old.folder, old.place);
         if is_free
             && number == number_of(new.folder, new.place)
@@ -116,34 +160,16 @@ impl<T: SortedTable> PathStore for Tree<T> {
         let _gone = self.take(old);
         Ok(())
     }
+}
 
-    fn row_at(&self, folder: u32, place: Place, at: usize) -> Option<(&[u8], usize)> {
-        let number = number_of(folder, place);
-        if number >= self.directories.len() {
-            return None;
-        }
-        self.directories[number].row_at(at)
-    }
+impl Paths for Tree {
+    ghost names = { λ p. p };
 
-    fn find(&self, folder: u32, place: Place, unique: &[u8]) -> Option<(&[u8], usize)> {
-        let number = number_of(folder, place);
-        if number >= self.directories.len() {
-            return None;
-        }
-        self.directories[number].find(unique)
-    }
-
-    fn rows_of(
-        &self,
-        alloc: Global,
-        folder: u32,
-        place: Place,
-        slots: &[Option<Kept>],
-    ) -> Result<Vec<Row>, AllocError> {
-        let number = number_of(folder, place);
-        if number >= self.directories.len() {
-            return Ok(Vec::new(alloc));
-        }
-        self.directories[number].rows(alloc, slots)
+    fn put(&mut self, alloc: Global, path: Path, file: usize) -> Result<(), AllocError> {
+        let number = number_of(path.folder, path.place);
+        make_directory(&mut self.directories, alloc, number)?;
+        let directory = &mut self.directories[number];
+        directory.put(path.name.into_vec(), file)?;
+        Ok(())
     }
 }

@@ -1,11 +1,15 @@
 // All paths in one list.
-ghost use Rattle.std.specs.Prelude.{◌≡◌, IfOk, IsSome, All, map};
+ghost use Rattle.std.specs.Prelude.{◌≡◌, ◌<◌, ◌+◌, ◌^◌, OnOk, OnErr, IfOk, IfSome, IsSome, All, map, slice_get, find as first_with};
+ghost use Rattle.std.specs.Option.{option_map};
+ghost use Rattle.std.specs.FinMap as finmap;
+ghost use Rattle.md_dirs.specs.Path.{path_of};
 ghost use Rattle.md_dirs.specs.State.{file_by};
-ghost use Rattle.md_dirs.specs.Index.{named_row};
+ghost use Rattle.md_dirs.specs.Rows.{is_named as is_named_by};
+ghost use Rattle.md_dirs.specs.Index.{rows_in, named_row};
 ghost use Rattle.md_dirs.specs.Files.{files_of, name_row};
 
+use crate::changes::Paths;
 use crate::files::{Kept, shown_row};
-use crate::path_store::{PathStore, Paths};
 use crate::paths::{Path, Place};
 use crate::plain::search::{directory, find_name, find_row, first_place};
 use crate::rows::{Row, is_named};
@@ -49,64 +53,57 @@ impl Model for PathList {
     ghost invariant = { λ l. IsTrue (is_sorted path_cmp l.rows.items) };
 }
 
-impl Paths for PathList {
-    ghost names = { λ p. p };
-
-    fn new(alloc: Global) -> Self {
+impl PathList {
+    /// No path. It takes no memory.
+    pub fn new(alloc: Global) -> Self
+        ensures { result ≡ finmap.empty }
+    {
         PathList {
             rows: Vec::new(alloc),
         }
     }
 
-    fn file_of(&self, folder: u32, place: Place, name: &[u8]) -> Option<usize> {
+    /// The number of the file of a name in a directory.
+    pub fn file_of(&self, folder: u32, place: Place, name: &[u8]) -> Option<usize>
+        ensures { result ≡ finmap.get self.now (path_of folder place name.now) }
+    {
         match find_name(&self.rows, folder, place, name) {
             Ok(at) => Some(self.rows[at].1),
             Err(_) => None,
         }
     }
 
-    fn put(&mut self, _alloc: Global, path: Path, file: usize) -> Result<(), AllocError> {
-        match find_row(&self.rows, &path) {
-            Ok(at) => self.rows[at].1 = file,
-            Err(at) => self.rows.insert(at, (path, file))?,
-        }
-        Ok(())
-    }
-}
-
-impl PathStore for PathList {
-    type Loose = PathList;
-
-    fn ordered(_alloc: Global, loose: PathList) -> Result<Self, AllocError> {
-        Ok(loose)
+    /// The number of the file of a path.
+    pub fn file_at(&self, path: &Path) -> Option<usize>
+        ensures { result ≡ finmap.get self.now path.now }
+    {
+        self.file_of(path.folder, path.place, path.name.as_slice())
     }
 
-    fn take(&mut self, path: &Path) -> Option<usize> {
+    /// Takes a path away, and gives the number of its file. It takes no memory.
+    pub fn take(&mut self, path: &Path) -> Option<usize>
+        ensures file { result ≡ finmap.get self.old path.now }
+        ensures gone { self.new ≡ finmap.remove self.old path.now }
+    {
         let Ok(at) = find_row(&self.rows, path) else {
             return None;
         };
         Some(self.rows.remove(at).1)
     }
 
-    fn rename(
-        &mut self,
-        alloc: Global,
-        old: &Path,
-        new: Path,
-        file: usize,
-        _is_free: bool,
-    ) -> Result<(), AllocError> {
-        self.put(alloc, new, file)?;
-        let _gone = self.take(old);
-        Ok(())
-    }
-
-    fn row_at(&self, folder: u32, place: Place, at: usize) -> Option<(&[u8], usize)> {
+    /// The name at a position of a directory, in order of the names, and the number of its file.
+    pub fn row_at(&self, folder: u32, place: Place, at: usize) -> Option<(&[u8], usize)>
+        ensures row { option_map (λ r. (r.0.now, r.1)) result ≡ slice_get (rows_in self.now folder place) at }
+        ensures few { IfSome result (λ _. at + 1 < 2 ^ 64) }
+    {
         let (path, file) = directory(&self.rows, folder, place).get(at)?;
         Some((path.name.as_slice(), *file))
     }
 
-    fn find(&self, folder: u32, place: Place, unique: &[u8]) -> Option<(&[u8], usize)> {
+    /// The first name of a directory that is a unique name, or a unique name, a colon and more, and the number of its file.
+    pub fn find(&self, folder: u32, place: Place, unique: &[u8]) -> Option<(&[u8], usize)>
+        ensures { option_map (λ r. (r.0.now, r.1)) result ≡ first_with (λ e. is_named_by unique.now e.0) (rows_in self.now folder place) }
+    {
         let rows = directory(&self.rows, folder, place);
         let (path, file) = rows.get(first_place(rows, unique))?;
         if is_named(path.name.as_slice(), unique) {
@@ -116,13 +113,29 @@ impl PathStore for PathList {
         }
     }
 
-    fn rows_of(
+    /// The rows of a directory, copied. It is refused only for want of memory.
+    pub fn rows_of(
         &self,
         alloc: Global,
         folder: u32,
         place: Place,
         slots: &[Option<Kept>],
-    ) -> Result<Vec<Row>, AllocError> {
+    ) -> Result<Vec<Row>, AllocError>
+        requires { All (λ e. IsSome (file_by (files_of slots.now) e.1)) (rows_in self.now folder place) }
+        ensures { IfOk result (λ shown. shown.items ≡ map (name_row (files_of slots.now)) (rows_in self.now folder place)) }
+    {
         copied_rows(alloc, directory(&self.rows, folder, place), slots)
+    }
+}
+
+impl Paths for PathList {
+    ghost names = { λ p. p };
+
+    fn put(&mut self, _alloc: Global, path: Path, file: usize) -> Result<(), AllocError> {
+        match find_row(&self.rows, &path) {
+            Ok(at) => self.rows[at].1 = file,
+            Err(at) => self.rows.insert(at, (path, file))?,
+        }
+        Ok(())
     }
 }

@@ -8,9 +8,9 @@ ghost use Rattle.md_script.specs.Sessions.{submitted, stepped, finished, listed,
 
 use crate::error::PlayKind;
 use crate::listing::push_entries;
+use crate::storage::Storage;
 use crate::store::printing::{push_bytes, push_job, push_step};
 use md_core::{Call, Event, World};
-use md_dirs::Storage;
 use md_view::Listing;
 use std::alloc::Global;
 

@@ -5,10 +5,10 @@ ghost use Rattle.md_script.specs.Sessions.{new_store, on_run, submitted, stepped
 
 use crate::error::PlayKind;
 use crate::listing::push_entries;
+use crate::storage::Storage;
 use crate::store::acts;
 use crate::store::kept::{keep, kept_of, use_up};
 use md_core::{Call, Event, World};
-use md_dirs::Storage;
 use md_view::Listing;
 use std::alloc::Global;
 use std::marker::Model;

@@ -4,8 +4,9 @@ ghost use Rattle.md_script.specs.Words.{Gives};
 ghost use Rattle.md_script.specs.Sessions.{image_of, opened};
 
 use crate::error::PlayKind;
+use crate::storage::Storage;
 use md_core::World;
-use md_dirs::{DirError, ImageFile, Storage};
+use md_dirs::{DirError, ImageFile};
 use std::alloc::Global;
 
 /// A store over folders and files, or why there is none: two files have one path, or else a name that the store refuses.

@@ -1,5 +1,0 @@
-use Rattle.md_dirs.proofs.Kept.{listed-none}
-use Rattle.md_dirs.proofs.plain.list.PathListPaths.new.Goals as goal
-
-pub returns : goal.returns
-returns c = listed-none c.new.result.items c.new.ensures.items

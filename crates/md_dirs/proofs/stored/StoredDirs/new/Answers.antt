@@ -1,5 +1,0 @@
-use Rattle.md_dirs.proofs.Hashed.{counted-none}
-use Rattle.md_dirs.proofs.stored.StoredDirs.new.Goals as goal
-
-pub invariant_of-result : goal.invariant_of-result
-invariant_of-result g c = counted-none c.args.folders (g.N.Paths.names c.new.result) c.new-2.result.items c.new.ensures c.new-2.ensures.items

@@ -1,0 +1,72 @@
+// Directories from a list of files.
+ghost use Rattle.std.specs.Prelude.{◌≡◌};
+
+use crate::calls::DirError;
+use crate::files::Kept;
+use crate::image::ImageFile;
+use crate::index::loose::LooseTree;
+use crate::paths::File;
+use std::alloc::Global;
+use std::marker::Model;
+
+/// Directories whose names are still in the order of the files.
+#[derive(Drop)]
+pub struct Loading {
+    pub folders: u32,
+    pub names: LooseTree,
+    pub slots: Vec<Option<Kept>>,
+}
+
+impl Model for Loading {
+    ghost use Rattle.md_dirs.specs.State.{State, state_code};
+    ghost use Rattle.md_dirs.specs.Files.{IsCounted, kept_state};
+
+    ghost Value = { State };
+
+    ghost coded = { state_code };
+
+    ghost view = { λ d. kept_state d.folders d.names d.slots.items };
+
+    ghost invariant = { λ d. IsCounted d.folders d.names d.slots.items };
+}
+
+impl Loading {
+    ghost use Rattle.md_dirs.specs.State.{bare};
+    ghost use Rattle.md_dirs.specs.Calls.{Obeys};
+    ghost use Rattle.md_dirs.specs.Image.{put};
+
+    /// Folders with no file. It takes no memory.
+    pub fn new(alloc: Global, folders: u32) -> Self
+        ensures { result ≡ bare folders }
+    {
+        Loading {
+            folders,
+            names: LooseTree::new(alloc),
+            slots: Vec::new(alloc),
+        }
+    }
+
+    /// Makes a file with its bytes.
+    pub fn put_file(&mut self, alloc: Global, file: ImageFile) -> Result<(), DirError>
+        ensures { Obeys (put file) self.old 0 result self.new 0 }
+    {
+        if file.path.folder >= self.folders {
+            return Err(DirError::NotFound);
+        }
+        if self.names.file_at(&file.path).is_some() {
+            return Err(DirError::Exists);
+        }
+        self.slots.reserve(1)?;
+        let number = self.slots.len();
+        self.names.put(alloc, file.path, number)?;
+        let made = File {
+            bytes: file.bytes,
+            stamp: file.stamp,
+        };
+        self.slots.push(Some(Kept {
+            file: made,
+            names: 1,
+        }))?;
+        Ok(())
+    }
+}

@@ -1,0 +1,29 @@
+//! Directories that a script is played over.
+ghost use Rattle.std.specs.Prelude.{◌≡◌, ◌⊎◌, None, Some, IfOk, IfErr, refl};
+ghost use Rattle.md_dirs.specs.Image.{image_state, image_refusal};
+ghost use Rattle.md_dirs.specs.declared.calls.DirError.TheVariants.{NoMemory};
+
+use md_dirs::{DirError, Dirs, ImageFile, IndexDirs};
+use std::alloc::Global;
+
+/// Directories that can begin with files, and that never fail.
+pub trait Storage: Dirs + Drop {
+    /// The directories that files are, made in their order: `NotFound` or `Exists` at the first that can't be made. `NoMemory` may come
+    /// in place of either.
+    fn holding(alloc: Global, folders: u32, files: Vec<ImageFile>) -> Result<Self, DirError>
+        ensures accepted { IfOk result (λ _. image_refusal folders files.items ≡ None) }
+        ensures made { IfOk result (λ dirs. Self.state dirs ≡ image_state folders files.items) }
+        ensures fresh { IfOk result (λ dirs. Self.calls dirs ≡ 0) }
+        ensures refused { IfErr result (λ e. (e ≡ NoMemory) ⊎ (image_refusal folders files.items ≡ Some e)) };
+
+    // A law: no call of theirs was a fault.
+    ghost never_fails: { (dirs : Self) → Self.failures dirs ≡ 0 };
+}
+
+impl Storage for IndexDirs {
+    ghost never_fails = { λ _. refl };
+
+    fn holding(alloc: Global, folders: u32, files: Vec<ImageFile>) -> Result<Self, DirError> {
+        IndexDirs::from_image(alloc, folders, files)
+    }
+}
