@@ -7,10 +7,10 @@ use Rattle.md_core.specs.declared.jobs.answer.Answer.{Answer}
 use Rattle.md_core.specs.declared.jobs.step.Event.{Event}
 use Rattle.md_core.specs.Machine.{Machine, Standing, working, answered, job_at}
 use Rattle.md_core.specs.Runs.{Run, machine_of, dirs_of, jobs_of, and_event, answer_of, step_refusal, steps_left}
-use Rattle.md_core.proofs.Bounds.{left-exact}
-use Rattle.md_core.proofs.Events.{job_at-within, goes_on-exact, happens-turned}
-use Rattle.md_core.proofs.Places.{length-changed}
-use Rattle.md_core.proofs.Runs.{machine-and_event}
+use Rattle.md_core.proofs.Theorem.Bounds.{left-exact}
+use Rattle.md_core.proofs.Runs.Events.{job_at-within, goes_on-exact, happens-turned}
+use Rattle.md_core.proofs.Lists.Places.{length-changed}
+use Rattle.md_core.proofs.Runs.ByEvent.{machine-and_event}
 use Rattle.md_script.specs.declared.error.PlayKind.{PlayKind}
 use Rattle.md_script.specs.Step.{Steps}
 use Rattle.md_script.specs.Sessions.{stepped, finished, steps_of, before, unfaulted, step_text, event_refusal}

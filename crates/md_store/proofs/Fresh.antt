@@ -2,7 +2,7 @@
 use Rattle.std.proofs.Common.{◌≡◌, [], sym, ap, ◌∙◌}
 use Rattle.md_core.specs.Machine.{Machine}
 use Rattle.md_core.specs.Runs.{Run, beginning, run_from, machine_of, dirs_of, effects_of}
-use Rattle.md_core.proofs.Runs.{run_from-none}
+use Rattle.md_core.proofs.Runs.ByEvent.{run_from-none}
 use Rattle.md_view.specs.Named.{Named}
 use Rattle.md_store.specs.declared.rule.View.{View}
 use Rattle.md_store.specs.Pages.{Page}

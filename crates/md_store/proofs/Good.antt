@@ -15,7 +15,7 @@ use Rattle.md_view.specs.Readings.{reading_of, join_of, IsInOrder}
 use Rattle.md_view.proofs.Keyed.{in-order}
 use Rattle.md_view.proofs.LawHolds.{good-listing}
 use Rattle.md_view.proofs.Readings.{reading-sorted}
-use Rattle.md_core.proofs.Placed.{IsPlaced, IsInCur}
+use Rattle.md_core.proofs.Theorem.Placed.{IsPlaced, IsInCur}
 use Rattle.md_view.proofs.Staying.{never-in_tmp, stays-in_cur}
 use Rattle.md_store.specs.declared.error.ListError.{ListError}
 use Rattle.md_store.specs.Histories.{IsLegalFrom, read_at}

@@ -13,9 +13,9 @@ use Rattle.md_core.specs.Mailbox.{is_tmp}
 use Rattle.md_core.specs.declared.jobs.effect.Change.{Change}
 use Rattle.md_core.specs.declared.jobs.effect.Change.TheVariants as change
 use Rattle.md_core.specs.declared.jobs.effect.Effect.{Effect}
-use Rattle.md_core.proofs.Changes.{by_name}
-use Rattle.md_core.proofs.Effects.{after-push}
-use Rattle.md_core.proofs.Places.{get-pushed}
+use Rattle.md_core.proofs.Mailbox.Changes.{by_name}
+use Rattle.md_core.proofs.Theorem.Effects.{after-push}
+use Rattle.md_core.proofs.Lists.Places.{get-pushed}
 use Rattle.md_view.specs.Named.{Named, IsMessage, AreMessages, is_listed, is_free, fits, applied}
 use Rattle.md_view.proofs.Fitting.{allowed-applied}
 use Rattle.md_view.proofs.Rows.{and-first, and-second}

@@ -7,7 +7,7 @@ use Rattle.std.proofs.lemmas.List.Elements.{filter_map-append}
 use Rattle.md_dirs.specs.declared.paths.Place.{Place}
 use Rattle.md_dirs.specs.declared.rows.Row.{Row}
 use Rattle.md_core.specs.Mailbox.{name_cmp}
-use Rattle.md_core.proofs.Places.{take-one_more}
+use Rattle.md_core.proofs.Lists.Places.{take-one_more}
 use Rattle.md_view.specs.declared.entry.Entry.{Entry}
 use Rattle.md_view.specs.Readings.{IsInOrder}
 use Rattle.md_view.specs.Rows.{entry_of_row, entries_of, IsBehind}

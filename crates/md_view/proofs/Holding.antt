@@ -11,7 +11,7 @@ use Rattle.md_dirs.specs.declared.paths.Place.{Place}
 use Rattle.md_dirs.specs.declared.paths.Place.TheVariants.{Tmp, New, Cur}
 use Rattle.md_core.specs.Mailbox.{name_cmp, is_tmp}
 use Rattle.md_core.specs.History.{Listed, Names}
-use Rattle.md_core.proofs.Naming.{same_names}
+use Rattle.md_core.proofs.Mailbox.Naming.{same_names}
 use Rattle.md_view.specs.declared.entry.Entry.{Entry}
 use Rattle.md_view.specs.Readings.{shown, reading_of, IsInOrder}
 use Rattle.md_view.specs.Named.{Named, AreMessages}

@@ -11,15 +11,15 @@ use Rattle.md_core.specs.Mailbox.{Entry as Message, mailbox_of, is_tmp}
 use Rattle.md_core.specs.History.{Listed, Names, listed, names_of, IsLegal}
 use Rattle.md_core.specs.Runs.{Run, moment, effects_of}
 use Rattle.md_core.specs.Interleaving.{Interleaves}
-use Rattle.md_core.proofs.Naming.{get-names}
-use Rattle.md_core.proofs.Shown.{mailbox-shows}
+use Rattle.md_core.proofs.Mailbox.Naming.{get-names}
+use Rattle.md_core.proofs.Mailbox.Shown.{mailbox-shows}
 use Rattle.md_view.specs.declared.entry.Entry.{Entry}
 use Rattle.md_view.specs.Readings.{shown, reading_of, join_of}
 use Rattle.md_view.specs.Law.{names_at, names_after, shown_in, entry_in, entry_among, listing_of, IsOfSomeMoment, IsGoodListing}
 use Rattle.md_view.proofs.Keyed.{lookup, get-by_unique, in-order, first}
 use Rattle.md_view.proofs.Merged.{join-sorted, merged-join, lookup-merged}
 use Rattle.md_view.proofs.Readings.{entry_at, reading-sorted, lookup-reading}
-use Rattle.md_core.proofs.Placed.{IsPlaced, IsInCur}
+use Rattle.md_core.proofs.Theorem.Placed.{IsPlaced, IsInCur}
 use Rattle.md_view.proofs.Staying.{never-in_tmp, stays-in_cur, opening_of, count_at, counts-rise, names-counted}
 
 -- a message is in new or cur

@@ -9,7 +9,7 @@ use Rattle.md_dirs.specs.declared.paths.Place.{Place}
 use Rattle.md_dirs.specs.declared.paths.Place.TheVariants.{Tmp, New, Cur}
 use Rattle.md_core.specs.Mailbox.{mailbox_of, is_tmp, HasOnePath}
 use Rattle.md_core.specs.History.{Listed, names_of}
-use Rattle.md_core.proofs.Members.{Has}
+use Rattle.md_core.proofs.Lists.Members.{Has}
 use Rattle.md_view.specs.declared.entry.Entry.{Entry}
 use Rattle.md_view.specs.Readings.{shown, reading_of}
 use Rattle.md_view.proofs.Keyed.{IsSorted}

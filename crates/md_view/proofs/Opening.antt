@@ -10,9 +10,9 @@ use Rattle.md_dirs.specs.declared.paths.Place.{Place}
 use Rattle.md_dirs.specs.declared.paths.Place.TheVariants.{Tmp, New, Cur}
 use Rattle.md_core.specs.Mailbox.{Entry as Message, mailbox_of, is_tmp}
 use Rattle.md_core.specs.History.{Listed, listed, name_of}
-use Rattle.md_core.proofs.Naming.{get-names}
-use Rattle.md_core.proofs.Shown.{mailbox-shows}
-use Rattle.md_core.proofs.WholeName.{whole-name}
+use Rattle.md_core.proofs.Mailbox.Naming.{get-names}
+use Rattle.md_core.proofs.Mailbox.Shown.{mailbox-shows}
+use Rattle.md_core.proofs.Mailbox.WholeName.{whole-name}
 use Rattle.md_view.specs.declared.entry.Entry.{Entry}
 use Rattle.md_view.specs.Readings.{shown, is_at, reading_of}
 use Rattle.md_view.specs.Named.{Named, named_of, IsMessage, AreMessages}

@@ -16,10 +16,10 @@ use Rattle.md_dirs.proofs.PathOrder.{path_total, path_exact}
 use Rattle.md_name.specs.Names.{unique_of, info_of, is_message_name}
 use Rattle.md_core.specs.Mailbox.{Entry as Message, mailbox_of, bytes_of, is_tmp, entry_of, name_cmp, HasOnePath}
 use Rattle.md_core.specs.History.{Listed, Names, listed, name_of, names_of}
-use Rattle.md_core.proofs.Members.{Has, get-has, has-get}
-use Rattle.md_core.proofs.Naming.{get-names}
-use Rattle.md_core.proofs.Shown.{Shows, mailbox-shows, shows-mailbox}
-use Rattle.md_core.proofs.WholeName.{whole-name}
+use Rattle.md_core.proofs.Lists.Members.{Has, get-has, has-get}
+use Rattle.md_core.proofs.Mailbox.Naming.{get-names}
+use Rattle.md_core.proofs.Mailbox.Shown.{Shows, mailbox-shows, shows-mailbox}
+use Rattle.md_core.proofs.Mailbox.WholeName.{whole-name}
 use Rattle.md_view.specs.declared.entry.Entry.{Entry}
 use Rattle.md_view.specs.Readings.{shown, is_at, keyed, reading_of}
 use Rattle.md_view.specs.Rows.{entry_of_row, entries_of}

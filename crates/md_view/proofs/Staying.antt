@@ -12,11 +12,11 @@ use Rattle.md_core.specs.History.{Listed, Names, names_of, after, IsLegal, WasNo
 use Rattle.md_core.specs.Machine.{Machine}
 use Rattle.md_core.specs.Runs.{Run, moment, effects_of}
 use Rattle.md_core.specs.Interleaving.{Interleaves}
-use Rattle.md_core.proofs.Effects.{after-push}
-use Rattle.md_core.proofs.Growing.{Grows, grows}
-use Rattle.md_core.proofs.Placed.{IsPlaced, IsInCur, placed-kept}
-use Rattle.md_core.proofs.Places.{at_place, take-one_more}
-use Rattle.md_core.proofs.Runs.{moment-past, moment-over}
+use Rattle.md_core.proofs.Theorem.Effects.{after-push}
+use Rattle.md_core.proofs.Theorem.Growing.{Grows, grows}
+use Rattle.md_core.proofs.Theorem.Placed.{IsPlaced, IsInCur, placed-kept}
+use Rattle.md_core.proofs.Lists.Places.{at_place, take-one_more}
+use Rattle.md_core.proofs.Runs.ByEvent.{moment-past, moment-over}
 use Rattle.md_view.specs.Law.{names_at, names_after}
 
 take-within : {X : Type 0} (i k : ℕ) (xs : List X) → i ≤ k → take i (take k xs) ≡ take i xs

@@ -7,7 +7,7 @@ use Rattle.md_core.specs.Mailbox.{mailbox_of}
 use Rattle.md_core.specs.History.{names_of}
 use Rattle.md_core.specs.Runs.{Run, moment, dirs_of, and_events}
 use Rattle.md_core.specs.Interleaving.{IsRun}
-use Rattle.md_core.proofs.Runs.{moment-end, moment-and_events, moment-and_call}
+use Rattle.md_core.proofs.Runs.ByEvent.{moment-end, moment-and_events, moment-and_call}
 use Rattle.md_view.specs.declared.listing.Listing.{Listing}
 use Rattle.md_view.specs.Readings.{reading_of}
 use Rattle.md_view.specs.Law.{names_at, HasBegun, GoesOn}

@@ -7,9 +7,9 @@ use Rattle.md_core.specs.Machine.{answered, job_at}
 use Rattle.md_core.specs.Runs.{Run, jobs_of, call_at}
 use Rattle.md_core.specs.Interleaving.{IsRun}
 use Rattle.md_core.specs.Answering.{Says}
-use Rattle.md_core.proofs.Answers.OfMailbox.{says_of_mailbox}
-use Rattle.md_core.proofs.Answers.OfTime.{says_of_time}
-use Rattle.md_core.proofs.Answers.Unlinks.{is-delivered, is-faulted, is-undone}
+use Rattle.md_core.proofs.Answers.Touches.OfMailbox.{says_of_mailbox}
+use Rattle.md_core.proofs.Answers.Files.OfTime.{says_of_time}
+use Rattle.md_core.proofs.Answers.Files.Unlinks.{is-delivered, is-faulted, is-undone}
 
 pub all-say : (r : Run) → IsRun r → (job : ℕ) (c : Call) (a : Answer) → call_at r.calls job ≡ Some c →
     job_at (jobs_of r) job ≡ Some (answered a) → Says r job c a

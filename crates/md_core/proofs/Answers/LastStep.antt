@@ -13,10 +13,10 @@ use Rattle.md_core.specs.Machine.{Machine, Standing, working, answered, Marked, 
 use Rattle.md_core.specs.Runs.{Run, moment, beginning, jobs_of, call_at, done_at}
 use Rattle.md_core.specs.Interleaving.{IsRun}
 use Rattle.md_core.specs.Answering.{IsStep}
-use Rattle.md_core.proofs.Places.{at_place}
-use Rattle.md_core.proofs.Events.{goes_on-exact, happens-turned, done-turned, job_at-within}
-use Rattle.md_core.proofs.Runs.{moment-start, moment-more, moment-over, moment-end}
-use Rattle.md_core.proofs.GoodRuns.{new_at}
+use Rattle.md_core.proofs.Lists.Places.{at_place}
+use Rattle.md_core.proofs.Runs.Events.{goes_on-exact, happens-turned, done-turned, job_at-within}
+use Rattle.md_core.proofs.Runs.ByEvent.{moment-start, moment-more, moment-over, moment-end}
+use Rattle.md_core.proofs.Induction.GoodRuns.{new_at}
 
 -- the turn that an event is, of a job with this task, and how the job stands after it
 abbrev pub turn_by : Machine → Marked → Task → Turn Task

@@ -15,13 +15,13 @@ use Rattle.md_core.specs.Machine.{Machine, Standing, working, Marked, Done, done
 use Rattle.md_core.specs.Runs.{Run, moment, done_at, call_at, first_step}
 use Rattle.md_core.specs.Interleaving.{IsRun}
 use Rattle.md_core.specs.Answering.{IsStep}
-use Rattle.md_core.proofs.Good.{IsGood, TaskFits, Makes}
-use Rattle.md_core.proofs.EachTurn.{each-turn}
-use Rattle.md_core.proofs.Events.{happens-turned}
-use Rattle.md_core.proofs.Going.{AllApart}
-use Rattle.md_core.proofs.GoodRuns.{good-moment}
-use Rattle.md_core.proofs.Places.{at_place}
-use Rattle.md_core.proofs.Runs.{moment-more, moment-over}
+use Rattle.md_core.proofs.Induction.Good.{IsGood, TaskFits, Makes}
+use Rattle.md_core.proofs.Machines.EachTurn.{each-turn}
+use Rattle.md_core.proofs.Runs.Events.{happens-turned}
+use Rattle.md_core.proofs.Induction.Going.{AllApart}
+use Rattle.md_core.proofs.Induction.GoodRuns.{good-moment}
+use Rattle.md_core.proofs.Lists.Places.{at_place}
+use Rattle.md_core.proofs.Runs.ByEvent.{moment-more, moment-over}
 use Rattle.md_core.proofs.Answers.LastStep.{IsTurn, turn_by, reply_in, done_in, done-in, turn-at}
 
 -- a job that works has its call, which its task fits

@@ -24,11 +24,11 @@ use Rattle.md_core.specs.Runs.{Run, moment, call_at}
 use Rattle.md_core.specs.Interleaving.{IsRun}
 use Rattle.md_core.specs.Answering.{IsFaulted}
 use Rattle.md_core.proofs.Answers.LastStep.{IsTurn, LastStep, reply_in, left_by, is-step, is_within, holds}
-use Rattle.md_core.proofs.Answers.Turns.{TriesOn, mark_trying, expunge_trying, search_trying, trying_of, idle, sought, Tells}
-use Rattle.md_core.proofs.Answers.OfDeliver.{DeliveryTells, Undoes}
-use Rattle.md_core.proofs.Answers.OfClean.{CleanTells}
-use Rattle.md_core.proofs.Answers.Told.{at-none, Told, told, IsOfLook}
-use Rattle.md_core.proofs.Answers.EachSays.{TaskSays, UndoesTask, IsClean, turn-says}
+use Rattle.md_core.proofs.Answers.Turns.OneMessage.{TriesOn, mark_trying, expunge_trying, search_trying, trying_of, idle, sought, Tells}
+use Rattle.md_core.proofs.Answers.Turns.OfDeliver.{DeliveryTells, Undoes}
+use Rattle.md_core.proofs.Answers.Turns.OfClean.{CleanTells}
+use Rattle.md_core.proofs.Answers.Turns.Told.{at-none, Told, told, IsOfLook}
+use Rattle.md_core.proofs.Answers.Turns.EachSays.{TaskSays, UndoesTask, IsClean, turn-says}
 
 -- a job that acts on one message goes on as one
 module _ (s s' : State) (u : List ℕ) where

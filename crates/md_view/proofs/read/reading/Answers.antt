@@ -9,7 +9,7 @@ use Rattle.md_core.specs.Machine.{Machine}
 use Rattle.md_core.specs.Mailbox.{mailbox_of, is_tmp, HasOnePath}
 use Rattle.md_core.specs.Runs.{Run, dirs_of}
 use Rattle.md_core.specs.Interleaving.{Interleaves}
-use Rattle.md_core.proofs.Runs.{moment-end}
+use Rattle.md_core.proofs.Runs.ByEvent.{moment-end}
 use Rattle.md_view.specs.declared.entry.Entry.{Entry}
 use Rattle.md_view.specs.Readings.{reading_of, IsInOrder}
 use Rattle.md_view.proofs.Keyed.{in-order, ordered}

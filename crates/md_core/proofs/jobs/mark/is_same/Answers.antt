@@ -1,5 +1,5 @@
 use Rattle.std.proofs.Common.{◌∙◌}
-use Rattle.md_core.proofs.Mark.Sets.{words-same}
+use Rattle.md_core.proofs.Machines.Mark.Sets.{words-same}
 use Rattle.md_core.proofs.jobs.mark.is_same.Goals as goal
 
 pub returns : goal.returns

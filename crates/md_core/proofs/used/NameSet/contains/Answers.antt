@@ -1,5 +1,5 @@
 use Rattle.std.proofs.Common.{◌∙◌, ap}
-use Rattle.md_core.proofs.UsedLemmas.{among}
+use Rattle.md_core.proofs.Worlds.UsedLemmas.{among}
 use Rattle.md_core.specs.Used.{is_among}
 use Rattle.md_core.proofs.used.NameSet.contains.Goals as goal
 

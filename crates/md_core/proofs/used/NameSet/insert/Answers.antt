@@ -1,6 +1,6 @@
 use Rattle.std.proofs.Common.{◌∙◌, ◌||◌}
 use Rattle.std.specs.Str.{bytes_eq}
-use Rattle.md_core.proofs.UsedLemmas.{among-put}
+use Rattle.md_core.proofs.Worlds.UsedLemmas.{among-put}
 use Rattle.md_core.specs.Used.{is_among}
 use Rattle.md_core.proofs.used.NameSet.insert.Goals as goal
 

@@ -1,9 +1,9 @@
 use Rattle.std.proofs.Common.{subst}
 use Rattle.md_core.specs.Runs.{Run}
 use Rattle.md_core.specs.Interleaving.{IsRun}
-use Rattle.md_core.proofs.Answers.Cleaner.{cleaners-spare}
-use Rattle.md_core.proofs.EachTurn.{each-turn}
-use Rattle.md_core.proofs.Interleaves.{interleaves}
+use Rattle.md_core.proofs.Answers.Files.Cleaner.{cleaners-spare}
+use Rattle.md_core.proofs.Machines.EachTurn.{each-turn}
+use Rattle.md_core.proofs.Theorem.Interleaves.{interleaves}
 use Rattle.md_core.proofs.world.World.interleaves.Goals as goal
 
 pub returns-clause-run : goal.returns-clause-run

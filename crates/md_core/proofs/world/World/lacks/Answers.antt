@@ -1,7 +1,7 @@
 use Rattle.std.proofs.Common.{arith}
 use Rattle.std.proofs.lemmas.Bool.Decides.{nat_tests}
 use Rattle.md_core.specs.Turn.{device}
-use Rattle.md_core.proofs.Checking.{folders-are}
+use Rattle.md_core.proofs.Worlds.Checking.{folders-are}
 use Rattle.md_core.proofs.world.World.lacks.Goals as goal
 
 pub returns : goal.returns

@@ -1,7 +1,7 @@
 use Rattle.md_core.specs.Turn.{device}
-use Rattle.md_core.proofs.EachTurn.{each-turn}
-use Rattle.md_core.proofs.Interleaves.{interleaves}
-use Rattle.md_core.proofs.Submitted.{load-world}
+use Rattle.md_core.proofs.Machines.EachTurn.{each-turn}
+use Rattle.md_core.proofs.Theorem.Interleaves.{interleaves}
+use Rattle.md_core.proofs.Worlds.Submitted.{load-world}
 use Rattle.md_core.proofs.world.World.load.Goals as goal
 
 pub invariant_of-result : goal.invariant_of-result

@@ -1,6 +1,6 @@
 use Rattle.std.proofs.Common.{sym, ap, ◌∙◌}
 use Rattle.md_core.specs.Runs.{log_of}
-use Rattle.md_core.proofs.Stepping.{marked-events}
+use Rattle.md_core.proofs.Worlds.Stepping.{marked-events}
 use Rattle.md_core.proofs.world.World.log.Goals as goal
 
 pub returns : goal.returns

@@ -2,7 +2,7 @@ use Rattle.std.proofs.Common.{◌≡◌, ◌∙◌, sym, ap, subst, length}
 use Rattle.md_core.specs.Mailbox.{HasOnePath}
 use Rattle.md_core.specs.Machine.{Machine}
 use Rattle.md_core.specs.Runs.{dirs_of}
-use Rattle.md_core.proofs.Runs.{moment-end}
+use Rattle.md_core.proofs.Runs.ByEvent.{moment-end}
 use Rattle.md_core.proofs.world.World.read.Goals as goal
 
 pub message_bytes-requires : goal.message_bytes-requires

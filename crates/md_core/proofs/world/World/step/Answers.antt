@@ -9,11 +9,11 @@ use Rattle.md_core.specs.Standing.{TakesTurn}
 use Rattle.md_core.specs.Runs.{Run, jobs_of, and_event, step_refusal, steps_left}
 use Rattle.md_core.specs.Worlds.{run_of}
 use Rattle.md_core.specs.Interleaving.{ShowsStep, Succeeds, Interleaves}
-use Rattle.md_core.proofs.EachTurn.{each-turn}
-use Rattle.md_core.proofs.Interleaves.{interleaves}
-use Rattle.md_core.proofs.Bounds.{steps_left-less, jobs-same}
-use Rattle.md_core.proofs.Steps.{shows, succeeds}
-use Rattle.md_core.proofs.Stepping.{working-at, moment-is, step-world, run-after, step-shown}
+use Rattle.md_core.proofs.Machines.EachTurn.{each-turn}
+use Rattle.md_core.proofs.Theorem.Interleaves.{interleaves}
+use Rattle.md_core.proofs.Theorem.Bounds.{steps_left-less, jobs-same}
+use Rattle.md_core.proofs.Worlds.Steps.{shows, succeeds}
+use Rattle.md_core.proofs.Worlds.Stepping.{working-at, moment-is, step-world, run-after, step-shown}
 use Rattle.md_core.proofs.world.World.step.Goals as goal
 
 pub turn-requires : goal.turn-requires

@@ -3,9 +3,9 @@ use Rattle.md_core.specs.Turn.{device}
 use Rattle.md_core.specs.Runs.{Run, effects_of}
 use Rattle.md_core.specs.Submitting.{submit_refusal}
 use Rattle.md_core.specs.Worlds.{run_of}
-use Rattle.md_core.proofs.EachTurn.{each-turn}
-use Rattle.md_core.proofs.Interleaves.{interleaves}
-use Rattle.md_core.proofs.Submitted.{submit-world, run-submitted, effects-submitted}
+use Rattle.md_core.proofs.Machines.EachTurn.{each-turn}
+use Rattle.md_core.proofs.Theorem.Interleaves.{interleaves}
+use Rattle.md_core.proofs.Worlds.Submitted.{submit-world, run-submitted, effects-submitted}
 use Rattle.md_core.proofs.world.World.submit.Goals as goal
 
 pub invariant_of-self-2 : goal.invariant_of-self-2

@@ -2,8 +2,8 @@ use Rattle.std.proofs.Common.{ℕ, ◌≡◌, ◌∙◌, ap, subst, arith}
 use Rattle.std.specs.FinMap.{entries}
 use Rattle.md_core.specs.Looking.{IsLookOf, entries_before}
 use Rattle.md_core.specs.Used.{is_among}
-use Rattle.md_core.proofs.Loading.Order.{before-next, before-all}
-use Rattle.md_core.proofs.Loading.Whole.{look-none, used-all}
+use Rattle.md_core.proofs.Worlds.Loading.Order.{before-next, before-all}
+use Rattle.md_core.proofs.Worlds.Loading.Whole.{look-none, used-all}
 use Rattle.md_core.proofs.world.looking.look.Given.{Over}
 use Rattle.md_core.proofs.world.looking.look.Goals as goal
 

@@ -4,7 +4,7 @@ use Rattle.md_dirs.specs.Rows.{row_shown}
 use Rattle.md_core.specs.declared.error.CoreError.TheVariants.{NoMemory}
 use Rattle.md_core.specs.Loading.{load_refusal}
 use Rattle.md_core.specs.Looking.{IsLookOf}
-use Rattle.md_core.proofs.Loading.Rows.{until-row, until-all, refused-row}
+use Rattle.md_core.proofs.Worlds.Loading.Rows.{until-row, until-all, refused-row}
 use Rattle.md_core.proofs.world.looking.look_in.Goals as goal
 
 pub loop-at-init : goal.loop-at-init

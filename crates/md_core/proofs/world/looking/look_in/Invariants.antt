@@ -1,5 +1,5 @@
 use Rattle.md_core.specs.Looking.{IsLookOf}
-use Rattle.md_core.proofs.Loading.Rows.{entries_until}
+use Rattle.md_core.proofs.Worlds.Loading.Rows.{entries_until}
 use Rattle.md_core.proofs.world.looking.look_in.Given as goal
 
 abbrev pub invariant-loop-at : goal.invariant-loop-at

@@ -1,5 +1,5 @@
 use Rattle.std.proofs.Common.{◌∙◌, sym, arith}
-use Rattle.md_core.proofs.Searching.Rising.{below-before}
+use Rattle.md_core.proofs.Looking.Searching.Rising.{below-before}
 use Rattle.md_core.proofs.world.reading.around.Goals as goal
 
 pub loop-low-preserved : goal.loop-low-preserved

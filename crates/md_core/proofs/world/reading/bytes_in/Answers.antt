@@ -3,7 +3,7 @@ use Rattle.std.specs.Option.{option_map}
 use Rattle.md_dirs.specs.Rows.{row_shown}
 use Rattle.md_dirs.specs.declared.rows.Row.{Row}
 use Rattle.md_core.specs.Looking.{is_of}
-use Rattle.md_core.proofs.Searching.Reached.{nothing-there, none-at}
+use Rattle.md_core.proofs.Looking.Searching.Reached.{nothing-there, none-at}
 use Rattle.md_core.proofs.world.reading.bytes_in.Goals as goal
 
 if-none : {X : Type 0} (o : Option X) (P : Type 0) → (o ≡ None → P) → IfNone o P

@@ -1,5 +1,5 @@
 use Rattle.std.proofs.Common.{◌+◌, ◌-◌, ◌/◌, ◌∙◌, sym, arith}
-use Rattle.md_core.proofs.Searching.Rising.{below-before}
+use Rattle.md_core.proofs.Looking.Searching.Rising.{below-before}
 use Rattle.md_core.proofs.world.reading.first_from.Goals as goal
 
 pub loop-low-preserved-then-is_row_below : goal.loop-low-preserved-then-is_row_below

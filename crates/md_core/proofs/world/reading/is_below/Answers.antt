@@ -1,7 +1,7 @@
 use Rattle.std.proofs.Common.{ap, sym, ◌∙◌, ◌∷◌, [], nat_cmp}
 use Rattle.std.specs.Cmp.Lexicographic.{slice_cmp}
 use Rattle.std.specs.Ordering.{is_lt}
-use Rattle.md_core.proofs.Searching.Bytes.{after-prefix, no-prefix}
+use Rattle.md_core.proofs.Looking.Searching.Bytes.{after-prefix, no-prefix}
 use Rattle.md_core.proofs.world.reading.is_below.Goals as goal
 
 pub returns-in-Some : goal.returns-in-Some

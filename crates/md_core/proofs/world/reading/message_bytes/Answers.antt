@@ -1,6 +1,6 @@
 use Rattle.std.proofs.Common.{ℕ, ◌≡◌, sym, subst, arith}
 use Rattle.md_core.specs.Reading.{IsNotBelow}
-use Rattle.md_core.proofs.Searching.Reached.{mailbox-has, mailbox-lacks, not-bare, none-below, none-below-more, none-at-all}
+use Rattle.md_core.proofs.Looking.Searching.Reached.{mailbox-has, mailbox-lacks, not-bare, none-below, none-below-more, none-at-all}
 use Rattle.md_core.proofs.world.reading.message_bytes.Goals as goal
 
 pub returns-then-not-is_message_of : goal.returns-then-not-is_message_of

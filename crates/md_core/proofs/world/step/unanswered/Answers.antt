@@ -1,6 +1,6 @@
 use Rattle.std.proofs.Common.{◌≡◌, ◌<◌, ◌-◌, Some, ap, sym, ◌∙◌, slice_get, arith}
 use Rattle.std.proofs.lemmas.Option.{slice_get-get_or}
-use Rattle.md_core.proofs.Stepping.{refused-by, goes-by}
+use Rattle.md_core.proofs.Worlds.Stepping.{refused-by, goes-by}
 use Rattle.md_core.proofs.world.step.unanswered.Goals as goal
 
 pub returns-in-Some-clause-refused : goal.returns-in-Some-clause-refused

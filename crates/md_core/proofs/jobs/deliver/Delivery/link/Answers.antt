@@ -1,5 +1,5 @@
 use Rattle.md_core.specs.Machines.Deliver.{link_turn}
-use Rattle.md_core.proofs.Performing.{takes}
+use Rattle.md_core.proofs.Machines.Performing.{takes}
 use Rattle.md_core.proofs.jobs.deliver.Delivery.link.Goals as goal
 
 pub returns-clause-ok : goal.returns-clause-ok

@@ -1,0 +1,12 @@
+pub mod Tmp
+pub mod Asking
+pub mod Touched
+pub mod Writing
+pub mod Stamps
+pub mod Listed
+pub mod Late
+pub mod Given
+pub mod Cleaned
+pub mod Cleaner
+pub mod OfTime
+pub mod Unlinks

@@ -1,0 +1,337 @@
+-- What a clean did, event by event: it looked, and then took away one old name after another, or found it gone.
+use Rattle.std.proofs.Common.{ℕ, zero, suc, ◌≡◌, ◌≢◌, ◌≤◌, ◌⊎◌, ◌+◌, ◌-◌, ◌++◌, ◌==◌, inl, inr, List, [], ◌∷◌, Option, Some, Bool, true, false, cond, map, filter, take, length, refl, sym, ap, subst, ◌∙◌, arith}
+use Rattle.std.specs.List.{All}
+use Rattle.std.specs.Prelude.{count_by}
+use Rattle.std.specs.Option.{option_to_list, option_and_then}
+use Rattle.std.proofs.lemmas.Bool.Decides.{nat_tests}
+use Rattle.std.proofs.lemmas.List.{append-nil, append_assoc, length-map, map-append, take_all}
+use Rattle.std.proofs.lemmas.List.Elements.{filter-append, All-nil, All-cons, All-append}
+use Rattle.std.proofs.lemmas.List.Sums.{sum_by-append}
+use Rattle.md_dirs.specs.State.{State}
+use Rattle.md_dirs.specs.Path.{path_of as path}
+use Rattle.md_dirs.specs.Rows.{rows_of}
+use Rattle.md_dirs.specs.declared.paths.Place.TheVariants.{Tmp}
+use Rattle.md_dirs.specs.declared.rows.Row.{Row}
+use Rattle.md_dirs.proofs.Sound.{by_number}
+use Rattle.md_core.specs.declared.jobs.answer.Answer.TheVariants as answer
+use Rattle.md_core.specs.declared.jobs.call.Call.TheVariants as call
+use Rattle.md_core.specs.declared.jobs.cleaning.Cleaning.{Cleaning}
+use Rattle.md_core.specs.declared.jobs.cleaning.Stage.{Stage}
+use Rattle.md_core.specs.declared.jobs.cleaning.Stage.TheVariants.{Look, Remove}
+use Rattle.md_core.specs.declared.jobs.step.DirReply.{DirReply}
+use Rattle.md_core.specs.declared.jobs.step.DirReply.TheVariants as reply
+use Rattle.md_core.specs.declared.jobs.task.Task.{Task}
+use Rattle.md_core.specs.declared.jobs.task.Task.TheVariants.{Deliver, Mark, Move, Expunge, Copy, Clean}
+use Rattle.md_core.specs.Machine.{Machine, Standing, working, answered, Marked, Done, happens, done, job_at, new_job, standing_of}
+use Rattle.md_core.specs.Machines.Clean.{old_rows, after_next, at_stage, tmp, stage_turn}
+use Rattle.md_core.specs.Turn.{Turn, Asked, list, unlink, rows_for}
+use Rattle.md_core.specs.Runs.{Run, beginning, run_from, moment, jobs_of, call_at, first_step, dirs_at_first}
+use Rattle.md_core.specs.Interleaving.{IsRun}
+use Rattle.md_core.specs.Answering.{deeds_from, is_ok, HasCleaned}
+use Rattle.md_core.proofs.Induction.Good.{CleaningFits, TaskFits}
+use Rattle.md_core.proofs.Induction.GoodRuns.{new_at}
+use Rattle.md_core.proofs.Lists.Places.{take-one_more}
+use Rattle.md_core.proofs.Runs.ByEvent.{moment-start, moment-end}
+use Rattle.md_core.proofs.Answers.LastStep.{IsTurn, left_by, reply_in, done_in, done-in, stands-after, stands-other}
+use Rattle.md_core.proofs.Answers.Files.Late.{cleans}
+use Rattle.md_core.proofs.Answers.Moments.{its-fits, at, asked_by, after_task, each-moment, not-yet, is-first}
+
+-- what events did, with one more
+deeds-more : (m : Machine) (es : List Marked) (e : Marked) →
+    deeds_from m (es ++ e ∷ []) ≡ deeds_from m es ++ option_to_list (done (run_from m es) e)
+unfolding deeds_from run_from
+deeds-more m [] e = append-nil (option_to_list (done m e))
+deeds-more m (x ∷ es) e =
+    ap (λ ds. option_to_list (done m x) ++ ds) (deeds-more (happens m x) es e)
+    ∙ sym (append_assoc (option_to_list (done m x)) (deeds_from (happens m x) es) (option_to_list (done (run_from (happens m x) es) e)))
+
+deeds-none : (m : Machine) → deeds_from m [] ≡ []
+unfolding deeds_from
+deeds-none m = refl
+
+-- lists
+map-twice : {X Y Z : Type 0} (f : X → Y) (g : Y → Z) (xs : List X) → map g (map f xs) ≡ map (λ x. g (f x)) xs
+map-twice f g [] = refl
+map-twice f g (x ∷ xs) = ap (λ ys. g (f x) ∷ ys) (map-twice f g xs)
+
+module _ (r : Run) (job : ℕ) where
+  abbrev is_own : Done → Bool
+  is_own d = d.job == job
+
+  -- what the job did before moment k
+  abbrev deeds : ℕ → List Done
+  deeds k = filter is_own (deeds_from (beginning r.image r.calls) (take k r.events))
+
+  deeds-start : deeds 0 ≡ []
+  deeds-start = ap (filter is_own) (deeds-none (beginning r.image r.calls))
+
+  module _ (k n : ℕ) (t : IsTurn r k n) where
+    deeds-next : deeds (k + 1) ≡ deeds k ++ filter is_own (done_in r k n t ∷ [])
+    deeds-next =
+        let from = beginning r.image r.calls in
+        let es = take k r.events in
+        let this : done (moment r k) t.event ≡ Some (done_in r k n t) =
+        sym (ap (option_and_then (done (moment r k))) t.at) ∙ done-in r k n t in
+        ap (λ (xs : List Marked). filter is_own (deeds_from from xs)) (take-one_more r.events k t.event t.at)
+        ∙ ap (filter is_own) (deeds-more from es t.event ∙ ap (λ (o : Option Done). deeds_from from es ++ option_to_list o) this)
+        ∙ filter-append is_own (deeds_from from es) (done_in r k n t ∷ [])
+
+    deeds-own : job ≡ n → deeds (k + 1) ≡ deeds k ++ done_in r k n t ∷ []
+    deeds-own same =
+        let its = t.own in
+        let this : is_own (done_in r k n t) ≡ true = grind (arith, nat_tests) in
+        deeds-next ∙ ap (λ b. deeds k ++ cond b (done_in r k n t ∷ []) []) this
+
+    deeds-other : job ≢ n → deeds (k + 1) ≡ deeds k
+    deeds-other differ =
+        let its = t.own in
+        let not_this : is_own (done_in r k n t) ≡ false = grind (arith, nat_tests) in
+        deeds-next ∙ ap (λ b. deeds k ++ cond b (done_in r k n t ∷ []) []) not_this ∙ append-nil (deeds k)
+
+  module _ (folder : ℕ) where
+    abbrev takes : List ℕ → Asked
+    takes name = unlink (path folder Tmp name)
+
+    abbrev IsFoundOrNot : Done → Type 0
+    IsFoundOrNot d = (d.reply ≡ reply.Ok) ⊎ (d.reply ≡ reply.NotFound)
+
+    -- before moment k the job looked, and then took names away or found them gone; these names are left, and so many files will be counted
+    pub record HasTaken (k : ℕ) (left : List (List ℕ)) (files : ℕ) : Type 0 where
+      pub look : Done
+      pub unlinks : List Done
+      pub deeds_are : deeds k ≡ look ∷ unlinks
+      pub listed : look.asked ≡ list folder Tmp
+      pub ok : look.reply ≡ reply.Ok
+      pub names : map (λ d. d.asked) unlinks ++ map takes left ≡ map (λ row. takes row.name)
+          (old_rows look.at.own (rows_of (dirs_at_first r job) folder Tmp))
+      pub replies : All IsFoundOrNot unlinks
+      pub count : files ≡ count_by (λ d. is_ok d.reply) unlinks + length left
+
+    abbrev AtStage : ℕ → Stage → Type 0
+    AtStage k Look = (deeds k ≡ []) × (k ≤ first_step r job)
+    AtStage k (Remove name rest files) = HasTaken k (name ∷ map (λ row. row.name) rest) files
+
+    abbrev Stands : ℕ → Standing → Type 0
+    Stands k (working (Deliver d)) = Unit {0}
+    Stands k (working (Mark m)) = Unit {0}
+    Stands k (working (Move m)) = Unit {0}
+    Stands k (working (Expunge x)) = Unit {0}
+    Stands k (working (Copy c)) = Unit {0}
+    Stands k (working (Clean c)) = AtStage k c.stage
+    Stands k (answered answer.TimedOut) = Unit {0}
+    Stands k (answered answer.TmpGone) = Unit {0}
+    Stands k (answered (answer.Cleaned n)) = HasTaken k [] n
+    Stands k (answered answer.NotThere) = Unit {0}
+    Stands k (answered answer.NotTrashed) = Unit {0}
+    Stands k (answered answer.OtherInfo) = Unit {0}
+    Stands k (answered answer.Lost) = Unit {0}
+    Stands k (answered answer.Fault) = Unit {0}
+    Stands k (answered answer.NameTaken) = Unit {0}
+    Stands k (answered answer.Delivered) = Unit {0}
+    Stands k (answered (answer.Flags s)) = Unit {0}
+    Stands k (answered answer.Moved) = Unit {0}
+    Stands k (answered answer.Expunged) = Unit {0}
+    Stands k (answered answer.Copied) = Unit {0}
+
+    -- the next of the names that are left, or the answer
+    next-stands : (k : ℕ) (c : Cleaning) (rows : List Row) (files : ℕ) → HasTaken k (map (λ row. row.name) rows) files →
+        Stands k (standing_of (Clean (after_next c rows files).task) (after_next c rows files).answer)
+    next-stands k c [] files h = h
+    next-stands k c (row ∷ rest) files h = h
+
+    -- a turn of the job
+    module _ (k : ℕ) (t : IsTurn r k job) where
+      abbrev s : State
+      s = (moment r k).dirs
+
+      abbrev this : Done
+      this = done_in r k job t
+
+      look-taken : (c : Cleaning) → c.folder ≡ folder → deeds k ≡ [] → k ≤ first_step r job → this.asked ≡ list c.folder Tmp →
+          this.reply ≡ reply.Ok →
+          let old = old_rows (at r k job t).own (rows_of s c.folder Tmp) in HasTaken (k + 1) (map (λ row. row.name) old) (length old)
+      look-taken c in_folder none first asked replied =
+          let old = old_rows (at r k job t).own (rows_of s c.folder Tmp) in
+          let same : first_step r job ≡ k = is-first r k job job t first refl in
+          let size : length (map (λ (row : Row). row.name) old) ≡ length old = length-map old (λ row. row.name) in
+          record {
+            look = this;
+            unlinks = [];
+            deeds_are = deeds-own k job t refl ∙ ap (λ (ds : List Done). ds ++ this ∷ []) none;
+            listed = asked ∙ ap (λ f. list f Tmp) in_folder;
+            ok = replied;
+            names = map-twice (λ (row : Row). row.name) takes old
+                ∙ (λ i. map (λ (row : Row). takes row.name)
+                (old_rows (at r k job t).own (rows_of (moment r (sym same i)).dirs (in_folder i) Tmp)));
+            replies = All-nil IsFoundOrNot;
+            count = omega (arith, size);
+          }
+
+      -- one name more
+      more-taken : (name : List ℕ) (left : List (List ℕ)) (files files' : ℕ) → HasTaken k (name ∷ left) files → this.asked ≡ takes name →
+          IsFoundOrNot this →
+          files' ≡ cond (is_ok this.reply) files (files - 1) → HasTaken (k + 1) left files'
+      more-taken name left files files' h asked found counts =
+          let split = sum_by-append (λ (d : Done). cond (is_ok d.reply) 1 0) h.unlinks (this ∷ []) in
+          let before = h.count in
+          record {
+            look = h.look;
+            unlinks = h.unlinks ++ this ∷ [];
+            deeds_are = deeds-own k job t refl ∙ ap (λ (ds : List Done). ds ++ this ∷ []) h.deeds_are;
+            listed = h.listed;
+            ok = h.ok;
+            names = ap (λ (xs : List Asked). xs ++ map takes left) (map-append (λ (d : Done). d.asked) h.unlinks (this ∷ []))
+                ∙ append_assoc (map (λ (d : Done). d.asked) h.unlinks) (this.asked ∷ []) (map takes left)
+                ∙ ap (λ (a : Asked). map (λ (d : Done). d.asked) h.unlinks ++ a ∷ map takes left) asked ∙ h.names;
+            replies = All-append IsFoundOrNot h.unlinks (this ∷ []) h.replies (All-cons IsFoundOrNot this [] found (All-nil IsFoundOrNot));
+            count = elim found [
+              | inl ok ↦
+                  let is : is_ok this.reply ≡ true = ap is_ok ok in
+                  let one : cond {A = ℕ} (is_ok this.reply) 1 0 ≡ 1 = ap (λ b. cond b 1 0) is in
+                  let same : files' ≡ files = counts ∙ ap (λ b. cond b files (files - 1)) is in
+                  omega (arith, before, split, one, same)
+              | inr gone ↦
+                  let is : is_ok this.reply ≡ false = ap is_ok gone in
+                  let none : cond {A = ℕ} (is_ok this.reply) 1 0 ≡ 0 = ap (λ b. cond b 1 0) is in
+                  let less : files' ≡ files - 1 = counts ∙ ap (λ b. cond b files (files - 1)) is in
+                  omega (arith, before, split, none, less)
+            ];
+          }
+
+      -- how the job stands after its turn, by the stage and the reply
+      abbrev StandsAfter : Turn Cleaning → DirReply → Type 0
+      StandsAfter turn rep =
+          this.asked ≡ turn.asked → this.reply ≡ rep →
+          Stands (k + 1)
+          (standing_of (Clean (turn.follows rep (rows_for turn.asked s)).task) (turn.follows rep (rows_for turn.asked s)).answer)
+
+      next-taken : (c : Cleaning) → c.folder ≡ folder → (name : List ℕ) (rest : List Row) (files files' : ℕ) →
+          HasTaken k (name ∷ map (λ row. row.name) rest) files →
+          this.asked ≡ unlink (tmp c name) → IsFoundOrNot this → files' ≡ cond (is_ok this.reply) files (files - 1) →
+          Stands (k + 1) (standing_of (Clean (after_next c rest files').task) (after_next c rest files').answer)
+      next-taken c in_folder name rest files files' h asked found counts =
+          next-stands (k + 1) c rest files'
+          (more-taken name (map (λ row. row.name) rest) files files' h (asked ∙ ap (λ f. unlink (path f Tmp name)) in_folder) found counts)
+
+      stage-stands : (c : Cleaning) → c.folder ≡ folder → (stage : Stage) → AtStage k stage → (rep : DirReply) →
+          StandsAfter (stage_turn (at_stage c stage) (at r k job t).own stage) rep
+      stage-stands c in_folder Look now reply.Ok asked replied =
+          let old = old_rows (at r k job t).own (rows_of s c.folder Tmp) in
+          next-stands (k + 1) (at_stage c Look) old (length old) (look-taken c in_folder now.0 now.1 asked replied)
+      stage-stands c in_folder Look now reply.Exists asked replied = tt
+      stage-stands c in_folder Look now reply.NotFound asked replied = tt
+      stage-stands c in_folder Look now reply.Fault asked replied = tt
+      stage-stands c in_folder (Remove name rest files) now reply.Ok asked replied =
+          next-taken (at_stage c (Remove name rest files)) in_folder name rest files files now asked (inl replied)
+          (sym (ap (λ x. cond (is_ok x) files (files - 1)) replied))
+      stage-stands c in_folder (Remove name rest files) now reply.Exists asked replied = tt
+      stage-stands c in_folder (Remove name rest files) now reply.NotFound asked replied =
+          next-taken (at_stage c (Remove name rest files)) in_folder name rest files (files - 1) now asked (inr replied)
+          (sym (ap (λ x. cond (is_ok x) files (files - 1)) replied))
+      stage-stands c in_folder (Remove name rest files) now reply.Fault asked replied = tt
+
+      own-stands : call_at r.calls job ≡ Some (call.Clean folder) → IsRun r → Stands k (working t.task) →
+          Stands (k + 1) (standing_of (left_by r k job t).task (left_by r k job t).answer)
+      own-stands of run now =
+          let clean = cleans (moment r k).dirs folder t.task (its-fits r run k job (call.Clean folder) t.task of t.there) in
+          let fits : CleaningFits (call.Clean folder) clean.0 =
+          subst (TaskFits (moment r k).dirs (call.Clean folder)) clean.1 (its-fits r run k job (call.Clean folder) t.task of t.there) in
+          let in_folder : clean.0.folder ≡ folder = (let same = fits in cc) in
+          by t.task clean.0 clean.1 in_folder now (reply_in (moment r k) t.event t.task) refl refl
+        where
+          by : (task : Task) (c : Cleaning) → task ≡ Clean c → c.folder ≡ folder → Stands k (working task) → (rep : DirReply) →
+              this.asked ≡ asked_by r k job t task → this.reply ≡ rep →
+              Stands (k + 1) (standing_of (after_task r k job t task rep).task (after_task r k job t task rep).answer)
+          by (Clean x) c is in_folder now rep asked replied =
+              let same : x ≡ c = cc in
+              stage-stands x (ap (λ (y : Cleaning). y.folder) same ∙ in_folder) x.stage now rep asked replied
+          by (Deliver d) c is in_folder now rep asked replied = cc
+          by (Mark d) c is in_folder now rep asked replied = cc
+          by (Move d) c is in_folder now rep asked replied = cc
+          by (Expunge d) c is in_folder now rep asked replied = cc
+          by (Copy d) c is in_folder now rep asked replied = cc
+
+    -- what was taken stays so, where the job does nothing
+    taken-still : (k : ℕ) (left : List (List ℕ)) (files : ℕ) → deeds (k + 1) ≡ deeds k → HasTaken k left files → HasTaken (k + 1) left files
+    taken-still k left files same h = record {
+      look = h.look;
+      unlinks = h.unlinks;
+      deeds_are = same ∙ h.deeds_are;
+      listed = h.listed;
+      ok = h.ok;
+      names = h.names;
+      replies = h.replies;
+      count = h.count;
+    }
+
+    -- a turn of another job
+    module _ (k n : ℕ) (t : IsTurn r k n) (differ : job ≢ n) where
+      stage-still : (stage : Stage) → AtStage k stage → AtStage (k + 1) stage
+      stage-still Look now = (deeds-other k n t differ ∙ now.0, not-yet r k n job t now.1 differ)
+      stage-still (Remove name rest files) now = taken-still k (name ∷ map (λ row. row.name) rest) files (deeds-other k n t differ) now
+
+      other-stands : (st : Standing) → Stands k st → Stands (k + 1) st
+      other-stands (working (Deliver d)) now = tt
+      other-stands (working (Mark m)) now = tt
+      other-stands (working (Move m)) now = tt
+      other-stands (working (Expunge x)) now = tt
+      other-stands (working (Copy c)) now = tt
+      other-stands (working (Clean c)) now = stage-still c.stage now
+      other-stands (answered answer.TimedOut) now = tt
+      other-stands (answered answer.TmpGone) now = tt
+      other-stands (answered (answer.Cleaned x)) now = taken-still k [] x (deeds-other k n t differ) now
+      other-stands (answered answer.NotThere) now = tt
+      other-stands (answered answer.NotTrashed) now = tt
+      other-stands (answered answer.OtherInfo) now = tt
+      other-stands (answered answer.Lost) now = tt
+      other-stands (answered answer.Fault) now = tt
+      other-stands (answered answer.NameTaken) now = tt
+      other-stands (answered answer.Delivered) now = tt
+      other-stands (answered (answer.Flags x)) now = tt
+      other-stands (answered answer.Moved) now = tt
+      other-stands (answered answer.Expunged) now = tt
+      other-stands (answered answer.Copied) now = tt
+
+-- how a clean stands at each moment
+module _ (r : Run) (run : IsRun r) (job folder : ℕ) (of : call_at r.calls job ≡ Some (call.Clean folder)) where
+  abbrev StandsAt : ℕ → Type 0
+  StandsAt k = (st : Standing) → job_at (moment r k).jobs job ≡ Some st → Stands r job folder k st
+
+  stands-start : StandsAt 0
+  stands-start st is = by job of (ap (λ (m : Machine). job_at m.jobs job) (sym (moment-start r)) ∙ is)
+    where
+      by : (j : ℕ) → call_at r.calls j ≡ Some (call.Clean folder) → job_at (beginning r.image r.calls).jobs j ≡ Some st →
+          Stands r job folder 0 st
+      by zero of-j at-j = cc
+      by (suc i) of-j at-j =
+          let new = new_at r.calls i st at-j in
+          let same : new.0 ≡ call.Clean folder = (let e : Some new.0 ≡ Some (call.Clean folder) = sym new.1 ∙ of-j in cc) in
+          subst (Stands r job folder 0) (sym (new.2 ∙ ap new_job same)) (deeds-start r job, omega arith)
+
+  stands-turn : (k n : ℕ) → IsTurn r k n → StandsAt k → StandsAt (k + 1)
+  stands-turn k n t before st is = by_number job n
+      (λ same.
+      let own : IsTurn r k job = subst (IsTurn r k) (sym same) t in
+      let new = standing_of (left_by r k job own).task (left_by r k job own).answer in
+      let now : new ≡ st = (let e : Some new ≡ Some st = sym (stands-after r k job own) ∙ is in cc) in
+      subst (Stands r job folder (k + 1)) now (own-stands r job folder k own of run (before (working own.task) own.there)))
+      (λ differ. other-stands r job folder k n t differ st (before st (sym (stands-other r k n t job differ) ∙ is)))
+
+  pub has-cleaned : (n : ℕ) → job_at (jobs_of r) job ≡ Some (answered (answer.Cleaned n)) → HasCleaned r job folder n
+  has-cleaned n is =
+      let end = length r.events in
+      let h : HasTaken r job folder end [] n =
+      each-moment r run StandsAt stands-start stands-turn end (omega arith) (answered (answer.Cleaned n))
+      (ap (λ (m : Machine). job_at m.jobs job) (moment-end r) ∙ is) in
+      let counted = h.count in
+      record {
+        look = h.look;
+        unlinks = h.unlinks;
+        deeds = ap (λ (es : List Marked). filter (is_own r job) (deeds_from (beginning r.image r.calls) es))
+            (sym (take_all end r.events (omega arith))) ∙ h.deeds_are;
+        listed = h.listed;
+        ok = h.ok;
+        names = sym (append-nil (map (λ (d : Done). d.asked) h.unlinks)) ∙ h.names;
+        replies = h.replies;
+        count = omega (arith, counted);
+      }

@@ -1,0 +1,225 @@
+-- The answers of a time, of a lost file in tmp and of a clean: which tasks give them, and what a delivery then knows.
+use Rattle.std.proofs.Common.{ℕ, ◌≡◌, ◌≤◌, ◌⊎◌, inl, inr, List, [], ◌∷◌, Option, Some, None, Bool, true, false, cond, nat_lt, length, is_some, refl, sym, subst, arith}
+use Rattle.std.proofs.lemmas.Bool.Decides.{nat_tests}
+use Rattle.md_dirs.specs.State.{State, file_at, has_folder}
+use Rattle.md_dirs.specs.declared.calls.DirError.{DirError}
+use Rattle.md_dirs.specs.declared.calls.DirError.TheVariants.{Exists, NotFound}
+use Rattle.md_dirs.specs.declared.paths.Path.{Path}
+use Rattle.md_dirs.specs.declared.rows.Row.{Row}
+use Rattle.md_core.specs.declared.jobs.answer.Answer.{Answer}
+use Rattle.md_core.specs.declared.jobs.answer.Answer.TheVariants as answer
+use Rattle.md_core.specs.declared.jobs.call.Call.{Call}
+use Rattle.md_core.specs.declared.jobs.cleaning.Cleaning.{Cleaning}
+use Rattle.md_core.specs.declared.jobs.cleaning.Stage as cleaning
+use Rattle.md_core.specs.declared.jobs.cleaning.Stage.TheVariants as cleaning_stage
+use Rattle.md_core.specs.declared.jobs.deliver.Delivery.{Delivery}
+use Rattle.md_core.specs.declared.jobs.deliver.Stage.{Stage}
+use Rattle.md_core.specs.declared.jobs.deliver.Stage.TheVariants.{Start, Writing, Linked, Undo}
+use Rattle.md_core.specs.declared.jobs.step.DirReply.{DirReply}
+use Rattle.md_core.specs.declared.jobs.step.DirReply.TheVariants as reply
+use Rattle.md_core.specs.declared.jobs.task.Task.{Task}
+use Rattle.md_core.specs.declared.jobs.task.Task.TheVariants.{Deliver, Mark, Move, Expunge, Copy, Clean}
+use Rattle.md_core.specs.Machine.{working}
+use Rattle.md_core.specs.Machines.Clean as cleaned_by
+use Rattle.md_core.specs.Machines.Deliver.{at_stage, target, create_turn, append_turn, link_turn, unlink_turn, stage_turn, is_in_time}
+use Rattle.md_core.specs.Turn.{Turn, ask_of, reply_by, reply_of, rows_for}
+use Rattle.md_core.specs.Runs.{Run, moment}
+use Rattle.md_core.specs.Interleaving.{IsRun}
+use Rattle.md_core.proofs.Induction.Good.{DeliveryFits, TaskFits}
+use Rattle.md_core.proofs.Answers.LastStep.{IsTurn, is_within, LastStep, reply_in}
+use Rattle.md_core.proofs.Answers.Moments.{its-call, its-fits, at, asked_by, after_task}
+use Rattle.md_core.proofs.Answers.Plain.{IsPlain, GivesPlain, marking-plain, moving-plain, expunging-plain, copying-plain}
+use Rattle.md_core.proofs.Answers.Files.Writing.{IsTaken, HasBegun, AtStage, AtTask, at-task}
+
+-- what a delivery knows that gives an answer at moment k, by its own clock
+abbrev pub DeliverySays : Run → ℕ → ℕ → Path → ℕ → Answer → Type 0
+DeliverySays r k job p own answer.TimedOut = (start : ℕ) × HasBegun r job k start p × (is_in_time start own ≡ false)
+DeliverySays r k job p own answer.TmpGone = (start : ℕ) × HasBegun r job k start p × (is_in_time start own ≡ true) × IsTaken r job k p
+DeliverySays r k job p own (answer.Cleaned n) = ⊥
+DeliverySays r k job p own answer.NotThere = Unit {0}
+DeliverySays r k job p own answer.NotTrashed = Unit {0}
+DeliverySays r k job p own answer.OtherInfo = Unit {0}
+DeliverySays r k job p own answer.Lost = Unit {0}
+DeliverySays r k job p own answer.Fault = Unit {0}
+DeliverySays r k job p own answer.NameTaken = Unit {0}
+DeliverySays r k job p own answer.Delivered = Unit {0}
+DeliverySays r k job p own (answer.Flags s) = Unit {0}
+DeliverySays r k job p own answer.Moved = Unit {0}
+DeliverySays r k job p own answer.Expunged = Unit {0}
+DeliverySays r k job p own answer.Copied = Unit {0}
+
+-- a clean gives Cleaned or Fault
+abbrev CleanSays : Answer → Type 0
+CleanSays a = (a ≡ answer.Fault) ⊎ ((n : ℕ) × (a ≡ answer.Cleaned n))
+
+abbrev pub TaskSays : Run → ℕ → ℕ → ℕ → Task → Answer → Type 0
+TaskSays r k job own (Deliver d) a = DeliverySays r k job d.tmp own a
+TaskSays r k job own (Mark m) a = IsPlain a
+TaskSays r k job own (Move m) a = IsPlain a
+TaskSays r k job own (Expunge x) a = IsPlain a
+TaskSays r k job own (Copy c) a = IsPlain a
+TaskSays r k job own (Clean c) a = CleanSays a
+
+-- a reply that a file was not found, where a file is there
+no-file : (o : Option ℕ) (rest : Option DirError) (faulted : Bool) →
+    reply.NotFound ≡ cond faulted reply.Fault (reply_by (cond (is_some o) rest (Some NotFound))) → (reply.NotFound ≡ reply_by rest → ⊥) →
+    o ≡ None
+no-file o rest true is other = cc
+no-file None rest false is other = refl
+no-file (Some n) rest false is other = absurd (other is)
+
+-- an answer of a clean
+next-says : (c : Cleaning) (rows : List Row) (files : ℕ) (a : Answer) → (cleaned_by.after_next c rows files).answer ≡ Some a → CleanSays a
+next-says c [] files a is = inr (files, cc)
+next-says c (row ∷ rest) files a is = cc
+
+clean-says : (c : Cleaning) (own : ℕ) (stage : cleaning.Stage) (rep : DirReply) (rows : List Row) (a : Answer) →
+    ((cleaned_by.stage_turn c own stage).follows rep rows).answer ≡ Some a → CleanSays a
+clean-says c own cleaning_stage.Look reply.Ok rows a is = next-says c _ _ a is
+clean-says c own cleaning_stage.Look reply.Exists rows a is = inl cc
+clean-says c own cleaning_stage.Look reply.NotFound rows a is = inl cc
+clean-says c own cleaning_stage.Look reply.Fault rows a is = inl cc
+clean-says c own (cleaning_stage.Remove name rest files) reply.Ok rows a is = next-says c _ _ a is
+clean-says c own (cleaning_stage.Remove name rest files) reply.Exists rows a is = inl cc
+clean-says c own (cleaning_stage.Remove name rest files) reply.NotFound rows a is = next-says c _ _ a is
+clean-says c own (cleaning_stage.Remove name rest files) reply.Fault rows a is = inl cc
+
+module _ (r : Run) (run : IsRun r) (k job : ℕ) (t : IsTurn r k job) where
+  abbrev s : State
+  s = (moment r k).dirs
+
+  abbrev own : ℕ
+  own = (at r k job t).own
+
+  abbrev n : ℕ
+  n = t.event.event.job
+
+  module _ (d : Delivery) (asked : Call) (fits : DeliveryFits s asked d) (rows : List Row) where
+    abbrev Gives : Option Answer → Type 0
+    Gives None = Unit {0}
+    Gives (Some a) = DeliverySays r k job d.tmp own a
+
+    abbrev Says : Turn Delivery → DirReply → Type 0
+    Says turn rep = rep ≡ reply_of (ask_of turn.asked (at r k job t).clock) s t.event.faulted → Gives (turn.follows rep rows).answer
+
+    create-says : (rep : DirReply) → Says (create_turn (at_stage d Start) own) rep
+    create-says reply.Ok is = tt
+    create-says reply.Exists is = tt
+    create-says reply.NotFound is = tt
+    create-says reply.Fault is = tt
+
+    module _ (start i : ℕ) (h : HasBegun r job k start d.tmp) where
+      abbrev x : Delivery
+      x = at_stage d (Writing start i)
+
+      -- its file is gone, so a clean took it
+      cleaned-away : file_at s d.tmp ≡ None → IsTaken r job k d.tmp
+      cleaned-away gone = elim h.there [ inl file ↦ (let there = file.1 in cc) | inr taken ↦ taken ]
+
+      append-says : is_in_time start own ≡ true → (rep : DirReply) → Says (append_turn x start i) rep
+      append-says in_time reply.Ok is = tt
+      append-says in_time reply.Exists is = tt
+      append-says in_time reply.NotFound is =
+          (start, h, in_time, cleaned-away (no-file (file_at s d.tmp) None t.event.faulted is (λ e. cc)))
+      append-says in_time reply.Fault is = tt
+
+      found-folder : (b c : Bool) → b ≡ true → reply.NotFound ≡ reply_by (cond b (cond c (Some Exists) None) (Some NotFound)) → ⊥
+      found-folder true true within is = cc
+      found-folder true false within is = cc
+      found-folder false c within is = cc
+
+      link-says : is_in_time start own ≡ true → (rep : DirReply) → Says (link_turn n x) rep
+      link-says in_time reply.Ok is = tt
+      link-says in_time reply.Exists is = tt
+      link-says in_time reply.NotFound is =
+          let inside = fits.in_folder in
+          let within : has_folder s (target d) ≡ true = grind (arith, nat_tests) in
+          let other = found-folder (has_folder s (target d)) (is_some (file_at s (target d))) within in (
+            start,
+            h,
+            in_time,
+            cleaned-away
+                (no-file (file_at s d.tmp)
+                (cond (has_folder s (target d)) (cond (is_some (file_at s (target d))) (Some Exists) None)
+                (Some NotFound)) t.event.faulted is other),
+          )
+      link-says in_time reply.Fault is = tt
+
+      writing-says : (b : Bool) → is_in_time start own ≡ b → (more : Bool) (rep : DirReply) →
+          Says (cond b (cond more (append_turn x start i) (link_turn n x)) (unlink_turn x answer.TimedOut)) rep
+      writing-says true in_time true rep = append-says in_time rep
+      writing-says true in_time false rep = link-says in_time rep
+      writing-says false late more rep = λ is. (start, h, late)
+
+    -- an unlink behind a fault or a name that was taken
+    undo-says : (a : Answer) → (a ≡ answer.Fault) ⊎ (a ≡ answer.NameTaken) → DeliverySays r k job d.tmp own a
+    undo-says a which = elim which [
+      | inl is ↦ subst (DeliverySays r k job d.tmp own) (sym is) tt
+      | inr is ↦ subst (DeliverySays r k job d.tmp own) (sym is) tt
+    ]
+
+    stage-says : (stage : Stage) → AtStage r k job d.tmp stage → (rep : DirReply) →
+        Says (stage_turn n (at_stage d stage) (at r k job t) stage) rep
+    stage-says Start h rep = create-says rep
+    stage-says (Writing start i) h rep = writing-says start i h (is_in_time start own) refl (nat_lt i (length d.body)) rep
+    stage-says Linked h rep = λ is. tt
+    stage-says (Undo a) h rep = λ is. undo-says a h
+
+    delivery-says : AtStage r k job d.tmp d.stage → (rep : DirReply) → Says (stage_turn n d (at r k job t) d.stage) rep
+    delivery-says h rep = stage-says d.stage h rep
+
+  -- any task
+  by-task : (asked : Call) (task : Task) → TaskFits s asked task → AtTask r k job task → (rep : DirReply) →
+      rep ≡ reply_of (ask_of (asked_by r k job t task) (at r k job t).clock) s t.event.faulted → (a : Answer) →
+      (after_task r k job t task rep).answer ≡ Some a → TaskSays r k job own task a
+  by-task asked (Deliver d) fits now rep replied a is =
+      subst (Gives d asked fits []) is
+      (delivery-says d asked fits (rows_for (stage_turn n d (at r k job t) d.stage).asked s) now rep replied)
+  by-task asked (Mark m) fits now rep replied a is = subst GivesPlain is (marking-plain n m m.stage rep _)
+  by-task asked (Move m) fits now rep replied a is = subst GivesPlain is (moving-plain n m m.stage rep _)
+  by-task asked (Expunge x) fits now rep replied a is = subst GivesPlain is (expunging-plain n x x.stage rep _)
+  by-task asked (Copy c) fits now rep replied a is = subst GivesPlain is (copying-plain n c c.stage rep _)
+  by-task asked (Clean c) fits now rep replied a is = clean-says c own c.stage rep _ a is
+
+-- what the task of the last step says with its answer
+pub task-says : (r : Run) → IsRun r → (job : ℕ) (a : Answer) → (last : LastStep r job a) →
+    TaskSays r last.k job (at r last.k job last.turn).own last.turn.task a
+task-says r run job a last =
+    let k = last.k in
+    let t = last.turn in
+    let asked = its-call r run k job (working t.task) t.there in
+    let within : k ≤ length r.events = (let less = is_within r k job t in omega (arith, less)) in
+    by-task r run k job t asked.0 t.task (its-fits r run k job asked.0 t.task asked.1 t.there) (at-task r run k job t.task within t.there)
+    (reply_in (moment r k) t.event t.task) refl a last.answer
+
+-- TimedOut and TmpGone are answers of deliveries
+abbrev pub OfDelivery : Run → ℕ → ℕ → ℕ → Task → Answer → Type 0
+OfDelivery r k job own task a = (d : Delivery) × (task ≡ Deliver d) × DeliverySays r k job d.tmp own a
+
+pub gone-of : (r : Run) (k job own : ℕ) (task : Task) → TaskSays r k job own task answer.TmpGone →
+    OfDelivery r k job own task answer.TmpGone
+gone-of r k job now (Deliver d) says = (d, refl, says)
+gone-of r k job now (Mark m) says = absurd says
+gone-of r k job now (Move m) says = absurd says
+gone-of r k job now (Expunge x) says = absurd says
+gone-of r k job now (Copy c) says = absurd says
+gone-of r k job now (Clean c) says = elim says [ inl is ↦ cc | inr is ↦ (let e = is.1 in cc) ]
+
+pub timed-of : (r : Run) (k job own : ℕ) (task : Task) → TaskSays r k job own task answer.TimedOut →
+    OfDelivery r k job own task answer.TimedOut
+timed-of r k job now (Deliver d) says = (d, refl, says)
+timed-of r k job now (Mark m) says = absurd says
+timed-of r k job now (Move m) says = absurd says
+timed-of r k job now (Expunge x) says = absurd says
+timed-of r k job now (Copy c) says = absurd says
+timed-of r k job now (Clean c) says = elim says [ inl is ↦ cc | inr is ↦ (let e = is.1 in cc) ]
+
+-- Cleaned is an answer of a clean
+pub clean-of : (r : Run) (k job own : ℕ) (task : Task) (n : ℕ) → TaskSays r k job own task (answer.Cleaned n) →
+    (c : Cleaning) × (task ≡ Clean c)
+clean-of r k job now (Deliver d) n says = absurd says
+clean-of r k job now (Mark m) n says = absurd says
+clean-of r k job now (Move m) n says = absurd says
+clean-of r k job now (Expunge x) n says = absurd says
+clean-of r k job now (Copy c) n says = absurd says
+clean-of r k job now (Clean c) n says = (c, refl)

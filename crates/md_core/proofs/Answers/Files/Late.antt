@@ -1,0 +1,206 @@
+-- What a clean still has to take away was old when it looked: of a delivery's file, the delivery had begun long before.
+use Rattle.std.proofs.Common.{ℕ, ◌≡◌, ◌≤◌, ◌⊎◌, ◌+◌, ◌-◌, inl, inr, List, [], ◌∷◌, Some, None, length, refl, sym, ap, subst, ◌∙◌, arith}
+use Rattle.std.proofs.lemmas.Bool.Decides.{nat_tests}
+use Rattle.md_dirs.specs.State.{State, file_at}
+use Rattle.md_dirs.specs.Path.{path_of as path}
+use Rattle.md_dirs.specs.Rows.{rows_of}
+use Rattle.md_dirs.specs.declared.paths.Path.{Path}
+use Rattle.md_dirs.specs.declared.paths.Place.TheVariants.{Tmp}
+use Rattle.md_dirs.specs.declared.rows.Row.{Row}
+use Rattle.md_core.specs.declared.jobs.call.Call.{Call}
+use Rattle.md_core.specs.declared.jobs.call.Call.TheVariants as call
+use Rattle.md_core.specs.declared.jobs.cleaning.Cleaning.{Cleaning}
+use Rattle.md_core.specs.declared.jobs.cleaning.Stage.{Stage}
+use Rattle.md_core.specs.declared.jobs.cleaning.Stage.TheVariants.{Look, Remove}
+use Rattle.md_core.specs.declared.jobs.mark.Mark as marks
+use Rattle.md_core.specs.declared.jobs.mark.Mark.TheVariants as mark
+use Rattle.md_core.specs.declared.jobs.step.DirReply.{DirReply}
+use Rattle.md_core.specs.declared.jobs.step.DirReply.TheVariants as reply
+use Rattle.md_core.specs.declared.jobs.task.Task.{Task}
+use Rattle.md_core.specs.declared.jobs.task.Task.TheVariants.{Deliver, Mark, Move, Expunge, Copy, Clean}
+use Rattle.md_core.specs.Machine.{Done, working, job_at, new_job}
+use Rattle.md_core.specs.Machines.Clean.{least_seconds, new_cleaning, is_old, old_rows, after_next, at_stage, tmp, stage_turn}
+use Rattle.md_core.specs.Turn.{Turn, unlink, rows_for}
+use Rattle.md_core.specs.Runs.{Run, moment, call_at, first_step}
+use Rattle.md_core.specs.Interleaving.{IsRun}
+use Rattle.md_core.specs.Answering.{IsStep, IsCleanedAway}
+use Rattle.md_core.specs.Sparing.{AreApart}
+use Rattle.md_core.proofs.Induction.Good.{TaskFits, call_by}
+use Rattle.md_core.proofs.Lists.Members.{Has}
+use Rattle.md_core.proofs.Answers.LastStep.{IsTurn, is_within, left_by, turn-at, holds, reply_in, done_in, done-in}
+use Rattle.md_core.proofs.Answers.Moments.{its-fits, at, asked_by, after_task, next-clock, clock-grows, turn-done}
+use Rattle.md_core.proofs.Answers.Files.Stamps.{stamped-at}
+use Rattle.md_core.proofs.Answers.Files.Listed.{has-filter, listed-file}
+
+-- a job has begun, and its first step was 36 hours less these seconds before the clock of moment k
+pub record IsLate (r : Run) (seconds job k : ℕ) : Type 0 where
+  pub begun : IsStep r job (first_step r job)
+  pub late : begun.what.at.clock + least_seconds ≤ (moment r k).clock + seconds
+
+-- a name is among those that a clean still has to take away
+abbrev pub IsLeftIn : List ℕ → List Row → Type 0
+IsLeftIn u rows = (row : Row) × Has rows row × (row.name ≡ u)
+
+abbrev pub IsLeft : List ℕ → Stage → Type 0
+IsLeft u Look = ⊥
+IsLeft u (Remove name rest files) = (name ≡ u) ⊎ IsLeftIn u rest
+
+module _ (u : List ℕ) (c : Cleaning) where
+  left-next : (rows : List Row) (files : ℕ) → (after_next c rows files).answer ≡ None → IsLeft u (after_next c rows files).task.stage →
+      IsLeftIn u rows
+  left-next [] files unanswered left = cc
+  left-next (row ∷ rest) files unanswered left = elim left [ inl is ↦ (row, inl refl, is) | inr later ↦ (later.0, inr later.1, later.2) ]
+
+  folder-next : (rows : List Row) (files : ℕ) → (after_next c rows files).task.folder ≡ c.folder
+  folder-next [] files = refl
+  folder-next (row ∷ rest) files = refl
+
+-- the task of a clean
+unmarked : (folder f : ℕ) (v : List ℕ) (m : marks.Mark) (tries : ℕ) → call.Clean f ≡ call_by folder v m tries → ⊥
+unmarked folder f v (mark.Seen given) tries is = cc
+unmarked folder f v (mark.Flag add remove) tries is = cc
+
+pub cleans : (s : State) (f : ℕ) (task : Task) → TaskFits s (call.Clean f) task → (c : Cleaning) × (task ≡ Clean c)
+cleans s f (Deliver d) fits = let e = fits.of in cc
+cleans s f (Mark m) fits = absurd (unmarked m.folder f m.unique m.mark fits.tries fits.of)
+cleans s f (Move m) fits = let e = fits.of in cc
+cleans s f (Expunge x) fits = let e = fits.of in cc
+cleans s f (Copy c) fits = let e = fits.of in cc
+cleans s f (Clean c) fits = (c, refl)
+
+-- what is left to a clean of the folder, at moment k
+abbrev LateTask : Run → ℕ → ℕ → ℕ → List ℕ → ℕ → Task → Type 0
+LateTask r seconds job folder u k (Deliver d) = Unit {0}
+LateTask r seconds job folder u k (Mark m) = Unit {0}
+LateTask r seconds job folder u k (Move m) = Unit {0}
+LateTask r seconds job folder u k (Expunge x) = Unit {0}
+LateTask r seconds job folder u k (Copy c) = Unit {0}
+LateTask r seconds job folder u k (Clean c) = c.folder ≡ folder → IsLeft u c.stage → IsLate r seconds job k
+
+module _ (r : Run) (run : IsRun r) (seconds : ℕ) (apart : AreApart r seconds) (job folder : ℕ) (u body : List ℕ) (chunk : ℕ)
+    (of : call_at r.calls job ≡ Some (call.Deliver folder u body chunk)) where
+  abbrev AtTask : ℕ → ℕ → Task → Type 0
+  AtTask k n task = LateTask r seconds job folder u k task
+
+  abbrev IsLateAt : ℕ → Type 0
+  IsLateAt k = IsLate r seconds job k
+
+  module _ (k n : ℕ) (t : IsTurn r k n) where
+    late-more : IsLateAt k → IsLateAt (k + 1)
+    late-more h =
+        let late = h.late in
+        let now = next-clock r k n t in
+        let grows = clock-grows r k n t in
+        record { begun = h.begun; late = omega (arith, late, now, grows) }
+
+    abbrev s : State
+    s = (moment r k).dirs
+
+    -- a clean looks
+    late-look : (c : Cleaning) → c.folder ≡ folder → IsLeftIn u (old_rows (at r k n t).own (rows_of s c.folder Tmp)) → IsLateAt (k + 1)
+    late-look c in_folder left =
+        let row = left.0 in
+        let old = has-filter (is_old (at r k n t).own) (rows_of s c.folder Tmp) row left.1 in
+        let file = listed-file s c.folder Tmp row old.0 in
+        let same : path c.folder Tmp row.name ≡ path folder Tmp u = (λ i. path (in_folder i) Tmp (left.2 i)) in
+        let within : k ≤ length r.events = (let less = is_within r k n t in omega (arith, less)) in
+        let h = stamped-at r run job folder u body chunk of k within file.0 (ap (file_at s) (sym same) ∙ file.1) in
+        let stamped = h.stamped in
+        let shown = file.2 in
+        let long : least_seconds ≤ (at r k n t).own - row.stamp = (let is = old.1 in grind (arith, nat_tests)) in
+        let ahead = (apart k (done_in r k n t) (done-in r k n t)).0 in
+        let now = next-clock r k n t in
+        record { begun = h.begun; late = omega (arith, stamped, shown, long, ahead, now) }
+
+    -- what is left behind a turn of a clean was left before it, or was old now
+    abbrev Leads : Turn Cleaning → DirReply → Type 0
+    Leads turn rep =
+        (turn.follows rep (rows_for turn.asked s)).answer ≡ None → (turn.follows rep (rows_for turn.asked s)).task.folder ≡ folder →
+        IsLeft u (turn.follows rep (rows_for turn.asked s)).task.stage → IsLateAt (k + 1)
+
+    stage-leads : (c : Cleaning) (stage : Stage) → (c.folder ≡ folder → IsLeft u stage → IsLateAt k) → (rep : DirReply) →
+        Leads (stage_turn (at_stage c stage) (at r k n t).own stage) rep
+    stage-leads c Look before reply.Ok unanswered in_folder left =
+        let old = old_rows (at r k n t).own (rows_of s c.folder Tmp) in
+        late-look c (sym (folder-next u (at_stage c Look) old (length old)) ∙ in_folder)
+        (left-next u (at_stage c Look) old (length old) unanswered left)
+    stage-leads c Look before reply.Exists unanswered in_folder left = cc
+    stage-leads c Look before reply.NotFound unanswered in_folder left = cc
+    stage-leads c Look before reply.Fault unanswered in_folder left = cc
+    stage-leads c (Remove name rest files) before reply.Ok unanswered in_folder left =
+        let x = at_stage c (Remove name rest files) in
+        late-more (before (sym (folder-next u x rest files) ∙ in_folder) (inr (left-next u x rest files unanswered left)))
+    stage-leads c (Remove name rest files) before reply.Exists unanswered in_folder left = cc
+    stage-leads c (Remove name rest files) before reply.NotFound unanswered in_folder left =
+        let x = at_stage c (Remove name rest files) in
+        late-more (before (sym (folder-next u x rest (files - 1)) ∙ in_folder) (inr (left-next u x rest (files - 1) unanswered left)))
+    stage-leads c (Remove name rest files) before reply.Fault unanswered in_folder left = cc
+
+    own-turn : (left_by r k n t).answer ≡ None → AtTask k n t.task → AtTask (k + 1) n (left_by r k n t).task
+    own-turn unanswered h = by t.task h (reply_in (moment r k) t.event t.task) unanswered
+      where
+        by : (task : Task) → AtTask k n task → (rep : DirReply) → (after_task r k n t task rep).answer ≡ None →
+            AtTask (k + 1) n (after_task r k n t task rep).task
+        by (Deliver d) now rep none = tt
+        by (Mark m) now rep none = tt
+        by (Move m) now rep none = tt
+        by (Expunge x) now rep none = tt
+        by (Copy c) now rep none = tt
+        by (Clean c) now rep none = stage-leads c c.stage now rep none
+
+    other-turn : (task : Task) → AtTask k n task → AtTask (k + 1) n task
+    other-turn (Deliver d) h = tt
+    other-turn (Mark m) h = tt
+    other-turn (Move m) h = tt
+    other-turn (Expunge x) h = tt
+    other-turn (Copy c) h = tt
+    other-turn (Clean c) h = λ in_folder left. late-more (h in_folder left)
+
+  -- a new clean has nothing to take away yet
+  new-at : (n : ℕ) (c : Call) (task : Task) → new_job c ≡ working task → AtTask 0 n task
+  new-at n c (Deliver d) is = tt
+  new-at n c (Mark m) is = tt
+  new-at n c (Move m) is = tt
+  new-at n c (Expunge x) is = tt
+  new-at n c (Copy x) is = tt
+  new-at n c (Clean x) is = λ in_folder left. absurd (subst (IsLeft u) (looks c is) left)
+    where
+      looks : (c : Call) → new_job c ≡ working (Clean x) → x.stage ≡ Look
+      looks (call.Deliver a b c d) is = cc
+      looks (call.Seen a b c d) is = cc
+      looks (call.Flag a b c d e) is = cc
+      looks (call.Move a b c d) is = cc
+      looks (call.Expunge a b c) is = cc
+      looks (call.Copy a b c d e) is = cc
+      looks (call.Clean a) is = let same : new_cleaning a ≡ x = cc in ap (λ (y : Cleaning). y.stage) (sym same)
+
+  late-task : (k n : ℕ) (task : Task) → k ≤ length r.events → job_at (moment r k).jobs n ≡ Some (working task) → AtTask k n task
+  late-task = holds r run AtTask (λ n c task of-c is. new-at n c task is) own-turn
+      (λ k n task e at-k differ is h. other-turn k e.event.job (turn-at r run k e at-k) task h)
+
+  -- a path that a clean's turn asks to be taken away was left to it
+  left-now : (c : Cleaning) (own : ℕ) (stage : Stage) → (stage_turn (at_stage c stage) own stage).asked ≡ unlink (path folder Tmp u) →
+      (c.folder ≡ folder) × IsLeft u stage
+  left-now c own Look is = cc
+  left-now c own (Remove name rest files) is =
+      let same : tmp c name ≡ path folder Tmp u = cc in
+      (ap (λ (p : Path). p.folder) same, inl (ap (λ (p : Path). p.name) same))
+
+  -- a clean that takes the file of the delivery away comes late
+  pub late-clean : (k : ℕ) (cleaned : IsCleanedAway r k (path folder Tmp u)) →
+      (begun : IsStep r job (first_step r job)) × (begun.what.at.clock + least_seconds ≤ cleaned.what.at.clock + seconds)
+  late-clean k cleaned =
+      let done = turn-done r run k cleaned.what cleaned.at in
+      let n = done.0 in
+      let t = done.1 in
+      let its : call_at r.calls n ≡ Some (call.Clean cleaned.folder) =
+      ap (call_at r.calls) (sym t.own ∙ ap (λ (d : Done). d.job) (sym done.2)) ∙ cleaned.by in
+      let clean = cleans (moment r k).dirs cleaned.folder t.task (its-fits r run k n (call.Clean cleaned.folder) t.task its t.there) in
+      let asks = ap (λ (d : Done). d.asked) (sym done.2) ∙ cleaned.asked in
+      let left = left-now clean.0 (at r k n t).own clean.0.stage (ap (asked_by r k n t) (sym clean.1) ∙ asks) in
+      let within : k ≤ length r.events = (let less = is_within r k n t in omega (arith, less)) in
+      let late = subst (λ (x : Task). AtTask k n x) clean.1 (late-task k n t.task within t.there) left.0 left.1 in
+      let before = late.late in
+      let clock : cleaned.what.at.clock ≡ (at r k n t).clock = ap (λ (d : Done). d.at.clock) done.2 in
+      let grows = clock-grows r k n t in
+      (late.begun, omega (arith, before, clock, grows))

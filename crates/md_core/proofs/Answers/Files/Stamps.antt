@@ -1,0 +1,97 @@
+-- A file at the path in tmp of a delivery is its own: the delivery has begun, and the file's stamp is at least the clock of its first step.
+use Rattle.std.proofs.Common.{ℕ, zero, suc, ◌≡◌, ◌≤◌, ◌+◌, inl, inr, List, Some, None, refl, sym, ap, subst, ◌∙◌, length, take, arith}
+use Rattle.md_dirs.specs.State.{State, file_at}
+use Rattle.md_dirs.specs.Path.{path_of as path}
+use Rattle.md_dirs.specs.declared.paths.Path.{Path}
+use Rattle.md_dirs.specs.declared.paths.Place.TheVariants.{Tmp}
+use Rattle.md_core.specs.declared.jobs.call.Call.TheVariants.{Deliver}
+use Rattle.md_core.specs.declared.jobs.deliver.Stage.{Stage}
+use Rattle.md_core.specs.declared.jobs.task.Task.{Task}
+use Rattle.md_core.specs.Machine.{Machine}
+use Rattle.md_core.specs.Runs.{Run, moment, call_at, first_step}
+use Rattle.md_core.specs.Interleaving.{IsRun}
+use Rattle.md_core.specs.Answering.{IsStep}
+use Rattle.md_core.proofs.Induction.Good.{IsUnused}
+use Rattle.md_core.proofs.Worlds.Accepted.{accepted}
+use Rattle.md_core.proofs.Worlds.Loading.Loaded.{unused-path}
+use Rattle.md_core.proofs.Runs.ByEvent.{moment-start}
+use Rattle.md_core.proofs.Answers.LastStep.{IsTurn, is_within}
+use Rattle.md_core.proofs.Answers.Moments.{at, next-clock, clock-grows, each-moment, first-is}
+use Rattle.md_core.proofs.Answers.Files.Tmp.{KeepsPath, stamp_at}
+use Rattle.md_core.proofs.Answers.Files.Touched.{IsMade, touched}
+use Rattle.md_core.proofs.Answers.Files.Writing.{AtStage, AtTask, at-task}
+
+-- a job has begun, and the clock and the stamp of a file are at least the clock of its first step
+pub record IsStamped (r : Run) (job k n : ℕ) : Type 0 where
+  pub begun : IsStep r job (first_step r job)
+  pub clocked : begun.what.at.clock ≤ (moment r k).clock
+  pub stamped : begun.what.at.clock ≤ stamp_at (moment r k).dirs n
+
+-- no path uses the name of a delivery at the beginning
+unused-at : (r : Run) → IsRun r → (job folder : ℕ) (u body : List ℕ) (chunk : ℕ) →
+    call_at r.calls job ≡ Some (Deliver folder u body chunk) → IsUnused r.image u
+unused-at r run zero folder u body chunk of = cc
+unused-at r run (suc i) folder u body chunk of =
+    let a = accepted (record r { calls = take i r.calls }) folder u body chunk (run.accepted i (Deliver folder u body chunk) of) in
+    unused-path r.image u a.valid a.unused
+
+module _ (r : Run) (run : IsRun r) (job folder : ℕ) (u body : List ℕ) (chunk : ℕ)
+    (of : call_at r.calls job ≡ Some (Deliver folder u body chunk)) where
+  abbrev p : Path
+  p = path folder Tmp u
+
+  abbrev Stamped : ℕ → Type 0
+  Stamped k = (n : ℕ) → file_at (moment r k).dirs p ≡ Some n → IsStamped r job k n
+
+  stamped-start : Stamped 0
+  stamped-start n is =
+      let none : file_at (moment r 0).dirs p ≡ None =
+      ap (λ (m : Machine). file_at m.dirs p) (moment-start r) ∙ unused-at r run job folder u body chunk of p refl in
+      cc
+
+  module _ (k n : ℕ) (t : IsTurn r k n) (before : Stamped k) (file : ℕ) (is : file_at (moment r (k + 1)).dirs p ≡ Some file) where
+    abbrev s : State
+    s = (moment r k).dirs
+
+    abbrev s' : State
+    s' = (moment r (k + 1)).dirs
+
+    abbrev clock : ℕ
+    clock = (at r k n t).clock
+
+    kept : KeepsPath s s' p clock → IsStamped r job (k + 1) file
+    kept keeps =
+        let was = sym keeps.names ∙ is in
+        let h = before file was in
+        let clocked = h.clocked in
+        let stamped = h.stamped in
+        let now = next-clock r k n t in
+        let grows = clock-grows r k n t in
+        record {
+          begun = h.begun;
+          clocked = omega (arith, clocked, now, grows);
+          stamped = elim (keeps.stamps file was) [ inl same ↦ omega (arith, stamped, same) | inr new ↦ omega (arith, clocked, new, grows) ];
+        }
+
+    made : IsMade r k n job t p → IsStamped r job (k + 1) file
+    made m =
+        let stage : AtTask r k n t.task = at-task r run k n t.task (let within = is_within r k n t in omega (arith, within)) t.there in
+        let task : AtStage r k n m.delivery.tmp m.delivery.stage = subst (λ (x : Task). AtTask r k n x) m.task stage in
+        let none : k ≤ first_step r n = subst (λ (x : Stage). AtStage r k n m.delivery.tmp x) m.starts task in
+        let none' : k ≤ first_step r job = subst (λ (j : ℕ). k ≤ first_step r j) (sym m.own) none in
+        let now = next-clock r k n t in
+        let stamp = m.makes.stamps file is in
+        record {
+          begun = first-is r k n job t none' m.own;
+          clocked = omega (arith, now);
+          stamped = omega (arith, stamp);
+        }
+
+    stamped-turn : IsStamped r job (k + 1) file
+    stamped-turn = elim (touched r run k n t job (Deliver folder u body chunk) of p refl refl) [
+      | inl keeps ↦ kept keeps
+      | inr other ↦ elim other [ inl m ↦ made m | inr gone ↦ (let none = gone.0 in cc) ]
+    ]
+
+  pub stamped-at : (k : ℕ) → k ≤ length r.events → Stamped k
+  stamped-at = each-moment r run Stamped stamped-start stamped-turn

@@ -1,0 +1,85 @@
+-- What the turn at an event does to a path in tmp whose name the call of a job makes.
+use Rattle.std.proofs.Common.{ℕ, ◌≡◌, ◌⊎◌, ◌+◌, inl, inr, Some, None, sym, ap, subst, ◌∙◌}
+use Rattle.md_dirs.specs.State.{State, file_at}
+use Rattle.md_dirs.specs.declared.paths.Path.{Path}
+use Rattle.md_dirs.specs.declared.paths.Place.TheVariants.{Tmp}
+use Rattle.md_core.specs.declared.jobs.call.Call.{Call}
+use Rattle.md_core.specs.declared.jobs.deliver.Delivery.{Delivery}
+use Rattle.md_core.specs.declared.jobs.deliver.Stage.TheVariants.{Start}
+use Rattle.md_core.specs.declared.jobs.step.DirReply.{DirReply}
+use Rattle.md_core.specs.declared.jobs.task.Task.TheVariants.{Deliver}
+use Rattle.md_core.specs.Turn.{Asked}
+use Rattle.md_core.specs.Runs.{Run, moment, call_at}
+use Rattle.md_core.specs.Interleaving.{IsRun}
+use Rattle.md_core.specs.Answering.{IsCleanedAway}
+use Rattle.md_core.proofs.Induction.Good.{TaskFits, Makes}
+use Rattle.md_core.proofs.Induction.GoodRuns.{all-apart}
+use Rattle.md_core.proofs.Answers.LastStep.{IsTurn, turn_by, reply_in, done_in, done-in}
+use Rattle.md_core.proofs.Answers.Moments.{its-call, its-fits, sound-now, at, next-dirs, one-maker}
+use Rattle.md_core.proofs.Answers.Files.Tmp.{Touches, KeepsPath, MakesPath, touches}
+use Rattle.md_core.proofs.Answers.Files.Asking.{asks-fair, creates, unlinks}
+
+-- the job itself made the path, at its start
+pub record IsMade (r : Run) (k n job : ℕ) (t : IsTurn r k n) (p : Path) : Type 0 where
+  pub own : job ≡ n
+  pub delivery : Delivery
+  pub task : t.task ≡ Deliver delivery
+  pub starts : delivery.stage ≡ Start
+  pub makes : MakesPath (moment r (k + 1)).dirs p (turn_by (moment r k) t.event t.task).asked (at r k n t).clock
+
+module _ (r : Run) (run : IsRun r) (k n : ℕ) (t : IsTurn r k n) (job : ℕ) (asked : Call) (of : call_at r.calls job ≡ Some asked)
+    (p : Path) (in_tmp : p.place ≡ Tmp) (makes : Makes asked p.name) where
+  abbrev s' : State
+  s' = (moment r (k + 1)).dirs
+
+  abbrev Touched : Type 0
+  Touched =
+      KeepsPath (moment r k).dirs s' p (at r k n t).clock ⊎
+      (IsMade r k n job t p ⊎ ((file_at s' p ≡ None) × ((job ≡ n) ⊎ IsCleanedAway r k p)))
+
+  abbrev its : Call
+  its = (its-call r run k n _ t.there).0
+
+  abbrev made : Asked
+  made = (turn_by (moment r k) t.event t.task).asked
+
+  abbrev replied : DirReply
+  replied = reply_in (moment r k) t.event t.task
+
+  of-its : call_at r.calls n ≡ Some its
+  of-its = (its-call r run k n _ t.there).1
+
+  fits : TaskFits (moment r k).dirs its t.task
+  fits = its-fits r run k n its t.task of-its t.there
+
+  same-job : Makes its p.name → job ≡ n
+  same-job also = one-maker r.calls (all-apart r run) job n asked its p.name of of-its makes also
+
+  changed : Touches (moment r k).dirs s' p made replied (at r k n t).clock
+  changed = subst (λ (x : State). Touches (moment r k).dirs x p made replied (at r k n t).clock) (sym (next-dirs r k n t))
+      (touches (moment r k).dirs p in_tmp (sound-now r run k) (at r k n t).clock made replied
+      (asks-fair (moment r k).dirs its t.event.event.job t.task (at r k n t) fits))
+
+  pub touched : Touched
+  touched = elim changed [
+    | inl keeps ↦ inl keeps
+    | inr other ↦ elim other [
+      | inl made-now ↦
+          let by = creates (moment r k).dirs its t.event.event.job (at r k n t) p in_tmp t.task fits made-now.call in
+          inr (inl (record { own = same-job by.0; delivery = by.1.0; task = by.1.1; starts = by.1.2; makes = made-now }))
+      | inr takes ↦ inr (inr (
+        takes.gone,
+        elim (unlinks (moment r k).dirs its t.event.event.job (at r k n t) p in_tmp t.task fits takes.call) [
+          | inl also ↦ inl (same-job also)
+          | inr clean ↦ inr (record {
+            what = done_in r k n t;
+            at = done-in r k n t;
+            asked = takes.call;
+            ok = takes.ok;
+            folder = clean.0;
+            by = ap (call_at r.calls) t.own ∙ of-its ∙ ap Some clean.1;
+          })
+        ],
+      ))
+    ]
+  ]

@@ -1,0 +1,228 @@
+-- What one look-up says is so at its moment; and what a search says that looked in new and then in cur is so at one of the two moments.
+use Rattle.std.proofs.Common.{ℕ, ◌≡◌, ◌<◌, ◌≤◌, ◌+◌, ◌⊎◌, inl, inr, List, Option, Some, None, Bool, true, false, cond, not, refl, sym, ap, subst, ◌∙◌, length, arith}
+use Rattle.std.proofs.lemmas.Bool.{eq-eqb, and_from, and_parts, not-true}
+use Rattle.std.specs.FinMap.{get}
+use Rattle.md_dirs.specs.Path.{place_index}
+use Rattle.md_dirs.specs.State.{State}
+use Rattle.md_dirs.specs.declared.paths.Place.{Place}
+use Rattle.md_dirs.specs.declared.paths.Place.TheVariants.{Tmp, New, Cur}
+use Rattle.md_core.specs.declared.jobs.answer.Answer.{Answer}
+use Rattle.md_core.specs.declared.jobs.answer.Answer.TheVariants as answer
+use Rattle.md_core.specs.declared.jobs.call.Call.{Call}
+use Rattle.md_core.specs.declared.jobs.call.Call.TheVariants as call
+use Rattle.md_core.specs.declared.jobs.search.Stage.{Stage}
+use Rattle.md_core.specs.declared.jobs.search.Stage.TheVariants.{LookNew, LookCur, Act}
+use Rattle.md_core.specs.declared.jobs.step.DirReply.{DirReply}
+use Rattle.md_core.specs.declared.jobs.task.Task.{Task}
+use Rattle.md_core.specs.declared.jobs.task.Task.TheVariants.{Deliver, Mark, Move, Expunge, Copy, Clean}
+use Rattle.md_core.specs.Mailbox.{Entry, is_tmp}
+use Rattle.md_core.specs.Alone.{moved, copied, such, is_in_place, is_in_folder}
+use Rattle.md_core.specs.Machine.{Standing, working, answered, job_at, new_job}
+use Rattle.md_core.specs.Runs.{Run, moment, box, call_at}
+use Rattle.md_core.specs.Turn.{After}
+use Rattle.md_core.specs.Interleaving.{IsRun}
+use Rattle.md_core.specs.Answering.{IsStep, IsOfSpan}
+use Rattle.md_core.proofs.Induction.Good.{TaskFits}
+use Rattle.md_core.proofs.Mailbox.Shown.{mailbox-shows}
+use Rattle.md_core.proofs.Answers.LastStep.{IsTurn, reply_in, left_by, is-step, is_within, holds}
+use Rattle.md_core.proofs.Answers.Turns.OneMessage.{IsAlone, IsPastNew, IsPastCur, FindsNone, HasLooked}
+use Rattle.md_core.proofs.Answers.Turns.EachSays.{TaskSays, UndoesTask, IsClean, turn-says, fits-at}
+use Rattle.md_core.proofs.Answers.Turns.Told.{at-none}
+use Rattle.md_core.proofs.Answers.Touches.StaysInCur.{stays-in_cur}
+
+-- what a call would be answered alone at a step of its job
+pub at-step : (r : Run) (job k : ℕ) (c : Call) (a : Answer) → IsStep r job k → IsAlone (moment r k).dirs c a → IsOfSpan r job c a
+at-step r job k c a step is = record {
+  k = k;
+  in_span = record { from = k; to = k; begun = step; goes_on = step; after = omega arith; before = omega arith };
+  is = is;
+}
+
+-- ---- a search that is past new
+
+-- an earlier step of the job, at which the message was not in new
+record WasPastNew (r : Run) (job : ℕ) (folder : ℕ) (u : List ℕ) (k : ℕ) : Type 0 where
+  from : ℕ
+  begun : IsStep r job from
+  before : from < k
+  none : such (is_in_place New folder) (get (box (moment r from)) u) ≡ None
+
+abbrev SearchedAt : Run → ℕ → ℕ → ℕ → List ℕ → Stage → Type 0
+SearchedAt r k job folder u (LookNew tries) = Unit {0}
+SearchedAt r k job folder u (LookCur tries) = WasPastNew r job folder u k
+SearchedAt r k job folder u (Act place row tries) = Unit {0}
+
+abbrev SearchedBy : Run → ℕ → ℕ → Task → Type 0
+SearchedBy r k job (Deliver d) = Unit {0}
+SearchedBy r k job (Mark m) = Unit {0}
+SearchedBy r k job (Move m) = SearchedAt r k job m.folder m.unique m.stage
+SearchedBy r k job (Expunge x) = Unit {0}
+SearchedBy r k job (Copy c) = SearchedAt r k job c.folder c.unique c.stage
+SearchedBy r k job (Clean c) = Unit {0}
+
+abbrev Searched : Run → ℕ → ℕ → Task → Type 0
+Searched r k job task = (c : Call) → call_at r.calls job ≡ Some c → SearchedBy r k job task
+
+abbrev AtWork : Run → ℕ → Standing → Type 0
+AtWork r job (working task) = SearchedBy r 0 job task
+AtWork r job (answered a) = Unit {0}
+
+new-searched : (r : Run) (job : ℕ) (c : Call) → AtWork r job (new_job c)
+new-searched r job (call.Deliver folder u body chunk) = tt
+new-searched r job (call.Seen folder u flags tries) = tt
+new-searched r job (call.Flag folder u add remove tries) = tt
+new-searched r job (call.Move folder u to tries) = tt
+new-searched r job (call.Expunge folder u tries) = tt
+new-searched r job (call.Copy folder u to fresh tries) = tt
+new-searched r job (call.Clean folder) = tt
+
+module _ (r : Run) (k job : ℕ) where
+  -- the step at which the job looked in new
+  just-searched : (step : IsStep r job k) (task : Task) → HasLooked (moment r k).dirs task → SearchedBy r (k + 1) job task
+  just-searched step (Deliver d) h = tt
+  just-searched step (Mark m) h = tt
+  just-searched step (Move m) h = by m.stage h
+    where
+      by : (stage : Stage) → IsPastNew (moment r k).dirs m.folder m.unique stage → SearchedAt r (k + 1) job m.folder m.unique stage
+      by (LookNew tries) none = tt
+      by (LookCur tries) none = record { from = k; begun = step; before = omega arith; none = none }
+      by (Act place row tries) none = tt
+  just-searched step (Expunge x) h = tt
+  just-searched step (Copy c) h = by c.stage h
+    where
+      by : (stage : Stage) → IsPastNew (moment r k).dirs c.folder c.unique stage → SearchedAt r (k + 1) job c.folder c.unique stage
+      by (LookNew tries) none = tt
+      by (LookCur tries) none = record { from = k; begun = step; before = omega arith; none = none }
+      by (Act place row tries) none = tt
+  just-searched step (Clean c) h = tt
+
+  undoing-searched : (given : DirReply) (task : Task) → UndoesTask given task → SearchedBy r (k + 1) job task
+  undoing-searched given (Deliver d) h = tt
+  undoing-searched given task h = absurd h
+
+  clean-searched : (task : Task) → IsClean task → SearchedBy r (k + 1) job task
+  clean-searched (Clean c) h = tt
+  clean-searched task h = absurd h
+
+  searched-on : (s' : State) (c : Call) (step : IsStep r job k) (task : Task) (given : DirReply) (after : After Task) →
+      TaskSays (moment r k).dirs s' c given task after →
+      after.answer ≡ None → SearchedBy r (k + 1) job after.task
+  searched-on s' c step (Deliver d) given after says none = undoing-searched given after.task (at-none after.answer _ _ none says)
+  searched-on s' c step (Mark m) given after says none = just-searched step after.task (at-none after.answer _ _ none says).looked
+  searched-on s' c step (Move m) given after says none = just-searched step after.task (at-none after.answer _ _ none says).looked
+  searched-on s' c step (Expunge x) given after says none = just-searched step after.task (at-none after.answer _ _ none says).looked
+  searched-on s' c step (Copy x) given after says none = just-searched step after.task (at-none after.answer _ _ none says).looked
+  searched-on s' c step (Clean x) given after says none = clean-searched after.task (at-none after.answer _ _ none says)
+
+  later : (folder : ℕ) (u : List ℕ) (stage : Stage) → SearchedAt r k job folder u stage → SearchedAt r (k + 1) job folder u stage
+  later folder u (LookNew tries) h = tt
+  later folder u (LookCur tries) h =
+      record { from = h.from; begun = h.begun; before = (let b = h.before in omega (arith, b)); none = h.none }
+  later folder u (Act place row tries) h = tt
+
+  still-searched : (task : Task) → SearchedBy r k job task → SearchedBy r (k + 1) job task
+  still-searched (Deliver d) h = tt
+  still-searched (Mark m) h = tt
+  still-searched (Move m) h = later m.folder m.unique m.stage h
+  still-searched (Expunge x) h = tt
+  still-searched (Copy c) h = later c.folder c.unique c.stage h
+  still-searched (Clean c) h = tt
+
+module _ (r : Run) (run : IsRun r) where
+  searched-at : (k job : ℕ) (task : Task) → k ≤ length r.events → job_at (moment r k).jobs job ≡ Some (working task) → Searched r k job task
+  searched-at = holds r run (Searched r)
+      (λ job c task of new c' of'. subst (AtWork r job) new (new-searched r job c))
+      (λ k job t none was c of.
+      searched-on r k job (moment r (k + 1)).dirs c (is-step r k job t) t.task (reply_in (moment r k) t.event t.task) (left_by r k job t)
+      (turn-says r run k job c of t) none)
+      (λ k job task e at differ there was c of. still-searched r k job task (was c of))
+
+  -- ---- not in new, and then not in cur
+
+  module _ (i j : ℕ) (within : i ≤ j) (folder : ℕ) (u : List ℕ) (not_new : such (is_in_place New folder) (get (box (moment r i)) u) ≡ None)
+      (not_cur : such (is_in_place Cur folder) (get (box (moment r j)) u) ≡ None) where
+    abbrev InFolder : ℕ → Option Entry
+    InFolder k = such (is_in_folder folder) (get (box (moment r k)) u)
+
+    outside : (o : Option Entry) (e : Entry) → o ≡ Some e → is_in_folder folder e ≡ false → such (is_in_folder folder) o ≡ None
+    outside o e is out = ap (such (is_in_folder folder)) is ∙ ap (λ b. cond b (Some e) None) out
+
+    in-place : (place : Place) (o : Option Entry) (e : Entry) → o ≡ Some e → such (is_in_place place folder) o ≡ None →
+        is_in_folder folder e ≡ true → e.place ≡ place → ⊥
+    in-place place o e is none inside at =
+        let yes : is_in_place place folder e ≡ true = and_from _ _ (eq-eqb _ _ (ap place_index at)) inside in
+        let some : such (is_in_place place folder) o ≡ Some e =
+        ap (such (is_in_place place folder)) is ∙ ap (λ b. cond b (Some e) None) yes in
+        let both : Some e ≡ None = sym some ∙ none in
+        cc
+
+    -- it was in cur at the first moment: so it is in cur at the second, or not there
+    gone-by : (x : Entry) → get (box (moment r i)) u ≡ Some x → x.place ≡ Cur → InFolder j ≡ None
+    gone-by x there at = by (get (box (moment r j)) u) refl
+      where
+        by : (o : Option Entry) → get (box (moment r j)) u ≡ o → InFolder j ≡ None
+        by None is = ap (such (is_in_folder folder)) is
+        by (Some e) is = on (is_in_folder folder e) refl
+          where
+            on : (b : Bool) → is_in_folder folder e ≡ b → InFolder j ≡ None
+            on true inside =
+                absurd (in-place Cur (get (box (moment r j)) u) e is not_cur inside (stays-in_cur r run i u x there at j within e is))
+            on false out = outside (get (box (moment r j)) u) e is out
+
+    -- a message is in new or cur
+    by-place : (x : Entry) → get (box (moment r i)) u ≡ Some x → is_in_folder folder x ≡ true → (p : Place) → x.place ≡ p →
+        InFolder j ≡ None
+    by-place x there inside Tmp at =
+        let h = mailbox-shows (moment r i).dirs u x there in
+        let no : is_tmp h.path.place ≡ false = not-true (is_tmp h.path.place) (and_parts (not (is_tmp h.path.place)) _ h.message).0 in
+        let yes : is_tmp h.path.place ≡ true = ap is_tmp (ap (λ (e : Entry). e.place) h.entry ∙ at) in
+        cc
+    by-place x there inside New at = absurd (in-place New (get (box (moment r i)) u) x there not_new inside at)
+    by-place x there inside Cur at = gone-by x there at
+
+    pub not-there : (InFolder i ≡ None) ⊎ (InFolder j ≡ None)
+    not-there = by (get (box (moment r i)) u) refl
+      where
+        by : (o : Option Entry) → get (box (moment r i)) u ≡ o → (InFolder i ≡ None) ⊎ (InFolder j ≡ None)
+        by None is = inl (ap (such (is_in_folder folder)) is)
+        by (Some x) is = on (is_in_folder folder x) refl
+          where
+            on : (b : Bool) → is_in_folder folder x ≡ b → (InFolder i ≡ None) ⊎ (InFolder j ≡ None)
+            on true inside = inr (by-place x is inside x.place refl)
+            on false out = inl (outside (get (box (moment r i)) u) x is out)
+
+  -- what a search says that ended behind cur
+  module _ (k job : ℕ) (c : Call) (step : IsStep r job k) (folder : ℕ) (u : List ℕ)
+      (alone-none : (i : ℕ) → such (is_in_folder folder) (get (box (moment r i)) u) ≡ None →
+      IsAlone (moment r i).dirs c answer.NotThere) where
+    search-none : (stage : Stage) → IsPastCur (moment r k).dirs folder u stage → SearchedAt r k job folder u stage →
+        IsOfSpan r job c answer.NotThere
+    search-none (LookNew tries) none was = absurd none
+    search-none (LookCur tries) none was = let b = was.before in elim (not-there was.from k (omega (arith, b)) folder u was.none none) [
+      | inl first ↦ at-step r job was.from c answer.NotThere was.begun (alone-none was.from first)
+      | inr last ↦ at-step r job k c answer.NotThere step (alone-none k last)
+    ]
+    search-none (Act place row tries) none was = absurd none
+
+  -- nothing was found at the last turn of a job
+  pub says-none : (k job : ℕ) (c : Call) → call_at r.calls job ≡ Some c → (t : IsTurn r k job) → FindsNone (moment r k).dirs c t.task →
+      IsOfSpan r job c answer.NotThere
+  says-none k job c of t finds =
+      by t.task finds (searched-at k job t.task (let within = is_within r k job t in omega (arith, within)) t.there c of)
+      (fits-at r run k job c of t.task t.there)
+    where
+      step : IsStep r job k
+      step = is-step r k job t
+
+      by : (task : Task) → FindsNone (moment r k).dirs c task → SearchedBy r k job task → TaskFits (moment r k).dirs c task →
+          IsOfSpan r job c answer.NotThere
+      by (Deliver d) h was fits = absurd h
+      by (Mark m) h was fits = at-step r job k c answer.NotThere step h
+      by (Move m) h was fits = search-none k job c step m.folder m.unique
+          (λ i none. subst (λ (x : Call). IsAlone (moment r i).dirs x answer.NotThere) (sym fits.of)
+          (ap (λ (o : Option Entry). (moved (box (moment r i)) m.unique m.to o).answer) none)) m.stage h was
+      by (Expunge x) h was fits = at-step r job k c answer.NotThere step h
+      by (Copy x) h was fits = search-none k job c step x.folder x.unique
+          (λ i none. subst (λ (y : Call). IsAlone (moment r i).dirs y answer.NotThere) (sym fits.of)
+          (ap (λ (o : Option Entry). (copied (box (moment r i)) x.to x.fresh o).answer) none)) x.stage h was
+      by (Clean x) h was fits = absurd h

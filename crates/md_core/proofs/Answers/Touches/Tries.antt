@@ -1,0 +1,250 @@
+-- A try is over only where another job touched the message since it began: so a call that is lost was touched once for each of its tries.
+use Rattle.std.proofs.Common.{ℕ, ◌≡◌, ◌≢◌, ◌≤◌, ◌+◌, ◌⊎◌, inl, inr, List, Some, None, refl, sym, ap, subst, ◌∙◌, length, slice_get, arith}
+use Rattle.std.specs.FinMap.{get}
+use Rattle.md_dirs.specs.State.{State}
+use Rattle.md_dirs.specs.declared.paths.Path.{Path}
+use Rattle.md_name.specs.Names.{unique_of}
+use Rattle.md_core.specs.declared.jobs.call.Call.{Call}
+use Rattle.md_core.specs.declared.jobs.call.Call.TheVariants as call
+use Rattle.md_core.specs.declared.jobs.mark.Mark.{Mark as Marks}
+use Rattle.md_core.specs.declared.jobs.mark.Mark.TheVariants.{Seen, Flag}
+use Rattle.md_core.specs.declared.jobs.step.DirReply.{DirReply}
+use Rattle.md_core.specs.declared.jobs.task.Task.{Task}
+use Rattle.md_core.specs.declared.jobs.task.Task.TheVariants.{Deliver, Mark, Move, Expunge, Copy, Clean}
+use Rattle.md_core.specs.History.{names_of}
+use Rattle.md_core.specs.Machine.{Standing, working, answered, Marked, job_at, new_job}
+use Rattle.md_core.specs.Runs.{Run, moment, box, call_at}
+use Rattle.md_core.specs.Turn.{After}
+use Rattle.md_core.specs.Interleaving.{IsRun}
+use Rattle.md_core.specs.Answering.{IsStep, IsTouched, IsLost}
+use Rattle.md_core.proofs.Induction.Good.{TaskFits, call_by}
+use Rattle.md_core.proofs.Answers.LastStep.{IsTurn, reply_in, left_by, is-step, is_within, holds}
+use Rattle.md_core.proofs.Answers.Turns.OneMessage.{Trying, idle, looking, acting, trying_of, sought, TriesOn, IsOver}
+use Rattle.md_core.proofs.Answers.Turns.EachSays.{TaskSays, UndoesTask, IsClean, is-good, turn-says, fits-at}
+use Rattle.md_core.proofs.Answers.Turns.Told.{at-none}
+use Rattle.md_core.proofs.Answers.Touches.Paths.{IsListed, path-listed, listed-path}
+use Rattle.md_core.proofs.Answers.Touches.Counted.{touches, touches-between, touches-rise, touched-or_not}
+
+-- the tries that a call has
+abbrev tries_in : Call → ℕ
+tries_in (call.Deliver folder u body chunk) = 0
+tries_in (call.Seen folder u flags tries) = tries
+tries_in (call.Flag folder u add remove tries) = tries
+tries_in (call.Move folder u to tries) = tries
+tries_in (call.Expunge folder u tries) = tries
+tries_in (call.Copy folder u to fresh tries) = tries
+tries_in (call.Clean folder) = 0
+
+-- Since a step of the job the name was touched so often that with the tries that are left these are at least so many.
+record Since (r : Run) (job : ℕ) (u : List ℕ) (all left k : ℕ) : Type 0 where
+  from : ℕ
+  begun : IsStep r job from
+  before : from ≤ k
+  enough : touches r job u from + all ≤ touches r job u k + left
+
+-- Where a job is with its tries at a moment: it has not begun, or each try that is over was touched; and where it acts, its path is there,
+-- or this try was touched too.
+abbrev IsTrying : Run → ℕ → List ℕ → ℕ → ℕ → Trying → Type 0
+IsTrying r job u all k idle = Unit {0}
+IsTrying r job u all k (looking tries) = (tries ≡ all) ⊎ Since r job u all tries k
+IsTrying r job u all k (acting p tries) =
+    (unique_of p.name ≡ u) × ((Since r job u all tries k × IsListed (moment r k).dirs p) ⊎ Since r job u (all + 1) tries k)
+
+abbrev Tries : Run → ℕ → ℕ → Task → Type 0
+Tries r k job task = (c : Call) → call_at r.calls job ≡ Some c → IsTrying r job (sought c) (tries_in c) k (trying_of task)
+
+module _ (r : Run) (run : IsRun r) (job : ℕ) (u : List ℕ) (all : ℕ) where
+  -- what was touched stays so
+  since-later : (n left k : ℕ) → Since r job u n left k → Since r job u n left (k + 1)
+  since-later n left k h = record {
+    from = h.from;
+    begun = h.begun;
+    before = (let b = h.before in omega (arith, b));
+    enough = (let more = touches-rise r run job u k (k + 1) (omega arith) in let e = h.enough in omega (arith, more, e));
+  }
+
+  -- a turn of the job
+  module _ (k : ℕ) (step : IsStep r job k) where
+    -- the first step of a job, or a later one
+    since-step : (tries : ℕ) → (tries ≡ all) ⊎ Since r job u all tries k → Since r job u all tries (k + 1)
+    since-step tries (inl is) = record {
+      from = k;
+      begun = step;
+      before = omega arith;
+      enough = (let more = touches-rise r run job u k (k + 1) (omega arith) in omega (arith, more, is));
+    }
+    since-step tries (inr h) = since-later all tries k h
+
+    turn-tries : (before next : Trying) → TriesOn (moment r k).dirs (moment r (k + 1)).dirs u before next →
+        IsTrying r job u all k before → IsTrying r job u all (k + 1) next
+    turn-tries idle next on was = absurd on
+    turn-tries (looking tries) idle on was = absurd on
+    turn-tries (looking tries) (looking left) on was =
+        subst (λ n. (n ≡ all) ⊎ Since r job u all n (k + 1)) (sym on) (inr (since-step tries was))
+    turn-tries (looking tries) (acting p left) on was = (
+      on.1.unique,
+      inl (
+        subst (λ n. Since r job u all n (k + 1)) (sym on.0) (since-step tries was),
+        path-listed (moment r (k + 1)).dirs u p (is-good r run (k + 1)).one_path on.1,
+      ),
+    )
+    turn-tries (acting p tries) idle on was = absurd on
+    turn-tries (acting p tries) (looking left) on was = elim was.1 [
+      | inl there ↦ let at = listed-path (moment r k).dirs p there.1 in let gone = on.1 in let is = at.1 in cc
+      | inr touched ↦ inr (record {
+        from = touched.from;
+        begun = touched.begun;
+        before = (let b = touched.before in omega (arith, b));
+        enough =
+            (let more = touches-rise r run job u k (k + 1) (omega arith) in
+            let e = touched.enough in
+            let one = on.0 in
+            omega (arith, more, e, one));
+      })
+    ]
+    turn-tries (acting p tries) (acting q left) on was = absurd on
+
+  -- an event of another job
+  module _ (k : ℕ) (e : Marked) (at : slice_get r.events k ≡ Some e) (differ : job ≢ e.event.job) where
+    since-touched : (tries : ℕ) → Since r job u all tries k → touches r job u (k + 1) ≡ touches r job u k + 1 →
+        Since r job u (all + 1) tries (k + 1)
+    since-touched tries h one = record {
+      from = h.from;
+      begun = h.begun;
+      before = (let b = h.before in omega (arith, b));
+      enough = (let e = h.enough in omega (arith, one, e));
+    }
+
+    still-listed : (p : Path) → unique_of p.name ≡ u → get (names_of (box (moment r (k + 1)))) u ≡ get (names_of (box (moment r k))) u →
+        IsListed (moment r k).dirs p → IsListed (moment r (k + 1)).dirs p
+    still-listed p is same h =
+        record {
+          size = h.size;
+          at = ap (get (names_of (box (moment r (k + 1))))) is ∙ same
+              ∙ ap (get (names_of (box (moment r k)))) (sym is) ∙ h.at;
+        }
+
+    other-tries : (now : Trying) → IsTrying r job u all k now → IsTrying r job u all (k + 1) now
+    other-tries idle was = tt
+    other-tries (looking tries) (inl is) = inl is
+    other-tries (looking tries) (inr h) = inr (since-later all tries k h)
+    other-tries (acting p tries) was = (
+      was.0,
+      elim was.1 [
+        | inl there ↦ elim (touched-or_not r run k e at job differ u) [
+          | inl one ↦ inr (since-touched tries there.0 one)
+          | inr same ↦ inl (since-later all tries k there.0, still-listed p was.0 same there.1)
+        ]
+        | inr touched ↦ inr (since-later (all + 1) tries k touched)
+      ],
+    )
+
+  -- a job whose last try is over
+  over-touched : (k : ℕ) → IsStep r job k → (now : Trying) → IsOver (moment r k).dirs now → IsTrying r job u all k now →
+      IsTouched r job u all
+  over-touched k step idle over was = absurd over
+  over-touched k step (looking tries) over was = absurd over
+  over-touched k step (acting p tries) over was = elim was.1 [
+    | inl there ↦ let at = listed-path (moment r k).dirs p there.1 in let gone = over.1 in let is = at.1 in cc
+    | inr touched ↦ record {
+      from = touched.from;
+      to = k;
+      begun = touched.begun;
+      goes_on = step;
+      touched =
+          (let more = touches-rise r run job u k (k + 1) (omega arith) in
+          let b = touched.before in
+          let between = touches-between r run job u touched.from (k + 1) (omega (arith, b)) in
+          let e = touched.enough in
+          let few = over.0 in
+          omega (arith, more, between, e, few));
+    }
+  ]
+
+-- ---- at each moment
+
+-- how a job stands that has such tries, if it works
+abbrev AtWork : Run → ℕ → List ℕ → ℕ → Standing → Type 0
+AtWork r job u all (working task) = IsTrying r job u all 0 (trying_of task)
+AtWork r job u all (answered a) = Unit {0}
+
+new-tries : (r : Run) (job : ℕ) (c : Call) → AtWork r job (sought c) (tries_in c) (new_job c)
+new-tries r job (call.Deliver folder u body chunk) = tt
+new-tries r job (call.Seen folder u flags tries) = inl refl
+new-tries r job (call.Flag folder u add remove tries) = inl refl
+new-tries r job (call.Move folder u to tries) = inl refl
+new-tries r job (call.Expunge folder u tries) = inl refl
+new-tries r job (call.Copy folder u to fresh tries) = inl refl
+new-tries r job (call.Clean folder) = tt
+
+module _ (r : Run) (run : IsRun r) where
+  -- a delivery and a clean go on with no tries
+  undoing-tries : (job : ℕ) (u : List ℕ) (all k : ℕ) (given : DirReply) (task : Task) → UndoesTask given task →
+      IsTrying r job u all k (trying_of task)
+  undoing-tries job u all k given (Deliver d) h = tt
+  undoing-tries job u all k given task h = absurd h
+
+  clean-tries : (job : ℕ) (u : List ℕ) (all k : ℕ) (task : Task) → IsClean task → IsTrying r job u all k (trying_of task)
+  clean-tries job u all k (Clean c) h = tt
+  clean-tries job u all k task h = absurd h
+
+  tries-on : (k job : ℕ) (c : Call) (step : IsStep r job k) (task : Task) (given : DirReply) (after : After Task) →
+      TaskSays (moment r k).dirs (moment r (k + 1)).dirs c given task after →
+      after.answer ≡ None → IsTrying r job (sought c) (tries_in c) k (trying_of task) →
+      IsTrying r job (sought c) (tries_in c) (k + 1) (trying_of after.task)
+  tries-on k job c step (Deliver d) given after says none was =
+      undoing-tries job (sought c) (tries_in c) (k + 1) given after.task (at-none after.answer _ _ none says)
+  tries-on k job c step (Mark m) given after says none was =
+      turn-tries r run job (sought c) (tries_in c) k step (trying_of (Mark m)) (trying_of after.task)
+      (at-none after.answer _ _ none says).tries was
+  tries-on k job c step (Move m) given after says none was =
+      turn-tries r run job (sought c) (tries_in c) k step (trying_of (Move m)) (trying_of after.task)
+      (at-none after.answer _ _ none says).tries was
+  tries-on k job c step (Expunge x) given after says none was =
+      turn-tries r run job (sought c) (tries_in c) k step (trying_of (Expunge x)) (trying_of after.task)
+      (at-none after.answer _ _ none says).tries was
+  tries-on k job c step (Copy x) given after says none was =
+      turn-tries r run job (sought c) (tries_in c) k step (trying_of (Copy x)) (trying_of after.task)
+      (at-none after.answer _ _ none says).tries was
+  tries-on k job c step (Clean x) given after says none was =
+      clean-tries job (sought c) (tries_in c) (k + 1) after.task (at-none after.answer _ _ none says)
+
+  tries-at : (k job : ℕ) (task : Task) → k ≤ length r.events → job_at (moment r k).jobs job ≡ Some (working task) → Tries r k job task
+  tries-at = holds r run (Tries r)
+      (λ job c task of new c' of'.
+      let same : c ≡ c' = (let e : Some c ≡ Some c' = sym of ∙ of' in cc) in
+      subst (λ (x : Call). IsTrying r job (sought x) (tries_in x) 0 (trying_of task)) same
+      (subst (AtWork r job (sought c) (tries_in c)) new (new-tries r job c)))
+      (λ k job t none was c of.
+      tries-on k job c (is-step r k job t) t.task (reply_in (moment r k) t.event t.task) (left_by r k job t)
+      (turn-says r run k job c of t) none (was c of))
+      (λ k job task e at differ there was c of. other-tries r run job (sought c) (tries_in c) k e at differ (trying_of task) (was c of))
+
+  -- a touched call of a task that has tries is lost
+  lost-call : (s s' : State) (job : ℕ) (c : Call) (task : Task) → TaskFits s c task → IsOver s' (trying_of task) →
+      IsTouched r job (sought c) (tries_in c) → IsLost r job c
+  lost-call s s' job c (Deliver d) fits over = absurd over
+  lost-call s s' job c (Mark m) fits over =
+      subst (λ (x : Call). IsTouched r job (sought x) (tries_in x) → IsLost r job x) (sym fits.of) (by m.mark)
+    where
+      by : (k : Marks) →
+          IsTouched r job (sought (call_by m.folder m.unique k fits.tries)) (tries_in (call_by m.folder m.unique k fits.tries)) →
+          IsLost r job (call_by m.folder m.unique k fits.tries)
+      by (Seen given) h = h
+      by (Flag add remove) h = h
+  lost-call s s' job c (Move m) fits over =
+      subst (λ (x : Call). IsTouched r job (sought x) (tries_in x) → IsLost r job x) (sym fits.of) (λ h. h)
+  lost-call s s' job c (Expunge x) fits over =
+      subst (λ (x : Call). IsTouched r job (sought x) (tries_in x) → IsLost r job x) (sym fits.of) (λ h. h)
+  lost-call s s' job c (Copy x) fits over =
+      subst (λ (x : Call). IsTouched r job (sought x) (tries_in x) → IsLost r job x) (sym fits.of) (λ h. h)
+  lost-call s s' job c (Clean x) fits over = absurd over
+
+  -- a job that ends with its last try
+  pub says-lost : (k job : ℕ) (c : Call) → call_at r.calls job ≡ Some c → (t : IsTurn r k job) →
+      IsOver (moment r k).dirs (trying_of t.task) → IsLost r job c
+  says-lost k job c of t over =
+      let within = is_within r k job t in
+      lost-call (moment r k).dirs (moment r k).dirs job c t.task (fits-at r run k job c of t.task t.there) over
+      (over-touched r run job (sought c) (tries_in c) k (is-step r k job t) (trying_of t.task) over
+      (tries-at k job t.task (omega (arith, within)) t.there c of))

@@ -1,0 +1,4 @@
+pub mod Spares
+pub mod Frames
+pub mod Calls
+pub mod Quiet

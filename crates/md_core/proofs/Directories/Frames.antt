@@ -1,0 +1,238 @@
+-- A call that acts on the paths of one name leaves what fits the deliveries of others.
+use Rattle.std.proofs.Common.{ℕ, ◌≡◌, ◌≢◌, ◌⊎◌, inl, inr, List, Option, Some, None, true, cond, refl, sym, ap, subst, ◌∙◌, not, ◌&&◌, ◌<◌, take}
+use Rattle.md_dirs.specs.State.{State, file_at}
+use Rattle.md_dirs.specs.declared.paths.Path.{Path}
+use Rattle.md_dirs.specs.declared.paths.Place.{Place}
+use Rattle.md_dirs.specs.declared.paths.Place.TheVariants.{Tmp, New, Cur}
+use Rattle.md_name.specs.Names.{unique_of, is_message_name}
+use Rattle.md_core.specs.Mailbox.{is_message, is_tmp}
+use Rattle.md_core.proofs.Induction.Good.{key_of, bytes_at, IsUnused, HasNoMessage, IsAlone, StageFits, DeliveryFits, MarkingFits, MovingFits, ExpungingFits, CopyingFits, TaskFits, Makes}
+use Rattle.md_core.proofs.Mailbox.Changes.{by_name}
+use Rattle.md_core.specs.declared.jobs.call.Call.{Call}
+use Rattle.md_core.specs.declared.jobs.deliver.Delivery.{Delivery}
+use Rattle.md_core.specs.declared.jobs.deliver.Stage.{Stage}
+use Rattle.md_core.specs.declared.jobs.deliver.Stage.TheVariants.{Start, Writing, Linked, Undo}
+use Rattle.md_core.specs.declared.jobs.expunging.Expunging.{Expunging}
+use Rattle.md_core.specs.declared.jobs.mark.Marking.{Marking}
+use Rattle.md_core.specs.declared.jobs.task.Task.{Task}
+use Rattle.md_core.specs.declared.jobs.copying.Copying.{Copying}
+use Rattle.md_core.specs.declared.jobs.moving.Moving.{Moving}
+use Rattle.md_core.specs.declared.jobs.task.Task.TheVariants.{Deliver, Mark, Move, Expunge, Copy, Clean}
+
+pub message-key : (p : Path) → is_message p ≡ true → key_of p ≡ unique_of p.name
+message-key p m = by p.place m
+  where
+    by : (x : Place) → (not (is_tmp x) && is_message_name p.name) ≡ true → cond (is_tmp x) p.name (unique_of p.name) ≡ unique_of p.name
+    by Tmp h = cc
+    by New h = refl
+    by Cur h = refl
+
+pub tmp-key : (p : Path) → p.place ≡ Tmp → key_of p ≡ p.name
+tmp-key p is = ap (λ (x : Place). cond (is_tmp x) p.name (unique_of p.name)) is
+
+pub not_tmp : (q p : Path) → p.place ≡ Tmp → is_message q ≡ true → q ≢ p
+not_tmp q p in_tmp m is =
+    let no : is_message (record p { place = Tmp }) ≡ true = ap (λ (x : Place). is_message (record p { place = x })) (sym in_tmp) ∙ ap is_message (sym is) ∙ m in
+    cc
+
+pub other_key : (q p : Path) (u : List ℕ) → key_of p ≡ u → key_of q ≢ u → q ≢ p
+other_key q p u is not same = not (ap key_of same ∙ is)
+
+-- only paths of the name v change, and only bytes of their files; a file of such a path is new, or was one's before, or a message's
+pub record Frame (s s' : State) (v : List ℕ) : Type 0 where
+  pub names : (q : Path) → key_of q ≢ v → file_at s' q ≡ file_at s q
+  pub bytes : (q : Path) (m : ℕ) → key_of q ≢ v → file_at s q ≡ Some m → bytes_at s' m ≡ bytes_at s m
+  pub origin : (q : Path) (m : ℕ) → key_of q ≡ v → file_at s' q ≡ Some m → ((r : Path) → file_at s r ≢ Some m) ⊎ ((r : Path) × ((key_of r ≡ v) ⊎ (is_message r ≡ true)) × (file_at s r ≡ Some m))
+
+module _ (s s' : State) (u v : List ℕ) (differ : u ≢ v) (f : Frame s s' v) where
+  mine : (p : Path) → key_of p ≡ u → key_of p ≢ v
+  mine p is other = differ (sym is ∙ other)
+
+  pub unused-frame : IsUnused s u → IsUnused s' u
+  unused-frame h p is = f.names p (mine p is) ∙ h p is
+
+  pub no_message-frame : HasNoMessage s u → HasNoMessage s' u
+  no_message-frame h p m is = f.names p (mine p (message-key p m ∙ is)) ∙ h p m is
+
+  pub alone-frame : (p : Path) (bytes : List ℕ) → p.place ≡ Tmp → key_of p ≡ u → IsAlone s p bytes → IsAlone s' p bytes
+  alone-frame p bytes in_tmp is h = record {
+    holds = λ n there. let before = sym (f.names p (mine p is)) ∙ there in f.bytes p n (mine p is) before ∙ h.holds n before;
+    only = λ n q there at.
+        let before = sym (f.names p (mine p is)) ∙ there in
+        by_name (key_of q) v
+        (λ same. elim (f.origin q n same at) [
+          | inl none ↦ absurd (none p before)
+          | inr one ↦ let itself : one.0 ≡ p = h.only n one.0 before one.2 in elim one.1 [
+            | inl key ↦ absurd (mine p is (ap key_of (sym itself) ∙ key))
+            | inr message ↦ absurd (not_tmp one.0 p in_tmp message itself)
+          ]
+        ])
+        (λ other. h.only n q before (sym (f.names q other) ∙ at));
+  }
+
+-- a delivery of another name
+module _ (s s' : State) (d : Delivery) (v : List ℕ) (differ : d.tmp.name ≢ v) (f : Frame s s' v) where
+  stage-frame : (stage : Stage) → d.tmp.place ≡ Tmp → StageFits s d stage → StageFits s' d stage
+  stage-frame Start place h = unused-frame s s' d.tmp.name v differ f h
+  stage-frame (Writing start k) place h = (
+    h.0,
+    no_message-frame s s' d.tmp.name v differ f h.1,
+    alone-frame s s' d.tmp.name v differ f d.tmp (take k d.body) place (tmp-key d.tmp place) h.2,
+  )
+  stage-frame Linked place h = tt
+  stage-frame (Undo a) place h = (no_message-frame s s' d.tmp.name v differ f h.0, h.1)
+
+  pub delivery-frame : (asked : Call) → s'.folders ≡ s.folders → DeliveryFits s asked d → DeliveryFits s' asked d
+  delivery-frame asked folders h = record {
+    of = h.of;
+    in_tmp = h.in_tmp;
+    in_folder = subst (λ (n : ℕ). d.tmp.folder < n) (sym folders) h.in_folder;
+    name = h.name;
+    chunked = h.chunked;
+    stage = stage-frame d.stage h.in_tmp h.stage;
+  }
+
+-- no path uses the name, so no message has it
+pub unused-no_message : (s : State) (u : List ℕ) → IsUnused s u → HasNoMessage s u
+unused-no_message s u unused p message is = unused p (message-key p message ∙ is)
+
+-- a delivery of any name, where a message has the name whose paths change
+module _ (s s' : State) (d : Delivery) (v : List ℕ) (f : Frame s s' v) (some : HasNoMessage s v → ⊥) where
+  other : HasNoMessage s d.tmp.name → d.tmp.name ≢ v
+  other none is = some (subst (HasNoMessage s) is none)
+
+  stage-stays : (stage : Stage) → d.tmp.place ≡ Tmp → StageFits s d stage → StageFits s' d stage
+  stage-stays Start place h = stage-frame s s' d v (other (unused-no_message s d.tmp.name h)) f Start place h
+  stage-stays (Writing start k) place h = stage-frame s s' d v (other h.1) f (Writing start k) place h
+  stage-stays Linked place h = tt
+  stage-stays (Undo a) place h = stage-frame s s' d v (other h.0) f (Undo a) place h
+
+  pub delivery-stays : (asked : Call) → s'.folders ≡ s.folders → DeliveryFits s asked d → DeliveryFits s' asked d
+  delivery-stays asked folders h = record {
+    of = h.of;
+    in_tmp = h.in_tmp;
+    in_folder = subst (λ (n : ℕ). d.tmp.folder < n) (sym folders) h.in_folder;
+    name = h.name;
+    chunked = h.chunked;
+    stage = stage-stays d.stage h.in_tmp h.stage;
+  }
+
+-- a move, whatever changes
+pub moving-stays : (s s' : State) (m : Moving) (asked : Call) → s'.folders ≡ s.folders → MovingFits s asked m → MovingFits s' asked m
+moving-stays s s' m asked folders h = record {
+  tries = h.tries;
+  of = h.of;
+  in_folder = subst (λ (n : ℕ). m.folder < n) (sym folders) h.in_folder;
+  to_folder = subst (λ (n : ℕ). m.to < n) (sym folders) h.to_folder;
+  differ = h.differ;
+  valid = h.valid;
+  stage = h.stage;
+}
+
+-- an expunge, whatever changes
+expunging-stays : (s s' : State) (x : Expunging) (asked : Call) → s'.folders ≡ s.folders → ExpungingFits s asked x → ExpungingFits s' asked x
+expunging-stays s s' x asked folders h = record {
+  tries = h.tries;
+  of = h.of;
+  in_folder = subst (λ (n : ℕ). x.folder < n) (sym folders) h.in_folder;
+  valid = h.valid;
+  stage = h.stage;
+}
+
+-- a copy, where its fresh name has no message still
+pub copying-refit : (s s' : State) (c : Copying) (asked : Call) → s'.folders ≡ s.folders → (HasNoMessage s c.fresh → HasNoMessage s' c.fresh) → CopyingFits s asked c → CopyingFits s' asked c
+copying-refit s s' c asked folders none h = record {
+  tries = h.tries;
+  of = h.of;
+  in_folder = subst (λ (n : ℕ). c.folder < n) (sym folders) h.in_folder;
+  to_folder = subst (λ (n : ℕ). c.to < n) (sym folders) h.to_folder;
+  valid = h.valid;
+  fresh = h.fresh;
+  none = none h.none;
+  stage = h.stage;
+}
+
+-- the fresh name of a copy is one that its call makes
+pub makes-copy : (s : State) (asked : Call) (c : Copying) → CopyingFits s asked c → Makes asked c.fresh
+makes-copy s asked c fits = subst (λ (x : Call). Makes x c.fresh) (sym fits.of) refl
+
+-- the name of a delivery is one that its call makes
+pub makes-delivery : (s : State) (asked : Call) (d : Delivery) → DeliveryFits s asked d → Makes asked d.tmp.name
+makes-delivery s asked d fits = subst (λ (c : Call). Makes c d.tmp.name) (sym fits.of) refl
+
+-- a marking asks nothing of directories but its folder
+marking-frame : (s s' : State) → s'.folders ≡ s.folders → (asked : Call) (m : Marking) → MarkingFits s asked m → MarkingFits s' asked m
+marking-frame s s' folders asked m h = record {
+  tries = h.tries;
+  of = h.of;
+  in_folder = subst (λ (n : ℕ). m.folder < n) (sym folders) h.in_folder;
+  valid = h.valid;
+  stage = h.stage;
+}
+
+-- a task of a call that doesn't make the name
+pub task-frame : (s s' : State) (v : List ℕ) → Frame s s' v → s'.folders ≡ s.folders → (asked : Call) (task : Task) → (Makes asked v → ⊥) → TaskFits s asked task → TaskFits s' asked task
+task-frame s s' v f folders asked (Deliver d) apart h =
+    delivery-frame s s' d v (λ is. apart (subst (Makes asked) is (makes-delivery s asked d h))) f asked folders h
+task-frame s s' v f folders asked (Move m) apart h = moving-stays s s' m asked folders h
+task-frame s s' v f folders asked (Expunge x) apart h = expunging-stays s s' x asked folders h
+task-frame s s' v f folders asked (Copy c) apart h =
+    copying-refit s s' c asked folders (no_message-frame s s' c.fresh v (λ is. apart (subst (Makes asked) is (makes-copy s asked c h))) f) h
+task-frame s s' v f folders asked (Clean c) apart h = h
+task-frame s s' v f folders asked (Mark m) apart h = marking-frame s s' folders asked m h
+
+-- a task of any call, where a message has the name
+pub task-stays : (s s' : State) (v : List ℕ) → Frame s s' v → s'.folders ≡ s.folders → (HasNoMessage s v → ⊥) → (asked : Call) (task : Task) → TaskFits s asked task → TaskFits s' asked task
+task-stays s s' v f folders some asked (Deliver d) h = delivery-stays s s' d v f some asked folders h
+task-stays s s' v f folders some asked (Move m) h = moving-stays s s' m asked folders h
+task-stays s s' v f folders some asked (Expunge x) h = expunging-stays s s' x asked folders h
+task-stays s s' v f folders some asked (Copy c) h =
+    copying-refit s s' c asked folders (λ none. no_message-frame s s' c.fresh v (λ is. some (subst (HasNoMessage s) is none)) f none) h
+task-stays s s' v f folders some asked (Clean c) h = h
+task-stays s s' v f folders some asked (Mark m) h = marking-frame s s' folders asked m h
+
+-- names alone go, and files with the last of theirs
+pub record Shrinks (s s' : State) : Type 0 where
+  pub folders : s'.folders ≡ s.folders
+  pub names : (q : Path) (n : ℕ) → file_at s' q ≡ Some n → file_at s q ≡ Some n
+  pub bytes : (q : Path) (n : ℕ) → file_at s' q ≡ Some n → bytes_at s' n ≡ bytes_at s n
+
+module _ (s s' : State) (h : Shrinks s s') where
+  none-shrinks : (q : Path) → file_at s q ≡ None → file_at s' q ≡ None
+  none-shrinks q none = by (file_at s' q) refl
+    where
+      by : (o : Option ℕ) → file_at s' q ≡ o → file_at s' q ≡ None
+      by None is = is
+      by (Some n) is = let before = h.names q n is in cc
+
+  no_message-shrinks : (u : List ℕ) → HasNoMessage s u → HasNoMessage s' u
+  no_message-shrinks u none p message is = none-shrinks p (none p message is)
+
+  stage-shrinks : (d : Delivery) (stage : Stage) → StageFits s d stage → StageFits s' d stage
+  stage-shrinks d Start fits = λ p is. none-shrinks p (fits p is)
+  stage-shrinks d (Writing start k) fits = (
+    fits.0,
+    no_message-shrinks d.tmp.name fits.1,
+    record {
+      holds = λ n there. h.bytes d.tmp n there ∙ fits.2.holds n (h.names d.tmp n there);
+      only = λ n q there at. fits.2.only n q (h.names d.tmp n there) (h.names q n at);
+    },
+  )
+  stage-shrinks d Linked fits = tt
+  stage-shrinks d (Undo a) fits = (no_message-shrinks d.tmp.name fits.0, fits.1)
+
+  -- a task of any call
+  pub task-shrinks : (asked : Call) (task : Task) → TaskFits s asked task → TaskFits s' asked task
+  task-shrinks asked (Deliver d) fits = record {
+    of = fits.of;
+    in_tmp = fits.in_tmp;
+    in_folder = subst (λ (n : ℕ). d.tmp.folder < n) (sym h.folders) fits.in_folder;
+    name = fits.name;
+    chunked = fits.chunked;
+    stage = stage-shrinks d d.stage fits.stage;
+  }
+  task-shrinks asked (Mark m) fits = marking-frame s s' h.folders asked m fits
+  task-shrinks asked (Move m) fits = moving-stays s s' m asked h.folders fits
+  task-shrinks asked (Expunge x) fits = expunging-stays s s' x asked h.folders fits
+  task-shrinks asked (Copy c) fits = copying-refit s s' c asked h.folders (no_message-shrinks c.fresh) fits
+  task-shrinks asked (Clean c) fits = fits

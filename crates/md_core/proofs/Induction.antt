@@ -1,0 +1,5 @@
+pub mod Good
+pub mod Knowing
+pub mod Going
+pub mod Keeping
+pub mod GoodRuns

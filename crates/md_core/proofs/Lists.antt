@@ -1,0 +1,4 @@
+pub mod Found
+pub mod Members
+pub mod Places
+pub mod Pieces

@@ -1,0 +1,6 @@
+pub mod Shown
+pub mod Changes
+pub mod Naming
+pub mod Renamed
+pub mod WholeName
+pub mod Wholeness

@@ -1,0 +1,85 @@
+-- One event: which job it is of, where it is refused, and that it would go the same with one more job.
+use Rattle.std.proofs.Common.{ℕ, zero, suc, ◌≡◌, ◌<◌, ◌≤◌, ◌-◌, ◌++◌, ◌↔◌, List, [], ◌∷◌, Option, Some, None, refl, sym, ap, ◌∙◌, length, slice_get, arith}
+use Rattle.std.specs.Option.{option_map}
+use Rattle.std.proofs.lemmas.Option.{slice_get_within, slice_get_past}
+use Rattle.md_core.specs.declared.jobs.step.DirReply.{DirReply}
+use Rattle.md_core.specs.declared.jobs.step.Moment.{Moment}
+use Rattle.md_core.specs.declared.jobs.task.Task.{Task}
+use Rattle.md_core.specs.Turn.{Turn, rows_for}
+use Rattle.md_core.specs.Machine.{Machine, Standing, working, answered, Marked, job_at, task_of, turn_of, moment_of, standing_of, taken, replied, met, happens, done, done_by}
+use Rattle.md_core.specs.Runs.{step_refusal}
+use Rattle.md_core.proofs.Lists.Places.{get-more, set-more}
+
+-- numbers are places from 1 on
+pub job_at-place : (jobs : List Standing) (number : ℕ) → 0 < number → job_at jobs number ≡ slice_get jobs (number - 1)
+job_at-place jobs zero h = absurd (omega arith)
+job_at-place jobs (suc i) h = let e : i ≡ suc i - 1 = omega arith in ap (slice_get jobs) e
+
+pub job_at-within : (jobs : List Standing) (number : ℕ) (job : Standing) → job_at jobs number ≡ Some job → (0 < number) × (number ≤ length jobs)
+job_at-within jobs zero job is = cc
+job_at-within jobs (suc i) job is = let h = slice_get_within jobs i job is in (omega arith, omega arith)
+
+-- there is no job 0, and none past the last
+pub job_at-none : (jobs : List Standing) (number : ℕ) → (0 < number → length jobs < number) → job_at jobs number ≡ None
+job_at-none jobs zero h = refl
+job_at-none jobs (suc i) h = let past : length jobs ≤ i = (let more : length jobs < suc i = h (omega arith) in omega arith) in slice_get_past jobs i past
+
+-- an event goes on exactly where its job is there and has no answer
+pub goes_on-exact : (o : Option Standing) → (step_refusal o ≡ None) ↔ ((task : Task) × (o ≡ Some (working task)))
+goes_on-exact None = (λ h. cc, λ h. cc)
+goes_on-exact (Some (working task)) = (λ h. (task, refl), λ h. refl)
+goes_on-exact (Some (answered a)) = (λ h. cc, λ h. cc)
+
+-- of a job that is there and has no answer, an event is its turn
+module _ (m : Machine) (e : Marked) (task : Task) (is : job_at m.jobs e.event.job ≡ Some (working task)) where
+  abbrev pub at : Moment
+  at = moment_of m.clock e.event
+
+  abbrev pub turn : Turn Task
+  turn = turn_of e.event.job task at
+
+  pub happens-turned : happens m e ≡ taken m e.event.job at turn (replied m at turn e.faulted)
+  happens-turned = ap (λ o. met m e (task_of o)) is
+
+  pub done-turned : done m e ≡ Some (done_by m e task)
+  done-turned = ap (λ o. option_map (done_by m e) (task_of o)) is
+
+-- a machine with one more job
+abbrev pub with_job : Machine → Standing → Machine
+with_job m new = record { dirs = m.dirs; clock = m.clock; jobs = m.jobs ++ new ∷ []; effects = m.effects }
+
+pub job_at-more : (jobs more : List Standing) (number : ℕ) (job : Standing) → job_at jobs number ≡ Some job → job_at (jobs ++ more) number ≡ Some job
+job_at-more jobs more zero job is = cc
+job_at-more jobs more (suc i) job is = get-more jobs more i job is
+
+-- what happens to a job that was there would happen with one more job too
+module _ (m : Machine) (new job : Standing) (e : Marked) (at : job_at m.jobs e.event.job ≡ Some job) where
+  abbrev n : ℕ
+  n = e.event.job
+
+  within : n - 1 < length m.jobs
+  within = let h = job_at-within m.jobs n job at in omega (arith, h.0, h.1)
+
+  taken-with_job : (moment : Moment) (turn : Turn Task) (r : DirReply) → taken (with_job m new) n moment turn r ≡ with_job (taken m n moment turn r) new
+  taken-with_job moment turn r =
+      let after = turn.follows r (rows_for turn.asked m.dirs) in
+      λ i. record {
+        dirs = (taken m n moment turn r).dirs;
+        clock = moment.clock;
+        jobs = set-more m.jobs new (n - 1) (standing_of after.task after.answer) within i;
+        effects = (taken m n moment turn r).effects;
+      }
+
+  met-with_job : (o : Option Task) → met (with_job m new) e o ≡ with_job (met m e o) new
+  met-with_job None = refl
+  met-with_job (Some task) = let moment = moment_of m.clock e.event in let turn = turn_of n task moment in taken-with_job moment turn (replied m moment turn e.faulted)
+
+  pub happens-with_job : happens (with_job m new) e ≡ with_job (happens m e) new
+  happens-with_job =
+      ap (λ o. met (with_job m new) e (task_of o)) (job_at-more m.jobs (new ∷ []) n job at)
+      ∙ met-with_job (task_of (Some job))
+      ∙ ap (λ (x : Machine). with_job x new) (sym (ap (λ o. met m e (task_of o)) at))
+
+  -- and it does the same
+  pub done-with_job : done (with_job m new) e ≡ done m e
+  done-with_job = ap (λ o. option_map (done_by m e) (task_of o)) (job_at-more m.jobs (new ∷ []) n job at) ∙ sym (ap (λ o. option_map (done_by m e) (task_of o)) at)

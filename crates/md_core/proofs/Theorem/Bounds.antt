@@ -1,0 +1,256 @@
+-- The steps of a job and those left are never more than at its first step, and each step leaves less.
+use Rattle.std.proofs.Common.{ℕ, zero, suc, ◌≡◌, ◌≢◌, ◌<◌, ◌≤◌, ◌+◌, ◌++◌, ◌⊎◌, inl, inr, List, [], ◌∷◌, Option, Some, None, true, false, cond, MatchOption, refl, ◌↔◌, sym, ap, subst, ◌∙◌, length, take, slice_get, arith, ◌==◌}
+use Rattle.std.specs.List.{position_or_len}
+use Rattle.std.specs.Prelude.{count_by}
+use Rattle.std.proofs.lemmas.Bool.Decides.{nat_tests}
+use Rattle.std.proofs.lemmas.List.{take_all, take-append-le}
+use Rattle.std.proofs.lemmas.List.Sums.{sum_by-append}
+use Rattle.md_dirs.specs.State.{State}
+use Rattle.md_core.specs.declared.jobs.answer.Answer.{Answer}
+use Rattle.md_core.specs.declared.jobs.call.Call.{Call}
+use Rattle.md_core.specs.declared.jobs.deliver.Stage.{Stage}
+use Rattle.md_core.specs.declared.jobs.deliver.Stage.TheVariants.{Start, Writing, Linked, Undo}
+use Rattle.md_core.specs.declared.jobs.task.Task.{Task}
+use Rattle.md_core.specs.declared.jobs.cleaning.Stage as cleaning
+use Rattle.md_core.specs.declared.jobs.cleaning.Stage.TheVariants as cleaning_stage
+use Rattle.md_core.specs.declared.jobs.expunging.Stage as expunging
+use Rattle.md_core.specs.declared.jobs.expunging.Stage.TheVariants as expunging_stage
+use Rattle.md_core.specs.declared.jobs.mark.Stage as marking
+use Rattle.md_core.specs.declared.jobs.mark.Stage.TheVariants.{Look, Act}
+use Rattle.md_core.specs.declared.jobs.task.Task.TheVariants.{Deliver, Mark, Move, Expunge, Copy, Clean}
+use Rattle.md_core.specs.Machines.Deliver.{stage_left}
+use Rattle.md_core.specs.Machines.Mark as marked_by
+use Rattle.md_core.specs.Machines.Expunge as expunged_by
+use Rattle.md_core.specs.Machines.Clean as cleaned_by
+use Rattle.md_core.specs.Machine.{Machine, Standing, working, answered, Marked, Done, job_at, job_left, task_left, standing_of, new_job, happens, done_by}
+use Rattle.md_core.specs.Runs.{Run, beginning, run_from, machine_of, dirs_of, jobs_of, and_event, step_refusal, steps_left, left_of, call_at, dirs_at_first}
+use Rattle.md_core.specs.Interleaving.{IsRun, steps_of}
+use Rattle.md_core.proofs.Induction.Good.{EachTurn, IsGood, IsFixed}
+use Rattle.md_core.proofs.Runs.Events.{goes_on-exact}
+use Rattle.md_core.proofs.Induction.Keeping.{good-kept}
+use Rattle.md_core.proofs.Lists.Places.{none-of_kind, some-of_kind, first-of_kind}
+use Rattle.md_core.proofs.Runs.ByEvent.{at_last, machine-and_event, run_from-none, run_from-more_event}
+use Rattle.md_core.proofs.Induction.Going.{Goes, goes, goes-cases, goes-here, goes-others}
+use Rattle.md_core.proofs.Induction.GoodRuns.{new_at, all-apart, good-beginning, good-machine}
+use Rattle.md_core.proofs.Looking.Search.{some-left}
+
+-- a turn leaves less to its job
+pub nearer : (calls : List Call) (m m' : Machine) (what : Done) (g : Goes calls m m' what) → job_left m'.dirs (standing_of g.task' what.answer) < task_left m.dirs g.task
+nearer calls m m' what g = by what.answer g.does.nearer
+  where
+    by : (a : Option Answer) → MatchOption a (task_left m'.dirs g.task' < task_left m.dirs g.task) (λ _. 0 < task_left m.dirs g.task) → job_left m'.dirs (standing_of g.task' a) < task_left m.dirs g.task
+    by None less = less
+    by (Some a) some = some
+
+-- how many steps are left to a job, whatever others do to the directories
+abbrev StaysFixed : Standing → Type 0
+StaysFixed job = (s s' : State) → job_left s job ≡ job_left s' job
+
+-- a job that took its turn
+fixed-then : (calls : List Call) (m m' : Machine) (what : Done) (g : Goes calls m m' what) → StaysFixed (standing_of g.task' what.answer)
+fixed-then calls m m' what g = by what.answer g.does.fixed
+  where
+    by : (a : Option Answer) → (a ≡ None → IsFixed g.task') → StaysFixed (standing_of g.task' a)
+    by None fixed = fixed refl
+    by (Some a) fixed = λ s s'. refl
+
+-- something is left to each task
+pub left-some : (s : State) (task : Task) → 0 < task_left s task
+left-some s (Deliver d) = by d.stage
+  where
+    by : (stage : Stage) → 0 < stage_left d stage
+    by Start = omega arith
+    by (Writing start k) = omega arith
+    by Linked = omega arith
+    by (Undo a) = omega arith
+left-some s (Move m) = some-left m.stage
+left-some s (Copy c) = some-left c.stage
+left-some s (Expunge x) = by x.stage
+  where
+    by : (stage : expunging.Stage) → 0 < expunged_by.stage_left stage
+    by (expunging_stage.Look tries) = omega arith
+    by (expunging_stage.Act name tries) = omega arith
+left-some s (Mark m) = by m.stage
+  where
+    by : (stage : marking.Stage) → 0 < marked_by.stage_left stage
+    by (Look tries) = omega arith
+    by (Act name flags tries) = omega arith
+left-some s (Clean c) = by c.stage
+  where
+    by : (stage : cleaning.Stage) → 0 < cleaned_by.stage_left s c.folder stage
+    by cleaning_stage.Look = omega arith
+    by (cleaning_stage.Remove name rest files) = omega arith
+
+-- a step is refused exactly where nothing is left
+pub left-exact : (s : State) (o : Option Standing) → (step_refusal o ≡ None) ↔ (0 < left_of s o)
+left-exact s None = (λ h. cc, λ h. absurd (omega arith))
+left-exact s (Some (working task)) = (λ h. left-some s task, λ h. refl)
+left-exact s (Some (answered a)) = (λ h. cc, λ h. absurd (omega arith))
+
+-- how many events are of a job, with one more
+abbrev of_job : ℕ → List Marked → ℕ
+of_job number es = count_by (λ (e : Marked). e.event.job == number) es
+
+of_job-same : (number : ℕ) (es : List Marked) (e : Marked) → e.event.job ≡ number → of_job number (es ++ e ∷ []) ≡ of_job number es + 1
+of_job-same number es e is =
+    let yes : (e.event.job == number) ≡ true = grind (arith, nat_tests) in
+    let one : cond {A = ℕ} (e.event.job == number) 1 0 ≡ 1 = ap (λ b. cond b 1 0) yes in
+    let split = sum_by-append (λ (x : Marked). cond (x.event.job == number) 1 0) es (e ∷ []) in
+    omega (arith, one, split)
+
+of_job-other : (number : ℕ) (es : List Marked) (e : Marked) → e.event.job ≢ number → of_job number (es ++ e ∷ []) ≡ of_job number es
+of_job-other number es e differ =
+    let no : (e.event.job == number) ≡ false = grind (arith, nat_tests) in
+    let none : cond {A = ℕ} (e.event.job == number) 1 0 ≡ 0 = ap (λ b. cond b 1 0) no in
+    let split = sum_by-append (λ (x : Marked). cond (x.event.job == number) 1 0) es (e ∷ []) in
+    omega (arith, none, split)
+
+-- the directories before the first of these events that is of a job, or behind all of them
+module _ (r : Run) where
+  abbrev from : Machine
+  from = beginning r.image r.calls
+
+  abbrev at_first : ℕ → List Marked → State
+  at_first number es = dirs_at_first (record r { events = es }) number
+
+  first-none : (number : ℕ) (es : List Marked) → of_job number es ≡ 0 → at_first number es ≡ (run_from from es).dirs
+  first-none number es none = ap (λ (fs : List Marked). (run_from from fs).dirs)
+      (ap (λ n. take n es) (none-of_kind (λ (e : Marked). e.event.job == number) es none) ∙ take_all (length es) es (omega arith))
+
+  first-own : (number : ℕ) (es : List Marked) (e : Marked) → of_job number es ≡ 0 → e.event.job ≡ number → at_first number (es ++ e ∷ []) ≡ (run_from from es).dirs
+  first-own number es e none is =
+      let yes : (e.event.job == number) ≡ true = grind (arith, nat_tests) in
+      ap (λ (fs : List Marked). (run_from from fs).dirs)
+      (ap (λ n. take n (es ++ e ∷ [])) (first-of_kind (λ (e : Marked). e.event.job == number) es e none yes)
+      ∙ take-append-le (length es) es (e ∷ []) (omega arith) ∙ take_all (length es) es (omega arith))
+
+  first-kept : (number : ℕ) (es : List Marked) (e : Marked) → 0 < of_job number es → at_first number (es ++ e ∷ []) ≡ at_first number es
+  first-kept number es e some =
+      let k = some-of_kind (λ (e : Marked). e.event.job == number) es e some in
+      ap (λ (fs : List Marked). (run_from from fs).dirs)
+      (ap (λ n. take n (es ++ e ∷ [])) k.0 ∙ take-append-le (position_or_len (λ (e : Marked). e.event.job == number) es) es (e ∷ []) k.1)
+
+  -- a job that has taken no step is new
+  abbrev IsNew : List Marked → ℕ → Standing → Call → Type 0
+  IsNew es number job asked = (of_job number es ≡ 0) × (job ≡ new_job asked)
+
+  -- and one that has is bound by the directories before its first, and is fixed
+  record IsBegun (es : List Marked) (m : Machine) (number : ℕ) (job : Standing) (asked : Call) : Type 0 where
+    some : 0 < of_job number es
+    fixed : StaysFixed job
+    bounded : of_job number es + job_left m.dirs job ≤ job_left (at_first number es) (new_job asked)
+
+  abbrev Bounded : List Marked → Machine → Type 0
+  Bounded es m = (j : ℕ) (job : Standing) (asked : Call) → slice_get m.jobs j ≡ Some job → slice_get r.calls j ≡ Some asked →
+      IsNew es (suc j) job asked ⊎ IsBegun es m (suc j) job asked
+
+  bounded-start : Bounded [] from
+  bounded-start j job asked at of =
+      let new = new_at r.calls j job at in
+      let is : new.0 ≡ asked = (let e : Some new.0 ≡ Some asked = sym new.1 ∙ of in cc) in
+      inl (refl, new.2 ∙ ap new_job is)
+
+  module _ (es : List Marked) (m m' : Machine) (e : Marked) (what : Done) (is_job : what.job ≡ e.event.job) (now : m ≡ run_from from es) (g : Goes r.calls m m' what) where
+    -- the job that took its turn
+    own-more : (j : ℕ) (job : Standing) (asked : Call) → suc j ≡ e.event.job → job ≡ standing_of g.task' what.answer →
+        IsNew es (suc j) (working g.task) asked ⊎ IsBegun es m (suc j) (working g.task) asked → IsBegun (es ++ e ∷ []) m' (suc j) job asked
+    own-more j job asked number is before =
+        let count = of_job-same (suc j) es e (sym number) in
+        let less = nearer r.calls m m' what g in
+        let left : job_left m'.dirs job ≡ job_left m'.dirs (standing_of g.task' what.answer) = ap (job_left m'.dirs) is in
+        record {
+          some = omega (arith, count);
+          fixed = subst StaysFixed (sym is) (fixed-then r.calls m m' what g);
+          bounded = elim before [
+            | inl new ↦
+                let whole : task_left m.dirs g.task ≡ job_left m.dirs (new_job asked) = ap (job_left m.dirs) new.1 in
+                let at : at_first (suc j) (es ++ e ∷ []) ≡ m.dirs = first-own (suc j) es e new.0 (sym number) ∙ ap (λ (x : Machine). x.dirs) (sym now) in
+                let same : job_left (at_first (suc j) (es ++ e ∷ [])) (new_job asked) ≡ job_left m.dirs (new_job asked) = ap (λ (s : State). job_left s (new_job asked)) at in
+                let none = new.0 in
+                omega (arith, count, less, left, whole, same, none)
+            | inr begun ↦
+                let same : job_left (at_first (suc j) (es ++ e ∷ [])) (new_job asked) ≡ job_left (at_first (suc j) es) (new_job asked) = ap (λ (s : State). job_left s (new_job asked)) (first-kept (suc j) es e begun.some) in
+                let bound = begun.bounded in
+                omega (arith, count, less, left, same, bound)
+          ];
+        }
+
+    -- another
+    other-more : (j : ℕ) (job : Standing) (asked : Call) → suc j ≢ e.event.job → IsNew es (suc j) job asked ⊎ IsBegun es m (suc j) job asked →
+        IsNew (es ++ e ∷ []) (suc j) job asked ⊎ IsBegun (es ++ e ∷ []) m' (suc j) job asked
+    other-more j job asked differ before =
+        let count = of_job-other (suc j) es e (λ is. differ (sym is)) in
+        elim before [
+          | inl new ↦ inl (count ∙ new.0, new.1)
+          | inr begun ↦
+              let some = begun.some in
+              let bound = begun.bounded in
+              let left = begun.fixed m'.dirs m.dirs in
+              let same : job_left (at_first (suc j) (es ++ e ∷ [])) (new_job asked) ≡ job_left (at_first (suc j) es) (new_job asked) = ap (λ (s : State). job_left s (new_job asked)) (first-kept (suc j) es e some) in
+              inr (record { some = omega (arith, count, some); fixed = begun.fixed; bounded = omega (arith, count, bound, left, same) })
+        ]
+
+    bounded-more : Bounded es m → Bounded (es ++ e ∷ []) m'
+    bounded-more bounded j job asked at of = goes-cases r.calls m m' what g j job at
+        (λ same is. inr (own-more j job asked (ap suc same ∙ sym g.number_is ∙ is_job) is (bounded j (working g.task) asked (ap (slice_get m.jobs) same ∙ g.there) of)))
+        (λ differ was. other-more j job asked (λ is. differ (let h : suc g.place ≡ suc j = sym g.number_is ∙ is_job ∙ sym is in omega arith)) (bounded j job asked was of))
+
+module _ (r : Run) (run : IsRun r) (turns : EachTurn) where
+  -- all is good and bounded behind these events
+  record IsThere (es : List Marked) (m : Machine) : Type 0 where
+    now : m ≡ run_from (beginning r.image r.calls) es
+    good : IsGood r.calls m
+    bounded : Bounded r es m
+
+  there-more : (es : List Marked) (m : Machine) (e : Marked) (task : Task) → job_at m.jobs e.event.job ≡ Some (working task) → IsThere es m → IsThere (es ++ e ∷ []) (happens m e)
+  there-more es m e task at was =
+      let g = goes turns r.calls m e task was.good at in
+      record {
+        now = ap (λ (x : Machine). happens x e) was.now ∙ sym (run_from-more_event (beginning r.image r.calls) es e);
+        good = good-kept r.calls (all-apart r run) m (happens m e) (done_by m e task) g was.good;
+        bounded = bounded-more r es m (happens m e) e (done_by m e task) refl was.now g was.bounded;
+      }
+
+  there : IsThere r.events (machine_of r)
+  there = at_last r run IsThere (record { now = sym (run_from-none (beginning r.image r.calls)); good = good-beginning r run; bounded = bounded-start r }) there-more
+
+  pub bounded-machine : (number : ℕ) (asked : Call) (job : Standing) → call_at r.calls number ≡ Some asked → job_at (jobs_of r) number ≡ Some job →
+      steps_of r number + job_left (dirs_of r) job ≤ job_left (dirs_at_first r number) (new_job asked)
+  bounded-machine zero asked job from at = cc
+  bounded-machine (suc j) asked job from at = elim (there.bounded j job asked at from) [
+    | inl new ↦
+        let none = new.0 in
+        let left : job_left (dirs_of r) job ≡ job_left (dirs_of r) (new_job asked) = ap (job_left (dirs_of r)) new.1 in
+        let same : job_left (dirs_at_first r (suc j)) (new_job asked) ≡ job_left (dirs_of r) (new_job asked) = ap (λ (s : State). job_left s (new_job asked)) (first-none r (suc j) r.events none) in
+        omega (arith, none, left, same)
+    | inr begun ↦ begun.bounded
+  ]
+
+  -- one more event of a job leaves less to it, and each other job as it was
+  module _ (e : Marked) (goes_on : step_refusal (job_at (jobs_of r) e.event.job) ≡ None) where
+    waits : (task : Task) × (job_at (jobs_of r) e.event.job ≡ Some (working task))
+    waits = (goes_on-exact (job_at (jobs_of r) e.event.job)).0 goes_on
+
+    abbrev what : Done
+    what = done_by (machine_of r) e waits.0
+
+    going : Goes r.calls (machine_of r) (happens (machine_of r) e) what
+    going = goes turns r.calls (machine_of r) e waits.0 (good-machine r run turns) waits.1
+
+    after-is : (number : ℕ) → steps_left (and_event r e) number ≡ left_of (happens (machine_of r) e).dirs (job_at (happens (machine_of r) e).jobs number)
+    after-is number = ap (λ (m : Machine). left_of m.dirs (job_at m.jobs number)) (machine-and_event r e)
+
+    pub steps_left-less : steps_left (and_event r e) e.event.job < steps_left r e.event.job
+    steps_left-less =
+        let m' = happens (machine_of r) e in
+        let after = after-is e.event.job ∙ ap (λ n. left_of m'.dirs (job_at m'.jobs n)) going.number_is ∙ ap (left_of m'.dirs) (goes-here r.calls (machine_of r) m' what going) in
+        let before : steps_left r e.event.job ≡ task_left (dirs_of r) going.task = ap (λ n. left_of (dirs_of r) (job_at (jobs_of r) n)) going.number_is ∙ ap (left_of (dirs_of r)) going.there in
+        let less = nearer r.calls (machine_of r) m' what going in
+        omega (arith, after, before, less)
+
+    pub jobs-same : (number : ℕ) → number ≢ e.event.job → job_at (jobs_of (and_event r e)) number ≡ job_at (jobs_of r) number
+    jobs-same number differ = ap (λ (m : Machine). job_at m.jobs number) (machine-and_event r e) ∙ by number differ
+      where
+        by : (n : ℕ) → n ≢ e.event.job → job_at (happens (machine_of r) e).jobs n ≡ job_at (jobs_of r) n
+        by zero differ = refl
+        by (suc j) differ = goes-others r.calls (machine_of r) (happens (machine_of r) e) what going j (λ same. differ (ap suc same ∙ sym going.number_is))

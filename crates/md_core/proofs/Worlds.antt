@@ -1,0 +1,9 @@
+pub mod NoMemory
+pub mod UsedLemmas
+pub mod Accepted
+pub mod Loading
+pub mod Checking
+pub mod Submitted
+pub mod Stepping
+pub mod Steps
+pub mod Taking
