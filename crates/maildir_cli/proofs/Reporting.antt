@@ -25,7 +25,8 @@ unfolding answers_text
 answers-none jobs start = sym (append-nil start)
 
 -- a text with the answers of the first jobs, and the line of the next
-pub more-answers : (jobs : List Standing) (n : ℕ) (start before after : List ℕ) (a : Answer) → before ≡ start ++ answers_text jobs n → answer_of (job_at jobs (n + 1)) ≡ Some a
+pub more-answers : (jobs : List Standing) (n : ℕ) (start before after : List ℕ) (a : Answer) → before ≡ start ++ answers_text jobs n →
+    answer_of (job_at jobs (n + 1)) ≡ Some a
     → after ≡ before ++ answer_line (n + 1) (Some a) → after ≡ start ++ answers_text jobs (n + 1)
 more-answers jobs n start before after a is has added =
     added
@@ -42,12 +43,14 @@ below-next P (suc n) below here zero within = below zero (omega arith)
 below-next P (suc n) below here (suc k) within = below-next (λ j. P (suc j)) n (λ j inside. below (suc j) (omega arith)) here k (omega arith)
 
 -- one more job has its answer
-pub more-answered : (jobs : List Standing) (n : ℕ) (a : Answer) → ((k : ℕ) → k < n → is_some (answer_of (job_at jobs (k + 1))) ≡ true) → answer_of (job_at jobs (n + 1)) ≡ Some a
+pub more-answered : (jobs : List Standing) (n : ℕ) (a : Answer) → ((k : ℕ) → k < n → is_some (answer_of (job_at jobs (k + 1))) ≡ true) →
+    answer_of (job_at jobs (n + 1)) ≡ Some a
     → (k : ℕ) → k < n + 1 → is_some (answer_of (job_at jobs (k + 1))) ≡ true
 more-answered jobs n a below has = below-next (λ k. is_some (answer_of (job_at jobs (k + 1))) ≡ true) n below (ap is_some has)
 
 -- the report of an interleaving, where it is one once each job has its answer
-pub reported : (names : List (List ℕ)) (begun r : Run) (result : Result (Vec ℕ) AllocError) → (AllAnswered r → Interleaving begun r) → OnOk result (AllAnswered r)
+pub reported : (names : List (List ℕ)) (begun r : Run) (result : Result (Vec ℕ) AllocError) → (AllAnswered r → Interleaving begun r) →
+    OnOk result (AllAnswered r)
     → IfOk result (λ text. text.items ≡ report_of names r) → IfOk result (λ text. (x : Run) × Interleaving begun x × (text.items ≡ report_of names x))
 reported names begun r (Ok text) ends answered is = (r, ends answered, is)
 reported names begun r (Err e) ends answered is = tt
@@ -59,7 +62,8 @@ stopped script NoReader is = tt
 stopped script Closed is = tt
 
 -- a script of which there is no report
-pub unreported : (old new : Source) (before after : Sink) (script : List ℕ) (fault : RunFault) → IsUnreported script fault → IsWhole old new script → Untouched before after
+pub unreported : (old new : Source) (before after : Sink) (script : List ℕ) (fault : RunFault) → IsUnreported script fault → IsWhole old new script →
+    Untouched before after
     → RunsThreads old new before after (Err fault)
 unreported old new before after script (Play e) (inl memory) whole unwritten =
     subst (λ (x : PlayError). RunsThreads old new before after (Err (Play x))) (sym memory) (inr (refl, (unwritten, whole.sound)))

@@ -18,7 +18,8 @@ use Rattle.md_script.specs.Sessions.{unless_refused, image_of, opened}
 use Rattle.maildir_cli.specs.Begun.{submitted_all}
 
 -- what is done unless it is refused, and then goes on well, goes on in another way too
-goes-on : (o : Option CoreError) (t s : Run) (f g : Run → Result Run PlayKind) (z : Result Run PlayKind) → (unless_refused o t >>= f) ≡ Ok s → (f t ≡ Ok s → g t ≡ z) → (unless_refused o t >>= g) ≡ z
+goes-on : (o : Option CoreError) (t s : Run) (f g : Run → Result Run PlayKind) (z : Result Run PlayKind) → (unless_refused o t >>= f) ≡ Ok s →
+    (f t ≡ Ok s → g t ≡ z) → (unless_refused o t >>= g) ≡ z
 goes-on None t s f g z is next = next is
 goes-on (Some e) t s f g z is next = cc
 
@@ -27,16 +28,19 @@ pub submitted-append : (r s : Run) (xs ys : List Call) → submitted_all r xs �
 unfolding submitted_all
 submitted-append r s [] ys is = let same : r ≡ s = cc in ap (λ t. submitted_all t ys) same
 submitted-append r s (x ∷ xs) ys is =
-    goes-on (submit_refusal r x) (and_call r x) s (λ t. submitted_all t xs) (λ t. submitted_all t (xs ++ ys)) (submitted_all s ys) is (submitted-append (and_call r x) s xs ys)
+    goes-on (submit_refusal r x) (and_call r x) s (λ t. submitted_all t xs) (λ t. submitted_all t (xs ++ ys)) (submitted_all s ys) is
+        (submitted-append (and_call r x) s xs ys)
 
 -- one more call is submitted
-pub one-submitted : (r s : Run) (xs : List Call) (x : Call) → submitted_all r xs ≡ Ok s → submit_refusal s x ≡ None → submitted_all r (xs ++ x ∷ []) ≡ Ok (and_call s x)
+pub one-submitted : (r s : Run) (xs : List Call) (x : Call) → submitted_all r xs ≡ Ok s → submit_refusal s x ≡ None →
+    submitted_all r (xs ++ x ∷ []) ≡ Ok (and_call s x)
 unfolding submitted_all
 one-submitted r s xs x before none =
     submitted-append r s xs (x ∷ []) before ∙ ap (λ o. unless_refused o (and_call s x) >>= (λ t. submitted_all t [])) none
 
 -- a call is refused, and none is submitted behind it
-pub one-refused : (r s : Run) (xs rest : List Call) (x : Call) (e : CoreError) → submitted_all r xs ≡ Ok s → submit_refusal s x ≡ Some e → submitted_all r (xs ++ x ∷ rest) ≡ Err (Core e)
+pub one-refused : (r s : Run) (xs rest : List Call) (x : Call) (e : CoreError) → submitted_all r xs ≡ Ok s → submit_refusal s x ≡ Some e →
+    submitted_all r (xs ++ x ∷ rest) ≡ Err (Core e)
 unfolding submitted_all
 one-refused r s xs rest x e before is =
     submitted-append r s xs (x ∷ rest) before ∙ ap (λ o. unless_refused o (and_call s x) >>= (λ t. submitted_all t rest)) is

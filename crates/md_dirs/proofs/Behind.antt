@@ -22,7 +22,8 @@ module _ {Z : Type 0} where
       let one : suc (suc (length (rows_by_name es))) - 1 ≡ suc (suc (length (rows_by_name es)) - 1) = omega arith in
       subst (λ (j : ℕ). order_at (rows_by_name (e ∷ f ∷ es)) j k ≡ Less) one (ends (omega arith))
 
-  head-below : (e : Row Z) (es : List (Row Z)) (k : List ℕ) → T (is_sorted name_cmp (rows_by_name (e ∷ es))) → EndsBelow (rows_by_name (e ∷ es)) k → name_cmp e.0.items k ≡ Less
+  head-below : (e : Row Z) (es : List (Row Z)) (k : List ℕ) → T (is_sorted name_cmp (rows_by_name (e ∷ es))) → EndsBelow (rows_by_name (e ∷ es)) k →
+      name_cmp e.0.items k ≡ Less
   head-below e [] k h ends = ends (omega arith)
   head-below e (f ∷ es) k h ends =
       let rows = rows_by_name (f ∷ es) in
@@ -40,15 +41,18 @@ module _ {Z : Type 0} where
   pub absent-behind : (es : List (Row Z)) (k : List ℕ) → InOrder es → EndsBelow (rows_by_name es) k → lookup (by k) es ≡ None
   absent-behind es k sorted ends = absent es k (holds _ sorted) ends
 
-  below-end : (x : List ℕ) (es : List (Row Z)) (e : Row Z) → T (below_all name_cmp x (rows_by_name es)) → name_cmp x e.0.items ≡ Less → T (below_all name_cmp x (rows_by_name (es ++ e ∷ [])))
+  below-end : (x : List ℕ) (es : List (Row Z)) (e : Row Z) → T (below_all name_cmp x (rows_by_name es)) → name_cmp x e.0.items ≡ Less →
+      T (below_all name_cmp x (rows_by_name (es ++ e ∷ [])))
   below-end x [] e h is = both _ _ (is_less x e.0.items is) tt
   below-end x (f ∷ es) e h is = both _ _ (first _ _ h) (below-end x es e (second _ _ h) is)
 
-  sorted-end : (es : List (Row Z)) (e : Row Z) → T (is_sorted name_cmp (rows_by_name es)) → EndsBelow (rows_by_name es) e.0.items → T (is_sorted name_cmp (rows_by_name (es ++ e ∷ [])))
+  sorted-end : (es : List (Row Z)) (e : Row Z) → T (is_sorted name_cmp (rows_by_name es)) → EndsBelow (rows_by_name es) e.0.items →
+      T (is_sorted name_cmp (rows_by_name (es ++ e ∷ [])))
   sorted-end [] e h ends = tt
   sorted-end (f ∷ []) e h ends = both _ _ (both _ _ (is_less f.0.items e.0.items (ends (omega arith))) tt) tt
   sorted-end (f ∷ g ∷ es) e h ends =
-      both _ _ (below-end f.0.items (g ∷ es) e (first _ _ h) (head-below f (g ∷ es) e.0.items h ends)) (sorted-end (g ∷ es) e (second _ _ h) (tail-ends f g es e.0.items ends))
+      both _ _ (below-end f.0.items (g ∷ es) e (first _ _ h) (head-below f (g ∷ es) e.0.items h ends))
+          (sorted-end (g ∷ es) e (second _ _ h) (tail-ends f g es e.0.items ends))
 
   pub in_order-behind : (es : List (Row Z)) (e : Row Z) → InOrder es → EndsBelow (rows_by_name es) e.0.items → InOrder (es ++ e ∷ [])
   in_order-behind es e sorted ends = is_true _ (sorted-end es e (holds _ sorted) ends)

@@ -56,29 +56,37 @@ find-above p (e ∷ es) h = ap (λ r. cond (is_eq r) (Some e.1) (find path_cmp p
 where-above : (p : Path) (es : List (Path × ℕ)) → T (below_all path_cmp p es) → where_key path_cmp (λ q. not (eq_by_cmp path_cmp p q)) es ≡ es
 where-above p [] h = refl
 where-above p (e ∷ es) h =
-    ap (λ r. cond (not (is_eq r)) (e ∷ where_key path_cmp (λ q. not (eq_by_cmp path_cmp p q)) es) (where_key path_cmp (λ q. not (eq_by_cmp path_cmp p q)) es)) (less _ (first _ _ h)) ∙ ap (λ xs. e ∷ xs) (where-above p es (second _ _ h))
+    ap (λ r. cond (not (is_eq r)) (e ∷ where_key path_cmp (λ q. not (eq_by_cmp path_cmp p q)) es)
+        (where_key path_cmp (λ q. not (eq_by_cmp path_cmp p q)) es)) (less _ (first _ _ h)) ∙ ap (λ xs. e ∷ xs) (where-above p es (second _ _ h))
 
 tied-above : (p : Path) (e : Path × ℕ) (es : List (Path × ℕ)) → path_cmp p e.0 ≡ Equal → T (below_all path_cmp e.0 es) → T (below_all path_cmp p es)
 tied-above p e es is h = subst (λ (q : Path). T (below_all path_cmp q es)) (sym (path_exact p e.0 is)) h
 
 -- a path that comes, in place of one or new
-count-put : (n : ℕ) (p : Path) (v : ℕ) (es : List (Path × ℕ)) → T (is_sorted path_cmp es) → counted n (put path_cmp p v es) + hits n (find path_cmp p es) ≡ counted n es + hits n (Some v)
+count-put : (n : ℕ) (p : Path) (v : ℕ) (es : List (Path × ℕ)) → T (is_sorted path_cmp es) →
+    counted n (put path_cmp p v es) + hits n (find path_cmp p es) ≡ counted n es + hits n (Some v)
 unfolding counted
 count-put n p v [] h = omega arith
 count-put n p v (e ∷ es) h = by (count-put n p v es (second _ _ h)) (path_cmp p e.0) refl
   where
-    by : counted n (put path_cmp p v es) + hits n (find path_cmp p es) ≡ counted n es + hits n (Some v) → (r : Ordering) → path_cmp p e.0 ≡ r → counted n (by_order r ((p, v) ∷ e ∷ es) ((e.0, v) ∷ es) (e ∷ put path_cmp p v es)) + hits n (cond (is_eq r) (Some e.1) (find path_cmp p es)) ≡ counted n (e ∷ es) + hits n (Some v)
+    by : counted n (put path_cmp p v es) + hits n (find path_cmp p es) ≡ counted n es + hits n (Some v) → (r : Ordering) → path_cmp p e.0 ≡ r →
+        counted n (by_order r ((p, v) ∷ e ∷ es) ((e.0, v) ∷ es) (e ∷ put path_cmp p v es)) + hits n (cond (is_eq r) (Some e.1) (find path_cmp p es)) ≡
+        counted n (e ∷ es) + hits n (Some v)
     by rest Less is = let none = find-above p es (above p e es is (first _ _ h)) in ap (λ o. counted n ((p, v) ∷ e ∷ es) + hits n o) none ∙ omega arith
     by rest Equal is = omega arith
     by rest Greater is = omega (arith, rest)
 
 -- a path that goes
-count-drop : (n : ℕ) (p : Path) (es : List (Path × ℕ)) → T (is_sorted path_cmp es) → counted n (where_key path_cmp (λ q. not (eq_by_cmp path_cmp p q)) es) + hits n (find path_cmp p es) ≡ counted n es
+count-drop : (n : ℕ) (p : Path) (es : List (Path × ℕ)) → T (is_sorted path_cmp es) →
+    counted n (where_key path_cmp (λ q. not (eq_by_cmp path_cmp p q)) es) + hits n (find path_cmp p es) ≡ counted n es
 unfolding counted
 count-drop n p [] h = refl
 count-drop n p (e ∷ es) h = by (count-drop n p es (second _ _ h)) (path_cmp p e.0) refl
   where
-    by : counted n (where_key path_cmp (λ q. not (eq_by_cmp path_cmp p q)) es) + hits n (find path_cmp p es) ≡ counted n es → (r : Ordering) → path_cmp p e.0 ≡ r → counted n (cond (not (is_eq r)) (e ∷ where_key path_cmp (λ q. not (eq_by_cmp path_cmp p q)) es) (where_key path_cmp (λ q. not (eq_by_cmp path_cmp p q)) es)) + hits n (cond (is_eq r) (Some e.1) (find path_cmp p es)) ≡ counted n (e ∷ es)
+    by : counted n (where_key path_cmp (λ q. not (eq_by_cmp path_cmp p q)) es) + hits n (find path_cmp p es) ≡ counted n es → (r : Ordering) →
+        path_cmp p e.0 ≡ r →
+        counted n (cond (not (is_eq r)) (e ∷ where_key path_cmp (λ q. not (eq_by_cmp path_cmp p q)) es)
+        (where_key path_cmp (λ q. not (eq_by_cmp path_cmp p q)) es)) + hits n (cond (is_eq r) (Some e.1) (find path_cmp p es)) ≡ counted n (e ∷ es)
     by rest Less is = omega (arith, rest)
     by rest Equal is = let all = ap (counted n) (where-above p es (tied-above p e es is (first _ _ h))) in omega (arith, all)
     by rest Greater is = omega (arith, rest)
@@ -88,7 +96,8 @@ entries-remove m p =
     let rows = where_key path_cmp (λ q. not (eq_by_cmp path_cmp p q)) (entries m) in
     let sorted = is_sorted-where_key path_cmp (λ q. not (eq_by_cmp path_cmp p q)) (entries m) (entries_sorted m) in
     let same : finmap.remove m p ≡ from_sorted rows = same_map path_total path_exact _ _ (λ q.
-    get-remove path_total m p q ∙ ap (cond (eq_by_cmp path_cmp q p) None) (get-entries m q) ∙ sym (find-other p q (entries m)) ∙ sym (get-from_sorted path_cmp rows q sorted)) in
+    get-remove path_total m p q ∙ ap (cond (eq_by_cmp path_cmp q p) None) (get-entries m q) ∙ sym (find-other p q (entries m)) ∙
+        sym (get-from_sorted path_cmp rows q sorted)) in
     ap entries same ∙ entries-from_sorted path_cmp rows sorted
 
 pub paths-insert : (n : ℕ) (m : PathMap) (p : Path) (v : ℕ) → paths_of (finmap.insert m p v) n + hits n (finmap.get m p) ≡ paths_of m n + hits n (Some v)
@@ -108,7 +117,8 @@ named-count n [] true is = cc
 named-count n [] false is = refl
 named-count n (e ∷ es) b is = by (named-count n es) (e.1 == n) refl is
   where
-    by : ((x : Bool) → is_named es n ≡ x → cond x (0 < counted n es) (counted n es ≡ 0)) → (t : Bool) → (e.1 == n) ≡ t → (t || is_named es n) ≡ b → cond b (0 < cond t 1 0 + counted n es) (cond t 1 0 + counted n es ≡ 0)
+    by : ((x : Bool) → is_named es n ≡ x → cond x (0 < counted n es) (counted n es ≡ 0)) → (t : Bool) → (e.1 == n) ≡ t → (t || is_named es n) ≡ b →
+        cond b (0 < cond t 1 0 + counted n es) (cond t 1 0 + counted n es ≡ 0)
     by rest true t h = subst (λ x. cond x (0 < 1 + counted n es) (1 + counted n es ≡ 0)) h (omega arith)
     by rest false t h = later b (rest b h)
       where
@@ -170,25 +180,31 @@ held-less (Some k) = by (nat_le k.names 1) refl
     by false t = refl
 
 -- one path less for a file, and one name less in its count
-pub let_go-counted : (names : PathMap) (slots : List (Option Kept)) (o : Option ℕ) → ((n : ℕ) → paths_of names n + hits n o ≡ names_held (slot_at slots n)) → (n : ℕ) → paths_of names n ≡ names_held (slot_at (let_go o slots) n)
+pub let_go-counted : (names : PathMap) (slots : List (Option Kept)) (o : Option ℕ) →
+    ((n : ℕ) → paths_of names n + hits n o ≡ names_held (slot_at slots n)) → (n : ℕ) → paths_of names n ≡ names_held (slot_at (let_go o slots) n)
 let_go-counted names slots None is n = let h = is n in omega arith
 let_go-counted names slots (Some m) is n = by_number n m
     (λ same.
     let h : paths_of names n + hits n (Some m) ≡ names_held (slot_at slots n) = is n in
     let one : hits n (Some m) ≡ 1 = (let t : (m == n) ≡ true = grind (arith, nat_tests) in ap (λ b. cond b 1 0) t) in
     let there : 0 < names_held (slot_at slots m) = subst (λ (k : ℕ). 0 < names_held (slot_at slots k)) same (omega arith) in
-    let less : names_held (slot_at (slice_set slots m (named_less (slot_at slots m))) m) ≡ names_held (slot_at slots m) - 1 = ap names_held (slot-set_same slots m (named_less (slot_at slots m)) (slot-within slots m there)) ∙ held-less (slot_at slots m) in
+    let less : names_held (slot_at (slice_set slots m (named_less (slot_at slots m))) m) ≡ names_held (slot_at slots m) - 1 =
+        ap names_held (slot-set_same slots m (named_less (slot_at slots m)) (slot-within slots m there)) ∙ held-less (slot_at slots m) in
     let moved : names_held (slot_at slots n) ≡ names_held (slot_at slots m) = ap (λ k. names_held (slot_at slots k)) same in
-    let at : names_held (slot_at (slice_set slots m (named_less (slot_at slots m))) n) ≡ names_held (slot_at (slice_set slots m (named_less (slot_at slots m))) m) = ap (λ k. names_held (slot_at (slice_set slots m (named_less (slot_at slots m))) k)) same in
+    let at : names_held (slot_at (slice_set slots m (named_less (slot_at slots m))) n) ≡ names_held
+        (slot_at (slice_set slots m (named_less (slot_at slots m))) m) =
+        ap (λ k. names_held (slot_at (slice_set slots m (named_less (slot_at slots m))) k)) same in
     omega arith)
     (λ differ.
     let h : paths_of names n + hits n (Some m) ≡ names_held (slot_at slots n) = is n in
     let none : hits n (Some m) ≡ 0 = (let t : (m == n) ≡ false = grind (arith, nat_tests) in ap (λ b. cond b 1 0) t) in
-    let at : names_held (slot_at (slice_set slots m (named_less (slot_at slots m))) n) ≡ names_held (slot_at slots n) = ap names_held (slot-set_other slots m n (named_less (slot_at slots m)) differ) in
+    let at : names_held (slot_at (slice_set slots m (named_less (slot_at slots m))) n) ≡ names_held (slot_at slots n) =
+        ap names_held (slot-set_other slots m n (named_less (slot_at slots m)) differ) in
     omega arith)
 
 -- and the file is given back where that was its last
-pub let_go-files : (names : PathMap) (slots : List (Option Kept)) (o : Option ℕ) → ((n : ℕ) → paths_of names n + hits n o ≡ names_held (slot_at slots n)) → files_of (let_go o slots) ≡ released (entries names) o (files_of slots)
+pub let_go-files : (names : PathMap) (slots : List (Option Kept)) (o : Option ℕ) →
+    ((n : ℕ) → paths_of names n + hits n o ≡ names_held (slot_at slots n)) → files_of (let_go o slots) ≡ released (entries names) o (files_of slots)
 let_go-files names slots None is = refl
 let_go-files names slots (Some n) is = by (slot_at slots n) refl (is_named (entries names) n) refl
   where
@@ -198,13 +214,15 @@ let_go-files names slots (Some n) is = by (slot_at slots n) refl (is_named (entr
     shown : Option Kept → Option File
     shown = option_map (λ (k : Kept). k.file)
 
-    by : (s : Option Kept) → slot_at slots n ≡ s → (b : Bool) → is_named (entries names) n ≡ b → files_of (slice_set slots n (named_less (slot_at slots n))) ≡ cond b (files_of slots) (slice_set (files_of slots) n None)
+    by : (s : Option Kept) → slot_at slots n ≡ s → (b : Bool) → is_named (entries names) n ≡ b →
+        files_of (slice_set slots n (named_less (slot_at slots n))) ≡ cond b (files_of slots) (slice_set (files_of slots) n None)
     by None at b named = absurd (let h = is n in let h' : names_held (slot_at slots n) ≡ 0 = ap names_held at in let o = one in omega arith)
     by (Some k) at true named =
         let h = is n in let h' : names_held (slot_at slots n) ≡ k.names = ap names_held at in let o = one in
         let more : 0 < paths_of names n = subst (λ k. 0 < k) (sym (counted-is n (entries names))) (named-count n (entries names) true named) in
         let many : nat_le k.names 1 ≡ false = (let big : 1 < k.names = omega arith in grind (arith, nat_tests)) in
-        let less : named_less (slot_at slots n) ≡ Some (record k { names = k.names - 1 }) = ap named_less at ∙ ap (λ b. cond b None (Some (record k { names = k.names - 1 }))) many in
+        let less : named_less (slot_at slots n) ≡ Some (record k { names = k.names - 1 }) =
+            ap named_less at ∙ ap (λ b. cond b None (Some (record k { names = k.names - 1 }))) many in
         map-set (option_map (λ (k : Kept). k.file)) slots n (named_less (slot_at slots n))
         ∙ ap (λ s. slice_set (files_of slots) n (option_map (λ (k : Kept). k.file) s)) less
         ∙ set-same (files_of slots) n k.file (file-slot slots n ∙ ap (option_map (λ (k : Kept). k.file)) at)

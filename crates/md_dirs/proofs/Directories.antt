@@ -62,11 +62,13 @@ pub lower-directory : (m n : ℕ) (a b : List ℕ) → m < n → path_cmp (path_
 lower-directory m n a b below = by_number (m / 3) (n / 3)
     (λ same.
     let places : place_index (place_by (m % 3)) < place_index (place_by (n % 3)) =
-    (let small : m % 3 < 3 = omega arith in let small' : n % 3 < 3 = omega arith in let e = index-place_by (m % 3) small in let e' = index-place_by (n % 3) small' in omega arith) in
+    (let small : m % 3 < 3 = omega arith in let small' : n % 3 < 3 = omega arith in let e = index-place_by (m % 3) small in let e' =
+        index-place_by (n % 3) small' in omega arith) in
     (λ i. ordering_then ((ap (λ k. nat_cmp k (n / 3)) same ∙ tied_itself nat_cmp_total (n / 3)) i) (ordering_then (less-numbers _ _ places i) (name_cmp a b))))
     (λ differ.
     let folders : m / 3 < n / 3 = omega arith in
-    (λ i. ordering_then (less-numbers _ _ folders i) (ordering_then (nat_cmp (place_index (place_by (m % 3))) (place_index (place_by (n % 3)))) (name_cmp a b))))
+    (λ i. ordering_then (less-numbers _ _ folders i)
+        (ordering_then (nat_cmp (place_index (place_by (m % 3))) (place_index (place_by (n % 3)))) (name_cmp a b))))
 
 is_less : (p q : Path) → path_cmp p q ≡ Less → T (is_lt (path_cmp p q))
 is_less p q is = subst (λ r. T (is_lt r)) (sym is) tt
@@ -75,7 +77,8 @@ abbrev at : ℕ → List ℕ × ℕ → Path × ℕ
 at n e = (path_at n e.0, e.1)
 
 -- rows are in order
-below-map : (m n : ℕ) (a : List ℕ) (es : List (List ℕ × ℕ)) (ys : List (Path × ℕ)) → m < n → T (below_all path_cmp (path_at m a) ys) → T (below_all path_cmp (path_at m a) (map (at n) es ++ ys))
+below-map : (m n : ℕ) (a : List ℕ) (es : List (List ℕ × ℕ)) (ys : List (Path × ℕ)) → m < n → T (below_all path_cmp (path_at m a) ys) →
+    T (below_all path_cmp (path_at m a) (map (at n) es ++ ys))
 below-map m n a [] ys below h = h
 below-map m n a (e ∷ es) ys below h = both _ _ (is_less (path_at m a) (path_at n e.0) (lower-directory m n a e.0 below)) (below-map m n a es ys below h)
 
@@ -83,17 +86,22 @@ pub beyond : (m n : ℕ) (a : List ℕ) (ds : List NameMap) → m < n → T (bel
 beyond m n a [] below = tt
 beyond m n a (d ∷ ds) below = below-map m n a (finmap.entries d) (rows_from (suc n) ds) below (beyond m (suc n) a ds (omega arith))
 
-below-same : (n : ℕ) (a : List ℕ) (es : List (List ℕ × ℕ)) (ys : List (Path × ℕ)) → T (below_all name_cmp a es) → T (below_all path_cmp (path_at n a) ys) → T (below_all path_cmp (path_at n a) (map (at n) es ++ ys))
+below-same : (n : ℕ) (a : List ℕ) (es : List (List ℕ × ℕ)) (ys : List (Path × ℕ)) → T (below_all name_cmp a es) →
+    T (below_all path_cmp (path_at n a) ys) → T (below_all path_cmp (path_at n a) (map (at n) es ++ ys))
 below-same n a [] ys below h = h
-below-same n a (e ∷ es) ys below h = both _ _ (is_less (path_at n a) (path_at n e.0) (same-directory n a e.0 ∙ less _ (first _ _ below))) (below-same n a es ys (second _ _ below) h)
+below-same n a (e ∷ es) ys below h =
+    both _ _ (is_less (path_at n a) (path_at n e.0) (same-directory n a e.0 ∙ less _ (first _ _ below))) (below-same n a es ys (second _ _ below) h)
 
-sorted-map : (n : ℕ) (es : List (List ℕ × ℕ)) (ys : List (Path × ℕ)) → T (is_sorted name_cmp es) → T (is_sorted path_cmp ys) → ((a : List ℕ) → T (below_all path_cmp (path_at n a) ys)) → T (is_sorted path_cmp (map (at n) es ++ ys))
+sorted-map : (n : ℕ) (es : List (List ℕ × ℕ)) (ys : List (Path × ℕ)) → T (is_sorted name_cmp es) → T (is_sorted path_cmp ys) →
+    ((a : List ℕ) → T (below_all path_cmp (path_at n a) ys)) → T (is_sorted path_cmp (map (at n) es ++ ys))
 sorted-map n [] ys sorted sorted' above = sorted'
-sorted-map n (e ∷ es) ys sorted sorted' above = both _ _ (below-same n e.0 es ys (first _ _ sorted) (above e.0)) (sorted-map n es ys (second _ _ sorted) sorted' above)
+sorted-map n (e ∷ es) ys sorted sorted' above =
+    both _ _ (below-same n e.0 es ys (first _ _ sorted) (above e.0)) (sorted-map n es ys (second _ _ sorted) sorted' above)
 
 pub sorted-rows : (n : ℕ) (ds : List NameMap) → T (is_sorted path_cmp (rows_from n ds))
 sorted-rows n [] = tt
-sorted-rows n (d ∷ ds) = sorted-map n (finmap.entries d) (rows_from (suc n) ds) (entries_sorted d) (sorted-rows (suc n) ds) (λ a. beyond n (suc n) a ds (omega arith))
+sorted-rows n (d ∷ ds) =
+    sorted-map n (finmap.entries d) (rows_from (suc n) ds) (entries_sorted d) (sorted-rows (suc n) ds) (λ a. beyond n (suc n) a ds (omega arith))
 
 pub entries-names : (ds : List NameMap) → finmap.entries (names_of ds) ≡ rows_from 0 ds
 entries-names ds = entries-from_sorted path_cmp (rows_from 0 ds) (sorted-rows 0 ds)
@@ -103,14 +111,17 @@ find-above : (p : Path) (es : List (Path × ℕ)) → T (below_all path_cmp p es
 find-above p [] h = refl
 find-above p (e ∷ es) h = ap (λ r. cond (is_eq r) (Some e.1) (find path_cmp p es)) (less _ (first _ _ h)) ∙ find-above p es (second _ _ h)
 
-find-here : (n : ℕ) (a : List ℕ) (es : List (List ℕ × ℕ)) (ys : List (Path × ℕ)) → find path_cmp (path_at n a) ys ≡ None → find path_cmp (path_at n a) (map (at n) es ++ ys) ≡ find name_cmp a es
+find-here : (n : ℕ) (a : List ℕ) (es : List (List ℕ × ℕ)) (ys : List (Path × ℕ)) → find path_cmp (path_at n a) ys ≡ None →
+    find path_cmp (path_at n a) (map (at n) es ++ ys) ≡ find name_cmp a es
 find-here n a [] ys none = none
 find-here n a (e ∷ es) ys none = λ i. cond (is_eq (same-directory n a e.0 i)) (Some e.1) (find-here n a es ys none i)
 
-find-past : (m n : ℕ) (a : List ℕ) (es : List (List ℕ × ℕ)) (ys : List (Path × ℕ)) → n < m → find path_cmp (path_at m a) (map (at n) es ++ ys) ≡ find path_cmp (path_at m a) ys
+find-past : (m n : ℕ) (a : List ℕ) (es : List (List ℕ × ℕ)) (ys : List (Path × ℕ)) → n < m →
+    find path_cmp (path_at m a) (map (at n) es ++ ys) ≡ find path_cmp (path_at m a) ys
 find-past m n a [] ys below = refl
 find-past m n a (e ∷ es) ys below =
-    let above : path_cmp (path_at m a) (path_at n e.0) ≡ Greater = path_total.antisymm (path_at m a) (path_at n e.0) ∙ ap ordering_reverse (lower-directory n m e.0 a below) in
+    let above : path_cmp (path_at m a) (path_at n e.0) ≡ Greater = path_total.antisymm (path_at m a) (path_at n e.0) ∙
+        ap ordering_reverse (lower-directory n m e.0 a below) in
     ap (λ r. cond (is_eq r) (Some e.1) (find path_cmp (path_at m a) (map (at n) es ++ ys))) above ∙ find-past m n a es ys below
 
 find-rows : (ds : List NameMap) (k n m : ℕ) (a : List ℕ) → m ≡ n + k → find path_cmp (path_at m a) (rows_from n ds) ≡ finmap.get (directory_at ds k) a
@@ -148,7 +159,8 @@ module _ (ds es : List NameMap) (p : Path) (others : (k : ℕ) → k ≢ directo
   pub put-names : (v : ℕ) → directory_at es here ≡ finmap.insert (directory_at ds here) p.name v → names_of es ≡ finmap.insert (names_of ds) p v
   put-names v is = same_map path_total path_exact _ _ (λ q. by_path q p
       (λ one.
-      get-names es q ∙ (λ i. finmap.get (directory_at es (directory_number (one i).folder (one i).place)) (one i).name) ∙ ap (λ (m : NameMap). finmap.get m p.name) is
+      get-names es q ∙ (λ i. finmap.get (directory_at es (directory_number (one i).folder (one i).place)) (one i).name) ∙
+          ap (λ (m : NameMap). finmap.get m p.name) is
       ∙ maps.at_put name_total name_exact (directory_at ds here) p.name p.name v refl ∙ sym (maps.at_put path_total path_exact (names_of ds) p q v one))
       (λ differ. beside q differ ∙ sym (maps.beside_put path_total path_exact (names_of ds) p q v differ)))
     where
@@ -164,7 +176,8 @@ module _ (ds es : List NameMap) (p : Path) (others : (k : ℕ) → k ≢ directo
   pub take-names : directory_at es here ≡ finmap.remove (directory_at ds here) p.name → names_of es ≡ finmap.remove (names_of ds) p
   take-names is = same_map path_total path_exact _ _ (λ q. by_path q p
       (λ one.
-      get-names es q ∙ (λ i. finmap.get (directory_at es (directory_number (one i).folder (one i).place)) (one i).name) ∙ ap (λ (m : NameMap). finmap.get m p.name) is
+      get-names es q ∙ (λ i. finmap.get (directory_at es (directory_number (one i).folder (one i).place)) (one i).name) ∙
+          ap (λ (m : NameMap). finmap.get m p.name) is
       ∙ maps.at_drop name_total name_exact (directory_at ds here) p.name p.name refl ∙ sym (maps.at_drop path_total path_exact (names_of ds) p q one))
       (λ differ. beside q differ ∙ sym (maps.beside_drop path_total path_exact (names_of ds) p q differ)))
     where
@@ -245,17 +258,22 @@ keep-here : (n : ℕ) (folder : ℕ) (place : Place) (es : List (List ℕ × ℕ
     → map named_row (filter (λ e. is_in folder place e.0) (map (at n) es ++ ys)) ≡ es ++ map named_row (filter (λ e. is_in folder place e.0) ys)
 keep-here n folder place [] ys is = refl
 keep-here n folder place (e ∷ es) ys is =
-    ap (λ b. map named_row (cond b (at n e ∷ filter (λ x. is_in folder place x.0) (map (at n) es ++ ys)) (filter (λ x. is_in folder place x.0) (map (at n) es ++ ys)))) (is-here n folder place e.0 is)
+    ap (λ b. map named_row
+        (cond b (at n e ∷ filter (λ x. is_in folder place x.0) (map (at n) es ++ ys)) (filter (λ x. is_in folder place x.0) (map (at n) es ++ ys))))
+        (is-here n folder place e.0 is)
     ∙ ap (λ xs. e ∷ xs) (keep-here n folder place es ys is)
 
 drop-elsewhere : (n : ℕ) (folder : ℕ) (place : Place) (es : List (List ℕ × ℕ)) (ys : List (Path × ℕ)) → n ≢ directory_number folder place
     → map named_row (filter (λ e. is_in folder place e.0) (map (at n) es ++ ys)) ≡ map named_row (filter (λ e. is_in folder place e.0) ys)
 drop-elsewhere n folder place [] ys differ = refl
 drop-elsewhere n folder place (e ∷ es) ys differ =
-    ap (λ b. map named_row (cond b (at n e ∷ filter (λ x. is_in folder place x.0) (map (at n) es ++ ys)) (filter (λ x. is_in folder place x.0) (map (at n) es ++ ys)))) (is-elsewhere n folder place e.0 differ)
+    ap (λ b. map named_row
+        (cond b (at n e ∷ filter (λ x. is_in folder place x.0) (map (at n) es ++ ys)) (filter (λ x. is_in folder place x.0) (map (at n) es ++ ys))))
+        (is-elsewhere n folder place e.0 differ)
     ∙ drop-elsewhere n folder place es ys differ
 
-later-none : (n : ℕ) (folder : ℕ) (place : Place) (ds : List NameMap) → directory_number folder place < n → map named_row (filter (λ e. is_in folder place e.0) (rows_from n ds)) ≡ []
+later-none : (n : ℕ) (folder : ℕ) (place : Place) (ds : List NameMap) → directory_number folder place < n →
+    map named_row (filter (λ e. is_in folder place e.0) (rows_from n ds)) ≡ []
 later-none n folder place [] above = refl
 later-none n folder place (d ∷ ds) above =
     drop-elsewhere n folder place (finmap.entries d) (rows_from (suc n) ds) (λ is. absurd (omega arith)) ∙ later-none (suc n) folder place ds (omega arith)
@@ -274,7 +292,8 @@ rows-of-one (d ∷ ds) zero n folder place is =
 rows-of-one (d ∷ ds) (suc k) n folder place is =
     drop-elsewhere n folder place (finmap.entries d) (rows_from (suc n) ds) (λ same. absurd (omega arith)) ∙ rows-of-one ds k (suc n) folder place (omega arith)
 
-pub rows-in : (ds : List NameMap) (folder : ℕ) (place : Place) → rows_in (names_of ds) folder place ≡ finmap.entries (directory_at ds (directory_number folder place))
+pub rows-in : (ds : List NameMap) (folder : ℕ) (place : Place) →
+    rows_in (names_of ds) folder place ≡ finmap.entries (directory_at ds (directory_number folder place))
 rows-in ds folder place =
     ap (λ es. map named_row (filter (λ e. is_in folder place e.0) es)) (entries-names ds)
     ∙ rows-of-one ds (directory_number folder place) 0 folder place (omega arith)
@@ -283,14 +302,17 @@ pub no-rows : (ds : List NameMap) (folder : ℕ) (place : Place) → length ds �
 no-rows ds folder place past = rows-in ds folder place ∙ ap finmap.entries (past-end ds _ past) ∙ entries-empty
 
 -- a name took another's place in a directory
-pub rename-names : (ds : List NameMap) (i : ℕ) (d : NameMap) (o p : Path) (v : ℕ) → i < length ds → i ≡ directory_number o.folder o.place → i ≡ directory_number p.folder p.place
+pub rename-names : (ds : List NameMap) (i : ℕ) (d : NameMap) (o p : Path) (v : ℕ) → i < length ds → i ≡ directory_number o.folder o.place →
+    i ≡ directory_number p.folder p.place
     → d ≡ finmap.remove (finmap.insert (directory_at ds i) p.name v) o.name → names_of (slice_set ds i d) ≡ finmap.remove (finmap.insert (names_of ds) p v) o
 rename-names ds i d o p v within from to is =
     let m : NameMap = finmap.insert (directory_at ds i) p.name v in
     let mid : List NameMap = slice_set ds i m in
     let put : names_of mid ≡ finmap.insert (names_of ds) p v =
-    put-names ds mid p (λ k differ. beside-set ds i k m (λ e. differ (e ∙ to))) v (subst (λ (j : ℕ). directory_at mid j ≡ finmap.insert (directory_at ds j) p.name v) to (at-set ds i m within)) in
+    put-names ds mid p (λ k differ. beside-set ds i k m (λ e. differ (e ∙ to))) v
+        (subst (λ (j : ℕ). directory_at mid j ≡ finmap.insert (directory_at ds j) p.name v) to (at-set ds i m within)) in
     let taken : names_of (slice_set ds i d) ≡ finmap.remove (names_of mid) o =
     take-names mid (slice_set ds i d) o (λ k differ. beside-set ds i k d (λ e. differ (e ∙ from)) ∙ sym (beside-set ds i k m (λ e. differ (e ∙ from))))
-    (subst (λ (j : ℕ). directory_at (slice_set ds i d) j ≡ finmap.remove (directory_at mid j) o.name) from (at-set ds i d within ∙ is ∙ ap (λ (x : NameMap). finmap.remove x o.name) (sym (at-set ds i m within)))) in
+    (subst (λ (j : ℕ). directory_at (slice_set ds i d) j ≡ finmap.remove (directory_at mid j) o.name) from (at-set ds i d within ∙ is ∙
+        ap (λ (x : NameMap). finmap.remove x o.name) (sym (at-set ds i m within)))) in
     taken ∙ ap (λ (x : PathMap). finmap.remove x o) put

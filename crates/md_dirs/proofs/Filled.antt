@@ -28,13 +28,16 @@ refusal_with-append s (x ∷ xs) ys none =
 pub one-more : (s t u : State) (xs : List ImageFile) (x : ImageFile) → t ≡ state_with s xs → u ≡ (put x).after t → u ≡ state_with s (xs ++ x ∷ [])
 one-more s t u xs x before is = is ∙ ap ((put x).after) before ∙ sym (state_with-append s xs (x ∷ []))
 
-pub one-accepted : (s t : State) (xs : List ImageFile) (x : ImageFile) → t ≡ state_with s xs → refusal_with s xs ≡ None → (put x).refusal t ≡ None → refusal_with s (xs ++ x ∷ []) ≡ None
+pub one-accepted : (s t : State) (xs : List ImageFile) (x : ImageFile) → t ≡ state_with s xs → refusal_with s xs ≡ None → (put x).refusal t ≡ None →
+    refusal_with s (xs ++ x ∷ []) ≡ None
 one-accepted s t xs x before none is =
     refusal_with-append s xs (x ∷ []) none ∙ ap (λ o. option_or o None) (ap ((put x).refusal) (sym before) ∙ is)
 
-pub one-refused : (s t : State) (xs : List ImageFile) (x : ImageFile) (rest : List ImageFile) (e : DirError) → t ≡ state_with s xs → refusal_with s xs ≡ None → (put x).refusal t ≡ Some e → refusal_with s (xs ++ x ∷ rest) ≡ Some e
+pub one-refused : (s t : State) (xs : List ImageFile) (x : ImageFile) (rest : List ImageFile) (e : DirError) → t ≡ state_with s xs →
+    refusal_with s xs ≡ None → (put x).refusal t ≡ Some e → refusal_with s (xs ++ x ∷ rest) ≡ Some e
 one-refused s t xs x rest e before none is =
-    refusal_with-append s xs (x ∷ rest) none ∙ ap (λ o. option_or o (refusal_with ((put x).after (state_with s xs)) rest)) (ap ((put x).refusal) (sym before) ∙ is)
+    refusal_with-append s xs (x ∷ rest) none ∙
+        ap (λ o. option_or o (refusal_with ((put x).after (state_with s xs)) rest)) (ap ((put x).refusal) (sym before) ∙ is)
 
 -- an error of directories that never fault is want of memory or the call's refusal
 pub named-error : (ask : Ask) (old new : State) (e : DirError) → Obeys {T = Unit {0}} ask old 0 (Err e) new 0 → (e ≡ NoMemory) ⊎ (ask.refusal old ≡ Some e)
@@ -48,7 +51,8 @@ map-same [] = refl
 map-same (x ∷ xs) = ap (λ ys. x ∷ ys) (map-same xs)
 
 -- a list that begins with some items and then has another
-pub parted : {X : Type 0} (all xs : List X) (x : X) → map (λ y. y) xs ≡ take (length xs) all → (length xs < length all) × (x ≡ get_or all (length xs) x) → all ≡ xs ++ x ∷ drop (length xs + 1) all
+pub parted : {X : Type 0} (all xs : List X) (x : X) → map (λ y. y) xs ≡ take (length xs) all →
+    (length xs < length all) × (x ≡ get_or all (length xs) x) → all ≡ xs ++ x ∷ drop (length xs + 1) all
 parted all xs x first next =
     sym (take-append-drop (length xs) all)
     ∙ ap (λ ys. ys ++ drop (length xs) all) (sym first ∙ map-same xs)

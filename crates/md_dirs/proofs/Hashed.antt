@@ -73,7 +73,8 @@ swap-names m o n k differ = same_map path_total path_exact _ _ (λ q. by_path q 
     ∙ sym (maps.beside_put path_total path_exact (finmap.remove m o) n q k (λ is. differ (sym one ∙ is)) ∙ maps.at_drop path_total path_exact m o q one))
     (λ not. maps.beside_drop path_total path_exact (finmap.insert m n k) o q not ∙ by_path q n
     (λ is. maps.at_put path_total path_exact m n q k is ∙ sym (maps.at_put path_total path_exact (finmap.remove m o) n q k is))
-    (λ other. maps.beside_put path_total path_exact m n q k other ∙ sym (maps.beside_put path_total path_exact (finmap.remove m o) n q k other ∙ maps.beside_drop path_total path_exact m o q not))))
+    (λ other. maps.beside_put path_total path_exact m n q k other ∙
+        sym (maps.beside_put path_total path_exact (finmap.remove m o) n q k other ∙ maps.beside_drop path_total path_exact m o q not))))
 
 module _ (folders : ℕ) (names : PathMap) (slots : List (Option Kept)) (whole : IsCounted folders names slots) where
   abbrev start : State
@@ -91,29 +92,38 @@ module _ (folders : ℕ) (names : PathMap) (slots : List (Option Kept)) (whole :
   slot-filed p n at = by (slot_at slots n) refl
     where
       by : (s : Option Kept) → slot_at slots n ≡ s → (k : Kept) × (slot_at slots n ≡ Some k)
-      by None is = let there = whole.sound.filed p n at in let none : file_by (files_of slots) n ≡ None = file-slot slots n ∙ ap (option_map (λ (k : Kept). k.file)) is in let no : is_some (file_by (files_of slots) n) ≡ false = ap is_some none in cc
+      by None is = let there = whole.sound.filed p n at in let none : file_by (files_of slots) n ≡ None =
+          file-slot slots n ∙ ap (option_map (λ (k : Kept). k.file)) is in let no : is_some (file_by (files_of slots) n) ≡ false =
+          ap is_some none in cc
       by (Some k) is = (k, is)
 
   -- a new file
-  made-is : (p : Path) (file : File) → kept_state folders (finmap.insert names p (length slots)) (slots ++ Some (record { file = file; names = 1 }) ∷ []) ≡ placed p file start
+  made-is : (p : Path) (file : File) →
+      kept_state folders (finmap.insert names p (length slots)) (slots ++ Some (record { file = file; names = 1 }) ∷ []) ≡ placed p file start
   made-is p file = λ i. record {
     folders = folders;
     names = finmap.insert names p (sym (length-files slots) i);
     files = map-append (option_map (λ (k : Kept). k.file)) slots (Some (record { file = file; names = 1 }) ∷ []) i;
   }
 
-  pub counted-made : (p : Path) (file : File) → p.folder < folders → finmap.get names p ≡ None → IsCounted folders (finmap.insert names p (length slots)) (slots ++ Some (record { file = file; names = 1 }) ∷ [])
+  pub counted-made : (p : Path) (file : File) → p.folder < folders → finmap.get names p ≡ None →
+      IsCounted folders (finmap.insert names p (length slots)) (slots ++ Some (record { file = file; names = 1 }) ∷ [])
   counted-made p file within none = record {
     sound = subst IsSound (sym (made-is p file)) (sound-placed start whole.sound p file within none);
     counted = λ n.
-        let came : paths_of (finmap.insert names p (length slots)) n ≡ paths_of names n + hits n (Some (length slots)) = sym (add-zero-to _) ∙ ap (λ o. paths_of (finmap.insert names p (length slots)) n + hits n o) (sym none) ∙ paths-insert n names p (length slots) in
+        let came : paths_of (finmap.insert names p (length slots)) n ≡ paths_of names n + hits n (Some (length slots)) =
+            sym (add-zero-to _) ∙ ap (λ o. paths_of (finmap.insert names p (length slots)) n + hits n o) (sym none) ∙
+            paths-insert n names p (length slots) in
         by_number n (length slots)
         (λ same.
-        let last : names_held (slot_at (slots ++ Some (record { file = file; names = 1 }) ∷ []) n) ≡ 1 = ap (λ k. names_held (slot_at (slots ++ Some (record { file = file; names = 1 }) ∷ []) k)) same ∙ ap names_held (slot-last slots (Some (record { file = file; names = 1 }))) in
+        let last : names_held (slot_at (slots ++ Some (record { file = file; names = 1 }) ∷ []) n) ≡ 1 =
+            ap (λ k. names_held (slot_at (slots ++ Some (record { file = file; names = 1 }) ∷ []) k)) same ∙
+            ap names_held (slot-last slots (Some (record { file = file; names = 1 }))) in
         let before : names_held (slot_at slots n) ≡ 0 = ap (λ k. names_held (slot_at slots k)) same ∙ held-none slots in
         omega (arith, whole.counted n, one-hit n (length slots) same))
         (λ differ.
-        let early : names_held (slot_at (slots ++ Some (record { file = file; names = 1 }) ∷ []) n) ≡ names_held (slot_at slots n) = ap names_held (slot-early slots (Some (record { file = file; names = 1 })) n differ) in
+        let early : names_held (slot_at (slots ++ Some (record { file = file; names = 1 }) ∷ []) n) ≡ names_held (slot_at slots n) =
+            ap names_held (slot-early slots (Some (record { file = file; names = 1 })) n differ) in
         omega (arith, whole.counted n, no-hit n (length slots) differ));
   }
     where
@@ -121,7 +131,8 @@ module _ (folders : ℕ) (names : PathMap) (slots : List (Option Kept)) (whole :
       add-zero-to k = omega arith
 
   -- more bytes
-  grown-file : (more : List ℕ) (now : ℕ) (s : Option Kept) → option_map (λ (k : Kept). k.file) (grown_slot more now s) ≡ grown more now (option_map (λ (k : Kept). k.file) s)
+  grown-file : (more : List ℕ) (now : ℕ) (s : Option Kept) →
+      option_map (λ (k : Kept). k.file) (grown_slot more now s) ≡ grown more now (option_map (λ (k : Kept). k.file) s)
   grown-file more now None = refl
   grown-file more now (Some k) = refl
 
@@ -129,31 +140,37 @@ module _ (folders : ℕ) (names : PathMap) (slots : List (Option Kept)) (whole :
   grown-names more now None = refl
   grown-names more now (Some k) = refl
 
-  grown-is : (p : Path) (more : List ℕ) (now n : ℕ) (slot : Option Kept) → finmap.get names p ≡ Some n → slot ≡ get_or slots n slot → kept_state folders names (slice_set slots n (grown_slot more now slot)) ≡ appended more now start (file_at start p)
+  grown-is : (p : Path) (more : List ℕ) (now n : ℕ) (slot : Option Kept) → finmap.get names p ≡ Some n → slot ≡ get_or slots n slot →
+      kept_state folders names (slice_set slots n (grown_slot more now slot)) ≡ appended more now start (file_at start p)
   grown-is p more now n slot at read =
       let is = slot-read slots n slot (slot-number p n at) read in
       (λ i. record start {
         files = (map-set (option_map (λ (k : Kept). k.file)) slots n (grown_slot more now slot)
-            ∙ ap (slice_set (files_of slots) n) (grown-file more now slot ∙ ap (grown more now) (ap (option_map (λ (k : Kept). k.file)) (sym is) ∙ sym (file-slot slots n)))) i;
+            ∙ ap (slice_set (files_of slots) n) (grown-file more now slot ∙
+                ap (grown more now) (ap (option_map (λ (k : Kept). k.file)) (sym is) ∙ sym (file-slot slots n)))) i;
       })
       ∙ ap (appended more now start) (sym at)
 
-  pub append-done : (p : Path) (more : List ℕ) (now n : ℕ) (slot : Option Kept) → finmap.get names p ≡ Some n → slot ≡ get_or slots n slot → Obeys {T = Unit {0}} (append p more now) start 0 (Ok tt) (kept_state folders names (slice_set slots n (grown_slot more now slot))) 0
+  pub append-done : (p : Path) (more : List ℕ) (now n : ℕ) (slot : Option Kept) → finmap.get names p ≡ Some n → slot ≡ get_or slots n slot →
+      Obeys {T = Unit {0}} (append p more now) start 0 (Ok tt) (kept_state folders names (slice_set slots n (grown_slot more now slot))) 0
   append-done p more now n slot at read = made _ _ _ _ _ (ap (λ x. cond (is_some x) None (Some NotFound)) at) (grown-is p more now n slot at read)
 
-  pub counted-grown : (p : Path) (more : List ℕ) (now n : ℕ) (slot : Option Kept) → finmap.get names p ≡ Some n → slot ≡ get_or slots n slot → IsCounted folders names (slice_set slots n (grown_slot more now slot))
+  pub counted-grown : (p : Path) (more : List ℕ) (now n : ℕ) (slot : Option Kept) → finmap.get names p ≡ Some n → slot ≡ get_or slots n slot →
+      IsCounted folders names (slice_set slots n (grown_slot more now slot))
   counted-grown p more now n slot at read = record {
     sound = subst IsSound (sym (grown-is p more now n slot at read)) (sound-appended start whole.sound more now (file_at start p));
     counted = λ m. whole.counted m ∙ by_number m n
         (λ same.
         let is = slot-read slots n slot (slot-number p n at) read in
         ap (λ k. names_held (slot_at slots k)) same ∙ ap names_held is ∙ sym (grown-names more now slot)
-        ∙ sym (ap (λ k. names_held (slot_at (slice_set slots n (grown_slot more now slot)) k)) same ∙ ap names_held (slot-set_same slots n (grown_slot more now slot) (slot-number p n at))))
+        ∙ sym (ap (λ k. names_held (slot_at (slice_set slots n (grown_slot more now slot)) k)) same ∙
+            ap names_held (slot-set_same slots n (grown_slot more now slot) (slot-number p n at))))
         (λ differ. sym (ap names_held (slot-set_other slots n m (grown_slot more now slot) differ)));
   }
 
   -- one more name
-  linked-is : (o p : Path) (n : ℕ) → finmap.get names o ≡ Some n → kept_state folders (finmap.insert names p n) (slice_set slots n (named_again (slot_at slots n))) ≡ named p start (Some n)
+  linked-is : (o p : Path) (n : ℕ) → finmap.get names o ≡ Some n →
+      kept_state folders (finmap.insert names p n) (slice_set slots n (named_again (slot_at slots n))) ≡ named p start (Some n)
   linked-is o p n at =
       let filed = slot-filed o n at in
       (λ i. record {
@@ -169,23 +186,30 @@ module _ (folders : ℕ) (names : PathMap) (slots : List (Option Kept)) (whole :
       set-file (f ∷ fs) zero file is = ap (λ g. g ∷ fs) (sym is)
       set-file (f ∷ fs) (suc i) file is = ap (λ gs. f ∷ gs) (set-file fs i file is)
 
-  pub link-done : (o p : Path) (n : ℕ) → finmap.get names o ≡ Some n → p.folder < folders → finmap.get names p ≡ None → Obeys {T = Unit {0}} (link o p) start 0 (Ok tt) (kept_state folders (finmap.insert names p n) (slice_set slots n (named_again (slot_at slots n)))) 0
-  link-done o p n at within none = made _ _ _ _ _ (link-refusal o p start (Some n) true None at (lt_true _ _ within) none) (linked-is o p n at ∙ ap (named p start) (sym at))
+  pub link-done : (o p : Path) (n : ℕ) → finmap.get names o ≡ Some n → p.folder < folders → finmap.get names p ≡ None →
+      Obeys {T = Unit {0}} (link o p) start 0 (Ok tt)
+      (kept_state folders (finmap.insert names p n) (slice_set slots n (named_again (slot_at slots n)))) 0
+  link-done o p n at within none =
+      made _ _ _ _ _ (link-refusal o p start (Some n) true None at (lt_true _ _ within) none) (linked-is o p n at ∙ ap (named p start) (sym at))
 
-  pub counted-linked : (o p : Path) (n : ℕ) → finmap.get names o ≡ Some n → p.folder < folders → finmap.get names p ≡ None → IsCounted folders (finmap.insert names p n) (slice_set slots n (named_again (slot_at slots n)))
+  pub counted-linked : (o p : Path) (n : ℕ) → finmap.get names o ≡ Some n → p.folder < folders → finmap.get names p ≡ None →
+      IsCounted folders (finmap.insert names p n) (slice_set slots n (named_again (slot_at slots n)))
   counted-linked o p n at within none = record {
     sound = subst IsSound (sym (linked-is o p n at)) (sound-named start whole.sound p o n within none at);
     counted = λ m.
-        let came : paths_of (finmap.insert names p n) m + 0 ≡ paths_of names m + hits m (Some n) = ap (λ o. paths_of (finmap.insert names p n) m + hits m o) (sym none) ∙ paths-insert m names p n in
+        let came : paths_of (finmap.insert names p n) m + 0 ≡ paths_of names m + hits m (Some n) =
+            ap (λ o. paths_of (finmap.insert names p n) m + hits m o) (sym none) ∙ paths-insert m names p n in
         by_number m n
         (λ same.
         let filed = slot-filed o n at in
         let again : names_held (slot_at (slice_set slots n (named_again (slot_at slots n))) m) ≡ filed.0.names + 1 =
-        ap (λ k. names_held (slot_at (slice_set slots n (named_again (slot_at slots n))) k)) same ∙ ap names_held (slot-set_same slots n (named_again (slot_at slots n)) (slot-number o n at) ∙ ap named_again filed.1) in
+        ap (λ k. names_held (slot_at (slice_set slots n (named_again (slot_at slots n))) k)) same ∙
+            ap names_held (slot-set_same slots n (named_again (slot_at slots n)) (slot-number o n at) ∙ ap named_again filed.1) in
         let before : names_held (slot_at slots m) ≡ filed.0.names = ap (λ k. names_held (slot_at slots k)) same ∙ ap names_held filed.1 in
         omega (arith, whole.counted m, one-hit m n same))
         (λ differ.
-        let other : names_held (slot_at (slice_set slots n (named_again (slot_at slots n))) m) ≡ names_held (slot_at slots m) = ap names_held (slot-set_other slots n m (named_again (slot_at slots n)) differ) in
+        let other : names_held (slot_at (slice_set slots n (named_again (slot_at slots n))) m) ≡ names_held (slot_at slots m) =
+            ap names_held (slot-set_other slots n m (named_again (slot_at slots n)) differ) in
         omega (arith, whole.counted m, no-hit m n differ));
   }
 
@@ -197,10 +221,12 @@ module _ (folders : ℕ) (names : PathMap) (slots : List (Option Kept)) (whole :
   unlinked-is p n at = λ i. record {
     folders = folders;
     names = finmap.remove names p;
-    files = (let_go-files (finmap.remove names p) slots (Some n) (left p n at) ∙ ap (λ o. released (entries (finmap.remove names p)) o (files_of slots)) (sym at)) i;
+    files = (let_go-files (finmap.remove names p) slots (Some n) (left p n at) ∙
+        ap (λ o. released (entries (finmap.remove names p)) o (files_of slots)) (sym at)) i;
   }
 
-  pub unlink-done : (p : Path) (n : ℕ) → finmap.get names p ≡ Some n → Obeys {T = Unit {0}} (unlink p) start 0 (Ok tt) (kept_state folders (finmap.remove names p) (let_go (Some n) slots)) 0
+  pub unlink-done : (p : Path) (n : ℕ) → finmap.get names p ≡ Some n →
+      Obeys {T = Unit {0}} (unlink p) start 0 (Ok tt) (kept_state folders (finmap.remove names p) (let_go (Some n) slots)) 0
   unlink-done p n at = made _ _ _ _ _ (ap (λ x. cond (is_some x) None (Some NotFound)) at) (unlinked-is p n at)
 
   pub counted-unlinked : (p : Path) (n : ℕ) → finmap.get names p ≡ Some n → IsCounted folders (finmap.remove names p) (let_go (Some n) slots)
@@ -209,7 +235,8 @@ module _ (folders : ℕ) (names : PathMap) (slots : List (Option Kept)) (whole :
     counted = let_go-counted (finmap.remove names p) slots (Some n) (left p n at);
   }
 
-  pub unlink-nothing : (p : Path) → finmap.get names p ≡ None → Obeys {T = Unit {0}} (unlink p) start 0 (Err NotFound) (kept_state folders (finmap.remove names p) slots) 0
+  pub unlink-nothing : (p : Path) → finmap.get names p ≡ None →
+      Obeys {T = Unit {0}} (unlink p) start 0 (Err NotFound) (kept_state folders (finmap.remove names p) slots) 0
   unlink-nothing p none =
       subst (λ (m : PathMap). Obeys {T = Unit {0}} (unlink p) start 0 (Err NotFound) (kept_state folders m slots) 0) (sym (remove-absent names p none))
       (refused _ _ _ _ (ap (λ x. cond (is_some x) None (Some NotFound)) none) (λ h. cc) (λ h. cc))
@@ -223,13 +250,15 @@ module _ (folders : ℕ) (names : PathMap) (slots : List (Option Kept)) (whole :
       let one : is_one_file (Some k) (finmap.get names n) ≡ (k == k) = ap (is_one_file (Some k)) (ap (finmap.get names) (sym same) ∙ at) in
       let t : (k == k) ≡ true = grind (arith, nat_tests) in cc
 
-  shifted : (o n : Path) (k : ℕ) (there : Option ℕ) → finmap.get names o ≡ Some k → finmap.get names n ≡ there → o ≢ n → (m : ℕ) → paths_of (finmap.insert (finmap.remove names o) n k) m + hits m there ≡ names_held (slot_at slots m)
+  shifted : (o n : Path) (k : ℕ) (there : Option ℕ) → finmap.get names o ≡ Some k → finmap.get names n ≡ there → o ≢ n → (m : ℕ) →
+      paths_of (finmap.insert (finmap.remove names o) n k) m + hits m there ≡ names_held (slot_at slots m)
   shifted o n k there at is differ m =
       let beside : finmap.get (finmap.remove names o) n ≡ there = maps.beside_drop path_total path_exact names o n (λ e. differ (sym e)) ∙ is in
       ap (λ x. paths_of (finmap.insert (finmap.remove names o) n k) m + hits m x) (sym beside) ∙ paths-insert m (finmap.remove names o) n k
       ∙ ap (λ x. paths_of (finmap.remove names o) m + hits m x) (sym at) ∙ paths-remove m names o ∙ whole.counted m
 
-  moved-is : (o n : Path) (k : ℕ) (there : Option ℕ) → finmap.get names o ≡ Some k → finmap.get names n ≡ there → is_one_file (Some k) there ≡ false → kept_state folders (finmap.insert (finmap.remove names o) n k) (let_go there slots) ≡ moved o n start
+  moved-is : (o n : Path) (k : ℕ) (there : Option ℕ) → finmap.get names o ≡ Some k → finmap.get names n ≡ there → is_one_file (Some k) there ≡ false →
+      kept_state folders (finmap.insert (finmap.remove names o) n k) (let_go there slots) ≡ moved o n start
   moved-is o n k there at is differ =
       let not = apart o n k at (ap (is_one_file (Some k)) is ∙ differ) in
       (λ i. record {
@@ -242,11 +271,15 @@ module _ (folders : ℕ) (names : PathMap) (slots : List (Option Kept)) (whole :
       by : is_one_file (finmap.get names o) (finmap.get names n) ≡ false
       by = (λ i. is_one_file (at i) (is i)) ∙ differ
 
-  pub rename-done : (o n : Path) (k : ℕ) (there : Option ℕ) → finmap.get names o ≡ Some k → n.folder < folders → finmap.get names n ≡ there → is_one_file (Some k) there ≡ false → Obeys {T = Unit {0}} (rename o n) start 0 (Ok tt) (kept_state folders (finmap.remove (finmap.insert names n k) o) (let_go there slots)) 0
+  pub rename-done : (o n : Path) (k : ℕ) (there : Option ℕ) → finmap.get names o ≡ Some k → n.folder < folders → finmap.get names n ≡ there →
+      is_one_file (Some k) there ≡ false →
+      Obeys {T = Unit {0}} (rename o n) start 0 (Ok tt) (kept_state folders (finmap.remove (finmap.insert names n k) o) (let_go there slots)) 0
   rename-done o n k there at within is differ = made _ _ _ _ _ (rename-refusal o n start (Some k) true at (lt_true _ _ within))
-      (ap (λ (m : PathMap). kept_state folders m (let_go there slots)) (swap-names names o n k (apart o n k at (ap (is_one_file (Some k)) is ∙ differ))) ∙ moved-is o n k there at is differ)
+      (ap (λ (m : PathMap). kept_state folders m (let_go there slots))
+          (swap-names names o n k (apart o n k at (ap (is_one_file (Some k)) is ∙ differ))) ∙ moved-is o n k there at is differ)
 
-  pub counted-moved : (o n : Path) (k : ℕ) (there : Option ℕ) → finmap.get names o ≡ Some k → n.folder < folders → finmap.get names n ≡ there → is_one_file (Some k) there ≡ false → IsCounted folders (finmap.remove (finmap.insert names n k) o) (let_go there slots)
+  pub counted-moved : (o n : Path) (k : ℕ) (there : Option ℕ) → finmap.get names o ≡ Some k → n.folder < folders → finmap.get names n ≡ there →
+      is_one_file (Some k) there ≡ false → IsCounted folders (finmap.remove (finmap.insert names n k) o) (let_go there slots)
   counted-moved o n k there at within is differ =
       let not = apart o n k at (ap (is_one_file (Some k)) is ∙ differ) in
       subst (λ (m : PathMap). IsCounted folders m (let_go there slots)) (sym (swap-names names o n k not))
@@ -263,12 +296,16 @@ module _ (folders : ℕ) (names : PathMap) (slots : List (Option Kept)) (whole :
   pub rows-shown : (folder : ℕ) (place : Place) → rows_of start folder place ≡ map (name_row (files_of slots)) (rows_in names folder place)
   rows-shown folder place = shown-rows (filter (λ e. is_in folder place e.0) (entries names))
 
-  filed-in : (p : Path × ℕ → Bool) (es : List (Path × ℕ)) → ((x : Path × ℕ) → Among x es → IsSome (file_by (files_of slots) x.1)) → (i : ℕ) (r : List ℕ × ℕ) → slice_get (map named_row (filter p es)) i ≡ Some r → IsSome (file_by (files_of slots) r.1)
+  filed-in : (p : Path × ℕ → Bool) (es : List (Path × ℕ)) → ((x : Path × ℕ) → Among x es → IsSome (file_by (files_of slots) x.1)) →
+      (i : ℕ) (r : List ℕ × ℕ) → slice_get (map named_row (filter p es)) i ≡ Some r → IsSome (file_by (files_of slots) r.1)
   filed-in p [] filed i r is = cc
   filed-in p (e ∷ es) filed i r is = at (λ j is'. filed-in p es (λ x among. filed x (inr among)) j r is') (p e) i is
     where
-      at : ((j : ℕ) → slice_get (map named_row (filter p es)) j ≡ Some r → IsSome (file_by (files_of slots) r.1)) → (b : Bool) (j : ℕ) → slice_get (map named_row (cond b (e ∷ filter p es) (filter p es))) j ≡ Some r → IsSome (file_by (files_of slots) r.1)
-      at rest true zero h = let number : e.1 ≡ r.1 = (let pair : (e.0.name, e.1) ≡ r = cc in ap (λ (x : List ℕ × ℕ). x.1) pair) in subst (λ n. IsSome (file_by (files_of slots) n)) number (filed e (inl refl))
+      at : ((j : ℕ) → slice_get (map named_row (filter p es)) j ≡ Some r → IsSome (file_by (files_of slots) r.1)) → (b : Bool) (j : ℕ) →
+          slice_get (map named_row (cond b (e ∷ filter p es) (filter p es))) j ≡ Some r → IsSome (file_by (files_of slots) r.1)
+      at rest true zero h = let number : e.1 ≡ r.1 =
+          (let pair : (e.0.name, e.1) ≡ r = cc in ap (λ (x : List ℕ × ℕ). x.1) pair) in subst (λ n. IsSome (file_by (files_of slots) n)) number
+          (filed e (inl refl))
       at rest true (suc j) h = rest j h
       at rest false j h = rest j h
 
@@ -276,21 +313,28 @@ module _ (folders : ℕ) (names : PathMap) (slots : List (Option Kept)) (whole :
   each-filed x among = whole.sound.filed x.0 x.1 (get-entries names x.0 ∙ among-find x (entries names) (entries_sorted names) among)
 
   -- each row has a file
-  pub row-filed : (folder : ℕ) (place : Place) (i : ℕ) (r : List ℕ × ℕ) → slice_get (rows_in names folder place) i ≡ Some r → IsSome (file_by (files_of slots) r.1)
+  pub row-filed : (folder : ℕ) (place : Place) (i : ℕ) (r : List ℕ × ℕ) → slice_get (rows_in names folder place) i ≡ Some r →
+      IsSome (file_by (files_of slots) r.1)
   row-filed folder place = filed-in (λ e. is_in folder place e.0) (entries names) each-filed
 
-  pub all-filed : (folder : ℕ) (place : Place) (k : ℕ) (d : List ℕ × ℕ) → k < length (rows_in names folder place) → IsSome (file_by (files_of slots) (get_or (rows_in names folder place) k d).1)
+  pub all-filed : (folder : ℕ) (place : Place) (k : ℕ) (d : List ℕ × ℕ) → k < length (rows_in names folder place) →
+      IsSome (file_by (files_of slots) (get_or (rows_in names folder place) k d).1)
   all-filed folder place k d within = row-filed folder place k _ (slice_get-get_or (rows_in names folder place) k d within)
 
-  pub row-shown : (folder : ℕ) (place : Place) (i : ℕ) (o : Option (List ℕ × ℕ)) → slice_get (rows_in names folder place) i ≡ o → option_map (name_row (files_of slots)) o ≡ slice_get (rows_of start folder place) i
+  pub row-shown : (folder : ℕ) (place : Place) (i : ℕ) (o : Option (List ℕ × ℕ)) → slice_get (rows_in names folder place) i ≡ o →
+      option_map (name_row (files_of slots)) o ≡ slice_get (rows_of start folder place) i
   row-shown folder place i o is =
-      ap (option_map (name_row (files_of slots))) (sym is) ∙ sym (get-map (name_row (files_of slots)) (rows_in names folder place) i) ∙ ap (λ rows. slice_get rows i) (sym (rows-shown folder place))
+      ap (option_map (name_row (files_of slots))) (sym is) ∙ sym (get-map (name_row (files_of slots)) (rows_in names folder place) i) ∙
+          ap (λ rows. slice_get rows i) (sym (rows-shown folder place))
 
   -- the bytes of a path's file
-  pub slot-bytes : (p : Path) (n : ℕ) (slot : Option Kept) → finmap.get names p ≡ Some n → slot ≡ get_or slots n slot → option_map (λ (k : Kept). k.file.bytes) slot ≡ bytes_at_path start p
+  pub slot-bytes : (p : Path) (n : ℕ) (slot : Option Kept) → finmap.get names p ≡ Some n → slot ≡ get_or slots n slot →
+      option_map (λ (k : Kept). k.file.bytes) slot ≡ bytes_at_path start p
   slot-bytes p n slot at read =
-      let file : file_by (files_of slots) n ≡ option_map (λ (k : Kept). k.file) slot = file-slot slots n ∙ ap (option_map (λ (k : Kept). k.file)) (slot-read slots n slot (slot-number p n at) read) in
-      twice slot ∙ sym (ap (λ o. option_map (λ (f : File). f.bytes) (option_and_then (file_by (files_of slots)) o)) at ∙ ap (option_map (λ (f : File). f.bytes)) file)
+      let file : file_by (files_of slots) n ≡ option_map (λ (k : Kept). k.file) slot =
+          file-slot slots n ∙ ap (option_map (λ (k : Kept). k.file)) (slot-read slots n slot (slot-number p n at) read) in
+      twice slot ∙ sym (ap (λ o. option_map (λ (f : File). f.bytes) (option_and_then (file_by (files_of slots)) o)) at ∙
+          ap (option_map (λ (f : File). f.bytes)) file)
     where
       twice : (s : Option Kept) → option_map (λ (k : Kept). k.file.bytes) s ≡ option_map (λ (f : File). f.bytes) (option_map (λ (k : Kept). k.file) s)
       twice None = refl

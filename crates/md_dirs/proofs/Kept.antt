@@ -21,13 +21,15 @@ Sorted es = IsTrue (is_sorted path_cmp es)
 pub sorted-insert : (rows : List (Path × ℕ)) (p : Path) (i n : ℕ) → Sorted rows → IsGap rows p i → Sorted (insert rows i (p, n))
 sorted-insert rows p i n sorted gap = subst Sorted (gap.placed n) (is_true _ (is_sorted-put path_cmp path_total p n rows (holds _ sorted)))
 
-pub names-insert : (rows : List (Path × ℕ)) (p : Path) (i n : ℕ) → Sorted rows → IsGap rows p i → from_sorted {R = path_cmp} (insert rows i (p, n)) ≡ finmap.insert (from_sorted rows) p n
+pub names-insert : (rows : List (Path × ℕ)) (p : Path) (i n : ℕ) → Sorted rows → IsGap rows p i →
+    from_sorted {R = path_cmp} (insert rows i (p, n)) ≡ finmap.insert (from_sorted rows) p n
 names-insert rows p i n sorted gap =
     same_entries_map _ _ (entries-from_sorted path_cmp _ (holds _ (sorted-insert rows p i n sorted gap)) ∙ sym (gap.placed n)
     ∙ ap (put path_cmp p n) (sym (entries-from_sorted path_cmp rows (holds _ sorted))) ∙ sym (entries-insert path_total (from_sorted rows) p n))
 
 pub sorted-remove : (rows : List (Path × ℕ)) (p : Path) (i : ℕ) → Sorted rows → IsAt rows p i → Sorted (remove rows i)
-sorted-remove rows p i sorted at = subst Sorted at.taken_out (is_true _ (is_sorted-where_key path_cmp (λ q. not (eq_by_cmp path_cmp p q)) rows (holds _ sorted)))
+sorted-remove rows p i sorted at =
+    subst Sorted at.taken_out (is_true _ (is_sorted-where_key path_cmp (λ q. not (eq_by_cmp path_cmp p q)) rows (holds _ sorted)))
 
 turned : (b : Bool) (x y : Option ℕ) → cond (not b) x y ≡ cond b y x
 turned true x y = refl
@@ -36,20 +38,23 @@ turned false x y = refl
 pub at-names : (rows : List (Path × ℕ)) (p : Path) → Sorted rows → finmap.get (from_sorted {R = path_cmp} rows) p ≡ find path_cmp p rows
 at-names rows p sorted = get-from_sorted path_cmp rows p (holds _ sorted)
 
-pub find-other : (p q : Path) (rows : List (Path × ℕ)) → find path_cmp q (where_key path_cmp (λ x. not (eq_by_cmp path_cmp p x)) rows) ≡ cond (eq_by_cmp path_cmp q p) None (find path_cmp q rows)
+pub find-other : (p q : Path) (rows : List (Path × ℕ)) →
+    find path_cmp q (where_key path_cmp (λ x. not (eq_by_cmp path_cmp p x)) rows) ≡ cond (eq_by_cmp path_cmp q p) None (find path_cmp q rows)
 find-other p q rows =
     find-where_key path_cmp (λ x. not (eq_by_cmp path_cmp p x)) q (λ x h. ap (λ y. not (eq_by_cmp path_cmp p y)) (sym (path_exact q x h))) rows
     ∙ turned (eq_by_cmp path_cmp p q) (find path_cmp q rows) None
     ∙ ap (λ b. cond b None (find path_cmp q rows)) ((eq_by_cmp_equiv path_total).symm p q)
 
-pub names-remove : (rows : List (Path × ℕ)) (p : Path) (i : ℕ) → Sorted rows → IsAt rows p i → from_sorted {R = path_cmp} (remove rows i) ≡ finmap.remove (from_sorted rows) p
+pub names-remove : (rows : List (Path × ℕ)) (p : Path) (i : ℕ) → Sorted rows → IsAt rows p i →
+    from_sorted {R = path_cmp} (remove rows i) ≡ finmap.remove (from_sorted rows) p
 names-remove rows p i sorted at =
     same_map path_total path_exact _ _ (λ q.
     get-from_sorted path_cmp (remove rows i) q (holds _ (sorted-remove rows p i sorted at)) ∙ ap (find path_cmp q) (sym at.taken_out)
     ∙ find-other p q rows ∙ ap (λ o. cond (eq_by_cmp path_cmp q p) None o) (sym (at-names rows q sorted)) ∙ sym (get-remove path_total (from_sorted rows) p q))
 
 -- a call that is refused
-pub refused : {T : Type 0} (ask : Ask) (old : State) (f : ℕ) (e : DirError) → ask.refusal old ≡ Some e → e ≢ Fault → e ≢ NoMemory → Obeys {T = T} ask old f (Err e) old f
+pub refused : {T : Type 0} (ask : Ask) (old : State) (f : ℕ) (e : DirError) → ask.refusal old ≡ Some e → e ≢ Fault → e ≢ NoMemory →
+    Obeys {T = T} ask old f (Err e) old f
 refused ask old f e is not_fault not_memory = record {
   accepted = tt;
   done = tt;
@@ -83,7 +88,8 @@ listed-none rows none =
 pub sorted-put : (rows : List (Path × ℕ)) (p : Path) (n : ℕ) → Sorted rows → Sorted (put path_cmp p n rows)
 sorted-put rows p n sorted = is_true _ (is_sorted-put path_cmp path_total p n rows (holds _ sorted))
 
-pub names-put : (rows : List (Path × ℕ)) (p : Path) (n : ℕ) → Sorted rows → from_sorted {R = path_cmp} (put path_cmp p n rows) ≡ finmap.insert (from_sorted rows) p n
+pub names-put : (rows : List (Path × ℕ)) (p : Path) (n : ℕ) → Sorted rows →
+    from_sorted {R = path_cmp} (put path_cmp p n rows) ≡ finmap.insert (from_sorted rows) p n
 names-put rows p n sorted =
     same_entries_map _ _ (entries-from_sorted path_cmp _ (holds _ (sorted-put rows p n sorted))
     ∙ ap (put path_cmp p n) (sym (entries-from_sorted path_cmp rows (holds _ sorted))) ∙ sym (entries-insert path_total (from_sorted rows) p n))

@@ -77,10 +77,12 @@ module _ {Z : Type 0} where
   pub none-is : (es : List (Row Z)) → es ≡ [] → from_sorted {R = name_cmp} (rows_by_name es) ≡ finmap.empty
   none-is es none =
       let none' : finmap.entries (from_sorted {R = name_cmp} []) ≡ [] = entries-from_sorted name_cmp [] tt in
-      ap (λ (fs : List (Row Z)). from_sorted {R = name_cmp} (rows_by_name fs)) none ∙ empty_of_len _ (len-entries (from_sorted {R = name_cmp} []) ∙ ap length none')
+      ap (λ (fs : List (Row Z)). from_sorted {R = name_cmp} (rows_by_name fs)) none ∙
+          empty_of_len _ (len-entries (from_sorted {R = name_cmp} []) ∙ ap length none')
 
   -- the row at a position, by its name
-  pub row-at : (es : List (Row Z)) (i : ℕ) (o : Option (Row Z)) → InOrder es → slice_get es i ≡ o → option_map (λ (e : Row Z). (e.0.items, e.1)) o ≡ slice_get (finmap.entries (from_sorted {R = name_cmp} (rows_by_name es))) i
+  pub row-at : (es : List (Row Z)) (i : ℕ) (o : Option (Row Z)) → InOrder es → slice_get es i ≡ o →
+      option_map (λ (e : Row Z). (e.0.items, e.1)) o ≡ slice_get (finmap.entries (from_sorted {R = name_cmp} (rows_by_name es))) i
   row-at es i o sorted is =
       ap (option_map (λ (e : Row Z). (e.0.items, e.1))) (sym is) ∙ sym (get-map (λ (e : Row Z). (e.0.items, e.1)) es i)
       ∙ ap (λ rows. slice_get rows i) (sym (entries-rows es sorted))
@@ -98,12 +100,14 @@ module _ {Z : Type 0} where
   pub in_order-none : (es : List (Row Z)) → es ≡ [] → InOrder es
   in_order-none es none = subst InOrder (sym none) refl
 
-  tail-sorted : (e f : Vec ℕ Z) (ks : List (Vec ℕ Z)) → IsSorted (λ x y. name_cmp x.items y.items) (e ∷ f ∷ ks) → IsSorted (λ x y. name_cmp x.items y.items) (f ∷ ks)
+  tail-sorted : (e f : Vec ℕ Z) (ks : List (Vec ℕ Z)) → IsSorted (λ x y. name_cmp x.items y.items) (e ∷ f ∷ ks) →
+      IsSorted (λ x y. name_cmp x.items y.items) (f ∷ ks)
   tail-sorted e f ks sorted k d from within =
       let one : suc k + 1 ≡ suc (k + 1) = omega arith in
       subst (λ (j : ℕ). is_lt (name_cmp (get_or (e ∷ f ∷ ks) j d).items (get_or (f ∷ ks) k d).items) ≡ false) one (sorted (suc k) d (omega arith) (omega arith))
 
-  pub rising : (es : List (Row Z)) → IsSorted (λ x y. name_cmp x.items y.items) (keys_of es) → IsDistinct (λ x y. same x.items y.items) (keys_of es) → T (is_sorted name_cmp (rows_by_name es))
+  pub rising : (es : List (Row Z)) → IsSorted (λ x y. name_cmp x.items y.items) (keys_of es) → IsDistinct (λ x y. same x.items y.items) (keys_of es) →
+      T (is_sorted name_cmp (rows_by_name es))
   unfolding IsDistinct
   rising [] sorted unique = tt
   rising (e ∷ []) sorted unique = tt
@@ -112,7 +116,8 @@ module _ {Z : Type 0} where
       let rest = rising (f ∷ es) (tail-sorted e.0 f.0 (keys_of es) sorted) unique.1 in
       both _ _ (both _ _ (is_less e.0.items f.0.items less_here) (below-trans e.0.items f.0.items (rows_by_name es) less_here (first _ _ rest))) rest
 
-  pub in_order : (es : List (Row Z)) → IsSorted (λ x y. name_cmp x.items y.items) (keys_of es) → IsDistinct (λ x y. same x.items y.items) (keys_of es) → InOrder es
+  pub in_order : (es : List (Row Z)) → IsSorted (λ x y. name_cmp x.items y.items) (keys_of es) →
+      IsDistinct (λ x y. same x.items y.items) (keys_of es) → InOrder es
   in_order es sorted unique = is_true _ (rising es sorted unique)
 
   -- keys in order do not fall
@@ -122,13 +127,15 @@ module _ {Z : Type 0} where
   falls-nowhere (e ∷ f ∷ es) h zero d from within = ap is_lt (name_total.antisymm f.0.items e.0.items ∙ ap ordering_reverse (less _ (first _ _ (first _ _ h))))
   falls-nowhere (e ∷ f ∷ es) h (suc k) d from within =
       let one : suc (k + 1) ≡ suc k + 1 = omega arith in
-      subst (λ (j : ℕ). is_lt (name_cmp (get_or (keys_of (e ∷ f ∷ es)) j d).items (get_or (keys_of (f ∷ es)) k d).items) ≡ false) one (falls-nowhere (f ∷ es) (second _ _ h) k d (omega arith) (omega arith))
+      subst (λ (j : ℕ). is_lt (name_cmp (get_or (keys_of (e ∷ f ∷ es)) j d).items (get_or (keys_of (f ∷ es)) k d).items) ≡ false) one
+          (falls-nowhere (f ∷ es) (second _ _ h) k d (omega arith) (omega arith))
 
   pub not_falling : (es : List (Row Z)) → InOrder es → IsSorted (λ x y. name_cmp x.items y.items) (keys_of es)
   not_falling es sorted = falls-nowhere es (holds _ sorted)
 
   -- what two tables have at the names that a table can hold decides what they have at each name
-  pub agree : (F G : List ℕ → Option ℕ) → ((x : Vec ℕ Z) → F x.items ≡ G x.items) → (q : List ℕ) → ((x : Vec ℕ Z) × (x.items ≡ q)) ⊎ ((F q ≡ None) × (G q ≡ None)) → F q ≡ G q
+  pub agree : (F G : List ℕ → Option ℕ) → ((x : Vec ℕ Z) → F x.items ≡ G x.items) → (q : List ℕ) →
+      ((x : Vec ℕ Z) × (x.items ≡ q)) ⊎ ((F q ≡ None) × (G q ≡ None)) → F q ≡ G q
   agree F G at q (inl x) = subst (λ (w : List ℕ). F w ≡ G w) x.1 (at x.0)
   agree F G at q (inr none) = none.0 ∙ sym none.1
 
@@ -155,8 +162,11 @@ module _ {Z : Type 0} where
   ]
 
   -- a name was put
-  put-lookups : (es fs : List (Row Z)) (k : Vec ℕ Z) (v : ℕ) → ((q : Vec ℕ Z) → lookup (by q.items) fs ≡ cond (same k.items q.items) (Some v) (lookup (by q.items) es)) → (q : List ℕ) → lookup (by q) fs ≡ cond (same k.items q) (Some v) (lookup (by q) es)
-  put-lookups es fs k v updated q = agree (λ w. lookup (by w) fs) (λ w. cond (same k.items w) (Some v) (lookup (by w) es)) updated q (elim (stored q ((k, v) ∷ [])) [
+  put-lookups : (es fs : List (Row Z)) (k : Vec ℕ Z) (v : ℕ) →
+      ((q : Vec ℕ Z) → lookup (by q.items) fs ≡ cond (same k.items q.items) (Some v) (lookup (by q.items) es)) → (q : List ℕ) →
+      lookup (by q) fs ≡ cond (same k.items q) (Some v) (lookup (by q) es)
+  put-lookups es fs k v updated q =
+      agree (λ w. lookup (by w) fs) (λ w. cond (same k.items w) (Some v) (lookup (by w) es)) updated q (elim (stored q ((k, v) ∷ [])) [
     | inl x ↦ inl x
     | inr not ↦ elim (both-stored q fs es) [
       | inl x ↦ inl x
@@ -171,7 +181,8 @@ module _ {Z : Type 0} where
       absent : lookup (by q) ((k, v) ∷ []) ≡ None → same k.items q ≡ false
       absent not = turned-test k.items q ∙ sym (ties q k.items) ∙ missed _ not
 
-  pub put-is : (es fs : List (Row Z)) (k : Vec ℕ Z) (v : ℕ) → InOrder es → InOrder fs → ((q : Vec ℕ Z) → lookup (by q.items) fs ≡ cond (same k.items q.items) (Some v) (lookup (by q.items) es))
+  pub put-is : (es fs : List (Row Z)) (k : Vec ℕ Z) (v : ℕ) → InOrder es → InOrder fs →
+      ((q : Vec ℕ Z) → lookup (by q.items) fs ≡ cond (same k.items q.items) (Some v) (lookup (by q.items) es))
       → from_sorted {R = name_cmp} (rows_by_name fs) ≡ finmap.insert (from_sorted (rows_by_name es)) k.items v
   put-is es fs k v sorted sorted' updated = same_map name_total name_exact _ _ (λ q.
       get-rows fs q sorted'
@@ -180,7 +191,8 @@ module _ {Z : Type 0} where
       ∙ sym (get-insert name_total (from_sorted (rows_by_name es)) k.items v q))
 
   -- a name was taken away
-  pub taken-is : (es fs : List (Row Z)) (k : List ℕ) → InOrder es → InOrder fs → ((q : Vec ℕ Z) → lookup (by q.items) fs ≡ cond (same k q.items) None (lookup (by q.items) es))
+  pub taken-is : (es fs : List (Row Z)) (k : List ℕ) → InOrder es → InOrder fs →
+      ((q : Vec ℕ Z) → lookup (by q.items) fs ≡ cond (same k q.items) None (lookup (by q.items) es))
       → from_sorted {R = name_cmp} (rows_by_name fs) ≡ finmap.remove (from_sorted (rows_by_name es)) k
   taken-is es fs k sorted sorted' updated = same_map name_total name_exact _ _ (λ q.
       get-rows fs q sorted'
@@ -202,7 +214,8 @@ module _ {Z : Type 0} where
   pub get-loose : (es : List (Row Z)) (q : List ℕ) → finmap.get (from_entries {R = name_cmp} (rows_by_name es)) q ≡ lookup (by q) es
   get-loose es q = get-from_entries name_total (rows_by_name es) q ∙ sym (lookup-is q es)
 
-  pub put-loose : (es fs : List (Row Z)) (k : Vec ℕ Z) (v : ℕ) → ((q : Vec ℕ Z) → lookup (by q.items) fs ≡ cond (same k.items q.items) (Some v) (lookup (by q.items) es))
+  pub put-loose : (es fs : List (Row Z)) (k : Vec ℕ Z) (v : ℕ) →
+      ((q : Vec ℕ Z) → lookup (by q.items) fs ≡ cond (same k.items q.items) (Some v) (lookup (by q.items) es))
       → from_entries {R = name_cmp} (rows_by_name fs) ≡ finmap.insert (from_entries (rows_by_name es)) k.items v
   put-loose es fs k v updated = same_map name_total name_exact _ _ (λ q.
       get-loose fs q
@@ -210,14 +223,18 @@ module _ {Z : Type 0} where
       ∙ (λ i. cond (turned-test k.items q i) (Some v) (sym (get-loose es q) i))
       ∙ sym (get-insert name_total (from_entries (rows_by_name es)) k.items v q))
 
-  pub sorted-is : (es fs : List (Row Z)) → InOrder fs → ((q : Vec ℕ Z) → lookup (by q.items) fs ≡ lookup (by q.items) es) → from_sorted {R = name_cmp} (rows_by_name fs) ≡ from_entries (rows_by_name es)
+  pub sorted-is : (es fs : List (Row Z)) → InOrder fs → ((q : Vec ℕ Z) → lookup (by q.items) fs ≡ lookup (by q.items) es) →
+      from_sorted {R = name_cmp} (rows_by_name fs) ≡ from_entries (rows_by_name es)
   sorted-is es fs sorted alike = same_map name_total name_exact _ _ (λ q.
       get-rows fs q sorted ∙ agree (λ w. lookup (by w) fs) (λ w. lookup (by w) es) alike q (both-stored q fs es) ∙ sym (get-loose es q))
 
   -- a name came, and one of a row went
-  pub renamed-lookups : (es fs : List (Row Z)) (o k : Vec ℕ Z) (v : ℕ) → ((q : Vec ℕ Z) → lookup (by q.items) fs ≡ cond (same o.items q.items) None (cond (same k.items q.items) (Some v) (lookup (by q.items) es)))
+  pub renamed-lookups : (es fs : List (Row Z)) (o k : Vec ℕ Z) (v : ℕ) →
+      ((q : Vec ℕ Z) → lookup (by q.items) fs ≡ cond (same o.items q.items) None (cond (same k.items q.items) (Some v) (lookup (by q.items) es)))
       → (q : List ℕ) → lookup (by q) fs ≡ cond (same o.items q) None (cond (same k.items q) (Some v) (lookup (by q) es))
-  renamed-lookups es fs o k v renamed q = agree (λ w. lookup (by w) fs) (λ w. cond (same o.items w) None (cond (same k.items w) (Some v) (lookup (by w) es))) renamed q (elim (stored q ((k, v) ∷ [])) [
+  renamed-lookups es fs o k v renamed q =
+      agree (λ w. lookup (by w) fs) (λ w. cond (same o.items w) None (cond (same k.items w) (Some v) (lookup (by w) es))) renamed q
+      (elim (stored q ((k, v) ∷ [])) [
     | inl x ↦ inl x
     | inr not ↦ elim (both-stored q fs es) [
       | inl x ↦ inl x
@@ -236,7 +253,8 @@ module _ {Z : Type 0} where
       nothing true x none = refl
       nothing false x none = none
 
-  below-removed : (x : List ℕ) (t : Vec ℕ Z → Bool) (es : List (Row Z)) → T (below_all name_cmp x (rows_by_name es)) → T (below_all name_cmp x (rows_by_name (remove_entry t es)))
+  below-removed : (x : List ℕ) (t : Vec ℕ Z → Bool) (es : List (Row Z)) → T (below_all name_cmp x (rows_by_name es)) →
+      T (below_all name_cmp x (rows_by_name (remove_entry t es)))
   below-removed x t [] h = tt
   below-removed x t (e ∷ es) h =
       elim (t e.0) as (λ b. T (below_all name_cmp x (rows_by_name (cond b es (e ∷ remove_entry t es))))) [
@@ -244,7 +262,8 @@ module _ {Z : Type 0} where
         | false ↦ both _ _ (first _ _ h) (below-removed x t es (second _ _ h))
       ]
 
-  sorted-removed : (t : Vec ℕ Z → Bool) (es : List (Row Z)) → T (is_sorted name_cmp (rows_by_name es)) → T (is_sorted name_cmp (rows_by_name (remove_entry t es)))
+  sorted-removed : (t : Vec ℕ Z → Bool) (es : List (Row Z)) → T (is_sorted name_cmp (rows_by_name es)) →
+      T (is_sorted name_cmp (rows_by_name (remove_entry t es)))
   sorted-removed t [] h = tt
   sorted-removed t (e ∷ es) h =
       elim (t e.0) as (λ b. T (is_sorted name_cmp (rows_by_name (cond b es (e ∷ remove_entry t es))))) [
@@ -264,7 +283,8 @@ get-within (y ∷ ys) (suc i) x is = let rest = get-within ys i x is in (omega a
 pub take-read : {X : Type 0} (xs : List X) (i : ℕ) (x : X) → slice_get xs i ≡ Some x → take (i + 1) xs ≡ take i xs ++ x ∷ []
 take-read xs i x is = let at = get-within xs i x is in take_more xs i x at.0 ∙ ap (λ y. take i xs ++ y ∷ []) at.1
 
-pub all-read : {X : Type 0} (P : X → Type 0) (xs : List X) (i : ℕ) (x : X) → ((k : ℕ) (d : X) → k < length xs → P (get_or xs k d)) → slice_get xs i ≡ Some x → P x
+pub all-read : {X : Type 0} (P : X → Type 0) (xs : List X) (i : ℕ) (x : X) → ((k : ℕ) (d : X) → k < length xs → P (get_or xs k d)) →
+    slice_get xs i ≡ Some x → P x
 all-read P xs i x all is = let at = get-within xs i x is in subst P at.1 (all i x at.0)
 
 -- two rows that are read at one position have one key

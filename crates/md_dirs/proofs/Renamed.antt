@@ -65,17 +65,20 @@ last-of (a ∷ as') (b ∷ bs) x y is =
     ((λ i. one i ∷ tail.0 i), tail.1)
 
 -- what is left once the last is off
-pub taken-off : {X : Type 0} (xs fs : List X) (x : X) (r : Option X) → xs ++ x ∷ [] ≡ fs ++ option_to_list r → (0 < length (xs ++ x ∷ []) → IsSome r) → (fs ≡ xs) × (r ≡ Some x)
+pub taken-off : {X : Type 0} (xs fs : List X) (x : X) (r : Option X) → xs ++ x ∷ [] ≡ fs ++ option_to_list r →
+    (0 < length (xs ++ x ∷ []) → IsSome r) → (fs ≡ xs) × (r ≡ Some x)
 taken-off {X = X} xs fs x None is some = let h = long-end xs x in let no : IsSome {T = X} None = some (omega arith) in cc
 taken-off xs fs x (Some y) is some = let parts = last-of xs fs x y is in (sym parts.0, ap Some (sym parts.1))
 
 -- rows in order, one of them in another's place
-below-set : (x : List ℕ) (es : List (List ℕ × ℕ)) (i : ℕ) (e : List ℕ × ℕ) → name_cmp x e.0 ≡ Less → T (below_all name_cmp x es) → T (below_all name_cmp x (slice_set es i e))
+below-set : (x : List ℕ) (es : List (List ℕ × ℕ)) (i : ℕ) (e : List ℕ × ℕ) → name_cmp x e.0 ≡ Less → T (below_all name_cmp x es) →
+    T (below_all name_cmp x (slice_set es i e))
 below-set x [] i e is h = tt
 below-set x (f ∷ es) zero e is h = both _ _ (is_less x e.0 is) (second _ _ h)
 below-set x (f ∷ es) (suc i) e is h = both _ _ (first _ _ h) (below-set x es i e is (second _ _ h))
 
-pub below-at : (x : List ℕ) (es : List (List ℕ × ℕ)) (i : ℕ) (d : List ℕ × ℕ) → i < length es → T (below_all name_cmp x es) → name_cmp x (get_or es i d).0 ≡ Less
+pub below-at : (x : List ℕ) (es : List (List ℕ × ℕ)) (i : ℕ) (d : List ℕ × ℕ) → i < length es → T (below_all name_cmp x es) →
+    name_cmp x (get_or es i d).0 ≡ Less
 below-at x [] i d within h = absurd (omega arith)
 below-at x (e ∷ es) zero d within h = less _ (first _ _ h)
 below-at x (e ∷ es) (suc i) d within h = below-at x es i d (omega arith) (second _ _ h)
@@ -84,18 +87,21 @@ turned : (x y : List ℕ) → name_cmp y x ≡ Greater → name_cmp x y ≡ Less
 turned x y is = name_total.antisymm x y ∙ ap ordering_reverse is
 
 sorted-set : (es : List (List ℕ × ℕ)) (i : ℕ) (e : List ℕ × ℕ) → i < length es → T (is_sorted name_cmp es)
-    → (0 < i → name_cmp (get_or es (i - 1) ([], 0)).0 e.0 ≡ Less) → (i + 1 < length es → name_cmp (get_or es (i + 1) ([], 0)).0 e.0 ≡ Greater) → T (is_sorted name_cmp (slice_set es i e))
+    → (0 < i → name_cmp (get_or es (i - 1) ([], 0)).0 e.0 ≡ Less) → (i + 1 < length es → name_cmp (get_or es (i + 1) ([], 0)).0 e.0 ≡ Greater) →
+        T (is_sorted name_cmp (slice_set es i e))
 sorted-set [] i e within h after before = absurd (omega arith)
 sorted-set (f ∷ []) zero e within h after before = tt
 sorted-set (f ∷ g ∷ es) zero e within h after before =
     let above = turned e.0 g.0 (before (omega arith)) in
     both _ _ (both _ _ (is_less e.0 g.0 above) (below-trans e.0 g.0 es above (first _ _ (second _ _ h)))) (second _ _ h)
 sorted-set (f ∷ es) (suc zero) e within h after before =
-    both _ _ (below-set f.0 es 0 e (after (omega arith)) (first _ _ h)) (sorted-set es 0 e (omega arith) (second _ _ h) (λ no. absurd (omega arith)) (λ more. before (omega arith)))
+    both _ _ (below-set f.0 es 0 e (after (omega arith)) (first _ _ h))
+        (sorted-set es 0 e (omega arith) (second _ _ h) (λ no. absurd (omega arith)) (λ more. before (omega arith)))
 sorted-set (f ∷ es) (suc (suc i)) e within h after before =
     let behind : suc (suc i) - 1 ≡ suc i = omega arith in
     let one : suc (suc i) + 1 ≡ suc (suc i + 1) = omega arith in
-    let lower : name_cmp (get_or es i ([], 0)).0 e.0 ≡ Less = subst (λ (k : ℕ). name_cmp (get_or (f ∷ es) k ([], 0)).0 e.0 ≡ Less) behind (after (omega arith)) in
+    let lower : name_cmp (get_or es i ([], 0)).0 e.0 ≡ Less =
+        subst (λ (k : ℕ). name_cmp (get_or (f ∷ es) k ([], 0)).0 e.0 ≡ Less) behind (after (omega arith)) in
     let here : name_cmp f.0 (get_or es i ([], 0)).0 ≡ Less = below-at f.0 es i ([], 0) (omega arith) (first _ _ h) in
     both _ _ (below-set f.0 es (suc i) e (name_total.trans f.0 (get_or es i ([], 0)).0 e.0 here lower) (first _ _ h))
     (sorted-set es (suc i) e (omega arith) (second _ _ h)
@@ -108,7 +114,8 @@ module _ {Z : Type 0} where
       let rows = rows_by_name es in
       let long : i < length rows = omega (arith, length-rows es) in
       let is : rows_by_name (slice_set es i e) ≡ slice_set rows i (e.0.items, e.1) = map-set (λ (x : Row Z). (x.0.items, x.1)) es i e in
-      subst (λ (xs : List (List ℕ × ℕ)). IsTrue (is_sorted name_cmp xs)) (sym is) (is_true _ (sorted-set rows i (e.0.items, e.1) long (holds _ sorted) fits.after fits.before))
+      subst (λ (xs : List (List ℕ × ℕ)). IsTrue (is_sorted name_cmp xs)) (sym is)
+          (is_true _ (sorted-set rows i (e.0.items, e.1) long (holds _ sorted) fits.after fits.before))
 
   -- the key that was found is the name
   pub found-key : (q : List ℕ) (es : List (Row Z)) (k : Vec ℕ Z) → Some k ≡ lookup_key (by q) es → k.items ≡ q
@@ -127,10 +134,12 @@ module _ {Z : Type 0} where
           ap (λ (x : Vec ℕ Z). x.items) key ∙ name_exact e.0.items q tie
       at rest false t h = rest h
 
-  pub renamed-is : (es fs : List (Row Z)) (i : ℕ) (o : List ℕ) (k : Vec ℕ Z) (v : ℕ) → InOrder es → InOrder fs → (r : Renames es i k.items v fs) → r.row.0.items ≡ o
+  pub renamed-is : (es fs : List (Row Z)) (i : ℕ) (o : List ℕ) (k : Vec ℕ Z) (v : ℕ) → InOrder es → InOrder fs → (r : Renames es i k.items v fs) →
+      r.row.0.items ≡ o
       → from_sorted {R = name_cmp} (rows_by_name fs) ≡ finmap.remove (finmap.insert (from_sorted (rows_by_name es)) k.items v) o
   renamed-is es fs i o k v sorted sorted' renames key = same_map name_total name_exact _ _ (λ q.
       get-rows fs q sorted'
       ∙ renamed-lookups es fs renames.row.0 k v renames.names q
       ∙ (λ j. cond (turned-test (key j) q j) None (cond (turned-test k.items q j) (Some v) (sym (get-rows es q sorted) j)))
-      ∙ sym (get-remove name_total (finmap.insert (from_sorted (rows_by_name es)) k.items v) o q ∙ ap (λ x. cond (eq_by_cmp name_cmp q o) None x) (get-insert name_total (from_sorted (rows_by_name es)) k.items v q)))
+      ∙ sym (get-remove name_total (finmap.insert (from_sorted (rows_by_name es)) k.items v) o q ∙
+          ap (λ x. cond (eq_by_cmp name_cmp q o) None x) (get-insert name_total (from_sorted (rows_by_name es)) k.items v q)))

@@ -33,13 +33,16 @@ elsewhere : (folder : ℕ) (place : Place) (p : Path) → directory_number p.fol
 elsewhere folder place p differ = ap (is_in folder place) (sym (path-number p)) ∙ is-elsewhere (directory_number p.folder p.place) folder place p.name differ
 
 number-of-in : (folder : ℕ) (place : Place) (p : Path) → is_in folder place p ≡ true → directory_number p.folder p.place ≡ directory_number folder place
-number-of-in folder place p is = by_number (directory_number p.folder p.place) (directory_number folder place) (λ same. same) (λ differ. let no = elsewhere folder place p differ in cc)
+number-of-in folder place p is =
+    by_number (directory_number p.folder p.place) (directory_number folder place) (λ same. same) (λ differ. let no =
+    elsewhere folder place p differ in cc)
 
 -- rows in order go by the numbers of their directories
 lower : (p q : Path) → path_cmp p q ≡ Less → directory_number p.folder p.place ≤ directory_number q.folder q.place
 lower p q is = by (nat_lt (directory_number q.folder q.place) (directory_number p.folder p.place)) refl
   where
-    by : (b : Bool) → nat_lt (directory_number q.folder q.place) (directory_number p.folder p.place) ≡ b → directory_number p.folder p.place ≤ directory_number q.folder q.place
+    by : (b : Bool) → nat_lt (directory_number q.folder q.place) (directory_number p.folder p.place) ≡ b →
+        directory_number p.folder p.place ≤ directory_number q.folder q.place
     by false t = grind (arith, nat_tests)
     by true t =
         let above : directory_number q.folder q.place < directory_number p.folder p.place = grind (arith, nat_tests) in
@@ -60,24 +63,29 @@ numbers-rise (e ∷ es) h (suc i) zero d le within = absurd (omega arith)
 numbers-rise (e ∷ es) h (suc i) (suc j) d le within = numbers-rise es (second _ _ h) i j d (omega arith) (omega arith)
 
 -- what passes a test from one position up to another alone is the part between them
-filter-part : {X : Type 0} (p : X → Bool) (xs : List X) (a n : ℕ) → a + n ≤ length xs → ((k : ℕ) (d : X) → k < a → p (get_or xs k d) ≡ false) → ((k : ℕ) (d : X) → a ≤ k → k < a + n → p (get_or xs k d) ≡ true)
+filter-part : {X : Type 0} (p : X → Bool) (xs : List X) (a n : ℕ) → a + n ≤ length xs → ((k : ℕ) (d : X) → k < a → p (get_or xs k d) ≡ false) →
+    ((k : ℕ) (d : X) → a ≤ k → k < a + n → p (get_or xs k d) ≡ true)
     → ((k : ℕ) (d : X) → a + n ≤ k → k < length xs → p (get_or xs k d) ≡ false) → filter p xs ≡ take n (drop a xs)
 filter-part p [] zero zero within before between behind = refl
 filter-part p [] zero (suc n) within before between behind = absurd (omega arith)
 filter-part p [] (suc a) n within before between behind = absurd (omega arith)
 filter-part p (x ∷ xs) zero zero within before between behind =
     ap (λ t. cond t (x ∷ filter p xs) (filter p xs)) (behind 0 x (omega arith) (omega arith))
-    ∙ filter-part p xs zero zero (omega arith) (λ k d h. absurd (omega arith)) (λ k d h h'. absurd (omega arith)) (λ k d h h'. behind (suc k) d (omega arith) (omega arith))
+    ∙ filter-part p xs zero zero (omega arith) (λ k d h. absurd (omega arith)) (λ k d h h'. absurd (omega arith))
+        (λ k d h h'. behind (suc k) d (omega arith) (omega arith))
 filter-part p (x ∷ xs) zero (suc n) within before between behind =
     ap (λ t. cond t (x ∷ filter p xs) (filter p xs)) (between 0 x (omega arith) (omega arith))
-    ∙ ap (λ ys. x ∷ ys) (filter-part p xs zero n (omega arith) (λ k d h. absurd (omega arith)) (λ k d h h'. between (suc k) d (omega arith) (omega arith)) (λ k d h h'. behind (suc k) d (omega arith) (omega arith)))
+    ∙ ap (λ ys. x ∷ ys) (filter-part p xs zero n (omega arith) (λ k d h. absurd (omega arith))
+        (λ k d h h'. between (suc k) d (omega arith) (omega arith)) (λ k d h h'. behind (suc k) d (omega arith) (omega arith)))
 filter-part p (x ∷ xs) (suc a) n within before between behind =
     ap (λ t. cond t (x ∷ filter p xs) (filter p xs)) (before 0 x (omega arith))
-    ∙ filter-part p xs a n (omega arith) (λ k d h. before (suc k) d (omega arith)) (λ k d h h'. between (suc k) d (omega arith) (omega arith)) (λ k d h h'. behind (suc k) d (omega arith) (omega arith))
+    ∙ filter-part p xs a n (omega arith) (λ k d h. before (suc k) d (omega arith)) (λ k d h h'. between (suc k) d (omega arith) (omega arith))
+        (λ k d h h'. behind (suc k) d (omega arith) (omega arith))
 
 -- where the rows of a directory begin and end, by the numbers of their directories
 module _ (rows : List (Path × ℕ)) (n a b : ℕ) (start : IsPartitionPoint (λ e. ltb (number_at e) n ≡ true) (λ e. ltb (number_at e) n ≡ false) rows a)
-    (end : IsPartitionPoint (λ e. leb (number_at e) n ≡ true) (λ e. leb (number_at e) n ≡ false) rows b) (within : a ≤ length rows) (within' : b ≤ length rows) where
+    (end : IsPartitionPoint (λ e. leb (number_at e) n ≡ true) (λ e. leb (number_at e) n ≡ false) rows b) (within : a ≤ length rows)
+        (within' : b ≤ length rows) where
   pub start-first : a ≤ b
   start-first = by (nat_lt b a) refl
     where
@@ -97,7 +105,8 @@ module _ (rows : List (Path × ℕ)) (n a b : ℕ) (start : IsPartitionPoint (λ
       let ordered = start-first in
       sym (filter-part (λ e. is_in folder place e.0) rows a (b - a) (omega arith)
       (λ k d h. elsewhere folder place (get_or rows k d).0 (λ same. let low = ltb-true _ n (start.0 k d (omega arith) h) in absurd (omega arith)))
-      (λ k d h h'. here folder place (get_or rows k d).0 (let high = ltb-false _ n (start.1 k d h (omega arith)) in let low = leb-true _ n (end.0 k d (omega arith) (omega arith)) in omega arith))
+      (λ k d h h'. here folder place (get_or rows k d).0 (let high = ltb-false _ n (start.1 k d h (omega arith)) in let low =
+          leb-true _ n (end.0 k d (omega arith) (omega arith)) in omega arith))
       (λ k d h h'. elsewhere folder place (get_or rows k d).0 (λ same. let high = leb-false _ n (end.1 k d (omega arith) h') in absurd (omega arith))))
 
 -- the names of a directory's rows are in order
@@ -108,19 +117,23 @@ names-order folder place p q at at' =
     let same' : path_at n q.name ≡ q = ap (λ k. path_at k q.name) (sym (number-of-in folder place q at')) ∙ path-number q in
     sym (λ i. path_cmp (same i) (same' i)) ∙ same-directory n p.name q.name
 
-below-names : (folder : ℕ) (place : Place) (p : Path) (es : List (Path × ℕ)) → is_in folder place p ≡ true → T (below_all path_cmp p es) → T (below_all name_cmp p.name (map named_row (filter (λ e. is_in folder place e.0) es)))
+below-names : (folder : ℕ) (place : Place) (p : Path) (es : List (Path × ℕ)) → is_in folder place p ≡ true → T (below_all path_cmp p es) →
+    T (below_all name_cmp p.name (map named_row (filter (λ e. is_in folder place e.0) es)))
 below-names folder place p [] at h = tt
 below-names folder place p (e ∷ es) at h = by (below-names folder place p es at (second _ _ h)) (is_in folder place e.0) refl
   where
-    by : T (below_all name_cmp p.name (map named_row (filter (λ x. is_in folder place x.0) es))) → (b : Bool) → is_in folder place e.0 ≡ b → T (below_all name_cmp p.name (map named_row (cond b (e ∷ filter (λ x. is_in folder place x.0) es) (filter (λ x. is_in folder place x.0) es))))
+    by : T (below_all name_cmp p.name (map named_row (filter (λ x. is_in folder place x.0) es))) → (b : Bool) → is_in folder place e.0 ≡ b →
+        T (below_all name_cmp p.name (map named_row (cond b (e ∷ filter (λ x. is_in folder place x.0) es) (filter (λ x. is_in folder place x.0) es))))
     by rest true t = both _ _ (subst (λ r. T (is_lt r)) (names-order folder place p e.0 at t) (first _ _ h)) rest
     by rest false t = rest
 
-pub names-sorted : (folder : ℕ) (place : Place) (es : List (Path × ℕ)) → T (is_sorted path_cmp es) → T (is_sorted name_cmp (map named_row (filter (λ e. is_in folder place e.0) es)))
+pub names-sorted : (folder : ℕ) (place : Place) (es : List (Path × ℕ)) → T (is_sorted path_cmp es) →
+    T (is_sorted name_cmp (map named_row (filter (λ e. is_in folder place e.0) es)))
 names-sorted folder place [] h = tt
 names-sorted folder place (e ∷ es) h = by (names-sorted folder place es (second _ _ h)) (is_in folder place e.0) refl
   where
-    by : T (is_sorted name_cmp (map named_row (filter (λ x. is_in folder place x.0) es))) → (b : Bool) → is_in folder place e.0 ≡ b → T (is_sorted name_cmp (map named_row (cond b (e ∷ filter (λ x. is_in folder place x.0) es) (filter (λ x. is_in folder place x.0) es))))
+    by : T (is_sorted name_cmp (map named_row (filter (λ x. is_in folder place x.0) es))) → (b : Bool) → is_in folder place e.0 ≡ b →
+        T (is_sorted name_cmp (map named_row (cond b (e ∷ filter (λ x. is_in folder place x.0) es) (filter (λ x. is_in folder place x.0) es))))
     by rest true t = both _ _ (below-names folder place e.0 es t (first _ _ h)) rest
     by rest false t = rest
 
@@ -142,11 +155,13 @@ zones-rise u es h i j d le within =
     omega arith
 
 -- what a list in order shows of a directory
-pub rows-listed : (rows : List (Path × ℕ)) (folder : ℕ) (place : Place) → T (is_sorted path_cmp rows) → rows_in (from_sorted rows) folder place ≡ map named_row (filter (λ e. is_in folder place e.0) rows)
+pub rows-listed : (rows : List (Path × ℕ)) (folder : ℕ) (place : Place) → T (is_sorted path_cmp rows) →
+    rows_in (from_sorted rows) folder place ≡ map named_row (filter (λ e. is_in folder place e.0) rows)
 rows-listed rows folder place h = ap (λ es. map named_row (filter (λ e. is_in folder place e.0) es)) (entries-from_sorted path_cmp rows h)
 
 -- where the rows begin that are not below a unique name, and those that are not below it with a colon
-module _ (u : List ℕ) (rows : List (Path × ℕ)) (i : ℕ) (point : IsPartitionPoint (λ e. ltb (zone u e.0.name) 1 ≡ true) (λ e. ltb (zone u e.0.name) 1 ≡ false) rows i) where
+module _ (u : List ℕ) (rows : List (Path × ℕ)) (i : ℕ)
+    (point : IsPartitionPoint (λ e. ltb (zone u e.0.name) 1 ≡ true) (λ e. ltb (zone u e.0.name) 1 ≡ false) rows i) where
   row : Path × ℕ
   row = (record { folder = 0; place = Tmp; name = [] }, 0)
 
@@ -166,7 +181,8 @@ module _ (u : List ℕ) (rows : List (Path × ℕ)) (i : ℕ) (point : IsPartiti
   place-named e within is named =
       name-point u (map named_row rows) i (omega (arith, length-named rows)) (below-point (omega arith)) (named-at true e within is named)
 
-  pub place-info : (j : ℕ) → IsPartitionPoint (λ e. ltb (zone u e.0.name) 3 ≡ true) (λ e. ltb (zone u e.0.name) 3 ≡ false) rows j → i ≤ length rows → j ≤ length rows → T (is_sorted name_cmp (map named_row rows))
+  pub place-info : (j : ℕ) → IsPartitionPoint (λ e. ltb (zone u e.0.name) 3 ≡ true) (λ e. ltb (zone u e.0.name) 3 ≡ false) rows j → i ≤ length rows →
+      j ≤ length rows → T (is_sorted name_cmp (map named_row rows))
       → (i < length rows → (e : Path × ℕ) × (e ≡ get_or rows i e) × (is_named u e.0.name ≡ false)) → IsFirstPlace (map named_row rows) u j
   place-info j info within within' sorted unnamed =
       first-is-info u (map named_row rows) j sorted
@@ -179,13 +195,17 @@ module _ (u : List ℕ) (rows : List (Path × ℕ)) (i : ℕ) (point : IsPartiti
         behind = λ k from here. let high = ltb-false _ 3 (info.1 k row from (omega (arith, length-named rows))) in let same = zone-at k here in omega arith;
       })
 
-pub row-listed : (rows : List (Path × ℕ)) (folder : ℕ) (place : Place) (i : ℕ) (o : Option (Path × ℕ)) → T (is_sorted path_cmp rows) → slice_get (filter (λ e. is_in folder place e.0) rows) i ≡ o
+pub row-listed : (rows : List (Path × ℕ)) (folder : ℕ) (place : Place) (i : ℕ) (o : Option (Path × ℕ)) → T (is_sorted path_cmp rows) →
+    slice_get (filter (λ e. is_in folder place e.0) rows) i ≡ o
     → option_map named_row o ≡ slice_get (rows_in (from_sorted rows) folder place) i
 row-listed rows folder place i o h is =
-    ap (option_map named_row) (sym is) ∙ sym (get-map named_row (filter (λ e. is_in folder place e.0) rows) i) ∙ ap (λ es. slice_get es i) (sym (rows-listed rows folder place h))
+    ap (option_map named_row) (sym is) ∙ sym (get-map named_row (filter (λ e. is_in folder place e.0) rows) i) ∙
+        ap (λ es. slice_get es i) (sym (rows-listed rows folder place h))
 
 -- what holds of each row by its name holds of each row
-pub each-named : (P : List ℕ × ℕ → Type 0) (es : List (Path × ℕ)) → ((k : ℕ) (d : List ℕ × ℕ) → k < length (map named_row es) → P (get_or (map named_row es) k d)) → (k : ℕ) (d : Path × ℕ) → k < length es → P (named_row (get_or es k d))
+pub each-named : (P : List ℕ × ℕ → Type 0) (es : List (Path × ℕ)) →
+    ((k : ℕ) (d : List ℕ × ℕ) → k < length (map named_row es) → P (get_or (map named_row es) k d)) → (k : ℕ) (d : Path × ℕ) → k < length es →
+    P (named_row (get_or es k d))
 each-named P es all k d within = subst P (at es k) (all k (named_row d) (omega (arith, length-named es)))
   where
     at : (xs : List (Path × ℕ)) (i : ℕ) → get_or (map named_row xs) i (named_row d) ≡ named_row (get_or xs i d)

@@ -54,7 +54,8 @@ find-below p (x ∷ xs) ys h =
 put-below : (p : Path) (v : ℕ) (xs ys : List (Path × ℕ)) → T (all_below p xs) → put path_cmp p v (xs ++ ys) ≡ xs ++ put path_cmp p v ys
 put-below p v [] ys h = refl
 put-below p v (x ∷ xs) ys h =
-    ap (λ r. by_order r ((p, v) ∷ x ∷ (xs ++ ys)) ((x.0, v) ∷ (xs ++ ys)) (x ∷ put path_cmp p v (xs ++ ys))) (above p x.0 (first _ _ h)) ∙ ap (λ es. x ∷ es) (put-below p v xs ys (second _ _ h))
+    ap (λ r. by_order r ((p, v) ∷ x ∷ (xs ++ ys)) ((x.0, v) ∷ (xs ++ ys)) (x ∷ put path_cmp p v (xs ++ ys))) (above p x.0 (first _ _ h)) ∙
+        ap (λ es. x ∷ es) (put-below p v xs ys (second _ _ h))
 
 -- the paths that aren't p
 abbrev pub other : Path → Path → Bool
@@ -63,7 +64,8 @@ other p q = not (eq_by_cmp path_cmp p q)
 where-below : (p : Path) (xs ys : List (Path × ℕ)) → T (all_below p xs) → where_key path_cmp (other p) (xs ++ ys) ≡ xs ++ where_key path_cmp (other p) ys
 where-below p [] ys h = refl
 where-below p (x ∷ xs) ys h =
-    ap (λ r. cond (not (is_eq r)) (x ∷ where_key path_cmp (other p) (xs ++ ys)) (where_key path_cmp (other p) (xs ++ ys))) (above p x.0 (first _ _ h)) ∙ ap (λ es. x ∷ es) (where-below p xs ys (second _ _ h))
+    ap (λ r. cond (not (is_eq r)) (x ∷ where_key path_cmp (other p) (xs ++ ys)) (where_key path_cmp (other p) (xs ++ ys)))
+        (above p x.0 (first _ _ h)) ∙ ap (λ es. x ∷ es) (where-below p xs ys (second _ _ h))
 
 sorted-after : (xs ys : List (Path × ℕ)) → T (is_sorted path_cmp (xs ++ ys)) → T (is_sorted path_cmp ys)
 sorted-after [] ys h = h
@@ -73,7 +75,8 @@ all_below_more : (p : Path) (xs : List (Path × ℕ)) (e : Path × ℕ) → T (a
 all_below_more p [] e h is = both _ _ (subst (λ r. T (is_lt r)) (sym is) tt) tt
 all_below_more p (x ∷ xs) e h is = both _ _ (first _ _ h) (all_below_more p xs e (second _ _ h) is)
 
-pub all_below-take : (p : Path) (rows : List (Path × ℕ)) (i : ℕ) (e : Path × ℕ) → IsTrue (all_below p (take i rows)) → i < length rows → e ≡ get_or rows i e → path_cmp e.0 p ≡ Less → IsTrue (all_below p (take (i + 1) rows))
+pub all_below-take : (p : Path) (rows : List (Path × ℕ)) (i : ℕ) (e : Path × ℕ) → IsTrue (all_below p (take i rows)) → i < length rows →
+    e ≡ get_or rows i e → path_cmp e.0 p ≡ Less → IsTrue (all_below p (take (i + 1) rows))
 all_below-take p rows i e h within is less =
     let one : take (i + 1) rows ≡ take i rows ++ e ∷ [] = take_more rows i e within ∙ ap (λ x. take i rows ++ x ∷ []) (sym is) in
     is_true _ (subst (λ xs. T (all_below p xs)) (sym one) (all_below_more p (take i rows) e (holds _ h) less))
@@ -85,27 +88,36 @@ find-above p (e ∷ es) h = ap (λ r. cond (is_eq r) (Some e.1) (find path_cmp p
 
 where-above : (p : Path) (es : List (Path × ℕ)) → T (below_all path_cmp p es) → where_key path_cmp (other p) es ≡ es
 where-above p [] h = refl
-where-above p (e ∷ es) h = ap (λ r. cond (not (is_eq r)) (e ∷ where_key path_cmp (other p) es) (where_key path_cmp (other p) es)) (less _ (first _ _ h)) ∙ ap (λ xs. e ∷ xs) (where-above p es (second _ _ h))
+where-above p (e ∷ es) h =
+    ap (λ r. cond (not (is_eq r)) (e ∷ where_key path_cmp (other p) es) (where_key path_cmp (other p) es)) (less _ (first _ _ h)) ∙
+    ap (λ xs. e ∷ xs) (where-above p es (second _ _ h))
 
 below-trans : (p q : Path) (es : List (Path × ℕ)) → path_cmp p q ≡ Less → T (below_all path_cmp q es) → T (below_all path_cmp p es)
 below-trans p q [] is h = tt
-below-trans p q (e ∷ es) is h = both _ _ (subst (λ r. T (is_lt r)) (sym (path_total.trans p q e.0 is (less _ (first _ _ h)))) tt) (below-trans p q es is (second _ _ h))
+below-trans p q (e ∷ es) is h =
+    both _ _ (subst (λ r. T (is_lt r)) (sym (path_total.trans p q e.0 is (less _ (first _ _ h)))) tt) (below-trans p q es is (second _ _ h))
 
 -- rows cut where a path's row is, or would be
 abbrev Sorted : List (Path × ℕ) → Type 0
 Sorted es = T (is_sorted path_cmp es)
 
-at_cut : (p : Path) (xs ys : List (Path × ℕ)) (file : ℕ) → Sorted (xs ++ (p, file) ∷ ys) → T (all_below p xs) → (find path_cmp p (xs ++ (p, file) ∷ ys) ≡ Some file) × (where_key path_cmp (other p) (xs ++ (p, file) ∷ ys) ≡ xs ++ ys) × ((v : ℕ) → put path_cmp p v (xs ++ (p, file) ∷ ys) ≡ xs ++ (p, v) ∷ ys)
+at_cut : (p : Path) (xs ys : List (Path × ℕ)) (file : ℕ) → Sorted (xs ++ (p, file) ∷ ys) → T (all_below p xs) →
+    (find path_cmp p (xs ++ (p, file) ∷ ys) ≡ Some file) × (where_key path_cmp (other p) (xs ++ (p, file) ∷ ys) ≡ xs ++ ys) ×
+    ((v : ℕ) → put path_cmp p v (xs ++ (p, file) ∷ ys) ≡ xs ++ (p, v) ∷ ys)
 at_cut p xs ys file sorted below =
     let rest = sorted-after xs ((p, file) ∷ ys) sorted in
     let tie : eq_by_cmp path_cmp p p ≡ true = ap is_eq (tied_itself path_total p) in (
       find-below p xs ((p, file) ∷ ys) below ∙ ap (λ b. cond b (Some file) (find path_cmp p ys)) tie,
-      where-below p xs ((p, file) ∷ ys) below ∙ ap (λ zs. xs ++ zs) (ap (λ b. cond (not b) ((p, file) ∷ where_key path_cmp (other p) ys) (where_key path_cmp (other p) ys)) tie ∙ where-above p ys (first _ _ rest)),
-      λ v. put-below p v xs ((p, file) ∷ ys) below ∙ ap (λ r. xs ++ by_order r ((p, v) ∷ (p, file) ∷ ys) ((p, v) ∷ ys) ((p, file) ∷ put path_cmp p v ys)) (tied_itself path_total p),
+      where-below p xs ((p, file) ∷ ys) below ∙
+      ap (λ zs. xs ++ zs) (ap (λ b. cond (not b) ((p, file) ∷ where_key path_cmp (other p) ys) (where_key path_cmp (other p) ys)) tie ∙
+      where-above p ys (first _ _ rest)),
+      λ v. put-below p v xs ((p, file) ∷ ys) below ∙
+      ap (λ r. xs ++ by_order r ((p, v) ∷ (p, file) ∷ ys) ((p, v) ∷ ys) ((p, file) ∷ put path_cmp p v ys)) (tied_itself path_total p),
     )
 
 -- at the first row that isn't below p: it is p's
-pub at : (rows : List (Path × ℕ)) (p : Path) (i : ℕ) (e : Path × ℕ) → IsTrue (is_sorted path_cmp rows) → IsTrue (all_below p (take i rows)) → i < length rows → e ≡ get_or rows i e → path_cmp e.0 p ≡ Equal → IsAt rows p i
+pub at : (rows : List (Path × ℕ)) (p : Path) (i : ℕ) (e : Path × ℕ) → IsTrue (is_sorted path_cmp rows) → IsTrue (all_below p (take i rows)) →
+    i < length rows → e ≡ get_or rows i e → path_cmp e.0 p ≡ Equal → IsAt rows p i
 at rows p i e sorted below within is tie =
     let key : e ≡ (p, e.1) = λ k. (path_exact e.0 p tie k, e.1) in
     let here : drop i rows ≡ (p, e.1) ∷ drop (i + 1) rows = drop_more rows i e within ∙ ap (λ x. x ∷ drop (i + 1) rows) (sym is ∙ key) in
@@ -114,22 +126,26 @@ at rows p i e sorted below within is tie =
     record {
       within = within;
       found = (e.1, here, ap (find path_cmp p) (sym parted) ∙ cut.0);
-      replaced = λ v. ap (put path_cmp p v) (sym parted) ∙ cut.2 v ∙ ap (λ k. take i rows ++ (p, v) ∷ drop k rows) (add-one i) ∙ sym (set_split rows i (p, v) within);
+      replaced = λ v. ap (put path_cmp p v) (sym parted) ∙ cut.2 v ∙ ap (λ k. take i rows ++ (p, v) ∷ drop k rows) (add-one i) ∙
+          sym (set_split rows i (p, v) within);
       taken_out = ap (where_key path_cmp (other p)) (sym parted) ∙ cut.1 ∙ ap (λ k. take i rows ++ drop k rows) (add-one i);
     }
 
-gap_cut : (p : Path) (xs ys : List (Path × ℕ)) (e : Path × ℕ) → Sorted (xs ++ e ∷ ys) → T (all_below p xs) → path_cmp p e.0 ≡ Less → (find path_cmp p (xs ++ e ∷ ys) ≡ None) × ((file : ℕ) → put path_cmp p file (xs ++ e ∷ ys) ≡ xs ++ (p, file) ∷ e ∷ ys)
+gap_cut : (p : Path) (xs ys : List (Path × ℕ)) (e : Path × ℕ) → Sorted (xs ++ e ∷ ys) → T (all_below p xs) → path_cmp p e.0 ≡ Less →
+    (find path_cmp p (xs ++ e ∷ ys) ≡ None) × ((file : ℕ) → put path_cmp p file (xs ++ e ∷ ys) ≡ xs ++ (p, file) ∷ e ∷ ys)
 gap_cut p xs ys e sorted below is =
     let rest = sorted-after xs (e ∷ ys) sorted in (
       find-below p xs (e ∷ ys) below ∙ find-above p (e ∷ ys) (both _ _ (subst (λ r. T (is_lt r)) (sym is) tt) (below-trans p e.0 ys is (first _ _ rest))),
       λ file. put-below p file xs (e ∷ ys) below ∙ ap (λ r. xs ++ by_order r ((p, file) ∷ e ∷ ys) ((e.0, file) ∷ ys) (e ∷ put path_cmp p file ys)) is,
     )
 
-pub gap : (rows : List (Path × ℕ)) (p : Path) (i : ℕ) (e : Path × ℕ) → IsTrue (is_sorted path_cmp rows) → IsTrue (all_below p (take i rows)) → i < length rows → e ≡ get_or rows i e → path_cmp e.0 p ≡ Greater → IsGap rows p i
+pub gap : (rows : List (Path × ℕ)) (p : Path) (i : ℕ) (e : Path × ℕ) → IsTrue (is_sorted path_cmp rows) → IsTrue (all_below p (take i rows)) →
+    i < length rows → e ≡ get_or rows i e → path_cmp e.0 p ≡ Greater → IsGap rows p i
 gap rows p i e sorted below within is above =
     let here : drop i rows ≡ e ∷ drop (i + 1) rows = drop_more rows i e within ∙ ap (λ x. x ∷ drop (i + 1) rows) (sym is) in
     let parted : take i rows ++ e ∷ drop (i + 1) rows ≡ rows = ap (λ xs. take i rows ++ xs) (sym here) ∙ take-append-drop i rows in
-    let cut = gap_cut p (take i rows) (drop (i + 1) rows) e (subst Sorted (sym parted) (holds _ sorted)) (holds _ below) (path_total.antisymm p e.0 ∙ ap ordering_reverse above) in
+    let cut = gap_cut p (take i rows) (drop (i + 1) rows) e (subst Sorted (sym parted) (holds _ sorted)) (holds _ below) (path_total.antisymm p e.0 ∙
+        ap ordering_reverse above) in
     record {
       within = omega arith;
       absent = ap (find path_cmp p) (sym parted) ∙ cut.0;
@@ -157,21 +173,25 @@ below-row (x ∷ xs) ys e h = both _ _ (below-in x.0 xs ys e (first _ _ h)) (bel
 
 all_below-trans : (p q : Path) (xs : List (Path × ℕ)) → T (all_below p xs) → path_cmp p q ≡ Less → T (all_below q xs)
 all_below-trans p q [] h is = tt
-all_below-trans p q (x ∷ xs) h is = both _ _ (subst (λ r. T (is_lt r)) (sym (path_total.trans x.0 p q (less _ (first _ _ h)) is)) tt) (all_below-trans p q xs (second _ _ h) is)
+all_below-trans p q (x ∷ xs) h is =
+    both _ _ (subst (λ r. T (is_lt r)) (sym (path_total.trans x.0 p q (less _ (first _ _ h)) is)) tt) (all_below-trans p q xs (second _ _ h) is)
 
-before-row : (rows : List (Path × ℕ)) (i : ℕ) (e : Path × ℕ) → IsTrue (is_sorted path_cmp rows) → i < length rows → e ≡ get_or rows i e → T (all_below e.0 (take i rows))
+before-row : (rows : List (Path × ℕ)) (i : ℕ) (e : Path × ℕ) → IsTrue (is_sorted path_cmp rows) → i < length rows → e ≡ get_or rows i e →
+    T (all_below e.0 (take i rows))
 before-row rows i e sorted within is =
     let here : drop i rows ≡ e ∷ drop (i + 1) rows = drop_more rows i e within ∙ ap (λ x. x ∷ drop (i + 1) rows) (sym is) in
     let parted : take i rows ++ e ∷ drop (i + 1) rows ≡ rows = ap (λ xs. take i rows ++ xs) (sym here) ∙ take-append-drop i rows in
     below-row (take i rows) (drop (i + 1) rows) e (subst Sorted (sym parted) (holds _ sorted))
 
 -- a row in the middle that is below p: so is all up to it
-pub all_below-to : (rows : List (Path × ℕ)) (p : Path) (i : ℕ) (e : Path × ℕ) → IsTrue (is_sorted path_cmp rows) → i < length rows → e ≡ get_or rows i e → path_cmp e.0 p ≡ Less → IsTrue (all_below p (take (i + 1) rows))
+pub all_below-to : (rows : List (Path × ℕ)) (p : Path) (i : ℕ) (e : Path × ℕ) → IsTrue (is_sorted path_cmp rows) → i < length rows →
+    e ≡ get_or rows i e → path_cmp e.0 p ≡ Less → IsTrue (all_below p (take (i + 1) rows))
 all_below-to rows p i e sorted within is less =
     all_below-take p rows i e (is_true _ (all_below-trans e.0 p (take i rows) (before-row rows i e sorted within is) less)) within is less
 
 -- a row in the middle that is p's
-pub at-row : (rows : List (Path × ℕ)) (p : Path) (i : ℕ) (e : Path × ℕ) → IsTrue (is_sorted path_cmp rows) → i < length rows → e ≡ get_or rows i e → path_cmp e.0 p ≡ Equal → IsAt rows p i
+pub at-row : (rows : List (Path × ℕ)) (p : Path) (i : ℕ) (e : Path × ℕ) → IsTrue (is_sorted path_cmp rows) → i < length rows → e ≡ get_or rows i e →
+    path_cmp e.0 p ≡ Equal → IsAt rows p i
 at-row rows p i e sorted within is tie =
     at rows p i e sorted (is_true _ (subst (λ q. T (all_below q (take i rows))) (path_exact e.0 p tie) (before-row rows i e sorted within is))) within is tie
 
@@ -180,7 +200,8 @@ abbrev pub EndsAbove : List (Path × ℕ) → Path → ℕ → Type 0
 EndsAbove rows p i = (i ≡ length rows) ⊎ ((e : Path × ℕ) × (i < length rows) × (e ≡ get_or rows i e) × (path_cmp e.0 p ≡ Greater))
 
 -- where what is below p meets what is above it
-pub gap-between : (rows : List (Path × ℕ)) (p : Path) (low high : ℕ) → IsTrue (is_sorted path_cmp rows) → IsTrue (all_below p (take low rows)) → low ≡ high → EndsAbove rows p high → IsGap rows p low
+pub gap-between : (rows : List (Path × ℕ)) (p : Path) (low high : ℕ) → IsTrue (is_sorted path_cmp rows) → IsTrue (all_below p (take low rows)) →
+    low ≡ high → EndsAbove rows p high → IsGap rows p low
 gap-between rows p low high sorted below meet ends = elim (subst (EndsAbove rows p) (sym meet) ends) [
   | inl end ↦ subst (IsGap rows p) (sym end) (gap_end rows p low below (omega arith))
   | inr (e, within, is, above) ↦ gap rows p low e sorted below within is above

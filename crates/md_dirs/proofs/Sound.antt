@@ -120,7 +120,8 @@ swept-kept (Some n) s q m at = by (is_named (entries s.names) n) refl
   where
     by : (b : Bool) → is_named (entries s.names) n ≡ b → file_by (cond b s.files (slice_set s.files n None)) m ≡ file_by s.files m
     by true is = refl
-    by false is = file_by-set_other s.files n m None (λ same. let h = path-named s q m at in let g : is_named (entries s.names) m ≡ false = ap (is_named (entries s.names)) same ∙ is in cc)
+    by false is = file_by-set_other s.files n m None (λ same. let h = path-named s q m at in let g : is_named (entries s.names) m ≡ false =
+        ap (is_named (entries s.names)) same ∙ is in cc)
 
 set-none : (files : List (Option File)) (i j : ℕ) → j ≡ i → file_by (slice_set files i None) j ≡ None
 set-none files i j same = ap (file_by (slice_set files i None)) same ∙ none files i
@@ -131,11 +132,13 @@ set-none files i j same = ap (file_by (slice_set files i None)) same ∙ none fi
     none (f ∷ fs) (suc k) = none fs k
 
 -- a file that is there was there before, and its number was not to be given back or has a path
-pub swept-there : (o : Option ℕ) (s : State) (m : ℕ) → IsSome (file_by (swept o s).files m) → IsSome (file_by s.files m) × ((o ≡ Some m) → (q : Path) × (file_at s q ≡ Some m))
+pub swept-there : (o : Option ℕ) (s : State) (m : ℕ) → IsSome (file_by (swept o s).files m) →
+    IsSome (file_by s.files m) × ((o ≡ Some m) → (q : Path) × (file_at s q ≡ Some m))
 swept-there None s m is = (is, λ h. cc)
 swept-there (Some n) s m is = by (is_named (entries s.names) n) refl is
   where
-    by : (b : Bool) → is_named (entries s.names) n ≡ b → IsSome (file_by (cond b s.files (slice_set s.files n None)) m) → IsSome (file_by s.files m) × ((Some n ≡ Some m) → (q : Path) × (file_at s q ≡ Some m))
+    by : (b : Bool) → is_named (entries s.names) n ≡ b → IsSome (file_by (cond b s.files (slice_set s.files n None)) m) →
+        IsSome (file_by s.files m) × ((Some n ≡ Some m) → (q : Path) × (file_at s q ≡ Some m))
     by true t h = (h, λ same. let number : n ≡ m = cc in named-path s m (ap (is_named (entries s.names)) (sym number) ∙ t))
     by false t h = by_number m n
         (λ same.
@@ -145,7 +148,8 @@ swept-there (Some n) s m is = by (is_named (entries s.names) n) refl is
         (λ not. (subst (λ (f : Option File). IsSome f) (file_by-set_other s.files n m None not) h, λ same. absurd (not (sym cc))))
 
 -- where all is sound but for one number without a path, giving that back makes it sound
-pub sound-swept : (o : Option ℕ) (s : State) → ((p : Path) (m : ℕ) → file_at s p ≡ Some m → IsSome (file_by s.files m)) → ((m : ℕ) → o ≢ Some m → IsSome (file_by s.files m) → (q : Path) × (file_at s q ≡ Some m))
+pub sound-swept : (o : Option ℕ) (s : State) → ((p : Path) (m : ℕ) → file_at s p ≡ Some m → IsSome (file_by s.files m)) →
+    ((m : ℕ) → o ≢ Some m → IsSome (file_by s.files m) → (q : Path) × (file_at s q ≡ Some m))
     → ((p : Path) (m : ℕ) → file_at s p ≡ Some m → p.folder < s.folders) → IsSound (swept o s)
 sound-swept o s filed has_path housed = record {
   housed = housed;
@@ -153,7 +157,8 @@ sound-swept o s filed has_path housed = record {
   has_path = λ m is. let before = swept-there o s m is in by o m before.1 (λ not. has_path m not before.0);
 }
   where
-    by : (x : Option ℕ) (m : ℕ) → ((x ≡ Some m) → (q : Path) × (file_at s q ≡ Some m)) → ((x ≢ Some m) → (q : Path) × (file_at s q ≡ Some m)) → (q : Path) × (file_at s q ≡ Some m)
+    by : (x : Option ℕ) (m : ℕ) → ((x ≡ Some m) → (q : Path) × (file_at s q ≡ Some m)) → ((x ≢ Some m) → (q : Path) × (file_at s q ≡ Some m)) →
+        (q : Path) × (file_at s q ≡ Some m)
     by None m same other = other (λ h. cc)
     by (Some n) m same other = by_number n m (λ is. same (ap Some is)) (λ not. other (λ h. not cc))
 
@@ -194,7 +199,8 @@ module _ (s : State) (sound : IsSound s) where
         let some = some_file _ is in
         let early = get-early s.files (Some file) (Some some.0) m (flat _ some.0 some.1) old in
         let had = sound.has_path m (is_there _ some.0 (ap option_flatten early)) in
-        (had.0, maps.beside_put path_total path_exact s.names p had.0 (length s.files) (λ same. let h : file_at s p ≡ Some m = ap (file_at s) (sym same) ∙ had.1 in cc) ∙ had.1));
+        (had.0, maps.beside_put path_total path_exact s.names p had.0 (length s.files) (λ same. let h : file_at s p ≡ Some m =
+            ap (file_at s) (sym same) ∙ had.1 in cc) ∙ had.1));
   }
 
   pub sound-created : (p : Path) (now : ℕ) → p.folder < s.folders → file_at s p ≡ None → IsSound (created p now s)
@@ -208,7 +214,8 @@ module _ (s : State) (sound : IsSound s) where
       by None is = record {
         housed = sound.housed;
         filed = λ q m at. by_number m n
-            (λ same. let h = sound.filed q m at in let none : is_some (file_by s.files m) ≡ false = ap (λ (i : ℕ). is_some (file_by s.files i)) same ∙ ap is_some is in cc)
+            (λ same. let h = sound.filed q m at in let none : is_some (file_by s.files m) ≡ false = ap (λ (i : ℕ). is_some (file_by s.files i)) same ∙
+                ap is_some is in cc)
             (λ not. subst (λ (f : Option File). IsSome f) (sym (file_by-set_other s.files n m None not)) (sound.filed q m at));
         has_path = λ m there. by_number m n
             (λ same. let none : is_some (file_by (slice_set s.files n None) m) ≡ false = ap is_some (set-none s.files n m same) in cc)
@@ -217,7 +224,8 @@ module _ (s : State) (sound : IsSound s) where
       by (Some file) is = record {
         housed = sound.housed;
         filed = λ q m at. by_number m n
-            (λ same. let h = ap (file_by (slice_set s.files n (Some longer))) same ∙ file_by-set_same s.files n (Some longer) (file-within s.files n (is_there _ file is)) in is_there _ longer h)
+            (λ same. let h = ap (file_by (slice_set s.files n (Some longer))) same ∙
+                file_by-set_same s.files n (Some longer) (file-within s.files n (is_there _ file is)) in is_there _ longer h)
             (λ not. subst (λ (f : Option File). IsSome f) (sym (file_by-set_other s.files n m (Some longer) not)) (sound.filed q m at));
         has_path = λ m there. by_number m n
             (λ same. sound.has_path m (is_there _ file (ap (file_by s.files) same ∙ is)))
@@ -235,7 +243,8 @@ module _ (s : State) (sound : IsSound s) where
         (λ not. sound.filed r m (sym (maps.beside_put path_total path_exact s.names p r n not) ∙ there));
     has_path = λ m is.
         let had = sound.has_path m is in
-        (had.0, maps.beside_put path_total path_exact s.names p had.0 n (λ same. let h : file_at s p ≡ Some m = ap (file_at s) (sym same) ∙ had.1 in cc) ∙ had.1);
+        (had.0, maps.beside_put path_total path_exact s.names p had.0 n (λ same. let h : file_at s p ≡ Some m = ap (file_at s) (sym same) ∙
+            had.1 in cc) ∙ had.1);
   }
 
   -- a path that is another's stays as one is taken away
@@ -274,7 +283,8 @@ module _ (s : State) (sound : IsSound s) where
           (λ same. (n, here n refl ∙ ap Some same))
           (λ differ.
           let had = sound.has_path m is in
-          (had.0, beside had.0 (λ same. not (ap (file_at s) (sym same) ∙ had.1)) ∙ other-stays o had.0 m (λ h. differ (let e : Some k ≡ Some m = sym at ∙ h in cc)) had.1)))
+          (had.0, beside had.0 (λ same. not (ap (file_at s) (sym same) ∙ had.1)) ∙
+              other-stays o had.0 m (λ h. differ (let e : Some k ≡ Some m = sym at ∙ h in cc)) had.1)))
           (λ q m there. by_path q n
           (λ is. subst (λ (x : Path). x.folder < s.folders) (sym is) within)
           (λ not. sound.housed q m (before-unnamed o q m (sym (beside q not) ∙ there))))

@@ -29,8 +29,10 @@ row-path rows p i e at is =
     let one : e ≡ (p, at.found.0) = cc in
     ap (λ (x : Path × ℕ). x.0) one
 
-pub link-refusal : (o n : Path) (s : State) (x : Option ℕ) (b : Bool) (y : Option ℕ) → file_at s o ≡ x → has_folder s n ≡ b → file_at s n ≡ y → (link o n).refusal s ≡ cond (is_some x) (cond b (cond (is_some y) (Some Exists) None) (Some NotFound)) (Some NotFound)
+pub link-refusal : (o n : Path) (s : State) (x : Option ℕ) (b : Bool) (y : Option ℕ) → file_at s o ≡ x → has_folder s n ≡ b → file_at s n ≡ y →
+    (link o n).refusal s ≡ cond (is_some x) (cond b (cond (is_some y) (Some Exists) None) (Some NotFound)) (Some NotFound)
 link-refusal o n s x b y hx hb hy = λ i. cond (is_some (hx i)) (cond (hb i) (cond (is_some (hy i)) (Some Exists) None) (Some NotFound)) (Some NotFound)
 
-pub rename-refusal : (o n : Path) (s : State) (x : Option ℕ) (b : Bool) → file_at s o ≡ x → has_folder s n ≡ b → (rename o n).refusal s ≡ cond (is_some x) (cond b None (Some NotFound)) (Some NotFound)
+pub rename-refusal : (o n : Path) (s : State) (x : Option ℕ) (b : Bool) → file_at s o ≡ x → has_folder s n ≡ b →
+    (rename o n).refusal s ≡ cond (is_some x) (cond b None (Some NotFound)) (Some NotFound)
 rename-refusal o n s x b hx hb = λ i. cond (is_some (hx i)) (cond (hb i) None (Some NotFound)) (Some NotFound)

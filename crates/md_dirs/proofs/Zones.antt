@@ -52,14 +52,17 @@ zone-most (x ∷ xs) (b ∷ bs) = by (nat_lt b x) (b == x) (zone-most xs bs)
 bytes-zone : (p q c l m h : ℕ) → l ≤ m → m ≤ h → p ≤ q → cond (nat_lt p c) l (cond (p == c) m h) ≤ cond (nat_lt q c) l (cond (q == c) m h)
 bytes-zone p q c l m h lm mh pq = by (nat_lt p c) refl (p == c) refl (nat_lt q c) refl (q == c) refl
   where
-    by : (s : Bool) → nat_lt p c ≡ s → (t : Bool) → (p == c) ≡ t → (s' : Bool) → nat_lt q c ≡ s' → (t' : Bool) → (q == c) ≡ t' → cond s l (cond t m h) ≤ cond s' l (cond t' m h)
+    by : (s : Bool) → nat_lt p c ≡ s → (t : Bool) → (p == c) ≡ t → (s' : Bool) → nat_lt q c ≡ s' → (t' : Bool) → (q == c) ≡ t' →
+        cond s l (cond t m h) ≤ cond s' l (cond t' m h)
     by true e t f true e' t' f' = omega arith
     by true e t f false e' true f' = omega arith
     by true e t f false e' false f' = omega arith
     by false e t f true e' t' f' = absurd (let a : c ≤ p = grind (arith, nat_tests) in let b : q < c = grind (arith, nat_tests) in omega arith)
     by false e true f false e' true f' = omega arith
     by false e true f false e' false f' = omega arith
-    by false e false f false e' true f' = absurd (let a : c ≤ p = grind (arith, nat_tests) in let b : p ≢ c = grind (arith, nat_tests) in let d : q ≡ c = grind (arith, nat_tests) in omega arith)
+    by false e false f false e' true f' =
+        absurd (let a : c ≤ p = grind (arith, nat_tests) in let b : p ≢ c = grind (arith, nat_tests) in let d : q ≡ c =
+        grind (arith, nat_tests) in omega arith)
     by false e false f false e' false f' = omega arith
 
 -- names in order stand in order beside a unique name
@@ -85,14 +88,20 @@ zone-order (x ∷ xs) [] b is = omega arith
 zone-order (x ∷ xs) (a ∷ as') [] is = cc
 zone-order (x ∷ xs) (a ∷ as') (b ∷ bs) is = by (zone-order xs as' bs) (zone-most xs as') (nat_lt a b) refl (a == b) refl is
   where
-    by : (name_cmp as' bs ≡ Less → zone xs as' ≤ zone xs bs) → zone xs as' ≤ 4 → (s : Bool) → nat_lt a b ≡ s → (t : Bool) → (a == b) ≡ t → ordering_then (cond s Less (cond t Equal Greater)) (name_cmp as' bs) ≡ Less
+    by : (name_cmp as' bs ≡ Less → zone xs as' ≤ zone xs bs) → zone xs as' ≤ 4 → (s : Bool) → nat_lt a b ≡ s → (t : Bool) → (a == b) ≡ t →
+        ordering_then (cond s Less (cond t Equal Greater)) (name_cmp as' bs) ≡ Less
         → cond (nat_lt a x) 0 (cond (a == x) (zone xs as') 4) ≤ cond (nat_lt b x) 0 (cond (b == x) (zone xs bs) 4)
     by rest most true e t f g = apart (nat_lt a x) refl (a == x) refl (nat_lt b x) refl (b == x) refl
       where
-        apart : (s : Bool) → nat_lt a x ≡ s → (t : Bool) → (a == x) ≡ t → (s' : Bool) → nat_lt b x ≡ s' → (t' : Bool) → (b == x) ≡ t' → cond s 0 (cond t (zone xs as') 4) ≤ cond s' 0 (cond t' (zone xs bs) 4)
+        apart : (s : Bool) → nat_lt a x ≡ s → (t : Bool) → (a == x) ≡ t → (s' : Bool) → nat_lt b x ≡ s' → (t' : Bool) → (b == x) ≡ t' →
+            cond s 0 (cond t (zone xs as') 4) ≤ cond s' 0 (cond t' (zone xs bs) 4)
         apart true h t' h' s'' k t'' k' = omega arith
-        apart false h t' h' true k t'' k' = absurd (let p : x ≤ a = grind (arith, nat_tests) in let q : b < x = grind (arith, nat_tests) in let r : a < b = grind (arith, nat_tests) in omega arith)
-        apart false h t' h' false k true k' = absurd (let p : x ≤ a = grind (arith, nat_tests) in let q : b ≡ x = grind (arith, nat_tests) in let r : a < b = grind (arith, nat_tests) in omega arith)
+        apart false h t' h' true k t'' k' =
+            absurd (let p : x ≤ a = grind (arith, nat_tests) in let q : b < x = grind (arith, nat_tests) in let r : a < b =
+            grind (arith, nat_tests) in omega arith)
+        apart false h t' h' false k true k' =
+            absurd (let p : x ≤ a = grind (arith, nat_tests) in let q : b ≡ x = grind (arith, nat_tests) in let r : a < b =
+            grind (arith, nat_tests) in omega arith)
         apart false h true h' false k false k' = most
         apart false h false h' false k false k' = omega arith
     by rest most false e true f g =
@@ -123,7 +132,8 @@ named-zone [] (b ∷ bs) = by (nat_lt b 58) refl (b == 58) refl
 named-zone (x ∷ xs) [] = refl
 named-zone (x ∷ xs) (b ∷ bs) = by (named-zone xs bs) (nat_lt b x) refl (b == x) refl (x == b) refl
   where
-    by : is_named xs bs ≡ is_zone (zone xs bs) → (s : Bool) → nat_lt b x ≡ s → (t : Bool) → (b == x) ≡ t → (t' : Bool) → (x == b) ≡ t' → is_named (x ∷ xs) (b ∷ bs) ≡ is_zone (cond s 0 (cond t (zone xs bs) 4))
+    by : is_named xs bs ≡ is_zone (zone xs bs) → (s : Bool) → nat_lt b x ≡ s → (t : Bool) → (b == x) ≡ t → (t' : Bool) → (x == b) ≡ t' →
+        is_named (x ∷ xs) (b ∷ bs) ≡ is_zone (cond s 0 (cond t (zone xs bs) 4))
     by rest true e t f true f' = absurd (let p : b < x = grind (arith, nat_tests) in let q : x ≡ b = grind (arith, nat_tests) in omega arith)
     by rest false e true f true f' = ap (λ v. (v && pointwise nat_eq xs (take (length xs) bs)) && ends_unique (drop (length xs) bs)) f' ∙ rest
     by rest false e false f true f' = absurd (let p : b ≢ x = grind (arith, nat_tests) in let q : x ≡ b = grind (arith, nat_tests) in p (sym q))
@@ -175,12 +185,14 @@ lower u x n (e ∷ es) h is = by (lower u x n es (second _ _ h)) (eq_by_cmp name
     equal Equal p = refl
     equal Greater p = cc
 
-    by : (find name_cmp u es ≡ Some n → name_cmp x u ≡ Less) → (b : Bool) → eq_by_cmp name_cmp u e.0 ≡ b → cond b (Some e.1) (find name_cmp u es) ≡ Some n → name_cmp x u ≡ Less
+    by : (find name_cmp u es ≡ Some n → name_cmp x u ≡ Less) → (b : Bool) → eq_by_cmp name_cmp u e.0 ≡ b →
+        cond b (Some e.1) (find name_cmp u es) ≡ Some n → name_cmp x u ≡ Less
     by rest true t g = ap (name_cmp x) (name_exact u e.0 (equal _ t)) ∙ less _ (first _ _ h)
     by rest false t g = rest g
 
 -- the unique name itself is the first, where it is there
-pub first-is-name : (u : List ℕ) (n : ℕ) (es : List (List ℕ × ℕ)) → T (is_sorted name_cmp es) → find name_cmp u es ≡ Some n → first_with (λ e. is_named u e.0) es ≡ Some (u, n)
+pub first-is-name : (u : List ℕ) (n : ℕ) (es : List (List ℕ × ℕ)) → T (is_sorted name_cmp es) → find name_cmp u es ≡ Some n →
+    first_with (λ e. is_named u e.0) es ≡ Some (u, n)
 first-is-name u n [] h is = cc
 first-is-name u n (e ∷ es) h is = by (first-is-name u n es (second _ _ h)) (lower u e.0 n es (first _ _ h)) (eq_by_cmp name_cmp u e.0) refl is
   where
@@ -189,7 +201,9 @@ first-is-name u n (e ∷ es) h is = by (first-is-name u n es (second _ _ h)) (lo
     equal Equal p = refl
     equal Greater p = cc
 
-    by : (find name_cmp u es ≡ Some n → first_with (λ r. is_named u r.0) es ≡ Some (u, n)) → (find name_cmp u es ≡ Some n → name_cmp e.0 u ≡ Less) → (b : Bool) → eq_by_cmp name_cmp u e.0 ≡ b → cond b (Some e.1) (find name_cmp u es) ≡ Some n → first_with (λ r. is_named u r.0) (e ∷ es) ≡ Some (u, n)
+    by : (find name_cmp u es ≡ Some n → first_with (λ r. is_named u r.0) es ≡ Some (u, n)) → (find name_cmp u es ≡ Some n → name_cmp e.0 u ≡ Less) →
+        (b : Bool) → eq_by_cmp name_cmp u e.0 ≡ b → cond b (Some e.1) (find name_cmp u es) ≡ Some n →
+        first_with (λ r. is_named u r.0) (e ∷ es) ≡ Some (u, n)
     by rest below true t g =
         let same = name_exact u e.0 (equal _ t) in
         let number : e.1 ≡ n = cc in
@@ -198,7 +212,9 @@ first-is-name u n (e ∷ es) h is = by (first-is-name u n es (second _ _ h)) (lo
     by rest below false t g =
         let under = zone-order u e.0 u (below g) in
         let one = zone-same u in
-        let differ : zone u e.0 ≢ 1 = (λ z. let same = zone-one u e.0 z in let tie : eq_by_cmp name_cmp u e.0 ≡ true = ap (λ w. is_eq (name_cmp u w)) same ∙ ap is_eq (tied_itself name_total u) in cc) in
+        let differ : zone u e.0 ≢ 1 =
+            (λ z. let same = zone-one u e.0 z in let tie : eq_by_cmp name_cmp u e.0 ≡ true = ap (λ w. is_eq (name_cmp u w)) same ∙
+            ap is_eq (tied_itself name_total u) in cc) in
         let zero-zone : zone u e.0 ≡ 0 = omega arith in
         let not : is_named u e.0 ≡ false = named-zone u e.0 ∙ ap is_zone zero-zone in
         ap (λ b. cond b (Some e) (first_with (λ r. is_named u r.0) es)) not ∙ rest g
@@ -218,7 +234,9 @@ first-is-info u (e ∷ es) zero h none point = by (is_named u e.0) refl
         above-all u e.0 es (first _ _ h) (omega arith)
 first-is-info u (e ∷ es) (suc i) h none point =
     let low : zone u e.0 < 3 = point.before 0 (omega arith) in
-    let differ : zone u e.0 ≢ 1 = (λ z. let same = zone-one u e.0 z in let tie : eq_by_cmp name_cmp u e.0 ≡ true = ap (λ w. is_eq (name_cmp u w)) same ∙ ap is_eq (tied_itself name_total u) in missing (eq_by_cmp name_cmp u e.0) tie none) in
+    let differ : zone u e.0 ≢ 1 =
+        (λ z. let same = zone-one u e.0 z in let tie : eq_by_cmp name_cmp u e.0 ≡ true = ap (λ w. is_eq (name_cmp u w)) same ∙
+        ap is_eq (tied_itself name_total u) in missing (eq_by_cmp name_cmp u e.0) tie none) in
     let not : is_named u e.0 ≡ false = named-zone u e.0 ∙ unnamed (zone u e.0) low differ in
     ap (λ b. cond b (Some e) (first_with (λ r. is_named u r.0) es)) not
     ∙ first-is-info u es i (second _ _ h) (later (eq_by_cmp name_cmp u e.0) none) (record {
@@ -242,7 +260,8 @@ first-is-info u (e ∷ es) (suc i) h none point =
     unnamed (suc (suc (suc z))) low differ = absurd (omega arith)
 
 -- rows up to one in order stand no higher
-pub zone-sorted : (u : List ℕ) (es : List (List ℕ × ℕ)) (k m : ℕ) → T (is_sorted name_cmp es) → k ≤ m → m < length es → zone u (name_at es k) ≤ zone u (name_at es m)
+pub zone-sorted : (u : List ℕ) (es : List (List ℕ × ℕ)) (k m : ℕ) → T (is_sorted name_cmp es) → k ≤ m → m < length es →
+    zone u (name_at es k) ≤ zone u (name_at es m)
 zone-sorted u [] k m h km within = absurd (omega arith)
 zone-sorted u (e ∷ es) zero zero h km within = omega arith
 zone-sorted u (e ∷ es) zero (suc m) h km within = zone-order u e.0 (name_at es m) (below-at e.0 es m ([], 0) (omega arith) (first _ _ h))
@@ -261,8 +280,10 @@ below-info [] (b ∷ bs) = by (nat_lt b 58) (b == 58)
 below-info (x ∷ xs) [] = refl
 below-info (x ∷ xs) (b ∷ bs) = by (below-info xs bs) (nat_lt b x) refl (b == x) refl (x == b) refl
   where
-    by : nat_lt (zone xs bs) 3 ≡ cond (starts_with nat_eq bs xs) (before_colon (drop (length xs) bs)) (is_lt (name_cmp bs xs)) → (s : Bool) → nat_lt b x ≡ s → (t : Bool) → (b == x) ≡ t → (t' : Bool) → (x == b) ≡ t'
-        → nat_lt (cond s 0 (cond t (zone xs bs) 4)) 3 ≡ cond (t' && pointwise nat_eq xs (take (length xs) bs)) (before_colon (drop (length xs) bs)) (is_lt (ordering_then (cond s Less (cond t Equal Greater)) (name_cmp bs xs)))
+    by : nat_lt (zone xs bs) 3 ≡ cond (starts_with nat_eq bs xs) (before_colon (drop (length xs) bs)) (is_lt (name_cmp bs xs)) → (s : Bool) →
+        nat_lt b x ≡ s → (t : Bool) → (b == x) ≡ t → (t' : Bool) → (x == b) ≡ t'
+        → nat_lt (cond s 0 (cond t (zone xs bs) 4)) 3 ≡ cond (t' && pointwise nat_eq xs (take (length xs) bs)) (before_colon (drop (length xs) bs))
+            (is_lt (ordering_then (cond s Less (cond t Equal Greater)) (name_cmp bs xs)))
     by rest true e t f true f' = absurd (let p : b < x = grind (arith, nat_tests) in let q : x ≡ b = grind (arith, nat_tests) in omega arith)
     by rest false e true f true f' = rest
     by rest false e false f true f' = absurd (let p : b ≢ x = grind (arith, nat_tests) in let q : x ≡ b = grind (arith, nat_tests) in p (sym q))
@@ -271,7 +292,8 @@ below-info (x ∷ xs) (b ∷ bs) = by (below-info xs bs) (nat_lt b x) refl (b ==
     by rest false e false f false f' = refl
 
 -- where the unique name itself is
-pub name-place : (u : List ℕ) (n i : ℕ) (es : List (List ℕ × ℕ)) → T (is_sorted name_cmp es) → find name_cmp u es ≡ Some n → slice_get es i ≡ Some (u, n) → IsFirstPlace es u i
+pub name-place : (u : List ℕ) (n i : ℕ) (es : List (List ℕ × ℕ)) → T (is_sorted name_cmp es) → find name_cmp u es ≡ Some n →
+    slice_get es i ≡ Some (u, n) → IsFirstPlace es u i
 name-place u n i es h is at =
     let named : is_named u u ≡ true = named-zone u u ∙ ap is_zone (zone-same u) in
     first-is-name u n es h is ∙ sym (ap (option_and_then (λ e. cond (is_named u e.0) (Some e) None)) at ∙ ap (λ b. cond b (Some (u, n)) None) named)
@@ -281,18 +303,22 @@ name-by : (a : List ℕ) (o : Option File) → (row_by a o).name ≡ a
 name-by a None = refl
 name-by a (Some file) = refl
 
-pub row_named-map : (u : List ℕ) (files : List (Option File)) (es : List (List ℕ × ℕ)) → row_named u (map (name_row files) es) ≡ option_map (name_row files) (first_with (λ e. is_named u e.0) es)
+pub row_named-map : (u : List ℕ) (files : List (Option File)) (es : List (List ℕ × ℕ)) →
+    row_named u (map (name_row files) es) ≡ option_map (name_row files) (first_with (λ e. is_named u e.0) es)
 row_named-map u files [] = refl
 row_named-map u files (e ∷ es) =
     ap (λ a. cond (is_named u a) (Some (name_row files e)) (row_named u (map (name_row files) es))) (name-by e.0 (file_by files e.1))
     ∙ by (is_named u e.0) (row_named-map u files es)
   where
-    by : (b : Bool) → row_named u (map (name_row files) es) ≡ option_map (name_row files) (first_with (λ x. is_named u x.0) es) → cond b (Some (name_row files e)) (row_named u (map (name_row files) es)) ≡ option_map (name_row files) (cond b (Some e) (first_with (λ x. is_named u x.0) es))
+    by : (b : Bool) → row_named u (map (name_row files) es) ≡ option_map (name_row files) (first_with (λ x. is_named u x.0) es) →
+        cond b (Some (name_row files e)) (row_named u (map (name_row files) es)) ≡ option_map (name_row files)
+        (cond b (Some e) (first_with (λ x. is_named u x.0) es))
     by true rest = refl
     by false rest = rest
 
 -- the row that is found is one of the rows
-pub found-among : (u : List ℕ) (P : List ℕ × ℕ → Type 0) (es : List (List ℕ × ℕ)) (r : List ℕ × ℕ) → ((i : ℕ) (x : List ℕ × ℕ) → slice_get es i ≡ Some x → P x) → Some r ≡ first_with (λ e. is_named u e.0) es → P r
+pub found-among : (u : List ℕ) (P : List ℕ × ℕ → Type 0) (es : List (List ℕ × ℕ)) (r : List ℕ × ℕ) →
+    ((i : ℕ) (x : List ℕ × ℕ) → slice_get es i ≡ Some x → P x) → Some r ≡ first_with (λ e. is_named u e.0) es → P r
 found-among u P [] r all is = cc
 found-among u P (e ∷ es) r all is = by (found-among u P es r (λ i x at. all (suc i) x at)) (is_named u e.0) is
   where
@@ -321,7 +347,8 @@ below-name u a = by (name_cmp a u) refl
         at-least (omega arith)
 
 -- where the rows begin that are not below the unique name: the row there is the first, if it has the unique name
-pub name-point : (u : List ℕ) (es : List (List ℕ × ℕ)) (i : ℕ) → i < length es → ((k : ℕ) → k < i → zone u (name_at es k) < 1) → is_named u (name_at es i) ≡ true → IsFirstPlace es u i
+pub name-point : (u : List ℕ) (es : List (List ℕ × ℕ)) (i : ℕ) → i < length es → ((k : ℕ) → k < i → zone u (name_at es k) < 1) →
+    is_named u (name_at es i) ≡ true → IsFirstPlace es u i
 name-point u [] i within before named = absurd (omega arith)
 name-point u (e ∷ es) zero within before named =
     ap (λ b. cond b (Some e) (first_with (λ r. is_named u r.0) es)) named ∙ sym (ap (λ b. cond b (Some e) None) named)
@@ -345,7 +372,8 @@ name-absent u (e ∷ es) differ = by (name-absent u es (λ k within. differ (suc
     by rest true t = absurd (differ 0 (omega arith) (ap (zone u) (sym (name_exact u e.0 (equal _ t))) ∙ zone-same u))
     by rest false t = rest
 
-pub name-missing : (u : List ℕ) (es : List (List ℕ × ℕ)) (i : ℕ) → T (is_sorted name_cmp es) → ((k : ℕ) → k < i → zone u (name_at es k) < 1) → ((k : ℕ) → i ≤ k → k < length es → 1 ≤ zone u (name_at es k))
+pub name-missing : (u : List ℕ) (es : List (List ℕ × ℕ)) (i : ℕ) → T (is_sorted name_cmp es) → ((k : ℕ) → k < i → zone u (name_at es k) < 1) →
+    ((k : ℕ) → i ≤ k → k < length es → 1 ≤ zone u (name_at es k))
     → (i < length es → is_named u (name_at es i) ≡ false) → find name_cmp u es ≡ None
 name-missing u es i h before behind unnamed = name-absent u es (λ k within z. by k within z (nat_lt k i) refl)
   where

@@ -25,7 +25,8 @@ impl<D: Dirs> FailAt<D> {
 
     /// Directories whose call number `at`, counted from 1, fails. With 0 none does. It takes no memory.
     pub fn new(dirs: D, at: u64) -> Self
-        ensures { failing D.state D.failures D.calls result ≡ record { at = at; failed = 0; behind = record { state = D.state dirs; failures = D.failures dirs; calls = D.calls dirs } } }
+        ensures { let behind = record { state = D.state dirs; failures = D.failures dirs; calls = D.calls dirs } in
+            failing D.state D.failures D.calls result ≡ record { at = at; failed = 0; behind = behind } }
     {
         FailAt {
             dirs,
@@ -60,9 +61,11 @@ impl<D: Dirs> Dirs for FailAt<D> {
     ghost calls = { λ f. and_own D.calls f };
 
     fn create(&mut self, path: &Path, now: u64) -> Result<(), DirError>
-        ensures meets { Obeys (create path.now now) (D.state self.old.dirs) (and_own D.failures self.old) result (D.state self.new.dirs) (and_own D.failures self.new) }
+        ensures meets { Obeys (create path.now now) (D.state self.old.dirs) (and_own D.failures self.old) result
+            (D.state self.new.dirs) (and_own D.failures self.new) }
         ensures counted { and_own D.calls self.new ≡ calls_after result (and_own D.calls self.old) }
-        ensures turn { IsTurn (create path.now now) (failing D.state D.failures D.calls self.old) result (failing D.state D.failures D.calls self.new) }
+        ensures turn { IsTurn (create path.now now) (failing D.state D.failures D.calls self.old) result
+            (failing D.state D.failures D.calls self.new) }
     {
         if self.is_due() {
             return Err(DirError::Fault);
@@ -71,9 +74,11 @@ impl<D: Dirs> Dirs for FailAt<D> {
     }
 
     fn append(&mut self, path: &Path, bytes: &[u8], now: u64) -> Result<(), DirError>
-        ensures meets { Obeys (append path.now bytes.now now) (D.state self.old.dirs) (and_own D.failures self.old) result (D.state self.new.dirs) (and_own D.failures self.new) }
+        ensures meets { Obeys (append path.now bytes.now now) (D.state self.old.dirs) (and_own D.failures self.old) result
+            (D.state self.new.dirs) (and_own D.failures self.new) }
         ensures counted { and_own D.calls self.new ≡ calls_after result (and_own D.calls self.old) }
-        ensures turn { IsTurn (append path.now bytes.now now) (failing D.state D.failures D.calls self.old) result (failing D.state D.failures D.calls self.new) }
+        ensures turn { IsTurn (append path.now bytes.now now) (failing D.state D.failures D.calls self.old) result
+            (failing D.state D.failures D.calls self.new) }
     {
         if self.is_due() {
             return Err(DirError::Fault);
@@ -82,9 +87,11 @@ impl<D: Dirs> Dirs for FailAt<D> {
     }
 
     fn link(&mut self, old: &Path, new: &Path) -> Result<(), DirError>
-        ensures meets { Obeys (link old.now new.now) (D.state self.old.dirs) (and_own D.failures self.old) result (D.state self.new.dirs) (and_own D.failures self.new) }
+        ensures meets { Obeys (link old.now new.now) (D.state self.old.dirs) (and_own D.failures self.old) result
+            (D.state self.new.dirs) (and_own D.failures self.new) }
         ensures counted { and_own D.calls self.new ≡ calls_after result (and_own D.calls self.old) }
-        ensures turn { IsTurn (link old.now new.now) (failing D.state D.failures D.calls self.old) result (failing D.state D.failures D.calls self.new) }
+        ensures turn { IsTurn (link old.now new.now) (failing D.state D.failures D.calls self.old) result
+            (failing D.state D.failures D.calls self.new) }
     {
         if self.is_due() {
             return Err(DirError::Fault);
@@ -93,9 +100,11 @@ impl<D: Dirs> Dirs for FailAt<D> {
     }
 
     fn rename(&mut self, old: &Path, new: &Path) -> Result<(), DirError>
-        ensures meets { Obeys (rename old.now new.now) (D.state self.old.dirs) (and_own D.failures self.old) result (D.state self.new.dirs) (and_own D.failures self.new) }
+        ensures meets { Obeys (rename old.now new.now) (D.state self.old.dirs) (and_own D.failures self.old) result
+            (D.state self.new.dirs) (and_own D.failures self.new) }
         ensures counted { and_own D.calls self.new ≡ calls_after result (and_own D.calls self.old) }
-        ensures turn { IsTurn (rename old.now new.now) (failing D.state D.failures D.calls self.old) result (failing D.state D.failures D.calls self.new) }
+        ensures turn { IsTurn (rename old.now new.now) (failing D.state D.failures D.calls self.old) result
+            (failing D.state D.failures D.calls self.new) }
     {
         if self.is_due() {
             return Err(DirError::Fault);
@@ -104,7 +113,8 @@ impl<D: Dirs> Dirs for FailAt<D> {
     }
 
     fn unlink(&mut self, path: &Path) -> Result<(), DirError>
-        ensures meets { Obeys (unlink path.now) (D.state self.old.dirs) (and_own D.failures self.old) result (D.state self.new.dirs) (and_own D.failures self.new) }
+        ensures meets { Obeys (unlink path.now) (D.state self.old.dirs) (and_own D.failures self.old) result
+            (D.state self.new.dirs) (and_own D.failures self.new) }
         ensures counted { and_own D.calls self.new ≡ calls_after result (and_own D.calls self.old) }
         ensures turn { IsTurn (unlink path.now) (failing D.state D.failures D.calls self.old) result (failing D.state D.failures D.calls self.new) }
         ensures no_memory { IsErrOf result DirError.NoMemory → ⊥ }
@@ -116,7 +126,8 @@ impl<D: Dirs> Dirs for FailAt<D> {
     }
 
     fn list(&mut self, folder: u32, place: Place) -> Result<Vec<Row>, DirError>
-        ensures meets { Obeys (list folder place) (D.state self.old.dirs) (and_own D.failures self.old) result (D.state self.new.dirs) (and_own D.failures self.new) }
+        ensures meets { Obeys (list folder place) (D.state self.old.dirs) (and_own D.failures self.old) result
+            (D.state self.new.dirs) (and_own D.failures self.new) }
         ensures counted { and_own D.calls self.new ≡ calls_after result (and_own D.calls self.old) }
         ensures turn { IsTurn (list folder place) (failing D.state D.failures D.calls self.old) result (failing D.state D.failures D.calls self.new) }
         ensures rows { IfOk result (λ rows. rows.items ≡ rows_of (D.state self.old.dirs) folder place) }
@@ -128,7 +139,8 @@ impl<D: Dirs> Dirs for FailAt<D> {
     }
 
     fn find(&mut self, folder: u32, place: Place, unique: &[u8]) -> Result<Option<Row>, DirError>
-        ensures meets { Obeys (list folder place) (D.state self.old.dirs) (and_own D.failures self.old) result (D.state self.new.dirs) (and_own D.failures self.new) }
+        ensures meets { Obeys (list folder place) (D.state self.old.dirs) (and_own D.failures self.old) result
+            (D.state self.new.dirs) (and_own D.failures self.new) }
         ensures counted { and_own D.calls self.new ≡ calls_after result (and_own D.calls self.old) }
         ensures turn { IsTurn (list folder place) (failing D.state D.failures D.calls self.old) result (failing D.state D.failures D.calls self.new) }
         ensures row { IfOk result (λ row. row ≡ row_named unique.now (rows_of (D.state self.old.dirs) folder place)) }

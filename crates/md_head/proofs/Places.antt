@@ -78,7 +78,8 @@ value_behind name before more whole some begins =
     value_in_section name (before ++ more) ∙ ap (λ ls. first_value name (grouped ls).groups) all
     ∙ ap (λ (g : Grouped). first_value name g.groups) (grouped_append lines (header_section more) front)
     ∙ first_append name (grouped lines).groups (grouped (header_section more)).groups
-    ∙ ap (λ v. or_later v (first_value name (grouped (header_section more)).groups)) (sym (value_in_section name before ∙ ap (λ ls. first_value name (grouped ls).groups) own))
+    ∙ ap (λ v. or_later v (first_value name (grouped (header_section more)).groups))
+        (sym (value_in_section name before ∙ ap (λ ls. first_value name (grouped ls).groups) own))
     ∙ ap (or_later (field_value name before)) (sym (value_in_section name more))
 
 -- ---- what the loop knows of a name
@@ -126,7 +127,8 @@ group_has_bytes left n not_over ends = go ends.one.first ends.one.all_lines
     go : (first : List ℕ) → lines_of (take n left) ≡ first ∷ ends.one.continuations → AllPass is_some_line (first ∷ ends.one.continuations)
     go [] is =
         let cut = ends.cut ∙ ap (λ ls. ls ++ lines_of (drop n left)) is in
-        absurd (not_over (section_is left ∙ ap (take_while is_some_line) cut ∙ take_while-cons is_some_line [] (ends.one.continuations ++ lines_of (drop n left))))
+        absurd (not_over (section_is left ∙ ap (take_while is_some_line) cut ∙
+            take_while-cons is_some_line [] (ends.one.continuations ++ lines_of (drop n left))))
     go (b ∷ first) is = pass_cons is_some_line (b ∷ first) ends.one.continuations (has_bytes b first) (all_have_bytes ends.one.continuations ends.one.goes_on)
 
 -- one group more was read
@@ -160,7 +162,8 @@ still_none message left name n r not_over ends none other =
     r.begins
 
 found_more : (found : Option FieldBody) (named : Bool) (body : FieldBody) (later : Option (List ℕ))
-    → or_later (option_map body_value (or_this found named body)) later ≡ or_later (option_map body_value found) (or_later (cond named (Some (body_value body)) None) later)
+    → or_later (option_map body_value (or_this found named body)) later ≡ or_later (option_map body_value found)
+        (or_later (cond named (Some (body_value body)) None) later)
 found_more (Some found) named body later = refl
 found_more None true body later = refl
 found_more None false body later = refl

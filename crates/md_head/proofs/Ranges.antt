@@ -68,7 +68,8 @@ next_line text bytes part m s within whole l blank =
       first = s.one.first;
       continuations = s.one.continuations ++ l.line ∷ [];
       all_lines = ap lines_of whole ∙ lines_behind text part m s.some within s.ended ∙ more;
-      goes_on = pass_append is_continuation s.one.continuations (l.line ∷ []) s.one.goes_on (pass_cons is_continuation l.line [] continues (pass_nil is_continuation));
+      goes_on = pass_append is_continuation s.one.continuations (l.line ∷ []) s.one.goes_on
+          (pass_cons is_continuation l.line [] continues (pass_nil is_continuation));
     }
 
 -- one line more, which reaches from m up to n

@@ -110,7 +110,8 @@ module _ (name found other body line line' : List ℕ) (l : NamedLine found body
   begins_group line lines h =
       let g = grouped_new line lines h in (
         ap (λ (r : Grouped). r.front) g,
-        ap (λ (r : Grouped). first_value name r.groups) g ∙ first_cons name (record { first = line; continuations = (grouped lines).front }) (grouped lines).groups,
+        ap (λ (r : Grouped). first_value name r.groups) g ∙
+        first_cons name (record { first = line; continuations = (grouped lines).front }) (grouped lines).groups,
       )
 
   section_of : (line : List ℕ) (first : ℕ) (some : List ℕ) (lines : List (List ℕ)) → line ≡ first ∷ some
@@ -147,8 +148,10 @@ module _ (name found other body line line' : List ℕ) (l : NamedLine found body
       (λ goes_on. record {
         front = ap (λ ls. (grouped ls).front) s ∙ ap (λ (r : Grouped). r.front) (grouped_on first lines goes_on) ∙ ap (λ ls. first ∷ ls) rest.front
             ∙ sym (ap (λ (r : Grouped). r.front) (grouped_on first others goes_on)) ∙ sym (ap (λ ls. (grouped ls).front) s');
-        value = ap (λ ls. first_value name (grouped ls).groups) s ∙ ap (λ (r : Grouped). first_value name r.groups) (grouped_on first lines goes_on) ∙ rest.value
-            ∙ sym (ap (λ (r : Grouped). first_value name r.groups) (grouped_on first others goes_on)) ∙ sym (ap (λ ls. first_value name (grouped ls).groups) s');
+        value = ap (λ ls. first_value name (grouped ls).groups) s ∙ ap (λ (r : Grouped). first_value name r.groups) (grouped_on first lines goes_on) ∙
+            rest.value
+            ∙ sym (ap (λ (r : Grouped). first_value name r.groups) (grouped_on first others goes_on)) ∙
+                sym (ap (λ ls. first_value name (grouped ls).groups) s');
       })
       (λ begins.
       let a = begins_group first lines begins in
@@ -175,7 +178,8 @@ renamed front name other spacing rest whole some bytes same blank =
     let text' = other ++ (spacing ++ 58 ∷ rest) in
     let l = named_line name spacing body some bytes blank in
     let l' = named_line other spacing body some' bytes' blank in
-    let section = λ (t line : List ℕ) (lines : lines_of t ≡ line ∷ behind). section_append front t whole ∙ ap (λ ls. take_while is_some_line (lines_of front ++ ls)) lines in
+    let section = λ (t line : List ℕ) (lines : lines_of t ≡ line ∷ behind). section_append front t whole ∙
+        ap (λ ls. take_while is_some_line (lines_of front ++ ls)) lines in
     let s = section text (name ++ (spacing ++ 58 ∷ body)) (field_text name spacing rest some bytes blank).lines in
     let s' = section text' (other ++ (spacing ++ 58 ∷ body)) (field_text other spacing rest some' bytes' blank).lines in
     same_summary (front ++ text) (front ++ text') (λ wanted.

@@ -21,14 +21,18 @@ taken_by-set (h ∷ hands) zero v w xs at takes =
     let rest = taken_by hands in
     subst (λ l. IsPermutation ((h.taken ++ rest) ++ xs) (l ++ rest)) (ap (λ l. l ++ xs) same ∙ sym takes)
     (rw (append_assoc, append_assoc) (IsPermutation-append_right h.taken (rest ++ xs) (xs ++ rest) (IsPermutation-append_comm rest xs)))
-taken_by-set (h ∷ hands) (suc seat) v w xs at takes = rw append_assoc (IsPermutation-append_right h.taken (taken_by hands ++ xs) (taken_by (set hands seat w)) (taken_by-set hands seat v w xs at takes))
+taken_by-set (h ∷ hands) (suc seat) v w xs at takes =
+    rw append_assoc (IsPermutation-append_right h.taken (taken_by hands ++ xs) (taken_by (set hands seat w))
+    (taken_by-set hands seat v w xs at takes))
 
 range-next : (a n m b : ℕ) → m ≡ n + 1 → b ≡ a + n → range_with_len a m ≡ range_with_len a n ++ b ∷ []
 range-next a zero m b more last = let one : m ≡ 1 = omega arith in let only : a ≡ b = omega arith in rw one (ap (λ k. k ∷ []) only)
-range-next a (suc n) m b more last = let longer : m ≡ suc (n + 1) = omega arith in rw longer (ap (λ l. a ∷ l) (range-next (a + 1) n (n + 1) b refl (omega arith)))
+range-next a (suc n) m b more last = let longer : m ≡ suc (n + 1) =
+    omega arith in rw longer (ap (λ l. a ∷ l) (range-next (a + 1) n (n + 1) b refl (omega arith)))
 
 -- a hand that takes nothing
-taken_by-set-same : (hands : List Hand) (seat : ℕ) (v w : Hand) → get_elem? hands seat ≡ some v → w.taken ≡ v.taken → taken_by (set hands seat w) ≡ taken_by hands
+taken_by-set-same : (hands : List Hand) (seat : ℕ) (v w : Hand) → get_elem? hands seat ≡ some v → w.taken ≡ v.taken →
+    taken_by (set hands seat w) ≡ taken_by hands
 taken_by-set-same [] seat v w at same = absurd (some-ne-none v (sym at))
 taken_by-set-same (h ∷ hands) zero v w at same = ap (λ l. l ++ taken_by hands) (same ∙ ap (λ (u : Hand). u.taken) (sym (some-injective _ _ at)))
 taken_by-set-same (h ∷ hands) (suc seat) v w at same = ap (λ l. h.taken ++ l) (taken_by-set-same hands seat v w at same)
@@ -62,7 +66,8 @@ pushes v left hands is at =
         pushed = v.pushed + 1;
         each_once = rw (taken_by-set-same hands 0 v w at refl, range-next 0 v.pushed (v.pushed + 1) v.pushed refl (omega arith), ← append_assoc, is.owner v at)
             (IsPermutation-append_left (is.pushed ∷ []) (taken_by hands ++ left) (range_with_len 0 is.pushed) is.each_once);
-        owner = λ first e. ⊎_elim (λ (is : (0 ≡ 0) × (w ≡ first)). ap (λ (u : Hand). u.pushed) (sym is.1)) (λ (is : (0 ≢ 0) × (get_elem? hands 0 ≡ some first)). absurd (is.0 refl)) (at_set hands 0 0 w first e);
+        owner = λ first e. ⊎_elim (λ (is : (0 ≡ 0) × (w ≡ first)). ap (λ (u : Hand). u.pushed) (sym is.1))
+            (λ (is : (0 ≢ 0) × (get_elem? hands 0 ≡ some first)). absurd (is.0 refl)) (at_set hands 0 0 w first e);
         some_hand = simp length-set is.some_hand;
       },
       refl,
@@ -79,7 +84,8 @@ takes seat v xs left hands _ _ is at =
         each_once = IsPermutation-trans (after ++ left) (taken_by hands ++ (xs ++ left)) (range_with_len 0 is.pushed)
             (IsPermutation-sym (taken_by hands ++ (xs ++ left)) (after ++ left) (rw append_assoc at moved)) is.each_once;
         owner = λ first e. ⊎_elim
-            (λ (same : (0 ≡ seat) × (w ≡ first)). ap (λ (u : Hand). u.pushed) (sym same.1) ∙ is.owner v (subst (λ (j : ℕ). get_elem? hands j ≡ some v) (sym same.0) at))
+            (λ (same : (0 ≡ seat) × (w ≡ first)). ap (λ (u : Hand). u.pushed) (sym same.1) ∙
+                is.owner v (subst (λ (j : ℕ). get_elem? hands j ≡ some v) (sym same.0) at))
             (λ (other : (0 ≢ seat) × (get_elem? hands 0 ≡ some first)). is.owner first other.1)
             (at_set hands seat 0 w first e);
         some_hand = simp length-set is.some_hand;

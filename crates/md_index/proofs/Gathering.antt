@@ -15,7 +15,8 @@ entries-next messages done more n made is brought grown =
     let message = brought.0 in
     let here : get_or messages n message ≡ message = get_or_from_slice_get messages n message message brought.1 in
     let last = ap (λ x. map indexed_of (take n messages) ++ x ∷ []) (brought.2 ∙ ap indexed_of (sym here)) in
-    let whole = ap (map indexed_of) (take_more messages n message (slice_get_within messages n message brought.1)) ∙ map-append indexed_of (take n messages) (get_or messages n message ∷ []) in
+    let whole = ap (map indexed_of) (take_more messages n message (slice_get_within messages n message brought.1)) ∙
+        map-append indexed_of (take n messages) (get_or messages n message ∷ []) in
     grown ∙ (ap (λ xs. xs ++ made ∷ []) is ∙ (last ∙ sym whole))
 
 -- what holds of all values holds of the first, which comes out
@@ -25,7 +26,8 @@ first-holds P all rest x r is split holds =
     subst (All P) whole holds 0 x (omega arith)
 
 -- the value that is seen at the front is the one that comes out
-pub first-seen : {A : Type 0} (all rest : List A) (seen x : A) (r : Option A) → r ≡ Some x → all ≡ option_to_list r ++ rest → seen ≡ get_or all 0 seen → x ≡ seen
+pub first-seen : {A : Type 0} (all rest : List A) (seen x : A) (r : Option A) → r ≡ Some x → all ≡ option_to_list r ++ rest →
+    seen ≡ get_or all 0 seen → x ≡ seen
 first-seen all rest seen x r is split at =
     let whole : all ≡ x ∷ rest = split ∙ ap (λ r. option_to_list r ++ rest) is in
     sym (at ∙ ap (λ l. get_or l 0 seen) whole)

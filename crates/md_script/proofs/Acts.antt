@@ -27,17 +27,21 @@ use Rattle.md_script.specs.Sessions.{unless_refused, submitted, stepped, unfault
 use Rattle.md_script.specs.Texts.{job_text, shown_text, out_text}
 
 -- a refusal by the store is the line's, and want of memory is none
-pub store_refuses : {S : Type 0} (o : Option CoreError) (done : S × List ℕ) (s : S) (text : List ℕ) (e : CoreError) → IsRefusal o e → Steps (unless_refused o done) s text text (Err (core_kind e))
+pub store_refuses : {S : Type 0} (o : Option CoreError) (done : S × List ℕ) (s : S) (text : List ℕ) (e : CoreError) → IsRefusal o e →
+    Steps (unless_refused o done) s text text (Err (core_kind e))
 store_refuses None done s text e is = λ some. absurd (some (ap core_kind is))
-store_refuses {S = S} (Some refusal) done s text e is = subst (λ (x : CoreError). Steps {S = S} (Err (Core refusal)) s text text (Err (core_kind x))) (sym is) (by refusal)
+store_refuses {S = S} (Some refusal) done s text e is =
+    subst (λ (x : CoreError). Steps {S = S} (Err (Core refusal)) s text text (Err (core_kind x))) (sym is) (by refusal)
   where
     by : (x : CoreError) → Steps {S = S} (Err (Core x)) s text text (Err (core_kind x))
     by core.NoMemory = λ some. absurd (some refl)
     by other = λ some. (refl, refl)
 
-pub refuses : {S : Type 0} (o : Option CoreError) (done : S × List ℕ) (s : S) (text : List ℕ) (e : CoreError) (result : Result (Unit {0}) PlayKind) → IsRefusal o e → IsErrAnd result (λ kind. kind ≡ core_kind e) → Steps (unless_refused o done) s text text result
+pub refuses : {S : Type 0} (o : Option CoreError) (done : S × List ℕ) (s : S) (text : List ℕ) (e : CoreError) (result : Result (Unit {0}) PlayKind) →
+    IsRefusal o e → IsErrAnd result (λ kind. kind ≡ core_kind e) → Steps (unless_refused o done) s text text result
 refuses o done s text e (Ok x) is from = absurd from
-refuses o done s text e (Err kind) is from = subst (λ (x : PlayKind). Steps (unless_refused o done) s text text (Err x)) (sym from) (store_refuses o done s text e is)
+refuses o done s text e (Err kind) is from =
+    subst (λ (x : PlayKind). Steps (unless_refused o done) s text text (Err x)) (sym from) (store_refuses o done s text e is)
 
 -- what is not refused is done
 pub is_done : {S : Type 0} (o : Option CoreError) (done : S × List ℕ) → o ≡ None → unless_refused o done ≡ Ok done
@@ -47,9 +51,12 @@ pub was_done : {S : Type 0} (o : Option CoreError) (done after : S × List ℕ) 
 was_done None done after is = (refl, cc)
 was_done (Some e) done after is = cc
 
-pub submitted-ok : (r r' : Run) (c : Call) (job : ℕ) → submit_refusal r c ≡ None → r' ≡ and_call r c → job ≡ length r.calls + 1 → submitted r c ≡ Ok (r', job_text job)
+pub submitted-ok : (r r' : Run) (c : Call) (job : ℕ) → submit_refusal r c ≡ None → r' ≡ and_call r c → job ≡ length r.calls + 1 →
+    submitted r c ≡ Ok (r', job_text job)
 unfolding submitted
-submitted-ok r r' c job accepted run number = is_done (submit_refusal r c) _ accepted ∙ (let e : ◌≡◌ {A = Run × List ℕ} (and_call r c, job_text (length r.calls + 1)) (r', job_text job) = λ i. (sym run i, job_text (sym number i)) in ap Ok e)
+submitted-ok r r' c job accepted run number = is_done (submit_refusal r c) _ accepted ∙
+    (let e : ◌≡◌ {A = Run × List ℕ} (and_call r c, job_text (length r.calls + 1)) (r', job_text job) = λ i.
+    (sym run i, job_text (sym number i)) in ap Ok e)
 
 -- directories that never fail leave no mark on the last event
 pub unmarked : (earlier : ℕ) (es : List Marked) (e : Marked) → 0 ≡ earlier + count_by (λ (x : Marked). x.faulted) (es ++ e ∷ []) → e.faulted ≡ false
@@ -59,7 +66,8 @@ unmarked earlier es e none = by e.faulted (let split = sum_by-append (λ (x : Ma
     by true h = absurd (omega arith)
     by false h = refl
 
-pub stepped-ok : (r r' : Run) (event : Event) (faulted : Bool) (out : StepOut) → event_refusal r event ≡ None → r' ≡ and_event r (record { event = event; faulted = faulted })
+pub stepped-ok : (r r' : Run) (event : Event) (faulted : Bool) (out : StepOut) → event_refusal r event ≡ None →
+    r' ≡ and_event r (record { event = event; faulted = faulted })
     → ShowsStep r r' (record { event = event; faulted = faulted }) out → 0 ≡ failures_of r' → stepped r event ≡ Ok (r', out_text event.job out)
 unfolding stepped
 stepped-ok r r' event faulted out goes_on run shows none =
@@ -70,21 +78,28 @@ stepped-ok r r' event faulted out goes_on run shows none =
     ap (λ (e : Marked). option_map step_out (done (machine_of r) e)) (sym same) ∙ ap (option_map step_out) shows.at ∙ ap Some (sym shows.shown) in
     let text : step_text r event ≡ out_text event.job out = ap (shown_text event.job) out_is in
     let after : and_event r (unfaulted event) ≡ r' = ap (and_event r) (sym same) ∙ sym run in
-    is_done (event_refusal r event) _ goes_on ∙ (let e : ◌≡◌ {A = Run × List ℕ} (and_event r (unfaulted event), step_text r event) (r', out_text event.job out) = λ i. (after i, text i) in ap Ok e)
+    is_done (event_refusal r event) _ goes_on ∙
+        (let e : ◌≡◌ {A = Run × List ℕ} (and_event r (unfaulted event), step_text r event) (r', out_text event.job out) = λ i.
+        (after i, text i) in ap Ok e)
 
-pub stepped-refused : (r : Run) (event : Event) (s : Run) (text : List ℕ) (e : CoreError) (kind : PlayKind) → IsRefusal (event_refusal r event) e → kind ≡ core_kind e → Steps (stepped r event) s text text (Err kind)
+pub stepped-refused : (r : Run) (event : Event) (s : Run) (text : List ℕ) (e : CoreError) (kind : PlayKind) → IsRefusal (event_refusal r event) e →
+    kind ≡ core_kind e → Steps (stepped r event) s text text (Err kind)
 unfolding stepped
 stepped-refused r event s text e kind is from = refuses (event_refusal r event) (and_event r (unfaulted event), step_text r event) s text e (Err kind) is from
 
 -- what a `?` passes on
-pub passes : {S : Type 0} (step : Result (S × List ℕ) PlayKind) (s : S) (text text' : List ℕ) (kind : PlayKind) (result : Result (Unit {0}) PlayKind) → IsErrAnd result (λ other. other ≡ kind) → Steps step s text text' (Err kind) → Steps step s text text' result
+pub passes : {S : Type 0} (step : Result (S × List ℕ) PlayKind) (s : S) (text text' : List ℕ) (kind : PlayKind)
+    (result : Result (Unit {0}) PlayKind) → IsErrAnd result (λ other. other ≡ kind) → Steps step s text text' (Err kind) →
+    Steps step s text text' result
 passes step s text text' kind (Ok x) from is = absurd from
 passes step s text text' kind (Err other) from is = subst (λ (x : PlayKind). Steps step s text text' (Err x)) (sym from) is
 
 -- of two things, each done unless the store refuses it, the second is refused as the first
-pub refused_too : {S T : Type 0} (o : Option CoreError) (done : S × List ℕ) (other : T × List ℕ) (s : S) (t : T) (text text' : List ℕ) (kind : PlayKind) → Steps (unless_refused o done) s text text' (Err kind) → Steps (unless_refused o other) t text text' (Err kind)
+pub refused_too : {S T : Type 0} (o : Option CoreError) (done : S × List ℕ) (other : T × List ℕ) (s : S) (t : T) (text text' : List ℕ)
+    (kind : PlayKind) → Steps (unless_refused o done) s text text' (Err kind) → Steps (unless_refused o other) t text text' (Err kind)
 refused_too None done other s t text text' kind is = λ some. absurd (let no = (is some).0 in cc)
-refused_too (Some refusal) done other s t text text' kind is = λ some. (let same : Core refusal ≡ kind = (let given = (is some).0 in cc) in ap Err same, (is some).1)
+refused_too (Some refusal) done other s t text text' kind is =
+    λ some. (let same : Core refusal ≡ kind = (let given = (is some).0 in cc) in ap Err same, (is some).1)
 
 -- what is done to the run of a store
 pub on-run : (t u : Store) (r : Run) (answer : Result (Run × List ℕ) PlayKind) (before after : List ℕ) (result : Result (Unit {0}) PlayKind)
@@ -94,14 +109,16 @@ on-run t u r answer before after (Ok done) same is =
 on-run t u r answer before after (Err kind) same is = λ some. (ap (λ (x : Result (Run × List ℕ) PlayKind). on_run t x) (is some).0, (is some).1)
 
 -- a line whose command was read
-pub obeyed : {S : Type 0} (step : Result (S × List ℕ) PlayKind) (read : Result Command PlayKind) (act : Command → Result (S × List ℕ) PlayKind) (command : Command) (s' : S) (text text' : List ℕ) (result : Result (Unit {0}) PlayKind)
+pub obeyed : {S : Type 0} (step : Result (S × List ℕ) PlayKind) (read : Result Command PlayKind) (act : Command → Result (S × List ℕ) PlayKind)
+    (command : Command) (s' : S) (text text' : List ℕ) (result : Result (Unit {0}) PlayKind)
     → step ≡ read >>= act → read ≡ Ok command → Steps (act command) s' text text' result → Steps step s' text text' result
 obeyed {S = S} step read act command s' text text' result by is done =
     let same : step ≡ act command = by ∙ ap (λ (x : Result Command PlayKind). x >>= act) is in
     subst (λ (x : Result (S × List ℕ) PlayKind). Steps x s' text text' result) (sym same) done
 
 -- a line that spells no command
-pub unread : {S X : Type 0} (view : X → Command) (step : Result (S × List ℕ) PlayKind) (read : Result Command PlayKind) (act : Command → Result (S × List ℕ) PlayKind) (s' : S) (text : List ℕ) (kind : PlayKind)
+pub unread : {S X : Type 0} (view : X → Command) (step : Result (S × List ℕ) PlayKind) (read : Result Command PlayKind) (act : Command →
+    Result (S × List ℕ) PlayKind) (s' : S) (text : List ℕ) (kind : PlayKind)
     → step ≡ read >>= act → Gives view (Err kind) read → Steps step s' text text (Err kind)
 unread view step read act s' text kind by is = λ some. (by ∙ ap (λ (x : Result Command PlayKind). x >>= act) (is some), refl)
 
@@ -109,10 +126,13 @@ unread view step read act s' text kind by is = λ some. (by ∙ ap (λ (x : Resu
 abbrev pub Reads : Session → List (List ℕ) → Bool → Type 0
 Reads s folders is_open = (s.folders ≡ folders) × (is_some s.store ≡ is_open)
 
-pub reads_by : (s : Session) (folders : List (List ℕ)) (files : List ImageFile) (store : Option Store) (is_open : Bool) → (let view : Session = record { folders = folders; files = files; store = store } in view) ≡ s → is_open ≡ is_some store → Reads s folders is_open
-reads_by s folders files store is_open view_is open_is = (ap (λ (t : Session). t.folders) (sym view_is), ap (λ (t : Session). is_some t.store) (sym view_is) ∙ sym open_is)
+pub reads_by : (s : Session) (folders : List (List ℕ)) (files : List ImageFile) (store : Option Store) (is_open : Bool) →
+    (let view : Session = record { folders = folders; files = files; store = store } in view) ≡ s → is_open ≡ is_some store → Reads s folders is_open
+reads_by s folders files store is_open view_is open_is =
+    (ap (λ (t : Session). t.folders) (sym view_is), ap (λ (t : Session). is_some t.store) (sym view_is) ∙ sym open_is)
 
-pub line-is : (s : Session) (folders : List (List ℕ)) (is_open : Bool) (line : List ℕ) → Reads s folders is_open → session_line s line ≡ command_at folders (Playing is_open) line >>= obey s
+pub line-is : (s : Session) (folders : List (List ℕ)) (is_open : Bool) (line : List ℕ) → Reads s folders is_open →
+    session_line s line ≡ command_at folders (Playing is_open) line >>= obey s
 unfolding session_line
 line-is s folders is_open line reads = λ i. command_at (reads.0 i) (Playing (reads.1 i)) line >>= obey s
 
@@ -120,7 +140,8 @@ line-is s folders is_open line reads = λ i. command_at (reads.0 i) (Playing (re
 abbrev pub Sets : Setting → List (List ℕ) → Bool → Type 0
 Sets s folders with_jobs = (s.folders ≡ folders) × (s.with_jobs ≡ with_jobs)
 
-pub setting-is : (s : Setting) (folders : List (List ℕ)) (with_jobs : Bool) (line : List ℕ) → Sets s folders with_jobs → setting_line s line ≡ command_at folders (SettingUp with_jobs) line >>= set_up s
+pub setting-is : (s : Setting) (folders : List (List ℕ)) (with_jobs : Bool) (line : List ℕ) → Sets s folders with_jobs →
+    setting_line s line ≡ command_at folders (SettingUp with_jobs) line >>= set_up s
 unfolding setting_line
 setting-is s folders with_jobs line reads = λ i. command_at (reads.0 i) (SettingUp (reads.1 i)) line >>= set_up s
 

@@ -21,7 +21,8 @@ consumes_more a b c old new f n within front before read =
     subst (Consumes a c) (sym parts) (Consumes-append a b c _ _ before read)
 
 -- the filled front stays over a read that gave nothing
-pub consumes_none : (a b c : Option (List ℕ)) (old new : List ℕ) (f : ℕ) → take f new ≡ take f old → Consumes a b (take f old) → Keeps b c → Consumes a c (take f new)
+pub consumes_none : (a b c : Option (List ℕ)) (old new : List ℕ) (f : ℕ) → take f new ≡ take f old → Consumes a b (take f old) → Keeps b c →
+    Consumes a c (take f new)
 consumes_none None b c old new f front before kept = tt
 consumes_none (Some s) None c old new f front before kept = absurd before
 consumes_none (Some s) (Some t) None old new f front before kept = absurd kept

@@ -65,7 +65,8 @@ module _ (text : List ℕ) (at : ℕ) (found : NoneBefore (Passes (is_byte 92) t
       let low : i < at = omega (arith, long) in ap (is_byte 92) (get_or-take at text i 0 low) ∙ refuted _ (found.0.before i (omega arith) low))
 
   parts : take at text ++ 92 ∷ drop (at + 1) text ≡ text
-  parts = rw add-one (ap (λ b. take at text ++ b ∷ drop (suc at) text) (sym mark) ∙ ap (λ xs. take at text ++ xs) (sym (drop-cons text at 0 high)) ∙ take-append-drop at text)
+  parts = rw add-one (ap (λ b. take at text ++ b ∷ drop (suc at) text) (sym mark) ∙ ap (λ xs. take at text ++ xs) (sym (drop-cons text at 0 high)) ∙
+      take-append-drop at text)
 
   read_from : unescaped text ≡ behind (take at text) (unescaped (92 ∷ drop (at + 1) text))
   read_from = ap unescaped (sym parts) ∙ plain (take at text) (92 ∷ drop (at + 1) text) before_mark
@@ -94,7 +95,8 @@ module _ (text : List ℕ) (at : ℕ) (found : NoneBefore (Passes (is_byte 92) t
     unfolding meaning
     read_refused kind is = read_escape ∙ ap meaning is
 
-    pub read_meant : (b : ℕ) → meant_by (get_or text letter 0) ≡ Ok b → unescaped text ≡ behind (take at text) (onto b (unescaped (take (length text - (letter + 1)) (drop (letter + 1) text))))
+    pub read_meant : (b : ℕ) → meant_by (get_or text letter 0) ≡ Ok b →
+        unescaped text ≡ behind (take at text) (onto b (unescaped (take (length text - (letter + 1)) (drop (letter + 1) text))))
     unfolding meaning rest
     read_meant b is = read_escape ∙ ap meaning is
 

@@ -54,7 +54,8 @@ there-after r event goes_on =
     let task = (goes_on-exact (job_in r event.job)).0 goes_on in
     let here = there-here r event goes_on in
     let as_many : length (jobs_of (and_event r (unfaulted event))) ≡ length (jobs_of r) =
-    ap (λ (m : Machine). length m.jobs) (machine-and_event r (unfaulted event) ∙ happens-turned (machine_of r) (unfaulted event) task.0 task.1) ∙ length-changed (jobs_of r) _ _ in
+    ap (λ (m : Machine). length m.jobs) (machine-and_event r (unfaulted event) ∙ happens-turned (machine_of r) (unfaulted event) task.0 task.1) ∙
+        length-changed (jobs_of r) _ _ in
     record { from = here.from; within = omega (arith, as_many, here.within) }
 
 -- what a step that was taken says
@@ -70,7 +71,8 @@ stepped-is r event r' text is =
     record { goes_on = done.0; run = ap (λ (x : Run × List ℕ). x.0) done.1; text_is = ap (λ (x : Run × List ℕ). x.1) done.1 }
 
 -- one step, and then the others
-step-more : (more : ℕ) (r : Run) (event : Event) (r' : Run) (text : List ℕ) → Stepped r event r' text → steps_of (suc more) r event ≡ before text (steps_of more r' event)
+step-more : (more : ℕ) (r : Run) (event : Event) (r' : Run) (text : List ℕ) → Stepped r event r' text →
+    steps_of (suc more) r event ≡ before text (steps_of more r' event)
 unfolding steps_of
 step-more more r event r' text s =
     let goes_on : is_some (event_refusal r event) ≡ false = ap is_some s.goes_on in
@@ -106,13 +108,15 @@ first-of : (n : ℕ) (r : Run) (event : Event) (r' : Run) (text : List ℕ) → 
 first-of zero r event r' text s some less = absurd (omega arith)
 first-of (suc more) r event r' text s some less = (more, omega arith, step-more more r event r' text s)
 
-pub finishes-start : (r : Run) (event : Event) (r' : Run) (text : List ℕ) → stepped r event ≡ Ok (r', text) → steps_left r' event.job < steps_left r event.job → Finishes r event r' text
+pub finishes-start : (r : Run) (event : Event) (r' : Run) (text : List ℕ) → stepped r event ≡ Ok (r', text) →
+    steps_left r' event.job < steps_left r event.job → Finishes r event r' text
 finishes-start r event r' text is less =
     let s = stepped-is r event r' text is in
     let first = first-of (steps_left r event.job) r event r' text s (some_left r event s.goes_on) less in
     record { goes_on = s.goes_on; there = there-stepped r event r' text s; more = first.0; enough = first.1; rest = first.2 }
 
-pub finishes-more : (r : Run) (event : Event) (r' : Run) (text : List ℕ) (r'' : Run) (next : List ℕ) → Finishes r event r' text → stepped r' event ≡ Ok (r'', next) → steps_left r'' event.job < steps_left r' event.job → Finishes r event r'' (text ++ next)
+pub finishes-more : (r : Run) (event : Event) (r' : Run) (text : List ℕ) (r'' : Run) (next : List ℕ) → Finishes r event r' text →
+    stepped r' event ≡ Ok (r'', next) → steps_left r'' event.job < steps_left r' event.job → Finishes r event r'' (text ++ next)
 finishes-more r event r' text r'' next f is less =
     let s = stepped-is r' event r'' next is in
     let some = some_left r' event s.goes_on in
@@ -125,7 +129,8 @@ finishes-more r event r' text r'' next f is less =
       rest = f.rest ∙ ap (before text) first.2 ∙ (let last = steps_of first.0 r'' event in λ i. (last.0, sym (append_assoc text next last.1) i));
     }
 
-pub finishes-end : (r : Run) (event : Event) (r' : Run) (text : List ℕ) → Finishes r event r' text → is_some (answer_of (job_in r' event.job)) ≡ true → finished r event ≡ Ok (r', text)
+pub finishes-end : (r : Run) (event : Event) (r' : Run) (text : List ℕ) → Finishes r event r' text →
+    is_some (answer_of (job_in r' event.job)) ≡ true → finished r event ≡ Ok (r', text)
 unfolding finished
 finishes-end r event r' text f is_answered =
     let a = answer_by (answer_of (job_in r' event.job)) is_answered in
@@ -137,8 +142,10 @@ finishes-end r event r' text f is_answered =
     answer_by (Some a) is = (a, refl)
 
 -- a job that has no answer after some steps is not refused: memory ran out
-pub finishes-unrefused : {S : Type 0} (r : Run) (event : Event) (r' : Run) (text : List ℕ) → Finishes r event r' text → is_some (answer_of (job_in r' event.job)) ≡ false
-    → (step : Result (S × List ℕ) PlayKind) (s : S) (t : Run) (more before after : List ℕ) (kind : PlayKind) → Steps (stepped r' event) t more after (Err kind) → Steps step s before after (Err kind)
+pub finishes-unrefused : {S : Type 0} (r : Run) (event : Event) (r' : Run) (text : List ℕ) → Finishes r event r' text →
+    is_some (answer_of (job_in r' event.job)) ≡ false
+    → (step : Result (S × List ℕ) PlayKind) (s : S) (t : Run) (more before after : List ℕ) (kind : PlayKind) →
+        Steps (stepped r' event) t more after (Err kind) → Steps step s before after (Err kind)
 unfolding stepped
 finishes-unrefused r event r' text f unanswered step s t more before after kind is = λ some.
     let goes_on = waits r' event f.there (none_by (answer_of (job_in r' event.job)) unanswered) in
@@ -149,6 +156,9 @@ finishes-unrefused r event r' text f unanswered step s t more before after kind 
     none_by None is = refl
     none_by (Some a) is = cc
 
-pub finishes-refused : (r : Run) (event : Event) (s t : Run) (text text' : List ℕ) (kind : PlayKind) → Steps (stepped r event) s text text' (Err kind) → Steps (finished r event) t text text' (Err kind)
+pub finishes-refused : (r : Run) (event : Event) (s t : Run) (text text' : List ℕ) (kind : PlayKind) →
+    Steps (stepped r event) s text text' (Err kind) → Steps (finished r event) t text text' (Err kind)
 unfolding stepped finished
-finishes-refused r event s t text text' kind is = refused_too (event_refusal r event) (and_event r (unfaulted event), step_text r event) (steps_of (steps_left r event.job) r event) s t text text' kind is
+finishes-refused r event s t text text' kind is =
+    refused_too (event_refusal r event) (and_event r (unfaulted event), step_text r event)
+    (steps_of (steps_left r event.job) r event) s t text text' kind is

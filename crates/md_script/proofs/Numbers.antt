@@ -14,11 +14,13 @@ use Rattle.md_script.specs.Words.{number_of}
 own : IsNumeralModel (λ ds. all_ascii_digits ds ≡ true) (digits_value 10)
 own = numerals_by_value (λ ds. all_ascii_digits ds ≡ true) tells_all_ascii_digits
 
-number_good : (word : List ℕ) → 0 < length word → length word ≤ 20 → all_ascii_digits word ≡ true → digits_value 10 word < 2 ^ 64 → number_of word ≡ Ok (digits_value 10 word)
+number_good : (word : List ℕ) → 0 < length word → length word ≤ 20 → all_ascii_digits word ≡ true → digits_value 10 word < 2 ^ 64 →
+    number_of word ≡ Ok (digits_value 10 word)
 unfolding number_of
 number_good word a b c d = grind (arith, nat_tests)
 
-pub number_bad : (word : List ℕ) → (0 < length word → length word ≤ 20 → all_ascii_digits word ≡ true → digits_value 10 word < 2 ^ 64 → ⊥) → number_of word ≡ Err BadNumber
+pub number_bad : (word : List ℕ) → (0 < length word → length word ≤ 20 → all_ascii_digits word ≡ true → digits_value 10 word < 2 ^ 64 → ⊥) →
+    number_of word ≡ Err BadNumber
 unfolding number_of
 number_bad word h = grind (arith, nat_tests)
 

@@ -19,11 +19,13 @@ escape_plain b plain = grind (arith, nat_tests)
 plain_front : (front rest : List ℕ) (b : ℕ) → All Plain front → escaped (front ++ b ∷ rest) ≡ front ++ (escape b ++ escaped rest)
 plain_front [] rest b all = refl
 plain_front (c ∷ front) rest b all =
-    ap (λ p. p ++ escaped (front ++ b ∷ rest)) (escape_plain c (All-head Plain c front all)) ∙ ap (λ xs. c ∷ xs) (plain_front front rest b (All-tail Plain c front all))
+    ap (λ p. p ++ escaped (front ++ b ∷ rest)) (escape_plain c (All-head Plain c front all)) ∙
+        ap (λ xs. c ∷ xs) (plain_front front rest b (All-tail Plain c front all))
 
 plain_all : (text : List ℕ) → All Plain text → escaped text ≡ text
 plain_all [] all = refl
-plain_all (c ∷ text) all = ap (λ p. p ++ escaped text) (escape_plain c (All-head Plain c text all)) ∙ ap (λ xs. c ∷ xs) (plain_all text (All-tail Plain c text all))
+plain_all (c ∷ text) all = ap (λ p. p ++ escaped text) (escape_plain c (All-head Plain c text all)) ∙
+    ap (λ xs. c ∷ xs) (plain_all text (All-tail Plain c text all))
 
 pub escaped_none : (text : List ℕ) → Nowhere (Passes (is_byte3 92 10 13) text) 0 (length text) → escaped text ≡ text
 escaped_none text none = plain_all text (All-from_get_or Plain text 0 (λ i h. refuted _ (none i (omega arith) h)))
@@ -44,6 +46,7 @@ pub turned : (out front here rest text whole : List ℕ) → text ≡ front ++ (
 turned out front here rest text whole is so_far = simp append_assoc (ap (λ t. out ++ t) (sym is) ∙ so_far)
 
 -- what its last write leaves
-pub left_over : {E : Type 0} (r : Result (Unit {0}) E) (items out left whole : List ℕ) → items ≡ cond (is_ok r) (out ++ left) out → out ++ left ≡ whole → OnOk r (items ≡ whole)
+pub left_over : {E : Type 0} (r : Result (Unit {0}) E) (items out left whole : List ℕ) → items ≡ cond (is_ok r) (out ++ left) out →
+    out ++ left ≡ whole → OnOk r (items ≡ whole)
 left_over (Ok done) items out left whole is same = is ∙ same
 left_over (Err e) items out left whole is same = tt

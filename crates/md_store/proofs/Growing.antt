@@ -44,5 +44,6 @@ module _ (seen : List Effect) (effect : Effect) where
   -- whatever others added since, the exchange does one of the two
   pub adds_or_stays : Moves IsCounted (λ log. []) (λ before after answer. Unit {0}) 0 from counted told
   adds_or_stays cells history kept begun away =
-      let all : length history ≡ length seen → Ends (words_at (length history)) history = λ same. subst (λ (h : List Effect). Ends (words_at (length h)) h) (all_of_it seen history begun (omega (arith, same))) adds in
+      let all : length history ≡ length seen → Ends (words_at (length history)) history =
+          λ same. subst (λ (h : List Effect). Ends (words_at (length h)) h) (all_of_it seen history begun (omega (arith, same))) adds in
       rw kept.words (⊎_elim (λ same. all same.1) (λ other. stays history other.0) (eqb_tells (length history) (length seen)))

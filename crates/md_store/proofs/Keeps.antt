@@ -32,7 +32,8 @@ knows o p = ((λ _. (refl, refl)), begins_itself p.front.log)
 pub begins : (p : Page) → p.front.log ≡ [] → AreMessages p.names → Kept p (newcomer ∷ [])
 begins p none messages = (
   p.names,
-  record { legal = subst (IsLegalFrom p.names) (sym none) (legal-none p.names); names = ap (led p.names) none; opening_messages = messages; messages = messages },
+  record { legal = subst (IsLegalFrom p.names) (sym none) (legal-none p.names); names = ap (led p.names) none; opening_messages = messages;
+      messages = messages },
   one,
 )
   where
@@ -40,9 +41,11 @@ begins p none messages = (
     one zero v e = subst (Fits p.names p) (some-injective _ _ e) (new_fits p.names p)
     one (suc j) v e = absurd (some-ne-none v (sym e))
 
-fits_set : (o : Named) (p : Page) (views : List View) (seat : ℕ) (w : View) → Fits o p w → ((j : ℕ) (u : View) → get_elem? views j ≡ some u → Fits o p u) → (j : ℕ) (u : View) → get_elem? (set views seat w) j ≡ some u → Fits o p u
+fits_set : (o : Named) (p : Page) (views : List View) (seat : ℕ) (w : View) → Fits o p w →
+    ((j : ℕ) (u : View) → get_elem? views j ≡ some u → Fits o p u) → (j : ℕ) (u : View) → get_elem? (set views seat w) j ≡ some u → Fits o p u
 fits_set o p views seat w mine others j u e =
-    ⊎_elim (λ (t : (j ≡ seat) × (w ≡ u)). subst (Fits o p) t.1 mine) (λ (t : (j ≢ seat) × (get_elem? views j ≡ some u)). others j u t.1) (at_set views seat j w u e)
+    ⊎_elim (λ (t : (j ≡ seat) × (w ≡ u)). subst (Fits o p) t.1 mine) (λ (t : (j ≢ seat) × (get_elem? views j ≡ some u)). others j u t.1)
+        (at_set views seat j w u e)
 
 pub admits : Admits Kept newcomer
 admits p views h = (h.0, h.1, λ j v e. ⊎_elim (h.2 j v) (λ (same : newcomer ≡ v). subst (Fits h.0 p) same (new_fits h.0 p)) (at_snoc views newcomer v j e))
@@ -66,12 +69,15 @@ pub forks : (seat : ℕ) (v : View) → Forks Kept seat v v v
 forks seat v x views h at = (
   h.0,
   h.1,
-  λ j u e. ⊎_elim (fits_set h.0 x views seat v (h.2 seat v at) h.2 j u) (λ (same : v ≡ u). subst (Fits h.0 x) same (h.2 seat v at)) (at_snoc (set views seat v) v u j e),
+  λ j u e. ⊎_elim (fits_set h.0 x views seat v (h.2 seat v at) h.2 j u) (λ (same : v ≡ u). subst (Fits h.0 x) same (h.2 seat v at))
+      (at_snoc (set views seat v) v u j e),
 )
 
 pub merges : (seat : ℕ) (v : View) (other : ℕ) (w : View) → Merges Kept seat v other w w newcomer
 merges seat v other w x views h at apart there =
-    let theirs : Fits h.0 x w = ⊎_elim (λ (t : (other ≡ seat) × (w ≡ w)). absurd (apart t.0)) (λ (t : (other ≢ seat) × (get_elem? views other ≡ some w)). h.2 other w t.1) (at_set views seat other w w there) in
+    let theirs : Fits h.0 x w =
+        ⊎_elim (λ (t : (other ≡ seat) × (w ≡ w)). absurd (apart t.0)) (λ (t : (other ≢ seat) × (get_elem? views other ≡ some w)). h.2 other w t.1)
+        (at_set views seat other w w there) in
     (h.0, h.1, fits_set h.0 x (set views seat w) other newcomer (new_fits h.0 x) (fits_set h.0 x views seat w theirs h.2))
 
 -- a note that follows legally leads on
@@ -87,7 +93,8 @@ leads-on o x n leads more legal = record {
 }
 
 -- what is pending may be published
-pub publishes : (seat : ℕ) (v : View) (x : Page) (pend : List Note) → MayPublish v x pend → (next : Page) → next ≡ fold turned x pend → TurnsAt Kept seat v x next Seen
+pub publishes : (seat : ℕ) (v : View) (x : Page) (pend : List Note) → MayPublish v x pend → (next : Page) → next ≡ fold turned x pend →
+    TurnsAt Kept seat v x next Seen
 publishes seat v x pend may next is =
     ⊎_elim
     (λ (none : pend ≡ []). let same : next ≡ x = is ∙ ap (fold turned x) none in

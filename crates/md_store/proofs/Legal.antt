@@ -76,7 +76,8 @@ applied-messages n c are = by (fits n c) refl
     by true fit = changed-messages n c are fit
     by false other = are
 
-module _ (opening : Named) (history : List Effect) (e : Effect) (legal : IsLegalFrom opening (history ++ e ∷ [])) (are : AreMessages (led opening history)) where
+module _ (opening : Named) (history : List Effect) (e : Effect) (legal : IsLegalFrom opening (history ++ e ∷ []))
+    (are : AreMessages (led opening history)) where
   before-is : take (length history) (history ++ e ∷ []) ≡ history
   before-is = take-append-le (length history) history (e ∷ []) (omega arith) ∙ take_all (length history) history (omega arith)
 

@@ -15,7 +15,8 @@ module _ (v w : View) (p : Page) (s : Seen v p p w) (opened : v.opened ≡ true)
   opening-is : s.0 ≡ v.opening
   opening-is = sym (s.2.0 opened).0
 
-  looks : (held : List Effect) (folder : ℕ) (new : Option (List Entry)) (entries : List Entry) (front : Log) → IsLooked p held folder new entries front → Looks v held folder new entries front
+  looks : (held : List Effect) (folder : ℕ) (new : Option (List Entry)) (entries : List Entry) (front : Log) →
+      IsLooked p held folder new entries front → Looks v held folder new entries front
   looks held folder new entries front k =
       let log : p.front.log ≡ front.log = ap (λ (f : Log). f.log) (sym k.front_is) in
       let names : p.names ≡ led v.opening front.log = sym s.3.names ∙ (λ i. led (opening-is i) (log i)) in
@@ -28,7 +29,8 @@ module _ (v w : View) (p : Page) (s : Seen v p p w) (opened : v.opened ≡ true)
         entries_are = k.entries_are ∙ ap (λ (n : Named). seen_in new folder n.names) names;
       }
 
-  pub all-looks : (held : List Effect) (folder : ℕ) (new : Option (List Entry)) {V : Type 0} (items : V → List Entry) (front : V → Log) (res : Result V ListError)
+  pub all-looks : (held : List Effect) (folder : ℕ) (new : Option (List Entry)) {V : Type 0} (items : V → List Entry) (front : V →
+      Log) (res : Result V ListError)
       → IfOk res (λ r. IsLooked p held folder new (items r) (front r)) → IfOk res (λ r. Looks v held folder new (items r) (front r))
   all-looks held folder new items front (Ok r) k = looks held folder new (items r) (front r) k
   all-looks held folder new items front (Err e) k = tt

@@ -48,7 +48,8 @@ lags_by r s job false g = ([], g ∙ sym (append-nil (effects_of r)), omega arit
 pub no_effect : (r s : Run) (e : Marked) (out : StepOut) → ShowsStep r s e out → out.effect ≡ false → effects_of s ≡ effects_of r
 no_effect r s e out h off = subst (Grows r s e.event.job) off (grows r s e out h)
 
-pub one_effect : (r s : Run) (e : Marked) (out : StepOut) → ShowsStep r s e out → out.effect ≡ true → (x : Effect) × (effects_of s ≡ effects_of r ++ x ∷ []) × (x.job ≡ e.event.job)
+pub one_effect : (r s : Run) (e : Marked) (out : StepOut) → ShowsStep r s e out → out.effect ≡ true →
+    (x : Effect) × (effects_of s ≡ effects_of r ++ x ∷ []) × (x.job ≡ e.event.job)
 one_effect r s e out h on = subst (Grows r s e.event.job) on (grows r s e out h)
 
 -- nothing waits where all is published
@@ -58,9 +59,11 @@ none_waits all shown e a b = absurd (omega (arith, ap length a, ap length b, len
 module _ (opening : Named) (book : Book) (shown : Page) (seat : View) (front : Log) (pending : List Note) where
   nothing : (r : Run) → IsLocked opening book r shown seat front pending → shown.front.log ≡ effects_of r → pending ≡ []
   nothing r k all = ⊎_elim (λ (e : pending ≡ []). e)
-      (λ (n : (n : Note) × (pending ≡ n ∷ []) × CanFollow opening shown n × (n.front.log ≡ effects_of r)). none_waits (effects_of r) shown.front.log n.0.effect all (sym n.3 ∙ n.2.1)) k.waits
+      (λ (n : (n : Note) × (pending ≡ n ∷ []) × CanFollow opening shown n × (n.front.log ≡ effects_of r)). none_waits
+          (effects_of r) shown.front.log n.0.effect all (sym n.3 ∙ n.2.1)) k.waits
 
-  advances : (r s : Run) (job : ℕ) (b : Bool) → IsLocked opening book r shown seat front pending → shown.front.log ≡ effects_of r → named_of s.image ≡ named_of r.image → Grows r s job b → IsLocked opening book s shown seat front pending
+  advances : (r s : Run) (job : ℕ) (b : Bool) → IsLocked opening book r shown seat front pending → shown.front.log ≡ effects_of r →
+      named_of s.image ≡ named_of r.image → Grows r s job b → IsLocked opening book s shown seat front pending
   advances r s job b k all image t = record {
     image = image ∙ k.image;
     book_is = k.book_is;
@@ -71,7 +74,8 @@ module _ (opening : Named) (book : Book) (shown : Page) (seat : View) (front : L
     waits = inl (nothing r k all);
   }
 
-  pub stepped : (r s : Run) (job now : ℕ) (own : Option ℕ) (res : Result StepOut CoreError) → IfOk res (λ out. s ≡ and_event r (marked job now own (is_fault out.reply)))
+  pub stepped : (r s : Run) (job now : ℕ) (own : Option ℕ) (res : Result StepOut CoreError) →
+      IfOk res (λ out. s ≡ and_event r (marked job now own (is_fault out.reply)))
       → IfOk res (λ out. ShowsStep r s (marked job now own (is_fault out.reply)) out) → OnErr res (s ≡ r)
       → IsLocked opening book r shown seat front pending → shown.front.log ≡ effects_of r → IsLocked opening book s shown seat front pending
   stepped r s job now own (Ok out) event shows same k all =
@@ -79,7 +83,8 @@ module _ (opening : Named) (book : Book) (shown : Page) (seat : View) (front : L
   stepped r s job now own (Err e) event shows same k all = subst (λ (x : Run). IsLocked opening book x shown seat front pending) (sym same) k
 
   -- where image and effects stay
-  pub stays : (r s : Run) → IsLocked opening book r shown seat front pending → s.image ≡ r.image → effects_of s ≡ effects_of r → IsLocked opening book s shown seat front pending
+  pub stays : (r s : Run) → IsLocked opening book r shown seat front pending → s.image ≡ r.image → effects_of s ≡ effects_of r →
+      IsLocked opening book s shown seat front pending
   stays r s k image same = record {
     image = ap named_of image ∙ k.image;
     book_is = k.book_is;
@@ -102,7 +107,8 @@ index_at (y ∷ ys) x d = index_at ys x d
 -- the one that is left
 pub next_is : (all shown : List Effect) → Lags all shown → length shown < length all → (d : Effect) → all ≡ shown ++ slice_index_or all (length shown) d ∷ []
 next_is all shown ([], is, le) less d = absurd (omega (arith, ap length is, ap length (append-nil shown)))
-next_is all shown (x ∷ [], is, le) less d = is ∙ ap (λ (e : Effect). shown ++ e ∷ []) (sym (ap (λ l. slice_index_or l (length shown) d) is ∙ index_at shown x d))
+next_is all shown (x ∷ [], is, le) less d =
+    is ∙ ap (λ (e : Effect). shown ++ e ∷ []) (sym (ap (λ l. slice_index_or l (length shown) d) is ∙ index_at shown x d))
 next_is all shown (x ∷ y ∷ rest, is, le) less d = absurd (omega arith)
 
 -- the seat after a publishing, of a writer that knew its store
@@ -111,10 +117,13 @@ seat_after opening shown shown' seat seat' is s =
     let same : opening ≡ s.0 = sym (ap (λ (v : View). v.opening) is) ∙ s.2 (ap (λ (v : View). v.opened) is) in
     s.1 ∙ ap (λ (o : Named). knower o shown') (sym same)
 
-pub catches : (opening : Named) (book : Book) (r : Run) (front : Log) (shown shown' : Page) (seat seat' : View) (pend pend' : List Note) (res : Result (Unit {0}) AllocError)
-    → named_of r.image ≡ opening → shown.front.book ≡ book → seat ≡ knower opening shown → Lags (effects_of r) shown.front.log → front.book ≡ book → front.log ≡ effects_of r
+pub catches : (opening : Named) (book : Book) (r : Run) (front : Log) (shown shown' : Page) (seat seat' : View) (pend pend' : List Note)
+    (res : Result (Unit {0}) AllocError)
+    → named_of r.image ≡ opening → shown.front.book ≡ book → seat ≡ knower opening shown → Lags (effects_of r) shown.front.log → front.book ≡ book →
+        front.log ≡ effects_of r
     → ((n : Note) × (pend ≡ n ∷ []) × CanFollow opening shown n × (n.front.log ≡ effects_of r))
-    → MatchResult res (λ _. (shown' ≡ fold turned shown pend) × (pend' ≡ []) × Shows seat shown' seat') (λ _. (shown' ≡ shown) × (pend' ≡ pend) × (seat' ≡ seat))
+    → MatchResult res (λ _. (shown' ≡ fold turned shown pend) × (pend' ≡ []) × Shows seat shown' seat')
+        (λ _. (shown' ≡ shown) × (pend' ≡ pend) × (seat' ≡ seat))
     → IsLocked opening book r shown' seat' front pend' × MatchResult res (λ _. shown'.front.log ≡ effects_of r) (λ _. shown'.front.log ≡ shown.front.log)
 catches opening book r front shown shown' seat seat' pend pend' (Ok u) image b s lag fb f w t =
     let n = w.0 in

@@ -89,7 +89,8 @@ none-held used unused (call.Copy folder unique to fresh tries) = ap (λ b. cond 
 none-held used unused (call.Clean folder) = refl
 
 no-entries : finmap.entries (finmap.empty {X = ℕ} {R = path_cmp}) ≡ []
-no-entries = nil_from_length (finmap.entries (finmap.empty {X = ℕ} {R = path_cmp})) (sym (len-entries (finmap.empty {X = ℕ} {R = path_cmp})) ∙ len-empty path_cmp ℕ)
+no-entries = nil_from_length (finmap.entries (finmap.empty {X = ℕ} {R = path_cmp})) (sym (len-entries (finmap.empty {X = ℕ} {R = path_cmp})) ∙
+    len-empty path_cmp ℕ)
 
 none-used : (folders : ℕ) (u : List ℕ) → is_used (new_run (bare folders) 0 0) u ≡ false
 none-used folders u = ap (λ es. list_any (λ e. uses u e.0) es || false) no-entries
@@ -125,7 +126,8 @@ module _ (r : Run) (folders : ℕ) (same : r.image.folders ≡ folders) (asked :
       → MatchResult res (λ _. plain_refusal folders asked ≡ None) (λ y. IsWhy (plain_refusal folders asked) y.error)
   submits (Ok n) h = is-plain ∙ accepted (plain folders asked) (held_of r) (held_of empty) none (sym is-here ∙ h)
   submits (Err y) h = subst (λ o. IsWhy o y.error) (sym is-plain)
-      (why (plain folders asked) (held_of r) (held_of empty) (held-why (too_many r) (is_used r) asked) none y.error (subst (λ o. IsRefusal o y.error) is-here h))
+      (why (plain folders asked) (held_of r) (held_of empty) (held-why (too_many r) (is_used r) asked) none y.error
+          (subst (λ o. IsRefusal o y.error) is-here h))
 
 -- why a step is refused
 pub step_why : {A : Type 0} (o : Option Standing) (res : Result A CoreError) → MatchResult res (λ _. step_refusal o ≡ None) (IsRefusal (step_refusal o))

@@ -42,7 +42,8 @@ other_key q p u is not same = not (ap key_of same ∙ is)
 pub record Frame (s s' : State) (v : List ℕ) : Type 0 where
   pub names : (q : Path) → key_of q ≢ v → file_at s' q ≡ file_at s q
   pub bytes : (q : Path) (m : ℕ) → key_of q ≢ v → file_at s q ≡ Some m → bytes_at s' m ≡ bytes_at s m
-  pub origin : (q : Path) (m : ℕ) → key_of q ≡ v → file_at s' q ≡ Some m → ((r : Path) → file_at s r ≢ Some m) ⊎ ((r : Path) × ((key_of r ≡ v) ⊎ (is_message r ≡ true)) × (file_at s r ≡ Some m))
+  pub origin : (q : Path) (m : ℕ) → key_of q ≡ v → file_at s' q ≡ Some m →
+      ((r : Path) → file_at s r ≢ Some m) ⊎ ((r : Path) × ((key_of r ≡ v) ⊎ (is_message r ≡ true)) × (file_at s r ≡ Some m))
 
 module _ (s s' : State) (u v : List ℕ) (differ : u ≢ v) (f : Frame s s' v) where
   mine : (p : Path) → key_of p ≡ u → key_of p ≢ v
@@ -140,7 +141,8 @@ expunging-stays s s' x asked folders h = record {
 }
 
 -- a copy, where its fresh name has no message still
-pub copying-refit : (s s' : State) (c : Copying) (asked : Call) → s'.folders ≡ s.folders → (HasNoMessage s c.fresh → HasNoMessage s' c.fresh) → CopyingFits s asked c → CopyingFits s' asked c
+pub copying-refit : (s s' : State) (c : Copying) (asked : Call) → s'.folders ≡ s.folders → (HasNoMessage s c.fresh → HasNoMessage s' c.fresh) →
+    CopyingFits s asked c → CopyingFits s' asked c
 copying-refit s s' c asked folders none h = record {
   tries = h.tries;
   of = h.of;
@@ -171,7 +173,8 @@ marking-frame s s' folders asked m h = record {
 }
 
 -- a task of a call that doesn't make the name
-pub task-frame : (s s' : State) (v : List ℕ) → Frame s s' v → s'.folders ≡ s.folders → (asked : Call) (task : Task) → (Makes asked v → ⊥) → TaskFits s asked task → TaskFits s' asked task
+pub task-frame : (s s' : State) (v : List ℕ) → Frame s s' v → s'.folders ≡ s.folders → (asked : Call) (task : Task) → (Makes asked v → ⊥) →
+    TaskFits s asked task → TaskFits s' asked task
 task-frame s s' v f folders asked (Deliver d) apart h =
     delivery-frame s s' d v (λ is. apart (subst (Makes asked) is (makes-delivery s asked d h))) f asked folders h
 task-frame s s' v f folders asked (Move m) apart h = moving-stays s s' m asked folders h
@@ -182,7 +185,8 @@ task-frame s s' v f folders asked (Clean c) apart h = h
 task-frame s s' v f folders asked (Mark m) apart h = marking-frame s s' folders asked m h
 
 -- a task of any call, where a message has the name
-pub task-stays : (s s' : State) (v : List ℕ) → Frame s s' v → s'.folders ≡ s.folders → (HasNoMessage s v → ⊥) → (asked : Call) (task : Task) → TaskFits s asked task → TaskFits s' asked task
+pub task-stays : (s s' : State) (v : List ℕ) → Frame s s' v → s'.folders ≡ s.folders → (HasNoMessage s v → ⊥) → (asked : Call) (task : Task) →
+    TaskFits s asked task → TaskFits s' asked task
 task-stays s s' v f folders some asked (Deliver d) h = delivery-stays s s' d v f some asked folders h
 task-stays s s' v f folders some asked (Move m) h = moving-stays s s' m asked folders h
 task-stays s s' v f folders some asked (Expunge x) h = expunging-stays s s' x asked folders h

@@ -26,12 +26,14 @@ pub record Goes (calls : List Call) (m m' : Machine) (what : Done) : Type 0 wher
   pub effects : m'.effects ≡ m.effects ++ option_to_list what.effect
 
 -- each job has its call
-call-there : (calls : List Call) (jobs : List Standing) (i : ℕ) (job : Standing) → length jobs ≡ length calls → slice_get jobs i ≡ Some job → (asked : Call) × (slice_get calls i ≡ Some asked)
+call-there : (calls : List Call) (jobs : List Standing) (i : ℕ) (job : Standing) → length jobs ≡ length calls → slice_get jobs i ≡ Some job →
+    (asked : Call) × (slice_get calls i ≡ Some asked)
 call-there calls jobs i job same is = at_place calls i
     (λ asked of. (asked, of))
     (λ past. absurd (let within = slice_get_within jobs i job is in omega arith))
 
-pub goes : EachTurn → (calls : List Call) (m : Machine) (e : Marked) (task : Task) → IsGood calls m → job_at m.jobs e.event.job ≡ Some (working task) → Goes calls m (happens m e) (done_by m e task)
+pub goes : EachTurn → (calls : List Call) (m : Machine) (e : Marked) (task : Task) → IsGood calls m →
+    job_at m.jobs e.event.job ≡ Some (working task) → Goes calls m (happens m e) (done_by m e task)
 goes turns calls m e task good is =
     let n = e.event.job in
     let moment = at m e task is in
@@ -60,17 +62,20 @@ module _ (calls : List Call) (m m' : Machine) (what : Done) (g : Goes calls m m'
   standing = standing_of g.task' what.answer
 
   -- a job after a turn is the one that took it, as it stands then, or another, as it was
-  pub goes-cases : {C : Type 0} (j : ℕ) (job : Standing) → slice_get m'.jobs j ≡ Some job → (j ≡ g.place → job ≡ standing → C) → (j ≢ g.place → slice_get m.jobs j ≡ Some job → C) → C
+  pub goes-cases : {C : Type 0} (j : ℕ) (job : Standing) → slice_get m'.jobs j ≡ Some job → (j ≡ g.place → job ≡ standing → C) →
+      (j ≢ g.place → slice_get m.jobs j ≡ Some job → C) → C
   goes-cases j job is here other =
       let is' : slice_get (slice_set m.jobs g.place standing) j ≡ Some job = ap (λ (js : List Standing). slice_get js j) (sym g.jobs) ∙ is in
       let within = slice_get_within m.jobs g.place (working g.task) g.there in
       by_number j g.place
-      (λ same. let now = ap (slice_get (slice_set m.jobs g.place standing)) same ∙ get-set_same m.jobs g.place standing within in here same (let e : Some job ≡ Some standing = sym is' ∙ now in cc))
+      (λ same. let now = ap (slice_get (slice_set m.jobs g.place standing)) same ∙
+          get-set_same m.jobs g.place standing within in here same (let e : Some job ≡ Some standing = sym is' ∙ now in cc))
       (λ differ. other differ (sym (get-set_other m.jobs g.place j standing differ) ∙ is'))
 
   -- the job that took its turn, and another, after it
   pub goes-here : slice_get m'.jobs g.place ≡ Some standing
-  goes-here = ap (λ (js : List Standing). slice_get js g.place) g.jobs ∙ get-set_same m.jobs g.place _ (slice_get_within m.jobs g.place (working g.task) g.there)
+  goes-here = ap (λ (js : List Standing). slice_get js g.place) g.jobs ∙
+      get-set_same m.jobs g.place _ (slice_get_within m.jobs g.place (working g.task) g.there)
 
   pub goes-others : (j : ℕ) → j ≢ g.place → slice_get m'.jobs j ≡ slice_get m.jobs j
   goes-others j differ = ap (λ (js : List Standing). slice_get js j) g.jobs ∙ get-set_other m.jobs g.place j _ differ

@@ -206,7 +206,8 @@ own_effect number (Clean c) = None
 -- What is known of a message that was found: where it is there it has this size, and no job without an effect makes its name.
 pub record Known (calls : List Call) (m : Machine) (u : List ℕ) (size : ℕ) : Type 0 where
   pub has_size : HasSize (mailbox_of m.dirs) u size
-  pub unmade : (j : ℕ) (asked : Call) (task : Task) → slice_get calls j ≡ Some asked → slice_get m.jobs j ≡ Some (working task) → own_effect (suc j) task ≡ None → Makes asked u → ⊥
+  pub unmade : (j : ℕ) (asked : Call) (task : Task) → slice_get calls j ≡ Some asked → slice_get m.jobs j ≡ Some (working task) →
+      own_effect (suc j) task ≡ None → Makes asked u → ⊥
 
 -- What holds of a machine of these calls at each moment.
 pub record IsGood (calls : List Call) (m : Machine) : Type 0 where

@@ -31,7 +31,8 @@ use Rattle.md_core.proofs.Induction.Keeping.{good-kept}
 use Rattle.md_core.proofs.Directories.Frames.{unused-no_message}
 
 -- a job at the beginning is a new job of the call of its place
-pub new_at : (calls : List Call) (i : ℕ) (job : Standing) → slice_get (map new_job calls) i ≡ Some job → (call : Call) × (slice_get calls i ≡ Some call) × (job ≡ new_job call)
+pub new_at : (calls : List Call) (i : ℕ) (job : Standing) → slice_get (map new_job calls) i ≡ Some job →
+    (call : Call) × (slice_get calls i ≡ Some call) × (job ≡ new_job call)
 new_at [] i job at = cc
 new_at (call ∷ calls) zero job at = (call, refl, cc)
 new_at (call ∷ calls) (suc i) job at = new_at calls i job at
@@ -125,7 +126,8 @@ module _ (r : Run) (run : IsRun r) where
   none-found : (asked : Call) (job : Task) (u : List ℕ) (size : ℕ) → new_job asked ≡ working job → Found job u size → ⊥
   none-found (Deliver a b c d) job u size is its = subst (λ (t : Task). Found t u size) (let e : job ≡ task.Deliver (new_delivery a b c d) = cc in e) its
   none-found (Seen a b c d) job u size is its = subst (λ (t : Task). Found t u size) (let e : job ≡ task.Mark (new_marking a b (mark.Seen c) d) = cc in e) its
-  none-found (Flag a b c d e) job u size is its = subst (λ (t : Task). Found t u size) (let h : job ≡ task.Mark (new_marking a b (mark.Flag c d) e) = cc in h) its
+  none-found (Flag a b c d e) job u size is its =
+      subst (λ (t : Task). Found t u size) (let h : job ≡ task.Mark (new_marking a b (mark.Flag c d) e) = cc in h) its
   none-found (Move a b c d) job u size is its = subst (λ (t : Task). Found t u size) (let e : job ≡ task.Move (new_moving a b c d) = cc in e) its
   none-found (Expunge a b c) job u size is its = subst (λ (t : Task). Found t u size) (let e : job ≡ task.Expunge (new_expunging a b c) = cc in e) its
   none-found (Copy a b c d e) job u size is its = subst (λ (t : Task). Found t u size) (let h : job ≡ task.Copy (new_copying a b c d e) = cc in h) its
@@ -169,18 +171,21 @@ module _ (r : Run) (run : IsRun r) where
       what-at = done_by (moment r k) e waits.0
 
       pub going-at : Goes r.calls (moment r k) (moment r (k + 1)) what-at
-      going-at = subst (λ (m : Machine). Goes r.calls (moment r k) m what-at) (sym (moment-more r k e at)) (goes turns r.calls (moment r k) e waits.0 (good-moment k) waits.1)
+      going-at = subst (λ (m : Machine). Goes r.calls (moment r k) m what-at) (sym (moment-more r k e at))
+          (goes turns r.calls (moment r k) e waits.0 (good-moment k) waits.1)
 
       pub done-what : done_at r k ≡ Some what-at
       done-what = ap (option_and_then (done (moment r k))) at ∙ done-turned (moment r k) e waits.0 waits.1
 
     -- What holds at the beginning, and is kept by each turn where all is good, holds at each moment.
     module _ (P : List Marked → Machine → Type 0) (start : P [] (beginning r.image r.calls))
-        (step : (es : List Marked) (m m' : Machine) (e : Marked) (what : Done) → what.job ≡ e.event.job → IsGood r.calls m → Goes r.calls m m' what → P es m → P (es ++ e ∷ []) m') where
+        (step : (es : List Marked) (m m' : Machine) (e : Marked) (what : Done) → what.job ≡ e.event.job → IsGood r.calls m → Goes r.calls m m' what →
+            P es m → P (es ++ e ∷ []) m') where
       abbrev Both : List Marked → Machine → Type 0
       Both es m = IsGood r.calls m × P es m
 
-      both-more : (es : List Marked) (m : Machine) (e : Marked) (job : Task) → job_at m.jobs e.event.job ≡ Some (working job) → Both es m → Both (es ++ e ∷ []) (happens m e)
+      both-more : (es : List Marked) (m : Machine) (e : Marked) (job : Task) → job_at m.jobs e.event.job ≡ Some (working job) → Both es m →
+          Both (es ++ e ∷ []) (happens m e)
       both-more es m e job at both =
           let g = goes turns r.calls m e job both.0 at in
           (good-kept r.calls all-apart m (happens m e) (done_by m e job) g both.0, step es m (happens m e) e (done_by m e job) refl both.0 g both.1)

@@ -39,15 +39,19 @@ mark-makes folder v (mark.Seen given) tries u makes = makes
 mark-makes folder v (mark.Flag add remove) tries u makes = makes
 
 -- a job that has had no effect makes only names that no message has
-pub makes-none : (s : State) (number : ℕ) (asked : Call) (task : Task) (u : List ℕ) → TaskFits s asked task → own_effect number task ≡ None → Makes asked u → HasNoMessage s u
-makes-none s number asked (Deliver d) u fits without makes = subst (HasNoMessage s) (subst (λ (c : Call). Makes c u) fits.of makes) (by d.stage fits.stage without)
+pub makes-none : (s : State) (number : ℕ) (asked : Call) (task : Task) (u : List ℕ) → TaskFits s asked task → own_effect number task ≡ None →
+    Makes asked u → HasNoMessage s u
+makes-none s number asked (Deliver d) u fits without makes =
+    subst (HasNoMessage s) (subst (λ (c : Call). Makes c u) fits.of makes) (by d.stage fits.stage without)
   where
-    by : (stage : Stage) → StageFits s d stage → cond {A = Option Effect} (is_linked stage) (Some (delivery_effect number d)) None ≡ None → HasNoMessage s d.tmp.name
+    by : (stage : Stage) → StageFits s d stage → cond {A = Option Effect} (is_linked stage) (Some (delivery_effect number d)) None ≡ None →
+        HasNoMessage s d.tmp.name
     by Start h is = unused-no_message s d.tmp.name h
     by (Writing start k) h is = h.1
     by Linked h is = cc
     by (Undo a) h is = h.0
-makes-none s number asked (Mark m) u fits without makes = absurd (mark-makes m.folder m.unique m.mark fits.tries u (subst (λ (c : Call). Makes c u) fits.of makes))
+makes-none s number asked (Mark m) u fits without makes =
+    absurd (mark-makes m.folder m.unique m.mark fits.tries u (subst (λ (c : Call). Makes c u) fits.of makes))
 makes-none s number asked (Move m) u fits without makes = absurd (subst (λ (c : Call). Makes c u) fits.of makes)
 makes-none s number asked (Expunge x) u fits without makes = absurd (subst (λ (c : Call). Makes c u) fits.of makes)
 makes-none s number asked (Clean c) u fits without makes = absurd (subst (λ (x : Call). Makes x u) fits makes)
@@ -72,21 +76,26 @@ module _ (calls : List Call) (m m' : Machine) (what : Done) (g : Goes calls m m'
   size-after : HasSize (mailbox_of m'.dirs) u size
   size-after = by what.effect g.does.as_alone g.does.first
     where
-      by : (o : Option Effect) → AsAlone g.asked o (mailbox_of m.dirs) (mailbox_of m'.dirs) → IfSome o (λ e. own_effect what.job g.task ≡ None) → HasSize (mailbox_of m'.dirs) u size
+      by : (o : Option Effect) → AsAlone g.asked o (mailbox_of m.dirs) (mailbox_of m'.dirs) → IfSome o (λ e. own_effect what.job g.task ≡ None) →
+          HasSize (mailbox_of m'.dirs) u size
       by None same first e at = known.has_size e (ap (λ (x : Mailbox). finmap.get x u) (sym same) ∙ at)
       by (Some x) alone first e at = elim (as_alone-after g.asked (Some x) (mailbox_of m.dirs) (mailbox_of m'.dirs) alone u e at) [
         | inl gives ↦ absurd (mine first (gives-makes g.asked (mailbox_of m.dirs) u e.bytes gives))
         | inr had ↦ ap length (sym had.2) ∙ known.has_size had.0 had.1
       ]
 
-  unmade-after : (j : ℕ) (asked : Call) (task : Task) → slice_get calls j ≡ Some asked → slice_get m'.jobs j ≡ Some (working task) → own_effect (suc j) task ≡ None → Makes asked u → ⊥
+  unmade-after : (j : ℕ) (asked : Call) (task : Task) → slice_get calls j ≡ Some asked → slice_get m'.jobs j ≡ Some (working task) →
+      own_effect (suc j) task ≡ None → Makes asked u → ⊥
   unmade-after j asked task of at without makes = goes-cases calls m m' what g j (working task) at
       (λ same now.
       let on = still-working task g.task' what.answer now in
       let its : asked ≡ g.asked = (let e : Some asked ≡ Some g.asked = sym of ∙ ap (slice_get calls) same ∙ g.of in cc) in
-      let kept : own_effect what.job g.task' ≡ option_or what.effect (own_effect what.job g.task) = subst (λ (o : Option Answer). MatchOption o (own_effect what.job g.task' ≡ option_or what.effect (own_effect what.job g.task)) (Settles (option_or what.effect (own_effect what.job g.task)))) on.0 g.does.settles in
+      let kept : own_effect what.job g.task' ≡ option_or what.effect (own_effect what.job g.task) =
+          subst (λ (o : Option Answer). MatchOption o (own_effect what.job g.task' ≡ option_or what.effect (own_effect what.job g.task))
+          (Settles (option_or what.effect (own_effect what.job g.task)))) on.0 g.does.settles in
       let number : suc j ≡ what.job = ap suc same ∙ sym g.number_is in
-      let none : option_or what.effect (own_effect what.job g.task) ≡ None = sym kept ∙ ap (own_effect what.job) (sym on.1) ∙ ap (λ n. own_effect n task) (sym number) ∙ without in
+      let none : option_or what.effect (own_effect what.job g.task) ≡ None = sym kept ∙ ap (own_effect what.job) (sym on.1) ∙
+          ap (λ n. own_effect n task) (sym number) ∙ without in
       mine (neither what.effect (own_effect what.job g.task) none) (subst (λ (c : Call). Makes c u) its makes))
       (λ differ was. known.unmade j asked task of was without makes)
     where

@@ -20,7 +20,8 @@ module _ {A K X : Type 0} {R : K → K → Ordering} (o : IsTotalOrder R) (exact
           find R k (cons_option m (filter_map g es)) ≡ Some v → (y : A) × Has (x ∷ es) y × (g y ≡ Some (k, v))
       at later None made is = let rest = later is in (rest.0, inr rest.1, rest.2)
       at later (Some m) made is =
-          elim (eq_by_cmp R k m.0) as (λ b. eq_by_cmp R k m.0 ≡ b → cond b (Some m.1) (find R k (filter_map g es)) ≡ Some v → (y : A) × Has (x ∷ es) y × (g y ≡ Some (k, v))) [
+          elim (eq_by_cmp R k m.0) as (λ b. eq_by_cmp R k m.0 ≡ b → cond b (Some m.1) (find R k (filter_map g es)) ≡ Some v →
+              (y : A) × Has (x ∷ es) y × (g y ≡ Some (k, v))) [
             | true ↦ λ t is.
                 let key : k ≡ m.0 = exact k m.0 (tied _ t) in
                 let value : m.1 ≡ v = cc in
@@ -33,7 +34,8 @@ module _ {A K X : Type 0} {R : K → K → Ordering} (o : IsTotalOrder R) (exact
   finds k v x [] has is = absurd has
   finds k v x (e ∷ es) has is = at (λ later. finds k v x es later is) (g e) refl
     where
-      at : (Has es x → (w : X) × (find R k (filter_map g es) ≡ Some w)) → (m : Option (K × X)) → g e ≡ m → (w : X) × (find R k (cons_option m (filter_map g es)) ≡ Some w)
+      at : (Has es x → (w : X) × (find R k (filter_map g es) ≡ Some w)) → (m : Option (K × X)) → g e ≡ m →
+          (w : X) × (find R k (cons_option m (filter_map g es)) ≡ Some w)
       at rest None made = elim has [
         | inl here ↦ let h : g e ≡ Some (k, v) = ap g (sym here) ∙ is in cc
         | inr later ↦ rest later

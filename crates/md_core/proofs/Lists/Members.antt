@@ -39,7 +39,8 @@ module _ {K X : Type 0} {R : K → K → Ordering} (o : IsTotalOrder R) (exact :
   has-find : (x : K × X) (es : List (K × X)) → T (is_sorted R es) → Has es x → find R x.0 es ≡ Some x.1
   has-find x [] sorted has = absurd has
   has-find x (e ∷ es) sorted has = elim has [
-    | inl is ↦ ap (λ (y : K × X). cond (eq_by_cmp R x.0 y.0) (Some y.1) (find R x.0 es)) (sym is) ∙ ap (λ r. cond (is_eq r) (Some x.1) (find R x.0 es)) (tied_itself o x.0)
+    | inl is ↦ ap (λ (y : K × X). cond (eq_by_cmp R x.0 y.0) (Some y.1) (find R x.0 es)) (sym is) ∙
+        ap (λ r. cond (is_eq r) (Some x.1) (find R x.0 es)) (tied_itself o x.0)
     | inr later ↦
         let apart : eq_by_cmp R x.0 e.0 ≡ false = ap is_eq (o.antisymm x.0 e.0 ∙ ap ordering_reverse (above x e.0 es (first _ _ sorted) later)) in
         ap (λ b. cond b (Some e.1) (find R x.0 es)) apart ∙ has-find x es (second _ _ sorted) later

@@ -15,7 +15,8 @@ get-pushed [] x = refl
 get-pushed (z ∷ xs) x = get-pushed xs x
 
 -- an element of a longer list is one of the list, or the last
-pub at_end : {X C : Type 0} (xs : List X) (new : X) (i : ℕ) (x : X) → slice_get (xs ++ new ∷ []) i ≡ Some x → (slice_get xs i ≡ Some x → C) → (i ≡ length xs → x ≡ new → C) → C
+pub at_end : {X C : Type 0} (xs : List X) (new : X) (i : ℕ) (x : X) → slice_get (xs ++ new ∷ []) i ≡ Some x → (slice_get xs i ≡ Some x → C) →
+    (i ≡ length xs → x ≡ new → C) → C
 at_end [] new zero x is early last = last refl cc
 at_end [] new (suc i) x is early last = cc
 at_end (z ∷ xs) new zero x is early last = early is
@@ -75,7 +76,8 @@ module _ {X : Type 0} (p : X → Bool) where
   none-of_kind [] none = refl
   none-of_kind (x ∷ xs) none = by (p x) (sym (count-more x xs) ∙ none) (none-of_kind xs)
     where
-      by : (b : Bool) → cond {A = ℕ} b 1 0 + count_by p xs ≡ 0 → (count_by p xs ≡ 0 → position_or_len p xs ≡ length xs) → cond (not b) (1 + position_or_len p xs) 0 ≡ suc (length xs)
+      by : (b : Bool) → cond {A = ℕ} b 1 0 + count_by p xs ≡ 0 → (count_by p xs ≡ 0 → position_or_len p xs ≡ length xs) →
+          cond (not b) (1 + position_or_len p xs) 0 ≡ suc (length xs)
       by true h rest = absurd (omega arith)
       by false h rest = let r = rest (omega (arith, h)) in omega (arith, r)
 
@@ -83,8 +85,10 @@ module _ {X : Type 0} (p : X → Bool) where
   some-of_kind [] y some = absurd (omega arith)
   some-of_kind (x ∷ xs) y some = by (p x) (subst (λ (n : ℕ). 0 < n) (count-more x xs) some) (some-of_kind xs y)
     where
-      by : (b : Bool) → 0 < cond {A = ℕ} b 1 0 + count_by p xs → (0 < count_by p xs → (position_or_len p (xs ++ y ∷ []) ≡ position_or_len p xs) × (position_or_len p xs ≤ length xs)) →
-          (cond (not b) (1 + position_or_len p (xs ++ y ∷ [])) 0 ≡ cond (not b) (1 + position_or_len p xs) 0) × (cond (not b) (1 + position_or_len p xs) 0 ≤ suc (length xs))
+      by : (b : Bool) → 0 < cond {A = ℕ} b 1 0 + count_by p xs →
+          (0 < count_by p xs → (position_or_len p (xs ++ y ∷ []) ≡ position_or_len p xs) × (position_or_len p xs ≤ length xs)) →
+          (cond (not b) (1 + position_or_len p (xs ++ y ∷ [])) 0 ≡ cond (not b) (1 + position_or_len p xs) 0) ×
+          (cond (not b) (1 + position_or_len p xs) 0 ≤ suc (length xs))
       by true h rest = (refl, omega arith)
       by false h rest = let r = rest (omega (arith, h)) in let less = r.1 in (ap (λ n. 1 + n) r.0, omega (arith, less))
 
@@ -92,6 +96,7 @@ module _ {X : Type 0} (p : X → Bool) where
   first-of_kind [] y none is = ap (λ b. cond (not b) 1 0) is
   first-of_kind (x ∷ xs) y none is = by (p x) (sym (count-more x xs) ∙ none) (λ h. first-of_kind xs y h is)
     where
-      by : (b : Bool) → cond {A = ℕ} b 1 0 + count_by p xs ≡ 0 → (count_by p xs ≡ 0 → position_or_len p (xs ++ y ∷ []) ≡ length xs) → cond (not b) (1 + position_or_len p (xs ++ y ∷ [])) 0 ≡ suc (length xs)
+      by : (b : Bool) → cond {A = ℕ} b 1 0 + count_by p xs ≡ 0 → (count_by p xs ≡ 0 → position_or_len p (xs ++ y ∷ []) ≡ length xs) →
+          cond (not b) (1 + position_or_len p (xs ++ y ∷ [])) 0 ≡ suc (length xs)
       by true h rest = absurd (omega arith)
       by false h rest = let r = rest (omega (arith, h)) in omega (arith, r)

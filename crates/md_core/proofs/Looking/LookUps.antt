@@ -106,7 +106,9 @@ module _ (s : State) (folder : ℕ) (place : Place) (u : List ℕ) where
   found row [] is = cc
   found row (e ∷ es) is = by (λ is. let rest = found row es is in (rest.0, inr rest.1, rest.2, rest.3, rest.4)) (is_in folder place e.0) refl is
     where
-      by : (row_named u (rows es) ≡ Some row → Found row (e ∷ es)) → (b : Bool) → is_in folder place e.0 ≡ b → row_named u (map (row_of s.files) (cond b (e ∷ filter (λ x. is_in folder place x.0) es) (filter (λ x. is_in folder place x.0) es))) ≡ Some row → Found row (e ∷ es)
+      by : (row_named u (rows es) ≡ Some row → Found row (e ∷ es)) → (b : Bool) → is_in folder place e.0 ≡ b →
+          row_named u (map (row_of s.files) (cond b (e ∷ filter (λ x. is_in folder place x.0) es) (filter (λ x. is_in folder place x.0) es))) ≡
+          Some row → Found row (e ∷ es)
       by later false inside is = later is
       by later true inside is = at (is_named u (row_of s.files e).name) refl is
         where
@@ -119,7 +121,8 @@ module _ (s : State) (folder : ℕ) (place : Place) (u : List ℕ) where
   not_found [] is e has inside = absurd has
   not_found (x ∷ es) is e has inside = by (λ is later. not_found es is e later inside) (is_in folder place x.0) refl is
     where
-      by : (row_named u (rows es) ≡ None → Has es e → is_named u e.0.name ≡ false) → (b : Bool) → is_in folder place x.0 ≡ b → row_named u (map (row_of s.files) (cond b (x ∷ filter (λ y. is_in folder place y.0) es) (filter (λ y. is_in folder place y.0) es))) ≡ None →
+      by : (row_named u (rows es) ≡ None → Has es e → is_named u e.0.name ≡ false) → (b : Bool) → is_in folder place x.0 ≡ b →
+          row_named u (map (row_of s.files) (cond b (x ∷ filter (λ y. is_in folder place y.0) es) (filter (λ y. is_in folder place y.0) es))) ≡ None →
           is_named u e.0.name ≡ false
       by rest false outside is = elim has [
         | inl here ↦ let there = ap (λ (y : Path × ℕ). is_in folder place y.0) (sym here) ∙ inside in cc
@@ -127,7 +130,8 @@ module _ (s : State) (folder : ℕ) (place : Place) (u : List ℕ) where
       ]
       by rest true inside is = at (is_named u (row_of s.files x).name) refl is
         where
-          at : (b : Bool) → is_named u (row_of s.files x).name ≡ b → cond {A = Option Row} b (Some (row_of s.files x)) (row_named u (rows es)) ≡ None → is_named u e.0.name ≡ false
+          at : (b : Bool) → is_named u (row_of s.files x).name ≡ b →
+              cond {A = Option Row} b (Some (row_of s.files x)) (row_named u (rows es)) ≡ None → is_named u e.0.name ≡ false
           at true named is = cc
           at false named is = elim has [
             | inl here ↦ ap (λ (y : Path × ℕ). is_named u y.0.name) here ∙ ap (is_named u) (sym (name-row x.0.name _)) ∙ named

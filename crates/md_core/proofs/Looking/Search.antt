@@ -47,7 +47,8 @@ some-left (LookCur tries) = omega arith
 some-left (Act place row tries) = omega arith
 
 -- the look-up in new and that in cur
-module _ (s : State) (folder : ℕ) (u : List ℕ) (any : Bool) (valid : is_unique_name u ≡ true) (one : HasOnePath s) (tries left : ℕ) (less : 3 * max tries 1 - 2 < left) where
+module _ (s : State) (folder : ℕ) (u : List ℕ) (any : Bool) (valid : is_unique_name u ≡ true) (one : HasOnePath s) (tries left : ℕ)
+    (less : 3 * max tries 1 - 2 < left) where
   row-size : (name : List ℕ) (o : Option File) → (row_by name o).size ≡ length (bytes_of o)
   row-size name None = refl
   row-size name (Some file) = refl
@@ -67,7 +68,8 @@ module _ (s : State) (folder : ℕ) (u : List ℕ) (any : Bool) (valid : is_uniq
                 (no_tmp, h.named, h.unique, acts),
                 less,
                 λ v n its.
-                    (entry_of s (path_of folder place row.name) h.file, ap (get (mailbox_of s)) (sym its.0) ∙ row-entry s folder place u row no_tmp one h, size ∙ its.1),
+                    (entry_of s (path_of folder place row.name) h.file, ap (get (mailbox_of s)) (sym its.0) ∙
+                        row-entry s folder place u row no_tmp one h, size ∙ its.1),
               )
           at false acts = (refl, omega arith)
   leads-look place no_tmp none reply.Exists = (refl, omega arith)
@@ -76,7 +78,8 @@ module _ (s : State) (folder : ℕ) (u : List ℕ) (any : Bool) (valid : is_uniq
 
 pub leads-new : (s : State) (folder : ℕ) (u : List ℕ) (any : Bool) (valid : is_unique_name u ≡ true) (one : HasOnePath s) (tries : ℕ) (r : DirReply) →
     NextFits s any u (3 * max tries 1) (after_look any New tries r (row_named u (rows_of s folder New)))
-leads-new s folder u any valid one tries r = leads-look s folder u any valid one tries (3 * max tries 1) (omega arith) New refl (tt, new-left tries, λ v n its. absurd its) r
+leads-new s folder u any valid one tries r =
+    leads-look s folder u any valid one tries (3 * max tries 1) (omega arith) New refl (tt, new-left tries, λ v n its. absurd its) r
 
 pub leads-cur : (s : State) (folder : ℕ) (u : List ℕ) (any : Bool) (valid : is_unique_name u ≡ true) (one : HasOnePath s) (tries : ℕ) (r : DirReply) →
     NextFits s any u (3 * max tries 1 - 1) (after_look any Cur tries r (row_named u (rows_of s folder Cur)))
@@ -95,14 +98,17 @@ abbrev pub as_after : {T : Type 0} → (T → Task) → After T → After Task
 as_after wrap a = record { task = wrap a.task; answer = a.answer; effect = a.effect }
 
 -- a step of a search that leads somewhere, and at which nothing changes
-pub search-does : {T : Type 0} (wrap : T → Task) (t : T) (at : Stage → T) (any : Bool) (u : List ℕ) (s : State) (number : ℕ) (asked : Call) (made : Asked) (r : DirReply) →
+pub search-does : {T : Type 0} (wrap : T → Task) (t : T) (at : Stage → T) (any : Bool) (u : List ℕ) (s : State) (number : ℕ) (asked : Call)
+    (made : Asked) (r : DirReply) →
     IsSound s → HasOnePath s → ((stage : Stage) → SearchFits any u stage → TaskFits s asked (wrap (at stage))) →
     own_effect number (wrap t) ≡ None → ((stage : Stage) → own_effect number (wrap (at stage)) ≡ None) →
-    ((stage : Stage) → task_left s (wrap (at stage)) ≡ search_left stage) → ((stage : Stage) → IsFixed (wrap (at stage))) → ((stage : Stage) (v : List ℕ) (size : ℕ) → Found (wrap (at stage)) v size → FoundAt u stage v size) →
+    ((stage : Stage) → task_left s (wrap (at stage)) ≡ search_left stage) → ((stage : Stage) → IsFixed (wrap (at stage))) →
+    ((stage : Stage) (v : List ℕ) (size : ℕ) → Found (wrap (at stage)) v size → FoundAt u stage v size) →
     ((o : Option Answer) → is_effect_at asked made r o ≡ false) →
     (next : Next) → NextFits s any u (task_left s (wrap t)) next → Does s s number asked (wrap t) made r (as_after wrap (leads t at next))
 search-does wrap t at any u s number asked made r sound one fits none none_at left fixed found no_effect (To stage) h =
     stays-does s number asked (wrap t) (wrap (at stage)) made r None sound one (λ _. fits stage h.0) (no_effect None) none (none_at stage) tt
     (let same = left stage in let less = h.1 in omega arith) (λ _. fixed stage) (λ v size unanswered its. inr (h.2 v size (found stage v size its)))
 search-does wrap t at any u s number asked made r sound one fits none none_at left fixed found no_effect (Ends a) h =
-    stays-does s number asked (wrap t) (wrap t) made r (Some a) sound one (λ is. cc) (no_effect (Some a)) none none h.0 h.1 (λ is. cc) (λ v size unanswered its. cc)
+    stays-does s number asked (wrap t) (wrap t) made r (Some a) sound one (λ is. cc) (no_effect (Some a)) none none h.0 h.1 (λ is. cc)
+        (λ v size unanswered its. cc)

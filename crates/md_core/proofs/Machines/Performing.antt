@@ -17,14 +17,17 @@ pub record Answers (ask : Ask) (old : State) (f : ℕ) (r : DirReply) (new : Sta
   pub state : new ≡ state_by ask old r
   pub failed : f' ≡ cond (is_fault r) (f + 1) f
 
-pub answers : {X : Type 0} (ask : Ask) (old : State) (f : ℕ) (answer : Result X DirError) (new : State) (f' : ℕ) (r : DirReply) → Obeys ask old f answer new f' → reply_from answer ≡ Some r → Answers ask old f r new f'
+pub answers : {X : Type 0} (ask : Ask) (old : State) (f : ℕ) (answer : Result X DirError) (new : State) (f' : ℕ) (r : DirReply) →
+    Obeys ask old f answer new f' → reply_from answer ≡ Some r → Answers ask old f r new f'
 answers {X} ask old f answer new f' r obeys replied =
     by answer obeys.accepted obeys.done obeys.exists obeys.not_found obeys.unchanged obeys.failed obeys.not_failed replied
   where
     renamed : (q : DirReply) → q ≡ r → Answers ask old f q new f' → Answers ask old f r new f'
     renamed q same h = subst (λ (x : DirReply). Answers ask old f x new f') same h
 
-    by : (a : Result X DirError) → OnOk a (ask.refusal old ≡ None) → OnOk a (new ≡ ask.after old) → (IsErrOf a Exists → ask.refusal old ≡ Some Exists) → (IsErrOf a NotFound → ask.refusal old ≡ Some NotFound) → OnErr a (new ≡ old) → (IsErrOf a Fault → f' ≡ f + 1) → ((IsErrOf a Fault → ⊥) → f' ≡ f) → reply_from a ≡ Some r → Answers ask old f r new f'
+    by : (a : Result X DirError) → OnOk a (ask.refusal old ≡ None) → OnOk a (new ≡ ask.after old) →
+        (IsErrOf a Exists → ask.refusal old ≡ Some Exists) → (IsErrOf a NotFound → ask.refusal old ≡ Some NotFound) → OnErr a (new ≡ old) →
+        (IsErrOf a Fault → f' ≡ f + 1) → ((IsErrOf a Fault → ⊥) → f' ≡ f) → reply_from a ≡ Some r → Answers ask old f r new f'
     by (Ok x) accepted done exists not_found unchanged failed not_failed h =
         renamed reply.Ok (cc) (record { replied = ap reply_by (sym accepted); state = done; failed = not_failed (λ e. cc) })
     by (Err Exists) accepted done exists not_found unchanged failed not_failed h =
@@ -44,10 +47,13 @@ counted n (Err Fault) r is = refl
 counted n (Err NoMemory) r is = cc
 
 -- A turn whose call was made, and that shows its reply, was taken.
-pub takes : {X T : Type 0} (turn : Turn T) (at : Moment) (old : Device) (answer : Result X DirError) (new : Device) (r : DirReply) (out : StepOut) (effect : Option Effect) (task : T)
-    → Obeys (ask_of turn.asked at.clock) old.state old.failures answer new.state new.failures → new.calls ≡ calls_after answer old.calls → reply_from answer ≡ Some r
+pub takes : {X T : Type 0} (turn : Turn T) (at : Moment) (old : Device) (answer : Result X DirError) (new : Device) (r : DirReply) (out : StepOut)
+    (effect : Option Effect) (task : T)
+    → Obeys (ask_of turn.asked at.clock) old.state old.failures answer new.state new.failures → new.calls ≡ calls_after answer old.calls →
+        reply_from answer ≡ Some r
     → (out.call ≡ shown_call turn.asked) → out.reply ≡ r
-    → (let after : After T = record { task = task; answer = out.answer; effect = effect } in turn.follows r (rows_for turn.asked old.state) ≡ after) → out.effect ≡ is_some effect
+    → (let after : After T = record { task = task; answer = out.answer; effect = effect } in turn.follows r (rows_for turn.asked old.state) ≡ after) →
+        out.effect ≡ is_some effect
     → Takes turn at old out effect task new
 takes turn at old answer new r out effect task obeys calls replied call shown after is_effect =
     let a = answers (ask_of turn.asked at.clock) old.state old.failures answer new.state new.failures r obeys replied in

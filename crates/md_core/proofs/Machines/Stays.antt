@@ -48,6 +48,7 @@ module _ (s : State) (number : ℕ) (asked : Call) (task task' : Task) (made : A
       spared : Spares s s
       spared = spares-all s s refl (λ q. refl)
 
-      settles : (x : Option Answer) → MatchOption x (Unit {0}) (λ a. is_success a ≡ false) → MatchOption x (own_effect number task' ≡ own_effect number task) (Settles (own_effect number task))
+      settles : (x : Option Answer) → MatchOption x (Unit {0}) (λ a. is_success a ≡ false) →
+          MatchOption x (own_effect number task' ≡ own_effect number task) (Settles (own_effect number task))
       settles None h = none' ∙ sym none
       settles (Some a) h = settles-none (own_effect number task) a none h

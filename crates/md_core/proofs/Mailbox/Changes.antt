@@ -71,7 +71,8 @@ one-keeps s s' one k p q m n atp atq mp mq same = one p q m n (sym (k.names p mp
 pub mailbox-keeps : (s s' : State) → HasOnePath s → Keeps s s' → mailbox_of s' ≡ mailbox_of s
 mailbox-keeps s s' one k = same_mailbox (mailbox_of s') (mailbox_of s)
     (λ u e h. let g = mailbox-shows s' u e h in shows-mailbox s u e one (backward s s' u e g (k.bytes g.path g.message) (k.names g.path g.message)))
-    (λ u e h. let g = mailbox-shows s u e h in shows-mailbox s' u e (one-keeps s s' one k) (forward s s' u e g (k.bytes g.path g.message) (k.names g.path g.message)))
+    (λ u e h. let g = mailbox-shows s u e h in shows-mailbox s' u e (one-keeps s s' one k)
+        (forward s s' u e g (k.bytes g.path g.message) (k.names g.path g.message)))
 
 -- whether two names are one
 pub by_name : {C : Type 0} (u v : List ℕ) → (u ≡ v → C) → (u ≢ v → C) → C
@@ -96,7 +97,8 @@ one-puts s s' p n one k x y i j atx aty mx my same =
     (λ is. k.alone x i mx is atx ∙ sym (k.alone y j my (sym same ∙ is) aty))
     (λ not. one x y i j (sym (k.others x mx not) ∙ atx) (sym (k.others y my (λ h. not (same ∙ h))) ∙ aty) mx my same)
 
-pub mailbox-puts : (s s' : State) (p : Path) (n : ℕ) → HasOnePath s → Puts s s' p n → mailbox_of s' ≡ finmap.insert (mailbox_of s) (unique_of p.name) (entry_of s' p n)
+pub mailbox-puts : (s s' : State) (p : Path) (n : ℕ) → HasOnePath s → Puts s s' p n →
+    mailbox_of s' ≡ finmap.insert (mailbox_of s) (unique_of p.name) (entry_of s' p n)
 mailbox-puts s s' p n one k =
     let u = unique_of p.name in
     let e = entry_of s' p n in

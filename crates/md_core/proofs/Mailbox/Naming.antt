@@ -17,7 +17,8 @@ find-listed u [] = refl
 find-listed u (e ∷ es) = by (find-listed u es) (eq_by_cmp name_cmp u e.0) refl
   where
     by : find name_cmp u (map (λ x. (x.0, listed x.0 x.1)) es) ≡ option_map (listed u) (find name_cmp u es) → (b : Bool) → eq_by_cmp name_cmp u e.0 ≡ b →
-        cond {A = Option Listed} b (Some (listed e.0 e.1)) (find name_cmp u (map (λ x. (x.0, listed x.0 x.1)) es)) ≡ option_map (listed u) (cond {A = Option Entry} b (Some e.1) (find name_cmp u es))
+        cond {A = Option Listed} b (Some (listed e.0 e.1)) (find name_cmp u (map (λ x. (x.0, listed x.0 x.1)) es)) ≡ option_map (listed u)
+        (cond {A = Option Entry} b (Some e.1) (find name_cmp u es))
     by rest true t = ap (λ v. Some (listed v e.1)) (sym (exact_bytes u e.0 (tied _ t)))
     by rest false t = rest
 
@@ -39,6 +40,7 @@ names-insert m u e = same_names _ _ (λ v. get-names (finmap.insert m u e) v ∙
 
 pub names-remove : (m : Mailbox) (u : List ℕ) → names_of (finmap.remove m u) ≡ finmap.remove (names_of m) u
 names-remove m u = same_names _ _ (λ v. get-names (finmap.remove m u) v ∙ maps.by_key nat_list_cmp_total exact_bytes v u
-    (λ is. ap (option_map (listed v)) (maps.at_drop nat_list_cmp_total exact_bytes m u v is) ∙ sym (maps.at_drop nat_list_cmp_total exact_bytes (names_of m) u v is))
+    (λ is. ap (option_map (listed v)) (maps.at_drop nat_list_cmp_total exact_bytes m u v is) ∙
+        sym (maps.at_drop nat_list_cmp_total exact_bytes (names_of m) u v is))
     (λ not. ap (option_map (listed v)) (maps.beside_drop nat_list_cmp_total exact_bytes m u v not) ∙ sym (get-names m v)
     ∙ sym (maps.beside_drop nat_list_cmp_total exact_bytes (names_of m) u v not)))

@@ -12,7 +12,8 @@ colon c is = grind (arith, nat_tests)
 module _ (c : ℕ) (cs : List ℕ) where
   first : (b : Bool) → is_colon c ≡ b → position_or_len is_colon (c ∷ cs) ≡ cond b 0 (suc (position_or_len is_colon cs))
   first true t = ap (λ b. cond (not b) (1 + position_or_len is_colon cs) 0) t
-  first false t = let e : 1 + position_or_len is_colon cs ≡ suc (position_or_len is_colon cs) = omega arith in ap (λ b. cond (not b) (1 + position_or_len is_colon cs) 0) t ∙ e
+  first false t = let e : 1 + position_or_len is_colon cs ≡ suc (position_or_len is_colon cs) =
+      omega arith in ap (λ b. cond (not b) (1 + position_or_len is_colon cs) 0) t ∙ e
 
   pub before : (b : Bool) → is_colon c ≡ b → before_first is_colon (c ∷ cs) ≡ cond b [] (c ∷ before_first is_colon cs)
   before true t = ap (λ n. take n (c ∷ cs)) (first true t)

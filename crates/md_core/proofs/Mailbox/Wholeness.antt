@@ -66,7 +66,9 @@ module _ (call : Call) (m : Mailbox) (k : List ℕ) where
   whole-flag add remove None there = whole-same call m
   whole-flag add remove (Some e) there = by (flags_in e)
     where
-      same_or : (b : Bool) (had : Set) (a a' : Answer) → IsWholeAfter call m (cond {A = Outcome} b (record { answer = a; after = m }) (record { answer = a'; after = finmap.insert m k (record e { info = info_with (set.difference (set.union had add) remove) }) })).after
+      same_or : (b : Bool) (had : Set) (a a' : Answer) →
+          IsWholeAfter call m (cond {A = Outcome} b (record { answer = a; after = m })
+          (record { answer = a'; after = finmap.insert m k (record e { info = info_with (set.difference (set.union had add) remove) }) })).after
       same_or true had a a' = whole-same call m
       same_or false had a a' = whole-put call m k _ (inr (e, there e refl, refl))
 
@@ -82,7 +84,8 @@ module _ (call : Call) (m : Mailbox) (k : List ℕ) where
   whole-expunged None = whole-same call m
   whole-expunged (Some e) = by (flags_in e)
     where
-      if_trashed : (b : Bool) (a a' : Answer) → IsWholeAfter call m (cond {A = Outcome} b (record { answer = a; after = finmap.remove m k }) (record { answer = a'; after = m })).after
+      if_trashed : (b : Bool) (a a' : Answer) →
+          IsWholeAfter call m (cond {A = Outcome} b (record { answer = a; after = finmap.remove m k }) (record { answer = a'; after = m })).after
       if_trashed true a a' = whole-drop call m k
       if_trashed false a a' = whole-same call m
 
@@ -90,11 +93,13 @@ module _ (call : Call) (m : Mailbox) (k : List ℕ) where
       by None = whole-same call m
       by (Some had) = if_trashed (set.contains had 84) _ _
 
-whole-delivered : (m : Mailbox) (folder : ℕ) (k body : List ℕ) (chunk : ℕ) (o : Option Entry) → IsWholeAfter (Deliver folder k body chunk) m (delivered m folder k body o).after
+whole-delivered : (m : Mailbox) (folder : ℕ) (k body : List ℕ) (chunk : ℕ) (o : Option Entry) →
+    IsWholeAfter (Deliver folder k body chunk) m (delivered m folder k body o).after
 whole-delivered m folder k body chunk None = whole-put (Deliver folder k body chunk) m k _ (inl (refl, refl))
 whole-delivered m folder k body chunk (Some e) = whole-same (Deliver folder k body chunk) m
 
-whole-copied : (m : Mailbox) (folder to tries : ℕ) (k fresh : List ℕ) (o : Option Entry) → ((e : Entry) → o ≡ Some e → finmap.get m k ≡ Some e) → IsWholeAfter (Copy folder k to fresh tries) m (copied m to fresh o).after
+whole-copied : (m : Mailbox) (folder to tries : ℕ) (k fresh : List ℕ) (o : Option Entry) → ((e : Entry) → o ≡ Some e → finmap.get m k ≡ Some e) →
+    IsWholeAfter (Copy folder k to fresh tries) m (copied m to fresh o).after
 whole-copied m folder to tries k fresh None there = whole-same (Copy folder k to fresh tries) m
 whole-copied m folder to tries k fresh (Some e) there = by (flags_in e) (finmap.get m fresh)
   where
@@ -105,11 +110,17 @@ whole-copied m folder to tries k fresh (Some e) there = by (flags_in e) (finmap.
 
 pub whole-alone : (call : Call) (m : Mailbox) → IsWholeAfter call m (alone call m).after
 whole-alone (Deliver folder u body chunk) m = whole-delivered m folder u body chunk (finmap.get m u)
-whole-alone (Seen folder u flags tries) m = whole-seen (Seen folder u flags tries) m u flags (such (is_in_place New folder) (finmap.get m u)) (such-there (is_in_place New folder) (finmap.get m u))
-whole-alone (Flag folder u add remove tries) m = whole-flag (Flag folder u add remove tries) m u add remove (such (is_in_place Cur folder) (finmap.get m u)) (such-there (is_in_place Cur folder) (finmap.get m u))
-whole-alone (Move folder u to tries) m = whole-moved (Move folder u to tries) m u to (such (is_in_folder folder) (finmap.get m u)) (such-there (is_in_folder folder) (finmap.get m u))
+whole-alone (Seen folder u flags tries) m =
+    whole-seen (Seen folder u flags tries) m u flags (such (is_in_place New folder) (finmap.get m u))
+    (such-there (is_in_place New folder) (finmap.get m u))
+whole-alone (Flag folder u add remove tries) m =
+    whole-flag (Flag folder u add remove tries) m u add remove (such (is_in_place Cur folder) (finmap.get m u))
+    (such-there (is_in_place Cur folder) (finmap.get m u))
+whole-alone (Move folder u to tries) m =
+    whole-moved (Move folder u to tries) m u to (such (is_in_folder folder) (finmap.get m u)) (such-there (is_in_folder folder) (finmap.get m u))
 whole-alone (Expunge folder u tries) m = whole-expunged (Expunge folder u tries) m u (such (is_in_place Cur folder) (finmap.get m u))
-whole-alone (Copy folder u to fresh tries) m = whole-copied m folder to tries u fresh (such (is_in_folder folder) (finmap.get m u)) (such-there (is_in_folder folder) (finmap.get m u))
+whole-alone (Copy folder u to fresh tries) m =
+    whole-copied m folder to tries u fresh (such (is_in_folder folder) (finmap.get m u)) (such-there (is_in_folder folder) (finmap.get m u))
 whole-alone (Clean folder) m = whole-same (Clean folder) m
 
 -- an effect leaves the mailbox as the call does alone

@@ -27,7 +27,8 @@ pub moment-start : (r : Run) → moment r 0 ≡ beginning r.image r.calls
 moment-start r = run_from-none (beginning r.image r.calls)
 
 pub moment-more : (r : Run) (k : ℕ) (e : Marked) → slice_get r.events k ≡ Some e → moment r (k + 1) ≡ happens (moment r k) e
-moment-more r k e at = ap (run_from (beginning r.image r.calls)) (take-one_more r.events k e at) ∙ run_from-more_event (beginning r.image r.calls) (take k r.events) e
+moment-more r k e at = ap (run_from (beginning r.image r.calls)) (take-one_more r.events k e at) ∙
+    run_from-more_event (beginning r.image r.calls) (take k r.events) e
 
 -- after the last event there is no other moment
 pub moment-past : (r : Run) (k : ℕ) → length r.events ≤ k → moment r k ≡ machine_of r
@@ -54,7 +55,8 @@ moment-and_events r es k within = ap (run_from (beginning r.image r.calls)) (tak
 
 -- What holds at the beginning, and is kept by each event of a job that is there and has no answer, holds at each moment.
 module _ (r : Run) (run : IsRun r) (P : List Marked → Machine → Type 0) (start : P [] (beginning r.image r.calls))
-    (step : (es : List Marked) (m : Machine) (e : Marked) (task : Task) → job_at m.jobs e.event.job ≡ Some (working task) → P es m → P (es ++ e ∷ []) (happens m e)) where
+    (step : (es : List Marked) (m : Machine) (e : Marked) (task : Task) → job_at m.jobs e.event.job ≡ Some (working task) → P es m →
+        P (es ++ e ∷ []) (happens m e)) where
   pub at_moment : (k : ℕ) → P (take k r.events) (moment r k)
   at_moment zero = subst (P []) (sym (moment-start r)) start
   at_moment (suc k) =
@@ -69,7 +71,8 @@ module _ (r : Run) (run : IsRun r) (P : List Marked → Machine → Type 0) (sta
       subst (λ (es : List Marked). P es (moment r (k + 1))) same (subst (P (take k r.events)) (sym (moment-over r k past)) (at_moment k))))
 
   pub at_last : P r.events (machine_of r)
-  at_last = subst (λ (es : List Marked). P es (run_from (beginning r.image r.calls) es)) (take_all (length r.events) r.events (omega arith)) (at_moment (length r.events))
+  at_last = subst (λ (es : List Marked). P es (run_from (beginning r.image r.calls) es)) (take_all (length r.events) r.events (omega arith))
+      (at_moment (length r.events))
 
 -- each call has its job
 length-met : (m : Machine) (e : Marked) (task : Task) → job_at m.jobs e.event.job ≡ Some (working task) → length (happens m e).jobs ≡ length m.jobs
@@ -96,7 +99,8 @@ module _ (r : Run) (run : IsRun r) (call : Call) where
   goes-start : Goes [] (beginning r.image r.calls)
   goes-start = run_from-none start' ∙ start-with_job
 
-  goes-more : (es : List Marked) (m : Machine) (e : Marked) (task : Task) → job_at m.jobs e.event.job ≡ Some (working task) → Goes es m → Goes (es ++ e ∷ []) (happens m e)
+  goes-more : (es : List Marked) (m : Machine) (e : Marked) (task : Task) → job_at m.jobs e.event.job ≡ Some (working task) → Goes es m →
+      Goes (es ++ e ∷ []) (happens m e)
   goes-more es m e task at is = run_from-more_event start' es e ∙ ap (λ (x : Machine). happens x e) is ∙ happens-with_job m (new_job call) (working task) e at
 
   pub moment-and_call : (k : ℕ) → moment (and_call r call) k ≡ with_job (moment r k) (new_job call)

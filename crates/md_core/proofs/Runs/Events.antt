@@ -72,7 +72,8 @@ module _ (m : Machine) (new job : Standing) (e : Marked) (at : job_at m.jobs e.e
 
   met-with_job : (o : Option Task) → met (with_job m new) e o ≡ with_job (met m e o) new
   met-with_job None = refl
-  met-with_job (Some task) = let moment = moment_of m.clock e.event in let turn = turn_of n task moment in taken-with_job moment turn (replied m moment turn e.faulted)
+  met-with_job (Some task) = let moment = moment_of m.clock e.event in let turn =
+      turn_of n task moment in taken-with_job moment turn (replied m moment turn e.faulted)
 
   pub happens-with_job : happens (with_job m new) e ≡ with_job (happens m e) new
   happens-with_job =
@@ -82,4 +83,5 @@ module _ (m : Machine) (new job : Standing) (e : Marked) (at : job_at m.jobs e.e
 
   -- and it does the same
   pub done-with_job : done (with_job m new) e ≡ done m e
-  done-with_job = ap (λ o. option_map (done_by m e) (task_of o)) (job_at-more m.jobs (new ∷ []) n job at) ∙ sym (ap (λ o. option_map (done_by m e) (task_of o)) at)
+  done-with_job = ap (λ o. option_map (done_by m e) (task_of o)) (job_at-more m.jobs (new ∷ []) n job at) ∙
+      sym (ap (λ o. option_map (done_by m e) (task_of o)) at)

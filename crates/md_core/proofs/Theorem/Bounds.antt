@@ -35,10 +35,12 @@ use Rattle.md_core.proofs.Induction.GoodRuns.{new_at, all-apart, good-beginning,
 use Rattle.md_core.proofs.Looking.Search.{some-left}
 
 -- a turn leaves less to its job
-pub nearer : (calls : List Call) (m m' : Machine) (what : Done) (g : Goes calls m m' what) → job_left m'.dirs (standing_of g.task' what.answer) < task_left m.dirs g.task
+pub nearer : (calls : List Call) (m m' : Machine) (what : Done) (g : Goes calls m m' what) →
+    job_left m'.dirs (standing_of g.task' what.answer) < task_left m.dirs g.task
 nearer calls m m' what g = by what.answer g.does.nearer
   where
-    by : (a : Option Answer) → MatchOption a (task_left m'.dirs g.task' < task_left m.dirs g.task) (λ _. 0 < task_left m.dirs g.task) → job_left m'.dirs (standing_of g.task' a) < task_left m.dirs g.task
+    by : (a : Option Answer) → MatchOption a (task_left m'.dirs g.task' < task_left m.dirs g.task) (λ _. 0 < task_left m.dirs g.task) →
+        job_left m'.dirs (standing_of g.task' a) < task_left m.dirs g.task
     by None less = less
     by (Some a) some = some
 
@@ -117,7 +119,8 @@ module _ (r : Run) where
   first-none number es none = ap (λ (fs : List Marked). (run_from from fs).dirs)
       (ap (λ n. take n es) (none-of_kind (λ (e : Marked). e.event.job == number) es none) ∙ take_all (length es) es (omega arith))
 
-  first-own : (number : ℕ) (es : List Marked) (e : Marked) → of_job number es ≡ 0 → e.event.job ≡ number → at_first number (es ++ e ∷ []) ≡ (run_from from es).dirs
+  first-own : (number : ℕ) (es : List Marked) (e : Marked) → of_job number es ≡ 0 → e.event.job ≡ number →
+      at_first number (es ++ e ∷ []) ≡ (run_from from es).dirs
   first-own number es e none is =
       let yes : (e.event.job == number) ≡ true = grind (arith, nat_tests) in
       ap (λ (fs : List Marked). (run_from from fs).dirs)
@@ -150,7 +153,8 @@ module _ (r : Run) where
       let is : new.0 ≡ asked = (let e : Some new.0 ≡ Some asked = sym new.1 ∙ of in cc) in
       inl (refl, new.2 ∙ ap new_job is)
 
-  module _ (es : List Marked) (m m' : Machine) (e : Marked) (what : Done) (is_job : what.job ≡ e.event.job) (now : m ≡ run_from from es) (g : Goes r.calls m m' what) where
+  module _ (es : List Marked) (m m' : Machine) (e : Marked) (what : Done) (is_job : what.job ≡ e.event.job) (now : m ≡ run_from from es)
+      (g : Goes r.calls m m' what) where
     -- the job that took its turn
     own-more : (j : ℕ) (job : Standing) (asked : Call) → suc j ≡ e.event.job → job ≡ standing_of g.task' what.answer →
         IsNew es (suc j) (working g.task) asked ⊎ IsBegun es m (suc j) (working g.task) asked → IsBegun (es ++ e ∷ []) m' (suc j) job asked
@@ -165,11 +169,13 @@ module _ (r : Run) where
             | inl new ↦
                 let whole : task_left m.dirs g.task ≡ job_left m.dirs (new_job asked) = ap (job_left m.dirs) new.1 in
                 let at : at_first (suc j) (es ++ e ∷ []) ≡ m.dirs = first-own (suc j) es e new.0 (sym number) ∙ ap (λ (x : Machine). x.dirs) (sym now) in
-                let same : job_left (at_first (suc j) (es ++ e ∷ [])) (new_job asked) ≡ job_left m.dirs (new_job asked) = ap (λ (s : State). job_left s (new_job asked)) at in
+                let same : job_left (at_first (suc j) (es ++ e ∷ [])) (new_job asked) ≡ job_left m.dirs (new_job asked) =
+                    ap (λ (s : State). job_left s (new_job asked)) at in
                 let none = new.0 in
                 omega (arith, count, less, left, whole, same, none)
             | inr begun ↦
-                let same : job_left (at_first (suc j) (es ++ e ∷ [])) (new_job asked) ≡ job_left (at_first (suc j) es) (new_job asked) = ap (λ (s : State). job_left s (new_job asked)) (first-kept (suc j) es e begun.some) in
+                let same : job_left (at_first (suc j) (es ++ e ∷ [])) (new_job asked) ≡ job_left (at_first (suc j) es) (new_job asked) =
+                    ap (λ (s : State). job_left s (new_job asked)) (first-kept (suc j) es e begun.some) in
                 let bound = begun.bounded in
                 omega (arith, count, less, left, same, bound)
           ];
@@ -186,14 +192,17 @@ module _ (r : Run) where
               let some = begun.some in
               let bound = begun.bounded in
               let left = begun.fixed m'.dirs m.dirs in
-              let same : job_left (at_first (suc j) (es ++ e ∷ [])) (new_job asked) ≡ job_left (at_first (suc j) es) (new_job asked) = ap (λ (s : State). job_left s (new_job asked)) (first-kept (suc j) es e some) in
+              let same : job_left (at_first (suc j) (es ++ e ∷ [])) (new_job asked) ≡ job_left (at_first (suc j) es) (new_job asked) =
+                  ap (λ (s : State). job_left s (new_job asked)) (first-kept (suc j) es e some) in
               inr (record { some = omega (arith, count, some); fixed = begun.fixed; bounded = omega (arith, count, bound, left, same) })
         ]
 
     bounded-more : Bounded es m → Bounded (es ++ e ∷ []) m'
     bounded-more bounded j job asked at of = goes-cases r.calls m m' what g j job at
-        (λ same is. inr (own-more j job asked (ap suc same ∙ sym g.number_is ∙ is_job) is (bounded j (working g.task) asked (ap (slice_get m.jobs) same ∙ g.there) of)))
-        (λ differ was. other-more j job asked (λ is. differ (let h : suc g.place ≡ suc j = sym g.number_is ∙ is_job ∙ sym is in omega arith)) (bounded j job asked was of))
+        (λ same is. inr (own-more j job asked (ap suc same ∙ sym g.number_is ∙
+            is_job) is (bounded j (working g.task) asked (ap (slice_get m.jobs) same ∙ g.there) of)))
+        (λ differ was. other-more j job asked (λ is. differ (let h : suc g.place ≡ suc j = sym g.number_is ∙ is_job ∙ sym is in omega arith))
+            (bounded j job asked was of))
 
 module _ (r : Run) (run : IsRun r) (turns : EachTurn) where
   -- all is good and bounded behind these events
@@ -202,7 +211,8 @@ module _ (r : Run) (run : IsRun r) (turns : EachTurn) where
     good : IsGood r.calls m
     bounded : Bounded r es m
 
-  there-more : (es : List Marked) (m : Machine) (e : Marked) (task : Task) → job_at m.jobs e.event.job ≡ Some (working task) → IsThere es m → IsThere (es ++ e ∷ []) (happens m e)
+  there-more : (es : List Marked) (m : Machine) (e : Marked) (task : Task) → job_at m.jobs e.event.job ≡ Some (working task) → IsThere es m →
+      IsThere (es ++ e ∷ []) (happens m e)
   there-more es m e task at was =
       let g = goes turns r.calls m e task was.good at in
       record {
@@ -212,7 +222,8 @@ module _ (r : Run) (run : IsRun r) (turns : EachTurn) where
       }
 
   there : IsThere r.events (machine_of r)
-  there = at_last r run IsThere (record { now = sym (run_from-none (beginning r.image r.calls)); good = good-beginning r run; bounded = bounded-start r }) there-more
+  there = at_last r run IsThere (record { now = sym (run_from-none (beginning r.image r.calls)); good = good-beginning r run;
+      bounded = bounded-start r }) there-more
 
   pub bounded-machine : (number : ℕ) (asked : Call) (job : Standing) → call_at r.calls number ≡ Some asked → job_at (jobs_of r) number ≡ Some job →
       steps_of r number + job_left (dirs_of r) job ≤ job_left (dirs_at_first r number) (new_job asked)
@@ -221,7 +232,8 @@ module _ (r : Run) (run : IsRun r) (turns : EachTurn) where
     | inl new ↦
         let none = new.0 in
         let left : job_left (dirs_of r) job ≡ job_left (dirs_of r) (new_job asked) = ap (job_left (dirs_of r)) new.1 in
-        let same : job_left (dirs_at_first r (suc j)) (new_job asked) ≡ job_left (dirs_of r) (new_job asked) = ap (λ (s : State). job_left s (new_job asked)) (first-none r (suc j) r.events none) in
+        let same : job_left (dirs_at_first r (suc j)) (new_job asked) ≡ job_left (dirs_of r) (new_job asked) =
+            ap (λ (s : State). job_left s (new_job asked)) (first-none r (suc j) r.events none) in
         omega (arith, none, left, same)
     | inr begun ↦ begun.bounded
   ]
@@ -243,8 +255,10 @@ module _ (r : Run) (run : IsRun r) (turns : EachTurn) where
     pub steps_left-less : steps_left (and_event r e) e.event.job < steps_left r e.event.job
     steps_left-less =
         let m' = happens (machine_of r) e in
-        let after = after-is e.event.job ∙ ap (λ n. left_of m'.dirs (job_at m'.jobs n)) going.number_is ∙ ap (left_of m'.dirs) (goes-here r.calls (machine_of r) m' what going) in
-        let before : steps_left r e.event.job ≡ task_left (dirs_of r) going.task = ap (λ n. left_of (dirs_of r) (job_at (jobs_of r) n)) going.number_is ∙ ap (left_of (dirs_of r)) going.there in
+        let after = after-is e.event.job ∙ ap (λ n. left_of m'.dirs (job_at m'.jobs n)) going.number_is ∙
+            ap (left_of m'.dirs) (goes-here r.calls (machine_of r) m' what going) in
+        let before : steps_left r e.event.job ≡ task_left (dirs_of r) going.task =
+            ap (λ n. left_of (dirs_of r) (job_at (jobs_of r) n)) going.number_is ∙ ap (left_of (dirs_of r)) going.there in
         let less = nearer r.calls (machine_of r) m' what going in
         omega (arith, after, before, less)
 

@@ -53,7 +53,8 @@ module _ (r : Run) (run : IsRun r) (turns : EachTurn) where
     going = going-at r run turns k e at
 
     -- what an effect gives is whole
-    given-whole : (asked : Call) (u bytes : List ℕ) → slice_get r.calls going.place ≡ Some asked → is_some what.effect ≡ true → Gives asked (box (moment r k)) u bytes → IsWhole r (k + 1) u bytes
+    given-whole : (asked : Call) (u bytes : List ℕ) → slice_get r.calls going.place ≡ Some asked → is_some what.effect ≡ true →
+        Gives asked (box (moment r k)) u bytes → IsWhole r (k + 1) u bytes
     given-whole (Deliver folder v body chunk) u bytes of effect gives = inl (going.place, Deliver folder v body chunk, of, gives)
     given-whole (Copy folder v to fresh tries) u bytes of effect gives = inr (inr (record {
       event = k;

@@ -18,7 +18,8 @@ use Rattle.md_core.specs.History.{Names, Listed, changed, after, IsThere, IsNowh
 use Rattle.md_core.proofs.Mailbox.Changes.{by_name}
 
 -- what may be fresh is told by more
-pub allowed-fresh : (folders : ℕ) (m : Names) (P Q : List ℕ → Type 0) → ((u : List ℕ) → P u → Q u) → (a : Answer) (c : Change) → IsAllowed folders m P a c → IsAllowed folders m Q a c
+pub allowed-fresh : (folders : ℕ) (m : Names) (P Q : List ℕ → Type 0) → ((u : List ℕ) → P u → Q u) → (a : Answer) (c : Change) →
+    IsAllowed folders m P a c → IsAllowed folders m Q a c
 allowed-fresh folders m P Q more answer.Delivered (change.Add folder place name size) h = (h.0, h.1, h.2, h.3, h.4, more name h.5)
 allowed-fresh folders m P Q more answer.Copied (change.Add folder place name size) h = (h.0, h.1, h.2, h.3, more (unique_of name) h.4)
 allowed-fresh folders m P Q more (answer.Flags s) (change.Rename folder place name to_folder to_place to_name) h = h
@@ -38,7 +39,8 @@ renamed-other m old new u x is other none =
     ∙ beside_drop nat_list_cmp_total exact_bytes m old u other ∙ none
 
 -- an effect leaves each name nowhere that was so and is none that its job makes
-pub nowhere-kept : (folders : ℕ) (m : Names) (P : List ℕ → Type 0) (a : Answer) (c : Change) (u : List ℕ) → IsAllowed folders m P a c → (P u → ⊥) → IsNowhere m u → IsNowhere (changed m c) u
+pub nowhere-kept : (folders : ℕ) (m : Names) (P : List ℕ → Type 0) (a : Answer) (c : Change) (u : List ℕ) → IsAllowed folders m P a c → (P u → ⊥) →
+    IsNowhere m u → IsNowhere (changed m c) u
 nowhere-kept folders m P answer.Delivered (change.Add folder place name size) u h other none = by_name u (unique_of name)
     (λ is. absurd (other (subst P (sym h.3 ∙ sym is) h.5)))
     (λ not. beside_put nat_list_cmp_total exact_bytes m (unique_of name) u _ not ∙ none)
@@ -46,7 +48,8 @@ nowhere-kept folders m P answer.Copied (change.Add folder place name size) u h o
     (λ is. absurd (other (subst P (sym is) h.4)))
     (λ not. beside_put nat_list_cmp_total exact_bytes m (unique_of name) u _ not ∙ none)
 nowhere-kept folders m P (answer.Flags s) (change.Rename folder place name to_folder to_place to_name) u h other none =
-    renamed-other m (unique_of name) (unique_of to_name) u _ (ap unique_of h.3 ∙ unique_of-flagged (unique_of name) s (colonless-unique_of name)) (there-other m folder place name u h.4 none) none
+    renamed-other m (unique_of name) (unique_of to_name) u _ (ap unique_of h.3 ∙ unique_of-flagged (unique_of name) s (colonless-unique_of name))
+        (there-other m folder place name u h.4 none) none
 nowhere-kept folders m P (answer.Flags s) change.Same u h other none = none
 nowhere-kept folders m P answer.Moved (change.Rename folder place name to_folder to_place to_name) u h other none =
     renamed-other m (unique_of name) (unique_of to_name) u _ (ap unique_of h.4) (there-other m folder place name u h.5 none) none
@@ -61,9 +64,11 @@ after-push m [] e = refl
 after-push m (x ∷ history) e = after-push (changed m x.change) history e
 
 pub now-nowhere : (m : Names) (history : List Effect) (u : List ℕ) → WasNowhere m history u → IsNowhere (after m history) u
-now-nowhere m history u nowhere = subst (λ (es : List Effect). IsNowhere (after m es) u) (take_all (length history) history (omega arith)) (nowhere (length history))
+now-nowhere m history u nowhere =
+    subst (λ (es : List Effect). IsNowhere (after m es) u) (take_all (length history) history (omega arith)) (nowhere (length history))
 
-pub was_nowhere-push : (m : Names) (history : List Effect) (e : Effect) (u : List ℕ) → WasNowhere m history u → IsNowhere (changed (after m history) e.change) u → WasNowhere m (history ++ e ∷ []) u
+pub was_nowhere-push : (m : Names) (history : List Effect) (e : Effect) (u : List ℕ) → WasNowhere m history u →
+    IsNowhere (changed (after m history) e.change) u → WasNowhere m (history ++ e ∷ []) u
 was_nowhere-push m history e u nowhere then k = elim (cases_lt (length history) k) [
   | inl past ↦
       let all : take k (history ++ e ∷ []) ≡ history ++ e ∷ [] = take_all k (history ++ e ∷ []) (let h = length_push history e in omega arith) in

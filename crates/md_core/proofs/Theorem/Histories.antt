@@ -29,7 +29,8 @@ pub record Tells (folders : ℕ) (opening : Names) (calls : List Call) (m : Mach
   pub legal : IsLegal folders opening m.effects
   pub names : after opening m.effects ≡ names_of (mailbox_of m.dirs)
   -- a name that a job without an effect makes was nowhere
-  pub nowhere : (j : ℕ) (asked : Call) (task : Task) (u : List ℕ) → slice_get calls j ≡ Some asked → slice_get m.jobs j ≡ Some (working task) → own_effect (suc j) task ≡ None → Makes asked u → WasNowhere opening m.effects u
+  pub nowhere : (j : ℕ) (asked : Call) (task : Task) (u : List ℕ) → slice_get calls j ≡ Some asked → slice_get m.jobs j ≡ Some (working task) →
+      own_effect (suc j) task ≡ None → Makes asked u → WasNowhere opening m.effects u
   -- a job has the one effect that it had, or none
   pub own : (j : ℕ) (job : Standing) → slice_get m.jobs j ≡ Some job → Has (suc j) job (filter (λ e. e.job == suc j) m.effects)
   -- each effect is of a job that is there
@@ -40,7 +41,8 @@ none_passes : {X : Type 0} (p : X → Bool) (xs : List X) (i : ℕ) (x : X) → 
 none_passes p [] i x none at is = cc
 none_passes p (y ∷ xs) i x none at is = by (λ k h at'. none_passes p xs k x h at' is) (p y) refl i none at
   where
-    by : ((k : ℕ) → filter p xs ≡ [] → slice_get xs k ≡ Some x → ⊥) → (b : Bool) → p y ≡ b → (k : ℕ) → cond b (y ∷ filter p xs) (filter p xs) ≡ [] → slice_get (y ∷ xs) k ≡ Some x → ⊥
+    by : ((k : ℕ) → filter p xs ≡ [] → slice_get xs k ≡ Some x → ⊥) → (b : Bool) → p y ≡ b → (k : ℕ) → cond b (y ∷ filter p xs) (filter p xs) ≡ [] →
+        slice_get (y ∷ xs) k ≡ Some x → ⊥
     by rest true t k h at' = cc
     by rest false t zero h at' = let same : y ≡ x = cc in let yes : p y ≡ true = ap p same ∙ is in cc
     by rest false t (suc k) h at' = rest k h at'
@@ -52,15 +54,18 @@ other_number : (n k : ℕ) → n ≢ k → (n == k) ≡ false
 other_number n k differ = grind (arith, nat_tests)
 
 -- how a job stands after a turn that leaves it with this effect, or none
-has-standing : (number : ℕ) (task : Task) (o : Option Answer) (had : Option Effect) → MatchOption o (own_effect number task ≡ had) (Settles had) → Has number (standing_of task o) (option_to_list had)
+has-standing : (number : ℕ) (task : Task) (o : Option Answer) (had : Option Effect) → MatchOption o (own_effect number task ≡ had) (Settles had) →
+    Has number (standing_of task o) (option_to_list had)
 has-standing number task None had is = ap option_to_list (sym is)
 has-standing number task (Some a) had settles = by (is_success a) settles
   where
-    by : (b : Bool) → MatchBool b ((e : Effect) × (had ≡ Some e) × (e.answer ≡ a)) (had ≡ None) → MatchBool b ((e : Effect) × (option_to_list had ≡ e ∷ []) × (e.answer ≡ a)) (option_to_list had ≡ [])
+    by : (b : Bool) → MatchBool b ((e : Effect) × (had ≡ Some e) × (e.answer ≡ a)) (had ≡ None) →
+        MatchBool b ((e : Effect) × (option_to_list had ≡ e ∷ []) × (e.answer ≡ a)) (option_to_list had ≡ [])
     by true h = (h.0, ap option_to_list h.1, h.2)
     by false h = ap option_to_list h
 
-module _ (folders : ℕ) (opening : Names) (calls : List Call) (apart : AllApart calls) (m m' : Machine) (what : Done) (g : Goes calls m m' what) (good : IsGood calls m) (tells : Tells folders opening calls m) where
+module _ (folders : ℕ) (opening : Names) (calls : List Call) (apart : AllApart calls) (m m' : Machine) (what : Done) (g : Goes calls m m' what)
+    (good : IsGood calls m) (tells : Tells folders opening calls m) where
   abbrev number : ℕ
   number = what.job
 
@@ -72,26 +77,33 @@ module _ (folders : ℕ) (opening : Names) (calls : List Call) (apart : AllApart
 
   -- the effects of the job before
   mine-before : filter (λ (e : Effect). e.job == number) m.effects ≡ option_to_list (own_effect number g.task)
-  mine-before = subst (λ (n : ℕ). filter (λ (e : Effect). e.job == n) m.effects ≡ option_to_list (own_effect n g.task)) at_number (tells.own g.place (working g.task) g.there)
+  mine-before = subst (λ (n : ℕ). filter (λ (e : Effect). e.job == n) m.effects ≡ option_to_list (own_effect n g.task)) at_number
+      (tells.own g.place (working g.task) g.there)
 
   -- the job that took its turn is as it should be, if its effects are these
   own-here : (es : List Effect) (j : ℕ) (job : Standing) → j ≡ g.place → job ≡ standing_of g.task' what.answer →
-      filter (λ (e : Effect). e.job == number) es ≡ option_to_list (option_or what.effect (own_effect number g.task)) → Has (suc j) job (filter (λ (e : Effect). e.job == suc j) es)
+      filter (λ (e : Effect). e.job == number) es ≡ option_to_list (option_or what.effect (own_effect number g.task)) →
+      Has (suc j) job (filter (λ (e : Effect). e.job == suc j) es)
   own-here es j job same is all =
       let n : number ≡ suc j = sym (ap suc same ∙ at_number) in
       subst (λ (k : ℕ). Has k job (filter (λ (e : Effect). e.job == k) es)) n
       (subst (λ (x : Standing). Has number x (filter (λ (e : Effect). e.job == number) es)) (sym is)
-      (subst (Has number (standing_of g.task' what.answer)) (sym all) (has-standing number g.task' what.answer (option_or what.effect (own_effect number g.task)) g.does.settles)))
+      (subst (Has number (standing_of g.task' what.answer)) (sym all)
+          (has-standing number g.task' what.answer (option_or what.effect (own_effect number g.task)) g.does.settles)))
 
   -- a job that works on without an effect was without one before
-  before : {C : Type 0} (j : ℕ) (asked : Call) (task : Task) → slice_get calls j ≡ Some asked → slice_get m'.jobs j ≡ Some (working task) → own_effect (suc j) task ≡ None →
+  before : {C : Type 0} (j : ℕ) (asked : Call) (task : Task) → slice_get calls j ≡ Some asked → slice_get m'.jobs j ≡ Some (working task) →
+      own_effect (suc j) task ≡ None →
       ((t : Task) → slice_get m.jobs j ≡ Some (working t) → own_effect (suc j) t ≡ None → (j ≡ g.place → what.effect ≡ None) → C) → C
   before j asked task of at without then = goes-cases calls m m' what g j (working task) at
       (λ same is.
       let on = still-working task g.task' what.answer is in
       let n : suc j ≡ number = ap suc same ∙ at_number in
-      let kept : own_effect number g.task' ≡ option_or what.effect (own_effect number g.task) = subst (λ (o : Option Answer). MatchOption o (own_effect number g.task' ≡ option_or what.effect (own_effect number g.task)) (Settles (option_or what.effect (own_effect number g.task)))) on.0 g.does.settles in
-      let none : option_or what.effect (own_effect number g.task) ≡ None = sym kept ∙ ap (own_effect number) (sym on.1) ∙ ap (λ k. own_effect k task) (sym n) ∙ without in
+      let kept : own_effect number g.task' ≡ option_or what.effect (own_effect number g.task) =
+          subst (λ (o : Option Answer). MatchOption o (own_effect number g.task' ≡ option_or what.effect (own_effect number g.task))
+          (Settles (option_or what.effect (own_effect number g.task)))) on.0 g.does.settles in
+      let none : option_or what.effect (own_effect number g.task) ≡ None = sym kept ∙ ap (own_effect number) (sym on.1) ∙
+          ap (λ k. own_effect k task) (sym n) ∙ without in
       let both = neither what.effect (own_effect number g.task) none in
       then g.task (ap (slice_get m.jobs) same ∙ g.there) (ap (λ k. own_effect k g.task) n ∙ both.1) (λ _. both.0))
       (λ differ was. then task was without (λ same. absurd (differ same)))
@@ -116,7 +128,8 @@ module _ (folders : ℕ) (opening : Names) (calls : List Call) (apart : AllApart
       nowhere = λ j asked task u of at without makes. before j asked task of at without
           (λ t was own _. subst (λ (es : List Effect). WasNowhere opening es u) (sym effects-same) (tells.nowhere j asked t u of was own makes));
       own = λ j job at. goes-cases calls m m' what g j job at
-          (λ same is. own-here m'.effects j job same is (ap (filter (λ (e : Effect). e.job == number)) effects-same ∙ mine-before ∙ ap (λ o. option_to_list (option_or o (own_effect number g.task))) (sym none)))
+          (λ same is. own-here m'.effects j job same is (ap (filter (λ (e : Effect). e.job == number)) effects-same ∙ mine-before ∙
+              ap (λ o. option_to_list (option_or o (own_effect number g.task))) (sym none)))
           (λ differ was. subst (λ (es : List Effect). Has (suc j) job (filter (λ (e : Effect). e.job == suc j) es)) (sym effects-same) (tells.own j job was));
       there = λ i e at. let was = tells.there i e (ap (λ (es : List Effect). slice_get es i) (sym effects-same) ∙ at) in (was.0, omega (arith, was.1, as_many));
     }
@@ -137,7 +150,8 @@ module _ (folders : ℕ) (opening : Names) (calls : List Call) (apart : AllApart
     no_earlier = mine-before ∙ ap option_to_list first
 
     is_first : (i : ℕ) (x : Effect) → slice_get m.effects i ≡ Some x → x.job ≡ e.job → ⊥
-    is_first i x at same = none_passes (λ (y : Effect). y.job == number) m.effects i x no_earlier at (ap (λ n. n == number) (same ∙ affects.of) ∙ same_number number)
+    is_first i x at same =
+        none_passes (λ (y : Effect). y.job == number) m.effects i x no_earlier at (ap (λ n. n == number) (same ∙ affects.of) ∙ same_number number)
 
     -- it is allowed among the names of the history so far, and its job makes only names that were nowhere
     allowed-now : IsAllowed folders (after opening m.effects) (Makes g.asked) e.answer e.change
@@ -161,8 +175,10 @@ module _ (folders : ℕ) (opening : Names) (calls : List Call) (apart : AllApart
           (λ earlyb. absurd (is_first j b earlyb (sym same ∙ ap (λ (x : Effect). x.job) isa)))
           (λ endb isb. enda ∙ sym endb));
       each = λ i x at. at_end m.effects e i x at
-          (λ early. subst (λ (es : List Effect). IsAllowedAfter folders opening es x) (sym (take-append-le i m.effects (e ∷ []) (let h = slice_get_within m.effects i x early in omega arith))) (tells.legal.each i x early))
-          (λ end is. subst (λ (es : List Effect). IsAllowedAfter folders opening es x) (sym (take_at m.effects (e ∷ []) i (sym end))) (subst (IsAllowedAfter folders opening m.effects) (sym is) allowed));
+          (λ early. subst (λ (es : List Effect). IsAllowedAfter folders opening es x)
+              (sym (take-append-le i m.effects (e ∷ []) (let h = slice_get_within m.effects i x early in omega arith))) (tells.legal.each i x early))
+          (λ end is. subst (λ (es : List Effect). IsAllowedAfter folders opening es x) (sym (take_at m.effects (e ∷ []) i (sym end)))
+              (subst (IsAllowedAfter folders opening m.effects) (sym is) allowed));
     }
 
     names-more : after opening (m.effects ++ e ∷ []) ≡ names_of (mailbox_of m'.dirs)
@@ -191,9 +207,11 @@ module _ (folders : ℕ) (opening : Names) (calls : List Call) (apart : AllApart
           let other : j ≢ g.place = (λ same. let h = mine same in cc) in
           subst (λ (es : List Effect). WasNowhere opening es u) (sym effects-more)
           (was_nowhere-push opening m.effects e u nowhere
-          (nowhere-kept folders (after opening m.effects) (Makes g.asked) e.answer e.change u allowed-now (λ its. apart g.place j g.asked asked (λ same. other (sym same)) g.of of u its makes) (now-nowhere opening m.effects u nowhere))));
+          (nowhere-kept folders (after opening m.effects) (Makes g.asked) e.answer e.change u allowed-now
+              (λ its. apart g.place j g.asked asked (λ same. other (sym same)) g.of of u its makes) (now-nowhere opening m.effects u nowhere))));
       own = λ j job at. goes-cases calls m m' what g j job at
-          (λ same is. own-here m'.effects j job same is (ap (filter (λ (x : Effect). x.job == number)) effects-more ∙ mine-after ∙ ap (λ o. option_to_list (option_or o (own_effect number g.task))) (sym some)))
+          (λ same is. own-here m'.effects j job same is (ap (filter (λ (x : Effect). x.job == number)) effects-more ∙ mine-after ∙
+              ap (λ o. option_to_list (option_or o (own_effect number g.task))) (sym some)))
           (λ differ was. subst (Has (suc j) job) (sym (ap (filter (λ (x : Effect). x.job == suc j)) effects-more ∙ own-other j differ)) (tells.own j job was));
       there = λ i x at. at_end m.effects e i x (ap (λ (es : List Effect). slice_get es i) (sym effects-more) ∙ at)
           (λ early. let was = tells.there i x early in (was.0, omega (arith, was.1, as_many)))

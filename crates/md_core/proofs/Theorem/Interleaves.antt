@@ -166,7 +166,8 @@ module _ (turns : EachTurn) (r : Run) (run : IsRun r) where
     folders_stay = refl;
     legal = record { once = λ i j a b ata atb same. cc; each = λ i e at. cc };
     names = refl;
-    nowhere = λ j asked task u of at without makes k. subst (λ (es : List Effect). IsNowhere (after opening es) u) (sym (take_all k [] (omega arith))) (fresh-name j asked u of makes);
+    nowhere = λ j asked task u of at without makes k. subst (λ (es : List Effect). IsNowhere (after opening es) u) (sym (take_all k [] (omega arith)))
+        (fresh-name j asked u of makes);
     own = λ j job at. let new = new_at r.calls j job at in subst (λ (x : Standing). Has (suc j) x []) (sym new.2) (new-has (suc j) new.0);
     there = λ i e at. cc;
   }
@@ -183,7 +184,8 @@ module _ (turns : EachTurn) (r : Run) (run : IsRun r) where
   abbrev Told : List Marked → Machine → Type 0
   Told es m = Tells r.image.folders opening r.calls m
 
-  told-more : (es : List Marked) (m m' : Machine) (e : Marked) (what : Done) → what.job ≡ e.event.job → IsGood r.calls m → Goes r.calls m m' what → Told es m → Told es m'
+  told-more : (es : List Marked) (m m' : Machine) (e : Marked) (what : Done) → what.job ≡ e.event.job → IsGood r.calls m → Goes r.calls m m' what →
+      Told es m → Told es m'
   told-more es m m' e what of good g was = tells-more r.image.folders opening r.calls (all-apart r run) m m' what g good was
 
   tells-moment : (k : ℕ) → Tells r.image.folders opening r.calls (moment r k)

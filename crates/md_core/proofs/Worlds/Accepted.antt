@@ -59,9 +59,11 @@ pub record IsAccepted (r : Run) (folder : ℕ) (unique body : List ℕ) (chunk :
   pub unused : list_any (λ e. uses unique e.0) (finmap.entries r.image.names) ≡ false
   pub unmade : list_any (makes unique) r.calls ≡ false
 
-pub accepted : (r : Run) (folder : ℕ) (unique body : List ℕ) (chunk : ℕ) → submit_refusal r (Deliver folder unique body chunk) ≡ None → IsAccepted r folder unique body chunk
+pub accepted : (r : Run) (folder : ℕ) (unique body : List ℕ) (chunk : ℕ) → submit_refusal r (Deliver folder unique body chunk) ≡ None →
+    IsAccepted r folder unique body chunk
 accepted r folder unique body chunk none =
-    let a = unmet (no_folder r folder) core.NoFolder (cond (not (is_unique_name unique)) (Some core.BadUnique) (cond (chunk == 0) (Some core.BadChunk) late)) none in
+    let a = unmet (no_folder r folder) core.NoFolder
+        (cond (not (is_unique_name unique)) (Some core.BadUnique) (cond (chunk == 0) (Some core.BadChunk) late)) none in
     let b = unmet (not (is_unique_name unique)) core.BadUnique (cond (chunk == 0) (Some core.BadChunk) late) a.1 in
     let c = unmet (chunk == 0) core.BadChunk late b.1 in
     let d = unmet (nat_lt most_bytes (length body)) core.BodyTooLong (cond (too_many r) (Some core.TooManyJobs) last) c.1 in
@@ -93,9 +95,11 @@ pub record IsAcceptedMove (r : Run) (folder : ℕ) (unique : List ℕ) (to tries
   pub valid : is_unique_name unique ≡ true
   pub tried : 0 < tries
 
-pub accepted-move : (r : Run) (folder : ℕ) (unique : List ℕ) (to tries : ℕ) → submit_refusal r (Move folder unique to tries) ≡ None → IsAcceptedMove r folder unique to tries
+pub accepted-move : (r : Run) (folder : ℕ) (unique : List ℕ) (to tries : ℕ) → submit_refusal r (Move folder unique to tries) ≡ None →
+    IsAcceptedMove r folder unique to tries
 accepted-move r folder unique to tries none =
-    let a = unmet (no_folder r folder || no_folder r to) core.NoFolder (cond (to == folder) (Some core.SameFolder) (cond (not (is_unique_name unique)) (Some core.BadUnique) last)) none in
+    let a = unmet (no_folder r folder || no_folder r to) core.NoFolder
+        (cond (to == folder) (Some core.SameFolder) (cond (not (is_unique_name unique)) (Some core.BadUnique) last)) none in
     let b = unmet (to == folder) core.SameFolder (cond (not (is_unique_name unique)) (Some core.BadUnique) last) a.1 in
     let c = unmet (not (is_unique_name unique)) core.BadUnique last b.1 in
     let d = unmet (bad_tries tries) core.BadTries (cond (too_many r) (Some core.TooManyJobs) None) c.1 in
@@ -122,10 +126,13 @@ pub record IsAcceptedCopy (r : Run) (folder : ℕ) (unique : List ℕ) (to : ℕ
   pub unused : list_any (λ e. uses fresh e.0) (finmap.entries r.image.names) ≡ false
   pub unmade : list_any (makes fresh) r.calls ≡ false
 
-pub accepted-copy : (r : Run) (folder : ℕ) (unique : List ℕ) (to : ℕ) (fresh : List ℕ) (tries : ℕ) → submit_refusal r (Copy folder unique to fresh tries) ≡ None →
+pub accepted-copy : (r : Run) (folder : ℕ) (unique : List ℕ) (to : ℕ) (fresh : List ℕ) (tries : ℕ) →
+    submit_refusal r (Copy folder unique to fresh tries) ≡ None →
     IsAcceptedCopy r folder unique to fresh tries
 accepted-copy r folder unique to fresh tries none =
-    let a = unmet (no_folder r folder || no_folder r to) core.NoFolder (cond (not (is_unique_name unique) || not (is_unique_name fresh)) (Some core.BadUnique) (cond (bad_tries tries) (Some core.BadTries) late)) none in
+    let a = unmet (no_folder r folder || no_folder r to) core.NoFolder
+        (cond (not (is_unique_name unique) || not (is_unique_name fresh)) (Some core.BadUnique) (cond (bad_tries tries) (Some core.BadTries) late))
+        none in
     let b = unmet (not (is_unique_name unique) || not (is_unique_name fresh)) core.BadUnique (cond (bad_tries tries) (Some core.BadTries) late) a.1 in
     let c = unmet (bad_tries tries) core.BadTries late b.1 in
     let d = unmet (too_many r) core.TooManyJobs last c.1 in
@@ -156,7 +163,8 @@ pub record IsLookUp (r : Run) (folder : ℕ) (unique : List ℕ) (tries : ℕ) :
   pub valid : is_unique_name unique ≡ true
   pub some : 0 < tries
 
-pub accepted-look_up : (r : Run) (folder : ℕ) (unique : List ℕ) (tries : ℕ) → first_met (checks_of_look_up r folder unique tries) ≡ None → IsLookUp r folder unique tries
+pub accepted-look_up : (r : Run) (folder : ℕ) (unique : List ℕ) (tries : ℕ) → first_met (checks_of_look_up r folder unique tries) ≡ None →
+    IsLookUp r folder unique tries
 accepted-look_up r folder unique tries none =
     let a = unmet (no_folder r folder) core.NoFolder (cond (not (is_unique_name unique)) (Some core.BadUnique) late) none in
     let b = unmet (not (is_unique_name unique)) core.BadUnique late a.1 in

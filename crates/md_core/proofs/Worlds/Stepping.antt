@@ -20,7 +20,8 @@ use Rattle.md_core.proofs.Runs.Events.{goes_on-exact, happens-turned, done-turne
 use Rattle.md_core.proofs.Runs.ByEvent.{machine-and_event}
 use Rattle.md_core.proofs.Runs.Extended.{is_run-and_event}
 
-pub marked-push : (es : List Event) (bs : List Bool) (e : Event) (b : Bool) → length bs ≡ length es → marked_events (es ++ e ∷ []) (bs ++ b ∷ []) ≡ marked_events es bs ++ record { event = e; faulted = b } ∷ []
+pub marked-push : (es : List Event) (bs : List Bool) (e : Event) (b : Bool) → length bs ≡ length es →
+    marked_events (es ++ e ∷ []) (bs ++ b ∷ []) ≡ marked_events es bs ++ record { event = e; faulted = b } ∷ []
 marked-push [] [] e b same = refl
 marked-push [] (c ∷ bs) e b same = absurd (omega arith)
 marked-push (x ∷ es) [] e b same = absurd (omega arith)
@@ -33,7 +34,8 @@ marked-events (x ∷ es) [] same = absurd (omega arith)
 marked-events (x ∷ es) (c ∷ bs) same = ap (λ xs. x ∷ xs) (marked-events es bs (omega arith))
 
 -- a job that took its turn keeps its call
-calls-set : (jobs : List JobView) (place : ℕ) (old new : JobView) → slice_get jobs place ≡ Some old → new.call ≡ old.call → map (λ job. job.call) (slice_set jobs place new) ≡ map (λ job. job.call) jobs
+calls-set : (jobs : List JobView) (place : ℕ) (old new : JobView) → slice_get jobs place ≡ Some old → new.call ≡ old.call →
+    map (λ job. job.call) (slice_set jobs place new) ≡ map (λ job. job.call) jobs
 calls-set [] place old new at same = refl
 calls-set (x ∷ jobs) zero old new at same = let e : x ≡ old = cc in ap (λ c. c ∷ map (λ job. job.call) jobs) (same ∙ ap (λ (j : JobView). j.call) (sym e))
 calls-set (x ∷ jobs) (suc place) old new at same = ap (λ cs. x.call ∷ cs) (calls-set jobs place old new at same)
@@ -53,10 +55,12 @@ pub count-push : (es : List Marked) (e : Marked) → count_by (λ m. m.faulted) 
 count-push es e = sum_by_push (λ m. cond m.faulted 1 0) es e
 
 -- the moment of a step, by the code's names
-pub moment-is : (clock now : ℕ) (own : Option ℕ) (at : Moment) → at.clock ≡ max clock now → at.own ≡ unwrap_or own (max clock now) → (job : ℕ) → moment_of clock (record { job = job; now = now; own = own }) ≡ at
+pub moment-is : (clock now : ℕ) (own : Option ℕ) (at : Moment) → at.clock ≡ max clock now → at.own ≡ unwrap_or own (max clock now) → (job : ℕ) →
+    moment_of clock (record { job = job; now = now; own = own }) ≡ at
 moment-is clock now own at c o job = λ i. record { clock = sym c i; own = sym o i }
 
-module _ (first : Device) (jobs : List JobView) (events : List Event) (marks : List Bool) (held : Device) (clock : ℕ) (effects : List Effect) (used : List (List ℕ))
+module _ (first : Device) (jobs : List JobView) (events : List Event) (marks : List Bool) (held : Device) (clock : ℕ) (effects : List Effect)
+    (used : List (List ℕ))
     (event : Event) (place : ℕ) (is : place + 1 ≡ event.job) (job : JobView) (there : slice_get jobs place ≡ Some job)
     (out : StepOut) (effect : Option Effect) (job' : JobView) (held' : Device) where
   abbrev pub run : Run
@@ -104,14 +108,16 @@ module _ (first : Device) (jobs : List JobView) (events : List Event) (marks : L
           jobs = slice_set kept.jobs (place_is i) (standing_of (turned.takes.after i).task (turned.takes.after i).answer);
           effects = effects ++ option_to_list (turned.takes.after i).effect;
         })
-        ∙ (λ i. record { dirs = held'.state; clock = at.clock; jobs = slice_set kept.jobs place (sym turned.standing i); effects = effects ++ option_to_list effect })
+        ∙ (λ i. record { dirs = held'.state; clock = at.clock; jobs = slice_set kept.jobs place (sym turned.standing i);
+            effects = effects ++ option_to_list effect })
         ∙ (λ i. record { dirs = held'.state; clock = at.clock; jobs = sym (standing-set jobs place job') i; effects = effects ++ option_to_list effect })
       where
         place_is : event.job - 1 ≡ place
         place_is = omega arith
 
     pub refusal : step_refusal (job_at (jobs_of run) event.job) ≡ None
-    refusal = ap (λ (m : Machine). step_refusal (job_at m.jobs event.job)) (sym world.now) ∙ (goes_on-exact (job_at kept.jobs event.job)).1 (turned.task, at_number)
+    refusal = ap (λ (m : Machine). step_refusal (job_at m.jobs event.job)) (sym world.now) ∙
+        (goes_on-exact (job_at kept.jobs event.job)).1 (turned.task, at_number)
 
     failed : (b : Bool) → held'.failures ≡ cond b (held.failures + 1) held.failures → held.failures ≡ failures_of run →
         held'.failures ≡ first.failures + (count_by (λ m. m.faulted) run.events + cond b 1 0)
@@ -128,7 +134,8 @@ module _ (first : Device) (jobs : List JobView) (events : List Event) (marks : L
       as_many = simp length-append (let same = world.as_many in omega arith);
     }
 
-    pub step-world : IsWorld (run_of first (slice_set jobs place job') (events ++ event ∷ []) (marks ++ is_fault out.reply ∷ [])) kept' held' used (events ++ event ∷ []) (marks ++ is_fault out.reply ∷ [])
+    pub step-world : IsWorld (run_of first (slice_set jobs place job') (events ++ event ∷ []) (marks ++ is_fault out.reply ∷ [])) kept' held' used
+        (events ++ event ∷ []) (marks ++ is_fault out.reply ∷ [])
     step-world = subst (λ (r : Run). IsWorld r kept' held' used (events ++ event ∷ []) (marks ++ is_fault out.reply ∷ [])) (sym run-after) stepped
 
     -- what is shown of the step
@@ -136,25 +143,29 @@ module _ (first : Device) (jobs : List JobView) (events : List Event) (marks : L
     step-shown =
         ap (λ (m : Machine). option_map step_out (done m marked_event)) (sym world.now)
         ∙ ap (option_map step_out) (done-turned kept marked_event turned.task at_number)
-        ∙ ap (λ r. Some (step_out (record { job = event.job; asked = turn.asked; reply = r; at = at; answer = (after r).answer; effect = (after r).effect }))) (sym turned.takes.replied)
+        ∙ ap (λ r. Some (step_out (record { job = event.job; asked = turn.asked; reply = r; at = at; answer = (after r).answer;
+            effect = (after r).effect }))) (sym turned.takes.replied)
         ∙ (λ i. Some (record { call = sym turned.takes.call i; reply = out.reply; answer = (turned.takes.after i).answer; effect = effect_is i }))
       where
         effect_is : is_some (after out.reply).effect ≡ out.effect
         effect_is = ap (λ (a : After Task). is_some a.effect) turned.takes.after ∙ sym turned.takes.is_effect
 
 -- how the job of a number stands, by the job at its place
-pub standing-number : (jobs : List JobView) (number : ℕ) (job : JobView) → 0 < number → slice_get jobs (number - 1) ≡ Some job → job_at (standings jobs) number ≡ Some job.standing
+pub standing-number : (jobs : List JobView) (number : ℕ) (job : JobView) → 0 < number → slice_get jobs (number - 1) ≡ Some job →
+    job_at (standings jobs) number ≡ Some job.standing
 standing-number jobs number job some at = job_at-place (standings jobs) number some ∙ standing-at jobs (number - 1) job at
 
 -- a job is refused a step exactly where it has its answer, and is at work where it has none
-pub refused-by : (jobs : List JobView) (number : ℕ) (job : JobView) (a : Answer) → 0 < number → slice_get jobs (number - 1) ≡ Some job → Some a ≡ answer_of (Some job.standing) → step_refusal (job_at (standings jobs) number) ≡ Some Answered
+pub refused-by : (jobs : List JobView) (number : ℕ) (job : JobView) (a : Answer) → 0 < number → slice_get jobs (number - 1) ≡ Some job →
+    Some a ≡ answer_of (Some job.standing) → step_refusal (job_at (standings jobs) number) ≡ Some Answered
 refused-by jobs number job a some at has = ap step_refusal (standing-number jobs number job some at) ∙ by job.standing has
   where
     by : (s : Standing) → Some a ≡ answer_of (Some s) → step_refusal (Some s) ≡ Some Answered
     by (working task) h = cc
     by (answered b) h = refl
 
-pub goes-by : (jobs : List JobView) (number : ℕ) (job : JobView) → 0 < number → slice_get jobs (number - 1) ≡ Some job → None ≡ answer_of (Some job.standing) → step_refusal (job_at (standings jobs) number) ≡ None
+pub goes-by : (jobs : List JobView) (number : ℕ) (job : JobView) → 0 < number → slice_get jobs (number - 1) ≡ Some job →
+    None ≡ answer_of (Some job.standing) → step_refusal (job_at (standings jobs) number) ≡ None
 goes-by jobs number job some at has = ap step_refusal (standing-number jobs number job some at) ∙ by job.standing has
   where
     by : (s : Standing) → None ≡ answer_of (Some s) → step_refusal (Some s) ≡ None
@@ -162,7 +173,8 @@ goes-by jobs number job some at has = ap step_refusal (standing-number jobs numb
     by (answered b) h = cc
 
 -- a job that is there, and whose step isn't refused, is at work
-pub working-at : (jobs : List JobView) (place number : ℕ) (job : JobView) → place + 1 ≡ number → slice_get jobs place ≡ Some job → step_refusal (job_at (standings jobs) number) ≡ None → is_working job.standing ≡ true
+pub working-at : (jobs : List JobView) (place number : ℕ) (job : JobView) → place + 1 ≡ number → slice_get jobs place ≡ Some job →
+    step_refusal (job_at (standings jobs) number) ≡ None → is_working job.standing ≡ true
 working-at jobs place number job is at goes =
     let e : suc place ≡ number = omega arith in
     let found : job_at (standings jobs) number ≡ Some job.standing = ap (job_at (standings jobs)) (sym e) ∙ standing-at jobs place job at in

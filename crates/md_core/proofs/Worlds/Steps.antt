@@ -22,7 +22,8 @@ module _ (turns : EachTurn) (r : Run) (run : IsRun r) (e : Marked) (goes_on : st
   what = done_by (machine_of r) e waits.0
 
   going : Goes r.calls (machine_of r) (machine_of (and_event r e)) what
-  going = subst (λ (m : Machine). Goes r.calls (machine_of r) m what) (sym (machine-and_event r e)) (goes turns r.calls (machine_of r) e waits.0 (good-machine r run turns) waits.1)
+  going = subst (λ (m : Machine). Goes r.calls (machine_of r) m what) (sym (machine-and_event r e))
+      (goes turns r.calls (machine_of r) e waits.0 (good-machine r run turns) waits.1)
 
   called : call_at r.calls e.event.job ≡ Some going.asked
   called = ap (call_at r.calls) going.number_is ∙ going.of
@@ -51,4 +52,6 @@ module _ (turns : EachTurn) (r : Run) (run : IsRun r) (e : Marked) (goes_on : st
       where
         by : (o : Option Answer) → what.answer ≡ o → Succeeds (and_event r e) e.event.job o
         by None is = tt
-        by (Some a) is = λ success. (theorem.jobs e.event.job going.asked (answered a) called (there ∙ ap (λ (x : Option Answer). Some (standing_of going.task' x)) is)).success a refl success
+        by (Some a) is = λ success.
+            (theorem.jobs e.event.job going.asked (answered a) called (there ∙
+            ap (λ (x : Option Answer). Some (standing_of going.task' x)) is)).success a refl success

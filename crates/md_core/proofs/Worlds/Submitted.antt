@@ -41,7 +41,8 @@ last_first false true false = refl
 last_first false false true = refl
 last_first false false false = refl
 
-module _ (first : Device) (jobs : List JobView) (events : List Event) (marks : List Bool) (held : Device) (clock : ℕ) (effects : List Effect) (used : List (List ℕ)) (asked : Call) where
+module _ (first : Device) (jobs : List JobView) (events : List Event) (marks : List Bool) (held : Device) (clock : ℕ) (effects : List Effect)
+    (used : List (List ℕ)) (asked : Call) where
   abbrev pub run : Run
   run = run_of first jobs events marks
 
@@ -66,8 +67,10 @@ module _ (first : Device) (jobs : List JobView) (events : List Event) (marks : L
       as_many = world.as_many;
     }
 
-    pub submit-world : IsWorld (run_of first (jobs ++ job_of asked ∷ []) events marks) (machine_by held clock (jobs ++ job_of asked ∷ []) effects) held used' events marks
-    submit-world = subst (λ (r : Run). IsWorld r (machine_by held clock (jobs ++ job_of asked ∷ []) effects) held used' events marks) (sym run-submitted) submitted
+    pub submit-world : IsWorld (run_of first (jobs ++ job_of asked ∷ []) events marks)
+        (machine_by held clock (jobs ++ job_of asked ∷ []) effects) held used' events marks
+    submit-world = subst (λ (r : Run). IsWorld r (machine_by held clock (jobs ++ job_of asked ∷ []) effects) held used' events marks)
+        (sym run-submitted) submitted
 
     -- a submit is no effect
     pub effects-submitted : effects_of (and_call run asked) ≡ effects_of run

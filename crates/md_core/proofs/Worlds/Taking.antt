@@ -7,7 +7,8 @@ use Rattle.md_core.specs.Worlds.{TakesAll, marked_events}
 use Rattle.md_core.proofs.Lists.Places.{take-one_more}
 use Rattle.md_core.proofs.Worlds.Stepping.{marked-push}
 
-pub takes-more : (es : List Event) (i : ℕ) (r r' r'' : Run) (e : Event) (b : Bool) → slice_get es i ≡ Some e → TakesAll (take i es) r r' → r'' ≡ and_event r' (marked e.job e.now e.own b) → TakesAll (take (i + 1) es) r r''
+pub takes-more : (es : List Event) (i : ℕ) (r r' r'' : Run) (e : Event) (b : Bool) → slice_get es i ≡ Some e → TakesAll (take i es) r r' →
+    r'' ≡ and_event r' (marked e.job e.now e.own b) → TakesAll (take (i + 1) es) r r''
 takes-more es i r r' r'' e b at taken is =
     let more = take-one_more es i e at in
     let last = marked-push (take i es) taken.0 e b taken.1 in (

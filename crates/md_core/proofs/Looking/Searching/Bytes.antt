@@ -56,7 +56,8 @@ between [] m rest not_below not_above = (m, refl)
 between (a ∷ t) [] rest not_below not_above = cc
 between (a ∷ t) (b ∷ m) rest not_below not_above = by (between t m rest) (nat_cmp b a) refl not_below not_above
   where
-    by : (is_lt (order m t) ≡ false → order m (t ++ rest) ≢ Greater → (more : List ℕ) × (m ≡ t ++ more)) → (o : Ordering) → nat_cmp b a ≡ o → is_lt (ordering_then o (order m t)) ≡ false → ordering_then o (order m (t ++ rest)) ≢ Greater → (more : List ℕ) × (b ∷ m ≡ a ∷ t ++ more)
+    by : (is_lt (order m t) ≡ false → order m (t ++ rest) ≢ Greater → (more : List ℕ) × (m ≡ t ++ more)) → (o : Ordering) → nat_cmp b a ≡ o →
+        is_lt (ordering_then o (order m t)) ≡ false → ordering_then o (order m (t ++ rest)) ≢ Greater → (more : List ℕ) × (b ∷ m ≡ a ∷ t ++ more)
     by rest Less at below above = cc
     by rest Greater at below above = absurd (above refl)
     by rest Equal at below above = let deeper = rest below above in (deeper.0, (λ i. same_heads b a at i ∷ deeper.1 i))
@@ -80,8 +81,10 @@ unfolding unique_of
 colon-cut [] = inl refl
 colon-cut (c ∷ cs) = by (colon-cut cs) (is_colon c) refl
   where
-    by : (cs ≡ take (position_or_len is_colon cs) cs) ⊎ ((rest : List ℕ) × (cs ≡ take (position_or_len is_colon cs) cs ++ 58 ∷ rest)) → (b : Bool) → is_colon c ≡ b →
-        (c ∷ cs ≡ take (cond (not b) (1 + position_or_len is_colon cs) 0) (c ∷ cs)) ⊎ ((rest : List ℕ) × (c ∷ cs ≡ take (cond (not b) (1 + position_or_len is_colon cs) 0) (c ∷ cs) ++ 58 ∷ rest))
+    by : (cs ≡ take (position_or_len is_colon cs) cs) ⊎ ((rest : List ℕ) × (cs ≡ take (position_or_len is_colon cs) cs ++ 58 ∷ rest)) → (b : Bool) →
+        is_colon c ≡ b →
+        (c ∷ cs ≡ take (cond (not b) (1 + position_or_len is_colon cs) 0) (c ∷ cs)) ⊎
+        ((rest : List ℕ) × (c ∷ cs ≡ take (cond (not b) (1 + position_or_len is_colon cs) 0) (c ∷ cs) ++ 58 ∷ rest))
     by deeper true is = inr (cs, ap (λ x. x ∷ cs) (colon c is))
     by deeper false is =
         let k = position_or_len is_colon cs in
@@ -102,7 +105,8 @@ unique-with (b ∷ u) rest none =
     let parts = first_none (is_colon b) _ none in
     let k = position_or_len is_colon (u ++ 58 ∷ rest) in
     let e : 1 + k ≡ suc k = omega arith in
-    ap (λ t. take (cond (not t) (1 + k) 0) (b ∷ u ++ 58 ∷ rest)) parts.0 ∙ ap (λ n. take n (b ∷ u ++ 58 ∷ rest)) e ∙ ap (λ v. b ∷ v) (unique-with u rest parts.1)
+    ap (λ t. take (cond (not t) (1 + k) 0) (b ∷ u ++ 58 ∷ rest)) parts.0 ∙ ap (λ n. take n (b ∷ u ++ 58 ∷ rest)) e ∙
+        ap (λ v. b ∷ v) (unique-with u rest parts.1)
 
 named : (dot some : Bool) → dot ≡ false → some ≡ true → (not dot && some) ≡ true
 named dot some hd hs = ap (λ t. not t && some) hd ∙ hs
@@ -141,6 +145,7 @@ of-unique name message =
     let parts = some_parts (is_message_name u) (unique_of u) u (firsts (is_message_name u) _ _ (ap (option_map (λ (x : List ℕ × Info). x.0)) bare)) in
     of-is u u parts.0 parts.1
   where
-    firsts : (b : Bool) (x : List ℕ × Info) (y : Option (List ℕ)) → option_map (λ (x : List ℕ × Info). x.0) (cond b (Some x) None) ≡ y → cond b (Some x.0) None ≡ y
+    firsts : (b : Bool) (x : List ℕ × Info) (y : Option (List ℕ)) → option_map (λ (x : List ℕ × Info). x.0) (cond b (Some x) None) ≡ y →
+        cond b (Some x.0) None ≡ y
     firsts true x y is = is
     firsts false x y is = is

@@ -64,7 +64,8 @@ module _ (s : State) (f : ℕ) (p : Place) (u : List ℕ) (at : ℕ) (bare : is_
     | inr later ↦ later
   ]
 
-  ordered : (k : ℕ) (r a : Row) → slice_get (rows_of s f p) k ≡ Some r → slice_get (rows_of s f p) at ≡ Some a → (at < k) ⊎ (at ≡ k) → (name_cmp a.name r.name ≡ Less) ⊎ (name_cmp a.name r.name ≡ Equal)
+  ordered : (k : ℕ) (r a : Row) → slice_get (rows_of s f p) k ≡ Some r → slice_get (rows_of s f p) at ≡ Some a → (at < k) ⊎ (at ≡ k) →
+      (name_cmp a.name r.name ≡ Less) ⊎ (name_cmp a.name r.name ≡ Equal)
   ordered k r a hk ha (inl earlier) = inl (names-rise s f p at k a r earlier ha hk)
   ordered k r a hk ha (inr same) =
       let both : Some a ≡ Some r = sym ha ∙ ap (slice_get (rows_of s f p)) same ∙ hk in
@@ -89,7 +90,8 @@ module _ (s : State) (f : ℕ) (p : Place) (u : List ℕ) (at : ℕ) (bare : is_
       (a, first.1, ap (is_of u) (begins.1 ∙ append_assoc u (58 ∷ []) begins.0) ∙ of-with u begins.0 bare)
 
 -- a message of the unique name has that name, or the name that is reached is that of such a message
-pub found-or-reached : (s : State) (f : ℕ) (p : Place) (u : List ℕ) (at : ℕ) → is_of u u ≡ true → IsFirstFrom (rows_of s f p) u at → (q : Path) (n : ℕ) → file_at s q ≡ Some n → is_in f p q ≡ true → unique_of q.name ≡ u
+pub found-or-reached : (s : State) (f : ℕ) (p : Place) (u : List ℕ) (at : ℕ) → is_of u u ≡ true → IsFirstFrom (rows_of s f p) u at →
+    (q : Path) (n : ℕ) → file_at s q ≡ Some n → is_in f p q ≡ true → unique_of q.name ≡ u
     → (q ≡ path_of f p u) ⊎ ((a : Row) × (slice_get (rows_of s f p) at ≡ Some a) × (is_of u a.name ≡ true))
 found-or-reached s f p u at bare reached q n there inside unique = elim (colon-cut q.name) [
   | inl whole ↦ inl (in-is f p q inside ∙ ap (path_of f p) (whole ∙ unique))
@@ -97,7 +99,8 @@ found-or-reached s f p u at bare reached q n there inside unique = elim (colon-c
 ]
 
 -- no message of the unique name is in a directory where neither that name nor the one that is reached is that of such a message
-pub nothing-there : (s : State) (f : ℕ) (p : Place) (u : List ℕ) (at : ℕ) → IsSound s → is_of u u ≡ true → IsFirstFrom (rows_of s f p) u at → None ≡ bytes_at_path s (path_of f p u)
+pub nothing-there : (s : State) (f : ℕ) (p : Place) (u : List ℕ) (at : ℕ) → IsSound s → is_of u u ≡ true → IsFirstFrom (rows_of s f p) u at →
+    None ≡ bytes_at_path s (path_of f p u)
     → ((a : Row) → slice_get (rows_of s f p) at ≡ Some a → is_of u a.name ≡ true → ⊥) → IsNotIn s u f p
 nothing-there s f p u at sound bare reached none no_row q n there message unique = by (is_in f p q) refl
   where
@@ -109,10 +112,12 @@ nothing-there s f p u at sound bare reached none no_row q n there message unique
     ]
 
 -- a row can be read
-pub none-at : (s : State) (f : ℕ) (p : Place) (at : ℕ) (a : Row) → IsSound s → slice_get (rows_of s f p) at ≡ Some a → None ≡ bytes_at_path s (path_of f p a.name) → ⊥
+pub none-at : (s : State) (f : ℕ) (p : Place) (at : ℕ) (a : Row) → IsSound s → slice_get (rows_of s f p) at ≡ Some a →
+    None ≡ bytes_at_path s (path_of f p a.name) → ⊥
 none-at s f p at a sound is none =
     let row = row-at s f p at a is in
-    none-read s (path_of f p a.name) row.entry.1 sound (ap (file_at s) (sym row.path) ∙ has-get path_total path_exact s.names row.entry (get-has_some (λ e. is_in f p e.0) (entries s.names) at row.entry row.there)) none
+    none-read s (path_of f p a.name) row.entry.1 sound (ap (file_at s) (sym row.path) ∙
+        has-get path_total path_exact s.names row.entry (get-has_some (λ e. is_in f p e.0) (entries s.names) at row.entry row.there)) none
 
 -- ---- all folders
 
@@ -120,11 +125,13 @@ none-at s f p at a sound is none =
 pub mailbox-has : (s : State) (u bytes : List ℕ) → HasOnePath s → IsBytesOf s u bytes → Some bytes ≡ option_map (λ (e : Entry). e.bytes) (get (mailbox_of s) u)
 mailbox-has s u bytes one h =
     let e = entry_of s h.path h.file in
-    let is : get (mailbox_of s) u ≡ Some e = shows-mailbox s u e one (record { path = h.path; file = h.file; there = h.there; message = h.message; unique = h.unique; entry = refl }) in
+    let is : get (mailbox_of s) u ≡ Some e =
+        shows-mailbox s u e one (record { path = h.path; file = h.file; there = h.there; message = h.message; unique = h.unique; entry = refl }) in
     ap Some (sym h.holds) ∙ ap (option_map (λ (e : Entry). e.bytes)) (sym is)
 
 -- where no message has the unique name, the mailbox has none
-pub mailbox-lacks : (s : State) (u : List ℕ) → ((q : Path) (n : ℕ) → file_at s q ≡ Some n → is_message q ≡ true → unique_of q.name ≡ u → ⊥) → None ≡ option_map (λ (e : Entry). e.bytes) (get (mailbox_of s) u)
+pub mailbox-lacks : (s : State) (u : List ℕ) → ((q : Path) (n : ℕ) → file_at s q ≡ Some n → is_message q ≡ true → unique_of q.name ≡ u → ⊥) →
+    None ≡ option_map (λ (e : Entry). e.bytes) (get (mailbox_of s) u)
 mailbox-lacks s u none = by (get (mailbox_of s) u) refl
   where
     by : (o : Option Entry) → get (mailbox_of s) u ≡ o → None ≡ option_map (λ (e : Entry). e.bytes) o
@@ -161,5 +168,6 @@ none-below-more s u f before in_new in_cur q n there message unique below = elim
         cc
 
 -- all folders
-pub none-at-all : (s : State) (u : List ℕ) → IsSound s → IsNotBelow s u s.folders → (q : Path) (n : ℕ) → file_at s q ≡ Some n → is_message q ≡ true → unique_of q.name ≡ u → ⊥
+pub none-at-all : (s : State) (u : List ℕ) → IsSound s → IsNotBelow s u s.folders → (q : Path) (n : ℕ) → file_at s q ≡ Some n → is_message q ≡ true →
+    unique_of q.name ≡ u → ⊥
 none-at-all s u sound none q n there message unique = none q n there message unique (sound.housed q n there)

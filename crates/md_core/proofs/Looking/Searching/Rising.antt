@@ -40,7 +40,8 @@ pub get-has_some : {X : Type 0} (q : X → Bool) (xs : List X) (k : ℕ) (y : X)
 get-has_some q [] k y is = cc
 get-has_some q (x ∷ xs) k y is = by (get-has_some q xs) (q x) k is
   where
-    by : ((k : ℕ) (y : _) → slice_get (filter q xs) k ≡ Some y → Has xs y) → (b : Bool) (k : ℕ) → slice_get (cond b (x ∷ filter q xs) (filter q xs)) k ≡ Some y → Has (x ∷ xs) y
+    by : ((k : ℕ) (y : _) → slice_get (filter q xs) k ≡ Some y → Has xs y) → (b : Bool) (k : ℕ) →
+        slice_get (cond b (x ∷ filter q xs) (filter q xs)) k ≡ Some y → Has (x ∷ xs) y
     by rest true zero is = let same : y ≡ x = cc in inl same
     by rest true (suc k) is = inr (rest k y is)
     by rest false k is = inr (rest k y is)
@@ -58,7 +59,8 @@ rise : (q : Path × ℕ → Bool) (es : List (Path × ℕ)) → T (is_sorted pat
 rise q [] sorted j k x y order hj hk = cc
 rise q (e ∷ es) sorted j k x y order hj hk = by (rise q es (second _ _ sorted)) (q e) j k order hj hk
   where
-    by : ((j k : ℕ) (x y : Path × ℕ) → j < k → slice_get (filter q es) j ≡ Some x → slice_get (filter q es) k ≡ Some y → path_cmp x.0 y.0 ≡ Less) → (b : Bool) (j k : ℕ) → j < k →
+    by : ((j k : ℕ) (x y : Path × ℕ) → j < k → slice_get (filter q es) j ≡ Some x → slice_get (filter q es) k ≡ Some y → path_cmp x.0 y.0 ≡ Less) →
+        (b : Bool) (j k : ℕ) → j < k →
         slice_get (cond b (e ∷ filter q es) (filter q es)) j ≡ Some x → slice_get (cond b (e ∷ filter q es) (filter q es)) k ≡ Some y → path_cmp x.0 y.0 ≡ Less
     by rest false j k order hj hk = rest j k x y order hj hk
     by rest true j zero order hj hk = absurd (omega arith)
@@ -77,7 +79,8 @@ module _ (s : State) (f : ℕ) (p : Place) where
   names-rise j k a b order hj hk =
       let x = row-at s f p j a hj in
       let y = row-at s f p k b hk in
-      sym (in_one f p a.name b.name) ∙ (λ i. path_cmp (sym x.path i) (sym y.path i)) ∙ rise (λ e. is_in f p e.0) (entries s.names) (entries_sorted s.names) j k x.entry y.entry order x.there y.there
+      sym (in_one f p a.name b.name) ∙ (λ i. path_cmp (sym x.path i) (sym y.path i)) ∙
+          rise (λ e. is_in f p e.0) (entries s.names) (entries_sorted s.names) j k x.entry y.entry order x.there y.there
 
   earlier_or_same : (j k : ℕ) → j ≤ k → (j < k) ⊎ (j ≡ k)
   earlier_or_same j k within = elim (cases_lt j k) [ inl earlier ↦ inl earlier | inr later ↦ inr (omega arith) ]
@@ -100,8 +103,10 @@ module _ (s : State) (f : ℕ) (p : Place) where
       lower : (a b : Row) → name_cmp a.name b.name ≡ Less → row_is_below u (Some b) ≡ true → row_is_below u (Some a) ≡ true
       lower a b rises is = ap is_lt (nat_list_cmp_total.trans a.name b.name (least_with_info u) rises (lt-less _ is))
 
-      at : (b : Row) → slice_get (rows_of s f p) k ≡ Some b → row_is_below u (Some b) ≡ true → (j < k) ⊎ (j ≡ k) → row_is_below u (slice_get (rows_of s f p) j) ≡ true
-      at b hk is (inl earlier) = let some = get-before (rows_of s f p) j k b within hk in ap (row_is_below u) some.1 ∙ lower some.0 b (names-rise j k some.0 b earlier some.1 hk) is
+      at : (b : Row) → slice_get (rows_of s f p) k ≡ Some b → row_is_below u (Some b) ≡ true → (j < k) ⊎ (j ≡ k) →
+          row_is_below u (slice_get (rows_of s f p) j) ≡ true
+      at b hk is (inl earlier) = let some = get-before (rows_of s f p) j k b within hk in ap (row_is_below u) some.1 ∙
+          lower some.0 b (names-rise j k some.0 b earlier some.1 hk) is
       at b hk is (inr same) = ap (λ n. row_is_below u (slice_get (rows_of s f p) n)) same ∙ below
 
       by : (o : Option Row) → slice_get (rows_of s f p) k ≡ o → row_is_below u o ≡ true → row_is_below u (slice_get (rows_of s f p) j) ≡ true
@@ -120,7 +125,9 @@ module _ (s : State) (f : ℕ) (p : Place) where
       by false at = at
 
   -- the row of a path in the directory
-  pub row-there : (q : Path) (n : ℕ) → file_at s q ≡ Some n → is_in f p q ≡ true → (k : ℕ) × (r : Row) × (slice_get (rows_of s f p) k ≡ Some r) × (r.name ≡ q.name)
+  pub row-there : (q : Path) (n : ℕ) → file_at s q ≡ Some n → is_in f p q ≡ true →
+      (k : ℕ) × (r : Row) × (slice_get (rows_of s f p) k ≡ Some r) × (r.name ≡ q.name)
   row-there q n there inside =
       let at = has-at (λ e. is_in f p e.0) (entries s.names) (q, n) (get-has path_total path_exact s.names q n there) inside in
-      (at.0, row_of s.files (q, n), get-map (row_of s.files) (entries_in s f p) at.0 ∙ ap (option_map (row_of s.files)) at.1, row_name q.name (file_by s.files n))
+      (at.0, row_of s.files (q, n), get-map (row_of s.files) (entries_in s f p) at.0 ∙
+          ap (option_map (row_of s.files)) at.1, row_name q.name (file_by s.files n))

@@ -93,7 +93,8 @@ module _ (s : State) (number : ℕ) (asked : Call) (clock : ℕ) (sound : IsSoun
     still-ends : (a : Answer) → is_success a ≡ false → 0 < cleaning_left s x → Does s s number asked (Clean x) made r (as_after Clean (ends x a))
     still-ends a failure some = ends-does s s number asked one x fits made r [] (quiet-stays s [] sound) (shrinks-stays s) a failure some
 
-    still-next : (rest : List Row) (files : ℕ) → length rest < cleaning_left s x → Does s s number asked (Clean x) made r (as_after Clean (after_next x rest files))
+    still-next : (rest : List Row) (files : ℕ) → length rest < cleaning_left s x →
+        Does s s number asked (Clean x) made r (as_after Clean (after_next x rest files))
     still-next rest files less = next-does s s number asked one x fits made r [] (quiet-stays s [] sound) (shrinks-stays s) rest files less
 
   -- tmp is listed
@@ -123,9 +124,12 @@ module _ (s : State) (number : ℕ) (asked : Call) (clock : ℕ) (sound : IsSoun
 -- What a turn of a clean does, whatever its stage.
 module _ (s : State) (number : ℕ) (asked : Call) (at : Moment) (faulted : Bool) (sound : IsSound s) (one : HasOnePath s) (c : Cleaning) where
   stage-does : (stage : Stage) → CleaningFits asked (at_stage c stage) →
-      DoesBy s number asked (at_stage c stage) at.clock (stage_turn (at_stage c stage) at.own stage) (reply_of (ask_of (stage_turn (at_stage c stage) at.own stage).asked at.clock) s faulted)
+      DoesBy s number asked (at_stage c stage) at.clock (stage_turn (at_stage c stage) at.own stage)
+      (reply_of (ask_of (stage_turn (at_stage c stage) at.own stage).asked at.clock) s faulted)
   stage-does Look fits = look-does s number asked at.clock sound one c at.own fits (reply_of (dirs.list c.folder Tmp) s faulted)
-  stage-does (Remove name rest files) fits = unlink-does s number asked at.clock sound one c name rest files fits (reply_of (dirs.unlink (tmp c name)) s faulted)
+  stage-does (Remove name rest files) fits =
+      unlink-does s number asked at.clock sound one c name rest files fits (reply_of (dirs.unlink (tmp c name)) s faulted)
 
-  pub cleaning-does : CleaningFits asked c → DoesBy s number asked c at.clock (cleaning_turn c at.own) (reply_of (ask_of (cleaning_turn c at.own).asked at.clock) s faulted)
+  pub cleaning-does : CleaningFits asked c →
+      DoesBy s number asked c at.clock (cleaning_turn c at.own) (reply_of (ask_of (cleaning_turn c at.own).asked at.clock) s faulted)
   cleaning-does fits = stage-does c.stage fits

@@ -35,7 +35,8 @@ not-tmp : (place : Place) → is_tmp place ≡ false → place ≢ Tmp
 not-tmp place new_or_cur is = let yes : is_tmp place ≡ true = ap is_tmp is in cc
 
 module _ (s : State) (number : ℕ) (asked : Call) (c : Copying) (place : Place) (row : Row) (tries k : ℕ) (sound : IsSound s) (one : HasOnePath s)
-    (fits : CopyingFits s asked (at_stage c (Act place row tries))) (sized : HasSize (mailbox_of s) c.unique row.size) (at : file_at s (source c place row.name) ≡ Some k) where
+    (fits : CopyingFits s asked (at_stage c (Act place row tries))) (sized : HasSize (mailbox_of s) c.unique row.size)
+        (at : file_at s (source c place row.name) ≡ Some k) where
   abbrev x : Copying
   x = at_stage c (Act place row tries)
 
@@ -58,7 +59,8 @@ module _ (s : State) (number : ℕ) (asked : Call) (c : Copying) (place : Place)
   message = and_from _ _ (ap not fits.stage.0) fits.stage.1
 
   lands : Lands s s' c.fresh n k (bytes_at s k)
-  lands = link-lands s o n c.fresh (bytes_at s k) k (inr message) sound fits.to_folder at refl fits.none (and_from _ _ (ap not fits.stage.0) name.message) name.unique
+  lands = link-lands s o n c.fresh (bytes_at s k) k (inr message) sound fits.to_folder at refl fits.none
+      (and_from _ _ (ap not fits.stage.0) name.message) name.unique
 
   before : get m c.unique ≡ Some (entry_of s o k)
   before = shows-mailbox s c.unique (entry_of s o k) one (record { path = o; file = k; there = at; message = message; unique = fits.stage.2; entry = refl })
@@ -89,9 +91,11 @@ module _ (s : State) (number : ℕ) (asked : Call) (c : Copying) (place : Place)
   changes =
       ap names_of (mailbox-puts s s' n k one lands.puts) ∙ names-insert m (unique_of n.name) (entry_of s' n k)
       ∙ ap (finmap.insert (names_of m) (unique_of n.name)) (listed-entry s' n k)
-      ∙ ap (λ size. finmap.insert (names_of m) (unique_of n.name) (record { folder = c.to; place = place; name = n.name; size = size })) (sized (entry_of s o k) before)
+      ∙ ap (λ size. finmap.insert (names_of m) (unique_of n.name) (record { folder = c.to; place = place; name = n.name; size = size }))
+          (sized (entry_of s o k) before)
 
-  pub link-does : Does s s' number asked (Copy x) (link o n) reply.Ok (record { task = Copy x; answer = Some answer.Copied; effect = Some (copying_effect number n row.size) })
+  pub link-does : Does s s' number asked (Copy x) (link o n) reply.Ok
+      (record { task = Copy x; answer = Some answer.Copied; effect = Some (copying_effect number n row.size) })
   link-does = record {
     sound = lands.sound;
     one_path = one-puts s s' n k one lands.puts;
@@ -107,7 +111,8 @@ module _ (s : State) (number : ℕ) (asked : Call) (c : Copying) (place : Place)
     effect = record {
       of = refl;
       changes = changes;
-      allowed = (fits.to_folder, not-tmp place fits.stage.0, name.message, (name.shown, name.shows), subst (Makes asked) (sym name.unique) (makes-copy s asked x fits));
+      allowed = (fits.to_folder, not-tmp place fits.stage.0, name.message, (name.shown, name.shows), subst (Makes asked) (sym name.unique)
+          (makes-copy s asked x fits));
     };
     settles = (copying_effect number n row.size, refl, refl);
     nearer = omega arith;

@@ -55,7 +55,8 @@ module _ (s : State) (number : ℕ) (asked : Call) (sound : IsSound s) (one : Ha
   leads-does : (made : Asked) (r : DirReply) → ((o : Option Answer) → is_effect_at (call.Copy c.folder c.unique c.to c.fresh fits.tries) made r o ≡ false) →
       (next : Next) → NextFits s false c.unique (search_left c.stage) next → Does s s number asked (Copy c) made r (as_after Copy (leads c (at_stage c) next))
   leads-does made r none next h =
-      search-does Copy c (at_stage c) false c.unique s number asked made r sound one refit refl (λ stage. refl) (λ stage. refl) (λ stage a b. refl) (λ stage v size its. its)
+      search-does Copy c (at_stage c) false c.unique s number asked made r sound one refit refl (λ stage. refl) (λ stage. refl) (λ stage a b. refl)
+          (λ stage v size its. its)
       (λ o. ap (λ (a : Call). is_effect_at a made r o) fits.of ∙ none o) next h
 
   -- where the look-up in a place leads
@@ -67,11 +68,13 @@ module _ (s : State) (number : ℕ) (asked : Call) (sound : IsSound s) (one : Ha
       (r : DirReply) → DoesBy s number asked c clock (look_turn c place tries) r
   look-does place tries clock h reply.Ok = leads-does (list c.folder place) reply.Ok (λ o. refl) (found tries place reply.Ok) (h reply.Ok)
   look-does place tries clock h reply.Exists = leads-does (list c.folder place) reply.Exists (λ o. refl) (found tries place reply.Exists) (h reply.Exists)
-  look-does place tries clock h reply.NotFound = leads-does (list c.folder place) reply.NotFound (λ o. refl) (found tries place reply.NotFound) (h reply.NotFound)
+  look-does place tries clock h reply.NotFound =
+      leads-does (list c.folder place) reply.NotFound (λ o. refl) (found tries place reply.NotFound) (h reply.NotFound)
   look-does place tries clock h reply.Fault = leads-does (list c.folder place) reply.Fault (λ o. refl) (found tries place reply.Fault) (h reply.Fault)
 
 -- the file of the name that was found is linked to the name of the copy
-module _ (s : State) (number : ℕ) (asked : Call) (sound : IsSound s) (one : HasOnePath s) (c : Copying) (clock : ℕ) (faulted : Bool) (place : Place) (row : Row) (tries : ℕ)
+module _ (s : State) (number : ℕ) (asked : Call) (sound : IsSound s) (one : HasOnePath s) (c : Copying) (clock : ℕ) (faulted : Bool) (place : Place)
+    (row : Row) (tries : ℕ)
     (fits : CopyingFits s asked (at_stage c (Act place row tries))) (sized : HasSize (mailbox_of s) c.unique row.size) where
   abbrev x : Copying
   x = at_stage c (Act place row tries)
@@ -80,23 +83,33 @@ module _ (s : State) (number : ℕ) (asked : Call) (sound : IsSound s) (one : Ha
   abbrev with_copy : After Task
   with_copy = record { task = Copy x; answer = Some answer.Copied; effect = Some (copying_effect number (target c place row.name) row.size) }
 
-  act-does : (r : DirReply) → r ≡ reply_of (dirs.link (source c place row.name) (target c place row.name)) s faulted → DoesBy s number asked x clock (link_turn number x place row tries) r
+  act-does : (r : DirReply) → r ≡ reply_of (dirs.link (source c place row.name) (target c place row.name)) s faulted →
+      DoesBy s number asked x clock (link_turn number x place row tries) r
   act-does reply.Ok replied =
       let here = there (file_at s (source c place row.name)) _ NotFound (accepted _ faulted (sym replied)) in
-      subst (λ (o : Option ℕ). Does s (dirs.named (target c place row.name) s o) number asked (Copy x) (link (source c place row.name) (target c place row.name)) reply.Ok with_copy) (sym here.1)
+      subst (λ (o : Option ℕ). Does s (dirs.named (target c place row.name) s o) number asked (Copy x)
+          (link (source c place row.name) (target c place row.name)) reply.Ok with_copy) (sym here.1)
       (link-does s number asked c place row tries here.0 sound one fits sized here.1)
   act-does reply.Exists replied = leads-does s number asked sound one x fits _ reply.Exists (λ o. refl) (Ends answer.NameTaken) (refl, some-left x.stage)
-  act-does reply.NotFound replied = leads-does s number asked sound one x fits _ reply.NotFound (λ o. refl) (after_lost tries) (leads-lost s c.unique false tries)
+  act-does reply.NotFound replied =
+      leads-does s number asked sound one x fits _ reply.NotFound (λ o. refl) (after_lost tries) (leads-lost s c.unique false tries)
   act-does reply.Fault replied = leads-does s number asked sound one x fits _ reply.Fault (λ o. refl) (Ends answer.Fault) (refl, some-left x.stage)
 
 -- What a turn of a copy does, whatever its stage.
 module _ (s : State) (number : ℕ) (asked : Call) (at : Moment) (faulted : Bool) (sound : IsSound s) (one : HasOnePath s) (c : Copying) where
-  stage-does : (stage : Stage) → CopyingFits s asked (at_stage c stage) → ((u : List ℕ) (size : ℕ) → FoundAt c.unique stage u size → HasSize (mailbox_of s) u size) →
-      DoesBy s number asked (at_stage c stage) at.clock (stage_turn number (at_stage c stage) stage) (reply_of (ask_of (stage_turn number (at_stage c stage) stage).asked at.clock) s faulted)
-  stage-does (LookNew tries) fits known = look-does s number asked sound one (at_stage c (LookNew tries)) fits New tries at.clock (leads-new s c.folder c.unique false fits.valid one tries) _
-  stage-does (LookCur tries) fits known = look-does s number asked sound one (at_stage c (LookCur tries)) fits Cur tries at.clock (leads-cur s c.folder c.unique false fits.valid one tries) _
+  stage-does : (stage : Stage) → CopyingFits s asked (at_stage c stage) →
+      ((u : List ℕ) (size : ℕ) → FoundAt c.unique stage u size → HasSize (mailbox_of s) u size) →
+      DoesBy s number asked (at_stage c stage) at.clock (stage_turn number (at_stage c stage) stage)
+      (reply_of (ask_of (stage_turn number (at_stage c stage) stage).asked at.clock) s faulted)
+  stage-does (LookNew tries) fits known =
+      look-does s number asked sound one (at_stage c (LookNew tries)) fits New tries at.clock
+      (leads-new s c.folder c.unique false fits.valid one tries) _
+  stage-does (LookCur tries) fits known =
+      look-does s number asked sound one (at_stage c (LookCur tries)) fits Cur tries at.clock
+      (leads-cur s c.folder c.unique false fits.valid one tries) _
   stage-does (Act place row tries) fits known =
-      act-does s number asked sound one c at.clock faulted place row tries fits (known c.unique row.size (refl, refl)) (reply_of (dirs.link (source c place row.name) (target c place row.name)) s faulted) refl
+      act-does s number asked sound one c at.clock faulted place row tries fits (known c.unique row.size (refl, refl))
+          (reply_of (dirs.link (source c place row.name) (target c place row.name)) s faulted) refl
 
   pub copying-does : CopyingFits s asked c → ((u : List ℕ) (size : ℕ) → FoundAt c.unique c.stage u size → HasSize (mailbox_of s) u size) →
       DoesBy s number asked c at.clock (copying_turn number c) (reply_of (ask_of (copying_turn number c).asked at.clock) s faulted)

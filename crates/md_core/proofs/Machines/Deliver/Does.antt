@@ -56,7 +56,8 @@ module _ (s s' : State) (number : ℕ) (asked : Call) (d : Delivery) (one : HasO
 
   -- the mailbox stays
   quiet-does : (stage : Stage) (o : Option Answer) → Quiet s s' d.tmp.name → (o ≡ None → StageFits s' d stage) → is_linked stage ≡ is_linked d.stage →
-      IsNoEffect o → MatchOption o (Unit {0}) (Settles (had_by number d d.stage)) → MatchOption o (stage_left d stage < delivery_left d) (λ a. 0 < delivery_left d) →
+      IsNoEffect o → MatchOption o (Unit {0}) (Settles (had_by number d d.stage)) →
+      MatchOption o (stage_left d stage < delivery_left d) (λ a. 0 < delivery_left d) →
       Does s s' number asked (Deliver d) made r (record { task = Deliver (at_stage d stage); answer = o; effect = None })
   quiet-does stage o quiet stage_fits linked none settles nearer = record {
     sound = quiet.sound;
@@ -76,12 +77,14 @@ module _ (s s' : State) (number : ℕ) (asked : Call) (d : Delivery) (one : HasO
     fixed = λ unanswered a b. refl;
   }
     where
-      settled : (o' : Option Answer) → MatchOption o' (Unit {0}) (Settles (had_by number d d.stage)) → MatchOption o' (had_by number d stage ≡ had_by number d d.stage) (Settles (had_by number d d.stage))
+      settled : (o' : Option Answer) → MatchOption o' (Unit {0}) (Settles (had_by number d d.stage)) →
+          MatchOption o' (had_by number d stage ≡ had_by number d d.stage) (Settles (had_by number d d.stage))
       settled None h = ap (λ b. cond {A = Option Effect} b (Some (delivery_effect number d)) None) linked
       settled (Some a) h = h
 
   -- it goes on at another stage
-  pub goes-on : (stage : Stage) → Quiet s s' d.tmp.name → StageFits s' d stage → is_linked stage ≡ is_linked d.stage → IsNoEffect None → stage_left d stage < delivery_left d →
+  pub goes-on : (stage : Stage) → Quiet s s' d.tmp.name → StageFits s' d stage → is_linked stage ≡ is_linked d.stage → IsNoEffect None →
+      stage_left d stage < delivery_left d →
       Does s s' number asked (Deliver d) made r (record { task = Deliver (at_stage d stage); answer = None; effect = None })
   goes-on stage quiet stage_fits linked none less = quiet-does stage None quiet (λ _. stage_fits) linked none tt less
 
@@ -111,12 +114,15 @@ module _ (s s' : State) (number : ℕ) (asked : Call) (d : Delivery) (one : HasO
   added n puts bytes = mailbox-puts s s' (target d) n one puts
       ∙ (λ i. finmap.insert (mailbox_of s) (fits.name.plain i) (record { folder = d.tmp.folder; place = New; info = fits.name.bare i; bytes = bytes i }))
 
-  renamed : (n : ℕ) → Puts s s' (target d) n → bytes_at s' n ≡ d.body → names_of (mailbox_of s') ≡ changed (names_of (mailbox_of s)) (delivery_effect number d).change
+  renamed : (n : ℕ) → Puts s s' (target d) n → bytes_at s' n ≡ d.body →
+      names_of (mailbox_of s') ≡ changed (names_of (mailbox_of s)) (delivery_effect number d).change
   renamed n puts bytes =
       ap names_of (added n puts bytes) ∙ names-insert (mailbox_of s) d.tmp.name message
-      ∙ ap (λ (u : List ℕ). finmap.insert (names_of (mailbox_of s)) u (record { folder = d.tmp.folder; place = New; name = d.tmp.name; size = length d.body })) (sym fits.name.plain)
+      ∙ ap (λ (u : List ℕ). finmap.insert (names_of (mailbox_of s)) u
+          (record { folder = d.tmp.folder; place = New; name = d.tmp.name; size = length d.body })) (sym fits.name.plain)
 
-  as_alone : (n : ℕ) → Puts s s' (target d) n → bytes_at s' n ≡ d.body → HasNoMessage s d.tmp.name → AsAlone asked (Some (delivery_effect number d)) (mailbox_of s) (mailbox_of s')
+  as_alone : (n : ℕ) → Puts s s' (target d) n → bytes_at s' n ≡ d.body → HasNoMessage s d.tmp.name →
+      AsAlone asked (Some (delivery_effect number d)) (mailbox_of s) (mailbox_of s')
   as_alone n puts bytes none =
       ap (λ (c : Call). alone c (mailbox_of s)) fits.of
       ∙ ap (delivered (mailbox_of s) d.tmp.folder d.tmp.name d.body) (no_entry none _ refl)

@@ -32,10 +32,12 @@ use Rattle.md_core.proofs.Directories.Frames.{task-stays}
 use Rattle.md_core.proofs.Directories.Calls.Remove.{remove-drops, remove-frame, remove-sound, remove-spares}
 
 -- a message's name that is trashed shows flags, with T among them
-pub shows-trashed : (name : List ℕ) → is_message_name name ≡ true → is_trashed name ≡ true → (had : Set) × (flags_of (info_of name) ≡ Some had) × (set.contains had 84 ≡ true)
+pub shows-trashed : (name : List ℕ) → is_message_name name ≡ true → is_trashed name ≡ true →
+    (had : Set) × (flags_of (info_of name) ≡ Some had) × (set.contains had 84 ≡ true)
 shows-trashed name message is = by (flags_of (info_of name)) refl (ap (λ i. has_trashed (flags_of i)) (sym (info-in name message)) ∙ is)
   where
-    by : (o : Option Set) → flags_of (info_of name) ≡ o → has_trashed o ≡ true → (had : Set) × (flags_of (info_of name) ≡ Some had) × (set.contains had 84 ≡ true)
+    by : (o : Option Set) → flags_of (info_of name) ≡ o → has_trashed o ≡ true →
+        (had : Set) × (flags_of (info_of name) ≡ Some had) × (set.contains had 84 ≡ true)
     by None shows has = cc
     by (Some had) shows has = (had, shows, has)
 
@@ -86,7 +88,8 @@ module _ (s : State) (number : ℕ) (asked : Call) (x : Expunging) (name : List 
   changes : names_of (mailbox_of s') ≡ changed (names_of (mailbox_of s)) (expunging_effect number o).change
   changes = ap names_of after ∙ names-remove (mailbox_of s) u
 
-  pub unlink-does : Does s s' number asked (Expunge y) (unlink o) reply.Ok (record { task = Expunge y; answer = Some answer.Expunged; effect = Some (expunging_effect number o) })
+  pub unlink-does : Does s s' number asked (Expunge y) (unlink o) reply.Ok
+      (record { task = Expunge y; answer = Some answer.Expunged; effect = Some (expunging_effect number o) })
   unlink-does = record {
     sound = remove-sound s o k one message at sound;
     one_path = one-drops s s' u one (remove-drops s o k one message at);

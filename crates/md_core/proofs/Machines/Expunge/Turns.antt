@@ -36,7 +36,8 @@ DoesBy s number asked x clock turn r =
     Does s (state_by (ask_of turn.asked clock) s r) number asked (Expunge x) turn.asked r ((as_task Expunge turn).follows r (rows_for turn.asked s))
 
 -- a turn at which nothing changes
-module _ (s : State) (number : ℕ) (asked : Call) (sound : IsSound s) (one : HasOnePath s) (x : Expunging) (fits : ExpungingFits s asked x) (made : Asked) (r : DirReply)
+module _ (s : State) (number : ℕ) (asked : Call) (sound : IsSound s) (one : HasOnePath s) (x : Expunging) (fits : ExpungingFits s asked x)
+    (made : Asked) (r : DirReply)
     (none : (o : Option Answer) → is_effect_at (call.Expunge x.folder x.unique fits.tries) made r o ≡ false) where
   abbrev DoesNothing : After Expunging → Type 0
   DoesNothing after = Does s s number asked (Expunge x) made r (as_after Expunge after)
@@ -46,7 +47,8 @@ module _ (s : State) (number : ℕ) (asked : Call) (sound : IsSound s) (one : Ha
 
   ends-does : (a : Answer) → is_success a ≡ false → 0 < expunging_left x → DoesNothing (ends x a)
   ends-does a failure some =
-      stays-does s number asked (Expunge x) (Expunge x) made r (Some a) sound one (λ is. cc) (no_effect (Some a)) refl refl failure some (λ is. cc) (λ v size unanswered its. absurd its)
+      stays-does s number asked (Expunge x) (Expunge x) made r (Some a) sound one (λ is. cc) (no_effect (Some a)) refl refl failure some (λ is. cc)
+          (λ v size unanswered its. absurd its)
 
   goes-does : (stage : Stage) → IsAtTrashed x.unique stage → stage_left stage < expunging_left x → DoesNothing (goes_on (at_stage x stage))
   goes-does stage h less =
@@ -104,9 +106,12 @@ module _ (s : State) (number : ℕ) (asked : Call) (clock : ℕ) (sound : IsSoun
 -- What a turn of an expunge does, whatever its stage.
 module _ (s : State) (number : ℕ) (asked : Call) (at : Moment) (faulted : Bool) (sound : IsSound s) (one : HasOnePath s) (x : Expunging) where
   stage-does : (stage : Stage) → ExpungingFits s asked (at_stage x stage) →
-      DoesBy s number asked (at_stage x stage) at.clock (stage_turn number (at_stage x stage) stage) (reply_of (ask_of (stage_turn number (at_stage x stage) stage).asked at.clock) s faulted)
+      DoesBy s number asked (at_stage x stage) at.clock (stage_turn number (at_stage x stage) stage)
+      (reply_of (ask_of (stage_turn number (at_stage x stage) stage).asked at.clock) s faulted)
   stage-does (Look tries) fits = look-does s number asked at.clock sound one x tries fits (reply_of (dirs.list x.folder Cur) s faulted)
-  stage-does (Act name tries) fits = act-does s number asked at.clock sound one x name tries fits faulted (reply_of (dirs.unlink (source x name)) s faulted) refl
+  stage-does (Act name tries) fits =
+      act-does s number asked at.clock sound one x name tries fits faulted (reply_of (dirs.unlink (source x name)) s faulted) refl
 
-  pub expunging-does : ExpungingFits s asked x → DoesBy s number asked x at.clock (expunging_turn number x) (reply_of (ask_of (expunging_turn number x).asked at.clock) s faulted)
+  pub expunging-does : ExpungingFits s asked x →
+      DoesBy s number asked x at.clock (expunging_turn number x) (reply_of (ask_of (expunging_turn number x).asked at.clock) s faulted)
   expunging-does fits = stage-does x.stage fits

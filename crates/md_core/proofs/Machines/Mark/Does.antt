@@ -60,7 +60,8 @@ list-keeps : (folder : ℕ) (u : List ℕ) (k : marks.Mark) (tries f : ℕ) (p :
 list-keeps folder u (Seen given) tries f p had s is = cc
 list-keeps folder u (Flag add remove) tries f p had s is = refl
 
-rename-acts : (folder : ℕ) (u : List ℕ) (k : marks.Mark) (tries : ℕ) (o n : Path) (a : Option Answer) → is_effect_at (call_by folder u k tries) (rename o n) reply.Ok a ≡ true
+rename-acts : (folder : ℕ) (u : List ℕ) (k : marks.Mark) (tries : ℕ) (o n : Path) (a : Option Answer) →
+    is_effect_at (call_by folder u k tries) (rename o n) reply.Ok a ≡ true
 rename-acts folder u (Seen given) tries o n a = refl
 rename-acts folder u (Flag add remove) tries o n a = refl
 
@@ -88,9 +89,11 @@ no_tmp (Flag add remove) = refl
 in_place : (p : Place) (folder : ℕ) (e : Entry) → e.folder ≡ folder → e.place ≡ p → is_in_place p folder e ≡ true
 in_place p folder e at place = and_from _ _ (eq-eqb _ _ (ap place_index place)) (eq-eqb _ _ at)
 
-module _ (box : Mailbox) (folder : ℕ) (u : List ℕ) (e : Entry) (had : Set) (at : finmap.get box u ≡ Some e) (inside : e.folder ≡ folder) (shows : flags_in e ≡ Some had) where
+module _ (box : Mailbox) (folder : ℕ) (u : List ℕ) (e : Entry) (had : Set) (at : finmap.get box u ≡ Some e) (inside : e.folder ≡ folder)
+    (shows : flags_in e ≡ Some had) where
   abbrev marked : Set → Outcome
-  marked flags = record { answer = answer.Flags flags; after = finmap.insert box u (record { folder = e.folder; place = Cur; info = info_with flags; bytes = e.bytes }) }
+  marked flags = record { answer = answer.Flags flags;
+      after = finmap.insert box u (record { folder = e.folder; place = Cur; info = info_with flags; bytes = e.bytes }) }
 
   -- a message that is renamed
   alone-marks : (k : marks.Mark) (tries : ℕ) → e.place ≡ place_by k → is_kept k had ≡ false → alone (call_by folder u k tries) box ≡ marked (wanted k had)
@@ -104,11 +107,14 @@ module _ (box : Mailbox) (folder : ℕ) (u : List ℕ) (e : Entry) (had : Set) (
       ∙ ap (λ b. flag box u add remove (cond b (Some e) None)) (in_place Cur folder e inside place)
       ∙ ap (flag_by box u add remove e) shows
       ∙ ap (λ b. cond {A = Outcome} b (refused (answer.Flags flags) box)
-      (record { answer = answer.Flags flags; after = finmap.insert box u (record { folder = e.folder; place = e.place; info = info_with flags; bytes = e.bytes }) })) changes
-      ∙ ap (λ (p : Place). record { answer = answer.Flags flags; after = finmap.insert box u (record { folder = e.folder; place = p; info = info_with flags; bytes = e.bytes }) }) place
+      (record { answer = answer.Flags flags;
+          after = finmap.insert box u (record { folder = e.folder; place = e.place; info = info_with flags; bytes = e.bytes }) })) changes
+      ∙ ap (λ (p : Place). record { answer = answer.Flags flags;
+          after = finmap.insert box u (record { folder = e.folder; place = p; info = info_with flags; bytes = e.bytes }) }) place
 
   -- a message that keeps its name
-  alone-keeps : (k : marks.Mark) (tries : ℕ) → e.place ≡ place_by k → is_kept k had ≡ true → alone (call_by folder u k tries) box ≡ refused (answer.Flags (wanted k had)) box
+  alone-keeps : (k : marks.Mark) (tries : ℕ) → e.place ≡ place_by k → is_kept k had ≡ true →
+      alone (call_by folder u k tries) box ≡ refused (answer.Flags (wanted k had)) box
   alone-keeps (Seen given) tries place is = cc
   alone-keeps (Flag add remove) tries place is =
       let flags : Set = wanted (Flag add remove) had in
@@ -116,7 +122,8 @@ module _ (box : Mailbox) (folder : ℕ) (u : List ℕ) (e : Entry) (had : Set) (
       ∙ ap (λ b. flag box u add remove (cond b (Some e) None)) (in_place Cur folder e inside place)
       ∙ ap (flag_by box u add remove e) shows
       ∙ ap (λ b. cond {A = Outcome} b (refused (answer.Flags flags) box)
-      (record { answer = answer.Flags flags; after = finmap.insert box u (record { folder = e.folder; place = e.place; info = info_with flags; bytes = e.bytes }) })) is
+      (record { answer = answer.Flags flags;
+          after = finmap.insert box u (record { folder = e.folder; place = e.place; info = info_with flags; bytes = e.bytes }) })) is
 
 -- ---- what is allowed
 
@@ -169,7 +176,8 @@ module _ (s : State) (number : ℕ) (asked : Call) (m : Marking) (sound : IsSoun
   fails made r a none failure some = still made r m.stage (Some a) fits.stage none failure some
 
   -- a message of the name is there, with these flags
-  module _ (name : List ℕ) (n : ℕ) (had : Set) (named : is_message_name name ≡ true) (unique : unique_of name ≡ m.unique) (shows : flags_of (info_of name) ≡ Some had)
+  module _ (name : List ℕ) (n : ℕ) (had : Set) (named : is_message_name name ≡ true) (unique : unique_of name ≡ m.unique)
+      (shows : flags_of (info_of name) ≡ Some had)
       (there : file_at s (source m name) ≡ Some n) where
     abbrev entry : Entry
     entry = entry_of s (source m name) n
@@ -180,7 +188,8 @@ module _ (s : State) (number : ℕ) (asked : Call) (m : Marking) (sound : IsSoun
     in_mailbox : (u : List ℕ) → unique_of name ≡ u → finmap.get (mailbox_of s) u ≡ Some entry
     in_mailbox u is = shows-mailbox s u entry one (record { path = source m name; file = n; there = there; message = message; unique = is; entry = refl })
 
-    is_listed : finmap.get (names_of (mailbox_of s)) (unique_of name) ≡ Some (record { folder = m.folder; place = place_by m.mark; name = name; size = length entry.bytes })
+    is_listed : finmap.get (names_of (mailbox_of s)) (unique_of name) ≡ Some
+        (record { folder = m.folder; place = place_by m.mark; name = name; size = length entry.bytes })
     is_listed = get-names (mailbox_of s) (unique_of name) ∙ ap (λ (o : Option Entry). option_map (listed (unique_of name)) o) (in_mailbox (unique_of name) refl)
         ∙ ap (λ (x : List ℕ). Some (record { folder = m.folder; place = place_by m.mark; name = x; size = length entry.bytes })) (whole-name name)
 
@@ -266,7 +275,9 @@ module _ (s : State) (number : ℕ) (asked : Call) (m : Marking) (sound : IsSoun
       as_alone : AsAlone asked (Some (renamed number flags (source m name) (target m flags))) (mailbox_of s) (mailbox_of s')
       as_alone = ap (λ (c : Call). alone c (mailbox_of s)) fits.of
           ∙ alone-marks (mailbox_of s) m.folder m.unique entry had (in_mailbox m.unique unique) refl shows m.mark fits.tries refl changes
-          ∙ ap (λ (x : Set). record { answer = answer.Flags x; after = finmap.insert (mailbox_of s) m.unique (record { folder = m.folder; place = Cur; info = info_with x; bytes = entry.bytes }) }) (sym wants)
+          ∙ ap (λ (x : Set). record { answer = answer.Flags x;
+              after = finmap.insert (mailbox_of s) m.unique (record { folder = m.folder; place = Cur; info = info_with x; bytes = entry.bytes }) })
+              (sym wants)
           ∙ (λ i. record { answer = answer.Flags flags; after = sym boxed i })
 
       pub gives-flags : 0 < marking_left m → Does s s' number asked (Mark m) (rename (source m name) (target m flags)) reply.Ok

@@ -59,7 +59,8 @@ module _ (s : State) (number : ℕ) (asked : Call) (at : Moment) (sound : IsSoun
           DoesLook reply.Ok (cond b (record { task = x; answer = Some (answer.Flags (wanted m.mark had)); effect = Some (kept number (wanted m.mark had)) })
           (record { task = at_stage m (Act row.name (wanted m.mark had) tries); answer = None; effect = None }))
       if_kept had shows true is = keeps-it s number asked x sound one fits row.name h.file had h.named h.unique shows h.there is (omega arith)
-      if_kept had shows false is = still s number asked x sound one fits (list m.folder (place_by m.mark)) reply.Ok (Act row.name (wanted m.mark had) tries) None
+      if_kept had shows false is =
+          still s number asked x sound one fits (list m.folder (place_by m.mark)) reply.Ok (Act row.name (wanted m.mark had) tries) None
           (record { had = had; named = h.named; unique = h.unique; shows = shows; wants = refl; changes = is })
           (list-goes m.folder m.unique m.mark fits.tries m.folder (place_by m.mark)) tt (omega arith)
 
@@ -96,13 +97,15 @@ module _ (s : State) (number : ℕ) (asked : Call) (at : Moment) (sound : IsSoun
         (rename-none m.folder m.unique m.mark fits.tries (source m name) (target m flags) r (Some a) failed) failure (omega arith)
 
     again : (b : Bool) → nat_le tries 1 ≡ b → Does s s number asked (Mark y) (rename (source m name) (target m flags)) reply.NotFound
-        (as_after (cond b (record { task = y; answer = Some answer.Lost; effect = None }) (record { task = at_stage m (Look (tries - 1)); answer = None; effect = None })))
+        (as_after (cond b (record { task = y; answer = Some answer.Lost; effect = None })
+            (record { task = at_stage m (Look (tries - 1)); answer = None; effect = None })))
     again true is = ends-act reply.NotFound answer.Lost tt refl
     again false is = still s number asked y sound one fits (rename (source m name) (target m flags)) reply.NotFound (Look (tries - 1)) None tt
         (rename-none m.folder m.unique m.mark fits.tries (source m name) (target m flags) reply.NotFound None tt) tt
         (let more : 1 < tries = grind (arith, nat_tests) in omega (arith, more))
 
-    act-does : (r : DirReply) → r ≡ reply_of (dirs.rename (source m name) (target m flags)) s faulted → DoesBy s number asked y at.clock (act_turn number y name flags tries) r
+    act-does : (r : DirReply) → r ≡ reply_of (dirs.rename (source m name) (target m flags)) s faulted →
+        DoesBy s number asked y at.clock (act_turn number y name flags tries) r
     act-does reply.Ok replied =
         let here = there (file_at s (source m name)) _ NotFound (accepted _ faulted (sym replied)) in
         let h = fits.stage in
@@ -114,7 +117,8 @@ module _ (s : State) (number : ℕ) (asked : Call) (at : Moment) (sound : IsSoun
   -- What a turn of a marking does, whatever its stage.
   module _ (faulted : Bool) where
     stage-does : (stage : Stage) → MarkingFits s asked (at_stage m stage) →
-        DoesBy s number asked (at_stage m stage) at.clock (stage_turn number (at_stage m stage) stage) (reply_of (ask_of (stage_turn number (at_stage m stage) stage).asked at.clock) s faulted)
+        DoesBy s number asked (at_stage m stage) at.clock (stage_turn number (at_stage m stage) stage)
+        (reply_of (ask_of (stage_turn number (at_stage m stage) stage).asked at.clock) s faulted)
     stage-does (Look tries) fits = look-does tries fits (reply_of (dirs.list m.folder (place_by m.mark)) s faulted)
     stage-does (Act name flags tries) fits = act-does name flags tries fits faulted (reply_of (dirs.rename (source m name) (target m flags)) s faulted) refl
 

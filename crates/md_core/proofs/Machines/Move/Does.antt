@@ -85,7 +85,8 @@ module _ (s : State) (number : ℕ) (asked : Call) (m : Moving) (place : Place) 
       ∙ ap (λ size. finmap.insert (finmap.remove (names_of (mailbox_of s)) u) u (record { folder = m.to; place = place; name = row.name; size = size }))
       (sym (size-there (mailbox_of s) s o k before))
 
-  shifted-does : Does s s' number asked (Move x) (rename o n) reply.Ok (record { task = Move x; answer = Some answer.Moved; effect = Some (moving_effect number o n) })
+  shifted-does : Does s s' number asked (Move x) (rename o n) reply.Ok
+      (record { task = Move x; answer = Some answer.Moved; effect = Some (moving_effect number o n) })
   shifted-does = record {
     sound = rename-sound s o n k one message message refl differ at fits.to_folder sound;
     one_path = one-puts s s' n k one puts;
@@ -108,6 +109,8 @@ module _ (s : State) (number : ℕ) (asked : Call) (m : Moving) (place : Place) 
     fixed = λ is a b. refl;
   }
 
-  pub rename-does : Does s (dirs.moved o n s) number asked (Move x) (rename o n) reply.Ok (record { task = Move x; answer = Some answer.Moved; effect = Some (moving_effect number o n) })
-  rename-does = subst (λ (t : State). Does s t number asked (Move x) (rename o n) reply.Ok (record { task = Move x; answer = Some answer.Moved; effect = Some (moving_effect number o n) }))
+  pub rename-does : Does s (dirs.moved o n s) number asked (Move x) (rename o n) reply.Ok
+      (record { task = Move x; answer = Some answer.Moved; effect = Some (moving_effect number o n) })
+  rename-does = subst (λ (t : State). Does s t number asked (Move x) (rename o n) reply.Ok
+      (record { task = Move x; answer = Some answer.Moved; effect = Some (moving_effect number o n) }))
       (sym (moved-is s o n k one message message refl differ at)) shifted-does

@@ -29,7 +29,8 @@ or_assoc : {X : Type 0} (a b c : Option X) → option_or a (option_or b c) ≡ o
 or_assoc None b c = refl
 or_assoc (Some x) b c = refl
 
-pub fault-append : (earlier : List Path) (xs ys : List (Path × ℕ)) → first_fault earlier (xs ++ ys) ≡ option_or (first_fault earlier xs) (first_fault (behind earlier xs) ys)
+pub fault-append : (earlier : List Path) (xs ys : List (Path × ℕ)) →
+    first_fault earlier (xs ++ ys) ≡ option_or (first_fault earlier xs) (first_fault (behind earlier xs) ys)
 fault-append earlier [] ys = refl
 fault-append earlier (x ∷ xs) ys =
     ap (option_or (fault_of earlier x.0)) (fault-append (x.0 ∷ earlier) xs ys)
@@ -41,7 +42,8 @@ or_moved true false c = refl
 or_moved false true c = refl
 or_moved false false c = refl
 
-pub any-behind : (q : Path → Bool) (earlier : List Path) (es : List (Path × ℕ)) → list_any q (behind earlier es) ≡ (list_any (λ e. q e.0) es || list_any q earlier)
+pub any-behind : (q : Path → Bool) (earlier : List Path) (es : List (Path × ℕ)) →
+    list_any q (behind earlier es) ≡ (list_any (λ e. q e.0) es || list_any q earlier)
 any-behind q earlier [] = refl
 any-behind q earlier (e ∷ es) = any-behind q (e.0 ∷ earlier) es ∙ or_moved (list_any (λ x. q x.0) es) (q e.0) (list_any q earlier)
 
@@ -50,10 +52,13 @@ or_none true = refl
 or_none false = refl
 
 -- whether a message of the same name was met
-pub same-any : (p : Path) (es : List (Path × ℕ)) → list_any (λ e. is_same_message p e.0) es ≡ (is_message p && list_any (λ e. is_message_of (unique_of p.name) e.0) es)
+pub same-any : (p : Path) (es : List (Path × ℕ)) →
+    list_any (λ e. is_same_message p e.0) es ≡ (is_message p && list_any (λ e. is_message_of (unique_of p.name) e.0) es)
 same-any p es = by (is_message p) es
   where
-    by : (b : Bool) (es : List (Path × ℕ)) → list_any (λ e. b && is_message e.0 && bytes_eq (unique_of p.name) (unique_of e.0.name)) es ≡ (b && list_any (λ e. is_message_of (unique_of p.name) e.0) es)
+    by : (b : Bool) (es : List (Path × ℕ)) →
+        list_any (λ e. b && is_message e.0 && bytes_eq (unique_of p.name) (unique_of e.0.name)) es ≡
+        (b && list_any (λ e. is_message_of (unique_of p.name) e.0) es)
     by true [] = refl
     by true (e ∷ es) = (λ i. (is_message e.0 && bytes_eq-sym (unique_of p.name) (unique_of e.0.name) i) || by true es i)
     by false [] = refl
@@ -79,18 +84,21 @@ module _ (s : State) (es : List (Path × ℕ)) (seen : Seen) (look : IsLookOf s 
 
   -- one more entry, which has no fault
   pub look-more : (e : Path × ℕ) (seen' : Seen) → fault_after seen.messages e.0 ≡ None
-      → ((u : List ℕ) → is_among u seen'.messages ≡ (is_message_of u e.0 || is_among u seen.messages)) → ((u : List ℕ) → is_among u seen'.tmp ≡ (is_tmp_of u e.0 || is_among u seen.tmp))
+      → ((u : List ℕ) → is_among u seen'.messages ≡ (is_message_of u e.0 || is_among u seen.messages)) →
+          ((u : List ℕ) → is_among u seen'.tmp ≡ (is_tmp_of u e.0 || is_among u seen.tmp))
       → seen'.clock ≡ max seen.clock (stamp_of (file_by s.files e.1)) → IsLookOf s (es ++ e ∷ []) seen'
   look-more e seen' fault messages tmp stamp = record {
     messages = λ u. one_any (λ x. is_message_of u x.0) e seen.messages seen'.messages u (look.messages u) (messages u);
     tmp = λ u. one_any (λ x. is_tmp_of u x.0) e seen.tmp seen'.tmp u (look.tmp u) (tmp u);
-    clock = stamp ∙ ap (λ c. max c (stamp_of (file_by s.files e.1))) look.clock ∙ sym (fold-append (λ c (x : Path × ℕ). max c (stamp_of (file_by s.files x.1))) 0 es (e ∷ []));
+    clock = stamp ∙ ap (λ c. max c (stamp_of (file_by s.files e.1))) look.clock ∙
+        sym (fold-append (λ c (x : Path × ℕ). max c (stamp_of (file_by s.files x.1))) 0 es (e ∷ []));
     faultless = fault-append [] es (e ∷ [])
         ∙ (λ i. option_or (look.faultless i) (option_or ((fault-same e.0 ∙ fault) i) None));
   }
 
   -- the next entry has the first fault of all
-  pub first-fault : (e : Path × ℕ) (rest : List (Path × ℕ)) (error : CoreError) → fault_after seen.messages e.0 ≡ Some error → first_fault [] (es ++ e ∷ rest) ≡ Some error
+  pub first-fault : (e : Path × ℕ) (rest : List (Path × ℕ)) (error : CoreError) → fault_after seen.messages e.0 ≡ Some error →
+      first_fault [] (es ++ e ∷ rest) ≡ Some error
   first-fault e rest error fault =
       fault-append [] es (e ∷ rest)
       ∙ (λ i. option_or (look.faultless i) (option_or ((fault-same e.0 ∙ fault) i) (first_fault (e.0 ∷ behind [] es) rest)))

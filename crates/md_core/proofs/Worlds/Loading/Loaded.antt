@@ -32,7 +32,9 @@ record IsFaultless (earlier : List Path) (p : Path) : Type 0 where
   short : is_long_unique p ≡ false
   single : list_any (is_same_message p) earlier ≡ false
 
-three : (a b c : Bool) → cond {A = Option CoreError} a (Some core.BadName) (cond b (Some core.LongUnique) (cond c (Some core.DuplicateUnique) None)) ≡ None → (a ≡ false) × (b ≡ false) × (c ≡ false)
+three : (a b c : Bool) →
+    cond {A = Option CoreError} a (Some core.BadName) (cond b (Some core.LongUnique) (cond c (Some core.DuplicateUnique) None)) ≡ None →
+    (a ≡ false) × (b ≡ false) × (c ≡ false)
 three true b c is = cc
 three false true c is = cc
 three false false true is = cc
@@ -76,7 +78,8 @@ same-turned : (p q : Path) → is_same_message p q ≡ is_same_message q p
 same-turned p q = (λ i. and_turned (is_message p) (is_message q) i && bytes_eq-sym (unique_of p.name) (unique_of q.name) i)
 
 -- two entries that are messages of one name are one
-one-entry : (earlier : List Path) (es : List (Path × ℕ)) → first_fault earlier es ≡ None → (x y : Path × ℕ) → Has es x → Has es y → is_same_message x.0 y.0 ≡ true → x ≡ y
+one-entry : (earlier : List Path) (es : List (Path × ℕ)) → first_fault earlier es ≡ None → (x y : Path × ℕ) → Has es x → Has es y →
+    is_same_message x.0 y.0 ≡ true → x ≡ y
 one-entry earlier [] none x y hx hy same = absurd hx
 one-entry earlier (e ∷ es) none x y hx hy same =
     let rest : first_fault (e.0 ∷ earlier) es ≡ None = (both_none (fault_of earlier e.0) _ none).1 in
@@ -84,13 +87,15 @@ one-entry earlier (e ∷ es) none x y hx hy same =
       | inl xe ↦ elim hy [
         | inl ye ↦ xe ∙ sym ye
         | inr later ↦
-            let no : is_same_message y.0 e.0 ≡ false = first_none _ (list_any (is_same_message y.0) earlier) (each-faultless (e.0 ∷ earlier) es rest y later).single in
+            let no : is_same_message y.0 e.0 ≡ false =
+                first_none _ (list_any (is_same_message y.0) earlier) (each-faultless (e.0 ∷ earlier) es rest y later).single in
             let yes : is_same_message y.0 e.0 ≡ true = ap (λ (z : Path × ℕ). is_same_message y.0 z.0) (sym xe) ∙ same-turned y.0 x.0 ∙ same in
             cc
       ]
       | inr later ↦ elim hy [
         | inl ye ↦
-            let no : is_same_message x.0 e.0 ≡ false = first_none _ (list_any (is_same_message x.0) earlier) (each-faultless (e.0 ∷ earlier) es rest x later).single in
+            let no : is_same_message x.0 e.0 ≡ false =
+                first_none _ (list_any (is_same_message x.0) earlier) (each-faultless (e.0 ∷ earlier) es rest x later).single in
             let yes : is_same_message x.0 e.0 ≡ true = ap (λ (z : Path × ℕ). is_same_message x.0 z.0) (sym ye) ∙ same in
             cc
         | inr later' ↦ one-entry (e.0 ∷ earlier) es rest x y later later' same
@@ -119,7 +124,8 @@ module _ (s : State) (accepted : load_refusal s ≡ None) where
   -- the unique part of a message has at most 200 bytes
   pub loaded-short : (p : Path) (n : ℕ) → file_at s p ≡ Some n → is_message p ≡ true → length (unique_of p.name) ≤ 200
   loaded-short p n there message =
-      let is : nat_lt 200 (length (unique_of p.name)) ≡ false = ap (λ b. b && nat_lt 200 (length (unique_of p.name))) (sym message) ∙ (faultless p n there).short in
+      let is : nat_lt 200 (length (unique_of p.name)) ≡ false = ap (λ b. b && nat_lt 200 (length (unique_of p.name))) (sym message) ∙
+          (faultless p n there).short in
       grind (arith, nat_tests)
 
 -- ---- names that are used
@@ -161,7 +167,8 @@ none-has q (e ∷ es) x none has = elim has [
 key-used : (u : List ℕ) (p : Path) → is_unique_name u ≡ true → key_of p ≡ u → uses u p ≡ true
 key-used u p unique = by (is_tmp p.place)
   where
-    by : (b : Bool) → cond b p.name (unique_of p.name) ≡ u → cond b (bytes_eq p.name u) ((not b && is_message_name p.name) && bytes_eq (unique_of p.name) u) ≡ true
+    by : (b : Bool) → cond b p.name (unique_of p.name) ≡ u →
+        cond b (bytes_eq p.name u) ((not b && is_message_name p.name) && bytes_eq (unique_of p.name) u) ≡ true
     by true is = (bytes_eq-Decides p.name u).1 is
     by false is = (λ i. unique-message p.name (ap is_unique_name is ∙ unique) i && (bytes_eq-Decides (unique_of p.name) u).1 is i)
 
@@ -182,7 +189,8 @@ from_on : (s : State) (clock : ℕ) (es : List (Path × ℕ)) → clock ≤ fold
 from_on s clock [] = omega arith
 from_on s clock (e ∷ es) = omega (arith, from_on s (max clock (stamp_of (file_by s.files e.1))) es)
 
-each_stamp : (s : State) (clock : ℕ) (es : List (Path × ℕ)) (x : Path × ℕ) → Has es x → stamp_of (file_by s.files x.1) ≤ fold (λ c e. max c (stamp_of (file_by s.files e.1))) clock es
+each_stamp : (s : State) (clock : ℕ) (es : List (Path × ℕ)) (x : Path × ℕ) → Has es x →
+    stamp_of (file_by s.files x.1) ≤ fold (λ c e. max c (stamp_of (file_by s.files e.1))) clock es
 each_stamp s clock [] x has = absurd has
 each_stamp s clock (e ∷ es) x has = elim has [
   | inl is ↦

@@ -43,7 +43,8 @@ pub none_filter : {X : Type 0} (es : List X) → filter (λ _. false) es ≡ []
 none_filter [] = refl
 none_filter (e ∷ es) = none_filter es
 
-module _ (before here : Path → Bool) (late : (x y : Path) → path_cmp x y ≡ Less → here x ≡ true → before y ≡ false) (apart : (x : Path) → here x ≡ true → before x ≡ false) where
+module _ (before here : Path → Bool) (late : (x y : Path) → path_cmp x y ≡ Less → here x ≡ true → before y ≡ false) (apart : (x : Path) →
+    here x ≡ true → before x ≡ false) where
   -- behind what is here nothing comes before
   none_before : (x : Path) → here x ≡ true → (es : List (Path × ℕ)) → T (below_all path_cmp x es) → filter (λ e. before e.0) es ≡ []
   none_before x h [] below = refl
@@ -51,7 +52,8 @@ module _ (before here : Path → Bool) (late : (x y : Path) → path_cmp x y ≡
       ap (λ b. cond b (e ∷ filter (λ y. before y.0) es) (filter (λ y. before y.0) es)) (late x e.0 (less _ (first _ _ below)) h)
       ∙ none_before x h es (second _ _ below)
 
-  pub cut : (es : List (Path × ℕ)) → T (is_sorted path_cmp es) → filter (λ e. before e.0 || here e.0) es ≡ filter (λ e. before e.0) es ++ filter (λ e. here e.0) es
+  pub cut : (es : List (Path × ℕ)) → T (is_sorted path_cmp es) →
+      filter (λ e. before e.0 || here e.0) es ≡ filter (λ e. before e.0) es ++ filter (λ e. here e.0) es
   cut [] sorted = refl
   cut (e ∷ es) sorted = by (before e.0) (here e.0) refl refl (cut es (second _ _ sorted))
     where
@@ -151,7 +153,8 @@ module _ (s : State) where
 
   pub before-all : IsSound s → entries_before s s.folders 0 ≡ all
   before-all sound =
-      same_filter _ _ all (λ e has. below_folders e.0.folder (place_index e.0.place) s.folders (sound.housed e.0 e.1 (has-get path_total path_exact s.names e has)))
+      same_filter _ _ all (λ e has. below_folders e.0.folder (place_index e.0.place) s.folders
+          (sound.housed e.0 e.1 (has-get path_total path_exact s.names e has)))
       ∙ all_filter all
 
   -- the entries before a directory come first
@@ -159,4 +162,5 @@ module _ (s : State) where
   before-first f i =
       sym (all_filter all)
       ∙ same_filter _ _ all (λ e _. either (is_before f i e.0))
-      ∙ cut (is_before f i) (λ x. not (is_before f i x)) (λ x y less here. late f i x y less (turned _ here)) (λ x here. turned _ here) all (entries_sorted s.names)
+      ∙ cut (is_before f i) (λ x. not (is_before f i x)) (λ x y less here. late f i x y less (turned _ here)) (λ x here. turned _ here) all
+          (entries_sorted s.names)

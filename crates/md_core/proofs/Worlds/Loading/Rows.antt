@@ -69,7 +69,8 @@ passes : {X : Type 0} (q : X → Bool) (xs : List X) (at : ℕ) (x : X) → slic
 passes q [] at x is = cc
 passes q (y ∷ xs) at x is = by (passes q xs) (q y) refl at is
   where
-    by : ((at : ℕ) (x : _) → slice_get (filter q xs) at ≡ Some x → q x ≡ true) → (b : Bool) → q y ≡ b → (at : ℕ) → slice_get (cond b (y ∷ filter q xs) (filter q xs)) at ≡ Some x → q x ≡ true
+    by : ((at : ℕ) (x : _) → slice_get (filter q xs) at ≡ Some x → q x ≡ true) → (b : Bool) → q y ≡ b → (at : ℕ) →
+        slice_get (cond b (y ∷ filter q xs) (filter q xs)) at ≡ Some x → q x ≡ true
     by rest true h zero is = let same : y ≡ x = cc in ap q (sym same) ∙ h
     by rest true h (suc at) is = rest at x is
     by rest false h at is = rest at x is
@@ -96,7 +97,8 @@ module _ (s : State) (f : ℕ) (p : Place) where
   entries_until at = entries_before s f (place_index p) ++ take at (entries_in s f p)
 
   pub until-more : (at : ℕ) (e : Path × ℕ) → slice_get (entries_in s f p) at ≡ Some e → entries_until (at + 1) ≡ entries_until at ++ e ∷ []
-  until-more at e is = ap (λ xs. entries_before s f (place_index p) ++ xs) (take-one_more (entries_in s f p) at e is) ∙ sym (append_assoc (entries_before s f (place_index p)) (take at (entries_in s f p)) (e ∷ []))
+  until-more at e is = ap (λ xs. entries_before s f (place_index p) ++ xs) (take-one_more (entries_in s f p) at e is) ∙
+      sym (append_assoc (entries_before s f (place_index p)) (take at (entries_in s f p)) (e ∷ []))
 
   all_taken : {X : Type 0} (xs : List X) (at : ℕ) → slice_get xs at ≡ None → take at xs ≡ xs
   all_taken [] zero past = refl
@@ -111,7 +113,8 @@ module _ (s : State) (f : ℕ) (p : Place) where
   -- behind the last row of a directory are those of the next
   pub until-all : (at : ℕ) → slice_get (rows_of s f p) at ≡ None → entries_until at ≡ entries_before s f (place_index p + 1)
   until-all at past =
-      ap (λ xs. entries_before s f (place_index p) ++ xs) (all_taken (entries_in s f p) at (no_more (row_of s.files) _ (sym (get-map (row_of s.files) (entries_in s f p) at) ∙ past)))
+      ap (λ xs. entries_before s f (place_index p) ++ xs)
+          (all_taken (entries_in s f p) at (no_more (row_of s.files) _ (sym (get-map (row_of s.files) (entries_in s f p) at) ∙ past)))
       ∙ sym (before-more s f p)
 
   module _ (at : ℕ) (r : Row) (seen : Seen) (look : IsLookOf s (entries_until at) seen) (is : slice_get (rows_of s f p) at ≡ Some r) where
@@ -120,7 +123,8 @@ module _ (s : State) (f : ℕ) (p : Place) where
 
     -- one more row, which has no fault
     pub until-row : (seen' : Seen) → fault_after seen.messages (path_of 0 p r.name) ≡ None
-        → ((u : List ℕ) → is_among u seen'.messages ≡ (is_message_of u (path_of 0 p r.name) || is_among u seen.messages)) → ((u : List ℕ) → is_among u seen'.tmp ≡ (is_tmp_of u (path_of 0 p r.name) || is_among u seen.tmp))
+        → ((u : List ℕ) → is_among u seen'.messages ≡ (is_message_of u (path_of 0 p r.name) || is_among u seen.messages)) →
+            ((u : List ℕ) → is_among u seen'.tmp ≡ (is_tmp_of u (path_of 0 p r.name) || is_among u seen.tmp))
         → seen'.clock ≡ max seen.clock r.stamp → IsLookOf s (entries_until (at + 1)) seen'
     unfolding row
     until-row seen' fault messages tmp stamp =
@@ -141,6 +145,7 @@ module _ (s : State) (f : ℕ) (p : Place) where
         let rest = drop (at + 1) (entries_in s f p) ++ others in
         let cut : entries s.names ≡ entries_until at ++ e ∷ rest =
         before-first s f (place_index p + 1) ∙ ap (λ xs. xs ++ others) (before-more s f p)
-        ∙ ap (λ xs. (entries_before s f (place_index p) ++ xs) ++ others) (sym (take-append-drop (at + 1) (entries_in s f p)) ∙ ap (λ xs. xs ++ drop (at + 1) (entries_in s f p)) (take-one_more (entries_in s f p) at e row.there))
+        ∙ ap (λ xs. (entries_before s f (place_index p) ++ xs) ++ others) (sym (take-append-drop (at + 1) (entries_in s f p)) ∙
+            ap (λ xs. xs ++ drop (at + 1) (entries_in s f p)) (take-one_more (entries_in s f p) at e row.there))
         ∙ simp append_assoc in
         ap (first_fault []) cut ∙ first-fault s (entries_until at) seen look e rest error (ap (fault_after seen.messages) row.path ∙ fault)

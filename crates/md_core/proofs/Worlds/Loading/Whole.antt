@@ -21,7 +21,8 @@ look-none s seen no_message no_tmp none =
     subst (λ es. IsLookOf s es seen) (sym (before-none s))
     (record { messages = λ u. ap (is_among u) no_message; tmp = λ u. ap (is_among u) no_tmp; clock = none; faultless = refl })
 
-either_use : (u : List ℕ) (es : List (Path × ℕ)) → (list_any (λ e. is_message_of u e.0) es || list_any (λ e. is_tmp_of u e.0) es) ≡ list_any (λ e. uses u e.0) es
+either_use : (u : List ℕ) (es : List (Path × ℕ)) →
+    (list_any (λ e. is_message_of u e.0) es || list_any (λ e. is_tmp_of u e.0) es) ≡ list_any (λ e. uses u e.0) es
 either_use u [] = refl
 either_use u (e ∷ es) =
     joined (is_message_of u e.0) (list_any (λ x. is_message_of u x.0) es) (is_tmp_of u e.0) (list_any (λ x. is_tmp_of u x.0) es)
@@ -38,10 +39,12 @@ either_use u (e ∷ es) =
         (λ i. ((not (is i) && is_message_name p.name) && bytes_eq (unique_of p.name) u) || (is i && bytes_eq p.name u))
         ∙ by b ∙ (λ i. cond (sym is i) (bytes_eq p.name u) ((not (sym is i) && is_message_name p.name) && bytes_eq (unique_of p.name) u))
       where
-        by : (b : Bool) → (((not b && is_message_name p.name) && bytes_eq (unique_of p.name) u) || (b && bytes_eq p.name u)) ≡ cond b (bytes_eq p.name u) ((not b && is_message_name p.name) && bytes_eq (unique_of p.name) u)
+        by : (b : Bool) → (((not b && is_message_name p.name) && bytes_eq (unique_of p.name) u) || (b && bytes_eq p.name u)) ≡ cond b
+            (bytes_eq p.name u) ((not b && is_message_name p.name) && bytes_eq (unique_of p.name) u)
         by true = refl
         by false = or_none _
 
 -- the names that were seen are those that are used up
-pub used-all : (s : State) (es : List (Path × ℕ)) (seen : Seen) → IsLookOf s es seen → (u : List ℕ) → is_among u (seen.messages ++ seen.tmp) ≡ list_any (λ e. uses u e.0) es
+pub used-all : (s : State) (es : List (Path × ℕ)) (seen : Seen) → IsLookOf s es seen → (u : List ℕ) →
+    is_among u (seen.messages ++ seen.tmp) ≡ list_any (λ e. uses u e.0) es
 used-all s es seen look u = list_any-append _ seen.messages seen.tmp ∙ (λ i. look.messages u i || look.tmp u i) ∙ either_use u es

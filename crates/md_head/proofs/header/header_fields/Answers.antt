@@ -26,14 +26,17 @@ after_field : (c : goal.After-keep_first) (name : List ℕ) (found kept : Option
     → Knows c.args.message.now c.loop-left.left.now name found → Knows c.args.message.now c.split_at.result.1.now name kept
 after_field c name found kept is k =
     rw is
-    (knows_field c.args.message.now c.loop-left.left.now c.split_at.result.1.now name c.in-Some.name.now c.group_end.result found (record { folded = c.in-Some.folded })
-    (λ over. false≢true (c.loop-left-test.ensures.1 over)) c.group_end.ensures c.split_at.ensures.back (c.in-Some.ensures ∙ ap field_of c.split_at.ensures.front) k)
+    (knows_field c.args.message.now c.loop-left.left.now c.split_at.result.1.now name c.in-Some.name.now c.group_end.result found
+        (record { folded = c.in-Some.folded })
+    (λ over. false≢true (c.loop-left-test.ensures.1 over)) c.group_end.ensures c.split_at.ensures.back (c.in-Some.ensures ∙
+        ap field_of c.split_at.ensures.front) k)
 
 pub loop-left-preserved-in-Some : goal.loop-left-preserved-in-Some
 loop-left-preserved-in-Some c = record {
   subject = after_field c (codes "subject") c.loop-left.fields.subject c.keep_first.new.self.subject c.keep_first.ensures.subject c.loop-left.invariant.subject;
   from = after_field c (codes "from") c.loop-left.fields.from c.keep_first.new.self.from c.keep_first.ensures.from c.loop-left.invariant.from;
-  message_id = after_field c (codes "message-id") c.loop-left.fields.message_id c.keep_first.new.self.message_id c.keep_first.ensures.message_id c.loop-left.invariant.message_id;
+  message_id = after_field c (codes "message-id") c.loop-left.fields.message_id c.keep_first.new.self.message_id c.keep_first.ensures.message_id
+      c.loop-left.invariant.message_id;
   date = after_field c (codes "date") c.loop-left.fields.date c.keep_first.new.self.date c.keep_first.ensures.date c.loop-left.invariant.date;
 }
 
@@ -42,7 +45,8 @@ after_other : (c : goal.In_default) (name : List ℕ) (found : Option FieldBody)
     → Knows c.args.message.now c.split_at.result.1.now name found
 after_other c name found k =
     knows_other c.args.message.now c.loop-left.left.now c.split_at.result.1.now name c.group_end.result found
-    (λ over. false≢true (c.loop-left-test.ensures.1 over)) c.group_end.ensures c.split_at.ensures.back (c.in_default.ensures ∙ ap field_of c.split_at.ensures.front) k
+    (λ over. false≢true (c.loop-left-test.ensures.1 over)) c.group_end.ensures c.split_at.ensures.back (c.in_default.ensures ∙
+        ap field_of c.split_at.ensures.front) k
 
 pub loop-left-preserved : goal.loop-left-preserved
 loop-left-preserved c = record {
@@ -53,13 +57,21 @@ loop-left-preserved c = record {
 }
 
 pub returns-clause-subject : goal.returns-clause-subject
-returns-clause-subject c = knows_all c.args.message.now c.loop-left.left.now (codes "subject") c.loop-left.fields.subject (c.loop-left-test.ensures.0 refl) c.loop-left.invariant.subject
+returns-clause-subject c =
+    knows_all c.args.message.now c.loop-left.left.now (codes "subject") c.loop-left.fields.subject
+    (c.loop-left-test.ensures.0 refl) c.loop-left.invariant.subject
 
 pub returns-clause-from : goal.returns-clause-from
-returns-clause-from c = knows_all c.args.message.now c.loop-left.left.now (codes "from") c.loop-left.fields.from (c.loop-left-test.ensures.0 refl) c.loop-left.invariant.from
+returns-clause-from c =
+    knows_all c.args.message.now c.loop-left.left.now (codes "from") c.loop-left.fields.from
+    (c.loop-left-test.ensures.0 refl) c.loop-left.invariant.from
 
 pub returns-clause-message_id : goal.returns-clause-message_id
-returns-clause-message_id c = knows_all c.args.message.now c.loop-left.left.now (codes "message-id") c.loop-left.fields.message_id (c.loop-left-test.ensures.0 refl) c.loop-left.invariant.message_id
+returns-clause-message_id c =
+    knows_all c.args.message.now c.loop-left.left.now (codes "message-id") c.loop-left.fields.message_id
+    (c.loop-left-test.ensures.0 refl) c.loop-left.invariant.message_id
 
 pub returns-clause-date : goal.returns-clause-date
-returns-clause-date c = knows_all c.args.message.now c.loop-left.left.now (codes "date") c.loop-left.fields.date (c.loop-left-test.ensures.0 refl) c.loop-left.invariant.date
+returns-clause-date c =
+    knows_all c.args.message.now c.loop-left.left.now (codes "date") c.loop-left.fields.date
+    (c.loop-left-test.ensures.0 refl) c.loop-left.invariant.date

@@ -4,13 +4,16 @@ use Rattle.md_head.proofs.Sections.{over_at_end, over_at_feed, over_at_return, g
 use Rattle.md_head.proofs.line.ends_section.Goals as goal
 
 pub returns-in_default : goal.returns-in_default
-returns-in_default c = (λ no. absurd (false≢true no), λ over. absurd (goes_on c.args.text.now (omega arith) (λ feed. omega arith) (λ cr long feed. omega arith) over))
+returns-in_default c =
+    (λ no. absurd (false≢true no), λ over. absurd (goes_on c.args.text.now (omega arith) (λ feed. omega arith) (λ cr long feed. omega arith) over))
 
 pub returns-in_default-2 : goal.returns-in_default-2
-returns-in_default-2 c = (λ no. absurd (false≢true no), λ over. absurd (goes_on c.args.text.now (omega arith) (λ feed. omega arith) (λ cr long feed. omega arith) over))
+returns-in_default-2 c =
+    (λ no. absurd (false≢true no), λ over. absurd (goes_on c.args.text.now (omega arith) (λ feed. omega arith) (λ cr long feed. omega arith) over))
 
 pub returns-in_default-3 : goal.returns-in_default-3
-returns-in_default-3 c = (λ no. absurd (false≢true no), λ over. absurd (goes_on c.args.text.now (omega arith) (λ feed. omega arith) (λ cr long feed. omega arith) over))
+returns-in_default-3 c =
+    (λ no. absurd (false≢true no), λ over. absurd (goes_on c.args.text.now (omega arith) (λ feed. omega arith) (λ cr long feed. omega arith) over))
 
 pub returns-in-empty : goal.returns-in-empty
 returns-in-empty c = (λ _. over_at_end c.args.text.now (omega arith), λ _. refl)

@@ -8,7 +8,8 @@ pub returns-in-Some-clause-unique : goal.returns-in-Some-clause-unique
 returns-in-Some-clause-unique c = unique_of-found c.args.name.now c.in-Some.at (sym c.first_colon.ensures.found ∙ c.in-Some.is)
 
 pub returns-in-Some-clause-info : goal.returns-in-Some-clause-info
-returns-in-Some-clause-info c = c.read_info.ensures ∙ ap (λ t. info_by (Some t)) (take_rest c.args.name.now (c.in-Some.at + 1)) ∙ info_of-found c.args.name.now c.in-Some.at (sym c.first_colon.ensures.found ∙ c.in-Some.is)
+returns-in-Some-clause-info c = c.read_info.ensures ∙ ap (λ t. info_by (Some t)) (take_rest c.args.name.now (c.in-Some.at + 1)) ∙
+    info_of-found c.args.name.now c.in-Some.at (sym c.first_colon.ensures.found ∙ c.in-Some.is)
 
 pub returns-in-None-clause-unique : goal.returns-in-None-clause-unique
 returns-in-None-clause-unique c = unique_of-not_found c.args.name.now (sym c.first_colon.ensures.found ∙ c.in-None.is)

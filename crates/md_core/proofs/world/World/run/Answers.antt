@@ -11,6 +11,7 @@ loop-at-preserved g c =
     let i = c.loop-at.at in
     let none : Event = record { job = 0; now = 0; own = None } in
     record {
-      taken = takes-more es i c.args.self.now c.loop-at.self c.step.new.self (get_or es i none) (is_fault c.in_default.field-0.reply) (slice_get-get_or es i none (omega arith)) c.loop-at.invariant.taken c.in_default.ensures.event;
+      taken = takes-more es i c.args.self.now c.loop-at.self c.step.new.self (get_or es i none) (is_fault c.in_default.field-0.reply)
+          (slice_get-get_or es i none (omega arith)) c.loop-at.invariant.taken c.in_default.ensures.event;
       theorem = c.in_default.ensures.theorem;
     }

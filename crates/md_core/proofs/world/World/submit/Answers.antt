@@ -13,9 +13,11 @@ invariant_of-self-2 g c =
     let s = c.self.inside in
     let first = device (g.D.Dirs.state s.image.value) (g.D.Dirs.failures s.image.value) (g.D.Dirs.calls s.image.value) in
     let held = device (g.D.Dirs.state s.dirs) (g.D.Dirs.failures s.dirs) (g.D.Dirs.calls s.dirs) in
-    let goes : submit_refusal (run_of first s.jobs.items s.log.events.items s.log.marks.items) c.args.call ≡ None = ap (λ (r : Run). submit_refusal r c.args.call) c.self.view_is ∙ sym c.in_default.ensures in
+    let goes : submit_refusal (run_of first s.jobs.items s.log.events.items s.log.marks.items) c.args.call ≡ None =
+        ap (λ (r : Run). submit_refusal r c.args.call) c.self.view_is ∙ sym c.in_default.ensures in
     rw (c.push_reserved.ensures.items, c.new.ensures, c.prepare.ensures.jobs)
-    (submit-world first s.jobs.items s.log.events.items s.log.marks.items held s.clock s.log.effects.items s.used c.args.call c.self.invariant goes c.prepare.new.used c.in-Ok.ensures.used)
+    (submit-world first s.jobs.items s.log.events.items s.log.marks.items held s.clock s.log.effects.items s.used c.args.call c.self.invariant goes
+        c.prepare.new.used c.in-Ok.ensures.used)
 
 pub returns-clause-theorem : goal.returns-clause-theorem
 returns-clause-theorem g c = interleaves each-turn _ (invariant_of-self-2 g c).run
@@ -26,8 +28,10 @@ returns-clause-effects g c =
     let s = c.self.inside in
     let first = device (g.D.Dirs.state s.image.value) (g.D.Dirs.failures s.image.value) (g.D.Dirs.calls s.image.value) in
     let held = device (g.D.Dirs.state s.dirs) (g.D.Dirs.failures s.dirs) (g.D.Dirs.calls s.dirs) in
-    let goes : submit_refusal (run_of first s.jobs.items s.log.events.items s.log.marks.items) c.args.call ≡ None = ap (λ (r : Run). submit_refusal r c.args.call) c.self.view_is ∙ sym c.in_default.ensures in
+    let goes : submit_refusal (run_of first s.jobs.items s.log.events.items s.log.marks.items) c.args.call ≡ None =
+        ap (λ (r : Run). submit_refusal r c.args.call) c.self.view_is ∙ sym c.in_default.ensures in
     rw (c.push_reserved.ensures.items, c.new.ensures, c.prepare.ensures.jobs)
     (ap effects_of (run-submitted first s.jobs.items s.log.events.items s.log.marks.items held s.clock s.log.effects.items s.used c.args.call)
-    ∙ effects-submitted first s.jobs.items s.log.events.items s.log.marks.items held s.clock s.log.effects.items s.used c.args.call c.self.invariant goes c.prepare.new.used c.in-Ok.ensures.used
+    ∙ effects-submitted first s.jobs.items s.log.events.items s.log.marks.items held s.clock s.log.effects.items s.used c.args.call c.self.invariant
+        goes c.prepare.new.used c.in-Ok.ensures.used
     ∙ ap effects_of c.self.view_is)

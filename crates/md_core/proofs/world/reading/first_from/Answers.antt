@@ -8,6 +8,7 @@ loop-low-preserved-then-is_row_below g c =
     let middle = c.loop-low.low + (c.loop-low.high - c.loop-low.low) / 2 in
     record {
       ordered = omega arith;
-      before = λ k within. below-before s c.args.folder c.args.place c.args.unique.now k middle (omega arith) (sym c.is_row_below.ensures.below ∙ c.if-is_row_below.true);
+      before = λ k within. below-before s c.args.folder c.args.place c.args.unique.now k middle (omega arith) (sym c.is_row_below.ensures.below ∙
+          c.if-is_row_below.true);
       here = c.loop-low.invariant.here;
     }

@@ -15,11 +15,13 @@ pub returns-in-Some : goal.returns-in-Some
 returns-in-Some g c = mailbox-has (g.D.Dirs.state c.args.dirs.now) c.args.unique.now c.in-Some.bytes.now c.requires c.in-Some.ensures.found
 
 pub returns-in-Some-bytes_in : goal.returns-in-Some-bytes_in
-returns-in-Some-bytes_in g c = mailbox-has (g.D.Dirs.state c.args.dirs.now) c.args.unique.now c.in-Some-bytes_in.bytes.now c.requires c.in-Some-bytes_in.ensures.found
+returns-in-Some-bytes_in g c =
+    mailbox-has (g.D.Dirs.state c.args.dirs.now) c.args.unique.now c.in-Some-bytes_in.bytes.now c.requires c.in-Some-bytes_in.ensures.found
 
 pub loop-folder-preserved : goal.loop-folder-preserved
 loop-folder-preserved g c =
-    none-below-more (g.D.Dirs.state c.args.dirs.now) c.args.unique.now c.loop-folder.folder c.loop-folder.invariant c.in_default.ensures.absent c.in_default-bytes_in.ensures.absent
+    none-below-more (g.D.Dirs.state c.args.dirs.now) c.args.unique.now c.loop-folder.folder c.loop-folder.invariant c.in_default.ensures.absent
+        c.in_default-bytes_in.ensures.absent
 
 pub returns : goal.returns
 returns g c =

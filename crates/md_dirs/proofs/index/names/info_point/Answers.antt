@@ -19,7 +19,8 @@ loop-low-preserved-then-is_below c =
     record {
       ordered = omega arith;
       within = c.loop-low.invariant.within;
-      before = λ k below. let up : zone u (name_at rows k) ≤ zone u (name_at rows middle) = zone-sorted u rows k middle (holds _ c.requires) (omega arith) within in omega arith;
+      before = λ k below. let up : zone u (name_at rows k) ≤ zone u (name_at rows middle) =
+          zone-sorted u rows k middle (holds _ c.requires) (omega arith) within in omega arith;
       behind = c.loop-low.invariant.behind;
     }
 
@@ -34,5 +35,6 @@ loop-low-preserved c =
       ordered = omega arith;
       within = omega (arith, c.loop-low.invariant.within);
       before = c.loop-low.invariant.before;
-      behind = λ k from within. let up : zone u (name_at rows middle) ≤ zone u (name_at rows k) = zone-sorted u rows middle k (holds _ c.requires) from within in omega arith;
+      behind = λ k from within. let up : zone u (name_at rows middle) ≤ zone u (name_at rows k) =
+          zone-sorted u rows middle k (holds _ c.requires) from within in omega arith;
     }

@@ -13,5 +13,6 @@ loop-letter-preserved c = record {
       ∙ ap (λ b. b && is_letter (get_or c.args.letters.now c.loop-letter.letter-index 0)) c.loop-letter.invariant.letters ∙ sym c.if-not-is_letter.ensures;
   same =
       c.with_letter-flags.ensures ∙ ap (λ s. set.insert s (get_or c.args.letters.now c.loop-letter.letter-index 0)) c.loop-letter.invariant.same
-      ∙ sym (ap set.from_list (take_more c.args.letters.now c.loop-letter.letter-index 0 c.loop-letter-test.true) ∙ set.from_list_push nat_cmp_total set.nat_cmp-IsAntisymmetric _ _);
+      ∙ sym (ap set.from_list (take_more c.args.letters.now c.loop-letter.letter-index 0 c.loop-letter-test.true) ∙
+          set.from_list_push nat_cmp_total set.nat_cmp-IsAntisymmetric _ _);
 }

@@ -5,10 +5,13 @@ use Rattle.md_script.proofs.store.acts.step.Goals as goal
 
 pub returns : goal.returns
 returns g c = record {
-  step = (_, stepped-ok _ _ c.args.event _ _ c.in-Ok.ensures.refused c.in-Ok.ensures.event c.in-Ok.ensures.shows (sym (g.met.D.Storage.never_fails c.counts.ensures.0) ∙ c.counts.ensures.2), c.in_ok-push_step.ensures);
+  step = (_, stepped-ok _ _ c.args.event _ _ c.in-Ok.ensures.refused c.in-Ok.ensures.event c.in-Ok.ensures.shows
+      (sym (g.met.D.Storage.never_fails c.counts.ensures.0) ∙ c.counts.ensures.2), c.in_ok-push_step.ensures);
   waits = waits-event _ _ _ c.interleaves.ensures.run c.in-Ok.ensures.event;
   nearer = c.in-Ok.ensures.nearer;
 }
 
 pub returns-in-Err-clause-step : goal.returns-in-Err-clause-step
-returns-in-Err-clause-step g c = stepped-refused c.args.world.now c.args.event c.step.new.self c.args.out.now.items c.in-Err.error c.from.result c.in-Err.ensures.refused c.from.ensures
+returns-in-Err-clause-step g c =
+    stepped-refused c.args.world.now c.args.event c.step.new.self c.args.out.now.items c.in-Err.error c.from.result c.in-Err.ensures.refused
+    c.from.ensures

@@ -7,4 +7,5 @@ use Rattle.md_store.proofs.Good.{reading-in_order}
 use Rattle.md_store.proofs.pass.Pass.first.Goals as goal
 
 pub new-requires : goal.new-requires
-new-requires g c = subst (λ (es : List Entry). IsInOrder es) (sym c.in_ok-entries.ensures.entries) (reading-in_order (led g.J.Naming.opening c.read.new.self).names c.args.folder New)
+new-requires g c = subst (λ (es : List Entry). IsInOrder es) (sym c.in_ok-entries.ensures.entries)
+    (reading-in_order (led g.J.Naming.opening c.read.new.self).names c.args.folder New)

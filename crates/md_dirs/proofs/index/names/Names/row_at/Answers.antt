@@ -4,7 +4,9 @@ use Rattle.md_dirs.proofs.NameRows.{row-at}
 use Rattle.md_dirs.proofs.index.names.Names.row_at.Goals as goal
 
 pub returns-in_err-name-clause-row : goal.returns-in_err-name-clause-row
-returns-in_err-name-clause-row c = rw (c.from_residual.ensures, ← c.self.view_is) (row-at c.self.inside.rows.entries c.args.at None c.self.invariant (sym c.in_err-name.ensures.entry))
+returns-in_err-name-clause-row c =
+    rw (c.from_residual.ensures, ← c.self.view_is)
+    (row-at c.self.inside.rows.entries c.args.at None c.self.invariant (sym c.in_err-name.ensures.entry))
 
 pub returns-clause-row : goal.returns-clause-row
 returns-clause-row c = rw (c.as_slice.ensures.value, ← c.self.view_is)

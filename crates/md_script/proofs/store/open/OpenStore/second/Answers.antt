@@ -4,11 +4,14 @@ use Rattle.md_script.proofs.Kept.{found, begun-others, not-kept, second-read}
 use Rattle.md_script.proofs.store.open.OpenStore.second.Goals as goal
 
 pub returns-in_default : goal.returns-in_default
-returns-in_default g c = λ some. (not-kept c.args.self.now c.args.folder c.self.inside.world c.self.inside.kept.items c.self.view_is (sym (rw c.deref.ensures.value at c.in_default.ensures)), refl)
+returns-in_default g c =
+    λ some. (not-kept c.args.self.now c.args.folder c.self.inside.world c.self.inside.kept.items c.self.view_is
+    (sym (rw c.deref.ensures.value at c.in_default.ensures)), refl)
 
 pub finish-requires : goal.finish-requires
 finish-requires g c =
-    (found (HasBegun c.self.inside.world) (λ l. l.folder == c.args.folder) c.self.inside.kept.items c.in-Some.listing.now c.self.invariant (sym (rw c.deref.ensures.value at c.in-Some.ensures))).0
+    (found (HasBegun c.self.inside.world) (λ l. l.folder == c.args.folder) c.self.inside.kept.items c.in-Some.listing.now c.self.invariant
+        (sym (rw c.deref.ensures.value at c.in-Some.ensures))).0
 
 pub invariant_of-self : goal.invariant_of-self
 invariant_of-self g c = begun-others c.self.inside.world c.args.folder c.self.inside.kept.items _ c.self.invariant c.use_up.ensures
@@ -16,7 +19,8 @@ invariant_of-self g c = begun-others c.self.inside.world c.args.folder c.self.in
 pub returns : goal.returns
 returns g c = (
   _,
-  second-read c.args.self.now c.args.folder c.self.inside.world c.self.inside.kept.items c.self.view_is _ c.in-Some.listing.now _ (sym (rw c.deref.ensures.value at c.in-Some.ensures)) c.self.invariant
+  second-read c.args.self.now c.args.folder c.self.inside.world c.self.inside.kept.items c.self.view_is _ c.in-Some.listing.now _
+      (sym (rw c.deref.ensures.value at c.in-Some.ensures)) c.self.invariant
       c.use_up.ensures c.in_ok-entries.ensures.entries,
   rw c.deref-2.ensures.value at c.in_ok-push_entries.ensures,
 )
