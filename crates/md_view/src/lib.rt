@@ -15,7 +15,7 @@ mod tests;
 
 pub use entry::Entry;
 pub use error::ViewError;
-pub use listing::Listing;
+pub use listing::{Listing, list};
 pub use merge::join;
 pub use names::Names;
 pub use read::reading;

@@ -6,7 +6,7 @@ ghost use Rattle.md_view.specs.Law.{names_at, listing_of, HasBegun, IsGoodListin
 
 use crate::entry::Entry;
 use crate::error::ViewError;
-use crate::merge::join;
+use crate::merge::{join, merge};
 use crate::read::reading;
 use md_core::World;
 use md_dirs::{Dirs, Place};
@@ -54,4 +54,18 @@ impl Listing {
         let cur = reading(alloc, world, self.folder, Place::Cur)?;
         join(alloc, &self.new, &cur)
     }
+}
+
+/// The listing of a folder whose two readings are made at one moment: its messages now, in order of unique name. No entry is copied.
+pub fn list<D: Dirs>(
+    alloc: Global,
+    world: &World<D>,
+    folder: u32,
+) -> Result<Vec<Entry>, ViewError>
+    ensures entries { IfOk result (λ all. all.items ≡ listing_of (names_at world.now) folder (length world.now.events) (length world.now.events)) }
+    ensures refusal { IfErr result (λ error. error ≡ reading_refusal (dirs_of world.now) folder) }
+{
+    let new = reading(alloc, world, folder, Place::New)?;
+    let cur = reading(alloc, world, folder, Place::Cur)?;
+    Ok(merge(alloc, new, cur)?)
 }

@@ -1,7 +1,7 @@
 // What no clause says: worked listings, with what happens between their two readings. The bytes of each file are its name.
 mod names;
 
-use crate::{Entry, ViewError, join, reading};
+use crate::{Entry, ViewError, join, list, reading};
 use md_core::{Call, CoreError, World};
 use md_dirs::{DirError, ImageFile, Path, Place, PlainDirs};
 use md_name::{Bytes, Flags};
@@ -83,6 +83,7 @@ fn a_message_that_goes_to_cur_between_the_readings_is_listed_once(
     assert!(rt; are(&new, &[b"a"]));
     assert!(rt; are(&all, &[b"a:2,", b"b:2,S"]));
     assert!(rt; all == cur);
+    assert!(rt; list(alloc, &world, 0)? == all);
     Ok(())
 }
 
@@ -98,6 +99,7 @@ fn a_message_that_comes_after_the_first_reading_may_be_missing(
     let later = reading(alloc, &world, 0, Place::New)?;
     assert!(rt; are(&join(alloc, &new, &cur)?, &[b"b"]));
     assert!(rt; are(&later, &[b"a", b"b"]));
+    assert!(rt; list(alloc, &world, 0)? == later);
     Ok(())
 }
 
@@ -124,5 +126,6 @@ fn a_reading_is_in_order_of_unique_names(rt: HostRuntime) -> Result<(), Fail> {
             Err(ViewError::NoFolder)
         )
     );
+    assert!(rt; matches!(list(alloc, &world, 1), Err(ViewError::NoFolder)));
     Ok(())
 }

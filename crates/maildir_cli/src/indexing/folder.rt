@@ -9,7 +9,7 @@ use md_core::World;
 use md_dirs::{Dirs, Place};
 use md_index::{Indexed, Message, OpenGate, index};
 use md_script::push_summary;
-use md_view::{Entry, ViewError, join, reading};
+use md_view::{Entry, ViewError, list};
 use std::alloc::{AllocError, Global};
 use std::sync::Wait;
 use std::thread::Threads;
@@ -54,9 +54,7 @@ pub(crate) fn listing<D: Dirs>(
 ) -> Result<Vec<Entry>, ViewError>
     ensures { IfOk result (λ all. all.items ≡ listing_in (mailbox_of (dirs_of world.now)) folder) }
 {
-    let new = reading(alloc, world, folder, Place::New)?;
-    let cur = reading(alloc, world, folder, Place::Cur)?;
-    join(alloc, &new, &cur)
+    list(alloc, world, folder)
 }
 
 /// The messages of a listing, lent: their bytes are the world's.

@@ -11,7 +11,6 @@ use crate::listing::push_entries;
 use crate::storage::Storage;
 use crate::store::printing::{push_bytes, push_job, push_step};
 use md_core::{Call, Event, World};
-use md_view::Listing;
 use std::alloc::Global;
 
 /// Submits a call, and prints the number of its job.
@@ -83,8 +82,7 @@ pub(super) fn list<D: Storage>(
 ) -> Result<(), PlayKind>
     ensures { Steps (listed world.now folder) world.now out.old.items out.new.items result }
 {
-    let listing = Listing::begin(alloc, world, folder)?;
-    let entries = listing.finish(alloc, world)?;
+    let entries = md_view::list(alloc, world, folder)?;
     push_entries(alloc, out, &entries)?;
     Ok(())
 }
