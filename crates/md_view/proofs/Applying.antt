@@ -30,7 +30,7 @@ no-some : (o : Option Listed) → is_some o ≡ false → o ≡ None
 no-some None is = refl
 no-some (Some m) is = cc
 
-is-false : (b : Bool) → (b ≡ true → ⊥) → b ≡ false
+pub is-false : (b : Bool) → (b ≡ true → ⊥) → b ≡ false
 is-false true not = absurd (not refl)
 is-false false not = refl
 
@@ -75,7 +75,7 @@ abbrev pub new_names : ℕ → Names → Named
 new_names folders names = record { folders = folders; names = names }
 
 module _ (n : Named) (fs : List FolderLists) (held : AreHeld n fs) where
-  there-shown : (folder : ℕ) (place : Place) (name : List ℕ) (h : IsThere n.names folder place name)
+  pub there-shown : (folder : ℕ) (place : Place) (name : List ℕ) (h : IsThere n.names folder place name)
       → shown_at n.names folder place (unique_of name) ≡ Some (shown (unique_of name, record { folder = folder; place = place; name = name; size = h.size }))
   there-shown folder place name h =
       let u = unique_of name in
@@ -132,7 +132,7 @@ module _ (n : Named) (fs : List FolderLists) (held : AreHeld n fs) where
       ∙ ap (λ (o : Option Listed). is_message_name name && not (is_some o)) (sym (beside_drop nat_list_cmp_total exact_bytes n.names (unique_of old) (unique_of name) other))
 
   -- lists after a change
-  held-after : (names : Names) (fs' : List FolderLists) → length fs' ≡ length fs → AreMessages (new_names n.folders names) → (g : ℕ → Place → List ℕ → Option Entry) → AreLists fs' g
+  pub held-after : (names : Names) (fs' : List FolderLists) → length fs' ≡ length fs → AreMessages (new_names n.folders names) → (g : ℕ → Place → List ℕ → Option Entry) → AreLists fs' g
       → ((j : ℕ) (p : Place) (u : List ℕ) → g j p u ≡ shown_at names j p u) → AreHeld (new_names n.folders names) fs'
   held-after names fs' long messages g lists same =
       let few = held.few in

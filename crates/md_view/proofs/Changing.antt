@@ -16,9 +16,9 @@ use Rattle.md_view.specs.declared.entry.Entry.{Entry}
 use Rattle.md_view.specs.Readings.{shown, IsInOrder}
 use Rattle.md_view.specs.Named.{is_there}
 use Rattle.md_view.specs.Held.{FolderLists, list_of, listed_in, found, ShowsAt}
-use Rattle.md_view.proofs.Keyed.{tie-itself}
+use Rattle.md_view.proofs.Keyed.{tie-itself, tie-same}
 use Rattle.md_view.proofs.Readings.{entry_at}
-use Rattle.md_view.proofs.Rows.{same_place, and-true, and-false}
+use Rattle.md_view.proofs.Rows.{same_place, and-true, and-false, and-first, and-second}
 use Rattle.md_view.proofs.Placing.{apart}
 use Rattle.md_view.proofs.Holding.{shown_at, AreLists}
 
@@ -81,6 +81,20 @@ module _ (fs : List FolderLists) (g : ℕ → Place → List ℕ → Option Entr
         (λ j p other left v.
         ap (found v) left ∙ lists.at j p v ∙ sym (ap (λ b. cond (b && eq_by_cmp name_cmp v u) what (g j p v)) other));
   }
+
+-- what lists show where one directory shows of one unique name what it did
+pub but-same : (folder : ℕ) (place : Place) (u : List ℕ) (what : Option Entry) (g : ℕ → Place → List ℕ → Option Entry) → what ≡ g folder place u
+    → (j : ℕ) (p : Place) (v : List ℕ) → but folder place u what g j p v ≡ g j p v
+but-same folder place u what g is j p v = by (is_spot folder place j p && eq_by_cmp name_cmp v u) refl
+  where
+    by : (b : Bool) → (is_spot folder place j p && eq_by_cmp name_cmp v u) ≡ b → cond b what (g j p v) ≡ g j p v
+    by true all =
+        let spot = and-first _ _ all in
+        let in_folder : folder ≡ j = eqb-true folder j (and-first _ _ spot) in
+        let in_place : place ≡ p = same_place place p (eqb-true _ _ (and-second _ _ spot)) in
+        let own : u ≡ v = sym (tie-same v u (and-second _ _ all)) in
+        is ∙ (λ i. g (in_folder i) (in_place i) (own i))
+    by false some = refl
 
 -- what names show once a message came or went
 module _ (names : Names) (u : List ℕ) (m : Listed) where

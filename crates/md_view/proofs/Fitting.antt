@@ -55,7 +55,7 @@ module _ (n : Named) where
     free-again name to_name same message =
         free-name (finmap.remove n.names (unique_of name)) to_name message (at_drop nat_list_cmp_total exact_bytes n.names (unique_of name) (unique_of to_name) same)
 
-    rename-fits : (folder : ℕ) (place : Place) (name : List ℕ) (to_folder : ℕ) (to_place : Place) (to_name : List ℕ)
+    pub rename-fits : (folder : ℕ) (place : Place) (name : List ℕ) (to_folder : ℕ) (to_place : Place) (to_name : List ℕ)
         → to_folder < n.folders → is_tmp to_place ≡ false → unique_of to_name ≡ unique_of name → is_message_name to_name ≡ true → IsThere n.names folder place name
         → fits n (change.Rename folder place name to_folder to_place to_name) ≡ true
     rename-fits folder place name to_folder to_place to_name within is same message there =

@@ -15,4 +15,5 @@ pub mod Placing
 pub mod Holding
 pub mod Changing
 pub mod Applying
+pub mod Renaming
 pub mod Opening

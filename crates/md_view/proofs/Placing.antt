@@ -1,6 +1,8 @@
 -- Where an entry goes in a list in order, and what the list shows once it came or went there.
 use Rattle.std.proofs.Common.{ℕ, zero, suc, ◌≡◌, ◌≢◌, ◌≤◌, ◌<◌, ◌+◌, List, [], ◌∷◌, Option, Some, None, inl, inr, Bool, true, false, cond, T, not, map, length, slice_get, slice_set, refl, sym, ap, subst, ◌∙◌, arith, get_or}
-use Rattle.std.specs.Prelude.{insert, remove}
+use Rattle.std.specs.Prelude.{insert, remove, nat_eq}
+use Rattle.std.specs.Option.{option_map}
+use Rattle.std.specs.Cmp.Lexicographic.{pointwise}
 use Rattle.std.proofs.lemmas.Bool.{cases_lt}
 use Rattle.std.specs.List.Sorted.{IsPartitionedBy, IsPartitionPoint}
 use Rattle.std.specs.declared.cmp.Ordering.{Ordering}
@@ -14,7 +16,7 @@ use Rattle.md_dirs.specs.declared.paths.Place.TheVariants.{New}
 use Rattle.md_core.specs.Mailbox.{name_cmp}
 use Rattle.md_view.specs.declared.entry.Entry.{Entry}
 use Rattle.md_view.specs.Readings.{keyed, IsInOrder}
-use Rattle.md_view.specs.Held.{found, place_for, HasAt, Shows}
+use Rattle.md_view.specs.Held.{found, place_for, renamed, HasAt, Shows}
 use Rattle.md_view.proofs.Keyed.{IsBelow, IsSorted, both, first, second, less, is_less, turned, tie-itself, tie-same, below-less, lookup-below, in-order, ordered}
 
 -- two names that aren't one don't tie
@@ -267,14 +269,14 @@ module _ (u : List ℕ) (es : List Entry) (order : IsInOrder es) where
             ∙ swap-cond v (found v es);
       }
 
-  -- there was none to go
-  pub shows-none : found u es ≡ None → Shows u None es es
-  shows-none none = record {
+  -- entries that stay show what they did
+  pub shows-same : (what : Option Entry) → what ≡ found u es → Shows u what es es
+  shows-same what is = record {
     order = order;
-    at = λ v. by_key nat_list_cmp_total exact_bytes v u
-        (λ is. ap (λ (w : List ℕ). found w es) is ∙ none
-        ∙ sym (ap (λ (w : List ℕ). cond (eq_by_cmp name_cmp w u) None (found v es)) is ∙ ap (λ b. cond b None (found v es)) (tie-itself u)))
-        (λ is. elim (eq_by_cmp name_cmp v u) as (λ t. eq_by_cmp name_cmp v u ≡ t → found v es ≡ cond t None (found v es)) [ true ↦ λ t. absurd (is (tie-same v u t)) | false ↦ λ t. refl ] refl);
+    at = λ v. elim (eq_by_cmp name_cmp v u) as (λ t. eq_by_cmp name_cmp v u ≡ t → found v es ≡ cond t what (found v es)) [
+      | true ↦ λ t. ap (λ (w : List ℕ). found w es) (tie-same v u t) ∙ sym is
+      | false ↦ λ t. refl
+    ] refl;
   }
 
 -- the same by whether the place has the name
@@ -286,7 +288,7 @@ module _ (u : List ℕ) (es : List Entry) (order : IsInOrder es) (at : ℕ) (is 
   take-there h = subst (λ k. Shows u None es (remove es k)) (sym is) (shows-remove u es order h.entry (there h) h.unique)
 
   pub take-none : (HasAt es at u → ⊥) → Shows u None es es
-  take-none not = shows-none u es order (found-not u es (ordered _ order) at is not)
+  take-none not = shows-same u es order None (sym (found-not u es (ordered _ order) at is not))
 
 module _ (e : Entry) (es : List Entry) (order : IsInOrder es) (at : ℕ) (is : at ≡ place_for e.unique es) where
   pub put-there : HasAt es at e.unique → Shows e.unique (Some e) es (slice_set es at e)
@@ -294,3 +296,30 @@ module _ (e : Entry) (es : List Entry) (order : IsInOrder es) (at : ℕ) (is : a
 
   pub put-new : (HasAt es at e.unique → ⊥) → Shows e.unique (Some e) es (insert es at e)
   put-new not = subst (λ k. Shows e.unique (Some e) es (insert es k e)) (sym is) (shows-insert e es order (found-not e.unique es (ordered _ order) at is not))
+
+-- an entry gets another name where it stands, if it has the old one
+module _ (u : List ℕ) (es : List Entry) (order : IsInOrder es) (at : ℕ) (is : at ≡ place_for u es) (name to_name : List ℕ) where
+  pub rename-none : (HasAt es at u → ⊥) → Shows u (option_map (renamed name to_name) (found u es)) es es
+  rename-none not =
+      let none = found-not u es (ordered _ order) at is not in
+      shows-same u es order _ (ap (option_map (renamed name to_name)) none ∙ sym none)
+
+  abbrev pub named : Entry → Entry
+  named e = record e { name = to_name }
+
+  module _ (h : HasAt es at u) where
+    this : found u es ≡ Some h.entry
+    this = found-has u es (ordered _ order) at is h
+
+    becomes : (b : Bool) → pointwise nat_eq h.entry.name name ≡ b → option_map (renamed name to_name) (found u es) ≡ Some (cond b (named h.entry) h.entry)
+    becomes b it = ap (option_map (renamed name to_name)) this ∙ ap (λ t. Some (cond t (named h.entry) h.entry)) it
+
+    pub rename-other : pointwise nat_eq h.entry.name name ≡ false → Shows u (option_map (renamed name to_name) (found u es)) es es
+    rename-other other = shows-same u es order _ (becomes false other ∙ sym this)
+
+    pub rename-there : pointwise nat_eq h.entry.name name ≡ true → Shows u (option_map (renamed name to_name) (found u es)) es (slice_set es at (named h.entry))
+    rename-there same =
+        let own : at ≡ place_for h.entry.unique es = is ∙ ap (λ (v : List ℕ). place_for v es) (sym h.unique) in
+        let put = put-there (named h.entry) es order at own (record { entry = h.entry; is = h.is; unique = refl }) in
+        subst (λ (o : Option Entry). Shows u o es (slice_set es at (named h.entry))) (sym (becomes true same))
+        (subst (λ (v : List ℕ). Shows v (Some (named h.entry)) es (slice_set es at (named h.entry))) h.unique put)

@@ -1,7 +1,8 @@
 -- Bookkeeping: how the names of a store are held, folder by folder.
-use Rattle.std.specs.Prelude.{ℕ, suc, ◌≡◌, ◌<◌, ◌^◌, ◌==◌, ◌||◌, List, [], ◌∷◌, ◌++◌, Option, Some, Bool, false, is_some, map, length, slice_get, if◌then◌else◌}
+use Rattle.std.specs.Prelude.{ℕ, suc, ◌≡◌, ◌<◌, ◌^◌, ◌==◌, ◌||◌, List, [], ◌∷◌, ◌++◌, Option, Some, Bool, false, is_some, map, nat_eq, length, slice_get, if◌then◌else◌}
 use Rattle.std.specs.Option.{option_map_or}
 use Rattle.std.specs.Ordering.{eq_by_cmp, is_lt}
+use Rattle.std.specs.Cmp.Lexicographic.{pointwise}
 use Rattle.std.specs.FinMap as finmap
 use Rattle.md_dirs.specs.Path.{place_index}
 use Rattle.md_dirs.specs.declared.paths.Place.{Place}
@@ -68,6 +69,10 @@ pub record HasAt (es : List Entry) (at : ℕ) (u : List ℕ) : Type 0 where
   pub entry : Entry
   pub is : slice_get es at ≡ Some entry
   pub unique : entry.unique ≡ u
+
+-- an entry that gets another name, if it has the old one
+abbrev pub renamed : List ℕ → List ℕ → Entry → Entry
+renamed name to_name e = if pointwise nat_eq e.name name then record e { name = to_name } else e
 
 -- entries in order that show of one unique name what is said, and of each other what they showed
 pub record Shows (u : List ℕ) (what : Option Entry) (old new : List Entry) : Type 0 where

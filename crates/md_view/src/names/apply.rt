@@ -1,12 +1,12 @@
 // What a change makes of the names.
-ghost use Rattle.std.specs.Prelude.{◌≡◌, ◌↔◌, true, IsTrue, IsSome, IfSome, IfOk, OnOk, OnErr};
+ghost use Rattle.std.specs.Prelude.{◌≡◌, ◌≢◌, ◌↔◌, true, IsTrue, IsSome, IfSome, IfOk, OnOk, OnErr};
 ghost use Rattle.md_name.specs.Names.{unique_of, is_message_name};
 ghost use Rattle.md_core.specs.declared.jobs.effect.Change.TheVariants.{Add, Rename, Remove};
 ghost use Rattle.md_view.specs.Named.{applied, fits as fits_names};
 ghost use Rattle.md_view.specs.Held.{found, listed_in, held_names, AreHeld, HoldNames};
 
 use crate::entry::Entry;
-use crate::names::fits::fits;
+use crate::names::fits::{fits_add, fits_remove, fits_rename};
 use crate::names::folder::FolderNames;
 use md_core::Change;
 use md_dirs::Place;
@@ -23,9 +23,6 @@ pub fn apply_to(
     ensures ok { OnOk result (AreHeld (applied (held_names folders.old.items) change.now) folders.new.items) }
     ensures err { OnErr result (folders.new.items ≡ folders.old.items) }
 {
-    if !fits(folders, change) {
-        return Ok(());
-    }
     match change {
         Change::Add {
             folder,
@@ -86,7 +83,7 @@ fn entry_of(alloc: Global, place: Place, name: &[u8], size: u64) -> Result<Entry
     })
 }
 
-// Adds a message.
+// Adds a message, where that fits.
 fn add(
     alloc: Global,
     folders: &mut Vec<FolderNames>,
@@ -95,29 +92,88 @@ fn add(
     name: &[u8],
     size: u64,
 ) -> Result<(), AllocError>
-    requires names { HoldNames folders.old.items }
-    requires fits { fits_names (held_names folders.old.items) (Add folder place name.now size) ≡ true }
+    requires { HoldNames folders.old.items }
     ensures ok { OnOk result (AreHeld (applied (held_names folders.old.items) (Add folder place name.now size)) folders.new.items) }
     ensures err { OnErr result (folders.new.items ≡ folders.old.items) }
 {
+    if !fits_add(folders, folder, place, name) {
+        return Ok(());
+    }
     let entry = entry_of(alloc, place, name, size)?;
     let lists = &mut folders[folder as usize];
     lists.put(place, entry)
 }
 
-// Takes a message away. It takes no memory.
+// Takes a message away, where that fits. It takes no memory.
 fn remove(folders: &mut Vec<FolderNames>, folder: u32, place: Place, name: &[u8])
-    requires names { HoldNames folders.old.items }
-    requires fits { fits_names (held_names folders.old.items) (Remove folder place name.now) ≡ true }
+    requires { HoldNames folders.old.items }
     ensures { AreHeld (applied (held_names folders.old.items) (Remove folder place name.now)) folders.new.items }
 {
-    let lists = &mut folders[folder as usize];
-    lists.take(place, unique_part(name));
+    if fits_remove(folders, folder, place, name) {
+        let lists = &mut folders[folder as usize];
+        lists.take(place, unique_part(name));
+    }
 }
 
-// Gives a message another name, which is put in before the old one is taken out. Where the directory and the unique name stay, the new
-// entry takes the place of the old one, and no other moves.
+// Gives a message another name, where that fits.
 fn rename(
+    alloc: Global,
+    folders: &mut Vec<FolderNames>,
+    folder: u32,
+    place: Place,
+    name: &[u8],
+    to_folder: u32,
+    to_place: Place,
+    to_name: &[u8],
+) -> Result<(), AllocError>
+    requires { HoldNames folders.old.items }
+    ensures ok { let change = Rename folder place name.now to_folder to_place to_name.now in
+        OnOk result (AreHeld (applied (held_names folders.old.items) change) folders.new.items) }
+    ensures err { OnErr result (folders.new.items ≡ folders.old.items) }
+{
+    let Some((unique, _)) = split(name) else {
+        return Ok(());
+    };
+    let Some((to_unique, _)) = split(to_name) else {
+        return Ok(());
+    };
+    if is_one_place(folder, place, unique, to_folder, to_place, to_unique) {
+        return rename_here(alloc, folders, folder, place, unique, name, to_name);
+    }
+    if !fits_rename(folders, folder, place, name, to_folder, to_place, to_name) {
+        return Ok(());
+    }
+    rename_away(
+        alloc, folders, folder, place, name, to_folder, to_place, to_name,
+    )
+}
+
+// Gives a message another name of the same unique name in its directory, where that fits. Its entry is looked for once, and none moves.
+fn rename_here(
+    alloc: Global,
+    folders: &mut Vec<FolderNames>,
+    folder: u32,
+    place: Place,
+    unique: &[u8],
+    name: &[u8],
+    to_name: &[u8],
+) -> Result<(), AllocError>
+    requires names { HoldNames folders.old.items }
+    requires message { is_message_name to_name.now ≡ true }
+    requires unique { (unique_of name.now ≡ unique.now) × (unique_of to_name.now ≡ unique.now) }
+    ensures ok { let change = Rename folder place name.now folder place to_name.now in
+        OnOk result (AreHeld (applied (held_names folders.old.items) change) folders.new.items) }
+    ensures err { OnErr result (folders.new.items ≡ folders.old.items) }
+{
+    if folder as usize >= folders.len() {
+        return Ok(());
+    }
+    let lists = &mut folders[folder as usize];
+    lists.rename(alloc, place, unique, name, to_name)
+}
+
+// Gives a message a name in another directory or of another unique name. The new entry is put in before the old one is taken out.
+fn rename_away(
     alloc: Global,
     folders: &mut Vec<FolderNames>,
     folder: u32,
@@ -129,20 +185,18 @@ fn rename(
 ) -> Result<(), AllocError>
     requires names { HoldNames folders.old.items }
     requires fits { fits_names (held_names folders.old.items) (Rename folder place name.now to_folder to_place to_name.now) ≡ true }
+    requires away { folder ≡ to_folder → place ≡ to_place → unique_of to_name.now ≢ unique_of name.now }
     ensures ok { let change = Rename folder place name.now to_folder to_place to_name.now in
         OnOk result (AreHeld (applied (held_names folders.old.items) change) folders.new.items) }
     ensures err { OnErr result (folders.new.items ≡ folders.old.items) }
 {
     let unique = unique_part(name);
-    let to_unique = unique_part(to_name);
     let size = size_of(folders, folder, place, unique);
     let entry = entry_of(alloc, to_place, to_name, size)?;
     let to_lists = &mut folders[to_folder as usize];
     to_lists.put(to_place, entry)?;
-    if !is_one_place(folder, place, unique, to_folder, to_place, to_unique) {
-        let lists = &mut folders[folder as usize];
-        lists.take(place, unique);
-    }
+    let lists = &mut folders[folder as usize];
+    lists.take(place, unique);
     Ok(())
 }
 

@@ -1,52 +1,51 @@
 // Whether a change fits the names.
-ghost use Rattle.std.specs.Prelude.{◌≡◌, true};
+ghost use Rattle.std.specs.Prelude.{◌≡◌, ◌&&◌, true};
 ghost use Rattle.std.specs.List.{list_any};
 ghost use Rattle.std.specs.FinMap as finmap;
 ghost use Rattle.md_name.specs.Names.{unique_of, is_message_name};
+ghost use Rattle.md_core.specs.declared.jobs.effect.Change.TheVariants.{Rename, Remove};
 ghost use Rattle.md_view.specs.Named.{fits as fits_names, is_listed as is_listed_in, is_free as is_free_name, is_there as is_name_there};
 ghost use Rattle.md_view.specs.Held.{has_unique, held_names, HoldNames};
 
 use crate::names::folder::FolderNames;
-use md_core::Change;
 use md_dirs::Place;
 use md_name::split;
 
-/// Whether a change fits: its directories are new or cur of folders that are there, the old name is there, and the new name is a message's
-/// whose unique name no other message has.
-pub fn fits(folders: &[FolderNames], change: &Change) -> bool
+/// Whether an addition fits: its directory is new or cur of a folder that is there, and the name is a message's whose unique name no other
+/// message has.
+pub fn fits_add(folders: &[FolderNames], folder: u32, place: Place, name: &[u8]) -> bool
     requires { HoldNames folders.now }
-    ensures { result ≡ fits_names (held_names folders.now) change.now }
+    ensures { result ≡ (is_listed_in (held_names folders.now) folder place && is_free_name (held_names folders.now).names name.now) }
 {
-    match change {
-        Change::Add {
-            folder,
-            place,
-            name,
-            ..
-        } => is_listed(folders, *folder, *place) && is_free(folders, name.as_slice()),
-        Change::Rename {
-            folder,
-            place,
-            name,
-            to_folder,
-            to_place,
-            to_name,
-        } => {
-            is_listed(folders, *folder, *place)
-                && is_listed(folders, *to_folder, *to_place)
-                && is_there(folders, *folder, *place, name.as_slice())
-                && is_free_beside(folders, name.as_slice(), to_name.as_slice())
-        }
-        Change::Remove {
-            folder,
-            place,
-            name,
-        } => {
-            is_listed(folders, *folder, *place)
-                && is_there(folders, *folder, *place, name.as_slice())
-        }
-        Change::Same => true,
-    }
+    is_listed(folders, folder, place) && is_free(folders, name)
+}
+
+/// Whether a rename fits: its directories are new or cur of folders that are there, the old name is there, and the new name is a message's
+/// whose unique name no other message has.
+pub fn fits_rename(
+    folders: &[FolderNames],
+    folder: u32,
+    place: Place,
+    name: &[u8],
+    to_folder: u32,
+    to_place: Place,
+    to_name: &[u8],
+) -> bool
+    requires { HoldNames folders.now }
+    ensures { result ≡ fits_names (held_names folders.now) (Rename folder place name.now to_folder to_place to_name.now) }
+{
+    is_listed(folders, folder, place)
+        && is_listed(folders, to_folder, to_place)
+        && is_there(folders, folder, place, name)
+        && is_free_beside(folders, name, to_name)
+}
+
+/// Whether a removal fits: its directory is new or cur of a folder that is there, and the name is there.
+pub fn fits_remove(folders: &[FolderNames], folder: u32, place: Place, name: &[u8]) -> bool
+    requires { HoldNames folders.now }
+    ensures { result ≡ fits_names (held_names folders.now) (Remove folder place name.now) }
+{
+    is_listed(folders, folder, place) && is_there(folders, folder, place, name)
 }
 
 // Whether this is new or cur of a folder that is there.

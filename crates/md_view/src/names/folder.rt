@@ -5,14 +5,14 @@ ghost use Rattle.md_core.specs.History.{names_of};
 ghost use Rattle.md_core.specs.Mailbox.{mailbox_of, is_tmp};
 ghost use Rattle.md_core.specs.Runs.{dirs_of};
 ghost use Rattle.md_view.specs.Named.{named_of};
-ghost use Rattle.md_view.specs.Held.{list_of, found, has_unique, ShowsAt, AreHeld};
+ghost use Rattle.md_view.specs.Held.{list_of, found, has_unique, renamed, ShowsAt, AreHeld};
 ghost use Rattle.md_view.specs.Readings.{reading_of, reading_refusal};
 ghost use Rattle.md_dirs.specs.declared.paths.Place.TheVariants.{New, Cur};
 ghost use Rattle.md_view.specs.declared.error.ViewError.TheVariants.{NoMemory};
 
 use crate::entry::Entry;
 use crate::error::ViewError;
-use crate::names::list::{find_entry, put_entry, take_entry};
+use crate::names::list::{find_entry, put_entry, rename_entry, take_entry};
 use crate::read::reading;
 use md_core::World;
 use md_dirs::{Dirs, Place};
@@ -102,6 +102,26 @@ impl FolderNames {
             Place::Tmp => Ok(()),
             Place::New => put_entry(&mut self.in_new, entry),
             Place::Cur => put_entry(&mut self.in_cur, entry),
+        }
+    }
+
+    /// Gives the entry of a unique name in a directory another name, if it has the old one. No entry moves.
+    pub fn rename(
+        &mut self,
+        alloc: Global,
+        place: Place,
+        unique: &[u8],
+        name: &[u8],
+        to_name: &[u8],
+    ) -> Result<(), AllocError>
+        ensures ok { let entry = option_map (renamed name.now to_name.now) (found unique.now (list_of place self.old)) in
+            OnOk result (ShowsAt place unique.now entry self.old self.new) }
+        ensures err { OnErr result (self.new ≡ self.old) }
+    {
+        match place {
+            Place::Tmp => Ok(()),
+            Place::New => rename_entry(alloc, &mut self.in_new, unique, name, to_name),
+            Place::Cur => rename_entry(alloc, &mut self.in_cur, unique, name, to_name),
         }
     }
 

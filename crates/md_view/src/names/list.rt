@@ -2,10 +2,11 @@
 ghost use Rattle.std.specs.Prelude.{◌≡◌, IsTrue, ◌↔◌, None, Some, OnOk, OnErr, length};
 ghost use Rattle.std.specs.Option.{option_map};
 ghost use Rattle.md_view.specs.Readings.{IsInOrder};
-ghost use Rattle.md_view.specs.Held.{found, place_for, HasAt, Shows};
+ghost use Rattle.md_view.specs.Held.{found, place_for, renamed, HasAt, Shows};
 
 use crate::entry::Entry;
-use std::alloc::AllocError;
+use md_name::Bytes;
+use std::alloc::{AllocError, Global};
 
 // Whether the last entry is below a unique name, so that all are.
 fn is_behind(entries: &[Entry], unique: &[u8]) -> bool
@@ -60,6 +61,27 @@ pub fn put_entry(entries: &mut Vec<Entry>, entry: Entry) -> Result<(), AllocErro
         entries[at] = entry;
     } else {
         entries.insert(at, entry)?;
+    }
+    Ok(())
+}
+
+/// Gives the entry of a unique name another name, if it has the old one. No entry moves.
+pub fn rename_entry(
+    alloc: Global,
+    entries: &mut Vec<Entry>,
+    unique: &[u8],
+    name: &[u8],
+    to_name: &[u8],
+) -> Result<(), AllocError>
+    requires { IsInOrder entries.old.items }
+    ensures ok { let entry = option_map (renamed name.now to_name.now) (found unique.now entries.old.items) in
+        OnOk result (Shows unique.now entry entries.old.items entries.new.items) }
+    ensures err { OnErr result (entries.new.items ≡ entries.old.items) }
+{
+    let at = place_of(entries, unique);
+    if is_at(entries, at, unique) && entries[at].name.as_slice() == name {
+        let to_name = Bytes::copied(alloc, to_name)?;
+        entries[at].name = to_name;
     }
     Ok(())
 }

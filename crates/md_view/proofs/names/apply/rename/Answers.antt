@@ -1,49 +1,27 @@
-use Rattle.std.proofs.Common.{ℕ, ◌≡◌, ◌<◌, List, None, true, false, refl, slice_set, sym, subst, ◌∙◌}
-use Rattle.std.proofs.lemmas.List.{length-set}
-use Rattle.std.proofs.lemmas.Option.{slice_get_read}
-use Rattle.md_view.specs.Held.{ShowsAt, held_names}
-use Rattle.md_view.proofs.Applying.{within-listed, rename-from, rename-to, rename-old, rename-put, rename-held, rename-moved}
+use Rattle.md_name.specs.Names.{unique_of, info_of, is_message_name}
+use Rattle.md_core.specs.declared.jobs.effect.Change.TheVariants.{Rename}
+use Rattle.md_view.specs.Held.{held_names}
+use Rattle.md_view.proofs.Applying.{there-other, no-parts}
+use Rattle.md_view.proofs.Renaming.{unfit-held, unfit-there, unfit-name}
 use Rattle.md_view.proofs.names.apply.rename.Goals as goal
 
-pub size_of-size-requires : goal.size_of-size-requires
-size_of-size-requires c =
-    rename-old (held_names c.args.folders.now.items) c.args.folders.now.items c.requires.names c.args.folder c.args.place c.args.name.now c.args.to_folder c.args.to_place c.args.to_name.now c.requires.fits
-    c.unique_part-unique.result.now c.deref.result.now c.deref.ensures.value c.unique_part-unique.ensures
-
-pub returns-then-not-is_one_place-clause-ok : goal.returns-then-not-is_one_place-clause-ok
-returns-then-not-is_one_place-clause-ok c =
+pub returns-in_default-clause-ok : goal.returns-in_default-clause-ok
+returns-in_default-clause-ok c =
     let fs = c.args.folders.now.items in
     let n = held_names fs in
-    let to = rename-to n fs c.requires.names c.args.folder c.args.place c.args.name.now c.args.to_folder c.args.to_place c.args.to_name.now c.requires.fits in
-    let from = rename-from n fs c.requires.names c.args.folder c.args.place c.args.name.now c.args.to_folder c.args.to_place c.args.to_name.now c.requires.fits in
-    let within = within-listed n fs c.requires.names c.args.to_folder c.args.to_place to in
-    let low = within-listed n fs c.requires.names c.args.folder c.args.place from in
-    let at = slice_get_read fs _ c.args.to_folder c.index_mut-to_lists.result.now refl within c.index_mut-to_lists.ensures.value in
-    let there = slice_get_read (slice_set fs c.args.to_folder c.put.new.self) _ c.args.folder c.index_mut-lists.result.now refl
-    (subst (λ k. c.args.folder < k) (sym (length-set fs c.args.to_folder c.put.new.self)) low) c.index_mut-lists.ensures.value in
-    rename-moved n fs c.requires.names c.args.folder c.args.place c.args.name.now c.args.to_folder c.args.to_place c.args.to_name.now c.requires.fits
-    c.index_mut-to_lists.result.now c.put.new.self at
-    (rename-put n fs c.requires.names c.args.folder c.args.place c.args.name.now c.args.to_folder c.args.to_place c.args.to_name.now c.requires.fits
-    c.unique_part-unique.result.now c.deref.result.now c.deref.ensures.value c.unique_part-unique.ensures c.size_of-size.result c.size_of-size.ensures
-    c.in_ok-entry.entry c.in_ok-entry.ensures c.index_mut-to_lists.result.now c.put.new.self c.in_ok-put.ensures.ok)
-    c.index_mut-lists.result.now c.take.new.self there
-    (subst (λ (u : List ℕ). ShowsAt c.args.place u None c.index_mut-lists.result.now c.take.new.self) c.unique_part-unique.ensures c.take.ensures)
-    (λ in_folder in_place same.
-    let one : c.is_one_place.result ≡ true = c.is_one_place.ensures.1 (in_folder, in_place, c.unique_part-unique.ensures ∙ sym same ∙ sym c.unique_part-to_unique.ensures) in
-    let never : true ≡ false = sym one ∙ c.if-not-is_one_place.true in
-    cc)
+    let name = c.args.name.now in
+    let to_name = c.args.to_name.now in
+    let other = no-parts (is_message_name name) (unique_of name, info_of name) c.in_default.ensures in
+    let none = there-other n fs c.requires c.args.folder c.args.place name other in
+    unfit-held n fs c.requires (Rename c.args.folder c.args.place name c.args.to_folder c.args.to_place to_name)
+    (unfit-there n fs c.requires c.args.folder c.args.place name c.args.to_folder c.args.to_place to_name none)
 
-pub returns-else-not-is_one_place-clause-ok : goal.returns-else-not-is_one_place-clause-ok
-returns-else-not-is_one_place-clause-ok c =
+pub returns-in_default-split-clause-ok : goal.returns-in_default-split-clause-ok
+returns-in_default-split-clause-ok c =
     let fs = c.args.folders.now.items in
     let n = held_names fs in
-    let to = rename-to n fs c.requires.names c.args.folder c.args.place c.args.name.now c.args.to_folder c.args.to_place c.args.to_name.now c.requires.fits in
-    let within = within-listed n fs c.requires.names c.args.to_folder c.args.to_place to in
-    let at = slice_get_read fs _ c.args.to_folder c.index_mut-to_lists.result.now refl within c.index_mut-to_lists.ensures.value in
-    let one = c.is_one_place.ensures.0 c.if-not-is_one_place.false in
-    rename-held n fs c.requires.names c.args.folder c.args.place c.args.name.now c.args.to_folder c.args.to_place c.args.to_name.now c.requires.fits
-    c.index_mut-to_lists.result.now c.put.new.self at
-    (rename-put n fs c.requires.names c.args.folder c.args.place c.args.name.now c.args.to_folder c.args.to_place c.args.to_name.now c.requires.fits
-    c.unique_part-unique.result.now c.deref.result.now c.deref.ensures.value c.unique_part-unique.ensures c.size_of-size.result c.size_of-size.ensures
-    c.in_ok-entry.entry c.in_ok-entry.ensures c.index_mut-to_lists.result.now c.put.new.self c.in_ok-put.ensures.ok)
-    one.0 one.1 (sym (sym c.unique_part-unique.ensures ∙ one.2 ∙ c.unique_part-to_unique.ensures))
+    let name = c.args.name.now in
+    let to_name = c.args.to_name.now in
+    let other = no-parts (is_message_name to_name) (unique_of to_name, info_of to_name) c.in_default-split.ensures in
+    unfit-held n fs c.requires (Rename c.args.folder c.args.place name c.args.to_folder c.args.to_place to_name)
+    (unfit-name n fs c.requires c.args.folder c.args.place name c.args.to_folder c.args.to_place to_name other)
