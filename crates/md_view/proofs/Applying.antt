@@ -45,7 +45,8 @@ module _ (n : Named) where
   pub there-facts : (folder : ℕ) (place : Place) (name : List ℕ) → is_there n folder place name ≡ true → IsThere n.names folder place name
   there-facts folder place name is = by (get n.names (unique_of name)) refl is
     where
-      by : (o : Option Listed) → get n.names (unique_of name) ≡ o → option_map_or (has_name folder place name) o false ≡ true → IsThere n.names folder place name
+      by : (o : Option Listed) → get n.names (unique_of name) ≡ o → option_map_or (has_name folder place name) o false ≡ true
+          → IsThere n.names folder place name
       by None at is = cc
       by (Some m) at is =
           let spot = and-first _ _ is in
@@ -57,7 +58,8 @@ module _ (n : Named) where
             at = at ∙ (λ i. Some (record { folder = in_folder i; place = in_place i; name = named i; size = m.size }));
           }
 
-  insert-messages : AreMessages n → (u : List ℕ) (m : Listed) → IsMessage n.folders u m → AreMessages (record { folders = n.folders; names = finmap.insert n.names u m })
+  insert-messages : AreMessages n → (u : List ℕ) (m : Listed) → IsMessage n.folders u m
+      → AreMessages (record { folders = n.folders; names = finmap.insert n.names u m })
   insert-messages are u m is v x at = by_key nat_list_cmp_total exact_bytes v u
       (λ same.
       let this : Some m ≡ Some x = sym (at_put nat_list_cmp_total exact_bytes n.names u v m same) ∙ at in
@@ -108,10 +110,12 @@ module _ (n : Named) (fs : List FolderLists) (held : AreHeld n fs) where
     pub there-found : (e : Entry) → found (unique_of name) (list_of place f) ≡ Some e → is_there n folder place name ≡ pointwise nat_eq e.name name
     there-found e is = by (get n.names (unique_of name)) refl (sym (found-in n fs held folder f at place (unique_of name)) ∙ is)
       where
-        by : (o : Option Listed) → get n.names (unique_of name) ≡ o → shown_at n.names folder place (unique_of name) ≡ Some e → is_there n folder place name ≡ pointwise nat_eq e.name name
+        by : (o : Option Listed) → get n.names (unique_of name) ≡ o → shown_at n.names folder place (unique_of name) ≡ Some e
+            → is_there n folder place name ≡ pointwise nat_eq e.name name
         by None got is = let never : None ≡ Some e = sym (ap (option_and_then (entry_at folder place (unique_of name))) got) ∙ is in cc
         by (Some m) got is =
-            let says = if-some (is_at folder place (unique_of name, m)) (shown (unique_of name, m)) e (sym (ap (option_and_then (entry_at folder place (unique_of name))) got) ∙ is) in
+            let says = if-some (is_at folder place (unique_of name, m)) (shown (unique_of name, m)) e
+            (sym (ap (option_and_then (entry_at folder place (unique_of name))) got) ∙ is) in
             ap (λ (o : Option Listed). option_map_or (has_name folder place name) o false) got
             ∙ ap (λ b. b && pointwise nat_eq m.name name) says.0
             ∙ ap (λ (x : Entry). pointwise nat_eq x.name name) says.1
@@ -121,18 +125,22 @@ module _ (n : Named) (fs : List FolderLists) (held : AreHeld n fs) where
   free-known name message t is =
       ap not (is ∙ taken n fs held (unique_of name)) ∙ ap (λ b. b && not (is_some (get n.names (unique_of name)))) (sym message)
 
-  pub free-same : (old name : List ℕ) → is_message_name name ≡ true → unique_of name ≡ unique_of old → true ≡ is_free (finmap.remove n.names (unique_of old)) name
+  pub free-same : (old name : List ℕ) → is_message_name name ≡ true → unique_of name ≡ unique_of old
+      → true ≡ is_free (finmap.remove n.names (unique_of old)) name
   free-same old name message same =
       (λ i. sym message i && not (is_some (sym (at_drop nat_list_cmp_total exact_bytes n.names (unique_of old) (unique_of name) same) i)))
 
-  pub free-beside : (old name : List ℕ) → is_message_name name ≡ true → unique_of name ≢ unique_of old → (t : Bool) → t ≡ list_any (has_unique (unique_of name)) fs
+  pub free-beside : (old name : List ℕ) → is_message_name name ≡ true → unique_of name ≢ unique_of old → (t : Bool)
+      → t ≡ list_any (has_unique (unique_of name)) fs
       → not t ≡ is_free (finmap.remove n.names (unique_of old)) name
   free-beside old name message other t is =
       free-known name message t is
-      ∙ ap (λ (o : Option Listed). is_message_name name && not (is_some o)) (sym (beside_drop nat_list_cmp_total exact_bytes n.names (unique_of old) (unique_of name) other))
+      ∙ ap (λ (o : Option Listed). is_message_name name && not (is_some o))
+      (sym (beside_drop nat_list_cmp_total exact_bytes n.names (unique_of old) (unique_of name) other))
 
   -- lists after a change
-  pub held-after : (names : Names) (fs' : List FolderLists) → length fs' ≡ length fs → AreMessages (new_names n.folders names) → (g : ℕ → Place → List ℕ → Option Entry) → AreLists fs' g
+  pub held-after : (names : Names) (fs' : List FolderLists) → length fs' ≡ length fs → AreMessages (new_names n.folders names)
+      → (g : ℕ → Place → List ℕ → Option Entry) → AreLists fs' g
       → ((j : ℕ) (p : Place) (u : List ℕ) → g j p u ≡ shown_at names j p u) → AreHeld (new_names n.folders names) fs'
   held-after names fs' long messages g lists same =
       let few = held.few in
@@ -147,7 +155,8 @@ module _ (n : Named) (fs : List FolderLists) (held : AreHeld n fs) where
     abbrev listed_new : Listed
     listed_new = record { folder = folder; place = place; name = name; size = size }
 
-    pub add-held : ShowsAt place (unique_of name) (Some (shown (unique_of name, listed_new))) f f' → AreHeld (applied n (change.Add folder place name size)) (slice_set fs folder f')
+    pub add-held : ShowsAt place (unique_of name) (Some (shown (unique_of name, listed_new))) f f'
+        → AreHeld (applied n (change.Add folder place name size)) (slice_set fs folder f')
     add-held shows =
         let where_to = and-first _ _ fit in
         let free = free-facts n n.names name (and-second _ _ fit) in
@@ -157,7 +166,8 @@ module _ (n : Named) (fs : List FolderLists) (held : AreHeld n fs) where
         (held-after after (slice_set fs folder f') (length-set fs folder f')
         (insert-messages n held.messages (unique_of name) listed_new (record { folder = spot.0; place = spot.1; name = free.0; unique = refl }))
         (but folder place (unique_of name) (Some (shown (unique_of name, listed_new))) (shown_at n.names))
-        (set-lists fs (shown_at n.names) (held-lists n fs held) folder place (unique_of name) (Some (shown (unique_of name, listed_new))) f f' at (within-listed folder place where_to) shows)
+        (set-lists fs (shown_at n.names) (held-lists n fs held) folder place (unique_of name) (Some (shown (unique_of name, listed_new))) f f' at
+        (within-listed folder place where_to) shows)
         (added n.names (unique_of name) listed_new free.1))
 
   module _ (folder : ℕ) (place : Place) (name : List ℕ) (fit : fits n (change.Remove folder place name) ≡ true)
@@ -173,7 +183,8 @@ module _ (n : Named) (fs : List FolderLists) (held : AreHeld n fs) where
         (set-lists fs (shown_at n.names) (held-lists n fs held) folder place (unique_of name) None f f' at (within-listed folder place where_from) shows)
         (removed n.names (unique_of name) (record { folder = folder; place = place; name = name; size = there.size }) there.at))
 
-  module _ (folder : ℕ) (place : Place) (name : List ℕ) (to_folder : ℕ) (to_place : Place) (to_name : List ℕ) (fit : fits n (change.Rename folder place name to_folder to_place to_name) ≡ true) where
+  module _ (folder : ℕ) (place : Place) (name : List ℕ) (to_folder : ℕ) (to_place : Place) (to_name : List ℕ)
+      (fit : fits n (change.Rename folder place name to_folder to_place to_name) ≡ true) where
     rename-there : IsThere n.names folder place name
     rename-there = there-facts n folder place name (and-second _ _ (and-first _ _ fit))
 
@@ -208,7 +219,8 @@ module _ (n : Named) (fs : List FolderLists) (held : AreHeld n fs) where
     rename-old u gs same is = subst IsSome (sym (found-old u gs same is)) refl
 
     -- the entry that is put in is that of the new message, if its size is the old one's
-    pub rename-put : (u : List ℕ) (gs : List FolderLists) → gs ≡ fs → u ≡ unique_of name → (size : ℕ) → IfSome (found u (listed_in gs folder place)) (λ e. size ≡ e.size)
+    pub rename-put : (u : List ℕ) (gs : List FolderLists) → gs ≡ fs → u ≡ unique_of name → (size : ℕ)
+        → IfSome (found u (listed_in gs folder place)) (λ e. size ≡ e.size)
         → (entry : Entry) → entry ≡ record { unique = unique_of to_name; place = to_place; name = to_name; size = size } → (f f' : FolderLists)
         → ShowsAt to_place entry.unique (Some entry) f f' → ShowsAt to_place (unique_of to_name) (Some (shown (unique_of to_name, new_message))) f f'
     rename-put u gs same is size sized entry made f f' shows =
@@ -222,19 +234,25 @@ module _ (n : Named) (fs : List FolderLists) (held : AreHeld n fs) where
     messages-then : AreMessages (new_names n.folders names_then)
     messages-then =
         let spot = listed-facts n to_folder to_place rename-to in
-        insert-messages (new_names n.folders (finmap.remove n.names (unique_of name))) (remove-messages n held.messages (unique_of name)) (unique_of to_name) new_message
+        insert-messages (new_names n.folders (finmap.remove n.names (unique_of name))) (remove-messages n held.messages (unique_of name))
+        (unique_of to_name) new_message
         (record { folder = spot.0; place = spot.1; name = rename-free.0; unique = refl })
 
-    module _ (f f' : FolderLists) (at : slice_get fs to_folder ≡ Some f) (put : ShowsAt to_place (unique_of to_name) (Some (shown (unique_of to_name, new_message))) f f') where
-      put-lists : AreLists (slice_set fs to_folder f') (but to_folder to_place (unique_of to_name) (Some (shown (unique_of to_name, new_message))) (shown_at n.names))
-      put-lists = set-lists fs (shown_at n.names) (held-lists n fs held) to_folder to_place (unique_of to_name) (Some (shown (unique_of to_name, new_message))) f f' at (within-listed to_folder to_place rename-to) put
+    module _ (f f' : FolderLists) (at : slice_get fs to_folder ≡ Some f)
+        (put : ShowsAt to_place (unique_of to_name) (Some (shown (unique_of to_name, new_message))) f f') where
+      put-lists : AreLists (slice_set fs to_folder f')
+          (but to_folder to_place (unique_of to_name) (Some (shown (unique_of to_name, new_message))) (shown_at n.names))
+      put-lists = set-lists fs (shown_at n.names) (held-lists n fs held) to_folder to_place (unique_of to_name)
+          (Some (shown (unique_of to_name, new_message))) f f' at (within-listed to_folder to_place rename-to) put
 
       -- the new entry took the place of the old one
-      pub rename-held : folder ≡ to_folder → place ≡ to_place → unique_of to_name ≡ unique_of name → AreHeld (applied n (change.Rename folder place name to_folder to_place to_name)) (slice_set fs to_folder f')
+      pub rename-held : folder ≡ to_folder → place ≡ to_place → unique_of to_name ≡ unique_of name
+          → AreHeld (applied n (change.Rename folder place name to_folder to_place to_name)) (slice_set fs to_folder f')
       rename-held in_folder in_place same =
           subst (λ (m : Named). AreHeld m (slice_set fs to_folder f')) (sym (ap (λ b. cond b (new_names n.folders names_then) n) fit))
           (held-after names_then (slice_set fs to_folder f') (length-set fs to_folder f') messages-then _ put-lists
-          (replaced n.names (unique_of name) (record { folder = folder; place = place; name = name; size = rename-there.size }) rename-there.at (unique_of to_name) new_message rename-free.1 same in_folder in_place))
+          (replaced n.names (unique_of name) (record { folder = folder; place = place; name = name; size = rename-there.size }) rename-there.at
+          (unique_of to_name) new_message rename-free.1 same in_folder in_place))
 
       -- or the old one was taken out behind it
       module _ (g g' : FolderLists) (there : slice_get (slice_set fs to_folder f') folder ≡ Some g) (take : ShowsAt place (unique_of name) None g g')
@@ -251,7 +269,8 @@ module _ (n : Named) (fs : List FolderLists) (held : AreHeld n fs) where
             subst (λ (m : Named). AreHeld m (slice_set (slice_set fs to_folder f') folder g')) (sym (ap (λ b. cond b (new_names n.folders names_then) n) fit))
             (held-after names_then (slice_set (slice_set fs to_folder f') folder g') (length-set (slice_set fs to_folder f') folder g' ∙ long) messages-then _
             (set-lists (slice_set fs to_folder f') _ put-lists folder place (unique_of name) None g g' there (subst (λ k. folder < k) (sym long) low) take)
-            (renamed n.names (unique_of name) (record { folder = folder; place = place; name = name; size = rename-there.size }) rename-there.at (unique_of to_name) new_message rename-free.1 meet))
+            (renamed n.names (unique_of name) (record { folder = folder; place = place; name = name; size = rename-there.size }) rename-there.at
+            (unique_of to_name) new_message rename-free.1 meet))
 
 -- a name that has no parts is no message's
 pub no-parts : {X : Type 0} (b : Bool) (x : X) → None ≡ cond b (Some x) None → b ≡ false

@@ -45,7 +45,8 @@ module _ (fs : List FolderLists) (g : ℕ → Place → List ℕ → Option Entr
   Stays j p = listed_in set j p ≡ listed_in fs j p
 
   -- a list is the changed one, or it was left
-  by-spot : (C : ℕ → Place → Type 0) → C folder place → ((j : ℕ) (p : Place) → is_spot folder place j p ≡ false → listed_in set j p ≡ listed_in fs j p → C j p) → (j : ℕ) (p : Place) → C j p
+  by-spot : (C : ℕ → Place → Type 0) → C folder place → ((j : ℕ) (p : Place) → is_spot folder place j p ≡ false → listed_in set j p ≡ listed_in fs j p → C j p)
+      → (j : ℕ) (p : Place) → C j p
   by-spot C here left j p = in_folder (folder == j) refl
     where
       in_place : folder ≡ j → (b : Bool) → (place_index place == place_index p) ≡ b → C j p
@@ -142,7 +143,8 @@ removed names u m is_there j p v = by_key nat_list_cmp_total exact_bytes v u
     (λ is. at-other (is_spot m.folder m.place j p) u v is None (shown_at names j p v) ∙ sym (gone-beside names u j p v is))
 
 -- a message that has another name: the new entry was put in before the old one went
-module _ (names : Names) (u : List ℕ) (m : Listed) (is_there : get names u ≡ Some m) (v : List ℕ) (m' : Listed) (free : get (finmap.remove names u) v ≡ None) where
+module _ (names : Names) (u : List ℕ) (m : Listed) (is_there : get names u ≡ Some m) (v : List ℕ) (m' : Listed)
+    (free : get (finmap.remove names u) v ≡ None) where
   abbrev after_both : Names
   after_both = finmap.insert (finmap.remove names u) v m'
 
@@ -165,7 +167,8 @@ module _ (names : Names) (u : List ℕ) (m : Listed) (is_there : get names u ≡
       → but m.folder m.place u None put_in j p v ≡ cond (is_spot m'.folder m'.place j p) (Some (shown (v, m'))) None
   same-name not j p = by_key nat_list_cmp_total exact_bytes v u
       (λ is.
-      subst (λ (w : List ℕ). cond (is_spot m.folder m.place j p && eq_by_cmp name_cmp v w) None (put_in j p v) ≡ cond (is_spot m'.folder m'.place j p) (Some (shown (v, m'))) None) is
+      subst (λ (w : List ℕ). cond (is_spot m.folder m.place j p && eq_by_cmp name_cmp v w) None (put_in j p v)
+      ≡ cond (is_spot m'.folder m'.place j p) (Some (shown (v, m'))) None) is
       (at-own (is_spot m.folder m.place j p) v None (put_in j p v)
       ∙ ap (cond (is_spot m.folder m.place j p) None) (at-own (is_spot m'.folder m'.place j p) v (Some (shown (v, m'))) (shown_at names j p v)
       ∙ ap (cond (is_spot m'.folder m'.place j p) (Some (shown (v, m')))) (ap (shown_at names j p) is ∙ was-here j p))
@@ -177,13 +180,16 @@ module _ (names : Names) (u : List ℕ) (m : Listed) (is_there : get names u ≡
 
   other-name : (j : ℕ) (p : Place) (w : List ℕ) → w ≢ v → but m.folder m.place u None put_in j p w ≡ shown_at (finmap.remove names u) j p w
   other-name j p w not =
-      ap (cond (is_spot m.folder m.place j p && eq_by_cmp name_cmp w u) None) (at-other (is_spot m'.folder m'.place j p) v w not (Some (shown (v, m'))) (shown_at names j p w))
+      ap (cond (is_spot m.folder m.place j p && eq_by_cmp name_cmp w u) None)
+      (at-other (is_spot m'.folder m'.place j p) v w not (Some (shown (v, m'))) (shown_at names j p w))
       ∙ removed names u m is_there j p w
 
-  pub renamed : (not : (j : ℕ) (p : Place) → v ≡ u → is_spot m.folder m.place j p ≡ true → is_spot m'.folder m'.place j p ≡ true → ⊥) (j : ℕ) (p : Place) (w : List ℕ)
+  pub renamed : (not : (j : ℕ) (p : Place) → v ≡ u → is_spot m.folder m.place j p ≡ true → is_spot m'.folder m'.place j p ≡ true → ⊥) (j : ℕ)
+      (p : Place) (w : List ℕ)
       → but m.folder m.place u None put_in j p w ≡ shown_at after_both j p w
   renamed not j p w = by_key nat_list_cmp_total exact_bytes w v
-      (λ is. subst (λ (x : List ℕ). but m.folder m.place u None put_in j p x ≡ shown_at after_both j p x) (sym is) (same-name not j p ∙ sym (put-here (finmap.remove names u) v m' j p)))
+      (λ is. subst (λ (x : List ℕ). but m.folder m.place u None put_in j p x ≡ shown_at after_both j p x) (sym is)
+      (same-name not j p ∙ sym (put-here (finmap.remove names u) v m' j p)))
       (λ is. other-name j p w is ∙ sym (put-beside (finmap.remove names u) v m' j p w is))
 
   at-place : (a : Bool) (x y : Option Entry) → cond a x (cond a y None) ≡ cond a x None

@@ -23,7 +23,8 @@ use Rattle.std.proofs.Common.{eqb-true}
 -- where no entry has the unique name, none is picked
 none-picked : (u : List ℕ) (es : List Entry) → ((e : Entry) → Has es e → is_of u e ≡ false) → filter (is_of u) es ≡ []
 none-picked u [] none = refl
-none-picked u (e ∷ es) none = ap (λ b. cond b (e ∷ filter (is_of u) es) (filter (is_of u) es)) (none e (inl refl)) ∙ none-picked u es (λ f has. none f (inr has))
+none-picked u (e ∷ es) none =
+    ap (λ b. cond b (e ∷ filter (is_of u) es) (filter (is_of u) es)) (none e (inl refl)) ∙ none-picked u es (λ f has. none f (inr has))
 
 module _ (s : State) (one : HasOnePath s) (folder : ℕ) (place : Place) (not_tmp : is_tmp place ≡ false) where
   -- a row's entry is of a message, with the unique name of its path
@@ -50,25 +51,29 @@ module _ (s : State) (one : HasOnePath s) (folder : ℕ) (place : Place) (not_tm
 
   -- two messages of one unique name aren't at two paths
   apart-from : (x : Path × ℕ) (e : Entry) (es : List (Path × ℕ)) → ((y : Path × ℕ) → Has (x ∷ es) y → file_at s y.0 ≡ Some y.1) → T (below_all path_cmp x.0 es)
-      → in_place s folder place x ≡ true → row_entry s folder place x ≡ Some e → (f : Entry) → Has (filter_map (row_entry s folder place) (filter (in_place s folder place) es)) f → e.unique ≡ f.unique → ⊥
+      → in_place s folder place x ≡ true → row_entry s folder place x ≡ Some e → (f : Entry)
+      → Has (filter_map (row_entry s folder place) (filter (in_place s folder place) es)) f → e.unique ≡ f.unique → ⊥
   apart-from x e es there below inside made f has same =
       let from = came (in_place s folder place) (row_entry s folder place) es f has in
       let mine = is_row x e inside made in
       let its = is_row from.0 f from.2 from.3 in
-      let path : x.0 ≡ from.0.0 = one x.0 from.0.0 x.1 from.0.1 (there x (inl refl)) (there from.0 (inr from.1)) mine.message its.message (mine.unique ∙ same ∙ sym its.unique) in
+      let path : x.0 ≡ from.0.0 =
+      one x.0 from.0.0 x.1 from.0.1 (there x (inl refl)) (there from.0 (inr from.1)) mine.message its.message (mine.unique ∙ same ∙ sym its.unique) in
       let low : path_cmp x.0 from.0.0 ≡ Less = above x from.0 es below from.1 in
       let tie = tied_itself path_total x.0 in
       let both : path_cmp x.0 x.0 ≡ Less = ap (path_cmp x.0) path ∙ low in
       cc
 
-  apart-rows : (es : List (Path × ℕ)) → ((y : Path × ℕ) → Has es y → file_at s y.0 ≡ Some y.1) → T (is_sorted path_cmp es) → IsApart (filter_map (row_entry s folder place) (filter (in_place s folder place) es))
+  apart-rows : (es : List (Path × ℕ)) → ((y : Path × ℕ) → Has es y → file_at s y.0 ≡ Some y.1) → T (is_sorted path_cmp es)
+      → IsApart (filter_map (row_entry s folder place) (filter (in_place s folder place) es))
   apart-rows [] there sorted u = omega arith
   apart-rows (x ∷ es) there sorted u = by (apart-rows es (λ y has. there y (inr has)) (second _ _ sorted) u) (in_place s folder place x) refl
     where
       rest : List Entry
       rest = filter_map (row_entry s folder place) (filter (in_place s folder place) es)
 
-      picked : (e : Entry) → ((f : Entry) → Has rest f → e.unique ≡ f.unique → ⊥) → length (filter (is_of u) rest) ≤ 1 → (b : Bool) → is_of u e ≡ b → length (cond b (e ∷ filter (is_of u) rest) (filter (is_of u) rest)) ≤ 1
+      picked : (e : Entry) → ((f : Entry) → Has rest f → e.unique ≡ f.unique → ⊥) → length (filter (is_of u) rest) ≤ 1 → (b : Bool) → is_of u e ≡ b
+          → length (cond b (e ∷ filter (is_of u) rest) (filter (is_of u) rest)) ≤ 1
       picked e apart few false is = few
       picked e apart few true is =
           let none : filter (is_of u) rest ≡ [] = none-picked u rest (λ f has. not_of f has (is_of u f) refl) in
@@ -78,12 +83,14 @@ module _ (s : State) (one : HasOnePath s) (folder : ℕ) (place : Place) (not_tm
           not_of f has false it = it
           not_of f has true it = absurd (apart f has (sym (tie-same u e.unique is) ∙ tie-same u f.unique it))
 
-      made : length (filter (is_of u) rest) ≤ 1 → in_place s folder place x ≡ true → (o : Option Entry) → row_entry s folder place x ≡ o → length (filter (is_of u) (cons_option o rest)) ≤ 1
+      made : length (filter (is_of u) rest) ≤ 1 → in_place s folder place x ≡ true → (o : Option Entry) → row_entry s folder place x ≡ o
+          → length (filter (is_of u) (cons_option o rest)) ≤ 1
       made few inside None is = few
       made few inside (Some e) is = picked e (apart-from x e es there (first _ _ sorted) inside is) few (is_of u e) refl
 
       by : length (filter (is_of u) rest) ≤ 1 → (b : Bool) → in_place s folder place x ≡ b
-          → length (filter (is_of u) (filter_map (row_entry s folder place) (cond b (x ∷ filter (in_place s folder place) es) (filter (in_place s folder place) es)))) ≤ 1
+          → length (filter (is_of u)
+          (filter_map (row_entry s folder place) (cond b (x ∷ filter (in_place s folder place) es) (filter (in_place s folder place) es)))) ≤ 1
       by few false is = few
       by few true is = made few is (row_entry s folder place x) refl
 

@@ -34,7 +34,8 @@ module _ (n : Named) where
   free-name : (names : Names) (name : List ℕ) → is_message_name name ≡ true → get names (unique_of name) ≡ None → is_free names name ≡ true
   free-name names name message none = and-both _ _ message (ap (λ (o : Option Listed). not (is_some o)) none)
 
-  has-own : (folder : ℕ) (place : Place) (name : List ℕ) (size : ℕ) → has_name folder place name (record { folder = folder; place = place; name = name; size = size }) ≡ true
+  has-own : (folder : ℕ) (place : Place) (name : List ℕ) (size : ℕ)
+      → has_name folder place name (record { folder = folder; place = place; name = name; size = size }) ≡ true
   has-own folder place name size = and-both _ _ (and-both _ _ (nat_eq_equiv.refl folder) (nat_eq_equiv.refl (place_index place))) (nat_list_eq_equiv.refl name)
 
   there-name : (folder : ℕ) (place : Place) (name : List ℕ) → IsThere n.names folder place name → is_there n folder place name ≡ true
@@ -51,12 +52,15 @@ module _ (n : Named) where
         (unique_of-flagged (unique_of name) s (colonless-unique_of name))
 
     -- a name under the same unique name is free once the old one is gone
-    free-again : (name to_name : List ℕ) → unique_of to_name ≡ unique_of name → is_message_name to_name ≡ true → is_free (finmap.remove n.names (unique_of name)) to_name ≡ true
+    free-again : (name to_name : List ℕ) → unique_of to_name ≡ unique_of name → is_message_name to_name ≡ true
+        → is_free (finmap.remove n.names (unique_of name)) to_name ≡ true
     free-again name to_name same message =
-        free-name (finmap.remove n.names (unique_of name)) to_name message (at_drop nat_list_cmp_total exact_bytes n.names (unique_of name) (unique_of to_name) same)
+        free-name (finmap.remove n.names (unique_of name)) to_name message
+        (at_drop nat_list_cmp_total exact_bytes n.names (unique_of name) (unique_of to_name) same)
 
     pub rename-fits : (folder : ℕ) (place : Place) (name : List ℕ) (to_folder : ℕ) (to_place : Place) (to_name : List ℕ)
-        → to_folder < n.folders → is_tmp to_place ≡ false → unique_of to_name ≡ unique_of name → is_message_name to_name ≡ true → IsThere n.names folder place name
+        → to_folder < n.folders → is_tmp to_place ≡ false → unique_of to_name ≡ unique_of name → is_message_name to_name ≡ true
+        → IsThere n.names folder place name
         → fits n (change.Rename folder place name to_folder to_place to_name) ≡ true
     rename-fits folder place name to_folder to_place to_name within is same message there =
         let m = message-there folder place name there in
@@ -91,5 +95,6 @@ module _ (n : Named) where
       allowed-fits a c h = absurd h
 
       -- so it is made
-      pub allowed-applied : (a : Answer) (c : Change) → IsAllowed n.folders n.names IsFresh a c → applied n c ≡ record { folders = n.folders; names = changed n.names c }
+      pub allowed-applied : (a : Answer) (c : Change) → IsAllowed n.folders n.names IsFresh a c
+          → applied n c ≡ record { folders = n.folders; names = changed n.names c }
       allowed-applied a c h = ap (λ b. cond b (record { folders = n.folders; names = changed n.names c }) n) (allowed-fits a c h)

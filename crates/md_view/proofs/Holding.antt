@@ -24,7 +24,8 @@ abbrev pub shown_at : Names → ℕ → Place → List ℕ → Option Entry
 shown_at names folder place u = option_and_then (entry_at folder place u) (get names u)
 
 -- a list in order that shows what the names show is their reading
-pub reading-is : (names : Names) (folder : ℕ) (place : Place) (es : List Entry) → IsSorted es → ((u : List ℕ) → found u es ≡ shown_at names folder place u) → es ≡ reading_of names folder place
+pub reading-is : (names : Names) (folder : ℕ) (place : Place) (es : List Entry) → IsSorted es → ((u : List ℕ) → found u es ≡ shown_at names folder place u)
+    → es ≡ reading_of names folder place
 reading-is names folder place es sorted same =
     sorted-values es (reading_of names folder place) sorted (λ u. same u ∙ sym (lookup-reading folder place names u))
     ∙ sym (sorted-values (reading_of names folder place) (reading_of names folder place) (reading-sorted folder place names) (λ u. refl))
@@ -40,7 +41,8 @@ held-lists n fs held = record {
   at = λ folder place u. ap (found u) (held.lists folder place) ∙ lookup-reading folder place n.names u;
 }
 
-pub lists-held : (n : Named) (fs : List FolderLists) → length fs < 2 ^ 32 → length fs ≡ n.folders → AreMessages n → AreLists fs (shown_at n.names) → AreHeld n fs
+pub lists-held : (n : Named) (fs : List FolderLists) → length fs < 2 ^ 32 → length fs ≡ n.folders → AreMessages n
+    → AreLists fs (shown_at n.names) → AreHeld n fs
 lists-held n fs few count messages lists = record {
   few = few;
   count = count;
@@ -51,7 +53,8 @@ lists-held n fs few count messages lists = record {
 find-both : (u : List ℕ) (xs ys : List (List ℕ × Listed)) → find name_cmp u (xs ++ ys) ≡ option_or (find name_cmp u xs) (find name_cmp u ys)
 find-both u [] ys = refl
 find-both u (x ∷ xs) ys =
-    elim (eq_by_cmp name_cmp u x.0) as (λ b. cond b (Some x.1) (find name_cmp u (xs ++ ys)) ≡ option_or (cond b (Some x.1) (find name_cmp u xs)) (find name_cmp u ys)) [
+    elim (eq_by_cmp name_cmp u x.0)
+    as (λ b. cond b (Some x.1) (find name_cmp u (xs ++ ys)) ≡ option_or (cond b (Some x.1) (find name_cmp u xs)) (find name_cmp u ys)) [
       | true ↦ refl
       | false ↦ find-both u xs ys
     ]
@@ -63,7 +66,8 @@ says folder e = (by_folder folder e).1
 find-by_folder : (u : List ℕ) (folder : ℕ) (es : List Entry) → find name_cmp u (map (by_folder folder) es) ≡ option_map (says folder) (found u es)
 find-by_folder u folder [] = refl
 find-by_folder u folder (e ∷ es) =
-    elim (eq_by_cmp name_cmp u e.unique) as (λ b. cond b (Some (says folder e)) (find name_cmp u (map (by_folder folder) es)) ≡ option_map (says folder) (cond b (Some e) (found u es))) [
+    elim (eq_by_cmp name_cmp u e.unique)
+    as (λ b. cond b (Some (says folder e)) (find name_cmp u (map (by_folder folder) es)) ≡ option_map (says folder) (cond b (Some e) (found u es))) [
       | true ↦ refl
       | false ↦ find-by_folder u folder es
     ]
@@ -84,7 +88,8 @@ module _ (u : List ℕ) (o : Option Listed) where
   shares folder zero = None
   shares folder (suc count) = option_or (share folder) (shares (suc folder) count)
 
-  find-from : (folder : ℕ) (fs : List FolderLists) → ((k : ℕ) (f : FolderLists) → slice_get fs k ≡ Some f → option_map (says (folder + k)) (found u (f.in_new ++ f.in_cur)) ≡ share (folder + k))
+  find-from : (folder : ℕ) (fs : List FolderLists)
+      → ((k : ℕ) (f : FolderLists) → slice_get fs k ≡ Some f → option_map (says (folder + k)) (found u (f.in_new ++ f.in_cur)) ≡ share (folder + k))
       → find name_cmp u (listed_from folder fs) ≡ shares folder (length fs)
   find-from folder [] each = refl
   find-from folder (f ∷ fs) each =
@@ -118,7 +123,8 @@ one-share : (u : List ℕ) (m : Listed) (folder count : ℕ) → folder ≤ m.fo
 one-share u m folder zero from to = absurd (omega arith)
 one-share u m folder (suc count) from to = by (λ above. one-share u m (suc folder) count above (omega (arith, to))) (m.folder == folder) refl
   where
-    by : (suc folder ≤ m.folder → shares u (Some m) (suc folder) count ≡ Some m) → (b : Bool) → (m.folder == folder) ≡ b → option_or (cond b (Some m) None) (shares u (Some m) (suc folder) count) ≡ Some m
+    by : (suc folder ≤ m.folder → shares u (Some m) (suc folder) count ≡ Some m) → (b : Bool) → (m.folder == folder) ≡ b
+        → option_or (cond b (Some m) None) (shares u (Some m) (suc folder) count) ≡ Some m
     by rest true is = refl
     by rest false is = rest (elim (cases_lt folder m.folder) [
       | inl low ↦ omega (arith, low)
@@ -133,19 +139,22 @@ all-shares u None count within = no-shares u 0 count
 all-shares u (Some m) count within = let low = within m refl in one-share u m 0 count (omega arith) (omega (arith, low))
 
 -- a message in new or cur is in one of the two lists
-two-places : {X : Type 0} (x : X) (b new cur : Bool) → new ≡ true → cur ≡ false → option_or (cond (b && new) (Some x) None) (cond (b && cur) (Some x) None) ≡ cond b (Some x) None
+two-places : {X : Type 0} (x : X) (b new cur : Bool) → new ≡ true → cur ≡ false
+    → option_or (cond (b && new) (Some x) None) (cond (b && cur) (Some x) None) ≡ cond b (Some x) None
 two-places x true true false p q = refl
 two-places x false true false p q = refl
 two-places x b false c p q = cc
 two-places x b true true p q = cc
 
-other-places : {X : Type 0} (x : X) (b new cur : Bool) → new ≡ false → cur ≡ true → option_or (cond (b && new) (Some x) None) (cond (b && cur) (Some x) None) ≡ cond b (Some x) None
+other-places : {X : Type 0} (x : X) (b new cur : Bool) → new ≡ false → cur ≡ true
+    → option_or (cond (b && new) (Some x) None) (cond (b && cur) (Some x) None) ≡ cond b (Some x) None
 other-places x true false true p q = refl
 other-places x false false true p q = refl
 other-places x b true c p q = cc
 other-places x b false false p q = cc
 
-in-either : (u : List ℕ) (m : Listed) (folder : ℕ) → is_tmp m.place ≡ false → option_or (entry_at folder New u m) (entry_at folder Cur u m) ≡ cond (m.folder == folder) (Some (shown (u, m))) None
+in-either : (u : List ℕ) (m : Listed) (folder : ℕ) → is_tmp m.place ≡ false
+    → option_or (entry_at folder New u m) (entry_at folder Cur u m) ≡ cond (m.folder == folder) (Some (shown (u, m))) None
 in-either u m folder placed = by m.place refl
   where
     at : (q p : Place) → m.place ≡ p → (b : Bool) → (place_index p == place_index q) ≡ b → (place_index m.place == place_index q) ≡ b
@@ -153,10 +162,13 @@ in-either u m folder placed = by m.place refl
 
     by : (p : Place) → m.place ≡ p → option_or (entry_at folder New u m) (entry_at folder Cur u m) ≡ cond (m.folder == folder) (Some (shown (u, m))) None
     by Tmp is = let never : true ≡ false = sym (ap is_tmp is) ∙ placed in cc
-    by New is = two-places (shown (u, m)) (m.folder == folder) (place_index m.place == place_index New) (place_index m.place == place_index Cur) (at New New is true refl) (at Cur New is false refl)
-    by Cur is = other-places (shown (u, m)) (m.folder == folder) (place_index m.place == place_index New) (place_index m.place == place_index Cur) (at New Cur is false refl) (at Cur Cur is true refl)
+    by New is = two-places (shown (u, m)) (m.folder == folder) (place_index m.place == place_index New) (place_index m.place == place_index Cur)
+        (at New New is true refl) (at Cur New is false refl)
+    by Cur is = other-places (shown (u, m)) (m.folder == folder) (place_index m.place == place_index New) (place_index m.place == place_index Cur)
+        (at New Cur is false refl) (at Cur Cur is true refl)
 
-shares-said : (u : List ℕ) (m : Listed) (folder : ℕ) → option_map (says folder) (cond (m.folder == folder) (Some (shown (u, m))) None) ≡ cond (m.folder == folder) (Some m) None
+shares-said : (u : List ℕ) (m : Listed) (folder : ℕ)
+    → option_map (says folder) (cond (m.folder == folder) (Some (shown (u, m))) None) ≡ cond (m.folder == folder) (Some m) None
 shares-said u m folder = by (m.folder == folder) refl
   where
     by : (b : Bool) → (m.folder == folder) ≡ b → option_map (says folder) (cond b (Some (shown (u, m))) None) ≡ cond b (Some m) None
@@ -170,17 +182,20 @@ module _ (n : Named) (fs : List FolderLists) (held : AreHeld n fs) where
   lists-of : (folder : ℕ) (f : FolderLists) → slice_get fs folder ≡ Some f → (place : Place) → list_of place f ≡ listed_in fs folder place
   lists-of folder f at place = sym (ap (λ (o : Option FolderLists). option_map_or (list_of place) o []) at)
 
-  pub found-in : (folder : ℕ) (f : FolderLists) → slice_get fs folder ≡ Some f → (place : Place) (u : List ℕ) → found u (list_of place f) ≡ shown_at n.names folder place u
+  pub found-in : (folder : ℕ) (f : FolderLists) → slice_get fs folder ≡ Some f → (place : Place) (u : List ℕ)
+      → found u (list_of place f) ≡ shown_at n.names folder place u
   found-in folder f at place u = ap (found u) (lists-of folder f at place) ∙ (held-lists n fs held).at folder place u
 
   either : (u : List ℕ) (folder : ℕ) (o : Option Listed) → get n.names u ≡ o
-      → option_or (shown_at n.names folder New u) (shown_at n.names folder Cur u) ≡ option_and_then (λ m. cond (m.folder == folder) (Some (shown (u, m))) None) o
+      → option_or (shown_at n.names folder New u) (shown_at n.names folder Cur u)
+      ≡ option_and_then (λ m. cond (m.folder == folder) (Some (shown (u, m))) None) o
   either u folder None is = λ i. option_or (option_and_then (entry_at folder New u) (is i)) (option_and_then (entry_at folder Cur u) (is i))
   either u folder (Some m) is =
       (λ i. option_or (option_and_then (entry_at folder New u) (is i)) (option_and_then (entry_at folder Cur u) (is i)))
       ∙ in-either u m folder (held.messages u m is).place
 
-  both-lists : (u : List ℕ) (folder : ℕ) (f : FolderLists) → slice_get fs folder ≡ Some f → option_map (says folder) (found u (f.in_new ++ f.in_cur)) ≡ share u (get n.names u) folder
+  both-lists : (u : List ℕ) (folder : ℕ) (f : FolderLists) → slice_get fs folder ≡ Some f
+      → option_map (says folder) (found u (f.in_new ++ f.in_cur)) ≡ share u (get n.names u) folder
   both-lists u folder f at =
       ap (option_map (says folder)) (lookup-append u f.in_new f.in_cur
       ∙ (λ i. option_or (found-in folder f at New u i) (found-in folder f at Cur u i)) ∙ either u folder (get n.names u) refl)
@@ -216,7 +231,8 @@ module _ (n : Named) (fs : List FolderLists) (held : AreHeld n fs) where
     where
       by : (o : Option Listed) → is_some (option_and_then (λ m. cond (m.folder == folder) (Some (shown (u, m))) None) o) ≡ is_some (share u o folder)
       by None = refl
-      by (Some m) = elim (m.folder == folder) as (λ b. is_some (cond b (Some (shown (u, m))) None) ≡ is_some (cond b (Some m) None)) [ true ↦ refl | false ↦ refl ]
+      by (Some m) =
+          elim (m.folder == folder) as (λ b. is_some (cond b (Some (shown (u, m))) None) ≡ is_some (cond b (Some m) None)) [ true ↦ refl | false ↦ refl ]
 
   -- whether a message has a unique name, folder by folder
   pub taken : (u : List ℕ) → list_any (has_unique u) fs ≡ is_some (get n.names u)

@@ -56,7 +56,8 @@ module _ (names : ℕ → Names) (folder i j : ℕ) (order : i ≤ j) (u : List 
       ∙ (λ k. option_or (lookup-reading folder Cur (names j) u k) (lookup-reading folder New (names i) u k))
 
   -- what a place says of a message that is in it, and of one that isn't
-  at-place : (place : Place) (x : Listed) (p : Place) → x.place ≡ p → entry_at folder place u x ≡ cond ((x.folder == folder) && (place_index p == place_index place)) (Some (shown (u, x))) None
+  at-place : (place : Place) (x : Listed) (p : Place) → x.place ≡ p
+      → entry_at folder place u x ≡ cond ((x.folder == folder) && (place_index p == place_index place)) (Some (shown (u, x))) None
   at-place place x p is = ap (λ (q : Place). cond ((x.folder == folder) && (place_index q == place_index place)) (Some (shown (u, x))) None) is
 
   and-false : (b : Bool) → (b && false) ≡ false
@@ -68,10 +69,12 @@ module _ (names : ℕ → Names) (folder i j : ℕ) (order : i ≤ j) (u : List 
   and-true false = refl
 
   at-own : (place : Place) (x : Listed) → x.place ≡ place → (place_index place == place_index place) ≡ true → entry_at folder place u x ≡ shown_in folder u x
-  at-own place x is own = at-place place x place is ∙ ap (λ b. cond {A = Option Entry} b (Some (shown (u, x))) None) (ap (λ b. (x.folder == folder) && b) own ∙ and-true (x.folder == folder))
+  at-own place x is own = at-place place x place is
+      ∙ ap (λ b. cond {A = Option Entry} b (Some (shown (u, x))) None) (ap (λ b. (x.folder == folder) && b) own ∙ and-true (x.folder == folder))
 
   at-other : (place p : Place) (x : Listed) → x.place ≡ p → (place_index p == place_index place) ≡ false → entry_at folder place u x ≡ None
-  at-other place p x is other = at-place place x p is ∙ ap (λ b. cond {A = Option Entry} b (Some (shown (u, x))) None) (ap (λ b. (x.folder == folder) && b) other ∙ and-false (x.folder == folder))
+  at-other place p x is other = at-place place x p is
+      ∙ ap (λ b. cond {A = Option Entry} b (Some (shown (u, x))) None) (ap (λ b. (x.folder == folder) && b) other ∙ and-false (x.folder == folder))
 
   -- how a unique name stands among the names of a moment
   data Stands (m : Names) : Type 0 where
@@ -86,7 +89,8 @@ module _ (names : ℕ → Names) (folder i j : ℕ) (order : i ≤ j) (u : List 
       m = names k
 
       by : (o : Option Listed) → get (names k) u ≡ o → Stands (names k)
-      by None is = nowhere (ap (option_and_then (shown_in folder u)) is) (ap (option_and_then (entry_at folder New u)) is) (ap (option_and_then (entry_at folder Cur u)) is)
+      by None is = nowhere (ap (option_and_then (shown_in folder u)) is) (ap (option_and_then (entry_at folder New u)) is)
+          (ap (option_and_then (entry_at folder Cur u)) is)
       by (Some x) is = placed x.place refl
         where
           new_is : new_at (names k) ≡ entry_at folder New u x
@@ -132,7 +136,8 @@ module _ (names : ℕ → Names) (folder i j : ℕ) (order : i ≤ j) (u : List 
   pub some_moment : IsOfSomeMoment names folder i j u
   some_moment = by (stands i) (stands j)
     where
-      of_cur : (o : Option Entry) → entry_in (names j) folder u ≡ o → cur_at (names j) ≡ entry_in (names j) folder u → Stands (names i) → IsOfSomeMoment names folder i j u
+      of_cur : (o : Option Entry) → entry_in (names j) folder u ≡ o → cur_at (names j) ≡ entry_in (names j) folder u → Stands (names i)
+          → IsOfSomeMoment names folder i j u
       of_cur (Some e) is here s = at_last (shows-both (Some e) (new_at (names i)) (here ∙ is) refl ∙ sym is)
       of_cur None is here (nowhere gone new cur) = at_first (shows-both None None (here ∙ is) new ∙ sym gone)
       of_cur None is here (in_new x was at new cur) = by_first (here ∙ is) new
@@ -171,7 +176,9 @@ pub good-listing : (names : ℕ → Names) (folder i j : ℕ) → i ≤ j → ((
 good-listing names folder i j order no_tmp stays = record {
   some_moment = λ u. some_moment names folder i j order u (no_tmp u) (stays u);
   at_both = λ u. at_both names folder i j order u (no_tmp u) (stays u);
-  once = in-order _ (join-sorted (reading_of (names i) folder New) (reading_of (names j) folder Cur) (reading-sorted folder New (names i)) (reading-sorted folder Cur (names j)));
+  once =
+      in-order _ (join-sorted (reading_of (names i) folder New) (reading_of (names j) folder Cur) (reading-sorted folder New (names i))
+      (reading-sorted folder Cur (names j)));
 }
 
 pub good-history : (folders : ℕ) (s : State) (history : List Effect) → IsLegal folders (names_of (mailbox_of s)) history → (folder i j : ℕ) → i ≤ j
@@ -191,6 +198,8 @@ pub good-run : (r : Run) → Interleaves r → (folder i j : ℕ) → i ≤ j �
 good-run r all folder i j order = good-listing (names_at r) folder i j order
     (λ u k x is. not_in_tmp (moment r k).dirs u x is)
     (λ u x is at.
-    let counted : (k : ℕ) → get (names_at r k) u ≡ get (names_after (opening_of r all) (effects_of r) (count_at r all k)) u = λ k. ap (λ (m : Names). get m u) (names-counted r all k) in
+    let counted : (k : ℕ) → get (names_at r k) u ≡ get (names_after (opening_of r all) (effects_of r) (count_at r all k)) u =
+    λ k. ap (λ (m : Names). get m u) (names-counted r all k) in
     subst IsInCur (sym (counted j))
-    (stays-in_cur r.image.folders (opening_of r all) (effects_of r) all.legal (count_at r all i) u x (sym (counted i) ∙ is) at (count_at r all j) (counts-rise r all i j order)))
+    (stays-in_cur r.image.folders (opening_of r all) (effects_of r) all.legal (count_at r all i) u x (sym (counted i) ∙ is) at (count_at r all j)
+    (counts-rise r all i j order)))

@@ -27,7 +27,8 @@ and-false false = refl
 pub reading-tmp : (s : State) (folder : ℕ) → [] ≡ reading_of (names_of (mailbox_of s)) folder Tmp
 reading-tmp s folder = reading-by s folder Tmp [] tt (λ u. by u (get (names_of (mailbox_of s)) u) refl)
   where
-    by : (u : List ℕ) (o : Option Listed) → get (names_of (mailbox_of s)) u ≡ o → None ≡ option_and_then (entry_at folder Tmp u) (get (names_of (mailbox_of s)) u)
+    by : (u : List ℕ) (o : Option Listed) → get (names_of (mailbox_of s)) u ≡ o
+        → None ≡ option_and_then (entry_at folder Tmp u) (get (names_of (mailbox_of s)) u)
     by u None is = sym (ap (option_and_then (entry_at folder Tmp u)) is)
     by u (Some x) is = sym (ap (option_and_then (entry_at folder Tmp u)) is ∙ placed x.place refl)
       where
@@ -46,12 +47,14 @@ module _ (s : State) (one : HasOnePath s) (folder : ℕ) (place : Place) (not_tm
   -- the rows were in order of unique name
   pub reading-in_order : (es : List Entry) → es ≡ in_rows s folder place → IsSorted es → es ≡ reading_of (names_of (mailbox_of s)) folder place
   reading-in_order es is sorted =
-      rows-reading s folder place es sorted one not_tmp (λ e has. subst (λ (l : List Entry). Has l e) is has) (λ e has. subst (λ (l : List Entry). Has l e) (sym is) has)
+      rows-reading s folder place es sorted one not_tmp (λ e has. subst (λ (l : List Entry). Has l e) is has)
+      (λ e has. subst (λ (l : List Entry). Has l e) (sym is) has)
 
   -- or they were sorted
   module _ (was es : List Entry) (is : was ≡ in_rows s folder place) (permutes : IsPermutation was es) (sorts : IsSortedBy is_under es) where
     pub sorted-in_order : IsSorted es
-    sorted-in_order = strictly es sorts (apart-permuted was es permutes (subst Rattle.md_view.proofs.Ordered.IsApart (sym is) (rows-apart s one folder place not_tmp)))
+    sorted-in_order =
+        strictly es sorts (apart-permuted was es permutes (subst Rattle.md_view.proofs.Ordered.IsApart (sym is) (rows-apart s one folder place not_tmp)))
 
     pub reading-sorted_by : es ≡ reading_of (names_of (mailbox_of s)) folder place
     reading-sorted_by =

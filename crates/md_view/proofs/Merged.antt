@@ -41,8 +41,10 @@ module _ (n : Entry) (new : List Entry) (before : IsBelow n.unique new) (rest : 
       → (cur : List Entry) → IsSorted cur → IsSorted (into n rest cur)
   sorted-into below more [] sorted = both _ _ (below n.unique [] before tt) (more [] tt)
   sorted-into below more (c ∷ cur) sorted =
-      elim (name_cmp n.unique c.unique) as (λ o. name_cmp n.unique c.unique ≡ o → IsSorted (by_order o (n ∷ rest (c ∷ cur)) (rest (c ∷ cur)) (c ∷ into n rest cur))) [
-        | Less ↦ λ is. both _ _ (below n.unique (c ∷ cur) before (both _ _ (is_less _ is) (below-less n.unique c.unique cur is (first _ _ sorted)))) (more (c ∷ cur) sorted)
+      elim (name_cmp n.unique c.unique)
+      as (λ o. name_cmp n.unique c.unique ≡ o → IsSorted (by_order o (n ∷ rest (c ∷ cur)) (rest (c ∷ cur)) (c ∷ into n rest cur))) [
+        | Less ↦ λ is. both _ _ (below n.unique (c ∷ cur) before (both _ _ (is_less _ is) (below-less n.unique c.unique cur is (first _ _ sorted))))
+            (more (c ∷ cur) sorted)
         | Equal ↦ λ is. more (c ∷ cur) sorted
         | Greater ↦ λ is.
             let under : name_cmp c.unique n.unique ≡ Less = turned c.unique n.unique Greater is in
@@ -62,7 +64,8 @@ module _ (n : Entry) (new : List Entry) (before : IsBelow n.unique new) (rest : 
             cond b (Some n) (option_or (lookup u (c ∷ cur)) (lookup u new)) ≡ option_or (lookup u (c ∷ cur)) (cond b (Some n) (lookup u new))) [
               | true ↦ λ t.
                   let under : name_cmp u c.unique ≡ Less = ap (λ v. name_cmp v c.unique) (tie-same u n.unique t) ∙ is in
-                  sym (ap (λ o. option_or o (Some n)) (lookup-below u (c ∷ cur) (both _ _ (is_less _ under) (below-less u c.unique cur under (first _ _ sorted)))))
+                  sym (ap (λ o. option_or o (Some n))
+                  (lookup-below u (c ∷ cur) (both _ _ (is_less _ under) (below-less u c.unique cur under (first _ _ sorted)))))
               | false ↦ λ t. refl
             ] refl
         | Equal ↦ λ is.
@@ -118,7 +121,8 @@ rest_whole : (es : List Entry) (i : ℕ) → take (length es - i) (drop i es) �
 rest_whole es i = rw (← length-drop i es) (take-length (drop i es))
 
 pub ended-new : (new cur : List Entry) (i j : ℕ) → length new ≤ i → merged (drop i new) (drop j cur) ≡ drop i new ++ drop j cur
-ended-new new cur i j past = ap (λ (es : List Entry). merged es (drop j cur)) (drop-past new i past) ∙ sym (ap (λ (es : List Entry). es ++ drop j cur) (drop-past new i past))
+ended-new new cur i j past =
+    ap (λ (es : List Entry). merged es (drop j cur)) (drop-past new i past) ∙ sym (ap (λ (es : List Entry). es ++ drop j cur) (drop-past new i past))
 
 pub ended-cur : (new cur : List Entry) (i j : ℕ) → length cur ≤ j → merged (drop i new) (drop j cur) ≡ drop i new ++ drop j cur
 ended-cur new cur i j past =
@@ -127,7 +131,8 @@ ended-cur new cur i j past =
 
 -- what was merged, and what is left of both lists, are their join
 pub whole-join : (new cur all one two : List Entry) (i j : ℕ) → IsSorted new → IsSorted cur → all ++ merged (drop i new) (drop j cur) ≡ merged new cur
-    → merged (drop i new) (drop j cur) ≡ drop i new ++ drop j cur → one ≡ all ++ take (length new - i) (drop i new) → two ≡ one ++ take (length cur - j) (drop j cur) → two ≡ join_of new cur
+    → merged (drop i new) (drop j cur) ≡ drop i new ++ drop j cur → one ≡ all ++ take (length new - i) (drop i new)
+    → two ≡ one ++ take (length cur - j) (drop j cur) → two ≡ join_of new cur
 whole-join new cur all one two i j before sorted merges ended first second =
     second ∙ (λ k. first k ++ rest_whole cur j k) ∙ (λ k. (all ++ rest_whole new i k) ++ drop j cur)
     ∙ append_assoc all (drop i new) (drop j cur) ∙ ap (λ (es : List Entry). all ++ es) (sym ended) ∙ merges ∙ merged-join new cur before sorted

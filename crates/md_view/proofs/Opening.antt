@@ -42,13 +42,15 @@ sound-messages s sound u x is = by (get (mailbox_of s) u) refl
 
 module _ (n : Named) (are : AreMessages n) where
   -- where no message is, none is read
-  none-read : (folder : ℕ) (place : Place) → ((u : List ℕ) (m : Listed) → get n.names u ≡ Some m → is_at folder place (u, m) ≡ true → ⊥) → [] ≡ reading_of n.names folder place
+  none-read : (folder : ℕ) (place : Place) → ((u : List ℕ) (m : Listed) → get n.names u ≡ Some m → is_at folder place (u, m) ≡ true → ⊥)
+      → [] ≡ reading_of n.names folder place
   none-read folder place not = reading-is n.names folder place [] tt (λ u. by u (get n.names u) refl)
     where
       by : (u : List ℕ) (o : Option Listed) → get n.names u ≡ o → None ≡ shown_at n.names folder place u
       by u None is = sym (ap (option_and_then (entry_at folder place u)) is)
       by u (Some m) is =
-          ap {B = Option Entry} (λ (b : Bool). cond b (Some (shown (u, m))) None) (sym (never (is_at folder place (u, m)) refl)) ∙ sym (ap (option_and_then (entry_at folder place u)) is)
+          ap {B = Option Entry} (λ (b : Bool). cond b (Some (shown (u, m))) None) (sym (never (is_at folder place (u, m)) refl))
+          ∙ sym (ap (option_and_then (entry_at folder place u)) is)
         where
           never : (b : Bool) → is_at folder place (u, m) ≡ b → is_at folder place (u, m) ≡ false
           never true at = absurd (not u m is at)

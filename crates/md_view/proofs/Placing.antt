@@ -21,7 +21,8 @@ use Rattle.md_view.proofs.Keyed.{IsBelow, IsSorted, both, first, second, less, i
 
 -- two names that aren't one don't tie
 pub apart : (u v : List ℕ) → u ≢ v → eq_by_cmp name_cmp u v ≡ false
-apart u v not = elim (eq_by_cmp name_cmp u v) as (λ t. eq_by_cmp name_cmp u v ≡ t → t ≡ false) [ true ↦ λ t. absurd (not (tie-same u v t)) | false ↦ λ t. refl ] refl
+apart u v not =
+    elim (eq_by_cmp name_cmp u v) as (λ t. eq_by_cmp name_cmp u v ≡ t → t ≡ false) [ true ↦ λ t. absurd (not (tie-same u v t)) | false ↦ λ t. refl ] refl
 
 -- how an entry stands to a unique name
 turned-is : (u v : List ℕ) (o : Ordering) → name_cmp u v ≡ o → is_lt (name_cmp v u) ≡ is_lt (ordering_reverse o)
@@ -39,7 +40,8 @@ module _ (u : List ℕ) where
   pub before-place : (es : List Entry) (d : Entry) (j : ℕ) → j < place_for u es → name_cmp (get_or es j d).unique u ≡ Less
   before-place [] d j h = absurd (omega arith)
   before-place (e ∷ es) d j h =
-      elim (is_lt (name_cmp e.unique u)) as (λ b. is_lt (name_cmp e.unique u) ≡ b → j < cond b (suc (place_for u es)) 0 → name_cmp (get_or (e ∷ es) j d).unique u ≡ Less) [
+      elim (is_lt (name_cmp e.unique u))
+      as (λ b. is_lt (name_cmp e.unique u) ≡ b → j < cond b (suc (place_for u es)) 0 → name_cmp (get_or (e ∷ es) j d).unique u ≡ Less) [
         | true ↦ λ is h. elim j as (λ j. j < suc (place_for u es) → name_cmp (get_or (e ∷ es) j d).unique u ≡ Less) [
           | zero ↦ λ _. less _ (ordered _ is)
           | suc k ↦ λ h. before-place es d k (omega arith)
@@ -47,7 +49,8 @@ module _ (u : List ℕ) where
         | false ↦ λ is h. absurd (omega arith)
       ] refl h
 
-  not-below : (v : List ℕ) (es : List Entry) → is_lt (name_cmp v u) ≡ false → IsBelow v es → (d : Entry) (j : ℕ) → j < length es → is_lt (name_cmp (get_or es j d).unique u) ≡ false
+  not-below : (v : List ℕ) (es : List Entry) → is_lt (name_cmp v u) ≡ false → IsBelow v es → (d : Entry) (j : ℕ) → j < length es
+      → is_lt (name_cmp (get_or es j d).unique u) ≡ false
   not-below v [] is below d j h = absurd (omega arith)
   not-below v (e ∷ es) is below d zero h = by (is_lt (name_cmp e.unique u)) refl
     where
@@ -59,10 +62,12 @@ module _ (u : List ℕ) where
           sym never ∙ is
   not-below v (e ∷ es) is below d (suc j) h = not-below v es is (second _ _ below) d j (omega arith)
 
-  pub from-place : (es : List Entry) → IsSorted es → (d : Entry) (j : ℕ) → place_for u es ≤ j → j < length es → is_lt (name_cmp (get_or es j d).unique u) ≡ false
+  pub from-place : (es : List Entry) → IsSorted es → (d : Entry) (j : ℕ) → place_for u es ≤ j → j < length es
+      → is_lt (name_cmp (get_or es j d).unique u) ≡ false
   from-place [] sorted d j from to = absurd (omega arith)
   from-place (e ∷ es) sorted d j from to =
-      elim (is_lt (name_cmp e.unique u)) as (λ b. is_lt (name_cmp e.unique u) ≡ b → cond b (suc (place_for u es)) 0 ≤ j → is_lt (name_cmp (get_or (e ∷ es) j d).unique u) ≡ false) [
+      elim (is_lt (name_cmp e.unique u))
+      as (λ b. is_lt (name_cmp e.unique u) ≡ b → cond b (suc (place_for u es)) 0 ≤ j → is_lt (name_cmp (get_or (e ∷ es) j d).unique u) ≡ false) [
         | true ↦ λ is from. elim j as (λ j. suc (place_for u es) ≤ j → j < suc (length es) → is_lt (name_cmp (get_or (e ∷ es) j d).unique u) ≡ false) [
           | zero ↦ λ from to. absurd (omega arith)
           | suc k ↦ λ from to. from-place es (second _ _ sorted) d k (omega arith) (omega arith)
@@ -98,7 +103,8 @@ module _ (u : List ℕ) (es : List Entry) (sorted : IsSorted es) where
         | inr high ↦ elim (cases_lt (place_for u es) i) [
           | inl low ↦
               let low_is : is_before (get_or es (place_for u es) nothing) ≡ true = point.0 (place_for u es) nothing (omega arith) low in
-              let high_is : is_before (get_or es (place_for u es) nothing) ≡ false = from-place u es sorted nothing (place_for u es) (omega arith) (omega (arith, within, low)) in
+              let high_is : is_before (get_or es (place_for u es) nothing) ≡ false =
+              from-place u es sorted nothing (place_for u es) (omega arith) (omega (arith, within, low)) in
               let never : true ≡ false = sym low_is ∙ high_is in cc
           | inr back ↦ omega (arith, high, back)
         ]
@@ -127,7 +133,8 @@ pub found-at : (u : List ℕ) (es : List Entry) → IsSorted es → found u es �
 found-at u [] sorted = refl
 found-at u (e ∷ es) sorted = by (found-at u es (second _ _ sorted)) (name_cmp u e.unique) refl
   where
-    by : found u es ≡ picked u (slice_get es (place_for u es)) → (o : Ordering) → name_cmp u e.unique ≡ o → found u (e ∷ es) ≡ picked u (slice_get (e ∷ es) (place_for u (e ∷ es)))
+    by : found u es ≡ picked u (slice_get es (place_for u es)) → (o : Ordering) → name_cmp u e.unique ≡ o
+        → found u (e ∷ es) ≡ picked u (slice_get (e ∷ es) (place_for u (e ∷ es)))
     by rest Less is =
         lookup-below u (e ∷ es) (both _ _ (is_less _ is) (below-less u e.unique es is (first _ _ sorted)))
         ∙ sym (ap (λ b. picked u (slice_get (e ∷ es) (cond b (suc (place_for u es)) 0))) (turned-is u e.unique Less is)
@@ -157,17 +164,22 @@ module _ (u : List ℕ) (es : List Entry) (sorted : IsSorted es) (at : ℕ) (is 
       ] refl
 
 -- a new entry goes to its place
-keyed-insert : (e : Entry) (es : List Entry) → found e.unique es ≡ None → map keyed (insert es (place_for e.unique es) e) ≡ put name_cmp e.unique e (map keyed es)
+keyed-insert : (e : Entry) (es : List Entry) → found e.unique es ≡ None
+    → map keyed (insert es (place_for e.unique es) e) ≡ put name_cmp e.unique e (map keyed es)
 keyed-insert e [] none = refl
 keyed-insert e (x ∷ es) none = by (keyed-insert e es) (name_cmp e.unique x.unique) refl
   where
-    placed : (o : Ordering) → name_cmp e.unique x.unique ≡ o → map keyed (insert (x ∷ es) (place_for e.unique (x ∷ es)) e) ≡ map keyed (insert (x ∷ es) (cond (is_lt (ordering_reverse o)) (suc (place_for e.unique es)) 0) e)
+    placed : (o : Ordering) → name_cmp e.unique x.unique ≡ o → map keyed (insert (x ∷ es) (place_for e.unique (x ∷ es)) e)
+        ≡ map keyed (insert (x ∷ es) (cond (is_lt (ordering_reverse o)) (suc (place_for e.unique es)) 0) e)
     placed o is = ap (λ b. map keyed (insert (x ∷ es) (cond b (suc (place_for e.unique es)) 0) e)) (turned-is e.unique x.unique o is)
 
-    into : (o : Ordering) → name_cmp e.unique x.unique ≡ o → by_order o ((e.unique, e) ∷ keyed x ∷ map keyed es) ((x.unique, e) ∷ map keyed es) (keyed x ∷ put name_cmp e.unique e (map keyed es)) ≡ put name_cmp e.unique e (map keyed (x ∷ es))
-    into o is = ap (λ r. by_order r ((e.unique, e) ∷ keyed x ∷ map keyed es) ((x.unique, e) ∷ map keyed es) (keyed x ∷ put name_cmp e.unique e (map keyed es))) (sym is)
+    into : (o : Ordering) → name_cmp e.unique x.unique ≡ o → by_order o ((e.unique, e) ∷ keyed x ∷ map keyed es) ((x.unique, e) ∷ map keyed es)
+        (keyed x ∷ put name_cmp e.unique e (map keyed es)) ≡ put name_cmp e.unique e (map keyed (x ∷ es))
+    into o is =
+        ap (λ r. by_order r ((e.unique, e) ∷ keyed x ∷ map keyed es) ((x.unique, e) ∷ map keyed es) (keyed x ∷ put name_cmp e.unique e (map keyed es))) (sym is)
 
-    by : (found e.unique es ≡ None → map keyed (insert es (place_for e.unique es) e) ≡ put name_cmp e.unique e (map keyed es)) → (o : Ordering) → name_cmp e.unique x.unique ≡ o → map keyed (insert (x ∷ es) (place_for e.unique (x ∷ es)) e) ≡ put name_cmp e.unique e (map keyed (x ∷ es))
+    by : (found e.unique es ≡ None → map keyed (insert es (place_for e.unique es) e) ≡ put name_cmp e.unique e (map keyed es)) → (o : Ordering)
+        → name_cmp e.unique x.unique ≡ o → map keyed (insert (x ∷ es) (place_for e.unique (x ∷ es)) e) ≡ put name_cmp e.unique e (map keyed (x ∷ es))
     by rest Less is = placed Less is ∙ into Less is
     by rest Equal is = let never : Some x ≡ None = ap (λ r. cond (is_eq r) (Some x) (found e.unique es)) (sym is) ∙ none in cc
     by rest Greater is =
@@ -181,16 +193,21 @@ keyed-set : (e old : Entry) (es : List Entry) → slice_get es (place_for e.uniq
 keyed-set e old [] at same = cc
 keyed-set e old (x ∷ es) at same = by (λ there. keyed-set e old es there same) (name_cmp e.unique x.unique) refl
   where
-    placed : (o : Ordering) → name_cmp e.unique x.unique ≡ o → map keyed (slice_set (x ∷ es) (place_for e.unique (x ∷ es)) e) ≡ map keyed (slice_set (x ∷ es) (cond (is_lt (ordering_reverse o)) (suc (place_for e.unique es)) 0) e)
+    placed : (o : Ordering) → name_cmp e.unique x.unique ≡ o → map keyed (slice_set (x ∷ es) (place_for e.unique (x ∷ es)) e)
+        ≡ map keyed (slice_set (x ∷ es) (cond (is_lt (ordering_reverse o)) (suc (place_for e.unique es)) 0) e)
     placed o is = ap (λ b. map keyed (slice_set (x ∷ es) (cond b (suc (place_for e.unique es)) 0) e)) (turned-is e.unique x.unique o is)
 
     there : (o : Ordering) → name_cmp e.unique x.unique ≡ o → slice_get (x ∷ es) (cond (is_lt (ordering_reverse o)) (suc (place_for e.unique es)) 0) ≡ Some old
     there o is = ap (λ b. slice_get (x ∷ es) (cond b (suc (place_for e.unique es)) 0)) (sym (turned-is e.unique x.unique o is)) ∙ at
 
-    into : (o : Ordering) → name_cmp e.unique x.unique ≡ o → by_order o ((e.unique, e) ∷ keyed x ∷ map keyed es) ((x.unique, e) ∷ map keyed es) (keyed x ∷ put name_cmp e.unique e (map keyed es)) ≡ put name_cmp e.unique e (map keyed (x ∷ es))
-    into o is = ap (λ r. by_order r ((e.unique, e) ∷ keyed x ∷ map keyed es) ((x.unique, e) ∷ map keyed es) (keyed x ∷ put name_cmp e.unique e (map keyed es))) (sym is)
+    into : (o : Ordering) → name_cmp e.unique x.unique ≡ o → by_order o ((e.unique, e) ∷ keyed x ∷ map keyed es) ((x.unique, e) ∷ map keyed es)
+        (keyed x ∷ put name_cmp e.unique e (map keyed es)) ≡ put name_cmp e.unique e (map keyed (x ∷ es))
+    into o is =
+        ap (λ r. by_order r ((e.unique, e) ∷ keyed x ∷ map keyed es) ((x.unique, e) ∷ map keyed es) (keyed x ∷ put name_cmp e.unique e (map keyed es))) (sym is)
 
-    by : (slice_get es (place_for e.unique es) ≡ Some old → map keyed (slice_set es (place_for e.unique es) e) ≡ put name_cmp e.unique e (map keyed es)) → (o : Ordering) → name_cmp e.unique x.unique ≡ o → map keyed (slice_set (x ∷ es) (place_for e.unique (x ∷ es)) e) ≡ put name_cmp e.unique e (map keyed (x ∷ es))
+    by : (slice_get es (place_for e.unique es) ≡ Some old → map keyed (slice_set es (place_for e.unique es) e) ≡ put name_cmp e.unique e (map keyed es))
+        → (o : Ordering) → name_cmp e.unique x.unique ≡ o
+        → map keyed (slice_set (x ∷ es) (place_for e.unique (x ∷ es)) e) ≡ put name_cmp e.unique e (map keyed (x ∷ es))
     by rest Less is =
         let first : Some x ≡ Some old = there Less is in
         let this : x ≡ old = cc in
@@ -207,7 +224,8 @@ other u v = not (eq_by_cmp name_cmp u v)
 keyed-above : (u : List ℕ) (es : List Entry) → IsBelow u es → where_key name_cmp (other u) (map keyed es) ≡ map keyed es
 keyed-above u [] below = refl
 keyed-above u (e ∷ es) below =
-    ap (λ r. cond (not (is_eq r)) (keyed e ∷ where_key name_cmp (other u) (map keyed es)) (where_key name_cmp (other u) (map keyed es))) (less _ (first _ _ below))
+    ap (λ r. cond (not (is_eq r)) (keyed e ∷ where_key name_cmp (other u) (map keyed es)) (where_key name_cmp (other u) (map keyed es)))
+    (less _ (first _ _ below))
     ∙ ap (λ (l : List (List ℕ × Entry)). keyed e ∷ l) (keyed-above u es (second _ _ below))
 
 -- the entry of a unique name goes
@@ -216,17 +234,20 @@ keyed-remove : (u : List ℕ) (old : Entry) (es : List Entry) → IsSorted es �
 keyed-remove u old [] sorted at same = cc
 keyed-remove u old (x ∷ es) sorted at same = by (λ there. keyed-remove u old es (second _ _ sorted) there same) (name_cmp u x.unique) refl
   where
-    placed : (o : Ordering) → name_cmp u x.unique ≡ o → map keyed (remove (x ∷ es) (place_for u (x ∷ es))) ≡ map keyed (remove (x ∷ es) (cond (is_lt (ordering_reverse o)) (suc (place_for u es)) 0))
+    placed : (o : Ordering) → name_cmp u x.unique ≡ o
+        → map keyed (remove (x ∷ es) (place_for u (x ∷ es))) ≡ map keyed (remove (x ∷ es) (cond (is_lt (ordering_reverse o)) (suc (place_for u es)) 0))
     placed o is = ap (λ b. map keyed (remove (x ∷ es) (cond b (suc (place_for u es)) 0))) (turned-is u x.unique o is)
 
     there : (o : Ordering) → name_cmp u x.unique ≡ o → slice_get (x ∷ es) (cond (is_lt (ordering_reverse o)) (suc (place_for u es)) 0) ≡ Some old
     there o is = ap (λ b. slice_get (x ∷ es) (cond b (suc (place_for u es)) 0)) (sym (turned-is u x.unique o is)) ∙ at
 
     left : (o : Ordering) → name_cmp u x.unique ≡ o
-        → cond (not (is_eq o)) (keyed x ∷ where_key name_cmp (other u) (map keyed es)) (where_key name_cmp (other u) (map keyed es)) ≡ where_key name_cmp (other u) (map keyed (x ∷ es))
+        → cond (not (is_eq o)) (keyed x ∷ where_key name_cmp (other u) (map keyed es)) (where_key name_cmp (other u) (map keyed es))
+        ≡ where_key name_cmp (other u) (map keyed (x ∷ es))
     left o is = ap (λ r. cond (not (is_eq r)) (keyed x ∷ where_key name_cmp (other u) (map keyed es)) (where_key name_cmp (other u) (map keyed es))) (sym is)
 
-    by : (slice_get es (place_for u es) ≡ Some old → map keyed (remove es (place_for u es)) ≡ where_key name_cmp (other u) (map keyed es)) → (o : Ordering) → name_cmp u x.unique ≡ o → map keyed (remove (x ∷ es) (place_for u (x ∷ es))) ≡ where_key name_cmp (other u) (map keyed (x ∷ es))
+    by : (slice_get es (place_for u es) ≡ Some old → map keyed (remove es (place_for u es)) ≡ where_key name_cmp (other u) (map keyed es)) → (o : Ordering)
+        → name_cmp u x.unique ≡ o → map keyed (remove (x ∷ es) (place_for u (x ∷ es))) ≡ where_key name_cmp (other u) (map keyed (x ∷ es))
     by rest Less is =
         let first : Some x ≡ Some old = there Less is in
         let this : x ≡ old = cc in
@@ -241,7 +262,8 @@ keyed-remove u old (x ∷ es) sorted at same = by (λ there. keyed-remove u old 
 
 shows-put : (e : Entry) (es fs : List Entry) → IsSorted es → map keyed fs ≡ put name_cmp e.unique e (map keyed es) → Shows e.unique (Some e) es fs
 shows-put e es fs sorted is = record {
-  order = in-order _ (subst (λ (l : List (List ℕ × Entry)). T (is_sorted name_cmp l)) (sym is) (is_sorted-put name_cmp nat_list_cmp_total e.unique e (map keyed es) sorted));
+  order = in-order _
+      (subst (λ (l : List (List ℕ × Entry)). T (is_sorted name_cmp l)) (sym is) (is_sorted-put name_cmp nat_list_cmp_total e.unique e (map keyed es) sorted));
   at = λ v. ap (find name_cmp v) is ∙ find-put name_cmp nat_list_cmp_total v e.unique e (map keyed es);
 }
 
@@ -249,7 +271,8 @@ module _ (e : Entry) (es : List Entry) (order : IsInOrder es) where
   pub shows-insert : found e.unique es ≡ None → Shows e.unique (Some e) es (insert es (place_for e.unique es) e)
   shows-insert none = shows-put e es _ (ordered _ order) (keyed-insert e es none)
 
-  pub shows-set : (old : Entry) → slice_get es (place_for e.unique es) ≡ Some old → old.unique ≡ e.unique → Shows e.unique (Some e) es (slice_set es (place_for e.unique es) e)
+  pub shows-set : (old : Entry) → slice_get es (place_for e.unique es) ≡ Some old → old.unique ≡ e.unique
+      → Shows e.unique (Some e) es (slice_set es (place_for e.unique es) e)
   shows-set old at same = shows-put e es _ (ordered _ order) (keyed-set e old es at same)
 
 module _ (u : List ℕ) (es : List Entry) (order : IsInOrder es) where
@@ -262,7 +285,9 @@ module _ (u : List ℕ) (es : List Entry) (order : IsInOrder es) where
   pub shows-remove : (old : Entry) → slice_get es (place_for u es) ≡ Some old → old.unique ≡ u → Shows u None es (remove es (place_for u es))
   shows-remove old at same =
       let is = keyed-remove u old es (ordered _ order) at same in record {
-        order = in-order _ (subst (λ (l : List (List ℕ × Entry)). T (is_sorted name_cmp l)) (sym is) (is_sorted-where_key name_cmp (other u) (map keyed es) (ordered _ order)));
+        order =
+            in-order _ (subst (λ (l : List (List ℕ × Entry)). T (is_sorted name_cmp l)) (sym is)
+            (is_sorted-where_key name_cmp (other u) (map keyed es) (ordered _ order)));
         at = λ v.
             ap (find name_cmp v) is
             ∙ find-where_key name_cmp (other u) v (λ x tie. ap (other u) (sym (exact_bytes v x tie))) (map keyed es)

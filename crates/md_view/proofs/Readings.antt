@@ -35,12 +35,15 @@ module _ (folder : ℕ) (place : Place) where
         | false ↦ sorted-shown es (second _ _ sorted)
       ]
 
-  lookup-shown : (u : List ℕ) (es : List (List ℕ × Listed)) → T (is_sorted name_cmp es) → lookup u (shown_of es) ≡ option_and_then (entry_at folder place u) (find name_cmp u es)
+  lookup-shown : (u : List ℕ) (es : List (List ℕ × Listed)) → T (is_sorted name_cmp es)
+      → lookup u (shown_of es) ≡ option_and_then (entry_at folder place u) (find name_cmp u es)
   lookup-shown u [] sorted = refl
   lookup-shown u (e ∷ es) sorted = by (lookup-shown u es (second _ _ sorted)) (eq_by_cmp name_cmp u e.0) refl (is_at folder place e) refl
     where
-      by : lookup u (shown_of es) ≡ option_and_then (entry_at folder place u) (find name_cmp u es) → (t : Bool) → eq_by_cmp name_cmp u e.0 ≡ t → (b : Bool) → is_at folder place e ≡ b →
-          lookup u (map shown (cond b (e ∷ filter (is_at folder place) es) (filter (is_at folder place) es))) ≡ option_and_then (entry_at folder place u) (cond t (Some e.1) (find name_cmp u es))
+      by : lookup u (shown_of es) ≡ option_and_then (entry_at folder place u) (find name_cmp u es) → (t : Bool) → eq_by_cmp name_cmp u e.0 ≡ t → (b : Bool)
+          → is_at folder place e ≡ b →
+          lookup u (map shown (cond b (e ∷ filter (is_at folder place) es) (filter (is_at folder place) es)))
+          ≡ option_and_then (entry_at folder place u) (cond t (Some e.1) (find name_cmp u es))
       by rest true tie true here =
           let same : u ≡ e.0 = tie-same u e.0 tie in
           ap (λ t. cond t (Some (shown e)) (lookup u (shown_of es))) tie

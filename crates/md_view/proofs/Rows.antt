@@ -35,7 +35,8 @@ by_bool f false x = refl
 abbrev pub row_says : Place → List ℕ → Option File → Entry
 row_says place name file = record { unique = unique_of name; place = place; name = name; size = length (bytes_of file) }
 
-pub entry-row : (place : Place) (name : List ℕ) (file : Option File) → entry_of_row place (row_by name file) ≡ cond (is_message_name name) (Some (row_says place name file)) None
+pub entry-row : (place : Place) (name : List ℕ) (file : Option File)
+    → entry_of_row place (row_by name file) ≡ cond (is_message_name name) (Some (row_says place name file)) None
 entry-row place name None = by_bool _ (is_message_name name) (unique_of name, info_of name)
 entry-row place name (Some file) = by_bool _ (is_message_name name) (unique_of name, info_of name)
 
@@ -138,7 +139,8 @@ module _ (s : State) (folder : ℕ) (place : Place) where
       by : (p : Path) (n : ℕ) → file_at s p ≡ Some n → is_in folder place p ≡ true → row_entry (p, n) ≡ Some e → shown_at e.unique ≡ Some e
       by p n there inside made =
           let says = if-some (is_message_name p.name) (row_says place p.name (file_by s.files n)) e (sym (entry-row place p.name (file_by s.files n)) ∙ made) in
-          let place_is : p.place ≡ place = same_place p.place place (eqb-true (place_index p.place) (place_index place) (and-second (p.folder == folder) (place_index p.place == place_index place) inside)) in
+          let place_is : p.place ≡ place = same_place p.place place
+          (eqb-true (place_index p.place) (place_index place) (and-second (p.folder == folder) (place_index p.place == place_index place) inside)) in
           let u_is : unique_of p.name ≡ e.unique = ap (λ (x : Entry). x.unique) says.1 in
           let shows : Shows s (unique_of p.name) (entry_of s p n) = record {
             path = p;
@@ -150,8 +152,10 @@ module _ (s : State) (folder : ℕ) (place : Place) where
           } in
           let x : Listed = listed (unique_of p.name) (entry_of s p n) in
           let got : get names (unique_of p.name) ≡ Some x =
-          get-names (mailbox_of s) (unique_of p.name) ∙ ap (option_map (listed (unique_of p.name))) (shows-mailbox s (unique_of p.name) (entry_of s p n) one shows) in
-          let test : entry_at folder place (unique_of p.name) x ≡ Some (shown (unique_of p.name, x)) = ap (λ b. cond {A = Option Entry} b (Some (shown (unique_of p.name, x))) None) inside in
+          get-names (mailbox_of s) (unique_of p.name)
+          ∙ ap (option_map (listed (unique_of p.name))) (shows-mailbox s (unique_of p.name) (entry_of s p n) one shows) in
+          let test : entry_at folder place (unique_of p.name) x ≡ Some (shown (unique_of p.name, x)) =
+          ap (λ b. cond {A = Option Entry} b (Some (shown (unique_of p.name, x))) None) inside in
           let same : shown (unique_of p.name, x) ≡ row_says place p.name (file_by s.files n) =
           (λ i. record { unique = unique_of p.name; place = place_is i; name = whole-name p.name i; size = length (bytes_of (file_by s.files n)) }) in
           ap shown_at (sym u_is) ∙ ap (option_and_then (entry_at folder place (unique_of p.name))) got ∙ test ∙ ap Some (same ∙ says.1)
@@ -165,7 +169,8 @@ module _ (s : State) (folder : ℕ) (place : Place) where
           let h : None ≡ Some e = sym (ap (option_and_then (entry_at folder place u)) (get-names (mailbox_of s) u ∙ ap (option_map (listed u)) none)) ∙ is in
           cc
       by (Some m) some =
-          let h : entry_at folder place u (listed u m) ≡ Some e = sym (ap (option_and_then (entry_at folder place u)) (get-names (mailbox_of s) u ∙ ap (option_map (listed u)) some)) ∙ is in
+          let h : entry_at folder place u (listed u m) ≡ Some e =
+          sym (ap (option_and_then (entry_at folder place u)) (get-names (mailbox_of s) u ∙ ap (option_map (listed u)) some)) ∙ is in
           let says = if-some (is_at folder place (u, listed u m)) (shown (u, listed u m)) e h in
           let shows = mailbox-shows s u m some in
           let p : Path = shows.path in
@@ -193,7 +198,8 @@ module _ (s : State) (folder : ℕ) (place : Place) where
         ∙ sym (sorted-values (reading_of names folder place) (reading_of names folder place) (reading-sorted folder place names) (λ u. refl))
 
     -- entries in order are the reading, if they are those of the rows
-    pub rows-reading : HasOnePath s → is_tmp place ≡ false → ((e : Entry) → Has es e → Has in_rows e) → ((e : Entry) → Has in_rows e → Has es e) → es ≡ reading_of names folder place
+    pub rows-reading : HasOnePath s → is_tmp place ≡ false → ((e : Entry) → Has es e → Has in_rows e) → ((e : Entry) → Has in_rows e → Has es e)
+        → es ≡ reading_of names folder place
     rows-reading one not_tmp there back = reading-by (λ u. same_option (lookup u es) (shown_at u)
         (λ e is. let h = found-has es sorted u e is in ap shown_at h.1 ∙ row-shown one not_tmp e (there e h.0))
         (λ e is. let h = shown-row u e is in ap (λ v. lookup v es) h.1 ∙ has-found es sorted e (back e h.0)))

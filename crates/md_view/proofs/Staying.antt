@@ -47,13 +47,15 @@ module _ (folders : ℕ) (opening : Names) (history : List Effect) (legal : IsLe
   never-in_tmp u at_first zero = at_first
   never-in_tmp u at_first (suc k) =
       let e : k + 1 ≡ suc k = omega arith in
-      subst (λ n. IsPlaced (λ p. p ≢ Tmp) (finmap.get (names n) u)) e (next (λ p. p ≢ Tmp) cur_not_tmp u k (λ p not_tmp fresh. not_tmp) (never-in_tmp u at_first k))
+      subst (λ n. IsPlaced (λ p. p ≢ Tmp) (finmap.get (names n) u)) e
+      (next (λ p. p ≢ Tmp) cur_not_tmp u k (λ p not_tmp fresh. not_tmp) (never-in_tmp u at_first k))
 
   module _ (i : ℕ) (u : List ℕ) (x : Listed) (there : finmap.get (names i) u ≡ Some x) (at : x.place ≡ Cur) where
     -- a name that was there is fresh no more
     used-since : (d : ℕ) → WasNowhere opening (take (i + d) history) u → ⊥
     used-since d fresh =
-        let none : finmap.get (names i) u ≡ None = ap (λ (es : List Effect). finmap.get (after opening es) u) (sym (take-within i (i + d) history (omega arith))) ∙ fresh i in
+        let none : finmap.get (names i) u ≡ None =
+        ap (λ (es : List Effect). finmap.get (after opening es) u) (sym (take-within i (i + d) history (omega arith))) ∙ fresh i in
         let is = there in
         cc
 
@@ -94,6 +96,7 @@ module _ (r : Run) (all : Interleaves r) where
   pub names-counted : (k : ℕ) → names_at r k ≡ names_after opening_of (effects_of r) (count_at k)
   names-counted k =
       let later = grows r grows-one k (k + length r.events) (omega arith) in
-      let whole : effects_of r ≡ effects_at k ++ later.0 = sym (ap (λ (m : Machine). m.effects) (moment-past r (k + length r.events) (omega arith))) ∙ later.1 in
+      let whole : effects_of r ≡ effects_at k ++ later.0 =
+      sym (ap (λ (m : Machine). m.effects) (moment-past r (k + length r.events) (omega arith))) ∙ later.1 in
       let front : take (count_at k) (effects_of r) ≡ effects_at k = ap (take (count_at k)) whole ∙ take_at (effects_at k) later.0 (count_at k) refl in
       sym (all.names k) ∙ ap (after opening_of) (sym front)

@@ -18,7 +18,8 @@ loop-at-preserved g c =
       | in-Some-2+in_ok-push w ↦
           let items : c.match-branch-2.all.items ≡ c.loop-at.all.items ++ w.in-Some-2.entry ∷ [] = ap (λ v. v.items) w.all-is ∙ w.in_ok-push.ensures.items in
           record {
-            entries = items ∙ ap (λ (es : List Entry). es ++ w.in-Some-2.entry ∷ []) c.loop-at.invariant.entries ∙ sym (more (Some w.in-Some-2.entry) (sym c.in_ok-entry.ensures ∙ w.in-Some-2.is));
+            entries = items ∙ ap (λ (es : List Entry). es ++ w.in-Some-2.entry ∷ []) c.loop-at.invariant.entries
+                ∙ sym (more (Some w.in-Some-2.entry) (sym c.in_ok-entry.ensures ∙ w.in-Some-2.is));
             order = λ yes. elim w.if-is_in_order.branch [
               | then-is_in_order w' ↦
                   order-kept w.in-Some-2.entry c.loop-at.all.items c.match-branch-2.all.items items (c.loop-at.invariant.order w'.if-is_in_order.true)
@@ -29,7 +30,9 @@ loop-at-preserved g c =
           }
       | in_default-2 w ↦
           record {
-            entries = ap (λ v. v.items) w.all-is ∙ c.loop-at.invariant.entries ∙ sym (more None (sym c.in_ok-entry.ensures ∙ w.in_default-2.is) ∙ append-nil (entries_of c.args.place (take c.loop-at.at rows)));
-            order = λ yes. subst (λ (es : List Entry). IsInOrder es) (sym (ap (λ v. v.items) w.all-is)) (c.loop-at.invariant.order (sym w.is_in_order-is ∙ yes));
+            entries = ap (λ v. v.items) w.all-is ∙ c.loop-at.invariant.entries
+                ∙ sym (more None (sym c.in_ok-entry.ensures ∙ w.in_default-2.is) ∙ append-nil (entries_of c.args.place (take c.loop-at.at rows)));
+            order =
+                λ yes. subst (λ (es : List Entry). IsInOrder es) (sym (ap (λ v. v.items) w.all-is)) (c.loop-at.invariant.order (sym w.is_in_order-is ∙ yes));
           }
     ]

@@ -31,7 +31,8 @@ tmp_is Cur is = cc
 pub returns-then-is_tmp-clause-entries : goal.returns-then-is_tmp-clause-entries
 returns-then-is_tmp-clause-entries g c =
     c.new.ensures.items ∙ reading-tmp (dirs_of c.args.world.now) c.args.folder
-    ∙ ap (λ (p : Place). reading_of (names_of (mailbox_of (dirs_of c.args.world.now))) c.args.folder p) (tmp_is c.args.place (sym c.is_tmp.ensures ∙ c.if-is_tmp.true))
+    ∙ ap (λ (p : Place). reading_of (names_of (mailbox_of (dirs_of c.args.world.now))) c.args.folder p)
+    (tmp_is c.args.place (sym c.is_tmp.ensures ∙ c.if-is_tmp.true))
 
 pub returns-clause-entries : goal.returns-clause-entries
 returns-clause-entries g c =
@@ -41,11 +42,14 @@ returns-clause-entries g c =
     elim c.if-not-is_in_order.branch [
       | then-not-is_in_order w ↦
           ap (λ v. v.items) w.all-is
-          ∙ reading-sorted_by s one c.args.folder c.args.place not_tmp c.in_ok-all.all.items w.sort_unstable_by.new.self.items c.in_ok-all.ensures.entries w.sort_unstable_by.ensures.permutation
-          (w.sort_unstable_by.ensures.sorted is_under (ranks_by nat_list_cmp_total (λ (e : Entry). e.unique)) (answers_always _ _ _ (λ f a r f' k. search rules)))
+          ∙ reading-sorted_by s one c.args.folder c.args.place not_tmp c.in_ok-all.all.items w.sort_unstable_by.new.self.items
+          c.in_ok-all.ensures.entries w.sort_unstable_by.ensures.permutation
+          (w.sort_unstable_by.ensures.sorted is_under (ranks_by nat_list_cmp_total (λ (e : Entry). e.unique))
+          (answers_always _ _ _ (λ f a r f' k. search rules)))
       | else-not-is_in_order w ↦
           ap (λ v. v.items) w.all-is
-          ∙ reading-in_order s one c.args.folder c.args.place not_tmp c.in_ok-all.all.items c.in_ok-all.ensures.entries (ordered _ (c.in_ok-all.ensures.order w.if-not-is_in_order.false))
+          ∙ reading-in_order s one c.args.folder c.args.place not_tmp c.in_ok-all.all.items c.in_ok-all.ensures.entries
+          (ordered _ (c.in_ok-all.ensures.order w.if-not-is_in_order.false))
     ]
 
 pub returns-clause-order : goal.returns-clause-order

@@ -20,10 +20,13 @@ returns-clause-ok c =
     let len = c.len.ensures in
     let within : c.args.folder < length fs = omega (arith, low, len) in
     let at = slice_get_read fs _ c.args.folder f refl within c.index_mut-lists.ensures.value in
-    elim c.rename.result as (λ r. OnOk r (ShowsAt c.args.place c.args.unique.now (option_map (renamed name to_name) (found c.args.unique.now (list_of c.args.place f))) f f')
+    elim c.rename.result
+    as (λ r. OnOk r (ShowsAt c.args.place c.args.unique.now (option_map (renamed name to_name) (found c.args.unique.now (list_of c.args.place f))) f f')
     → OnOk r (AreHeld (applied n (Rename c.args.folder c.args.place name c.args.folder c.args.place to_name)) (slice_set fs c.args.folder f'))) [
       | Ok _ ↦ λ shows.
-          here-held n fs c.requires.names c.args.folder c.args.place name to_name c.requires.message (c.requires.unique.1 ∙ sym c.requires.unique.0) f f' at within
-          (subst (λ (u : List ℕ). ShowsAt c.args.place u (option_map (renamed name to_name) (found u (list_of c.args.place f))) f f') (sym c.requires.unique.0) shows)
+          here-held n fs c.requires.names c.args.folder c.args.place name to_name c.requires.message
+          (c.requires.unique.1 ∙ sym c.requires.unique.0) f f' at within
+          (subst (λ (u : List ℕ). ShowsAt c.args.place u (option_map (renamed name to_name) (found u (list_of c.args.place f))) f f')
+          (sym c.requires.unique.0) shows)
       | Err _ ↦ λ _. tt
     ] c.rename.ensures.ok

@@ -30,15 +30,20 @@ returns-in_default-split c =
 
 pub returns-in-Some-find : goal.returns-in-Some-find
 returns-in-Some-find c =
-    let says = if-some (is_message_name c.args.name.now) (unique_of c.args.name.now, info_of c.args.name.now) (c.in-Some-split.unique.now, c.in-Some-split.field-0-1) (sym c.in-Some-split.ensures) in
-    let at : slice_get c.args.folders.now c.args.folder ≡ Some c.in-Some.lists.now = item-get c.args.folders.now c.args.folder c.in-Some.lists c.in-Some.ensures.lookup in
+    let says = if-some (is_message_name c.args.name.now) (unique_of c.args.name.now, info_of c.args.name.now)
+    (c.in-Some-split.unique.now, c.in-Some-split.field-0-1) (sym c.in-Some-split.ensures) in
+    let at : slice_get c.args.folders.now c.args.folder ≡ Some c.in-Some.lists.now =
+    item-get c.args.folders.now c.args.folder c.in-Some.lists c.in-Some.ensures.lookup in
     c.eq.ensures ∙ ap (λ (v : List ℕ). pointwise nat_eq v c.args.name.now) c.as_slice.ensures
-    ∙ sym (there-found (held_names c.args.folders.now) c.args.folders.now c.requires c.args.folder c.in-Some.lists.now at c.args.place c.args.name.now c.in-Some-find.entry.now
+    ∙ sym (there-found
+    (held_names c.args.folders.now) c.args.folders.now c.requires c.args.folder c.in-Some.lists.now at c.args.place c.args.name.now c.in-Some-find.entry.now
     (ap (λ (x : List ℕ × Info). found x.0 (list_of c.args.place c.in-Some.lists.now)) says.1 ∙ sym c.in-Some-find.ensures))
 
 pub returns-in-None : goal.returns-in-None
 returns-in-None c =
-    let says = if-some (is_message_name c.args.name.now) (unique_of c.args.name.now, info_of c.args.name.now) (c.in-Some-split.unique.now, c.in-Some-split.field-0-1) (sym c.in-Some-split.ensures) in
-    let at : slice_get c.args.folders.now c.args.folder ≡ Some c.in-Some.lists.now = item-get c.args.folders.now c.args.folder c.in-Some.lists c.in-Some.ensures.lookup in
+    let says = if-some (is_message_name c.args.name.now) (unique_of c.args.name.now, info_of c.args.name.now)
+    (c.in-Some-split.unique.now, c.in-Some-split.field-0-1) (sym c.in-Some-split.ensures) in
+    let at : slice_get c.args.folders.now c.args.folder ≡ Some c.in-Some.lists.now =
+    item-get c.args.folders.now c.args.folder c.in-Some.lists c.in-Some.ensures.lookup in
     sym (there-none (held_names c.args.folders.now) c.args.folders.now c.requires c.args.folder c.in-Some.lists.now at c.args.place c.args.name.now
     (ap (λ (x : List ℕ × Info). found x.0 (list_of c.args.place c.in-Some.lists.now)) says.1 ∙ sym c.in-None.ensures))

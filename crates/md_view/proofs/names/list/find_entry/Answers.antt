@@ -19,4 +19,5 @@ returns-else-is_at c =
     let es = c.args.entries.now in
     let u = c.args.unique.now in
     let at = c.place_of-at.result in
-    sym (found-not u es (ordered _ c.requires) at c.place_of-at.ensures (λ has. let never : true ≡ false = sym (c.is_at.ensures.1 has) ∙ c.if-is_at.false in cc))
+    sym (found-not u es (ordered _ c.requires) at c.place_of-at.ensures
+    (λ has. let never : true ≡ false = sym (c.is_at.ensures.1 has) ∙ c.if-is_at.false in cc))

@@ -14,7 +14,8 @@ returns-then-at-entries c =
       },
       λ has. c.eq.ensures
           ∙ (bytes_eq-Decides c.as_slice.result.now c.args.unique.now).1
-          (c.as_slice.ensures ∙ ap (λ (e : Entry). e.unique) (get_or_from_slice_get c.args.entries.now c.args.at has.entry c.index-entries-at.result has.is) ∙ has.unique),
+          (c.as_slice.ensures
+          ∙ ap (λ (e : Entry). e.unique) (get_or_from_slice_get c.args.entries.now c.args.at has.entry c.index-entries-at.result has.is) ∙ has.unique),
     )
 
 pub returns-else-at-entries : goal.returns-else-at-entries
