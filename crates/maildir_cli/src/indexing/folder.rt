@@ -6,7 +6,7 @@ ghost use Rattle.md_index.specs.Index.{indexed_of};
 ghost use Rattle.maildir_cli.specs.Indexing.{bytes_in, folder_text, indexed_in, indexed_text, listing_in};
 
 use md_core::World;
-use md_dirs::{Dirs, Place};
+use md_dirs::Dirs;
 use md_index::{Indexed, Message, OpenGate, index};
 use md_script::push_summary;
 use md_view::{Entry, ViewError, list};
