@@ -89,17 +89,27 @@ fn place(entries: &[Entry], unique: &[u8]) -> Result<usize, usize> {
     }
 }
 
-// Additions to cur in order of time, and then a flag for each.
+// A name, as both programs are given one: what is made of it is a copy.
+fn name_of(name: &[u8], info: &[u8]) -> Vec<u8> {
+    let mut all = Vec::with_capacity(2 * WIDTH);
+    all.extend_from_slice(name);
+    all.extend_from_slice(info);
+    all
+}
+
+// Additions to cur in order of time, and then a flag for each, whose change names the old name and the new one.
 fn plain_changes(names: &[u8]) -> u64 {
     let (new, mut cur): (Vec<Entry>, Vec<Entry>) = (Vec::new(), Vec::new());
     for name in names.chunks_exact(WIDTH) {
         if let (Err(_), Err(at)) = (place(&new, name), place(&cur, name)) {
-            cur.insert(at, entry(&[name, b":2,"].concat()));
+            cur.insert(at, entry(&name_of(name, b":2,")));
         }
     }
     for name in names.chunks_exact(WIDTH) {
-        if let Ok(at) = place(&cur, name) {
-            cur[at] = entry(&[name, b":2,S"].concat());
+        let (old, to) = (name_of(name, b":2,"), name_of(name, b":2,S"));
+        match place(&cur, name) {
+            Ok(at) if cur[at].name == old => cur[at] = entry(&to),
+            _ => {}
         }
     }
     cur.len() as u64
