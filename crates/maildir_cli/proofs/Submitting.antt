@@ -29,7 +29,7 @@ unfolding submitted_all
 submitted-append r s [] ys is = let same : r ≡ s = cc in ap (λ t. submitted_all t ys) same
 submitted-append r s (x ∷ xs) ys is =
     goes-on (submit_refusal r x) (and_call r x) s (λ t. submitted_all t xs) (λ t. submitted_all t (xs ++ ys)) (submitted_all s ys) is
-        (submitted-append (and_call r x) s xs ys)
+    (submitted-append (and_call r x) s xs ys)
 
 -- one more call is submitted
 pub one-submitted : (r s : Run) (xs : List Call) (x : Call) → submitted_all r xs ≡ Ok s → submit_refusal s x ≡ None →

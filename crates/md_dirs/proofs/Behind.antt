@@ -52,7 +52,7 @@ module _ {Z : Type 0} where
   sorted-end (f ∷ []) e h ends = both _ _ (both _ _ (is_less f.0.items e.0.items (ends (omega arith))) tt) tt
   sorted-end (f ∷ g ∷ es) e h ends =
       both _ _ (below-end f.0.items (g ∷ es) e (first _ _ h) (head-below f (g ∷ es) e.0.items h ends))
-          (sorted-end (g ∷ es) e (second _ _ h) (tail-ends f g es e.0.items ends))
+      (sorted-end (g ∷ es) e (second _ _ h) (tail-ends f g es e.0.items ends))
 
   pub in_order-behind : (es : List (Row Z)) (e : Row Z) → InOrder es → EndsBelow (rows_by_name es) e.0.items → InOrder (es ++ e ∷ [])
   in_order-behind es e sorted ends = is_true _ (sorted-end es e (holds _ sorted) ends)

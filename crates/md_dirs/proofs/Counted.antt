@@ -57,7 +57,7 @@ where-above : (p : Path) (es : List (Path × ℕ)) → T (below_all path_cmp p e
 where-above p [] h = refl
 where-above p (e ∷ es) h =
     ap (λ r. cond (not (is_eq r)) (e ∷ where_key path_cmp (λ q. not (eq_by_cmp path_cmp p q)) es)
-        (where_key path_cmp (λ q. not (eq_by_cmp path_cmp p q)) es)) (less _ (first _ _ h)) ∙ ap (λ xs. e ∷ xs) (where-above p es (second _ _ h))
+    (where_key path_cmp (λ q. not (eq_by_cmp path_cmp p q)) es)) (less _ (first _ _ h)) ∙ ap (λ xs. e ∷ xs) (where-above p es (second _ _ h))
 
 tied-above : (p : Path) (e : Path × ℕ) (es : List (Path × ℕ)) → path_cmp p e.0 ≡ Equal → T (below_all path_cmp e.0 es) → T (below_all path_cmp p es)
 tied-above p e es is h = subst (λ (q : Path). T (below_all path_cmp q es)) (sym (path_exact p e.0 is)) h
@@ -97,7 +97,7 @@ entries-remove m p =
     let sorted = is_sorted-where_key path_cmp (λ q. not (eq_by_cmp path_cmp p q)) (entries m) (entries_sorted m) in
     let same : finmap.remove m p ≡ from_sorted rows = same_map path_total path_exact _ _ (λ q.
     get-remove path_total m p q ∙ ap (cond (eq_by_cmp path_cmp q p) None) (get-entries m q) ∙ sym (find-other p q (entries m)) ∙
-        sym (get-from_sorted path_cmp rows q sorted)) in
+    sym (get-from_sorted path_cmp rows q sorted)) in
     ap entries same ∙ entries-from_sorted path_cmp rows sorted
 
 pub paths-insert : (n : ℕ) (m : PathMap) (p : Path) (v : ℕ) → paths_of (finmap.insert m p v) n + hits n (finmap.get m p) ≡ paths_of m n + hits n (Some v)
@@ -189,17 +189,17 @@ let_go-counted names slots (Some m) is n = by_number n m
     let one : hits n (Some m) ≡ 1 = (let t : (m == n) ≡ true = grind (arith, nat_tests) in ap (λ b. cond b 1 0) t) in
     let there : 0 < names_held (slot_at slots m) = subst (λ (k : ℕ). 0 < names_held (slot_at slots k)) same (omega arith) in
     let less : names_held (slot_at (slice_set slots m (named_less (slot_at slots m))) m) ≡ names_held (slot_at slots m) - 1 =
-        ap names_held (slot-set_same slots m (named_less (slot_at slots m)) (slot-within slots m there)) ∙ held-less (slot_at slots m) in
+    ap names_held (slot-set_same slots m (named_less (slot_at slots m)) (slot-within slots m there)) ∙ held-less (slot_at slots m) in
     let moved : names_held (slot_at slots n) ≡ names_held (slot_at slots m) = ap (λ k. names_held (slot_at slots k)) same in
     let at : names_held (slot_at (slice_set slots m (named_less (slot_at slots m))) n) ≡ names_held
-        (slot_at (slice_set slots m (named_less (slot_at slots m))) m) =
-        ap (λ k. names_held (slot_at (slice_set slots m (named_less (slot_at slots m))) k)) same in
+    (slot_at (slice_set slots m (named_less (slot_at slots m))) m) =
+    ap (λ k. names_held (slot_at (slice_set slots m (named_less (slot_at slots m))) k)) same in
     omega arith)
     (λ differ.
     let h : paths_of names n + hits n (Some m) ≡ names_held (slot_at slots n) = is n in
     let none : hits n (Some m) ≡ 0 = (let t : (m == n) ≡ false = grind (arith, nat_tests) in ap (λ b. cond b 1 0) t) in
     let at : names_held (slot_at (slice_set slots m (named_less (slot_at slots m))) n) ≡ names_held (slot_at slots n) =
-        ap names_held (slot-set_other slots m n (named_less (slot_at slots m)) differ) in
+    ap names_held (slot-set_other slots m n (named_less (slot_at slots m)) differ) in
     omega arith)
 
 -- and the file is given back where that was its last
@@ -222,7 +222,7 @@ let_go-files names slots (Some n) is = by (slot_at slots n) refl (is_named (entr
         let more : 0 < paths_of names n = subst (λ k. 0 < k) (sym (counted-is n (entries names))) (named-count n (entries names) true named) in
         let many : nat_le k.names 1 ≡ false = (let big : 1 < k.names = omega arith in grind (arith, nat_tests)) in
         let less : named_less (slot_at slots n) ≡ Some (record k { names = k.names - 1 }) =
-            ap named_less at ∙ ap (λ b. cond b None (Some (record k { names = k.names - 1 }))) many in
+        ap named_less at ∙ ap (λ b. cond b None (Some (record k { names = k.names - 1 }))) many in
         map-set (option_map (λ (k : Kept). k.file)) slots n (named_less (slot_at slots n))
         ∙ ap (λ s. slice_set (files_of slots) n (option_map (λ (k : Kept). k.file) s)) less
         ∙ set-same (files_of slots) n k.file (file-slot slots n ∙ ap (option_map (λ (k : Kept). k.file)) at)

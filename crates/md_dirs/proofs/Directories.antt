@@ -63,12 +63,12 @@ lower-directory m n a b below = by_number (m / 3) (n / 3)
     (λ same.
     let places : place_index (place_by (m % 3)) < place_index (place_by (n % 3)) =
     (let small : m % 3 < 3 = omega arith in let small' : n % 3 < 3 = omega arith in let e = index-place_by (m % 3) small in let e' =
-        index-place_by (n % 3) small' in omega arith) in
+    index-place_by (n % 3) small' in omega arith) in
     (λ i. ordering_then ((ap (λ k. nat_cmp k (n / 3)) same ∙ tied_itself nat_cmp_total (n / 3)) i) (ordering_then (less-numbers _ _ places i) (name_cmp a b))))
     (λ differ.
     let folders : m / 3 < n / 3 = omega arith in
     (λ i. ordering_then (less-numbers _ _ folders i)
-        (ordering_then (nat_cmp (place_index (place_by (m % 3))) (place_index (place_by (n % 3)))) (name_cmp a b))))
+    (ordering_then (nat_cmp (place_index (place_by (m % 3))) (place_index (place_by (n % 3)))) (name_cmp a b))))
 
 is_less : (p q : Path) → path_cmp p q ≡ Less → T (is_lt (path_cmp p q))
 is_less p q is = subst (λ r. T (is_lt r)) (sym is) tt
@@ -121,7 +121,7 @@ find-past : (m n : ℕ) (a : List ℕ) (es : List (List ℕ × ℕ)) (ys : List 
 find-past m n a [] ys below = refl
 find-past m n a (e ∷ es) ys below =
     let above : path_cmp (path_at m a) (path_at n e.0) ≡ Greater = path_total.antisymm (path_at m a) (path_at n e.0) ∙
-        ap ordering_reverse (lower-directory n m e.0 a below) in
+    ap ordering_reverse (lower-directory n m e.0 a below) in
     ap (λ r. cond (is_eq r) (Some e.1) (find path_cmp (path_at m a) (map (at n) es ++ ys))) above ∙ find-past m n a es ys below
 
 find-rows : (ds : List NameMap) (k n m : ℕ) (a : List ℕ) → m ≡ n + k → find path_cmp (path_at m a) (rows_from n ds) ≡ finmap.get (directory_at ds k) a
@@ -160,7 +160,7 @@ module _ (ds es : List NameMap) (p : Path) (others : (k : ℕ) → k ≢ directo
   put-names v is = same_map path_total path_exact _ _ (λ q. by_path q p
       (λ one.
       get-names es q ∙ (λ i. finmap.get (directory_at es (directory_number (one i).folder (one i).place)) (one i).name) ∙
-          ap (λ (m : NameMap). finmap.get m p.name) is
+      ap (λ (m : NameMap). finmap.get m p.name) is
       ∙ maps.at_put name_total name_exact (directory_at ds here) p.name p.name v refl ∙ sym (maps.at_put path_total path_exact (names_of ds) p q v one))
       (λ differ. beside q differ ∙ sym (maps.beside_put path_total path_exact (names_of ds) p q v differ)))
     where
@@ -177,7 +177,7 @@ module _ (ds es : List NameMap) (p : Path) (others : (k : ℕ) → k ≢ directo
   take-names is = same_map path_total path_exact _ _ (λ q. by_path q p
       (λ one.
       get-names es q ∙ (λ i. finmap.get (directory_at es (directory_number (one i).folder (one i).place)) (one i).name) ∙
-          ap (λ (m : NameMap). finmap.get m p.name) is
+      ap (λ (m : NameMap). finmap.get m p.name) is
       ∙ maps.at_drop name_total name_exact (directory_at ds here) p.name p.name refl ∙ sym (maps.at_drop path_total path_exact (names_of ds) p q one))
       (λ differ. beside q differ ∙ sym (maps.beside_drop path_total path_exact (names_of ds) p q differ)))
     where
@@ -259,8 +259,8 @@ keep-here : (n : ℕ) (folder : ℕ) (place : Place) (es : List (List ℕ × ℕ
 keep-here n folder place [] ys is = refl
 keep-here n folder place (e ∷ es) ys is =
     ap (λ b. map named_row
-        (cond b (at n e ∷ filter (λ x. is_in folder place x.0) (map (at n) es ++ ys)) (filter (λ x. is_in folder place x.0) (map (at n) es ++ ys))))
-        (is-here n folder place e.0 is)
+    (cond b (at n e ∷ filter (λ x. is_in folder place x.0) (map (at n) es ++ ys)) (filter (λ x. is_in folder place x.0) (map (at n) es ++ ys))))
+    (is-here n folder place e.0 is)
     ∙ ap (λ xs. e ∷ xs) (keep-here n folder place es ys is)
 
 drop-elsewhere : (n : ℕ) (folder : ℕ) (place : Place) (es : List (List ℕ × ℕ)) (ys : List (Path × ℕ)) → n ≢ directory_number folder place
@@ -268,8 +268,8 @@ drop-elsewhere : (n : ℕ) (folder : ℕ) (place : Place) (es : List (List ℕ �
 drop-elsewhere n folder place [] ys differ = refl
 drop-elsewhere n folder place (e ∷ es) ys differ =
     ap (λ b. map named_row
-        (cond b (at n e ∷ filter (λ x. is_in folder place x.0) (map (at n) es ++ ys)) (filter (λ x. is_in folder place x.0) (map (at n) es ++ ys))))
-        (is-elsewhere n folder place e.0 differ)
+    (cond b (at n e ∷ filter (λ x. is_in folder place x.0) (map (at n) es ++ ys)) (filter (λ x. is_in folder place x.0) (map (at n) es ++ ys))))
+    (is-elsewhere n folder place e.0 differ)
     ∙ drop-elsewhere n folder place es ys differ
 
 later-none : (n : ℕ) (folder : ℕ) (place : Place) (ds : List NameMap) → directory_number folder place < n →
@@ -310,9 +310,9 @@ rename-names ds i d o p v within from to is =
     let mid : List NameMap = slice_set ds i m in
     let put : names_of mid ≡ finmap.insert (names_of ds) p v =
     put-names ds mid p (λ k differ. beside-set ds i k m (λ e. differ (e ∙ to))) v
-        (subst (λ (j : ℕ). directory_at mid j ≡ finmap.insert (directory_at ds j) p.name v) to (at-set ds i m within)) in
+    (subst (λ (j : ℕ). directory_at mid j ≡ finmap.insert (directory_at ds j) p.name v) to (at-set ds i m within)) in
     let taken : names_of (slice_set ds i d) ≡ finmap.remove (names_of mid) o =
     take-names mid (slice_set ds i d) o (λ k differ. beside-set ds i k d (λ e. differ (e ∙ from)) ∙ sym (beside-set ds i k m (λ e. differ (e ∙ from))))
     (subst (λ (j : ℕ). directory_at (slice_set ds i d) j ≡ finmap.remove (directory_at mid j) o.name) from (at-set ds i d within ∙ is ∙
-        ap (λ (x : NameMap). finmap.remove x o.name) (sym (at-set ds i m within)))) in
+    ap (λ (x : NameMap). finmap.remove x o.name) (sym (at-set ds i m within)))) in
     taken ∙ ap (λ (x : PathMap). finmap.remove x o) put

@@ -37,7 +37,7 @@ pub one-refused : (s t : State) (xs : List ImageFile) (x : ImageFile) (rest : Li
     refusal_with s xs ≡ None → (put x).refusal t ≡ Some e → refusal_with s (xs ++ x ∷ rest) ≡ Some e
 one-refused s t xs x rest e before none is =
     refusal_with-append s xs (x ∷ rest) none ∙
-        ap (λ o. option_or o (refusal_with ((put x).after (state_with s xs)) rest)) (ap ((put x).refusal) (sym before) ∙ is)
+    ap (λ o. option_or o (refusal_with ((put x).after (state_with s xs)) rest)) (ap ((put x).refusal) (sym before) ∙ is)
 
 -- an error of directories that never fault is want of memory or the call's refusal
 pub named-error : (ask : Ask) (old new : State) (e : DirError) → Obeys {T = Unit {0}} ask old 0 (Err e) new 0 → (e ≡ NoMemory) ⊎ (ask.refusal old ≡ Some e)

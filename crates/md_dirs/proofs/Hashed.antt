@@ -74,7 +74,7 @@ swap-names m o n k differ = same_map path_total path_exact _ _ (λ q. by_path q 
     (λ not. maps.beside_drop path_total path_exact (finmap.insert m n k) o q not ∙ by_path q n
     (λ is. maps.at_put path_total path_exact m n q k is ∙ sym (maps.at_put path_total path_exact (finmap.remove m o) n q k is))
     (λ other. maps.beside_put path_total path_exact m n q k other ∙
-        sym (maps.beside_put path_total path_exact (finmap.remove m o) n q k other ∙ maps.beside_drop path_total path_exact m o q not))))
+    sym (maps.beside_put path_total path_exact (finmap.remove m o) n q k other ∙ maps.beside_drop path_total path_exact m o q not))))
 
 module _ (folders : ℕ) (names : PathMap) (slots : List (Option Kept)) (whole : IsCounted folders names slots) where
   abbrev start : State
@@ -112,18 +112,18 @@ module _ (folders : ℕ) (names : PathMap) (slots : List (Option Kept)) (whole :
     sound = subst IsSound (sym (made-is p file)) (sound-placed start whole.sound p file within none);
     counted = λ n.
         let came : paths_of (finmap.insert names p (length slots)) n ≡ paths_of names n + hits n (Some (length slots)) =
-            sym (add-zero-to _) ∙ ap (λ o. paths_of (finmap.insert names p (length slots)) n + hits n o) (sym none) ∙
-            paths-insert n names p (length slots) in
+        sym (add-zero-to _) ∙ ap (λ o. paths_of (finmap.insert names p (length slots)) n + hits n o) (sym none) ∙
+        paths-insert n names p (length slots) in
         by_number n (length slots)
         (λ same.
         let last : names_held (slot_at (slots ++ Some (record { file = file; names = 1 }) ∷ []) n) ≡ 1 =
-            ap (λ k. names_held (slot_at (slots ++ Some (record { file = file; names = 1 }) ∷ []) k)) same ∙
-            ap names_held (slot-last slots (Some (record { file = file; names = 1 }))) in
+        ap (λ k. names_held (slot_at (slots ++ Some (record { file = file; names = 1 }) ∷ []) k)) same ∙
+        ap names_held (slot-last slots (Some (record { file = file; names = 1 }))) in
         let before : names_held (slot_at slots n) ≡ 0 = ap (λ k. names_held (slot_at slots k)) same ∙ held-none slots in
         omega (arith, whole.counted n, one-hit n (length slots) same))
         (λ differ.
         let early : names_held (slot_at (slots ++ Some (record { file = file; names = 1 }) ∷ []) n) ≡ names_held (slot_at slots n) =
-            ap names_held (slot-early slots (Some (record { file = file; names = 1 })) n differ) in
+        ap names_held (slot-early slots (Some (record { file = file; names = 1 })) n differ) in
         omega (arith, whole.counted n, no-hit n (length slots) differ));
   }
     where
@@ -147,7 +147,7 @@ module _ (folders : ℕ) (names : PathMap) (slots : List (Option Kept)) (whole :
       (λ i. record start {
         files = (map-set (option_map (λ (k : Kept). k.file)) slots n (grown_slot more now slot)
             ∙ ap (slice_set (files_of slots) n) (grown-file more now slot ∙
-                ap (grown more now) (ap (option_map (λ (k : Kept). k.file)) (sym is) ∙ sym (file-slot slots n)))) i;
+            ap (grown more now) (ap (option_map (λ (k : Kept). k.file)) (sym is) ∙ sym (file-slot slots n)))) i;
       })
       ∙ ap (appended more now start) (sym at)
 
@@ -164,7 +164,7 @@ module _ (folders : ℕ) (names : PathMap) (slots : List (Option Kept)) (whole :
         let is = slot-read slots n slot (slot-number p n at) read in
         ap (λ k. names_held (slot_at slots k)) same ∙ ap names_held is ∙ sym (grown-names more now slot)
         ∙ sym (ap (λ k. names_held (slot_at (slice_set slots n (grown_slot more now slot)) k)) same ∙
-            ap names_held (slot-set_same slots n (grown_slot more now slot) (slot-number p n at))))
+        ap names_held (slot-set_same slots n (grown_slot more now slot) (slot-number p n at))))
         (λ differ. sym (ap names_held (slot-set_other slots n m (grown_slot more now slot) differ)));
   }
 
@@ -198,18 +198,18 @@ module _ (folders : ℕ) (names : PathMap) (slots : List (Option Kept)) (whole :
     sound = subst IsSound (sym (linked-is o p n at)) (sound-named start whole.sound p o n within none at);
     counted = λ m.
         let came : paths_of (finmap.insert names p n) m + 0 ≡ paths_of names m + hits m (Some n) =
-            ap (λ o. paths_of (finmap.insert names p n) m + hits m o) (sym none) ∙ paths-insert m names p n in
+        ap (λ o. paths_of (finmap.insert names p n) m + hits m o) (sym none) ∙ paths-insert m names p n in
         by_number m n
         (λ same.
         let filed = slot-filed o n at in
         let again : names_held (slot_at (slice_set slots n (named_again (slot_at slots n))) m) ≡ filed.0.names + 1 =
         ap (λ k. names_held (slot_at (slice_set slots n (named_again (slot_at slots n))) k)) same ∙
-            ap names_held (slot-set_same slots n (named_again (slot_at slots n)) (slot-number o n at) ∙ ap named_again filed.1) in
+        ap names_held (slot-set_same slots n (named_again (slot_at slots n)) (slot-number o n at) ∙ ap named_again filed.1) in
         let before : names_held (slot_at slots m) ≡ filed.0.names = ap (λ k. names_held (slot_at slots k)) same ∙ ap names_held filed.1 in
         omega (arith, whole.counted m, one-hit m n same))
         (λ differ.
         let other : names_held (slot_at (slice_set slots n (named_again (slot_at slots n))) m) ≡ names_held (slot_at slots m) =
-            ap names_held (slot-set_other slots n m (named_again (slot_at slots n)) differ) in
+        ap names_held (slot-set_other slots n m (named_again (slot_at slots n)) differ) in
         omega (arith, whole.counted m, no-hit m n differ));
   }
 
@@ -276,7 +276,7 @@ module _ (folders : ℕ) (names : PathMap) (slots : List (Option Kept)) (whole :
       Obeys {T = Unit {0}} (rename o n) start 0 (Ok tt) (kept_state folders (finmap.remove (finmap.insert names n k) o) (let_go there slots)) 0
   rename-done o n k there at within is differ = made _ _ _ _ _ (rename-refusal o n start (Some k) true at (lt_true _ _ within))
       (ap (λ (m : PathMap). kept_state folders m (let_go there slots))
-          (swap-names names o n k (apart o n k at (ap (is_one_file (Some k)) is ∙ differ))) ∙ moved-is o n k there at is differ)
+      (swap-names names o n k (apart o n k at (ap (is_one_file (Some k)) is ∙ differ))) ∙ moved-is o n k there at is differ)
 
   pub counted-moved : (o n : Path) (k : ℕ) (there : Option ℕ) → finmap.get names o ≡ Some k → n.folder < folders → finmap.get names n ≡ there →
       is_one_file (Some k) there ≡ false → IsCounted folders (finmap.remove (finmap.insert names n k) o) (let_go there slots)
@@ -325,16 +325,16 @@ module _ (folders : ℕ) (names : PathMap) (slots : List (Option Kept)) (whole :
       option_map (name_row (files_of slots)) o ≡ slice_get (rows_of start folder place) i
   row-shown folder place i o is =
       ap (option_map (name_row (files_of slots))) (sym is) ∙ sym (get-map (name_row (files_of slots)) (rows_in names folder place) i) ∙
-          ap (λ rows. slice_get rows i) (sym (rows-shown folder place))
+      ap (λ rows. slice_get rows i) (sym (rows-shown folder place))
 
   -- the bytes of a path's file
   pub slot-bytes : (p : Path) (n : ℕ) (slot : Option Kept) → finmap.get names p ≡ Some n → slot ≡ get_or slots n slot →
       option_map (λ (k : Kept). k.file.bytes) slot ≡ bytes_at_path start p
   slot-bytes p n slot at read =
       let file : file_by (files_of slots) n ≡ option_map (λ (k : Kept). k.file) slot =
-          file-slot slots n ∙ ap (option_map (λ (k : Kept). k.file)) (slot-read slots n slot (slot-number p n at) read) in
+      file-slot slots n ∙ ap (option_map (λ (k : Kept). k.file)) (slot-read slots n slot (slot-number p n at) read) in
       twice slot ∙ sym (ap (λ o. option_map (λ (f : File). f.bytes) (option_and_then (file_by (files_of slots)) o)) at ∙
-          ap (option_map (λ (f : File). f.bytes)) file)
+      ap (option_map (λ (f : File). f.bytes)) file)
     where
       twice : (s : Option Kept) → option_map (λ (k : Kept). k.file.bytes) s ≡ option_map (λ (f : File). f.bytes) (option_map (λ (k : Kept). k.file) s)
       twice None = refl

@@ -78,7 +78,7 @@ module _ {Z : Type 0} where
   none-is es none =
       let none' : finmap.entries (from_sorted {R = name_cmp} []) ≡ [] = entries-from_sorted name_cmp [] tt in
       ap (λ (fs : List (Row Z)). from_sorted {R = name_cmp} (rows_by_name fs)) none ∙
-          empty_of_len _ (len-entries (from_sorted {R = name_cmp} []) ∙ ap length none')
+      empty_of_len _ (len-entries (from_sorted {R = name_cmp} []) ∙ ap length none')
 
   -- the row at a position, by its name
   pub row-at : (es : List (Row Z)) (i : ℕ) (o : Option (Row Z)) → InOrder es → slice_get es i ≡ o →
@@ -128,7 +128,7 @@ module _ {Z : Type 0} where
   falls-nowhere (e ∷ f ∷ es) h (suc k) d from within =
       let one : suc (k + 1) ≡ suc k + 1 = omega arith in
       subst (λ (j : ℕ). is_lt (name_cmp (get_or (keys_of (e ∷ f ∷ es)) j d).items (get_or (keys_of (f ∷ es)) k d).items) ≡ false) one
-          (falls-nowhere (f ∷ es) (second _ _ h) k d (omega arith) (omega arith))
+      (falls-nowhere (f ∷ es) (second _ _ h) k d (omega arith) (omega arith))
 
   pub not_falling : (es : List (Row Z)) → InOrder es → IsSorted (λ x y. name_cmp x.items y.items) (keys_of es)
   not_falling es sorted = falls-nowhere es (holds _ sorted)
@@ -167,12 +167,12 @@ module _ {Z : Type 0} where
       lookup (by q) fs ≡ cond (same k.items q) (Some v) (lookup (by q) es)
   put-lookups es fs k v updated q =
       agree (λ w. lookup (by w) fs) (λ w. cond (same k.items w) (Some v) (lookup (by w) es)) updated q (elim (stored q ((k, v) ∷ [])) [
-    | inl x ↦ inl x
-    | inr not ↦ elim (both-stored q fs es) [
-      | inl x ↦ inl x
-      | inr none ↦ inr (none.0, ap (λ b. cond b (Some v) (lookup (by q) es)) (absent not) ∙ none.1)
-    ]
-  ])
+        | inl x ↦ inl x
+        | inr not ↦ elim (both-stored q fs es) [
+          | inl x ↦ inl x
+          | inr none ↦ inr (none.0, ap (λ b. cond b (Some v) (lookup (by q) es)) (absent not) ∙ none.1)
+        ]
+      ])
     where
       missed : (b : Bool) → cond b (Some v) None ≡ None → b ≡ false
       missed true h = cc
@@ -235,12 +235,12 @@ module _ {Z : Type 0} where
   renamed-lookups es fs o k v renamed q =
       agree (λ w. lookup (by w) fs) (λ w. cond (same o.items w) None (cond (same k.items w) (Some v) (lookup (by w) es))) renamed q
       (elim (stored q ((k, v) ∷ [])) [
-    | inl x ↦ inl x
-    | inr not ↦ elim (both-stored q fs es) [
-      | inl x ↦ inl x
-      | inr none ↦ inr (none.0, nothing (same o.items q) _ (ap (λ b. cond b (Some v) (lookup (by q) es)) (absent not) ∙ none.1))
-    ]
-  ])
+        | inl x ↦ inl x
+        | inr not ↦ elim (both-stored q fs es) [
+          | inl x ↦ inl x
+          | inr none ↦ inr (none.0, nothing (same o.items q) _ (ap (λ b. cond b (Some v) (lookup (by q) es)) (absent not) ∙ none.1))
+        ]
+      ])
     where
       missed : (b : Bool) → cond b (Some v) None ≡ None → b ≡ false
       missed true h = cc

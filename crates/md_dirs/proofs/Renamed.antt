@@ -88,7 +88,7 @@ turned x y is = name_total.antisymm x y ∙ ap ordering_reverse is
 
 sorted-set : (es : List (List ℕ × ℕ)) (i : ℕ) (e : List ℕ × ℕ) → i < length es → T (is_sorted name_cmp es)
     → (0 < i → name_cmp (get_or es (i - 1) ([], 0)).0 e.0 ≡ Less) → (i + 1 < length es → name_cmp (get_or es (i + 1) ([], 0)).0 e.0 ≡ Greater) →
-        T (is_sorted name_cmp (slice_set es i e))
+    T (is_sorted name_cmp (slice_set es i e))
 sorted-set [] i e within h after before = absurd (omega arith)
 sorted-set (f ∷ []) zero e within h after before = tt
 sorted-set (f ∷ g ∷ es) zero e within h after before =
@@ -96,12 +96,12 @@ sorted-set (f ∷ g ∷ es) zero e within h after before =
     both _ _ (both _ _ (is_less e.0 g.0 above) (below-trans e.0 g.0 es above (first _ _ (second _ _ h)))) (second _ _ h)
 sorted-set (f ∷ es) (suc zero) e within h after before =
     both _ _ (below-set f.0 es 0 e (after (omega arith)) (first _ _ h))
-        (sorted-set es 0 e (omega arith) (second _ _ h) (λ no. absurd (omega arith)) (λ more. before (omega arith)))
+    (sorted-set es 0 e (omega arith) (second _ _ h) (λ no. absurd (omega arith)) (λ more. before (omega arith)))
 sorted-set (f ∷ es) (suc (suc i)) e within h after before =
     let behind : suc (suc i) - 1 ≡ suc i = omega arith in
     let one : suc (suc i) + 1 ≡ suc (suc i + 1) = omega arith in
     let lower : name_cmp (get_or es i ([], 0)).0 e.0 ≡ Less =
-        subst (λ (k : ℕ). name_cmp (get_or (f ∷ es) k ([], 0)).0 e.0 ≡ Less) behind (after (omega arith)) in
+    subst (λ (k : ℕ). name_cmp (get_or (f ∷ es) k ([], 0)).0 e.0 ≡ Less) behind (after (omega arith)) in
     let here : name_cmp f.0 (get_or es i ([], 0)).0 ≡ Less = below-at f.0 es i ([], 0) (omega arith) (first _ _ h) in
     both _ _ (below-set f.0 es (suc i) e (name_total.trans f.0 (get_or es i ([], 0)).0 e.0 here lower) (first _ _ h))
     (sorted-set es (suc i) e (omega arith) (second _ _ h)
@@ -115,7 +115,7 @@ module _ {Z : Type 0} where
       let long : i < length rows = omega (arith, length-rows es) in
       let is : rows_by_name (slice_set es i e) ≡ slice_set rows i (e.0.items, e.1) = map-set (λ (x : Row Z). (x.0.items, x.1)) es i e in
       subst (λ (xs : List (List ℕ × ℕ)). IsTrue (is_sorted name_cmp xs)) (sym is)
-          (is_true _ (sorted-set rows i (e.0.items, e.1) long (holds _ sorted) fits.after fits.before))
+      (is_true _ (sorted-set rows i (e.0.items, e.1) long (holds _ sorted) fits.after fits.before))
 
   -- the key that was found is the name
   pub found-key : (q : List ℕ) (es : List (Row Z)) (k : Vec ℕ Z) → Some k ≡ lookup_key (by q) es → k.items ≡ q
@@ -142,4 +142,4 @@ module _ {Z : Type 0} where
       ∙ renamed-lookups es fs renames.row.0 k v renames.names q
       ∙ (λ j. cond (turned-test (key j) q j) None (cond (turned-test k.items q j) (Some v) (sym (get-rows es q sorted) j)))
       ∙ sym (get-remove name_total (finmap.insert (from_sorted (rows_by_name es)) k.items v) o q ∙
-          ap (λ x. cond (eq_by_cmp name_cmp q o) None x) (get-insert name_total (from_sorted (rows_by_name es)) k.items v q)))
+      ap (λ x. cond (eq_by_cmp name_cmp q o) None x) (get-insert name_total (from_sorted (rows_by_name es)) k.items v q)))

@@ -72,20 +72,20 @@ filter-part p [] (suc a) n within before between behind = absurd (omega arith)
 filter-part p (x ∷ xs) zero zero within before between behind =
     ap (λ t. cond t (x ∷ filter p xs) (filter p xs)) (behind 0 x (omega arith) (omega arith))
     ∙ filter-part p xs zero zero (omega arith) (λ k d h. absurd (omega arith)) (λ k d h h'. absurd (omega arith))
-        (λ k d h h'. behind (suc k) d (omega arith) (omega arith))
+    (λ k d h h'. behind (suc k) d (omega arith) (omega arith))
 filter-part p (x ∷ xs) zero (suc n) within before between behind =
     ap (λ t. cond t (x ∷ filter p xs) (filter p xs)) (between 0 x (omega arith) (omega arith))
     ∙ ap (λ ys. x ∷ ys) (filter-part p xs zero n (omega arith) (λ k d h. absurd (omega arith))
-        (λ k d h h'. between (suc k) d (omega arith) (omega arith)) (λ k d h h'. behind (suc k) d (omega arith) (omega arith)))
+    (λ k d h h'. between (suc k) d (omega arith) (omega arith)) (λ k d h h'. behind (suc k) d (omega arith) (omega arith)))
 filter-part p (x ∷ xs) (suc a) n within before between behind =
     ap (λ t. cond t (x ∷ filter p xs) (filter p xs)) (before 0 x (omega arith))
     ∙ filter-part p xs a n (omega arith) (λ k d h. before (suc k) d (omega arith)) (λ k d h h'. between (suc k) d (omega arith) (omega arith))
-        (λ k d h h'. behind (suc k) d (omega arith) (omega arith))
+    (λ k d h h'. behind (suc k) d (omega arith) (omega arith))
 
 -- where the rows of a directory begin and end, by the numbers of their directories
 module _ (rows : List (Path × ℕ)) (n a b : ℕ) (start : IsPartitionPoint (λ e. ltb (number_at e) n ≡ true) (λ e. ltb (number_at e) n ≡ false) rows a)
     (end : IsPartitionPoint (λ e. leb (number_at e) n ≡ true) (λ e. leb (number_at e) n ≡ false) rows b) (within : a ≤ length rows)
-        (within' : b ≤ length rows) where
+    (within' : b ≤ length rows) where
   pub start-first : a ≤ b
   start-first = by (nat_lt b a) refl
     where
@@ -106,7 +106,7 @@ module _ (rows : List (Path × ℕ)) (n a b : ℕ) (start : IsPartitionPoint (λ
       sym (filter-part (λ e. is_in folder place e.0) rows a (b - a) (omega arith)
       (λ k d h. elsewhere folder place (get_or rows k d).0 (λ same. let low = ltb-true _ n (start.0 k d (omega arith) h) in absurd (omega arith)))
       (λ k d h h'. here folder place (get_or rows k d).0 (let high = ltb-false _ n (start.1 k d h (omega arith)) in let low =
-          leb-true _ n (end.0 k d (omega arith) (omega arith)) in omega arith))
+      leb-true _ n (end.0 k d (omega arith) (omega arith)) in omega arith))
       (λ k d h h'. elsewhere folder place (get_or rows k d).0 (λ same. let high = leb-false _ n (end.1 k d (omega arith) h') in absurd (omega arith))))
 
 -- the names of a directory's rows are in order
@@ -200,7 +200,7 @@ pub row-listed : (rows : List (Path × ℕ)) (folder : ℕ) (place : Place) (i :
     → option_map named_row o ≡ slice_get (rows_in (from_sorted rows) folder place) i
 row-listed rows folder place i o h is =
     ap (option_map named_row) (sym is) ∙ sym (get-map named_row (filter (λ e. is_in folder place e.0) rows) i) ∙
-        ap (λ es. slice_get es i) (sym (rows-listed rows folder place h))
+    ap (λ es. slice_get es i) (sym (rows-listed rows folder place h))
 
 -- what holds of each row by its name holds of each row
 pub each-named : (P : List ℕ × ℕ → Type 0) (es : List (Path × ℕ)) →

@@ -55,7 +55,7 @@ put-below : (p : Path) (v : ℕ) (xs ys : List (Path × ℕ)) → T (all_below p
 put-below p v [] ys h = refl
 put-below p v (x ∷ xs) ys h =
     ap (λ r. by_order r ((p, v) ∷ x ∷ (xs ++ ys)) ((x.0, v) ∷ (xs ++ ys)) (x ∷ put path_cmp p v (xs ++ ys))) (above p x.0 (first _ _ h)) ∙
-        ap (λ es. x ∷ es) (put-below p v xs ys (second _ _ h))
+    ap (λ es. x ∷ es) (put-below p v xs ys (second _ _ h))
 
 -- the paths that aren't p
 abbrev pub other : Path → Path → Bool
@@ -65,7 +65,7 @@ where-below : (p : Path) (xs ys : List (Path × ℕ)) → T (all_below p xs) →
 where-below p [] ys h = refl
 where-below p (x ∷ xs) ys h =
     ap (λ r. cond (not (is_eq r)) (x ∷ where_key path_cmp (other p) (xs ++ ys)) (where_key path_cmp (other p) (xs ++ ys)))
-        (above p x.0 (first _ _ h)) ∙ ap (λ es. x ∷ es) (where-below p xs ys (second _ _ h))
+    (above p x.0 (first _ _ h)) ∙ ap (λ es. x ∷ es) (where-below p xs ys (second _ _ h))
 
 sorted-after : (xs ys : List (Path × ℕ)) → T (is_sorted path_cmp (xs ++ ys)) → T (is_sorted path_cmp ys)
 sorted-after [] ys h = h
@@ -109,10 +109,10 @@ at_cut p xs ys file sorted below =
     let tie : eq_by_cmp path_cmp p p ≡ true = ap is_eq (tied_itself path_total p) in (
       find-below p xs ((p, file) ∷ ys) below ∙ ap (λ b. cond b (Some file) (find path_cmp p ys)) tie,
       where-below p xs ((p, file) ∷ ys) below ∙
-      ap (λ zs. xs ++ zs) (ap (λ b. cond (not b) ((p, file) ∷ where_key path_cmp (other p) ys) (where_key path_cmp (other p) ys)) tie ∙
-      where-above p ys (first _ _ rest)),
+          ap (λ zs. xs ++ zs) (ap (λ b. cond (not b) ((p, file) ∷ where_key path_cmp (other p) ys) (where_key path_cmp (other p) ys)) tie ∙
+          where-above p ys (first _ _ rest)),
       λ v. put-below p v xs ((p, file) ∷ ys) below ∙
-      ap (λ r. xs ++ by_order r ((p, v) ∷ (p, file) ∷ ys) ((p, v) ∷ ys) ((p, file) ∷ put path_cmp p v ys)) (tied_itself path_total p),
+          ap (λ r. xs ++ by_order r ((p, v) ∷ (p, file) ∷ ys) ((p, v) ∷ ys) ((p, file) ∷ put path_cmp p v ys)) (tied_itself path_total p),
     )
 
 -- at the first row that isn't below p: it is p's
@@ -145,7 +145,7 @@ gap rows p i e sorted below within is above =
     let here : drop i rows ≡ e ∷ drop (i + 1) rows = drop_more rows i e within ∙ ap (λ x. x ∷ drop (i + 1) rows) (sym is) in
     let parted : take i rows ++ e ∷ drop (i + 1) rows ≡ rows = ap (λ xs. take i rows ++ xs) (sym here) ∙ take-append-drop i rows in
     let cut = gap_cut p (take i rows) (drop (i + 1) rows) e (subst Sorted (sym parted) (holds _ sorted)) (holds _ below) (path_total.antisymm p e.0 ∙
-        ap ordering_reverse above) in
+    ap ordering_reverse above) in
     record {
       within = omega arith;
       absent = ap (find path_cmp p) (sym parted) ∙ cut.0;

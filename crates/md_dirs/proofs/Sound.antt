@@ -198,9 +198,11 @@ module _ (s : State) (sound : IsSound s) where
         (λ old.
         let some = some_file _ is in
         let early = get-early s.files (Some file) (Some some.0) m (flat _ some.0 some.1) old in
-        let had = sound.has_path m (is_there _ some.0 (ap option_flatten early)) in
-        (had.0, maps.beside_put path_total path_exact s.names p had.0 (length s.files) (λ same. let h : file_at s p ≡ Some m =
-            ap (file_at s) (sym same) ∙ had.1 in cc) ∙ had.1));
+        let had = sound.has_path m (is_there _ some.0 (ap option_flatten early)) in (
+          had.0,
+          maps.beside_put path_total path_exact s.names p had.0 (length s.files) (λ same. let h : file_at s p ≡ Some m =
+              ap (file_at s) (sym same) ∙ had.1 in cc) ∙ had.1,
+        ));
   }
 
   pub sound-created : (p : Path) (now : ℕ) → p.folder < s.folders → file_at s p ≡ None → IsSound (created p now s)
@@ -215,7 +217,7 @@ module _ (s : State) (sound : IsSound s) where
         housed = sound.housed;
         filed = λ q m at. by_number m n
             (λ same. let h = sound.filed q m at in let none : is_some (file_by s.files m) ≡ false = ap (λ (i : ℕ). is_some (file_by s.files i)) same ∙
-                ap is_some is in cc)
+            ap is_some is in cc)
             (λ not. subst (λ (f : Option File). IsSome f) (sym (file_by-set_other s.files n m None not)) (sound.filed q m at));
         has_path = λ m there. by_number m n
             (λ same. let none : is_some (file_by (slice_set s.files n None) m) ≡ false = ap is_some (set-none s.files n m same) in cc)
@@ -225,7 +227,7 @@ module _ (s : State) (sound : IsSound s) where
         housed = sound.housed;
         filed = λ q m at. by_number m n
             (λ same. let h = ap (file_by (slice_set s.files n (Some longer))) same ∙
-                file_by-set_same s.files n (Some longer) (file-within s.files n (is_there _ file is)) in is_there _ longer h)
+            file_by-set_same s.files n (Some longer) (file-within s.files n (is_there _ file is)) in is_there _ longer h)
             (λ not. subst (λ (f : Option File). IsSome f) (sym (file_by-set_other s.files n m (Some longer) not)) (sound.filed q m at));
         has_path = λ m there. by_number m n
             (λ same. sound.has_path m (is_there _ file (ap (file_by s.files) same ∙ is)))
@@ -242,9 +244,11 @@ module _ (s : State) (sound : IsSound s) where
         (λ is. let number : n ≡ m = (let h = maps.at_put path_total path_exact s.names p r n is in cc) in sound.filed q m (at ∙ ap Some number))
         (λ not. sound.filed r m (sym (maps.beside_put path_total path_exact s.names p r n not) ∙ there));
     has_path = λ m is.
-        let had = sound.has_path m is in
-        (had.0, maps.beside_put path_total path_exact s.names p had.0 n (λ same. let h : file_at s p ≡ Some m = ap (file_at s) (sym same) ∙
-            had.1 in cc) ∙ had.1);
+        let had = sound.has_path m is in (
+          had.0,
+          maps.beside_put path_total path_exact s.names p had.0 n (λ same. let h : file_at s p ≡ Some m = ap (file_at s) (sym same) ∙
+              had.1 in cc) ∙ had.1,
+        );
   }
 
   -- a path that is another's stays as one is taken away
@@ -282,9 +286,11 @@ module _ (s : State) (sound : IsSound s) where
           (λ m not is. by_number k m
           (λ same. (n, here n refl ∙ ap Some same))
           (λ differ.
-          let had = sound.has_path m is in
-          (had.0, beside had.0 (λ same. not (ap (file_at s) (sym same) ∙ had.1)) ∙
-              other-stays o had.0 m (λ h. differ (let e : Some k ≡ Some m = sym at ∙ h in cc)) had.1)))
+          let had = sound.has_path m is in (
+            had.0,
+            beside had.0 (λ same. not (ap (file_at s) (sym same) ∙ had.1)) ∙
+                other-stays o had.0 m (λ h. differ (let e : Some k ≡ Some m = sym at ∙ h in cc)) had.1,
+          )))
           (λ q m there. by_path q n
           (λ is. subst (λ (x : Path). x.folder < s.folders) (sym is) within)
           (λ not. sound.housed q m (before-unnamed o q m (sym (beside q not) ∙ there))))

@@ -213,8 +213,8 @@ first-is-name u n (e ∷ es) h is = by (first-is-name u n es (second _ _ h)) (lo
         let under = zone-order u e.0 u (below g) in
         let one = zone-same u in
         let differ : zone u e.0 ≢ 1 =
-            (λ z. let same = zone-one u e.0 z in let tie : eq_by_cmp name_cmp u e.0 ≡ true = ap (λ w. is_eq (name_cmp u w)) same ∙
-            ap is_eq (tied_itself name_total u) in cc) in
+        (λ z. let same = zone-one u e.0 z in let tie : eq_by_cmp name_cmp u e.0 ≡ true = ap (λ w. is_eq (name_cmp u w)) same ∙
+        ap is_eq (tied_itself name_total u) in cc) in
         let zero-zone : zone u e.0 ≡ 0 = omega arith in
         let not : is_named u e.0 ≡ false = named-zone u e.0 ∙ ap is_zone zero-zone in
         ap (λ b. cond b (Some e) (first_with (λ r. is_named u r.0) es)) not ∙ rest g
@@ -235,8 +235,8 @@ first-is-info u (e ∷ es) zero h none point = by (is_named u e.0) refl
 first-is-info u (e ∷ es) (suc i) h none point =
     let low : zone u e.0 < 3 = point.before 0 (omega arith) in
     let differ : zone u e.0 ≢ 1 =
-        (λ z. let same = zone-one u e.0 z in let tie : eq_by_cmp name_cmp u e.0 ≡ true = ap (λ w. is_eq (name_cmp u w)) same ∙
-        ap is_eq (tied_itself name_total u) in missing (eq_by_cmp name_cmp u e.0) tie none) in
+    (λ z. let same = zone-one u e.0 z in let tie : eq_by_cmp name_cmp u e.0 ≡ true = ap (λ w. is_eq (name_cmp u w)) same ∙
+    ap is_eq (tied_itself name_total u) in missing (eq_by_cmp name_cmp u e.0) tie none) in
     let not : is_named u e.0 ≡ false = named-zone u e.0 ∙ unnamed (zone u e.0) low differ in
     ap (λ b. cond b (Some e) (first_with (λ r. is_named u r.0) es)) not
     ∙ first-is-info u es i (second _ _ h) (later (eq_by_cmp name_cmp u e.0) none) (record {
@@ -283,7 +283,7 @@ below-info (x ∷ xs) (b ∷ bs) = by (below-info xs bs) (nat_lt b x) refl (b ==
     by : nat_lt (zone xs bs) 3 ≡ cond (starts_with nat_eq bs xs) (before_colon (drop (length xs) bs)) (is_lt (name_cmp bs xs)) → (s : Bool) →
         nat_lt b x ≡ s → (t : Bool) → (b == x) ≡ t → (t' : Bool) → (x == b) ≡ t'
         → nat_lt (cond s 0 (cond t (zone xs bs) 4)) 3 ≡ cond (t' && pointwise nat_eq xs (take (length xs) bs)) (before_colon (drop (length xs) bs))
-            (is_lt (ordering_then (cond s Less (cond t Equal Greater)) (name_cmp bs xs)))
+        (is_lt (ordering_then (cond s Less (cond t Equal Greater)) (name_cmp bs xs)))
     by rest true e t f true f' = absurd (let p : b < x = grind (arith, nat_tests) in let q : x ≡ b = grind (arith, nat_tests) in omega arith)
     by rest false e true f true f' = rest
     by rest false e false f true f' = absurd (let p : b ≢ x = grind (arith, nat_tests) in let q : x ≡ b = grind (arith, nat_tests) in p (sym q))

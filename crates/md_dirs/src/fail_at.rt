@@ -25,8 +25,11 @@ impl<D: Dirs> FailAt<D> {
 
     /// Directories whose call number `at`, counted from 1, fails. With 0 none does. It takes no memory.
     pub fn new(dirs: D, at: u64) -> Self
-        ensures { failing D.state D.failures D.calls result ≡ record { at = at; failed = 0;
-            behind = record { state = D.state dirs; failures = D.failures dirs; calls = D.calls dirs } } }
+        ensures { failing D.state D.failures D.calls result ≡ record {
+          at = at;
+          failed = 0;
+          behind = record { state = D.state dirs; failures = D.failures dirs; calls = D.calls dirs };
+        } }
     {
         FailAt {
             dirs,

@@ -24,7 +24,7 @@ use Rattle.md_head.proofs.Alls.{all_head, all_tail}
 pub same_summary : (s t : List ℕ) → ((name : List ℕ) → field_value name s ≡ field_value name t) → summary_of s ≡ summary_of t
 same_summary s t same =
     summary_is s ∙ made_of t _ _ _ _ _ (same (codes "subject")) (same (codes "from")) (same (codes "message-id")) (same (codes "date"))
-        (ap seconds_of (same (codes "date")))
+    (ap seconds_of (same (codes "date")))
 
 pub value_in_section : (name text : List ℕ) → field_value name text ≡ first_value name (grouped (header_section text)).groups
 value_in_section name text = ap (first_value name) (groups_is text)

@@ -48,13 +48,13 @@ first_append name (g ∷ front) groups =
 -- the section of the first lines alone, or with that of what follows
 section_either : (front more : List (List ℕ))
     → (take_while is_some_line (front ++ more) ≡ take_while is_some_line front) ⊎
-        (take_while is_some_line (front ++ more) ≡ take_while is_some_line front ++ take_while is_some_line more)
+    (take_while is_some_line (front ++ more) ≡ take_while is_some_line front ++ take_while is_some_line more)
 section_either [] more = inr refl
 section_either ([] ∷ front) more = inl (take_while-cons is_some_line [] (front ++ more) ∙ sym (take_while-cons is_some_line [] front))
 section_either ((b ∷ line) ∷ front) more = ⊎_elim
     (λ e. inl (some_first b line (front ++ more) ∙ ap (λ ls. (b ∷ line) ∷ ls) e ∙ sym (some_first b line front)))
     (λ e. inr (some_first b line (front ++ more) ∙ ap (λ ls. (b ∷ line) ∷ ls) e ∙
-        sym (ap (λ ls. ls ++ take_while is_some_line more) (some_first b line front))))
+    sym (ap (λ ls. ls ++ take_while is_some_line more) (some_first b line front))))
     (section_either front more)
 
 keeps_first : (name header later : List ℕ) → IsWholeLines header → is_blank (get_or later 0 0) ≡ false → IsSome (field_value name header)
@@ -63,14 +63,14 @@ keeps_first name header later h begins is_there =
     let section = section_append header later h in
     let head = value_in_section name header ∙ ap (λ ls. first_value name (grouped ls).groups) (section_is header) in
     let front : (grouped (take_while is_some_line (lines_of later))).front ≡ [] = ap (λ ls. (grouped ls).front) (sym (section_is later)) ∙
-        nothing_in_front later begins in
+    nothing_in_front later begins in
     value_in_section name (header ++ later) ∙ ap (λ ls. first_value name (grouped ls).groups) section
     ∙ ⊎_elim
     (λ e. ap (λ ls. first_value name (grouped ls).groups) e ∙ sym head)
     (λ e.
     ap (λ ls. first_value name (grouped ls).groups) e
     ∙ ap (λ (g : Grouped). first_value name g.groups)
-        (grouped_append (take_while is_some_line (lines_of header)) (take_while is_some_line (lines_of later)) front)
+    (grouped_append (take_while is_some_line (lines_of header)) (take_while is_some_line (lines_of later)) front)
     ∙ first_append name (grouped (take_while is_some_line (lines_of header))).groups (grouped (take_while is_some_line (lines_of later))).groups
     ∙ ap (λ v. or_later v (first_value name (grouped (take_while is_some_line (lines_of later))).groups)) (sym head)
     ∙ wins (field_value name header) (first_value name (grouped (take_while is_some_line (lines_of later))).groups) is_there)

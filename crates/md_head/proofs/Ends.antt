@@ -39,7 +39,7 @@ front_len (b ∷ bytes) off =
     ⊎_elim
     (λ yes.
     let skips : kept_start is_blank end (spans_from off (pieces (b ∷ bytes))) ≡ kept_start is_blank ((off + 1) + length bytes)
-        (spans_from (off + 1) (pieces bytes)) =
+    (spans_from (off + 1) (pieces bytes)) =
     ap (kept_start is_blank end) spans ∙ kept-skip is_blank end (off, off + 1, b) (spans_from (off + 1) (pieces bytes)) yes
     ∙ ap (λ n. kept_start is_blank n (spans_from (off + 1) (pieces bytes))) (omega arith) in
     let rest = front_len bytes (off + 1) in
@@ -56,7 +56,7 @@ front_len (b ∷ bytes) off =
     let stops : kept_start is_blank end (spans_from off (pieces (b ∷ bytes))) ≡ off =
     ap (kept_start is_blank end) (spans-first (b ∷ bytes) off (omega arith))
     ∙ kept-stop is_blank end (span off (decoded (b ∷ bytes)))
-        (spans_from (off + (decoded (b ∷ bytes)).size) (pieces (drop (decoded (b ∷ bytes)).size (b ∷ bytes)))) p.other in
+    (spans_from (off + (decoded (b ∷ bytes)).size) (pieces (drop (decoded (b ∷ bytes)).size (b ∷ bytes)))) p.other in
     let same = ap length (here (high_byte b g)) in
     omega arith)
     (cases_lt b 128)

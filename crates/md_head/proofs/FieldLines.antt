@@ -97,7 +97,7 @@ line_from line name body e =
       spacing = take m rest;
       parts = sym (take-append-drop n line)
           ∙ ap (λ t. take n line ++ t) (sym (take-append-drop m rest) ∙
-              ap (λ t. take m rest ++ t) (begins_colon (behind rest) b.colon ∙ ap (λ t. 58 ∷ t) b.same_body))
+          ap (λ t. take m rest ++ t) (begins_colon (behind rest) b.colon ∙ ap (λ t. 58 ∷ t) b.same_body))
           ∙ ap (λ t. t ++ (take m rest ++ 58 ∷ body)) b.same_name;
       some_name = subst (λ t. 0 < length t) b.same_name (omega (arith, length-prefix_len is_name_byte line, b.some));
       name_bytes = subst (AllPass is_name_byte) b.same_name (prefix_passes is_name_byte line);

@@ -97,7 +97,7 @@ group_field bytes first continuations name found body e f = go (lines_of body) r
     inner : AllPass is_inner front
     inner = pass_append is_inner found (f.spacing ++ 58 ∷ []) (all_inner is_name_byte found name_inner f.name_bytes)
         (pass_append is_inner f.spacing (58 ∷ []) (all_inner is_blank f.spacing blank_inner f.spacing_blank)
-            (pass_cons is_inner 58 [] refl (pass_nil is_inner)))
+        (pass_cons is_inner 58 [] refl (pass_nil is_inner)))
 
     all : lines_of bytes ≡ onto_all front (lines_of body)
     all = ap lines_of (f.parts ∙ sym (split body)) ∙ lines_onto front body (some_front found (f.spacing ++ 58 ∷ []) f.some_name) inner

@@ -47,7 +47,7 @@ grouped_all (line ∷ front) lines h =
 -- a group in front of some lines
 pub grouped_group : (first : List ℕ) (continuations lines : List (List ℕ)) → is_continuation first ≡ false → AllPass is_continuation continuations
     → grouped (first ∷ (continuations ++ lines)) ≡ made []
-        (record { first = first; continuations = continuations ++ (grouped lines).front } ∷ (grouped lines).groups)
+    (record { first = first; continuations = continuations ++ (grouped lines).front } ∷ (grouped lines).groups)
 grouped_group first continuations lines begins goes_on =
     grouped_new first (continuations ++ lines) begins
     ∙ ap (λ (g : Grouped). made [] (record { first = first; continuations = g.front } ∷ g.groups)) (grouped_all continuations lines goes_on)

@@ -79,7 +79,7 @@ value_behind name before more whole some begins =
     ∙ ap (λ (g : Grouped). first_value name g.groups) (grouped_append lines (header_section more) front)
     ∙ first_append name (grouped lines).groups (grouped (header_section more)).groups
     ∙ ap (λ v. or_later v (first_value name (grouped (header_section more)).groups))
-        (sym (value_in_section name before ∙ ap (λ ls. first_value name (grouped ls).groups) own))
+    (sym (value_in_section name before ∙ ap (λ ls. first_value name (grouped ls).groups) own))
     ∙ ap (or_later (field_value name before)) (sym (value_in_section name more))
 
 -- ---- what the loop knows of a name
@@ -128,7 +128,7 @@ group_has_bytes left n not_over ends = go ends.one.first ends.one.all_lines
     go [] is =
         let cut = ends.cut ∙ ap (λ ls. ls ++ lines_of (drop n left)) is in
         absurd (not_over (section_is left ∙ ap (take_while is_some_line) cut ∙
-            take_while-cons is_some_line [] (ends.one.continuations ++ lines_of (drop n left))))
+        take_while-cons is_some_line [] (ends.one.continuations ++ lines_of (drop n left))))
     go (b ∷ first) is = pass_cons is_some_line (b ∷ first) ends.one.continuations (has_bytes b first) (all_have_bytes ends.one.continuations ends.one.goes_on)
 
 -- one group more was read
@@ -163,7 +163,7 @@ still_none message left name n r not_over ends none other =
 
 found_more : (found : Option FieldBody) (named : Bool) (body : FieldBody) (later : Option (List ℕ))
     → or_later (option_map body_value (or_this found named body)) later ≡ or_later (option_map body_value found)
-        (or_later (cond named (Some (body_value body)) None) later)
+    (or_later (cond named (Some (body_value body)) None) later)
 found_more (Some found) named body later = refl
 found_more None true body later = refl
 found_more None false body later = refl

@@ -111,7 +111,7 @@ module _ (name found other body line line' : List ℕ) (l : NamedLine found body
       let g = grouped_new line lines h in (
         ap (λ (r : Grouped). r.front) g,
         ap (λ (r : Grouped). first_value name r.groups) g ∙
-        first_cons name (record { first = line; continuations = (grouped lines).front }) (grouped lines).groups,
+            first_cons name (record { first = line; continuations = (grouped lines).front }) (grouped lines).groups,
       )
 
   section_of : (line : List ℕ) (first : ℕ) (some : List ℕ) (lines : List (List ℕ)) → line ≡ first ∷ some
@@ -151,7 +151,7 @@ module _ (name found other body line line' : List ℕ) (l : NamedLine found body
         value = ap (λ ls. first_value name (grouped ls).groups) s ∙ ap (λ (r : Grouped). first_value name r.groups) (grouped_on first lines goes_on) ∙
             rest.value
             ∙ sym (ap (λ (r : Grouped). first_value name r.groups) (grouped_on first others goes_on)) ∙
-                sym (ap (λ ls. first_value name (grouped ls).groups) s');
+            sym (ap (λ ls. first_value name (grouped ls).groups) s');
       })
       (λ begins.
       let a = begins_group first lines begins in
@@ -179,7 +179,7 @@ renamed front name other spacing rest whole some bytes same blank =
     let l = named_line name spacing body some bytes blank in
     let l' = named_line other spacing body some' bytes' blank in
     let section = λ (t line : List ℕ) (lines : lines_of t ≡ line ∷ behind). section_append front t whole ∙
-        ap (λ ls. take_while is_some_line (lines_of front ++ ls)) lines in
+    ap (λ ls. take_while is_some_line (lines_of front ++ ls)) lines in
     let s = section text (name ++ (spacing ++ 58 ∷ body)) (field_text name spacing rest some bytes blank).lines in
     let s' = section text' (other ++ (spacing ++ 58 ∷ body)) (field_text other spacing rest some' bytes' blank).lines in
     same_summary (front ++ text) (front ++ text') (λ wanted.

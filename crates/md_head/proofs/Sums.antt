@@ -16,7 +16,7 @@ shown subject from message_id date seconds = record { subject = subject; from = 
 
 pub summary_is : (text : List ℕ)
     → summary_of text ≡ shown (field_value (codes "subject") text) (field_value (codes "from") text) (field_value (codes "message-id") text)
-        (field_value (codes "date") text)
+    (field_value (codes "date") text)
     (seconds_of (field_value (codes "date") text))
 unfolding summary_of
 summary_is text = refl
@@ -32,7 +32,7 @@ made_of text subject from message_id date seconds a b c d e =
     ∙ ap (λ v. shown (field_value (codes "subject") text) (field_value (codes "from") text) v date seconds) c
     ∙ ap (λ v. shown (field_value (codes "subject") text) (field_value (codes "from") text) (field_value (codes "message-id") text) v seconds) d
     ∙ ap (shown (field_value (codes "subject") text) (field_value (codes "from") text) (field_value (codes "message-id") text)
-        (field_value (codes "date") text)) e
+    (field_value (codes "date") text)) e
     ∙ sym (summary_is text)
 
 first_of_text : (text name : List ℕ) → IsFirstValue (grouped (header_section text)).groups name (field_value name text)

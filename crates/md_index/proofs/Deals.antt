@@ -85,7 +85,7 @@ takes seat v xs left hands _ _ is at =
             (IsPermutation-sym (taken_by hands ++ (xs ++ left)) (after ++ left) (rw append_assoc at moved)) is.each_once;
         owner = λ first e. ⊎_elim
             (λ (same : (0 ≡ seat) × (w ≡ first)). ap (λ (u : Hand). u.pushed) (sym same.1) ∙
-                is.owner v (subst (λ (j : ℕ). get_elem? hands j ≡ some v) (sym same.0) at))
+            is.owner v (subst (λ (j : ℕ). get_elem? hands j ≡ some v) (sym same.0) at))
             (λ (other : (0 ≢ seat) × (get_elem? hands 0 ≡ some first)). is.owner first other.1)
             (at_set hands seat 0 w first e);
         some_hand = simp length-set is.some_hand;

@@ -16,7 +16,7 @@ entries-next messages done more n made is brought grown =
     let here : get_or messages n message ≡ message = get_or_from_slice_get messages n message message brought.1 in
     let last = ap (λ x. map indexed_of (take n messages) ++ x ∷ []) (brought.2 ∙ ap indexed_of (sym here)) in
     let whole = ap (map indexed_of) (take_more messages n message (slice_get_within messages n message brought.1)) ∙
-        map-append indexed_of (take n messages) (get_or messages n message ∷ []) in
+    map-append indexed_of (take n messages) (get_or messages n message ∷ []) in
     grown ∙ (ap (λ xs. xs ++ made ∷ []) is ∙ (last ∙ sym whole))
 
 -- what holds of all values holds of the first, which comes out

@@ -28,7 +28,7 @@ letters_in-zero = same_set _ _ (λ c. contains-letters_in 0 c ∙ empty_bits c �
 
 or_bits : (a b c : ℕ)
     → (is_letter c && (bit_at (bit_or a b) (place_of c) == 1)) ≡
-        ((is_letter c && (bit_at a (place_of c) == 1)) || (is_letter c && (bit_at b (place_of c) == 1)))
+    ((is_letter c && (bit_at a (place_of c) == 1)) || (is_letter c && (bit_at b (place_of c) == 1)))
 or_bits a b c =
     let z = bit_at_or a b (place_of c) in
     let l = bit_at-lt a (place_of c) in
@@ -54,7 +54,7 @@ kept_if false x y z h k e = refl
 
 not_bits : (a b c : ℕ) → b < 2 ^ 64
     → (is_letter c && (bit_at (bit_and a (bit_not w64 b)) (place_of c) == 1)) ≡
-        ((is_letter c && (bit_at a (place_of c) == 1)) && not (is_letter c && (bit_at b (place_of c) == 1)))
+    ((is_letter c && (bit_at a (place_of c) == 1)) && not (is_letter c && (bit_at b (place_of c) == 1)))
 not_bits a b c h =
     kept_if (is_letter c) (bit_at a (place_of c)) (bit_at b (place_of c)) (bit_at (bit_and a (bit_not w64 b)) (place_of c))
     (bit_at-lt a (place_of c)) (bit_at-lt b (place_of c))

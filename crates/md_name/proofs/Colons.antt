@@ -28,7 +28,7 @@ place_within p (x ∷ xs) =
 found : (p : ℕ → Bool) (xs : List ℕ) (at : ℕ) → position p xs ≡ Some at → (list_any p xs ≡ true) × (position_or_len p xs ≡ at)
 found p xs at h =
     elim (nat_lt (position_or_len p xs) (length xs)) as (λ b. list_any p xs ≡ b → cond b (Some (position_or_len p xs)) None ≡ Some at →
-        (list_any p xs ≡ true) × (position_or_len p xs ≡ at)) [
+    (list_any p xs ≡ true) × (position_or_len p xs ≡ at)) [
       | true ↦ λ any is. (any, cc)
       | false ↦ λ any is. cc
     ] (any_by_place p xs) h
@@ -36,7 +36,7 @@ found p xs at h =
 not_found : (p : ℕ → Bool) (xs : List ℕ) → position p xs ≡ None → (list_any p xs ≡ false) × (before_first p xs ≡ xs)
 not_found p xs h =
     elim (nat_lt (position_or_len p xs) (length xs)) as (λ b. nat_lt (position_or_len p xs) (length xs) ≡ b → list_any p xs ≡ b →
-        cond b (Some (position_or_len p xs)) None ≡ None → (list_any p xs ≡ false) × (before_first p xs ≡ xs)) [
+    cond b (Some (position_or_len p xs)) None ≡ None → (list_any p xs ≡ false) × (before_first p xs ≡ xs)) [
       | true ↦ λ lt any is. cc
       | false ↦ λ lt any is. (any, take_all (position_or_len p xs) xs (let within = place_within p xs in grind (arith, nat_tests)))
     ] refl (any_by_place p xs) h

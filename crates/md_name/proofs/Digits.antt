@@ -62,6 +62,6 @@ same_number x other (d ∷ ds) [] rs ss hd he same =
 same_number x other (d ∷ ds) (e ∷ es) rs ss hd he same =
     let first : d ≡ e = cc in
     let rest = same_number x other ds es rs ss (and_second (is_ascii_digit d) (all_ascii_digits ds) hd)
-        (and_second (is_ascii_digit e) (all_ascii_digits es) he) cc in
+    (and_second (is_ascii_digit e) (all_ascii_digits es) he) cc in
     let digits = rest.0 in
     (cc, rest.1)

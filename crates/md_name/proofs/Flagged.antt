@@ -50,9 +50,9 @@ any_of_filter q c [] = elim (q c) as (λ b. false ≡ (b && false)) [ true ↦ r
 any_of_filter q c (x ∷ xs) =
     let step = one_more q x c (list_any (λ y. nat_eq y c) xs) (list_any (λ y. nat_eq y c) (filter q xs)) (eqb_tells x c) (any_of_filter q c xs) in
     let out : list_any (λ y. nat_eq y c) (cond (q x) (x ∷ filter q xs) (filter q xs)) ≡ cond (q x)
-        (nat_eq x c || list_any (λ y. nat_eq y c) (filter q xs)) (list_any (λ y. nat_eq y c) (filter q xs)) =
+    (nat_eq x c || list_any (λ y. nat_eq y c) (filter q xs)) (list_any (λ y. nat_eq y c) (filter q xs)) =
     elim (q x) as (λ b. list_any (λ y. nat_eq y c) (cond b (x ∷ filter q xs) (filter q xs)) ≡ cond b
-        (nat_eq x c || list_any (λ y. nat_eq y c) (filter q xs)) (list_any (λ y. nat_eq y c) (filter q xs))) [ true ↦ refl | false ↦ refl ] in
+    (nat_eq x c || list_any (λ y. nat_eq y c) (filter q xs)) (list_any (λ y. nat_eq y c) (filter q xs))) [ true ↦ refl | false ↦ refl ] in
     out ∙ step
 
 kept : (a b : Bool) → (a ≡ true → b ≡ true) → (a && b) ≡ a

@@ -15,9 +15,9 @@ escaped_more host i h =
 pub length-escape : (b : ℕ) → length (escape b) ≡ cond (is_slash b || is_colon b) 4 1
 length-escape b = elim (is_slash b) as
     (λ s. length (cond s (92 ∷ 48 ∷ 53 ∷ 55 ∷ []) (cond (is_colon b) (92 ∷ 48 ∷ 55 ∷ 50 ∷ []) (b ∷ []))) ≡ cond (s || is_colon b) 4 1) [
-  | true ↦ refl
-  | false ↦ elim (is_colon b) as (λ c. length (cond c (92 ∷ 48 ∷ 55 ∷ 50 ∷ []) (b ∷ [])) ≡ cond c 4 1) [ true ↦ refl | false ↦ refl ]
-]
+      | true ↦ refl
+      | false ↦ elim (is_colon b) as (λ c. length (cond c (92 ∷ 48 ∷ 55 ∷ 50 ∷ []) (b ∷ [])) ≡ cond c 4 1) [ true ↦ refl | false ↦ refl ]
+    ]
 
 pub length-escape-le : (b : ℕ) → 1 ≤ length (escape b)
 length-escape-le b = let e = length-escape b in grind (arith, nat_tests)

@@ -30,7 +30,7 @@ length-made_unique-le sec micro pid count host s m p c h =
     let count_len : length (decimal count) ≤ 20 = length-decimal-le 20 count (omega arith) (omega arith) c in
     let within : nat_le (length (escaped host)) 100 ≡ true =
     and_second (nat_lt 0 (length host)) (nat_le (length (escaped host)) 100)
-        (and_first (nat_lt 0 (length host) && nat_le (length (escaped host)) 100) (not (list_any is_terminator host)) h) in
+    (and_first (nat_lt 0 (length host) && nat_le (length (escaped host)) 100) (not (list_any is_terminator host)) h) in
     let host_len : length (escaped host) ≤ 100 = grind (arith, nat_tests) in
     rw grouped (simp length-append (omega arith))
 
@@ -98,7 +98,7 @@ is_unique_name-made_unique sec micro pid count host s m p c h =
     let clean : list_any is_terminator host ≡ false = not_true (list_any is_terminator host)
     (and_second (nat_lt 0 (length host) && nat_le (length (escaped host)) 100) (not (list_any is_terminator host)) h) in
     all_hold (nat_lt 0 (length name)) (begins_with_dot name) (list_any is_colon name) (list_any is_slash name) (nat_le (length name) 200)
-        (list_any is_terminator name)
+    (list_any is_terminator name)
     (grind (arith, nat_tests))
     (ap begins_with_dot (grouped sec micro pid count host) ∙ no_dot_first (decimal sec) _ (digits-decimal sec s) first)
     (any_made is_colon (λ d is. grind (arith, nat_tests)) refl sec micro pid count host s wide p c (no_colon host))
@@ -145,10 +145,13 @@ written b =
     ⊎_elim
     (λ h. inl (h.1, ap (λ t. cond t (92 ∷ 48 ∷ 53 ∷ 55 ∷ []) (cond (is_colon b) (92 ∷ 48 ∷ 55 ∷ 50 ∷ []) (b ∷ []))) h.0))
     (λ h. inr (⊎_elim
-    (λ k. inl (k.1, ap (λ t. cond t (92 ∷ 48 ∷ 53 ∷ 55 ∷ []) (cond (is_colon b) (92 ∷ 48 ∷ 55 ∷ 50 ∷ []) (b ∷ []))) h.0 ∙
-        ap (λ t. cond t (92 ∷ 48 ∷ 55 ∷ 50 ∷ []) (b ∷ [])) k.0))
+    (λ k. inl (
+      k.1,
+      ap (λ t. cond t (92 ∷ 48 ∷ 53 ∷ 55 ∷ []) (cond (is_colon b) (92 ∷ 48 ∷ 55 ∷ 50 ∷ []) (b ∷ []))) h.0 ∙
+          ap (λ t. cond t (92 ∷ 48 ∷ 55 ∷ 50 ∷ []) (b ∷ [])) k.0,
+    ))
     (λ k. inr (ap (λ t. cond t (92 ∷ 48 ∷ 53 ∷ 55 ∷ []) (cond (is_colon b) (92 ∷ 48 ∷ 55 ∷ 50 ∷ []) (b ∷ []))) h.0 ∙
-        ap (λ t. cond t (92 ∷ 48 ∷ 55 ∷ 50 ∷ []) (b ∷ [])) k.0))
+    ap (λ t. cond t (92 ∷ 48 ∷ 55 ∷ 50 ∷ []) (b ∷ [])) k.0))
     (eqb_tells b 58)))
     (eqb_tells b 47)
 

@@ -79,8 +79,8 @@ stepped-ok r r' event faulted out goes_on run shows none =
     let text : step_text r event ≡ out_text event.job out = ap (shown_text event.job) out_is in
     let after : and_event r (unfaulted event) ≡ r' = ap (and_event r) (sym same) ∙ sym run in
     is_done (event_refusal r event) _ goes_on ∙
-        (let e : ◌≡◌ {A = Run × List ℕ} (and_event r (unfaulted event), step_text r event) (r', out_text event.job out) = λ i.
-        (after i, text i) in ap Ok e)
+    (let e : ◌≡◌ {A = Run × List ℕ} (and_event r (unfaulted event), step_text r event) (r', out_text event.job out) = λ i.
+    (after i, text i) in ap Ok e)
 
 pub stepped-refused : (r : Run) (event : Event) (s : Run) (text : List ℕ) (e : CoreError) (kind : PlayKind) → IsRefusal (event_refusal r event) e →
     kind ≡ core_kind e → Steps (stepped r event) s text text (Err kind)

@@ -12,8 +12,8 @@ use Rattle.md_script.proofs.Firsts.{absent, first_at, rest_whole}
 whole : (text : List ℕ) → All (λ x. is_byte 32 x ≡ false) text → before_first (is_byte 32) text ≡ text
 whole text all =
     let is : position_or_len (is_byte 32) text ≡ length text =
-        position_or_len_is (is_byte 32) text (length text) 0 (omega arith) (λ k h. All-get_or (λ x. is_byte 32 x ≡ false) text k 0 h all)
-        (λ h. absurd (omega arith)) in
+    position_or_len_is (is_byte 32) text (length text) 0 (omega arith) (λ k h. All-get_or (λ x. is_byte 32 x ≡ false) text k 0 h all)
+    (λ h. absurd (omega arith)) in
     rw (is, take-length) refl
 
 pub last_word : (text : List ℕ) → Nowhere (Passes (is_byte 32) text) 0 (length text) → cut_at_space text ≡ (text, None)

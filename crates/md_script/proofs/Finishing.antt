@@ -55,7 +55,7 @@ there-after r event goes_on =
     let here = there-here r event goes_on in
     let as_many : length (jobs_of (and_event r (unfaulted event))) ≡ length (jobs_of r) =
     ap (λ (m : Machine). length m.jobs) (machine-and_event r (unfaulted event) ∙ happens-turned (machine_of r) (unfaulted event) task.0 task.1) ∙
-        length-changed (jobs_of r) _ _ in
+    length-changed (jobs_of r) _ _ in
     record { from = here.from; within = omega (arith, as_many, here.within) }
 
 -- what a step that was taken says
@@ -145,7 +145,7 @@ finishes-end r event r' text f is_answered =
 pub finishes-unrefused : {S : Type 0} (r : Run) (event : Event) (r' : Run) (text : List ℕ) → Finishes r event r' text →
     is_some (answer_of (job_in r' event.job)) ≡ false
     → (step : Result (S × List ℕ) PlayKind) (s : S) (t : Run) (more before after : List ℕ) (kind : PlayKind) →
-        Steps (stepped r' event) t more after (Err kind) → Steps step s before after (Err kind)
+    Steps (stepped r' event) t more after (Err kind) → Steps step s before after (Err kind)
 unfolding stepped
 finishes-unrefused r event r' text f unanswered step s t more before after kind is = λ some.
     let goes_on = waits r' event f.there (none_by (answer_of (job_in r' event.job)) unanswered) in

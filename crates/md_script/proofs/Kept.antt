@@ -21,7 +21,7 @@ module _ {A B : Type 0} (f : A → B) (p : B → Bool) where
   map-filter [] = refl
   map-filter (x ∷ xs) =
       elim (p (f x)) as (λ b. map f (cond b (x ∷ filter (λ x. p (f x)) xs) (filter (λ x. p (f x)) xs)) ≡ cond b (f x ∷ filter p (map f xs))
-          (filter p (map f xs))) [
+      (filter p (map f xs))) [
         | true ↦ ap (λ ys. f x ∷ ys) (map-filter xs)
         | false ↦ map-filter xs
       ]
@@ -67,8 +67,11 @@ held r kept = record { run = r; firsts = map first_by kept }
 abbrev second_by : Store → ℕ → Option First → Result (Store × List ℕ) PlayKind
 second_by t folder kept =
     ok_or kept NoFirst >>=
-        (λ kept. Ok (record t { firsts = others folder t.firsts }, entries_text
-        (listing_of (names_at t.run) folder kept.moment (length t.run.events))))
+    (λ kept. Ok (
+      record t { firsts = others folder t.firsts },
+      entries_text
+          (listing_of (names_at t.run) folder kept.moment (length t.run.events)),
+    ))
 
 module _ (t : Store) (folder : ℕ) (r : Run) (kept : List Listing) (view_is : held r kept ≡ t) where
   pub first-read : (new : List Listing) (l : Listing) → l.folder ≡ folder → l.begun ≡ length r.events →
@@ -80,7 +83,7 @@ module _ (t : Store) (folder : ℕ) (r : Run) (kept : List Listing) (view_is : h
       ap (map first_by) is ∙ map-append first_by (filter (λ x. not (x.folder == l.folder)) kept) (l ∷ [])
       ∙ ap (λ (fs : List First). fs ++ first_by l ∷ []) (others-kept l.folder kept) in
       let now : others l.folder (map first_by kept) ++ first_by l ∷ [] ≡ (let f : First =
-          record { folder = folder; moment = length r.events } in others folder (map first_by kept) ++ f ∷ []) =
+      record { folder = folder; moment = length r.events } in others folder (map first_by kept) ++ f ∷ []) =
       λ i. (let f : First = record { folder = of i; moment = at i } in others (of i) (map first_by kept) ++ f ∷ []) in
       subst (λ (u : Store). read_first u folder ≡ Ok (held r new, [])) view_is
       (λ i. (let u : Store = record { run = r; firsts = sym (firsts ∙ now) i } in Ok (u, [])))
@@ -98,7 +101,7 @@ module _ (t : Store) (folder : ℕ) (r : Run) (kept : List Listing) (view_is : h
   second-read new l entries is all others_are listed =
       let of : l.folder ≡ folder = eqb-true l.folder folder (found (HasBegun r) (λ l. l.folder == folder) kept l all is).1 in
       let shown : entries ≡ listing_of (names_at r) folder l.begun (length r.events) =
-          listed ∙ ap (λ f. listing_of (names_at r) f l.begun (length r.events)) of in
+      listed ∙ ap (λ f. listing_of (names_at r) f l.begun (length r.events)) of in
       let firsts : map first_by new ≡ others folder (map first_by kept) = ap (map first_by) others_are ∙ others-kept folder kept in
       subst (λ (u : Store). read_second u folder ≡ Ok (held r new, entries_text entries)) view_is
       (ap (second_by (held r kept) folder) (sym (first-kept folder kept) ∙ ap (option_map first_by) is)

@@ -28,7 +28,7 @@ was_open s folders files (Some u) is some = subst (λ (t : Session). Opened t t)
 pub is_opened : (s t : Session) (folders : List (List ℕ)) (files : List ImageFile) (store : Option Store) (r : Run) → held folders files store ≡ s →
     is_some store ≡ false
     → (count : ℕ) (taken : List ImageFile) → count ≡ length folders → taken ≡ files → opened count taken ≡ Ok r →
-        t ≡ held folders files (Some (new_store r)) → Opened s t
+    t ≡ held folders files (Some (new_store r)) → Opened s t
 is_opened s t folders files None r is none count taken all same made after =
     let opens : opened (length folders) files ≡ Ok r = sym (λ i. opened (all i) (same i)) ∙ made in
     subst (λ (u : Session). Opened u t) is (new_store r, ap (λ (x : Result Run PlayKind). x >>= (λ r. Ok (new_store r))) opens, after)

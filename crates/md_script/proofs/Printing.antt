@@ -20,7 +20,7 @@ plain_front : (front rest : List ℕ) (b : ℕ) → All Plain front → escaped 
 plain_front [] rest b all = refl
 plain_front (c ∷ front) rest b all =
     ap (λ p. p ++ escaped (front ++ b ∷ rest)) (escape_plain c (All-head Plain c front all)) ∙
-        ap (λ xs. c ∷ xs) (plain_front front rest b (All-tail Plain c front all))
+    ap (λ xs. c ∷ xs) (plain_front front rest b (All-tail Plain c front all))
 
 plain_all : (text : List ℕ) → All Plain text → escaped text ≡ text
 plain_all [] all = refl

@@ -25,7 +25,7 @@ module _ {S : Type 0} (step : S → List ℕ → Result (S × List ℕ) PlayKind
 
     pub run_refused : (kind : PlayKind) → line_step step s first ≡ Err kind
         → (let t : Transcript S = record { text = text; refusal = Some (record { line = line; kind = kind }); session = s } in t) ≡ printed text
-            (run_from step line s (lines_of left))
+        (run_from step line s (lines_of left))
     run_refused kind e = rw (here, e) (simp append-nil)
 
 -- A run whose printed text and last session make the transcript tells it.

@@ -40,7 +40,7 @@ module _ {A : Type 0} where
   keeps_place early history place entry begun at =
       let within : place < length early = slice_get_within early place entry at in
       let same : get_or (early ++ begun.0) place entry ≡ entry = get_or_append_left early begun.0 entry place within ∙
-          get_or_from_slice_get early place entry entry at in
+      get_or_from_slice_get early place entry entry at in
       let there : slice_get (early ++ begun.0) place ≡ Some entry =
-          slice_get-get_or (early ++ begun.0) place entry (omega (arith, within, length-append early begun.0)) ∙ ap Some same in
+      slice_get-get_or (early ++ begun.0) place entry (omega (arith, within, length-append early begun.0)) ∙ ap Some same in
       subst (λ whole. slice_get whole place ≡ Some entry) begun.1 there

@@ -45,5 +45,5 @@ module _ (seen : List Effect) (effect : Effect) where
   pub adds_or_stays : Moves IsCounted (λ log. []) (λ before after answer. Unit {0}) 0 from counted told
   adds_or_stays cells history kept begun away =
       let all : length history ≡ length seen → Ends (words_at (length history)) history =
-          λ same. subst (λ (h : List Effect). Ends (words_at (length h)) h) (all_of_it seen history begun (omega (arith, same))) adds in
+      λ same. subst (λ (h : List Effect). Ends (words_at (length h)) h) (all_of_it seen history begun (omega (arith, same))) adds in
       rw kept.words (⊎_elim (λ same. all same.1) (λ other. stays history other.0) (eqb_tells (length history) (length seen)))

@@ -32,8 +32,12 @@ knows o p = ((λ _. (refl, refl)), begins_itself p.front.log)
 pub begins : (p : Page) → p.front.log ≡ [] → AreMessages p.names → Kept p (newcomer ∷ [])
 begins p none messages = (
   p.names,
-  record { legal = subst (IsLegalFrom p.names) (sym none) (legal-none p.names); names = ap (led p.names) none; opening_messages = messages;
-      messages = messages },
+  record {
+    legal = subst (IsLegalFrom p.names) (sym none) (legal-none p.names);
+    names = ap (led p.names) none;
+    opening_messages = messages;
+    messages = messages;
+  },
   one,
 )
   where
@@ -45,7 +49,7 @@ fits_set : (o : Named) (p : Page) (views : List View) (seat : ℕ) (w : View) �
     ((j : ℕ) (u : View) → get_elem? views j ≡ some u → Fits o p u) → (j : ℕ) (u : View) → get_elem? (set views seat w) j ≡ some u → Fits o p u
 fits_set o p views seat w mine others j u e =
     ⊎_elim (λ (t : (j ≡ seat) × (w ≡ u)). subst (Fits o p) t.1 mine) (λ (t : (j ≢ seat) × (get_elem? views j ≡ some u)). others j u t.1)
-        (at_set views seat j w u e)
+    (at_set views seat j w u e)
 
 pub admits : Admits Kept newcomer
 admits p views h = (h.0, h.1, λ j v e. ⊎_elim (h.2 j v) (λ (same : newcomer ≡ v). subst (Fits h.0 p) same (new_fits h.0 p)) (at_snoc views newcomer v j e))
@@ -76,8 +80,8 @@ forks seat v x views h at = (
 pub merges : (seat : ℕ) (v : View) (other : ℕ) (w : View) → Merges Kept seat v other w w newcomer
 merges seat v other w x views h at apart there =
     let theirs : Fits h.0 x w =
-        ⊎_elim (λ (t : (other ≡ seat) × (w ≡ w)). absurd (apart t.0)) (λ (t : (other ≢ seat) × (get_elem? views other ≡ some w)). h.2 other w t.1)
-        (at_set views seat other w w there) in
+    ⊎_elim (λ (t : (other ≡ seat) × (w ≡ w)). absurd (apart t.0)) (λ (t : (other ≢ seat) × (get_elem? views other ≡ some w)). h.2 other w t.1)
+    (at_set views seat other w w there) in
     (h.0, h.1, fits_set h.0 x (set views seat w) other newcomer (new_fits h.0 x) (fits_set h.0 x views seat w theirs h.2))
 
 -- a note that follows legally leads on

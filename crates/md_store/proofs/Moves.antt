@@ -60,7 +60,7 @@ module _ (opening : Named) (book : Book) (shown : Page) (seat : View) (front : L
   nothing : (r : Run) → IsLocked opening book r shown seat front pending → shown.front.log ≡ effects_of r → pending ≡ []
   nothing r k all = ⊎_elim (λ (e : pending ≡ []). e)
       (λ (n : (n : Note) × (pending ≡ n ∷ []) × CanFollow opening shown n × (n.front.log ≡ effects_of r)). none_waits
-          (effects_of r) shown.front.log n.0.effect all (sym n.3 ∙ n.2.1)) k.waits
+      (effects_of r) shown.front.log n.0.effect all (sym n.3 ∙ n.2.1)) k.waits
 
   advances : (r s : Run) (job : ℕ) (b : Bool) → IsLocked opening book r shown seat front pending → shown.front.log ≡ effects_of r →
       named_of s.image ≡ named_of r.image → Grows r s job b → IsLocked opening book s shown seat front pending
@@ -120,10 +120,10 @@ seat_after opening shown shown' seat seat' is s =
 pub catches : (opening : Named) (book : Book) (r : Run) (front : Log) (shown shown' : Page) (seat seat' : View) (pend pend' : List Note)
     (res : Result (Unit {0}) AllocError)
     → named_of r.image ≡ opening → shown.front.book ≡ book → seat ≡ knower opening shown → Lags (effects_of r) shown.front.log → front.book ≡ book →
-        front.log ≡ effects_of r
+    front.log ≡ effects_of r
     → ((n : Note) × (pend ≡ n ∷ []) × CanFollow opening shown n × (n.front.log ≡ effects_of r))
     → MatchResult res (λ _. (shown' ≡ fold turned shown pend) × (pend' ≡ []) × Shows seat shown' seat')
-        (λ _. (shown' ≡ shown) × (pend' ≡ pend) × (seat' ≡ seat))
+    (λ _. (shown' ≡ shown) × (pend' ≡ pend) × (seat' ≡ seat))
     → IsLocked opening book r shown' seat' front pend' × MatchResult res (λ _. shown'.front.log ≡ effects_of r) (λ _. shown'.front.log ≡ shown.front.log)
 catches opening book r front shown shown' seat seat' pend pend' (Ok u) image b s lag fb f w t =
     let n = w.0 in

@@ -127,7 +127,7 @@ module _ (r : Run) (folders : ℕ) (same : r.image.folders ≡ folders) (asked :
   submits (Ok n) h = is-plain ∙ accepted (plain folders asked) (held_of r) (held_of empty) none (sym is-here ∙ h)
   submits (Err y) h = subst (λ o. IsWhy o y.error) (sym is-plain)
       (why (plain folders asked) (held_of r) (held_of empty) (held-why (too_many r) (is_used r) asked) none y.error
-          (subst (λ o. IsRefusal o y.error) is-here h))
+      (subst (λ o. IsRefusal o y.error) is-here h))
 
 -- why a step is refused
 pub step_why : {A : Type 0} (o : Option Standing) (res : Result A CoreError) → MatchResult res (λ _. step_refusal o ≡ None) (IsRefusal (step_refusal o))

@@ -57,11 +57,7 @@ impl Listing {
 }
 
 /// The listing of a folder whose two readings are made at one moment: its messages now, in order of unique name. No entry is copied.
-pub fn list<D: Dirs>(
-    alloc: Global,
-    world: &World<D>,
-    folder: u32,
-) -> Result<Vec<Entry>, ViewError>
+pub fn list<D: Dirs>(alloc: Global, world: &World<D>, folder: u32) -> Result<Vec<Entry>, ViewError>
     ensures entries { IfOk result (λ all. all.items ≡ listing_of (names_at world.now) folder (length world.now.events) (length world.now.events)) }
     ensures refusal { IfErr result (λ error. error ≡ reading_refusal (dirs_of world.now) folder) }
 {

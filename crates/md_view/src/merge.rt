@@ -55,11 +55,7 @@ fn push_all(alloc: Global, all: &mut Vec<Entry>, entries: &[Entry]) -> Result<()
 }
 
 /// The same of lists that are given away: each entry is moved, and none copied.
-pub fn merge(
-    alloc: Global,
-    new: Vec<Entry>,
-    cur: Vec<Entry>,
-) -> Result<Vec<Entry>, AllocError>
+pub fn merge(alloc: Global, new: Vec<Entry>, cur: Vec<Entry>) -> Result<Vec<Entry>, AllocError>
     requires new { IsInOrder new.items }
     requires cur { IsInOrder cur.items }
     ensures { IfOk result (λ all. all.items ≡ join_of new.items cur.items) }

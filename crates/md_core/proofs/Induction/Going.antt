@@ -69,7 +69,7 @@ module _ (calls : List Call) (m m' : Machine) (what : Done) (g : Goes calls m m'
       let within = slice_get_within m.jobs g.place (working g.task) g.there in
       by_number j g.place
       (λ same. let now = ap (slice_get (slice_set m.jobs g.place standing)) same ∙
-          get-set_same m.jobs g.place standing within in here same (let e : Some job ≡ Some standing = sym is' ∙ now in cc))
+      get-set_same m.jobs g.place standing within in here same (let e : Some job ≡ Some standing = sym is' ∙ now in cc))
       (λ differ. other differ (sym (get-set_other m.jobs g.place j standing differ) ∙ is'))
 
   -- the job that took its turn, and another, after it

@@ -180,7 +180,7 @@ module _ (r : Run) (run : IsRun r) where
     -- What holds at the beginning, and is kept by each turn where all is good, holds at each moment.
     module _ (P : List Marked → Machine → Type 0) (start : P [] (beginning r.image r.calls))
         (step : (es : List Marked) (m m' : Machine) (e : Marked) (what : Done) → what.job ≡ e.event.job → IsGood r.calls m → Goes r.calls m m' what →
-            P es m → P (es ++ e ∷ []) m') where
+        P es m → P (es ++ e ∷ []) m') where
       abbrev Both : List Marked → Machine → Type 0
       Both es m = IsGood r.calls m × P es m
 

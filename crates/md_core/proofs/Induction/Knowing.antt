@@ -91,11 +91,11 @@ module _ (calls : List Call) (m m' : Machine) (what : Done) (g : Goes calls m m'
       let on = still-working task g.task' what.answer now in
       let its : asked ≡ g.asked = (let e : Some asked ≡ Some g.asked = sym of ∙ ap (slice_get calls) same ∙ g.of in cc) in
       let kept : own_effect what.job g.task' ≡ option_or what.effect (own_effect what.job g.task) =
-          subst (λ (o : Option Answer). MatchOption o (own_effect what.job g.task' ≡ option_or what.effect (own_effect what.job g.task))
-          (Settles (option_or what.effect (own_effect what.job g.task)))) on.0 g.does.settles in
+      subst (λ (o : Option Answer). MatchOption o (own_effect what.job g.task' ≡ option_or what.effect (own_effect what.job g.task))
+      (Settles (option_or what.effect (own_effect what.job g.task)))) on.0 g.does.settles in
       let number : suc j ≡ what.job = ap suc same ∙ sym g.number_is in
       let none : option_or what.effect (own_effect what.job g.task) ≡ None = sym kept ∙ ap (own_effect what.job) (sym on.1) ∙
-          ap (λ n. own_effect n task) (sym number) ∙ without in
+      ap (λ n. own_effect n task) (sym number) ∙ without in
       mine (neither what.effect (own_effect what.job g.task) none) (subst (λ (c : Call). Makes c u) its makes))
       (λ differ was. known.unmade j asked task of was without makes)
     where

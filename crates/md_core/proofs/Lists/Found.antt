@@ -21,7 +21,7 @@ module _ {A K X : Type 0} {R : K → K → Ordering} (o : IsTotalOrder R) (exact
       at later None made is = let rest = later is in (rest.0, inr rest.1, rest.2)
       at later (Some m) made is =
           elim (eq_by_cmp R k m.0) as (λ b. eq_by_cmp R k m.0 ≡ b → cond b (Some m.1) (find R k (filter_map g es)) ≡ Some v →
-              (y : A) × Has (x ∷ es) y × (g y ≡ Some (k, v))) [
+          (y : A) × Has (x ∷ es) y × (g y ≡ Some (k, v))) [
             | true ↦ λ t is.
                 let key : k ≡ m.0 = exact k m.0 (tied _ t) in
                 let value : m.1 ≡ v = cc in

@@ -67,9 +67,12 @@ module _ (s : State) (folder : ℕ) (u : List ℕ) (any : Bool) (valid : is_uniq
               let size : length (bytes_at s h.file) ≡ row.size = sym (row-size row.name (file_by s.files h.file)) ∙ ap (λ (x : Row). x.size) h.shows in (
                 (no_tmp, h.named, h.unique, acts),
                 less,
-                λ v n its.
-                    (entry_of s (path_of folder place row.name) h.file, ap (get (mailbox_of s)) (sym its.0) ∙
-                        row-entry s folder place u row no_tmp one h, size ∙ its.1),
+                λ v n its. (
+                  entry_of s (path_of folder place row.name) h.file,
+                  ap (get (mailbox_of s)) (sym its.0) ∙
+                      row-entry s folder place u row no_tmp one h,
+                  size ∙ its.1,
+                ),
               )
           at false acts = (refl, omega arith)
   leads-look place no_tmp none reply.Exists = (refl, omega arith)
@@ -111,4 +114,4 @@ search-does wrap t at any u s number asked made r sound one fits none none_at le
     (let same = left stage in let less = h.1 in omega arith) (λ _. fixed stage) (λ v size unanswered its. inr (h.2 v size (found stage v size its)))
 search-does wrap t at any u s number asked made r sound one fits none none_at left fixed found no_effect (Ends a) h =
     stays-does s number asked (wrap t) (wrap t) made r (Some a) sound one (λ is. cc) (no_effect (Some a)) none none h.0 h.1 (λ is. cc)
-        (λ v size unanswered its. cc)
+    (λ v size unanswered its. cc)

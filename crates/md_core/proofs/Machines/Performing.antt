@@ -50,10 +50,10 @@ counted n (Err NoMemory) r is = cc
 pub takes : {X T : Type 0} (turn : Turn T) (at : Moment) (old : Device) (answer : Result X DirError) (new : Device) (r : DirReply) (out : StepOut)
     (effect : Option Effect) (task : T)
     → Obeys (ask_of turn.asked at.clock) old.state old.failures answer new.state new.failures → new.calls ≡ calls_after answer old.calls →
-        reply_from answer ≡ Some r
+    reply_from answer ≡ Some r
     → (out.call ≡ shown_call turn.asked) → out.reply ≡ r
     → (let after : After T = record { task = task; answer = out.answer; effect = effect } in turn.follows r (rows_for turn.asked old.state) ≡ after) →
-        out.effect ≡ is_some effect
+    out.effect ≡ is_some effect
     → Takes turn at old out effect task new
 takes turn at old answer new r out effect task obeys calls replied call shown after is_effect =
     let a = answers (ask_of turn.asked at.clock) old.state old.failures answer new.state new.failures r obeys replied in

@@ -72,7 +72,7 @@ pub mailbox-keeps : (s s' : State) → HasOnePath s → Keeps s s' → mailbox_o
 mailbox-keeps s s' one k = same_mailbox (mailbox_of s') (mailbox_of s)
     (λ u e h. let g = mailbox-shows s' u e h in shows-mailbox s u e one (backward s s' u e g (k.bytes g.path g.message) (k.names g.path g.message)))
     (λ u e h. let g = mailbox-shows s u e h in shows-mailbox s' u e (one-keeps s s' one k)
-        (forward s s' u e g (k.bytes g.path g.message) (k.names g.path g.message)))
+    (forward s s' u e g (k.bytes g.path g.message) (k.names g.path g.message)))
 
 -- whether two names are one
 pub by_name : {C : Type 0} (u v : List ℕ) → (u ≡ v → C) → (u ≢ v → C) → C

@@ -41,6 +41,6 @@ names-insert m u e = same_names _ _ (λ v. get-names (finmap.insert m u e) v ∙
 pub names-remove : (m : Mailbox) (u : List ℕ) → names_of (finmap.remove m u) ≡ finmap.remove (names_of m) u
 names-remove m u = same_names _ _ (λ v. get-names (finmap.remove m u) v ∙ maps.by_key nat_list_cmp_total exact_bytes v u
     (λ is. ap (option_map (listed v)) (maps.at_drop nat_list_cmp_total exact_bytes m u v is) ∙
-        sym (maps.at_drop nat_list_cmp_total exact_bytes (names_of m) u v is))
+    sym (maps.at_drop nat_list_cmp_total exact_bytes (names_of m) u v is))
     (λ not. ap (option_map (listed v)) (maps.beside_drop nat_list_cmp_total exact_bytes m u v not) ∙ sym (get-names m v)
     ∙ sym (maps.beside_drop nat_list_cmp_total exact_bytes (names_of m) u v not)))

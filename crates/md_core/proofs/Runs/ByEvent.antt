@@ -56,7 +56,7 @@ moment-and_events r es k within = ap (run_from (beginning r.image r.calls)) (tak
 -- What holds at the beginning, and is kept by each event of a job that is there and has no answer, holds at each moment.
 module _ (r : Run) (run : IsRun r) (P : List Marked → Machine → Type 0) (start : P [] (beginning r.image r.calls))
     (step : (es : List Marked) (m : Machine) (e : Marked) (task : Task) → job_at m.jobs e.event.job ≡ Some (working task) → P es m →
-        P (es ++ e ∷ []) (happens m e)) where
+    P (es ++ e ∷ []) (happens m e)) where
   pub at_moment : (k : ℕ) → P (take k r.events) (moment r k)
   at_moment zero = subst (P []) (sym (moment-start r)) start
   at_moment (suc k) =

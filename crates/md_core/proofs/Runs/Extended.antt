@@ -28,10 +28,10 @@ is_run-and_event r e run goes = record {
   accepted = run.accepted;
   taken = λ k f at. at_end r.events e k f at
       (λ early. ap (λ (m : Machine). step_refusal (job_at m.jobs f.event.job))
-          (moment-and_event r e k (let h = slice_get_within r.events k f early in omega arith)) ∙ run.taken k f early)
+      (moment-and_event r e k (let h = slice_get_within r.events k f early in omega arith)) ∙ run.taken k f early)
       (λ last is.
       let now : moment (and_event r e) k ≡ machine_of r = ap (moment (and_event r e)) last ∙ moment-and_event r e (length r.events) (omega arith) ∙
-          moment-end r in
+      moment-end r in
       ap (λ (m : Machine). step_refusal (job_at m.jobs f.event.job)) now ∙ ap (λ (x : Marked). step_refusal (job_at (jobs_of r) x.event.job)) is ∙ goes);
 }
 
@@ -54,13 +54,13 @@ is_run-and_call r call run accepted = record {
   loaded = run.loaded;
   accepted = λ i c at. at_end r.calls call i c at
       (λ early. ap (λ (cs : List Call). submit_refusal (record r { calls = cs }) c)
-          (take-append-le i r.calls (call ∷ []) (let h = slice_get_within r.calls i c early in omega arith)) ∙ run.accepted i c early)
+      (take-append-le i r.calls (call ∷ []) (let h = slice_get_within r.calls i c early in omega arith)) ∙ run.accepted i c early)
       (λ last is. ap (λ (cs : List Call). submit_refusal (record r { calls = cs }) c) (take_at r.calls (call ∷ []) i (sym last)) ∙
-          ap (submit_refusal r) is ∙ accepted);
+      ap (submit_refusal r) is ∙ accepted);
   taken = λ k e at.
       let goes = (goes_on-exact (job_at (moment r k).jobs e.event.job)).0 (run.taken k e at) in
       let there : job_at (moment (and_call r call) k).jobs e.event.job ≡ Some (working goes.0) =
-          ap (λ (m : Machine). job_at m.jobs e.event.job) (moment-and_call r run call k) ∙
-          job_at-more (moment r k).jobs (new_job call ∷ []) e.event.job (working goes.0) goes.1 in
+      ap (λ (m : Machine). job_at m.jobs e.event.job) (moment-and_call r run call k) ∙
+      job_at-more (moment r k).jobs (new_job call ∷ []) e.event.job (working goes.0) goes.1 in
       (goes_on-exact (job_at (moment (and_call r call) k).jobs e.event.job)).1 (goes.0, there);
 }

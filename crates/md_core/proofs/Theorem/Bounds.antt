@@ -170,12 +170,12 @@ module _ (r : Run) where
                 let whole : task_left m.dirs g.task ≡ job_left m.dirs (new_job asked) = ap (job_left m.dirs) new.1 in
                 let at : at_first (suc j) (es ++ e ∷ []) ≡ m.dirs = first-own (suc j) es e new.0 (sym number) ∙ ap (λ (x : Machine). x.dirs) (sym now) in
                 let same : job_left (at_first (suc j) (es ++ e ∷ [])) (new_job asked) ≡ job_left m.dirs (new_job asked) =
-                    ap (λ (s : State). job_left s (new_job asked)) at in
+                ap (λ (s : State). job_left s (new_job asked)) at in
                 let none = new.0 in
                 omega (arith, count, less, left, whole, same, none)
             | inr begun ↦
                 let same : job_left (at_first (suc j) (es ++ e ∷ [])) (new_job asked) ≡ job_left (at_first (suc j) es) (new_job asked) =
-                    ap (λ (s : State). job_left s (new_job asked)) (first-kept (suc j) es e begun.some) in
+                ap (λ (s : State). job_left s (new_job asked)) (first-kept (suc j) es e begun.some) in
                 let bound = begun.bounded in
                 omega (arith, count, less, left, same, bound)
           ];
@@ -193,16 +193,16 @@ module _ (r : Run) where
               let bound = begun.bounded in
               let left = begun.fixed m'.dirs m.dirs in
               let same : job_left (at_first (suc j) (es ++ e ∷ [])) (new_job asked) ≡ job_left (at_first (suc j) es) (new_job asked) =
-                  ap (λ (s : State). job_left s (new_job asked)) (first-kept (suc j) es e some) in
+              ap (λ (s : State). job_left s (new_job asked)) (first-kept (suc j) es e some) in
               inr (record { some = omega (arith, count, some); fixed = begun.fixed; bounded = omega (arith, count, bound, left, same) })
         ]
 
     bounded-more : Bounded es m → Bounded (es ++ e ∷ []) m'
     bounded-more bounded j job asked at of = goes-cases r.calls m m' what g j job at
         (λ same is. inr (own-more j job asked (ap suc same ∙ sym g.number_is ∙
-            is_job) is (bounded j (working g.task) asked (ap (slice_get m.jobs) same ∙ g.there) of)))
+        is_job) is (bounded j (working g.task) asked (ap (slice_get m.jobs) same ∙ g.there) of)))
         (λ differ was. other-more j job asked (λ is. differ (let h : suc g.place ≡ suc j = sym g.number_is ∙ is_job ∙ sym is in omega arith))
-            (bounded j job asked was of))
+        (bounded j job asked was of))
 
 module _ (r : Run) (run : IsRun r) (turns : EachTurn) where
   -- all is good and bounded behind these events
@@ -222,8 +222,11 @@ module _ (r : Run) (run : IsRun r) (turns : EachTurn) where
       }
 
   there : IsThere r.events (machine_of r)
-  there = at_last r run IsThere (record { now = sym (run_from-none (beginning r.image r.calls)); good = good-beginning r run;
-      bounded = bounded-start r }) there-more
+  there = at_last r run IsThere (record {
+    now = sym (run_from-none (beginning r.image r.calls));
+    good = good-beginning r run;
+    bounded = bounded-start r;
+  }) there-more
 
   pub bounded-machine : (number : ℕ) (asked : Call) (job : Standing) → call_at r.calls number ≡ Some asked → job_at (jobs_of r) number ≡ Some job →
       steps_of r number + job_left (dirs_of r) job ≤ job_left (dirs_at_first r number) (new_job asked)
@@ -233,7 +236,7 @@ module _ (r : Run) (run : IsRun r) (turns : EachTurn) where
         let none = new.0 in
         let left : job_left (dirs_of r) job ≡ job_left (dirs_of r) (new_job asked) = ap (job_left (dirs_of r)) new.1 in
         let same : job_left (dirs_at_first r (suc j)) (new_job asked) ≡ job_left (dirs_of r) (new_job asked) =
-            ap (λ (s : State). job_left s (new_job asked)) (first-none r (suc j) r.events none) in
+        ap (λ (s : State). job_left s (new_job asked)) (first-none r (suc j) r.events none) in
         omega (arith, none, left, same)
     | inr begun ↦ begun.bounded
   ]
@@ -256,9 +259,9 @@ module _ (r : Run) (run : IsRun r) (turns : EachTurn) where
     steps_left-less =
         let m' = happens (machine_of r) e in
         let after = after-is e.event.job ∙ ap (λ n. left_of m'.dirs (job_at m'.jobs n)) going.number_is ∙
-            ap (left_of m'.dirs) (goes-here r.calls (machine_of r) m' what going) in
+        ap (left_of m'.dirs) (goes-here r.calls (machine_of r) m' what going) in
         let before : steps_left r e.event.job ≡ task_left (dirs_of r) going.task =
-            ap (λ n. left_of (dirs_of r) (job_at (jobs_of r) n)) going.number_is ∙ ap (left_of (dirs_of r)) going.there in
+        ap (λ n. left_of (dirs_of r) (job_at (jobs_of r) n)) going.number_is ∙ ap (left_of (dirs_of r)) going.there in
         let less = nearer r.calls (machine_of r) m' what going in
         omega (arith, after, before, less)
 

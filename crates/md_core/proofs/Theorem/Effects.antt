@@ -49,7 +49,7 @@ nowhere-kept folders m P answer.Copied (change.Add folder place name size) u h o
     (λ not. beside_put nat_list_cmp_total exact_bytes m (unique_of name) u _ not ∙ none)
 nowhere-kept folders m P (answer.Flags s) (change.Rename folder place name to_folder to_place to_name) u h other none =
     renamed-other m (unique_of name) (unique_of to_name) u _ (ap unique_of h.3 ∙ unique_of-flagged (unique_of name) s (colonless-unique_of name))
-        (there-other m folder place name u h.4 none) none
+    (there-other m folder place name u h.4 none) none
 nowhere-kept folders m P (answer.Flags s) change.Same u h other none = none
 nowhere-kept folders m P answer.Moved (change.Rename folder place name to_folder to_place to_name) u h other none =
     renamed-other m (unique_of name) (unique_of to_name) u _ (ap unique_of h.4) (there-other m folder place name u h.5 none) none

@@ -89,7 +89,7 @@ module _ (folders : ℕ) (opening : Names) (calls : List Call) (apart : AllApart
       subst (λ (k : ℕ). Has k job (filter (λ (e : Effect). e.job == k) es)) n
       (subst (λ (x : Standing). Has number x (filter (λ (e : Effect). e.job == number) es)) (sym is)
       (subst (Has number (standing_of g.task' what.answer)) (sym all)
-          (has-standing number g.task' what.answer (option_or what.effect (own_effect number g.task)) g.does.settles)))
+      (has-standing number g.task' what.answer (option_or what.effect (own_effect number g.task)) g.does.settles)))
 
   -- a job that works on without an effect was without one before
   before : {C : Type 0} (j : ℕ) (asked : Call) (task : Task) → slice_get calls j ≡ Some asked → slice_get m'.jobs j ≡ Some (working task) →
@@ -100,10 +100,10 @@ module _ (folders : ℕ) (opening : Names) (calls : List Call) (apart : AllApart
       let on = still-working task g.task' what.answer is in
       let n : suc j ≡ number = ap suc same ∙ at_number in
       let kept : own_effect number g.task' ≡ option_or what.effect (own_effect number g.task) =
-          subst (λ (o : Option Answer). MatchOption o (own_effect number g.task' ≡ option_or what.effect (own_effect number g.task))
-          (Settles (option_or what.effect (own_effect number g.task)))) on.0 g.does.settles in
+      subst (λ (o : Option Answer). MatchOption o (own_effect number g.task' ≡ option_or what.effect (own_effect number g.task))
+      (Settles (option_or what.effect (own_effect number g.task)))) on.0 g.does.settles in
       let none : option_or what.effect (own_effect number g.task) ≡ None = sym kept ∙ ap (own_effect number) (sym on.1) ∙
-          ap (λ k. own_effect k task) (sym n) ∙ without in
+      ap (λ k. own_effect k task) (sym n) ∙ without in
       let both = neither what.effect (own_effect number g.task) none in
       then g.task (ap (slice_get m.jobs) same ∙ g.there) (ap (λ k. own_effect k g.task) n ∙ both.1) (λ _. both.0))
       (λ differ was. then task was without (λ same. absurd (differ same)))
@@ -129,7 +129,7 @@ module _ (folders : ℕ) (opening : Names) (calls : List Call) (apart : AllApart
           (λ t was own _. subst (λ (es : List Effect). WasNowhere opening es u) (sym effects-same) (tells.nowhere j asked t u of was own makes));
       own = λ j job at. goes-cases calls m m' what g j job at
           (λ same is. own-here m'.effects j job same is (ap (filter (λ (e : Effect). e.job == number)) effects-same ∙ mine-before ∙
-              ap (λ o. option_to_list (option_or o (own_effect number g.task))) (sym none)))
+          ap (λ o. option_to_list (option_or o (own_effect number g.task))) (sym none)))
           (λ differ was. subst (λ (es : List Effect). Has (suc j) job (filter (λ (e : Effect). e.job == suc j) es)) (sym effects-same) (tells.own j job was));
       there = λ i e at. let was = tells.there i e (ap (λ (es : List Effect). slice_get es i) (sym effects-same) ∙ at) in (was.0, omega (arith, was.1, as_many));
     }
@@ -176,9 +176,9 @@ module _ (folders : ℕ) (opening : Names) (calls : List Call) (apart : AllApart
           (λ endb isb. enda ∙ sym endb));
       each = λ i x at. at_end m.effects e i x at
           (λ early. subst (λ (es : List Effect). IsAllowedAfter folders opening es x)
-              (sym (take-append-le i m.effects (e ∷ []) (let h = slice_get_within m.effects i x early in omega arith))) (tells.legal.each i x early))
+          (sym (take-append-le i m.effects (e ∷ []) (let h = slice_get_within m.effects i x early in omega arith))) (tells.legal.each i x early))
           (λ end is. subst (λ (es : List Effect). IsAllowedAfter folders opening es x) (sym (take_at m.effects (e ∷ []) i (sym end)))
-              (subst (IsAllowedAfter folders opening m.effects) (sym is) allowed));
+          (subst (IsAllowedAfter folders opening m.effects) (sym is) allowed));
     }
 
     names-more : after opening (m.effects ++ e ∷ []) ≡ names_of (mailbox_of m'.dirs)
@@ -208,10 +208,10 @@ module _ (folders : ℕ) (opening : Names) (calls : List Call) (apart : AllApart
           subst (λ (es : List Effect). WasNowhere opening es u) (sym effects-more)
           (was_nowhere-push opening m.effects e u nowhere
           (nowhere-kept folders (after opening m.effects) (Makes g.asked) e.answer e.change u allowed-now
-              (λ its. apart g.place j g.asked asked (λ same. other (sym same)) g.of of u its makes) (now-nowhere opening m.effects u nowhere))));
+          (λ its. apart g.place j g.asked asked (λ same. other (sym same)) g.of of u its makes) (now-nowhere opening m.effects u nowhere))));
       own = λ j job at. goes-cases calls m m' what g j job at
           (λ same is. own-here m'.effects j job same is (ap (filter (λ (x : Effect). x.job == number)) effects-more ∙ mine-after ∙
-              ap (λ o. option_to_list (option_or o (own_effect number g.task))) (sym some)))
+          ap (λ o. option_to_list (option_or o (own_effect number g.task))) (sym some)))
           (λ differ was. subst (Has (suc j) job) (sym (ap (filter (λ (x : Effect). x.job == suc j)) effects-more ∙ own-other j differ)) (tells.own j job was));
       there = λ i x at. at_end m.effects e i x (ap (λ (es : List Effect). slice_get es i) (sym effects-more) ∙ at)
           (λ early. let was = tells.there i x early in (was.0, omega (arith, was.1, as_many)))

@@ -63,7 +63,7 @@ pub accepted : (r : Run) (folder : ℕ) (unique body : List ℕ) (chunk : ℕ) �
     IsAccepted r folder unique body chunk
 accepted r folder unique body chunk none =
     let a = unmet (no_folder r folder) core.NoFolder
-        (cond (not (is_unique_name unique)) (Some core.BadUnique) (cond (chunk == 0) (Some core.BadChunk) late)) none in
+    (cond (not (is_unique_name unique)) (Some core.BadUnique) (cond (chunk == 0) (Some core.BadChunk) late)) none in
     let b = unmet (not (is_unique_name unique)) core.BadUnique (cond (chunk == 0) (Some core.BadChunk) late) a.1 in
     let c = unmet (chunk == 0) core.BadChunk late b.1 in
     let d = unmet (nat_lt most_bytes (length body)) core.BodyTooLong (cond (too_many r) (Some core.TooManyJobs) last) c.1 in
@@ -99,7 +99,7 @@ pub accepted-move : (r : Run) (folder : ℕ) (unique : List ℕ) (to tries : ℕ
     IsAcceptedMove r folder unique to tries
 accepted-move r folder unique to tries none =
     let a = unmet (no_folder r folder || no_folder r to) core.NoFolder
-        (cond (to == folder) (Some core.SameFolder) (cond (not (is_unique_name unique)) (Some core.BadUnique) last)) none in
+    (cond (to == folder) (Some core.SameFolder) (cond (not (is_unique_name unique)) (Some core.BadUnique) last)) none in
     let b = unmet (to == folder) core.SameFolder (cond (not (is_unique_name unique)) (Some core.BadUnique) last) a.1 in
     let c = unmet (not (is_unique_name unique)) core.BadUnique last b.1 in
     let d = unmet (bad_tries tries) core.BadTries (cond (too_many r) (Some core.TooManyJobs) None) c.1 in
@@ -131,8 +131,8 @@ pub accepted-copy : (r : Run) (folder : ℕ) (unique : List ℕ) (to : ℕ) (fre
     IsAcceptedCopy r folder unique to fresh tries
 accepted-copy r folder unique to fresh tries none =
     let a = unmet (no_folder r folder || no_folder r to) core.NoFolder
-        (cond (not (is_unique_name unique) || not (is_unique_name fresh)) (Some core.BadUnique) (cond (bad_tries tries) (Some core.BadTries) late))
-        none in
+    (cond (not (is_unique_name unique) || not (is_unique_name fresh)) (Some core.BadUnique) (cond (bad_tries tries) (Some core.BadTries) late))
+    none in
     let b = unmet (not (is_unique_name unique) || not (is_unique_name fresh)) core.BadUnique (cond (bad_tries tries) (Some core.BadTries) late) a.1 in
     let c = unmet (bad_tries tries) core.BadTries late b.1 in
     let d = unmet (too_many r) core.TooManyJobs last c.1 in

@@ -15,7 +15,7 @@ use Rattle.md_core.proofs.Theorem.Interleaves.{folders-stay}
 module _ (first : Device) (jobs : List JobView) (events : List Event) (marks : List Bool) (held : Device) (clock : ℕ) (effects : List Effect)
     (used : List (List ℕ)) (r : Run)
     (view : run_of first jobs events marks ≡ r)
-        (world : IsWorld (run_of first jobs events marks) (machine_by held clock jobs effects) held used events marks) where
+    (world : IsWorld (run_of first jobs events marks) (machine_by held clock jobs effects) held used events marks) where
   pub folders-are : held.state.folders ≡ r.image.folders
   folders-are = ap (λ (m : Machine). m.dirs.folders) world.now ∙ folders-stay each-turn (run_of first jobs events marks) world.run ∙
       ap (λ (x : Run). x.image.folders) view

@@ -108,8 +108,12 @@ module _ (first : Device) (jobs : List JobView) (events : List Event) (marks : L
           jobs = slice_set kept.jobs (place_is i) (standing_of (turned.takes.after i).task (turned.takes.after i).answer);
           effects = effects ++ option_to_list (turned.takes.after i).effect;
         })
-        ∙ (λ i. record { dirs = held'.state; clock = at.clock; jobs = slice_set kept.jobs place (sym turned.standing i);
-            effects = effects ++ option_to_list effect })
+        ∙ (λ i. record {
+          dirs = held'.state;
+          clock = at.clock;
+          jobs = slice_set kept.jobs place (sym turned.standing i);
+          effects = effects ++ option_to_list effect;
+        })
         ∙ (λ i. record { dirs = held'.state; clock = at.clock; jobs = sym (standing-set jobs place job') i; effects = effects ++ option_to_list effect })
       where
         place_is : event.job - 1 ≡ place
@@ -143,8 +147,14 @@ module _ (first : Device) (jobs : List JobView) (events : List Event) (marks : L
     step-shown =
         ap (λ (m : Machine). option_map step_out (done m marked_event)) (sym world.now)
         ∙ ap (option_map step_out) (done-turned kept marked_event turned.task at_number)
-        ∙ ap (λ r. Some (step_out (record { job = event.job; asked = turn.asked; reply = r; at = at; answer = (after r).answer;
-            effect = (after r).effect }))) (sym turned.takes.replied)
+        ∙ ap (λ r. Some (step_out (record {
+          job = event.job;
+          asked = turn.asked;
+          reply = r;
+          at = at;
+          answer = (after r).answer;
+          effect = (after r).effect;
+        }))) (sym turned.takes.replied)
         ∙ (λ i. Some (record { call = sym turned.takes.call i; reply = out.reply; answer = (turned.takes.after i).answer; effect = effect_is i }))
       where
         effect_is : is_some (after out.reply).effect ≡ out.effect

@@ -106,7 +106,7 @@ unique-with (b ∷ u) rest none =
     let k = position_or_len is_colon (u ++ 58 ∷ rest) in
     let e : 1 + k ≡ suc k = omega arith in
     ap (λ t. take (cond (not t) (1 + k) 0) (b ∷ u ++ 58 ∷ rest)) parts.0 ∙ ap (λ n. take n (b ∷ u ++ 58 ∷ rest)) e ∙
-        ap (λ v. b ∷ v) (unique-with u rest parts.1)
+    ap (λ v. b ∷ v) (unique-with u rest parts.1)
 
 named : (dot some : Bool) → dot ≡ false → some ≡ true → (not dot && some) ≡ true
 named dot some hd hs = ap (λ t. not t && some) hd ∙ hs

@@ -117,7 +117,7 @@ pub none-at : (s : State) (f : ℕ) (p : Place) (at : ℕ) (a : Row) → IsSound
 none-at s f p at a sound is none =
     let row = row-at s f p at a is in
     none-read s (path_of f p a.name) row.entry.1 sound (ap (file_at s) (sym row.path) ∙
-        has-get path_total path_exact s.names row.entry (get-has_some (λ e. is_in f p e.0) (entries s.names) at row.entry row.there)) none
+    has-get path_total path_exact s.names row.entry (get-has_some (λ e. is_in f p e.0) (entries s.names) at row.entry row.there)) none
 
 -- ---- all folders
 
@@ -126,7 +126,7 @@ pub mailbox-has : (s : State) (u bytes : List ℕ) → HasOnePath s → IsBytesO
 mailbox-has s u bytes one h =
     let e = entry_of s h.path h.file in
     let is : get (mailbox_of s) u ≡ Some e =
-        shows-mailbox s u e one (record { path = h.path; file = h.file; there = h.there; message = h.message; unique = h.unique; entry = refl }) in
+    shows-mailbox s u e one (record { path = h.path; file = h.file; there = h.there; message = h.message; unique = h.unique; entry = refl }) in
     ap Some (sym h.holds) ∙ ap (option_map (λ (e : Entry). e.bytes)) (sym is)
 
 -- where no message has the unique name, the mailbox has none

@@ -80,7 +80,7 @@ module _ (s : State) (f : ℕ) (p : Place) where
       let x = row-at s f p j a hj in
       let y = row-at s f p k b hk in
       sym (in_one f p a.name b.name) ∙ (λ i. path_cmp (sym x.path i) (sym y.path i)) ∙
-          rise (λ e. is_in f p e.0) (entries s.names) (entries_sorted s.names) j k x.entry y.entry order x.there y.there
+      rise (λ e. is_in f p e.0) (entries s.names) (entries_sorted s.names) j k x.entry y.entry order x.there y.there
 
   earlier_or_same : (j k : ℕ) → j ≤ k → (j < k) ⊎ (j ≡ k)
   earlier_or_same j k within = elim (cases_lt j k) [ inl earlier ↦ inl earlier | inr later ↦ inr (omega arith) ]
@@ -128,6 +128,10 @@ module _ (s : State) (f : ℕ) (p : Place) where
   pub row-there : (q : Path) (n : ℕ) → file_at s q ≡ Some n → is_in f p q ≡ true →
       (k : ℕ) × (r : Row) × (slice_get (rows_of s f p) k ≡ Some r) × (r.name ≡ q.name)
   row-there q n there inside =
-      let at = has-at (λ e. is_in f p e.0) (entries s.names) (q, n) (get-has path_total path_exact s.names q n there) inside in
-      (at.0, row_of s.files (q, n), get-map (row_of s.files) (entries_in s f p) at.0 ∙
-          ap (option_map (row_of s.files)) at.1, row_name q.name (file_by s.files n))
+      let at = has-at (λ e. is_in f p e.0) (entries s.names) (q, n) (get-has path_total path_exact s.names q n there) inside in (
+        at.0,
+        row_of s.files (q, n),
+        get-map (row_of s.files) (entries_in s f p) at.0 ∙
+            ap (option_map (row_of s.files)) at.1,
+        row_name q.name (file_by s.files n),
+      )

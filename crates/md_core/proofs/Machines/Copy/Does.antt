@@ -36,7 +36,7 @@ not-tmp place new_or_cur is = let yes : is_tmp place ≡ true = ap is_tmp is in 
 
 module _ (s : State) (number : ℕ) (asked : Call) (c : Copying) (place : Place) (row : Row) (tries k : ℕ) (sound : IsSound s) (one : HasOnePath s)
     (fits : CopyingFits s asked (at_stage c (Act place row tries))) (sized : HasSize (mailbox_of s) c.unique row.size)
-        (at : file_at s (source c place row.name) ≡ Some k) where
+    (at : file_at s (source c place row.name) ≡ Some k) where
   abbrev x : Copying
   x = at_stage c (Act place row tries)
 
@@ -92,7 +92,7 @@ module _ (s : State) (number : ℕ) (asked : Call) (c : Copying) (place : Place)
       ap names_of (mailbox-puts s s' n k one lands.puts) ∙ names-insert m (unique_of n.name) (entry_of s' n k)
       ∙ ap (finmap.insert (names_of m) (unique_of n.name)) (listed-entry s' n k)
       ∙ ap (λ size. finmap.insert (names_of m) (unique_of n.name) (record { folder = c.to; place = place; name = n.name; size = size }))
-          (sized (entry_of s o k) before)
+      (sized (entry_of s o k) before)
 
   pub link-does : Does s s' number asked (Copy x) (link o n) reply.Ok
       (record { task = Copy x; answer = Some answer.Copied; effect = Some (copying_effect number n row.size) })
@@ -111,8 +111,14 @@ module _ (s : State) (number : ℕ) (asked : Call) (c : Copying) (place : Place)
     effect = record {
       of = refl;
       changes = changes;
-      allowed = (fits.to_folder, not-tmp place fits.stage.0, name.message, (name.shown, name.shows), subst (Makes asked) (sym name.unique)
-          (makes-copy s asked x fits));
+      allowed = (
+        fits.to_folder,
+        not-tmp place fits.stage.0,
+        name.message,
+        (name.shown, name.shows),
+        subst (Makes asked) (sym name.unique)
+            (makes-copy s asked x fits),
+      );
     };
     settles = (copying_effect number n row.size, refl, refl);
     nearer = omega arith;

@@ -56,7 +56,7 @@ module _ (s : State) (number : ℕ) (asked : Call) (sound : IsSound s) (one : Ha
       (next : Next) → NextFits s false c.unique (search_left c.stage) next → Does s s number asked (Copy c) made r (as_after Copy (leads c (at_stage c) next))
   leads-does made r none next h =
       search-does Copy c (at_stage c) false c.unique s number asked made r sound one refit refl (λ stage. refl) (λ stage. refl) (λ stage a b. refl)
-          (λ stage v size its. its)
+      (λ stage v size its. its)
       (λ o. ap (λ (a : Call). is_effect_at a made r o) fits.of ∙ none o) next h
 
   -- where the look-up in a place leads
@@ -88,7 +88,7 @@ module _ (s : State) (number : ℕ) (asked : Call) (sound : IsSound s) (one : Ha
   act-does reply.Ok replied =
       let here = there (file_at s (source c place row.name)) _ NotFound (accepted _ faulted (sym replied)) in
       subst (λ (o : Option ℕ). Does s (dirs.named (target c place row.name) s o) number asked (Copy x)
-          (link (source c place row.name) (target c place row.name)) reply.Ok with_copy) (sym here.1)
+      (link (source c place row.name) (target c place row.name)) reply.Ok with_copy) (sym here.1)
       (link-does s number asked c place row tries here.0 sound one fits sized here.1)
   act-does reply.Exists replied = leads-does s number asked sound one x fits _ reply.Exists (λ o. refl) (Ends answer.NameTaken) (refl, some-left x.stage)
   act-does reply.NotFound replied =
@@ -109,7 +109,7 @@ module _ (s : State) (number : ℕ) (asked : Call) (at : Moment) (faulted : Bool
       (leads-cur s c.folder c.unique false fits.valid one tries) _
   stage-does (Act place row tries) fits known =
       act-does s number asked sound one c at.clock faulted place row tries fits (known c.unique row.size (refl, refl))
-          (reply_of (dirs.link (source c place row.name) (target c place row.name)) s faulted) refl
+      (reply_of (dirs.link (source c place row.name) (target c place row.name)) s faulted) refl
 
   pub copying-does : CopyingFits s asked c → ((u : List ℕ) (size : ℕ) → FoundAt c.unique c.stage u size → HasSize (mailbox_of s) u size) →
       DoesBy s number asked c at.clock (copying_turn number c) (reply_of (ask_of (copying_turn number c).asked at.clock) s faulted)

@@ -119,7 +119,7 @@ module _ (s s' : State) (number : ℕ) (asked : Call) (d : Delivery) (one : HasO
   renamed n puts bytes =
       ap names_of (added n puts bytes) ∙ names-insert (mailbox_of s) d.tmp.name message
       ∙ ap (λ (u : List ℕ). finmap.insert (names_of (mailbox_of s)) u
-          (record { folder = d.tmp.folder; place = New; name = d.tmp.name; size = length d.body })) (sym fits.name.plain)
+      (record { folder = d.tmp.folder; place = New; name = d.tmp.name; size = length d.body })) (sym fits.name.plain)
 
   as_alone : (n : ℕ) → Puts s s' (target d) n → bytes_at s' n ≡ d.body → HasNoMessage s d.tmp.name →
       AsAlone asked (Some (delivery_effect number d)) (mailbox_of s) (mailbox_of s')

@@ -89,9 +89,9 @@ module _ (s : State) (number : ℕ) (asked : Call) (at : Moment) (sound : IsSoun
     append-done n here more =
         let s' = dirs.appended (piece d k) at.clock s (Some n) in
         let longer : IsAlone s' d.tmp (take k d.body ++ piece d k) =
-            append-alone s d.tmp at.clock (piece d k) (take k d.body) n fits.in_tmp sound here fits.stage.2 in
+        append-alone s d.tmp at.clock (piece d k) (take k d.body) n fits.in_tmp sound here fits.stage.2 in
         goes-on s s' number asked x one fits _ _ (Writing start (k + piece_len d k))
-            (quiet-append s d.tmp fits.in_tmp sound at.clock (piece d k) (take k d.body) n here fits.stage.2)
+        (quiet-append s d.tmp fits.in_tmp sound at.clock (piece d k) (take k d.body) n here fits.stage.2)
         (piece-within d k fits.stage.0, fits.stage.1, subst (λ (bytes : List ℕ). IsAlone s' d.tmp bytes) (piece-more d k) longer)
         refl refl (let less = piece-less d k fits.chunked more in omega arith)
 
@@ -100,7 +100,7 @@ module _ (s : State) (number : ℕ) (asked : Call) (at : Moment) (sound : IsSoun
     append-does more reply.Ok replied =
         let here = there (file_at s d.tmp) None NotFound (accepted _ faulted (sym replied)) in
         subst (λ (o : Option ℕ). Does s (dirs.appended (piece d k) at.clock s o) number asked (Deliver x)
-            (append d.tmp (piece d k)) reply.Ok with_piece) (sym here.1)
+        (append d.tmp (piece d k)) reply.Ok with_piece) (sym here.1)
         (append-done here.0 here.1 more)
     append-does more reply.Exists replied = fails_now _ _ answer.Fault refl refl
     append-does more reply.NotFound replied = fails_now _ _ answer.TmpGone refl refl
@@ -112,7 +112,7 @@ module _ (s : State) (number : ℕ) (asked : Call) (at : Moment) (sound : IsSoun
         let alone : IsAlone s d.tmp d.body = subst (λ (bytes : List ℕ). IsAlone s d.tmp bytes) whole fits.stage.2 in
         takes-effect s _ number asked x one fits _ _ n
         (link-lands s d.tmp (target d) d.tmp.name d.body n (inl (tmp-key d.tmp fits.in_tmp)) sound within here
-            (alone.holds n here) fits.stage.1 fits.name.message fits.name.plain)
+        (alone.holds n here) fits.stage.1 fits.name.message fits.name.plain)
         fits.stage.1 refl (omega arith) refl
 
     link-does : take k d.body ≡ d.body → (r : DirReply) → r ≡ reply_of (dirs.link d.tmp (target d)) s faulted →
@@ -135,7 +135,7 @@ module _ (s : State) (number : ℕ) (asked : Call) (at : Moment) (faulted : Bool
       DoesOne (Writing start k) (cond more (append_turn (at_stage d (Writing start k)) start k) (link_turn number (at_stage d (Writing start k))))
   in_time-does start k fits true is =
       append-does s number asked at sound one d start k fits faulted (grind (arith, nat_tests))
-          (reply_of (dirs.append d.tmp (piece d k) at.clock) s faulted) refl
+      (reply_of (dirs.append d.tmp (piece d k) at.clock) s faulted) refl
   in_time-does start k fits false is =
       let whole : length d.body ≤ k = grind (arith, nat_tests) in
       link-does s number asked at sound one d start k fits faulted (take_all k d.body whole) (reply_of (dirs.link d.tmp (target d)) s faulted) refl
@@ -153,7 +153,7 @@ module _ (s : State) (number : ℕ) (asked : Call) (at : Moment) (faulted : Bool
   stage-does (Writing start k) fits = writing-does start k fits (is_in_time start at.own) refl
   stage-does Linked fits =
       unlink-does s number asked at sound one (at_stage d Linked) answer.Delivered fits (delivery_effect number d, refl, refl) (omega arith)
-          (reply_of (dirs.unlink d.tmp) s faulted)
+      (reply_of (dirs.unlink d.tmp) s faulted)
   stage-does (Undo a) fits =
       unlink-does s number asked at sound one (at_stage d (Undo a)) a fits (rw fits.stage.1 refl) (omega arith) (reply_of (dirs.unlink d.tmp) s faulted)
 

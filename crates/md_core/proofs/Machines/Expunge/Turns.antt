@@ -48,7 +48,7 @@ module _ (s : State) (number : ℕ) (asked : Call) (sound : IsSound s) (one : Ha
   ends-does : (a : Answer) → is_success a ≡ false → 0 < expunging_left x → DoesNothing (ends x a)
   ends-does a failure some =
       stays-does s number asked (Expunge x) (Expunge x) made r (Some a) sound one (λ is. cc) (no_effect (Some a)) refl refl failure some (λ is. cc)
-          (λ v size unanswered its. absurd its)
+      (λ v size unanswered its. absurd its)
 
   goes-does : (stage : Stage) → IsAtTrashed x.unique stage → stage_left stage < expunging_left x → DoesNothing (goes_on (at_stage x stage))
   goes-does stage h less =

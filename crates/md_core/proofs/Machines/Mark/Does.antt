@@ -92,8 +92,10 @@ in_place p folder e at place = and_from _ _ (eq-eqb _ _ (ap place_index place)) 
 module _ (box : Mailbox) (folder : ℕ) (u : List ℕ) (e : Entry) (had : Set) (at : finmap.get box u ≡ Some e) (inside : e.folder ≡ folder)
     (shows : flags_in e ≡ Some had) where
   abbrev marked : Set → Outcome
-  marked flags = record { answer = answer.Flags flags;
-      after = finmap.insert box u (record { folder = e.folder; place = Cur; info = info_with flags; bytes = e.bytes }) }
+  marked flags = record {
+    answer = answer.Flags flags;
+    after = finmap.insert box u (record { folder = e.folder; place = Cur; info = info_with flags; bytes = e.bytes });
+  }
 
   -- a message that is renamed
   alone-marks : (k : marks.Mark) (tries : ℕ) → e.place ≡ place_by k → is_kept k had ≡ false → alone (call_by folder u k tries) box ≡ marked (wanted k had)
@@ -107,10 +109,14 @@ module _ (box : Mailbox) (folder : ℕ) (u : List ℕ) (e : Entry) (had : Set) (
       ∙ ap (λ b. flag box u add remove (cond b (Some e) None)) (in_place Cur folder e inside place)
       ∙ ap (flag_by box u add remove e) shows
       ∙ ap (λ b. cond {A = Outcome} b (refused (answer.Flags flags) box)
-      (record { answer = answer.Flags flags;
-          after = finmap.insert box u (record { folder = e.folder; place = e.place; info = info_with flags; bytes = e.bytes }) })) changes
-      ∙ ap (λ (p : Place). record { answer = answer.Flags flags;
-          after = finmap.insert box u (record { folder = e.folder; place = p; info = info_with flags; bytes = e.bytes }) }) place
+      (record {
+        answer = answer.Flags flags;
+        after = finmap.insert box u (record { folder = e.folder; place = e.place; info = info_with flags; bytes = e.bytes });
+      })) changes
+      ∙ ap (λ (p : Place). record {
+        answer = answer.Flags flags;
+        after = finmap.insert box u (record { folder = e.folder; place = p; info = info_with flags; bytes = e.bytes });
+      }) place
 
   -- a message that keeps its name
   alone-keeps : (k : marks.Mark) (tries : ℕ) → e.place ≡ place_by k → is_kept k had ≡ true →
@@ -122,8 +128,10 @@ module _ (box : Mailbox) (folder : ℕ) (u : List ℕ) (e : Entry) (had : Set) (
       ∙ ap (λ b. flag box u add remove (cond b (Some e) None)) (in_place Cur folder e inside place)
       ∙ ap (flag_by box u add remove e) shows
       ∙ ap (λ b. cond {A = Outcome} b (refused (answer.Flags flags) box)
-      (record { answer = answer.Flags flags;
-          after = finmap.insert box u (record { folder = e.folder; place = e.place; info = info_with flags; bytes = e.bytes }) })) is
+      (record {
+        answer = answer.Flags flags;
+        after = finmap.insert box u (record { folder = e.folder; place = e.place; info = info_with flags; bytes = e.bytes });
+      })) is
 
 -- ---- what is allowed
 
@@ -275,9 +283,11 @@ module _ (s : State) (number : ℕ) (asked : Call) (m : Marking) (sound : IsSoun
       as_alone : AsAlone asked (Some (renamed number flags (source m name) (target m flags))) (mailbox_of s) (mailbox_of s')
       as_alone = ap (λ (c : Call). alone c (mailbox_of s)) fits.of
           ∙ alone-marks (mailbox_of s) m.folder m.unique entry had (in_mailbox m.unique unique) refl shows m.mark fits.tries refl changes
-          ∙ ap (λ (x : Set). record { answer = answer.Flags x;
-              after = finmap.insert (mailbox_of s) m.unique (record { folder = m.folder; place = Cur; info = info_with x; bytes = entry.bytes }) })
-              (sym wants)
+          ∙ ap (λ (x : Set). record {
+            answer = answer.Flags x;
+            after = finmap.insert (mailbox_of s) m.unique (record { folder = m.folder; place = Cur; info = info_with x; bytes = entry.bytes });
+          })
+          (sym wants)
           ∙ (λ i. record { answer = answer.Flags flags; after = sym boxed i })
 
       pub gives-flags : 0 < marking_left m → Does s s' number asked (Mark m) (rename (source m name) (target m flags)) reply.Ok

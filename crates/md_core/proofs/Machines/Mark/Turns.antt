@@ -98,7 +98,7 @@ module _ (s : State) (number : ℕ) (asked : Call) (at : Moment) (sound : IsSoun
 
     again : (b : Bool) → nat_le tries 1 ≡ b → Does s s number asked (Mark y) (rename (source m name) (target m flags)) reply.NotFound
         (as_after (cond b (record { task = y; answer = Some answer.Lost; effect = None })
-            (record { task = at_stage m (Look (tries - 1)); answer = None; effect = None })))
+        (record { task = at_stage m (Look (tries - 1)); answer = None; effect = None })))
     again true is = ends-act reply.NotFound answer.Lost tt refl
     again false is = still s number asked y sound one fits (rename (source m name) (target m flags)) reply.NotFound (Look (tries - 1)) None tt
         (rename-none m.folder m.unique m.mark fits.tries (source m name) (target m flags) reply.NotFound None tt) tt

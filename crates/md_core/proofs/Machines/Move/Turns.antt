@@ -54,7 +54,7 @@ module _ (s : State) (number : ℕ) (asked : Call) (sound : IsSound s) (one : Ha
       (next : Next) → NextFits s true m.unique (search_left m.stage) next → Does s s number asked (Move m) made r (as_after Move (leads m (at_stage m) next))
   leads-does made r none next h =
       search-does Move m (at_stage m) true m.unique s number asked made r sound one refit refl (λ stage. refl) (λ stage. refl) (λ stage a b. refl)
-          (λ stage v size its. absurd its)
+      (λ stage v size its. absurd its)
       (λ o. ap (λ (c : Call). is_effect_at c made r o) fits.of ∙ none o) next h
 
   -- where the look-up in a place leads

@@ -85,7 +85,7 @@ module _ (s : State) (es : List (Path × ℕ)) (seen : Seen) (look : IsLookOf s 
   -- one more entry, which has no fault
   pub look-more : (e : Path × ℕ) (seen' : Seen) → fault_after seen.messages e.0 ≡ None
       → ((u : List ℕ) → is_among u seen'.messages ≡ (is_message_of u e.0 || is_among u seen.messages)) →
-          ((u : List ℕ) → is_among u seen'.tmp ≡ (is_tmp_of u e.0 || is_among u seen.tmp))
+      ((u : List ℕ) → is_among u seen'.tmp ≡ (is_tmp_of u e.0 || is_among u seen.tmp))
       → seen'.clock ≡ max seen.clock (stamp_of (file_by s.files e.1)) → IsLookOf s (es ++ e ∷ []) seen'
   look-more e seen' fault messages tmp stamp = record {
     messages = λ u. one_any (λ x. is_message_of u x.0) e seen.messages seen'.messages u (look.messages u) (messages u);

@@ -88,14 +88,14 @@ one-entry earlier (e ∷ es) none x y hx hy same =
         | inl ye ↦ xe ∙ sym ye
         | inr later ↦
             let no : is_same_message y.0 e.0 ≡ false =
-                first_none _ (list_any (is_same_message y.0) earlier) (each-faultless (e.0 ∷ earlier) es rest y later).single in
+            first_none _ (list_any (is_same_message y.0) earlier) (each-faultless (e.0 ∷ earlier) es rest y later).single in
             let yes : is_same_message y.0 e.0 ≡ true = ap (λ (z : Path × ℕ). is_same_message y.0 z.0) (sym xe) ∙ same-turned y.0 x.0 ∙ same in
             cc
       ]
       | inr later ↦ elim hy [
         | inl ye ↦
             let no : is_same_message x.0 e.0 ≡ false =
-                first_none _ (list_any (is_same_message x.0) earlier) (each-faultless (e.0 ∷ earlier) es rest x later).single in
+            first_none _ (list_any (is_same_message x.0) earlier) (each-faultless (e.0 ∷ earlier) es rest x later).single in
             let yes : is_same_message x.0 e.0 ≡ true = ap (λ (z : Path × ℕ). is_same_message x.0 z.0) (sym ye) ∙ same in
             cc
         | inr later' ↦ one-entry (e.0 ∷ earlier) es rest x y later later' same
@@ -125,7 +125,7 @@ module _ (s : State) (accepted : load_refusal s ≡ None) where
   pub loaded-short : (p : Path) (n : ℕ) → file_at s p ≡ Some n → is_message p ≡ true → length (unique_of p.name) ≤ 200
   loaded-short p n there message =
       let is : nat_lt 200 (length (unique_of p.name)) ≡ false = ap (λ b. b && nat_lt 200 (length (unique_of p.name))) (sym message) ∙
-          (faultless p n there).short in
+      (faultless p n there).short in
       grind (arith, nat_tests)
 
 -- ---- names that are used

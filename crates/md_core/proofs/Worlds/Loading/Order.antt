@@ -154,7 +154,7 @@ module _ (s : State) where
   pub before-all : IsSound s → entries_before s s.folders 0 ≡ all
   before-all sound =
       same_filter _ _ all (λ e has. below_folders e.0.folder (place_index e.0.place) s.folders
-          (sound.housed e.0 e.1 (has-get path_total path_exact s.names e has)))
+      (sound.housed e.0 e.1 (has-get path_total path_exact s.names e has)))
       ∙ all_filter all
 
   -- the entries before a directory come first
@@ -163,4 +163,4 @@ module _ (s : State) where
       sym (all_filter all)
       ∙ same_filter _ _ all (λ e _. either (is_before f i e.0))
       ∙ cut (is_before f i) (λ x. not (is_before f i x)) (λ x y less here. late f i x y less (turned _ here)) (λ x here. turned _ here) all
-          (entries_sorted s.names)
+      (entries_sorted s.names)

@@ -114,7 +114,7 @@ module _ (s : State) (f : ℕ) (p : Place) where
   pub until-all : (at : ℕ) → slice_get (rows_of s f p) at ≡ None → entries_until at ≡ entries_before s f (place_index p + 1)
   until-all at past =
       ap (λ xs. entries_before s f (place_index p) ++ xs)
-          (all_taken (entries_in s f p) at (no_more (row_of s.files) _ (sym (get-map (row_of s.files) (entries_in s f p) at) ∙ past)))
+      (all_taken (entries_in s f p) at (no_more (row_of s.files) _ (sym (get-map (row_of s.files) (entries_in s f p) at) ∙ past)))
       ∙ sym (before-more s f p)
 
   module _ (at : ℕ) (r : Row) (seen : Seen) (look : IsLookOf s (entries_until at) seen) (is : slice_get (rows_of s f p) at ≡ Some r) where
@@ -124,7 +124,7 @@ module _ (s : State) (f : ℕ) (p : Place) where
     -- one more row, which has no fault
     pub until-row : (seen' : Seen) → fault_after seen.messages (path_of 0 p r.name) ≡ None
         → ((u : List ℕ) → is_among u seen'.messages ≡ (is_message_of u (path_of 0 p r.name) || is_among u seen.messages)) →
-            ((u : List ℕ) → is_among u seen'.tmp ≡ (is_tmp_of u (path_of 0 p r.name) || is_among u seen.tmp))
+        ((u : List ℕ) → is_among u seen'.tmp ≡ (is_tmp_of u (path_of 0 p r.name) || is_among u seen.tmp))
         → seen'.clock ≡ max seen.clock r.stamp → IsLookOf s (entries_until (at + 1)) seen'
     unfolding row
     until-row seen' fault messages tmp stamp =
@@ -146,6 +146,6 @@ module _ (s : State) (f : ℕ) (p : Place) where
         let cut : entries s.names ≡ entries_until at ++ e ∷ rest =
         before-first s f (place_index p + 1) ∙ ap (λ xs. xs ++ others) (before-more s f p)
         ∙ ap (λ xs. (entries_before s f (place_index p) ++ xs) ++ others) (sym (take-append-drop (at + 1) (entries_in s f p)) ∙
-            ap (λ xs. xs ++ drop (at + 1) (entries_in s f p)) (take-one_more (entries_in s f p) at e row.there))
+        ap (λ xs. xs ++ drop (at + 1) (entries_in s f p)) (take-one_more (entries_in s f p) at e row.there))
         ∙ simp append_assoc in
         ap (first_fault []) cut ∙ first-fault s (entries_until at) seen look e rest error (ap (fault_after seen.messages) row.path ∙ fault)

@@ -13,7 +13,7 @@ returns-then-starts_with c =
     let whole : length (drop (length u) a) ≤ length a - length u = omega (arith, length-drop (length u) a) in
     c.goes_before_colon.ensures ∙ ap before_colon (take_all (length a - length u) (drop (length u) a) whole)
     ∙ sym (below-info u a ∙
-        ap (λ b. cond b (before_colon (drop (length u) a)) (is_lt (name_cmp a u))) (sym c.starts_with.ensures.value ∙ c.if-starts_with.true))
+    ap (λ b. cond b (before_colon (drop (length u) a)) (is_lt (name_cmp a u))) (sym c.starts_with.ensures.value ∙ c.if-starts_with.true))
 
 pub returns-else-starts_with : goal.returns-else-starts_with
 returns-else-starts_with c =
@@ -21,4 +21,4 @@ returns-else-starts_with c =
     let a = c.args.name.now in
     c.is_lt.ensures ∙ ap is_lt c.cmp.ensures
     ∙ sym (below-info u a ∙
-        ap (λ b. cond b (before_colon (drop (length u) a)) (is_lt (name_cmp a u))) (sym c.starts_with.ensures.value ∙ c.if-starts_with.false))
+    ap (λ b. cond b (before_colon (drop (length u) a)) (is_lt (name_cmp a u))) (sym c.starts_with.ensures.value ∙ c.if-starts_with.false))

@@ -25,4 +25,4 @@ loop-line-preserved c =
 pub returns : goal.returns
 returns c =
     sym (join_none c.loop-line.bytes.items) ∙ ap (λ ls. onto_joined c.loop-line.bytes.items (concat ls)) (sym c.in_default.ensures.lines) ∙
-        c.loop-line.invariant
+    c.loop-line.invariant

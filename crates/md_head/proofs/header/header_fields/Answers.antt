@@ -27,9 +27,9 @@ after_field : (c : goal.After-keep_first) (name : List ℕ) (found kept : Option
 after_field c name found kept is k =
     rw is
     (knows_field c.args.message.now c.loop-left.left.now c.split_at.result.1.now name c.in-Some.name.now c.group_end.result found
-        (record { folded = c.in-Some.folded })
+    (record { folded = c.in-Some.folded })
     (λ over. false≢true (c.loop-left-test.ensures.1 over)) c.group_end.ensures c.split_at.ensures.back (c.in-Some.ensures ∙
-        ap field_of c.split_at.ensures.front) k)
+    ap field_of c.split_at.ensures.front) k)
 
 pub loop-left-preserved-in-Some : goal.loop-left-preserved-in-Some
 loop-left-preserved-in-Some c = record {
@@ -46,7 +46,7 @@ after_other : (c : goal.In_default) (name : List ℕ) (found : Option FieldBody)
 after_other c name found k =
     knows_other c.args.message.now c.loop-left.left.now c.split_at.result.1.now name c.group_end.result found
     (λ over. false≢true (c.loop-left-test.ensures.1 over)) c.group_end.ensures c.split_at.ensures.back (c.in_default.ensures ∙
-        ap field_of c.split_at.ensures.front) k
+    ap field_of c.split_at.ensures.front) k
 
 pub loop-left-preserved : goal.loop-left-preserved
 loop-left-preserved c = record {

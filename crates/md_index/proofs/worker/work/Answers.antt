@@ -16,8 +16,8 @@ loop-preserved-in-Some-brought g c =
     let same = c.steal_as.ensures.same in (
       (same.0 ∙ is.0, same.1 ∙ is.1, same.3, same.4),
       subst (All (IsBrought c.args.messages.now))
-      (sym (c.push_reserved.ensures.items ∙ ap (λ all. all ++ c.in-Some-brought.done ∷ []) c.reserve-in-loop.ensures.items))
-      (All-push (IsBrought c.args.messages.now) c.loop.all.items c.in-Some-brought.done c.loop.invariant.1 c.in-Some-brought.ensures),
+          (sym (c.push_reserved.ensures.items ∙ ap (λ all. all ++ c.in-Some-brought.done ∷ []) c.reserve-in-loop.ensures.items))
+          (All-push (IsBrought c.args.messages.now) c.loop.all.items c.in-Some-brought.done c.loop.invariant.1 c.in-Some-brought.ensures),
     )
 
 pub returns-in-None-brought : goal.returns-in-None-brought

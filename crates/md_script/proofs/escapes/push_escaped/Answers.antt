@@ -10,7 +10,7 @@ loop-at-preserved c =
     let second = c.in_ok-extend_from_slice-2.ensures.items in
     let here = c.escape.ensures in
     let items : c.extend_from_slice-in-Some.new.self.items ≡ (c.loop-at.out.items ++ take c.in-Some.at c.loop-at.left.now) ++ escape
-        (get_or c.loop-at.left.now c.in-Some.at 0) =
+    (get_or c.loop-at.left.now c.in-Some.at 0) =
     second ∙ (λ i. first i ++ here i) in
     ap (λ t. t ++ escaped (take (length c.loop-at.left.now - (c.in-Some.at + 1)) (drop (c.in-Some.at + 1) c.loop-at.left.now))) items
     ∙ turned _ _ _ _ _ _ step c.loop-at.invariant

@@ -8,7 +8,7 @@ returns-in_default-kind g c =
     tells-refused _ c.run_line.new.out _ c.loop-first.session c.run_line.new.session
     (rw refused.1
     (run_refused g.S.Session.step c.loop-first.text.items
-        (c.loop-first.passed + 1) c.loop-first.session c.loop-first.left.now _ _ c.in-Some.ensures.lines _ refused.0
+    (c.loop-first.passed + 1) c.loop-first.session c.loop-first.left.now _ _ c.in-Some.ensures.lines _ refused.0
     ∙ c.loop-first.invariant.same))
 
 pub loop-first-preserved : goal.loop-first-preserved
@@ -17,7 +17,7 @@ loop-first-preserved g c = record {
   same =
       rw c.in-Ok.ensures.2
       (run_more g.S.Session.step c.loop-first.text.items
-          (c.loop-first.passed + 1) c.loop-first.session c.loop-first.left.now _ _ c.in-Some.ensures.lines _ c.in-Ok.ensures.0 c.in-Ok.ensures.1
+      (c.loop-first.passed + 1) c.loop-first.session c.loop-first.left.now _ _ c.in-Some.ensures.lines _ c.in-Ok.ensures.0 c.in-Ok.ensures.1
       ∙ c.loop-first.invariant.same);
 }
 

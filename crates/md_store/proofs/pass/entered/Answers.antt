@@ -13,6 +13,6 @@ pub returns-in-Ok-clause-entries : goal.returns-in-Ok-clause-entries
 returns-in-Ok-clause-entries c =
     let new = option_map (λ entries. entries.now) c.args.x.2 in
     all-looks (view c.args.reader.place)
-        (view c.in-Ok.reading.place) c.in-Ok.reading.part.value c.in-Ok.ensures.1 c.requires.seat.0 c.args.x.3.now.log c.args.x.1 new
+    (view c.in-Ok.reading.place) c.in-Ok.reading.part.value c.in-Ok.ensures.1 c.requires.seat.0 c.args.x.3.now.log c.args.x.1 new
     (λ r. r.0.items) (λ r. r.1) c.look-looked.result
     (subst (λ (p : Page). IfOk c.look-looked.result (λ r. IsLooked p c.args.x.3.now.log c.args.x.1 new r.0.items r.1)) c.get.ensures c.look-looked.ensures.ok)

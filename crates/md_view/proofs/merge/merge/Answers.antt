@@ -11,6 +11,6 @@ returns c =
       | in_default-2 w ↦ inl (none-left c.loop-entry.new.items (search rules))
     ] in
     let join = moved-join c.args.new.items c.args.cur.items c.loop-entry.all.items c.loop-entry.new.items c.loop-entry.cur.items
-        (ordered _ c.requires.new) (ordered _ c.requires.cur) c.loop-entry.invariant ended in
+    (ordered _ c.requires.new) (ordered _ c.requires.cur) c.loop-entry.invariant ended in
     let is : c.into.result.items ≡ (c.loop-entry.all.items ++ c.loop-entry.new.items) ++ c.loop-entry.cur.items = search rules in
     is ∙ join

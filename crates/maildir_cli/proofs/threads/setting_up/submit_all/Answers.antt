@@ -20,6 +20,6 @@ returns-in_err-submit-clause-all g c =
     let vec = YieldsList-from_vec c.args.calls.items gives.0 (gives.1 ∙ c.args.calls.ok.0) in
     let so_far = YieldsList-so_far vec c.loop-call.yielded c.loop-call.call-iterator c.loop-call.yielded_by in
     let turn = YieldsList-turn vec c.loop-call.yielded c.loop-call.call-iterator c.loop-call.yielded_by c.next.result c.next.new.self c.in-Some.call
-        c.in-Some.is c.next.ensures.steps in
+    c.in-Some.is c.next.ensures.steps in
     refused-by _ _ _ c.loop-call.yielded c.args.calls.items c.in-Some.call _ _ c.loop-call.invariant.submitted so_far turn
-        c.in_err-submit.ensures.refused c.from_residual.ensures.1
+    c.in_err-submit.ensures.refused c.from_residual.ensures.1

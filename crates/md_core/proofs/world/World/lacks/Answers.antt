@@ -10,6 +10,6 @@ returns g c =
     let first = device (g.D.Dirs.state s.image.value) (g.D.Dirs.failures s.image.value) (g.D.Dirs.calls s.image.value) in
     let held = device (g.D.Dirs.state s.dirs) (g.D.Dirs.failures s.dirs) (g.D.Dirs.calls s.dirs) in
     let here = folders-are first s.jobs.items s.log.events.items s.log.marks.items held s.clock s.log.effects.items s.used c.args.self.now
-        c.self.view_is c.self.invariant in
+    c.self.view_is c.self.invariant in
     let count = c.folders.ensures.count in
     grind (arith, nat_tests, here, count)

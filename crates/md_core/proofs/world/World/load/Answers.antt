@@ -9,7 +9,7 @@ invariant_of-result g c =
     let first = device (g.D.Dirs.state c.args.dirs) (g.D.Dirs.failures c.args.dirs) (g.D.Dirs.calls c.args.dirs) in
     rw (c.of.ensures, c.new.ensures.items, c.new-in-Ok.ensures.0, c.new-in-Ok.ensures.1, c.new-in-Ok.ensures.2)
     (load-world first c.folders-sound.ensures.sound c.in-Ok.ensures.accepted c.in-Ok.looked.clock c.in-Ok.ensures.clock c.in-Ok.looked.used
-        c.in-Ok.ensures.used)
+    c.in-Ok.ensures.used)
 
 pub returns-in-Ok-clause-theorem : goal.returns-in-Ok-clause-theorem
 returns-in-Ok-clause-theorem g c = interleaves each-turn _ (invariant_of-result g c).run

@@ -34,18 +34,18 @@ invariant_of-self-2 g c =
     let event : Event = record { job = c.args.job; now = c.args.now; own = c.args.own } in
     let moment : Moment = record { clock = c.max-clock.result; own = c.unwrap_or.result } in
     let same = moment-is s.clock c.args.now c.args.own moment c.max-clock.ensures (c.unwrap_or.ensures ∙
-        ap (unwrap_or c.args.own) c.max-clock.ensures) c.args.job in
+    ap (unwrap_or c.args.own) c.max-clock.ensures) c.args.job in
     let place = c.in_ok-at.ensures.place in
     let within : c.in_ok-at.at < length s.jobs.items = rw (← c.deref.ensures.value) place.1 in
     let there = slice_get_read s.jobs.items (length s.jobs.items) c.in_ok-at.at c.index_mut.result.now refl within c.index_mut.ensures.value in
     let turned = subst (λ (a : Moment). TakesTurn c.args.job a c.index_mut.result.now held out c.in_ok-turned.turned.effect c.turn.new.self held')
-        (sym same) c.in_ok-turned.ensures.ok in
+    (sym same) c.in_ok-turned.ensures.ok in
     let events = c.push.ensures.events ∙ ap (λ es. es ++ event ∷ []) c.in_ok-reserve.ensures.same.0 in
     let marks = c.push.ensures.marks ∙ (λ i. c.in_ok-reserve.ensures.same.1 i ++ c.is_fault.ensures i ∷ []) in
     let effects = c.push.ensures.effects ∙ ap (λ es. es ++ option_to_list c.in_ok-turned.turned.effect) c.in_ok-reserve.ensures.same.2 in
     rw (events, marks, effects, c.max-clock.ensures)
     (step-world first s.jobs.items s.log.events.items s.log.marks.items held s.clock s.log.effects.items s.used event c.in_ok-at.at place.0
-        c.index_mut.result.now there
+    c.index_mut.result.now there
     out c.in_ok-turned.turned.effect c.turn.new.self held' c.self.invariant turned)
 
 pub returns-clause-event : goal.returns-clause-event
@@ -58,17 +58,17 @@ returns-clause-event g c =
     let event : Event = record { job = c.args.job; now = c.args.now; own = c.args.own } in
     let moment : Moment = record { clock = c.max-clock.result; own = c.unwrap_or.result } in
     let same = moment-is s.clock c.args.now c.args.own moment c.max-clock.ensures (c.unwrap_or.ensures ∙
-        ap (unwrap_or c.args.own) c.max-clock.ensures) c.args.job in
+    ap (unwrap_or c.args.own) c.max-clock.ensures) c.args.job in
     let place = c.in_ok-at.ensures.place in
     let within : c.in_ok-at.at < length s.jobs.items = rw (← c.deref.ensures.value) place.1 in
     let there = slice_get_read s.jobs.items (length s.jobs.items) c.in_ok-at.at c.index_mut.result.now refl within c.index_mut.ensures.value in
     let turned = subst (λ (a : Moment). TakesTurn c.args.job a c.index_mut.result.now held out c.in_ok-turned.turned.effect c.turn.new.self held')
-        (sym same) c.in_ok-turned.ensures.ok in
+    (sym same) c.in_ok-turned.ensures.ok in
     let events = c.push.ensures.events ∙ ap (λ es. es ++ event ∷ []) c.in_ok-reserve.ensures.same.0 in
     let marks = c.push.ensures.marks ∙ (λ i. c.in_ok-reserve.ensures.same.1 i ++ c.is_fault.ensures i ∷ []) in
     (λ i. run_of first (slice_set s.jobs.items c.in_ok-at.at c.turn.new.self) (events i) (marks i))
     ∙ run-after first s.jobs.items s.log.events.items s.log.marks.items held s.clock s.log.effects.items s.used event c.in_ok-at.at place.0
-        c.index_mut.result.now there
+    c.index_mut.result.now there
     out c.in_ok-turned.turned.effect c.turn.new.self held' c.self.invariant turned
     ∙ ap (λ (r : Run). and_event r (marked c.args.job c.args.now c.args.own (is_fault out.reply))) c.self.view_is
 
@@ -85,19 +85,19 @@ returns-clause-shows g c =
     let event : Event = record { job = c.args.job; now = c.args.now; own = c.args.own } in
     let moment : Moment = record { clock = c.max-clock.result; own = c.unwrap_or.result } in
     let same = moment-is s.clock c.args.now c.args.own moment c.max-clock.ensures (c.unwrap_or.ensures ∙
-        ap (unwrap_or c.args.own) c.max-clock.ensures) c.args.job in
+    ap (unwrap_or c.args.own) c.max-clock.ensures) c.args.job in
     let place = c.in_ok-at.ensures.place in
     let within : c.in_ok-at.at < length s.jobs.items = rw (← c.deref.ensures.value) place.1 in
     let there = slice_get_read s.jobs.items (length s.jobs.items) c.in_ok-at.at c.index_mut.result.now refl within c.index_mut.ensures.value in
     let turned = subst (λ (a : Moment). TakesTurn c.args.job a c.index_mut.result.now held out c.in_ok-turned.turned.effect c.turn.new.self held')
-        (sym same) c.in_ok-turned.ensures.ok in
+    (sym same) c.in_ok-turned.ensures.ok in
     let goes : step_refusal (job_at (jobs_of (run_of first s.jobs.items s.log.events.items s.log.marks.items)) c.args.job) ≡ None =
-        ap (λ (m : Machine). step_refusal (job_at m.jobs c.args.job)) (sym c.self.invariant.now) ∙
-        rw c.deref.ensures.value at c.in_ok-at.ensures.refused in
+    ap (λ (m : Machine). step_refusal (job_at m.jobs c.args.job)) (sym c.self.invariant.now) ∙
+    rw c.deref.ensures.value at c.in_ok-at.ensures.refused in
     let what : Marked = marked c.args.job c.args.now c.args.own (is_fault out.reply) in
     let shown = shows each-turn (run_of first s.jobs.items s.log.events.items s.log.marks.items) c.self.invariant.run what goes out
     (step-shown first s.jobs.items s.log.events.items s.log.marks.items held s.clock s.log.effects.items s.used event c.in_ok-at.at place.0
-        c.index_mut.result.now there
+    c.index_mut.result.now there
     out c.in_ok-turned.turned.effect c.turn.new.self held' c.self.invariant turned) in
     subst (λ (x : Run). ShowsStep c.args.self.now x what out) (sym (returns-clause-event g c))
     (subst (λ (r : Run). ShowsStep r (and_event r what) what out) c.self.view_is shown)
@@ -112,23 +112,23 @@ returns-clause-success g c =
     let event : Event = record { job = c.args.job; now = c.args.now; own = c.args.own } in
     let moment : Moment = record { clock = c.max-clock.result; own = c.unwrap_or.result } in
     let same = moment-is s.clock c.args.now c.args.own moment c.max-clock.ensures (c.unwrap_or.ensures ∙
-        ap (unwrap_or c.args.own) c.max-clock.ensures) c.args.job in
+    ap (unwrap_or c.args.own) c.max-clock.ensures) c.args.job in
     let place = c.in_ok-at.ensures.place in
     let within : c.in_ok-at.at < length s.jobs.items = rw (← c.deref.ensures.value) place.1 in
     let there = slice_get_read s.jobs.items (length s.jobs.items) c.in_ok-at.at c.index_mut.result.now refl within c.index_mut.ensures.value in
     let turned = subst (λ (a : Moment). TakesTurn c.args.job a c.index_mut.result.now held out c.in_ok-turned.turned.effect c.turn.new.self held')
-        (sym same) c.in_ok-turned.ensures.ok in
+    (sym same) c.in_ok-turned.ensures.ok in
     let r = run_of first s.jobs.items s.log.events.items s.log.marks.items in
     let goes : step_refusal (job_at (jobs_of r) c.args.job) ≡ None =
-        ap (λ (m : Machine). step_refusal (job_at m.jobs c.args.job)) (sym c.self.invariant.now) ∙
-        rw c.deref.ensures.value at c.in_ok-at.ensures.refused in
+    ap (λ (m : Machine). step_refusal (job_at m.jobs c.args.job)) (sym c.self.invariant.now) ∙
+    rw c.deref.ensures.value at c.in_ok-at.ensures.refused in
     let what : Marked = marked c.args.job c.args.now c.args.own (is_fault out.reply) in
     let is : _ ≡ and_event r what = returns-clause-event g c ∙ ap (λ (x : Run). and_event x what) (sym c.self.view_is) in
     let theorem : Interleaves (and_event r what) = subst (λ (x : Run). Interleaves x) is (returns-clause-theorem g c) in
     subst (λ (x : Run). Succeeds x c.args.job out.answer) (sym is)
     (succeeds each-turn r c.self.invariant.run what goes out
     (step-shown first s.jobs.items s.log.events.items s.log.marks.items held s.clock s.log.effects.items s.used event c.in_ok-at.at place.0
-        c.index_mut.result.now there
+    c.index_mut.result.now there
     out c.in_ok-turned.turned.effect c.turn.new.self held' c.self.invariant turned) theorem)
 
 -- the run before, by the world's fields
@@ -138,9 +138,9 @@ returns-clause-nearer g c =
     let n = c.args.job in
     let what = marked n c.args.now c.args.own (is_fault c.in_ok-turned.turned.out.reply) in
     let r = run_of (device (g.D.Dirs.state s.image.value) (g.D.Dirs.failures s.image.value) (g.D.Dirs.calls s.image.value)) s.jobs.items
-        s.log.events.items s.log.marks.items in
+    s.log.events.items s.log.marks.items in
     let goes : step_refusal (job_at (jobs_of r) n) ≡ None = ap (λ (m : Machine). step_refusal (job_at m.jobs n)) (sym c.self.invariant.now) ∙
-        rw c.deref.ensures.value at c.in_ok-at.ensures.refused in
+    rw c.deref.ensures.value at c.in_ok-at.ensures.refused in
     subst (λ (a : Run). steps_left a n < steps_left c.args.self.now n) (sym (returns-clause-event g c))
     (subst (λ (b : Run). steps_left (and_event b what) n < steps_left b n) c.self.view_is (steps_left-less r c.self.invariant.run each-turn what goes))
 
@@ -150,9 +150,9 @@ returns-clause-others g c =
     let n = c.args.job in
     let what = marked n c.args.now c.args.own (is_fault c.in_ok-turned.turned.out.reply) in
     let r = run_of (device (g.D.Dirs.state s.image.value) (g.D.Dirs.failures s.image.value) (g.D.Dirs.calls s.image.value)) s.jobs.items
-        s.log.events.items s.log.marks.items in
+    s.log.events.items s.log.marks.items in
     let goes : step_refusal (job_at (jobs_of r) n) ≡ None = ap (λ (m : Machine). step_refusal (job_at m.jobs n)) (sym c.self.invariant.now) ∙
-        rw c.deref.ensures.value at c.in_ok-at.ensures.refused in
+    rw c.deref.ensures.value at c.in_ok-at.ensures.refused in
     λ k differ.
     ap (λ (a : Run). job_at (jobs_of a) k) (returns-clause-event g c)
     ∙ ap (λ (b : Run). job_at (jobs_of (and_event b what)) k) (sym c.self.view_is)

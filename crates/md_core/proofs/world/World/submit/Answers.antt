@@ -14,10 +14,10 @@ invariant_of-self-2 g c =
     let first = device (g.D.Dirs.state s.image.value) (g.D.Dirs.failures s.image.value) (g.D.Dirs.calls s.image.value) in
     let held = device (g.D.Dirs.state s.dirs) (g.D.Dirs.failures s.dirs) (g.D.Dirs.calls s.dirs) in
     let goes : submit_refusal (run_of first s.jobs.items s.log.events.items s.log.marks.items) c.args.call ≡ None =
-        ap (λ (r : Run). submit_refusal r c.args.call) c.self.view_is ∙ sym c.in_default.ensures in
+    ap (λ (r : Run). submit_refusal r c.args.call) c.self.view_is ∙ sym c.in_default.ensures in
     rw (c.push_reserved.ensures.items, c.new.ensures, c.prepare.ensures.jobs)
     (submit-world first s.jobs.items s.log.events.items s.log.marks.items held s.clock s.log.effects.items s.used c.args.call c.self.invariant goes
-        c.prepare.new.used c.in-Ok.ensures.used)
+    c.prepare.new.used c.in-Ok.ensures.used)
 
 pub returns-clause-theorem : goal.returns-clause-theorem
 returns-clause-theorem g c = interleaves each-turn _ (invariant_of-self-2 g c).run
@@ -29,9 +29,9 @@ returns-clause-effects g c =
     let first = device (g.D.Dirs.state s.image.value) (g.D.Dirs.failures s.image.value) (g.D.Dirs.calls s.image.value) in
     let held = device (g.D.Dirs.state s.dirs) (g.D.Dirs.failures s.dirs) (g.D.Dirs.calls s.dirs) in
     let goes : submit_refusal (run_of first s.jobs.items s.log.events.items s.log.marks.items) c.args.call ≡ None =
-        ap (λ (r : Run). submit_refusal r c.args.call) c.self.view_is ∙ sym c.in_default.ensures in
+    ap (λ (r : Run). submit_refusal r c.args.call) c.self.view_is ∙ sym c.in_default.ensures in
     rw (c.push_reserved.ensures.items, c.new.ensures, c.prepare.ensures.jobs)
     (ap effects_of (run-submitted first s.jobs.items s.log.events.items s.log.marks.items held s.clock s.log.effects.items s.used c.args.call)
     ∙ effects-submitted first s.jobs.items s.log.events.items s.log.marks.items held s.clock s.log.effects.items s.used c.args.call c.self.invariant
-        goes c.prepare.new.used c.in-Ok.ensures.used
+    goes c.prepare.new.used c.in-Ok.ensures.used
     ∙ ap effects_of c.self.view_is)

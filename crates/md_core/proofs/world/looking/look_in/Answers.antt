@@ -20,9 +20,9 @@ pub returns-in_err-add-clause-refused : goal.returns-in_err-add-clause-refused
 returns-in_err-add-clause-refused g c =
     let s = g.D.Dirs.state c.args.dirs.now in
     let refused = refused-row s c.args.folder c.args.place c.loop-at.at (row_shown c.in-Some.row) c.loop-at.seen c.loop-at.invariant
-        (sym c.in-Some.ensures.row) c.in_err-add.field-0.0 in
+    (sym c.in-Some.ensures.row) c.in_err-add.field-0.0 in
     let either : (c.in_err-add.field-0.0 ≡ NoMemory) ⊎ (load_refusal s ≡ Some c.in_err-add.field-0.0) =
-        elim c.in_err-add.ensures.fault [ inl wanting ↦ inl wanting | inr fault ↦ inr (refused fault) ] in
+    elim c.in_err-add.ensures.fault [ inl wanting ↦ inl wanting | inr fault ↦ inr (refused fault) ] in
     search (rules, either)
 
 pub loop-at-preserved : goal.loop-at-preserved

@@ -14,7 +14,7 @@ pub returns-in_err-row-clause-absent : goal.returns-in_err-row-clause-absent
 returns-in_err-row-clause-absent g c = if-none _ _ (λ _.
     let s = g.D.Dirs.state c.args.dirs.now in
     nothing-there s c.args.folder c.args.place c.args.unique.now c.first_from-at.result c.requires.sound c.requires.name c.first_from-at.ensures
-        c.in_default.ensures
+    c.in_default.ensures
     (λ a is of. let none = c.in_err-row.ensures.row in cc))
 
 pub returns-then-not-is_message_of-clause-absent :
@@ -22,7 +22,7 @@ pub returns-then-not-is_message_of-clause-absent :
 returns-then-not-is_message_of-clause-absent g c =
     let s = g.D.Dirs.state c.args.dirs.now in
     nothing-there s c.args.folder c.args.place c.args.unique.now c.first_from-at.result c.requires.sound c.requires.name c.first_from-at.ensures
-        c.in_default.ensures
+    c.in_default.ensures
     (λ a is of.
     let both : Some (row_shown c.in_ok-row.row) ≡ Some a = c.in_ok-row.ensures.row ∙ is in
     let same : row_shown c.in_ok-row.row ≡ a = cc in
@@ -33,4 +33,4 @@ pub returns-clause-absent : goal.returns-clause-absent
 returns-clause-absent g c = if-none _ _ (λ none.
     let s = g.D.Dirs.state c.args.dirs.now in
     absurd (none-at s c.args.folder c.args.place c.first_from-at.result (row_shown c.in_ok-row.row) c.requires.sound (sym c.in_ok-row.ensures.row)
-        (ap (option_map (λ (b : Bor (List ℕ)). b.now)) (sym none) ∙ c.read-2.ensures)))
+    (ap (option_map (λ (b : Bor (List ℕ)). b.now)) (sym none) ∙ c.read-2.ensures)))

@@ -7,7 +7,7 @@ use Rattle.md_core.proofs.world.reading.is_below.Goals as goal
 pub returns-in-Some : goal.returns-in-Some
 returns-in-Some c =
     c.is_lt.ensures ∙ ap is_lt (c.cmp.ensures ∙ (λ i. slice_cmp nat_cmp (c.in-Some.ensures.cases.1 i) (c.as_slice.ensures i)) ∙
-        sym (after-prefix c.args.unique.now c.args.name.now (58 ∷ []) c.in-Some.ensures.cases.0))
+    sym (after-prefix c.args.unique.now c.args.name.now (58 ∷ []) c.in-Some.ensures.cases.0))
 
 pub returns-in-None : goal.returns-in-None
 returns-in-None c =

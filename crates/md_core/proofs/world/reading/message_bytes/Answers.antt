@@ -21,7 +21,7 @@ returns-in-Some-bytes_in g c =
 pub loop-folder-preserved : goal.loop-folder-preserved
 loop-folder-preserved g c =
     none-below-more (g.D.Dirs.state c.args.dirs.now) c.args.unique.now c.loop-folder.folder c.loop-folder.invariant c.in_default.ensures.absent
-        c.in_default-bytes_in.ensures.absent
+    c.in_default-bytes_in.ensures.absent
 
 pub returns : goal.returns
 returns g c =

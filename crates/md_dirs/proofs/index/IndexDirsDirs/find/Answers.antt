@@ -35,4 +35,4 @@ returns-clause-row c =
     rw (← c.self.view_is)
     (shown ∙ twice (files_of s.slots.items) c.find-found.result ∙ ap (option_map (name_row (files_of s.slots.items))) c.find-found.ensures
     ∙ sym (ap (row_named c.args.unique.now) (rows-shown s.folders s.names s.slots.items c.self.invariant c.args.folder c.args.place) ∙
-        row_named-map c.args.unique.now (files_of s.slots.items) (rows_in s.names c.args.folder c.args.place)))
+    row_named-map c.args.unique.now (files_of s.slots.items) (rows_in s.names c.args.folder c.args.place)))

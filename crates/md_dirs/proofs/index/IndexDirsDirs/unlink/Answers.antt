@@ -11,7 +11,7 @@ pub returns-in_default-clause-meets : goal.returns-in_default-clause-meets
 returns-in_default-clause-meets c =
     let s = c.self.inside in
     rw (← c.self.view_is, c.take.ensures.gone)
-        (unlink-nothing s.folders s.names s.slots.items c.self.invariant c.args.path.now (sym c.take.ensures.file ∙ c.in_default.is))
+    (unlink-nothing s.folders s.names s.slots.items c.self.invariant c.args.path.now (sym c.take.ensures.file ∙ c.in_default.is))
 
 pub release_one-requires : goal.release_one-requires
 release_one-requires c =
@@ -22,10 +22,10 @@ pub invariant_of-self-2 : goal.invariant_of-self-2
 invariant_of-self-2 c =
     let s = c.self.inside in
     rw (c.take.ensures.gone, c.release_one.ensures)
-        (counted-unlinked s.folders s.names s.slots.items c.self.invariant c.args.path.now c.in-Some.file (sym c.take.ensures.file ∙ c.in-Some.is))
+    (counted-unlinked s.folders s.names s.slots.items c.self.invariant c.args.path.now c.in-Some.file (sym c.take.ensures.file ∙ c.in-Some.is))
 
 pub returns-clause-meets : goal.returns-clause-meets
 returns-clause-meets c =
     let s = c.self.inside in
     rw (← c.self.view_is, c.take.ensures.gone, c.release_one.ensures)
-        (unlink-done s.folders s.names s.slots.items c.self.invariant c.args.path.now c.in-Some.file (sym c.take.ensures.file ∙ c.in-Some.is))
+    (unlink-done s.folders s.names s.slots.items c.self.invariant c.args.path.now c.in-Some.file (sym c.take.ensures.file ∙ c.in-Some.is))

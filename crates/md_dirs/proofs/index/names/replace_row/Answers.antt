@@ -13,7 +13,7 @@ returns-clause-entries c =
     let last : c.len-last.result ≡ length es = c.len-last.ensures.len in
     let swapped = c.swap_indices.ensures.entries ∙ (λ i. swap (pushed i) c.args.at (last i)) ∙ swapped-last es c.args.at x c.requires.within in
     let off = taken-off (slice_set es c.args.at x) c.pop-old.new.self.entries (get_or es c.args.at x) c.pop-old.result (sym swapped ∙
-        c.pop-old.ensures.entries) (λ some. c.pop-old.ensures.found.1 (subst (λ l. 0 < length l) (sym swapped) some)) in
+    c.pop-old.ensures.entries) (λ some. c.pop-old.ensures.found.1 (subst (λ l. 0 < length l) (sym swapped) some)) in
     off.0
 
 pub returns-clause-names : goal.returns-clause-names
@@ -24,7 +24,7 @@ returns-clause-names c =
     let last : c.len-last.result ≡ length es = c.len-last.ensures.len in
     let swapped = c.swap_indices.ensures.entries ∙ (λ i. swap (pushed i) c.args.at (last i)) ∙ swapped-last es c.args.at x c.requires.within in
     let off = taken-off (slice_set es c.args.at x) c.pop-old.new.self.entries (get_or es c.args.at x) c.pop-old.result (sym swapped ∙
-        c.pop-old.ensures.entries) (λ some. c.pop-old.ensures.found.1 (subst (λ l. 0 < length l) (sym swapped) some)) in
+    c.pop-old.ensures.entries) (λ some. c.pop-old.ensures.found.1 (subst (λ l. 0 < length l) (sym swapped) some)) in
     let gone = rw off.1 at c.pop-old.ensures.updates in
     let row = get_or es c.args.at x in
     record {

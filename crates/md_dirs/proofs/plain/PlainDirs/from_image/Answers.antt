@@ -21,8 +21,8 @@ returns-in_err-put_file-clause-refused c =
     let vec = YieldsList-from_vec c.args.image.items gives.0 (gives.1 ∙ c.args.image.ok.0) in
     let so_far = YieldsList-so_far vec c.loop-file.yielded c.loop-file.file-iterator c.loop-file.yielded_by in
     let turn = YieldsList-turn vec c.loop-file.yielded c.loop-file.file-iterator c.loop-file.yielded_by c.next.result c.next.new.self c.in-Some.file
-        c.in-Some.is c.next.ensures.steps in
+    c.in-Some.is c.next.ensures.steps in
     let p = err_from_is_err_and c.from_residual.result c.from_residual.ensures.1 in
     rw (p.1, p.2) (refused-at (bare c.args.folders) c.loop-file.dirs.state c.put_file.new.self.state c.loop-file.yielded c.in-Some.file
-        c.args.image.items c.in_err-put_file.field-0.0 c.loop-file.invariant.made c.loop-file.invariant.accepted so_far turn
-        c.in_err-put_file.ensures.made)
+    c.args.image.items c.in_err-put_file.field-0.0 c.loop-file.invariant.made c.loop-file.invariant.accepted so_far turn
+    c.in_err-put_file.ensures.made)

@@ -13,7 +13,7 @@ invariant_of-self-2 c =
     let differ = sym c.is_same.ensures ∙ c.if-is_same.false in
     rw (c.take-gone.ensures.gone, c.in_ok-put.ensures.ok, c.release_one.ensures, c.in_ok-name.ensures)
     (counted-moved s.folders s.names s.slots.items c.self.invariant c.args.old.now c.args.new.now c.in-Some.file c.file_at-there.result
-        (sym c.file_at.ensures ∙ c.in-Some.is) c.if-new-self.false (sym c.file_at-there.ensures) differ)
+    (sym c.file_at.ensures ∙ c.in-Some.is) c.if-new-self.false (sym c.file_at-there.ensures) differ)
 
 pub returns-clause-meets : goal.returns-clause-meets
 returns-clause-meets c =
@@ -21,4 +21,4 @@ returns-clause-meets c =
     let differ = sym c.is_same.ensures ∙ c.if-is_same.false in
     rw (← c.self.view_is, c.take-gone.ensures.gone, c.in_ok-put.ensures.ok, c.release_one.ensures, c.in_ok-name.ensures)
     (rename-done s.folders s.names s.slots.items c.self.invariant c.args.old.now c.args.new.now c.in-Some.file c.file_at-there.result
-        (sym c.file_at.ensures ∙ c.in-Some.is) c.if-new-self.false (sym c.file_at-there.ensures) differ)
+    (sym c.file_at.ensures ∙ c.in-Some.is) c.if-new-self.false (sym c.file_at-there.ensures) differ)

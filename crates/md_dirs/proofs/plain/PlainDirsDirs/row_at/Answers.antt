@@ -6,12 +6,12 @@ pub shown_row-requires : goal.shown_row-requires
 shown_row-requires c =
     let s = c.self.inside in
     rw c.deref.ensures.value
-        (row-filed s.folders s.names s.slots.items c.self.invariant c.args.folder c.args.place c.args.at (c.in_ok-name.name.now, c.in_ok-name.file)
-        (sym c.in_ok-name.ensures.row))
+    (row-filed s.folders s.names s.slots.items c.self.invariant c.args.folder c.args.place c.args.at (c.in_ok-name.name.now, c.in_ok-name.file)
+    (sym c.in_ok-name.ensures.row))
 
 pub returns-clause-row : goal.returns-clause-row
 returns-clause-row c =
     let s = c.self.inside in
     rw (c.shown_row.ensures, c.deref.ensures.value, ← c.self.view_is)
     (row-shown s.folders s.names s.slots.items c.self.invariant c.args.folder c.args.place c.args.at (Some (c.in_ok-name.name.now, c.in_ok-name.file))
-        (sym c.in_ok-name.ensures.row))
+    (sym c.in_ok-name.ensures.row))

@@ -10,11 +10,11 @@ slice_bounds-result-count c =
     let n = c.number_of-number.result in
     let rise = numbers-rise rows (holds _ c.requires) in
     let start = IsPartitionPoint-from_clause (λ e. ltb (number_at e) n) rows _ c.partition_point-first.ensures.partitioned
-        (IsPartitionedBy-ltb number_at rows n rise) (λ a r q k. search rules) in
+    (IsPartitionedBy-ltb number_at rows n rise) (λ a r q k. search rules) in
     let end = IsPartitionPoint-from_clause (λ e. leb (number_at e) n) rows _ c.partition_point-end.ensures.partitioned
-        (IsPartitionedBy-leb number_at rows n rise) (λ a r q k. search rules) in
+    (IsPartitionedBy-leb number_at rows n rise) (λ a r q k. search rules) in
     start-first rows n c.partition_point-first.result c.partition_point-end.result start end c.partition_point-first.ensures.bound
-        c.partition_point-end.ensures.bound
+    c.partition_point-end.ensures.bound
 
 pub slice_bounds-result-start : goal.slice_bounds-result-start
 slice_bounds-result-start c = slice_bounds-result-count c
@@ -25,8 +25,8 @@ returns c =
     let n = c.number_of-number.result in
     let rise = numbers-rise rows (holds _ c.requires) in
     let start = IsPartitionPoint-from_clause (λ e. ltb (number_at e) n) rows _ c.partition_point-first.ensures.partitioned
-        (IsPartitionedBy-ltb number_at rows n rise) (λ a r q k. search rules) in
+    (IsPartitionedBy-ltb number_at rows n rise) (λ a r q k. search rules) in
     let end = IsPartitionPoint-from_clause (λ e. leb (number_at e) n) rows _ c.partition_point-end.ensures.partitioned
-        (IsPartitionedBy-leb number_at rows n rise) (λ a r q k. search rules) in
+    (IsPartitionedBy-leb number_at rows n rise) (λ a r q k. search rules) in
     directory-part rows n c.partition_point-first.result c.partition_point-end.result start end c.partition_point-first.ensures.bound
-        c.partition_point-end.ensures.bound c.args.folder c.args.place c.number_of-number.ensures.number
+    c.partition_point-end.ensures.bound c.args.folder c.args.place c.number_of-number.ensures.number

@@ -21,7 +21,7 @@ returns-in-Equal-clause-found c =
     let p = path_of c.args.folder c.args.place c.args.name.now in
     let row = c.index-rows-middle in
     at-row c.args.rows.now p (c.loop-low.low + (c.loop-low.high - c.loop-low.low) / 2) row.result c.requires (omega arith) row.is
-        (ap (λ (e : Path × ℕ). path_cmp e.0 p) row.is ∙ sym c.compare.ensures ∙ c.in-Equal.is)
+    (ap (λ (e : Path × ℕ). path_cmp e.0 p) row.is ∙ sym c.compare.ensures ∙ c.in-Equal.is)
 
 pub returns-clause-absent : goal.returns-clause-absent
 returns-clause-absent c =

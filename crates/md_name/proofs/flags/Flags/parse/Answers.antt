@@ -14,5 +14,5 @@ loop-letter-preserved c = record {
   same =
       c.with_letter-flags.ensures ∙ ap (λ s. set.insert s (get_or c.args.letters.now c.loop-letter.letter-index 0)) c.loop-letter.invariant.same
       ∙ sym (ap set.from_list (take_more c.args.letters.now c.loop-letter.letter-index 0 c.loop-letter-test.true) ∙
-          set.from_list_push nat_cmp_total set.nat_cmp-IsAntisymmetric _ _);
+      set.from_list_push nat_cmp_total set.nat_cmp-IsAntisymmetric _ _);
 }

@@ -28,17 +28,17 @@ pub returns-in_err-step-clause-finish : goal.returns-in_err-step-clause-finish
 returns-in_err-step-clause-finish g c =
     passes _ _ _ _ _ _ c.from_residual.ensures.1
     (finishes-refused c.args.world.now c.args.event c.step.new.world c.step.new.world c.args.out.now.items c.step.new.out.items
-        c.in_err-step.field-0.0 c.in_err-step.ensures.step)
+    c.in_err-step.field-0.0 c.in_err-step.ensures.step)
 
 pub returns-in_err-step-2-clause-finish : goal.returns-in_err-step-2-clause-finish
 returns-in_err-step-2-clause-finish g c =
     passes (finished c.args.world.now c.args.event) c.step-in-loop-alloc.new.world c.args.out.now.items c.step-in-loop-alloc.new.out.items
-        c.in_err-step-2.field-0.0 _
+    c.in_err-step-2.field-0.0 _
     c.from_residual-in_err-step-2.ensures.1
     (finishes-unrefused c.args.world.now c.args.event c.loop-alloc.world c.loop-alloc.invariant.0 c.loop-alloc.invariant.2
-        (ap is_some (sym c.answer.ensures) ∙ c.loop-alloc-test.ensures)
+    (ap is_some (sym c.answer.ensures) ∙ c.loop-alloc-test.ensures)
     (finished c.args.world.now c.args.event) c.step-in-loop-alloc.new.world c.step-in-loop-alloc.new.world c.loop-alloc.out.items c.args.out.now.items
-        c.step-in-loop-alloc.new.out.items
+    c.step-in-loop-alloc.new.out.items
     c.in_err-step-2.field-0.0 c.in_err-step-2.ensures.step)
 
 pub returns-clause-waits : goal.returns-clause-waits

@@ -5,8 +5,12 @@ use Rattle.md_script.proofs.store.acts.step.Goals as goal
 
 pub returns : goal.returns
 returns g c = record {
-  step = (_, stepped-ok _ _ c.args.event _ _ c.in-Ok.ensures.refused c.in-Ok.ensures.event c.in-Ok.ensures.shows
-      (sym (g.met.D.Storage.never_fails c.counts.ensures.0) ∙ c.counts.ensures.2), c.in_ok-push_step.ensures);
+  step = (
+    _,
+    stepped-ok _ _ c.args.event _ _ c.in-Ok.ensures.refused c.in-Ok.ensures.event c.in-Ok.ensures.shows
+        (sym (g.met.D.Storage.never_fails c.counts.ensures.0) ∙ c.counts.ensures.2),
+    c.in_ok-push_step.ensures,
+  );
   waits = waits-event _ _ _ c.interleaves.ensures.run c.in-Ok.ensures.event;
   nearer = c.in-Ok.ensures.nearer;
 }

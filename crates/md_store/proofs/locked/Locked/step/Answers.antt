@@ -14,7 +14,7 @@ returns-then-not-out-clause-told g c =
     let a = c.in_ok-out.ensures in
     let none = no_effect c.catch_up.new.self.run c.advance.new.self.run (marked c.args.job c.args.now c.args.own (is_fault out.reply)) out a.shows off in
     stands c.advance.new.self.run c.args.job out.answer c.advance.new.self.published c.tell.new.pass a.success (a.published ∙
-        (before ∙ sym none)) c.tell.ensures.told
+    (before ∙ sym none)) c.tell.ensures.told
 
 pub returns-clause-told : goal.returns-clause-told
 returns-clause-told g c =

@@ -8,4 +8,4 @@ pub returns-clause-refused : goal.returns-clause-refused
 returns-clause-refused g c =
     let same : c.deref_mut.result.now ≡ c.deref.result.now = search rules in
     submits c.deref_mut.result.now.run g.J.Naming.opening.folders (ap (λ (b : Both). b.run.image.folders) same ∙
-        ap (λ (n : Named). n.folders) c.lags.ensures.image) c.args.call c.submit-made.result c.submit-made.ensures.refused
+    ap (λ (n : Named). n.folders) c.lags.ensures.image) c.args.call c.submit-made.result c.submit-made.ensures.refused

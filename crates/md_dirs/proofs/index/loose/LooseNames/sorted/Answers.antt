@@ -10,5 +10,5 @@ pub returns : goal.returns
 returns c =
     let done = c.in_ok-sort_unstable_keys.ensures in
     rw (← c.self.view_is)
-        (sorted-is c.self.inside.rows.entries c.sort_unstable_keys.new.self.entries
-        (in_order c.sort_unstable_keys.new.self.entries done.sorted done.unique) done.reordered.2)
+    (sorted-is c.self.inside.rows.entries c.sort_unstable_keys.new.self.entries
+    (in_order c.sort_unstable_keys.new.self.entries done.sorted done.unique) done.reordered.2)

@@ -9,8 +9,8 @@ returns-in_err-name c =
     let es = c.self.inside.rows.entries in
     rw (c.from_residual.ensures, ← c.self.view_is, entries-rows es c.self.invariant)
     (sym (c.first_place.ensures ∙
-        ap (option_and_then (λ (e : List ℕ × ℕ). cond (is_named_by c.args.unique.now e.0) (Some e) None))
-        (row-none es c.first_place.result (sym c.in_err-name.ensures.entry))))
+    ap (option_and_then (λ (e : List ℕ × ℕ). cond (is_named_by c.args.unique.now e.0) (Some e) None))
+    (row-none es c.first_place.result (sym c.in_err-name.ensures.entry))))
 
 pub returns-then-is_named : goal.returns-then-is_named
 returns-then-is_named c =
@@ -19,8 +19,8 @@ returns-then-is_named c =
     let named = sym (ap (is_named_by c.args.unique.now) c.as_slice.ensures.value) ∙ sym c.is_named.ensures ∙ c.if-is_named.true in
     rw (c.as_slice-then-is_named.ensures.value, ← c.self.view_is, entries-rows es c.self.invariant)
     (sym (c.first_place.ensures ∙
-        ap (option_and_then (λ (e : List ℕ × ℕ). cond (is_named_by c.args.unique.now e.0) (Some e) None))
-        (read-row es c.first_place.result _ (sym c.in_ok-name.ensures.entry))
+    ap (option_and_then (λ (e : List ℕ × ℕ). cond (is_named_by c.args.unique.now e.0) (Some e) None))
+    (read-row es c.first_place.result _ (sym c.in_ok-name.ensures.entry))
     ∙ ap (λ b. cond b (Some row) None) named))
 
 pub returns-else-is_named : goal.returns-else-is_named
@@ -30,6 +30,6 @@ returns-else-is_named c =
     let named = sym (ap (is_named_by c.args.unique.now) c.as_slice.ensures.value) ∙ sym c.is_named.ensures ∙ c.if-is_named.false in
     rw (← c.self.view_is, entries-rows es c.self.invariant)
     (sym (c.first_place.ensures ∙
-        ap (option_and_then (λ (e : List ℕ × ℕ). cond (is_named_by c.args.unique.now e.0) (Some e) None))
-        (read-row es c.first_place.result _ (sym c.in_ok-name.ensures.entry))
+    ap (option_and_then (λ (e : List ℕ × ℕ). cond (is_named_by c.args.unique.now e.0) (Some e) None))
+    (read-row es c.first_place.result _ (sym c.in_ok-name.ensures.entry))
     ∙ ap (λ b. cond b (Some row) None) named))

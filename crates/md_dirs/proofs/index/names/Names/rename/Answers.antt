@@ -23,5 +23,5 @@ returns-then-keeps_place-clause-ok c =
     let key = found-key c.args.old.now es c.in-Some.field-0-1.now c.in-Some.ensures.key in
     rw (← c.self.view_is)
     (renamed-is es c.replace_row.new.rows.entries c.in-Some.at c.args.old.now c.args.new c.args.file c.self.invariant
-        (invariant_of-self-then-keeps_place c) done.names
+    (invariant_of-self-then-keeps_place c) done.names
     (row-key es c.in-Some.at done.names.row (c.in-Some.field-0-1.now, c.in-Some.field-0-2.now) done.names.at c.in-Some.ensures.entry ∙ key))

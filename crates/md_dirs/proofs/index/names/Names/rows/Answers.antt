@@ -13,10 +13,10 @@ pub shown_row-requires : goal.shown_row-requires
 shown_row-requires c =
     let es = c.self.inside.rows.entries in
     let read : slice_get es c.loop-at.at ≡ Some (c.unwrap.result.0.now, c.unwrap.result.1.now) =
-        sym c.get_index.ensures.entry ∙ ap (option_map deref_pair) c.unwrap.ensures in
+    sym c.get_index.ensures.entry ∙ ap (option_map deref_pair) c.unwrap.ensures in
     let all = rw (← c.self.view_is, entries-rows es c.self.invariant) at c.requires in
     all-read (λ (e : List ℕ × ℕ). IsSome (file_by (files_of c.args.slots.now) e.1)) (rows_by_name es) c.loop-at.at
-        (c.unwrap.result.0.now.items, c.unwrap.result.1.now) all (read-row es c.loop-at.at _ read)
+    (c.unwrap.result.0.now.items, c.unwrap.result.1.now) all (read-row es c.loop-at.at _ read)
 
 pub loop-at-preserved : goal.loop-at-preserved
 loop-at-preserved c =
@@ -24,16 +24,16 @@ loop-at-preserved c =
     let files = files_of c.args.slots.now in
     let row : List ℕ × ℕ = (c.unwrap.result.0.now.items, c.unwrap.result.1.now) in
     let read : slice_get es c.loop-at.at ≡ Some (c.unwrap.result.0.now, c.unwrap.result.1.now) =
-        sym c.get_index.ensures.entry ∙ ap (option_map deref_pair) c.unwrap.ensures in
+    sym c.get_index.ensures.entry ∙ ap (option_map deref_pair) c.unwrap.ensures in
     let copied = c.in_ok-copied.ensures ∙ c.shown_row.ensures ∙ ap (λ n. row_by n (file_by files row.1)) c.as_slice.ensures.value in
     c.in_ok-push.ensures.items ∙ (λ i. c.loop-at.invariant i ++ copied i ∷ [])
     ∙ sym (ap (map (name_row files)) (take-read (rows_by_name es) c.loop-at.at row (read-row es c.loop-at.at _ read)) ∙
-        map-append (name_row files) (take c.loop-at.at (rows_by_name es)) (row ∷ []))
+    map-append (name_row files) (take c.loop-at.at (rows_by_name es)) (row ∷ []))
 
 pub returns : goal.returns
 returns c =
     let es = c.self.inside.rows.entries in
     rw (← c.self.view_is, entries-rows es c.self.invariant)
     (c.loop-at.invariant ∙
-        ap (map (name_row (files_of c.args.slots.now)))
-        (take_all c.loop-at.at (rows_by_name es) (omega (arith, length-rows es, c.len-count.ensures.len))))
+    ap (map (name_row (files_of c.args.slots.now)))
+    (take_all c.loop-at.at (rows_by_name es) (omega (arith, length-rows es, c.len-count.ensures.len))))

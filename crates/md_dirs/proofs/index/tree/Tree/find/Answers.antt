@@ -19,6 +19,6 @@ returns c =
     rw (← c.self.view_is)
     (c.find.ensures
     ∙ ap (λ (d : NameMap). first_with (λ e. is_named c.args.unique.now e.0) (finmap.entries d))
-        (sym (read-directory t.items n.result c.index.result.now within c.index.ensures))
+    (sym (read-directory t.items n.result c.index.result.now within c.index.ensures))
     ∙ ap (λ k. first_with (λ e. is_named c.args.unique.now e.0) (finmap.entries (directory_at t.items k))) n.ensures.number
     ∙ ap (first_with (λ e. is_named c.args.unique.now e.0)) (sym (rows-in t.items c.args.folder c.args.place)))

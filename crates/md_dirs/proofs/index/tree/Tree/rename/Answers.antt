@@ -12,7 +12,7 @@ rename-requires c =
     let free = rw (← c.self.view_is) at (c.requires c.if-is_free.true) in
     let same : n.result ≡ directory_number c.args.new.folder c.args.new.place = c.if-number-number_of.true ∙ c.number_of.ensures.number in
     (λ i. finmap.get (sym (read-directory t.items n.result c.index_mut-directory.result.now within c.index_mut-directory.ensures.value) i)
-        (c.into_vec.ensures i))
+    (c.into_vec.ensures i))
     ∙ ap (λ k. finmap.get (directory_at t.items k) c.args.new.name) same ∙ sym (get-names t.items c.args.new) ∙ free
 
 pub returns-then-number-len-clause-ok : goal.returns-then-number-len-clause-ok

@@ -18,7 +18,7 @@ rows-requires c =
     let within : n.result < length t.items = omega (arith, t.ok.0) in
     let one : rows_in (names_of t.items) c.args.folder c.args.place ≡ finmap.entries c.index.result.now =
     rows-in t.items c.args.folder c.args.place ∙ ap (λ k. finmap.entries (directory_at t.items k)) (sym n.ensures.number) ∙
-        ap finmap.entries (read-directory t.items n.result c.index.result.now within c.index.ensures) in
+    ap finmap.entries (read-directory t.items n.result c.index.result.now within c.index.ensures) in
     rw (← c.self.view_is, one) at c.requires
 
 pub returns : goal.returns
@@ -28,5 +28,5 @@ returns c =
     let within : n.result < length t.items = omega (arith, t.ok.0) in
     let one : rows_in (names_of t.items) c.args.folder c.args.place ≡ finmap.entries c.index.result.now =
     rows-in t.items c.args.folder c.args.place ∙ ap (λ k. finmap.entries (directory_at t.items k)) (sym n.ensures.number) ∙
-        ap finmap.entries (read-directory t.items n.result c.index.result.now within c.index.ensures) in
+    ap finmap.entries (read-directory t.items n.result c.index.result.now within c.index.ensures) in
     rw (← c.self.view_is, one) c.rows.ensures

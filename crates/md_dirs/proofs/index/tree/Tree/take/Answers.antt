@@ -24,7 +24,7 @@ returns-clause-file c =
     rw (← c.self.view_is)
     (c.take.ensures.file
     ∙ (λ i. finmap.get (sym (read-directory t.items n.result c.index_mut-directory.result.now within c.index_mut-directory.ensures.value) i)
-        (c.as_slice.ensures i))
+    (c.as_slice.ensures i))
     ∙ ap (λ k. finmap.get (directory_at t.items k) c.args.path.now.name) n.ensures.number
     ∙ sym (get-names t.items c.args.path.now))
 
@@ -37,10 +37,10 @@ returns-clause-gone c =
     let d = c.take.new.self in
     let written : d ≡ finmap.remove (directory_at t.items n.result) p.name =
     c.take.ensures.gone ∙
-        (λ i. finmap.remove (sym (read-directory t.items n.result c.index_mut-directory.result.now within c.index_mut-directory.ensures.value) i)
-        (c.as_slice.ensures i)) in
+    (λ i. finmap.remove (sym (read-directory t.items n.result c.index_mut-directory.result.now within c.index_mut-directory.ensures.value) i)
+    (c.as_slice.ensures i)) in
     rw (← c.self.view_is)
     (take-names t.items _ p
     (λ k differ. beside-set t.items n.result k d (λ is. differ (is ∙ n.ensures.number)))
     (subst (λ (j : ℕ). directory_at (slice_set t.items n.result d) j ≡ finmap.remove (directory_at t.items j) p.name) n.ensures.number
-        (at-set t.items n.result d within ∙ written)))
+    (at-set t.items n.result d within ∙ written)))

@@ -26,7 +26,7 @@ returns-in_err-put-clause-err c =
     (λ is.
     ap (directory_at (slice_set u.items n d)) is ∙ at-set u.items n d within ∙ c.in_err-put.ensures.err
     ∙ sym (read-directory u.items n c.index_mut-directory.result.now within c.index_mut-directory.ensures.value) ∙ grown.same n ∙
-        ap (directory_at t.items) (sym is))
+    ap (directory_at t.items) (sym is))
     (λ differ. beside-set u.items n k d differ ∙ grown.same k)))
 
 pub returns-clause-ok : goal.returns-clause-ok
@@ -40,11 +40,11 @@ returns-clause-ok c =
     let d = c.put.new.self in
     let written : d ≡ finmap.insert (directory_at t.items n.result) p.name c.args.file =
     c.in_ok-put.ensures.ok ∙
-        (λ i. finmap.insert ((sym (read-directory u.items n.result c.index_mut-directory.result.now within c.index_mut-directory.ensures.value) ∙
-        grown.same n.result) i) (c.into_vec.ensures i) c.args.file) in
+    (λ i. finmap.insert ((sym (read-directory u.items n.result c.index_mut-directory.result.now within c.index_mut-directory.ensures.value) ∙
+    grown.same n.result) i) (c.into_vec.ensures i) c.args.file) in
     rw (← c.self.view_is)
     (put-names t.items _ p
     (λ k differ. beside-set u.items n.result k d (λ is. differ (is ∙ n.ensures.number)) ∙ grown.same k)
     c.args.file
     (subst (λ (j : ℕ). directory_at (slice_set u.items n.result d) j ≡ finmap.insert (directory_at t.items j) p.name c.args.file) n.ensures.number
-        (at-set u.items n.result d within ∙ written)))
+    (at-set u.items n.result d within ∙ written)))

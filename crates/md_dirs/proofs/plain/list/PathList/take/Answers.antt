@@ -26,7 +26,7 @@ returns-clause-file c =
     let rows = c.self.inside.rows.items in
     let at = rw c.deref.ensures.value at c.in-Ok.ensures.found in
     rw (← c.self.view_is)
-        (sym (at-names rows c.args.path.now c.self.invariant ∙ row-file rows c.args.path.now c.in-Ok.at c.remove.result at c.remove.ensures.value))
+    (sym (at-names rows c.args.path.now c.self.invariant ∙ row-file rows c.args.path.now c.in-Ok.at c.remove.result at c.remove.ensures.value))
 
 pub returns-clause-gone : goal.returns-clause-gone
 returns-clause-gone c =

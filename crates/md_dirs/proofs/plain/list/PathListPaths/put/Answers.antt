@@ -32,7 +32,7 @@ returns-in-Ok-clause-ok c =
     let at = rw c.deref.ensures.value at c.in-Ok.ensures.found in
     let path = row-path rows p c.in-Ok.at c.index_mut.result.now at c.index_mut.ensures.value in
     rw (← c.self.view_is) (ap (from_sorted {R = path_cmp}) (sym (put-is rows p c.index_mut.result.now.0 c.in-Ok.at c.args.file at path)) ∙
-        names-put rows p c.args.file c.self.invariant)
+    names-put rows p c.args.file c.self.invariant)
 
 pub returns-in_ok-insert-in-Err-clause-ok : goal.returns-in_ok-insert-in-Err-clause-ok
 returns-in_ok-insert-in-Err-clause-ok c =

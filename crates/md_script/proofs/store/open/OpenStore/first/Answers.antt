@@ -8,7 +8,7 @@ invariant_of-self g c = begun-others c.self.inside.world c.in_ok-listing.listing
 pub invariant_of-self-2 : goal.invariant_of-self-2
 invariant_of-self-2 g c =
     begun-one_more c.self.inside.world c.in_ok-listing.listing.folder c.self.inside.kept.items _ c.self.invariant c.in_ok-listing.listing
-        c.in_ok-listing.ensures.begun
+    c.in_ok-listing.ensures.begun
     c.in_ok-keep.ensures.ok
 
 pub returns : goal.returns
