@@ -231,7 +231,7 @@ fn main() {
             assert_eq!(names.len(), count * WIDTH);
             let mut load = (0.0, 0.0);
             for (kind, what) in [1, 0, 2, 3, 4, 5].map(|k| kinds[k as usize]) {
-                // A move from the front of the order shifts all rows behind, so 100,000 of them take too long.
+                // A move from the front of the order shifts the positions of all rows behind, so 100,000 of them take too long.
                 if kind == 3 && count == 100_000 {
                     continue;
                 }
@@ -262,7 +262,10 @@ fn main() {
                     a[0] / b[0],
                     a[a.len() - 1] / b[b.len() - 1],
                 );
-                println!("result: {what}, {count} {order}: {:.2} of plain Rust's time", mine / theirs);
+                // What is left beside the loading is no figure where it is small beside that.
+                if kind < 2 || mine > load.0 / 4.0 && theirs > load.1 / 4.0 {
+                    println!("result: {what}, {count} {order}: {:.2} of plain Rust's time", mine / theirs);
+                }
             }
         }
     }

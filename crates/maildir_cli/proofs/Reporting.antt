@@ -1,10 +1,11 @@
 -- Runs on threads: why there is no report, and what the next answer adds to one.
-use Rattle.std.proofs.Common.{◌≡◌, ℕ, ◌+◌, ◌<◌, ◌++◌, inl, inr, true, List, Result, Ok, Err, refl, sym, ap, subst, ◌∙◌, zero, suc, is_some, Option, Some, arith, add-one, append_assoc, append-nil, IfOk, OnOk}
+use Rattle.std.proofs.Common.{◌≡◌, ℕ, ◌+◌, ◌<◌, ◌++◌, inl, inr, true, List, Result, Ok, Err, refl, sym, ap, subst, ◌∙◌, zero, suc, is_some, Option, Some, None, Bool, All, [], ◌∷◌, arith, add-one, append_assoc, append-nil, IfOk, OnOk}
+use Rattle.std.proofs.lemmas.List.Elements.{All-push}
 use Rattle.std.specs.Global.{Vec}
 use Rattle.std.specs.declared.alloc.AllocError.{AllocError}
 use Rattle.md_core.specs.declared.jobs.answer.Answer.{Answer}
-use Rattle.md_core.specs.Machine.{Standing, job_at}
-use Rattle.md_core.specs.Runs.{Run, answer_of}
+use Rattle.md_core.specs.Machine.{Standing, Marked, marked, job_at}
+use Rattle.md_core.specs.Runs.{Run, answer_of, and_event, and_events}
 use Rattle.md_script.specs.declared.error.PlayError.{PlayError}
 use Rattle.md_script.specs.Reading.{IsWhole}
 use Rattle.md_script.specs.Sinks.{Sink, Untouched}
@@ -12,7 +13,7 @@ use Rattle.md_script.specs.Sources.{Source}
 use Rattle.md_script.specs.Texts.{answer_line}
 use Rattle.maildir_cli.specs.declared.fault.RunFault.{RunFault}
 use Rattle.maildir_cli.specs.declared.fault.RunFault.TheVariants.{Play, NoReader, Closed}
-use Rattle.maildir_cli.specs.Threading.{answers_text, report_of, AllAnswered, Interleaving, IsStop, IsUnreported, RunsThreads}
+use Rattle.maildir_cli.specs.Threading.{answers_text, report_of, AllAnswered, GoesOn, Interleaving, IsStop, IsUnreported, RunsThreads}
 
 -- one more answer
 pub answers-next : (jobs : List Standing) (n : ℕ) → answers_text jobs (n + 1) ≡ answers_text jobs n ++ answer_line (n + 1) (answer_of (job_at jobs (n + 1)))
@@ -47,6 +48,22 @@ pub more-answered : (jobs : List Standing) (n : ℕ) (a : Answer) → ((k : ℕ)
     answer_of (job_at jobs (n + 1)) ≡ Some a
     → (k : ℕ) → k < n + 1 → is_some (answer_of (job_at jobs (k + 1))) ≡ true
 more-answered jobs n a below has = below-next (λ k. is_some (answer_of (job_at jobs (k + 1))) ≡ true) n below (ap is_some has)
+
+-- a run goes on by no event
+pub none-more : (r : Run) → GoesOn r r
+none-more r = record { events = []; is = ap (λ es. record r { events = es }) (sym (append-nil r.events)); at_zero = λ k d within. absurd (omega arith) }
+
+-- a run that goes on at moment 0, and then by one more event at moment 0
+pub one-more : (begun r s : Run) (job : ℕ) (faulted : Bool) → GoesOn begun r → s ≡ and_event r (marked job 0 None faulted) → GoesOn begun s
+one-more begun r s job faulted before is =
+    let e : Marked = marked job 0 None faulted in
+    record {
+      events = before.events ++ e ∷ [];
+      is = is
+          ∙ ap (λ (x : Run). and_event x e) before.is
+          ∙ ap (λ (es : List Marked). record begun { events = es }) (append_assoc begun.events before.events (e ∷ []));
+      at_zero = All-push (λ (m : Marked). (m.event.now ≡ 0) × (m.event.own ≡ None)) before.events e before.at_zero (refl, refl);
+    }
 
 -- the report of an interleaving, where it is one once each job has its answer
 pub reported : (names : List (List ℕ)) (begun r : Run) (result : Result (Vec ℕ) AllocError) → (AllAnswered r → Interleaving begun r) →

@@ -1,5 +1,5 @@
 -- What a run on threads writes of a script, and where it is refused.
-use Rattle.std.specs.Prelude.{◌≡◌, ℕ, zero, suc, ◌+◌, ◌<◌, ◌⊎◌, true, List, [], ◌∷◌, ◌++◌, Result, Ok, Err, length, is_some, codes}
+use Rattle.std.specs.Prelude.{◌≡◌, ℕ, zero, suc, ◌+◌, ◌<◌, ◌⊎◌, true, List, [], ◌∷◌, ◌++◌, None, Result, Ok, Err, All, length, is_some, codes}
 use Rattle.md_core.specs.Machine.{Standing, Marked, job_at}
 use Rattle.md_core.specs.Mailbox.{Mailbox, mailbox_of}
 use Rattle.md_core.specs.Runs.{Run, dirs_of, jobs_of, failures_of, answer_of, and_events}
@@ -39,11 +39,16 @@ report_of names r = answers_text (jobs_of r) (length r.calls) ++ folders_text (m
 abbrev pub AllAnswered : Run → Type 0
 AllAnswered r = (n : ℕ) → n < length r.calls → is_some (answer_of (job_at (jobs_of r) (n + 1))) ≡ true
 
--- An interleaving of the jobs of a run to their answers, without a fault: its steps come in some order, each of a job that had no answer
--- yet. Of any such run the interleaving theorem holds.
-pub record Interleaving (begun : Run) (r : Run) : Type 0 where
+-- the run goes on from there by events at moment 0, at which no job has a moment of its own
+pub record GoesOn (begun r : Run) : Type 0 where
   pub events : List Marked
-  pub goes_on : r ≡ and_events begun events
+  pub is : r ≡ and_events begun events
+  pub at_zero : All (λ e. (e.event.now ≡ 0) × (e.event.own ≡ None)) events
+
+-- An interleaving of the jobs of a run to their answers, at moment 0 and without a fault: its steps come in some order, each of a job
+-- that had no answer yet. Of any such run the interleaving theorem holds.
+pub record Interleaving (begun : Run) (r : Run) : Type 0 where
+  pub goes_on : GoesOn begun r
   pub is_run : IsRun r
   pub faultless : failures_of r ≡ 0
   pub answered : AllAnswered r

@@ -3,8 +3,8 @@
 //! script's jobs by N threads, and prints their answers and the folders.
 //!
 //! It ends with status 0 where the script ran to its end or help was asked for; with 1 where a line was refused or reading, writing or
-//! memory failed, and then with one line `line N: TEXT` on standard error; and with 2 where its words are wrong, and then with one line
-//! that says so.
+//! memory failed, and then with one line `line N: TEXT` on standard error; and with 2 where its words are wrong, or one is not UTF-8, and
+//! then with one line that says so.
 #![tactic(auto)]
 
 ghost use Rattle.std.specs.Prelude.{◌≤◌};
@@ -24,6 +24,7 @@ use fault::RunFault;
 use indexing::run_index;
 use md_script::{PlayError, PlayKind, Reader, Writer, play};
 use std::alloc::AllocGlobal;
+use std::io::ErrorKind;
 use std::process::ExitCode;
 use std::sync::Wait;
 use std::thread::Threads;
@@ -41,9 +42,16 @@ const NO_MEMORY: PlayError = PlayError {
     kind: PlayKind::NoMemory,
 };
 
+const WRITE_FAULT: PlayError = PlayError {
+    line: 0,
+    kind: PlayKind::WriteFault,
+};
+
 fn main(rt: HostRuntime) -> ExitCode {
-    let Ok(args) = env::args(&rt) else {
-        return refuse(&rt, NO_MEMORY);
+    let args = match env::args(&rt) {
+        Ok(args) => args,
+        Err(error) if error.kind() == ErrorKind::OutOfMemory => return refuse(&rt, NO_MEMORY),
+        Err(_) => return refuse_words(&rt, "a word is not UTF-8"),
     };
     let Ok(args) = args.skip(1).collect::<Vec<String>>(rt.alloc()) else {
         return refuse(&rt, NO_MEMORY);
@@ -101,7 +109,7 @@ fn run_input<R: Threads + Wait + Sync>(rt: &HostRuntime, threads: &R, count: usi
 fn show(rt: &HostRuntime, text: &str) -> ExitCode {
     match print!(rt; "{text}") {
         Ok(()) => ExitCode::SUCCESS,
-        Err(_) => ExitCode::from(REFUSED),
+        Err(_) => refuse(rt, WRITE_FAULT),
     }
 }
 

@@ -1,11 +1,11 @@
 -- How far a look at all names of directories has come.
-use Rattle.std.specs.Prelude.{ℕ, ◌≡◌, ◌⊎◌, ◌==◌, nat_lt, max, Bool, ◌&&◌, ◌||◌, if◌then◌else◌}
-use Rattle.std.specs.Prelude.{List, [], length, filter, fold, Option, Some, None}
+use Rattle.std.specs.Prelude.{ℕ, ◌≡◌, ◌⊎◌, ◌==◌, nat_lt, Bool, ◌&&◌, ◌||◌, if◌then◌else◌}
+use Rattle.std.specs.Prelude.{List, [], length, filter, Option, Some, None}
 use Rattle.std.specs.List.{list_any}
 use Rattle.std.specs.Str.{bytes_eq}
 use Rattle.std.specs.FinMap as finmap
 use Rattle.md_dirs.specs.Path.{place_index, path_of}
-use Rattle.md_dirs.specs.State.{State, file_by}
+use Rattle.md_dirs.specs.State.{State}
 use Rattle.md_dirs.specs.declared.paths.Path.{Path}
 use Rattle.md_dirs.specs.declared.paths.Place.{Place}
 use Rattle.md_dirs.specs.declared.rows.RowRef.{RowRef}
@@ -15,7 +15,7 @@ use Rattle.md_core.specs.declared.error.CoreError.TheVariants as core
 use Rattle.md_core.specs.declared.world.looking.Seen.{Seen}
 use Rattle.md_core.specs.Mailbox.{is_tmp, is_message}
 use Rattle.md_core.specs.Loading.{is_bad_name, is_long_unique, most_unique_bytes, first_fault}
-use Rattle.md_core.specs.Runs.{stamp_of}
+use Rattle.md_core.specs.Runs.{clock_by}
 use Rattle.md_core.specs.Used.{is_among}
 
 -- whether a path is that of a message of the name
@@ -46,10 +46,6 @@ fault_after messages p =
     if is_bad_name p.name then Some core.BadName
     else (if is_long_unique p then Some core.LongUnique
     else (if is_message p && is_among (unique_of p.name) messages then Some core.DuplicateUnique else None))
-
--- the greatest stamp of the files of entries, or 0
-abbrev pub clock_by : State → List (Path × ℕ) → ℕ
-clock_by s es = fold (λ clock e. max clock (stamp_of (file_by s.files e.1))) 0 es
 
 -- What was seen of some entries, none of which has a fault: the unique names of messages, the names in tmp, and the greatest stamp.
 pub record IsLookOf (s : State) (es : List (Path × ℕ)) (seen : Seen) : Type 0 where

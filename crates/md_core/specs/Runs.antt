@@ -6,6 +6,7 @@ use Rattle.std.specs.Option.{option_and_then}
 use Rattle.std.specs.FinMap as finmap
 use Rattle.md_dirs.specs.State.{State, file_by}
 use Rattle.md_dirs.specs.declared.paths.File.{File}
+use Rattle.md_dirs.specs.declared.paths.Path.{Path}
 use Rattle.md_core.specs.Mailbox.{Mailbox, mailbox_of}
 use Rattle.md_core.specs.declared.error.CoreError.{CoreError}
 use Rattle.md_core.specs.declared.error.CoreError.TheVariants as core
@@ -33,9 +34,13 @@ abbrev pub stamp_of : Option File → ℕ
 stamp_of None = 0
 stamp_of (Some file) = file.stamp
 
+-- the greatest stamp of the files of entries, or 0
+abbrev pub clock_by : State → List (Path × ℕ) → ℕ
+clock_by s es = fold (λ clock e. max clock (stamp_of (file_by s.files e.1))) 0 es
+
 -- the greatest stamp of all files that have a name, or 0
 abbrev pub first_clock : State → ℕ
-first_clock s = fold (λ clock e. max clock (stamp_of (file_by s.files e.1))) 0 (finmap.entries s.names)
+first_clock s = clock_by s (finmap.entries s.names)
 
 -- the machine before the first event, with all jobs
 abbrev pub beginning : State → List Call → Machine
@@ -77,9 +82,6 @@ call_at calls (suc i) = slice_get calls i
 
 abbrev pub dirs_of : Run → State
 dirs_of r = (machine_of r).dirs
-
-abbrev pub clock_of : Run → ℕ
-clock_of r = (machine_of r).clock
 
 abbrev pub jobs_of : Run → List Standing
 jobs_of r = (machine_of r).jobs

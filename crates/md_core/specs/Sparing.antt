@@ -1,4 +1,4 @@
--- The cleaner's theorem: a clean spares the deliveries that go on.
+-- The cleaner's theorem: no delivery is answered that a clean took its file, and a clean takes it late.
 use Rattle.std.specs.Prelude.{ℕ, ◌≡◌, ◌≢◌, ◌+◌, ◌≤◌, List, Some}
 use Rattle.md_dirs.specs.Path.{path_of as path}
 use Rattle.md_dirs.specs.declared.paths.Place.TheVariants.{Tmp}

@@ -14,7 +14,8 @@ pub enum CoreError {
     /// A unique part met before in new or cur of any folder.
     #[error("duplicate unique")]
     DuplicateUnique,
-    /// A delivery under a name that is used.
+    /// A delivery or a copy under a name that is used: one that the directories held when they were loaded, as a message's unique part or as
+    /// a whole name in tmp, or that an earlier delivery or copy was submitted with.
     #[error("name used")]
     NameUsed,
     /// A folder number that isn't there.
@@ -23,7 +24,7 @@ pub enum CoreError {
     /// A move into the folder where the message is looked for.
     #[error("same folder")]
     SameFolder,
-    /// A name that is no unique name.
+    /// A unique name that is empty, over 200 bytes, begins with a dot, or holds a colon, a slash, NUL, LF or CR (maildir(5)).
     #[error("bad unique")]
     BadUnique,
     /// Not 1 to 16 tries.

@@ -1,5 +1,5 @@
 // The names that are used up, looked up by their hash.
-ghost use Rattle.std.specs.Prelude.{◌≡◌, ◌||◌, ◌++◌, [], OnOk, OnErr};
+ghost use Rattle.std.specs.Prelude.{◌≡◌, ◌||◌, ◌++◌, [], not, OnOk, OnErr, IfOk};
 ghost use Rattle.std.specs.Str.{bytes_eq};
 ghost use Rattle.md_core.specs.Used.{is_among};
 
@@ -41,14 +41,14 @@ impl NameSet {
         self.names.contains(name)
     }
 
-    /// Adds a name. After a refusal nothing has changed.
-    pub(crate) fn insert(&mut self, name: &[u8]) -> Result<(), AllocError>
+    /// Adds a name, and answers whether it is new. After a refusal nothing has changed.
+    pub(crate) fn insert(&mut self, name: &[u8]) -> Result<bool, AllocError>
+        ensures new { IfOk result (λ is_new. is_new ≡ not (is_among name.now self.old)) }
         ensures ok { OnOk result ((u : _) → is_among u self.new ≡ (bytes_eq name.now u || is_among u self.old)) }
         ensures err { OnErr result (self.new ≡ self.old) }
     {
         let name = Vec::from_slice(self.alloc, name)?;
-        let _is_new = self.names.insert(name)?;
-        Ok(())
+        Ok(self.names.insert(name)?)
     }
 }
 
@@ -95,6 +95,7 @@ impl UsedNames {
         ensures ok { OnOk result ((u : _) → is_among u self.new ≡ (bytes_eq name.now u || is_among u self.old)) }
         ensures err { OnErr result (self.new ≡ self.old) }
     {
-        self.messages.insert(name)
+        self.messages.insert(name)?;
+        Ok(())
     }
 }

@@ -6,18 +6,18 @@ use Rattle.std.specs.declared.cmp.Ordering.{Ordering}
 use Rattle.std.specs.declared.cmp.Ordering.TheVariants.{Less, Equal, Greater}
 use Rattle.std.specs.Ordering.{eq_by_cmp, is_lt, is_eq}
 use Rattle.std.specs.FinMap as finmap
-use Rattle.std.specs.FinMap.{find, is_sorted, entries, entries_sorted, from_sorted, entries-from_sorted, get-from_sorted, get-entries, get-remove, entries-insert, same_map}
-use Rattle.std.specs.FinMap.Entries.{put, where_key, below_all, by_order, is_sorted-where_key}
+use Rattle.std.specs.FinMap.{find, is_sorted, entries, entries_sorted, get-entries, entries-insert}
+use Rattle.std.specs.FinMap.Entries.{put, where_key, below_all, by_order}
 use Rattle.md_dirs.specs.Path.{path_cmp}
 use Rattle.md_dirs.specs.State.{file_by}
-use Rattle.md_dirs.specs.Calls.{is_named, released}
+use Rattle.md_dirs.specs.Calls.{has_path_to, released}
 use Rattle.md_dirs.specs.Index.{PathMap}
 use Rattle.md_dirs.specs.Files.{files_of, slot_at, names_held, paths_of, named_less, let_go}
 use Rattle.md_dirs.specs.declared.paths.Path.{Path}
 use Rattle.md_dirs.specs.declared.paths.File.{File}
 use Rattle.md_dirs.specs.declared.files.Kept.{Kept}
 use Rattle.md_dirs.proofs.PathOrder.{path_total, path_exact}
-use Rattle.md_dirs.proofs.Kept.{find-other}
+use Rattle.md_dirs.proofs.Maps.{entries-remove}
 use Rattle.md_dirs.proofs.Sound.{by_number, get-set_same, get-set_other}
 use Rattle.md_dirs.proofs.Sorted.{first, second, less}
 
@@ -91,15 +91,6 @@ count-drop n p (e ∷ es) h = by (count-drop n p es (second _ _ h)) (path_cmp p 
     by rest Equal is = let all = ap (counted n) (where-above p es (tied-above p e es is (first _ _ h))) in omega (arith, all)
     by rest Greater is = omega (arith, rest)
 
-entries-remove : (m : PathMap) (p : Path) → entries (finmap.remove m p) ≡ where_key path_cmp (λ q. not (eq_by_cmp path_cmp p q)) (entries m)
-entries-remove m p =
-    let rows = where_key path_cmp (λ q. not (eq_by_cmp path_cmp p q)) (entries m) in
-    let sorted = is_sorted-where_key path_cmp (λ q. not (eq_by_cmp path_cmp p q)) (entries m) (entries_sorted m) in
-    let same : finmap.remove m p ≡ from_sorted rows = same_map path_total path_exact _ _ (λ q.
-    get-remove path_total m p q ∙ ap (cond (eq_by_cmp path_cmp q p) None) (get-entries m q) ∙ sym (find-other p q (entries m)) ∙
-    sym (get-from_sorted path_cmp rows q sorted)) in
-    ap entries same ∙ entries-from_sorted path_cmp rows sorted
-
 pub paths-insert : (n : ℕ) (m : PathMap) (p : Path) (v : ℕ) → paths_of (finmap.insert m p v) n + hits n (finmap.get m p) ≡ paths_of m n + hits n (Some v)
 paths-insert n m p v =
     (λ i. (ap (λ es. length (filter (λ e. e.1 == n) es)) (entries-insert path_total m p v) ∙ counted-is n _) i + hits n (get-entries m p i))
@@ -107,17 +98,17 @@ paths-insert n m p v =
 
 pub paths-remove : (n : ℕ) (m : PathMap) (p : Path) → paths_of (finmap.remove m p) n + hits n (finmap.get m p) ≡ paths_of m n
 paths-remove n m p =
-    (λ i. (ap (λ es. length (filter (λ e. e.1 == n) es)) (entries-remove m p) ∙ counted-is n _) i + hits n (get-entries m p i))
+    (λ i. (ap (λ es. length (filter (λ e. e.1 == n) es)) (entries-remove path_total path_exact m p) ∙ counted-is n _) i + hits n (get-entries m p i))
     ∙ count-drop n p (entries m) (entries_sorted m) ∙ sym (counted-is n (entries m))
 
 -- whether some path names a file, by how many do
-named-count : (n : ℕ) (es : List (Path × ℕ)) (b : Bool) → is_named es n ≡ b → cond b (0 < counted n es) (counted n es ≡ 0)
+named-count : (n : ℕ) (es : List (Path × ℕ)) (b : Bool) → has_path_to es n ≡ b → cond b (0 < counted n es) (counted n es ≡ 0)
 unfolding counted
 named-count n [] true is = cc
 named-count n [] false is = refl
 named-count n (e ∷ es) b is = by (named-count n es) (e.1 == n) refl is
   where
-    by : ((x : Bool) → is_named es n ≡ x → cond x (0 < counted n es) (counted n es ≡ 0)) → (t : Bool) → (e.1 == n) ≡ t → (t || is_named es n) ≡ b →
+    by : ((x : Bool) → has_path_to es n ≡ x → cond x (0 < counted n es) (counted n es ≡ 0)) → (t : Bool) → (e.1 == n) ≡ t → (t || has_path_to es n) ≡ b →
         cond b (0 < cond t 1 0 + counted n es) (cond t 1 0 + counted n es ≡ 0)
     by rest true t h = subst (λ x. cond x (0 < 1 + counted n es) (1 + counted n es ≡ 0)) h (omega arith)
     by rest false t h = later b (rest b h)
@@ -206,7 +197,7 @@ let_go-counted names slots (Some m) is n = by_number n m
 pub let_go-files : (names : PathMap) (slots : List (Option Kept)) (o : Option ℕ) →
     ((n : ℕ) → paths_of names n + hits n o ≡ names_held (slot_at slots n)) → files_of (let_go o slots) ≡ released (entries names) o (files_of slots)
 let_go-files names slots None is = refl
-let_go-files names slots (Some n) is = by (slot_at slots n) refl (is_named (entries names) n) refl
+let_go-files names slots (Some n) is = by (slot_at slots n) refl (has_path_to (entries names) n) refl
   where
     one : hits n (Some n) ≡ 1
     one = let t : (n == n) ≡ true = grind (arith, nat_tests) in ap (λ b. cond b 1 0) t
@@ -214,7 +205,7 @@ let_go-files names slots (Some n) is = by (slot_at slots n) refl (is_named (entr
     shown : Option Kept → Option File
     shown = option_map (λ (k : Kept). k.file)
 
-    by : (s : Option Kept) → slot_at slots n ≡ s → (b : Bool) → is_named (entries names) n ≡ b →
+    by : (s : Option Kept) → slot_at slots n ≡ s → (b : Bool) → has_path_to (entries names) n ≡ b →
         files_of (slice_set slots n (named_less (slot_at slots n))) ≡ cond b (files_of slots) (slice_set (files_of slots) n None)
     by None at b named = absurd (let h = is n in let h' : names_held (slot_at slots n) ≡ 0 = ap names_held at in let o = one in omega arith)
     by (Some k) at true named =

@@ -63,9 +63,7 @@ counted-none folders names slots none none' =
         (λ i. paths_of (none i) n) ∙ ap (λ es. length (filter (λ (e : Path × ℕ). e.1 == n) es)) entries-empty ∙ sym (λ i. names_held (slot_at (none' i) n))
 
 pub remove-absent : (m : PathMap) (p : Path) → finmap.get m p ≡ None → finmap.remove m p ≡ m
-remove-absent m p none = same_map path_total path_exact _ _ (λ q. by_path q p
-    (λ one. maps.at_drop path_total path_exact m p q one ∙ sym (ap (finmap.get m) one ∙ none))
-    (λ differ. maps.beside_drop path_total path_exact m p q differ))
+remove-absent m p none = maps.drop-absent path_total path_exact m p none
 
 swap-names : (m : PathMap) (o n : Path) (k : ℕ) → o ≢ n → finmap.remove (finmap.insert m n k) o ≡ finmap.insert (finmap.remove m o) n k
 swap-names m o n k differ = same_map path_total path_exact _ _ (λ q. by_path q o

@@ -1,10 +1,9 @@
 -- What the calls leave of rows in order, and of what they mean.
-use Rattle.std.proofs.Common.{ℕ, ◌≡◌, ◌≢◌, List, [], Option, Some, None, Bool, true, false, cond, not, IsTrue, Ok, Err, insert, remove, refl, sym, ap, subst, ◌∙◌, length}
+use Rattle.std.proofs.Common.{ℕ, ◌≡◌, ◌≢◌, List, [], Some, None, cond, not, IsTrue, Ok, Err, insert, remove, refl, sym, ap, subst, ◌∙◌, length}
 use Rattle.std.specs.Ordering.{eq_by_cmp}
-use Rattle.std.specs.Cmp.{eq_by_cmp_equiv}
 use Rattle.std.specs.FinMap as finmap
 use Rattle.std.specs.FinMap.{find, is_sorted, same_map, same_entries_map, get-from_sorted, entries-from_sorted, entries-insert, get-remove, from_sorted, empty_of_len, len-entries}
-use Rattle.std.specs.FinMap.Entries.{put, where_key, is_sorted-put, is_sorted-where_key, find-where_key}
+use Rattle.std.specs.FinMap.Entries.{put, is_sorted-put, is_sorted-where_key}
 use Rattle.md_dirs.specs.Path.{path_cmp}
 use Rattle.md_dirs.specs.Plain.{IsAt, IsGap}
 use Rattle.md_dirs.specs.State.{State}
@@ -13,44 +12,35 @@ use Rattle.md_dirs.specs.declared.paths.Path.{Path}
 use Rattle.md_dirs.specs.declared.calls.DirError.{DirError}
 use Rattle.md_dirs.specs.declared.calls.DirError.TheVariants.{Exists, NotFound, Fault, NoMemory}
 use Rattle.md_dirs.proofs.PathOrder.{path_total, path_exact}
+use Rattle.md_dirs.proofs.Maps.{find-other}
 use Rattle.md_dirs.proofs.Sorted.{holds, is_true}
 
 abbrev pub Sorted : List (Path × ℕ) → Type 0
 Sorted es = IsTrue (is_sorted path_cmp es)
 
-pub sorted-insert : (rows : List (Path × ℕ)) (p : Path) (i n : ℕ) → Sorted rows → IsGap rows p i → Sorted (insert rows i (p, n))
+pub sorted-insert : (rows : List (Path × ℕ)) (p : Path) (i n : ℕ) → Sorted rows → IsGap path_cmp rows p i → Sorted (insert rows i (p, n))
 sorted-insert rows p i n sorted gap = subst Sorted (gap.placed n) (is_true _ (is_sorted-put path_cmp path_total p n rows (holds _ sorted)))
 
-pub names-insert : (rows : List (Path × ℕ)) (p : Path) (i n : ℕ) → Sorted rows → IsGap rows p i →
+pub names-insert : (rows : List (Path × ℕ)) (p : Path) (i n : ℕ) → Sorted rows → IsGap path_cmp rows p i →
     from_sorted {R = path_cmp} (insert rows i (p, n)) ≡ finmap.insert (from_sorted rows) p n
 names-insert rows p i n sorted gap =
     same_entries_map _ _ (entries-from_sorted path_cmp _ (holds _ (sorted-insert rows p i n sorted gap)) ∙ sym (gap.placed n)
     ∙ ap (put path_cmp p n) (sym (entries-from_sorted path_cmp rows (holds _ sorted))) ∙ sym (entries-insert path_total (from_sorted rows) p n))
 
-pub sorted-remove : (rows : List (Path × ℕ)) (p : Path) (i : ℕ) → Sorted rows → IsAt rows p i → Sorted (remove rows i)
+pub sorted-remove : (rows : List (Path × ℕ)) (p : Path) (i : ℕ) → Sorted rows → IsAt path_cmp rows p i → Sorted (remove rows i)
 sorted-remove rows p i sorted at =
     subst Sorted at.taken_out (is_true _ (is_sorted-where_key path_cmp (λ q. not (eq_by_cmp path_cmp p q)) rows (holds _ sorted)))
-
-turned : (b : Bool) (x y : Option ℕ) → cond (not b) x y ≡ cond b y x
-turned true x y = refl
-turned false x y = refl
 
 pub at-names : (rows : List (Path × ℕ)) (p : Path) → Sorted rows → finmap.get (from_sorted {R = path_cmp} rows) p ≡ find path_cmp p rows
 at-names rows p sorted = get-from_sorted path_cmp rows p (holds _ sorted)
 
-pub find-other : (p q : Path) (rows : List (Path × ℕ)) →
-    find path_cmp q (where_key path_cmp (λ x. not (eq_by_cmp path_cmp p x)) rows) ≡ cond (eq_by_cmp path_cmp q p) None (find path_cmp q rows)
-find-other p q rows =
-    find-where_key path_cmp (λ x. not (eq_by_cmp path_cmp p x)) q (λ x h. ap (λ y. not (eq_by_cmp path_cmp p y)) (sym (path_exact q x h))) rows
-    ∙ turned (eq_by_cmp path_cmp p q) (find path_cmp q rows) None
-    ∙ ap (λ b. cond b None (find path_cmp q rows)) ((eq_by_cmp_equiv path_total).symm p q)
-
-pub names-remove : (rows : List (Path × ℕ)) (p : Path) (i : ℕ) → Sorted rows → IsAt rows p i →
+pub names-remove : (rows : List (Path × ℕ)) (p : Path) (i : ℕ) → Sorted rows → IsAt path_cmp rows p i →
     from_sorted {R = path_cmp} (remove rows i) ≡ finmap.remove (from_sorted rows) p
 names-remove rows p i sorted at =
     same_map path_total path_exact _ _ (λ q.
     get-from_sorted path_cmp (remove rows i) q (holds _ (sorted-remove rows p i sorted at)) ∙ ap (find path_cmp q) (sym at.taken_out)
-    ∙ find-other p q rows ∙ ap (λ o. cond (eq_by_cmp path_cmp q p) None o) (sym (at-names rows q sorted)) ∙ sym (get-remove path_total (from_sorted rows) p q))
+    ∙ find-other path_total path_exact p q rows ∙ ap (λ o. cond (eq_by_cmp path_cmp q p) None o) (sym (at-names rows q sorted)) ∙
+    sym (get-remove path_total (from_sorted rows) p q))
 
 -- a call that is refused
 pub refused : {T : Type 0} (ask : Ask) (old : State) (f : ℕ) (e : DirError) → ask.refusal old ≡ Some e → e ≢ Fault → e ≢ NoMemory →

@@ -13,7 +13,7 @@ pub mod Counted
 pub mod Hashed
 pub mod NameRows
 pub mod Renamed
-pub mod Behind
+pub mod Ordered
 pub mod Zones
 pub mod Directories
 pub mod Sliced

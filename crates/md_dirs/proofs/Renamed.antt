@@ -1,19 +1,18 @@
 -- A row that takes the place of one: the rows stay in order, and the names are as after a name that comes and one that goes.
-use Rattle.std.proofs.Common.{ℕ, zero, suc, ◌≡◌, ◌+◌, ◌-◌, ◌<◌, ◌++◌, List, [], ◌∷◌, Option, Some, None, Bool, true, false, cond, T, ◌&&◌, IsTrue, length, refl, sym, ap, subst, ◌∙◌, arith, get_or, slice_set, swap, IsSome}
+use Rattle.std.proofs.Common.{ℕ, zero, suc, ◌≡◌, ◌<◌, ◌++◌, List, [], ◌∷◌, Option, Some, None, Bool, true, false, cond, T, length, refl, sym, ap, ◌∙◌, arith, get_or, slice_set, swap, IsSome}
 use Rattle.std.specs.declared.cmp.Ordering.{Ordering}
 use Rattle.std.specs.declared.cmp.Ordering.TheVariants.{Less, Equal, Greater}
 use Rattle.std.specs.declared.vec.Vec.{Vec}
-use Rattle.std.specs.Ordering.{eq_by_cmp, is_lt, is_eq, ordering_reverse}
+use Rattle.std.specs.Ordering.{eq_by_cmp, is_eq, ordering_reverse}
 use Rattle.std.specs.Option.{option_to_list}
 use Rattle.std.specs.Map.{lookup_key}
 use Rattle.std.proofs.lemmas.List.Edits.{swap_is}
 use Rattle.std.specs.FinMap as finmap
-use Rattle.std.specs.FinMap.{is_sorted, from_sorted, same_map, get-insert, get-remove}
+use Rattle.std.specs.FinMap.{from_entries, same_map, get-insert, get-remove}
 use Rattle.std.specs.FinMap.Entries.{below_all}
-use Rattle.md_dirs.specs.Index.{name_cmp, rows_by_name, FitsAt, Renames}
-use Rattle.md_dirs.proofs.Sorted.{holds, is_true, first, second, both, less}
-use Rattle.md_dirs.proofs.Counted.{map-set}
-use Rattle.md_dirs.proofs.NameRows.{Row, InOrder, by, same, name_total, name_exact, get-rows, length-rows, below-trans, turned-test, renamed-lookups, is_less}
+use Rattle.md_dirs.specs.Index.{name_cmp, rows_by_name, Renames}
+use Rattle.md_dirs.proofs.Sorted.{first, second, less}
+use Rattle.md_dirs.proofs.NameRows.{Row, by, same, name_total, name_exact, get-loose, turned-test, renamed-lookups}
 
 -- lists
 set-front : {X : Type 0} (xs : List X) (i : ℕ) (x y : X) → i < length xs → slice_set (xs ++ x ∷ []) i y ≡ slice_set xs i y ++ x ∷ []
@@ -70,53 +69,17 @@ pub taken-off : {X : Type 0} (xs fs : List X) (x : X) (r : Option X) → xs ++ x
 taken-off {X = X} xs fs x None is some = let h = long-end xs x in let no : IsSome {T = X} None = some (omega arith) in cc
 taken-off xs fs x (Some y) is some = let parts = last-of xs fs x y is in (sym parts.0, ap Some (sym parts.1))
 
--- rows in order, one of them in another's place
-below-set : (x : List ℕ) (es : List (List ℕ × ℕ)) (i : ℕ) (e : List ℕ × ℕ) → name_cmp x e.0 ≡ Less → T (below_all name_cmp x es) →
-    T (below_all name_cmp x (slice_set es i e))
-below-set x [] i e is h = tt
-below-set x (f ∷ es) zero e is h = both _ _ (is_less x e.0 is) (second _ _ h)
-below-set x (f ∷ es) (suc i) e is h = both _ _ (first _ _ h) (below-set x es i e is (second _ _ h))
-
+-- rows in order
 pub below-at : (x : List ℕ) (es : List (List ℕ × ℕ)) (i : ℕ) (d : List ℕ × ℕ) → i < length es → T (below_all name_cmp x es) →
     name_cmp x (get_or es i d).0 ≡ Less
 below-at x [] i d within h = absurd (omega arith)
 below-at x (e ∷ es) zero d within h = less _ (first _ _ h)
 below-at x (e ∷ es) (suc i) d within h = below-at x es i d (omega arith) (second _ _ h)
 
-turned : (x y : List ℕ) → name_cmp y x ≡ Greater → name_cmp x y ≡ Less
+pub turned : (x y : List ℕ) → name_cmp y x ≡ Greater → name_cmp x y ≡ Less
 turned x y is = name_total.antisymm x y ∙ ap ordering_reverse is
 
-sorted-set : (es : List (List ℕ × ℕ)) (i : ℕ) (e : List ℕ × ℕ) → i < length es → T (is_sorted name_cmp es)
-    → (0 < i → name_cmp (get_or es (i - 1) ([], 0)).0 e.0 ≡ Less) → (i + 1 < length es → name_cmp (get_or es (i + 1) ([], 0)).0 e.0 ≡ Greater) →
-    T (is_sorted name_cmp (slice_set es i e))
-sorted-set [] i e within h after before = absurd (omega arith)
-sorted-set (f ∷ []) zero e within h after before = tt
-sorted-set (f ∷ g ∷ es) zero e within h after before =
-    let above = turned e.0 g.0 (before (omega arith)) in
-    both _ _ (both _ _ (is_less e.0 g.0 above) (below-trans e.0 g.0 es above (first _ _ (second _ _ h)))) (second _ _ h)
-sorted-set (f ∷ es) (suc zero) e within h after before =
-    both _ _ (below-set f.0 es 0 e (after (omega arith)) (first _ _ h))
-    (sorted-set es 0 e (omega arith) (second _ _ h) (λ no. absurd (omega arith)) (λ more. before (omega arith)))
-sorted-set (f ∷ es) (suc (suc i)) e within h after before =
-    let behind : suc (suc i) - 1 ≡ suc i = omega arith in
-    let one : suc (suc i) + 1 ≡ suc (suc i + 1) = omega arith in
-    let lower : name_cmp (get_or es i ([], 0)).0 e.0 ≡ Less =
-    subst (λ (k : ℕ). name_cmp (get_or (f ∷ es) k ([], 0)).0 e.0 ≡ Less) behind (after (omega arith)) in
-    let here : name_cmp f.0 (get_or es i ([], 0)).0 ≡ Less = below-at f.0 es i ([], 0) (omega arith) (first _ _ h) in
-    both _ _ (below-set f.0 es (suc i) e (name_total.trans f.0 (get_or es i ([], 0)).0 e.0 here lower) (first _ _ h))
-    (sorted-set es (suc i) e (omega arith) (second _ _ h)
-    (λ some. subst (λ (k : ℕ). name_cmp (get_or es k ([], 0)).0 e.0 ≡ Less) (sym (omega arith)) lower)
-    (λ more. subst (λ (k : ℕ). name_cmp (get_or (f ∷ es) k ([], 0)).0 e.0 ≡ Greater) one (before (omega arith))))
-
 module _ {Z : Type 0} where
-  pub in_order-set : (es : List (Row Z)) (i : ℕ) (e : Row Z) → i < length es → InOrder es → FitsAt (rows_by_name es) i e.0.items → InOrder (slice_set es i e)
-  in_order-set es i e within sorted fits =
-      let rows = rows_by_name es in
-      let long : i < length rows = omega (arith, length-rows es) in
-      let is : rows_by_name (slice_set es i e) ≡ slice_set rows i (e.0.items, e.1) = map-set (λ (x : Row Z). (x.0.items, x.1)) es i e in
-      subst (λ (xs : List (List ℕ × ℕ)). IsTrue (is_sorted name_cmp xs)) (sym is)
-      (is_true _ (sorted-set rows i (e.0.items, e.1) long (holds _ sorted) fits.after fits.before))
-
   -- the key that was found is the name
   pub found-key : (q : List ℕ) (es : List (Row Z)) (k : Vec ℕ Z) → Some k ≡ lookup_key (by q) es → k.items ≡ q
   found-key q [] k is = cc
@@ -134,12 +97,11 @@ module _ {Z : Type 0} where
           ap (λ (x : Vec ℕ Z). x.items) key ∙ name_exact e.0.items q tie
       at rest false t h = rest h
 
-  pub renamed-is : (es fs : List (Row Z)) (i : ℕ) (o : List ℕ) (k : Vec ℕ Z) (v : ℕ) → InOrder es → InOrder fs → (r : Renames es i k.items v fs) →
-      r.row.0.items ≡ o
-      → from_sorted {R = name_cmp} (rows_by_name fs) ≡ finmap.remove (finmap.insert (from_sorted (rows_by_name es)) k.items v) o
-  renamed-is es fs i o k v sorted sorted' renames key = same_map name_total name_exact _ _ (λ q.
-      get-rows fs q sorted'
+  pub renamed-is : (es fs : List (Row Z)) (i : ℕ) (o : List ℕ) (k : Vec ℕ Z) (v : ℕ) → (r : Renames es i k.items v fs) → r.row.0.items ≡ o
+      → from_entries {R = name_cmp} (rows_by_name fs) ≡ finmap.remove (finmap.insert (from_entries (rows_by_name es)) k.items v) o
+  renamed-is es fs i o k v renames key = same_map name_total name_exact _ _ (λ q.
+      get-loose fs q
       ∙ renamed-lookups es fs renames.row.0 k v renames.names q
-      ∙ (λ j. cond (turned-test (key j) q j) None (cond (turned-test k.items q j) (Some v) (sym (get-rows es q sorted) j)))
-      ∙ sym (get-remove name_total (finmap.insert (from_sorted (rows_by_name es)) k.items v) o q ∙
-      ap (λ x. cond (eq_by_cmp name_cmp q o) None x) (get-insert name_total (from_sorted (rows_by_name es)) k.items v q)))
+      ∙ (λ j. cond (turned-test (key j) q j) None (cond (turned-test k.items q j) (Some v) (sym (get-loose es q) j)))
+      ∙ sym (get-remove name_total (finmap.insert (from_entries (rows_by_name es)) k.items v) o q ∙
+      ap (λ x. cond (eq_by_cmp name_cmp q o) None x) (get-insert name_total (from_entries (rows_by_name es)) k.items v q)))

@@ -1,10 +1,9 @@
 -- The rows of one directory, side by side among all rows in order.
-use Rattle.std.proofs.Common.{ℕ, zero, suc, ◌≡◌, ◌≢◌, ◌+◌, ◌-◌, ◌<◌, ◌≤◌, ◌&&◌, List, [], ◌∷◌, Bool, true, false, cond, T, nat_lt, leb, ltb, ltb-true, ltb-false, leb-true, leb-false, refl, sym, ap, subst, ◌∙◌, arith, length, map, filter, take, drop, get_or, slice_get, Option}
+use Rattle.std.proofs.Common.{ℕ, zero, suc, ◌≡◌, ◌≢◌, ◌+◌, ◌-◌, ◌<◌, ◌≤◌, List, [], ◌∷◌, Bool, true, false, cond, T, nat_lt, leb, ltb, ltb-true, ltb-false, leb-true, leb-false, refl, sym, ap, subst, ◌∙◌, arith, length, map, filter, take, drop, get_or, slice_get, Option}
 use Rattle.std.proofs.lemmas.Bool.Decides.{nat_tests}
 use Rattle.std.specs.Option.{option_map}
 use Rattle.std.specs.List.Sorted.{IsNonDecreasingBy, IsPartitionPoint}
-use Rattle.std.specs.declared.cmp.Ordering.{Ordering}
-use Rattle.std.specs.declared.cmp.Ordering.TheVariants.{Less, Equal, Greater}
+use Rattle.std.specs.declared.cmp.Ordering.TheVariants.{Less, Greater}
 use Rattle.std.specs.Ordering.{is_lt, ordering_reverse}
 use Rattle.std.specs.FinMap.{is_sorted, from_sorted, entries-from_sorted}
 use Rattle.std.specs.FinMap.Entries.{below_all}

@@ -7,7 +7,7 @@ use Rattle.std.specs.FinMap as finmap
 use Rattle.std.specs.FinMap.{get-empty, entries, entries_sorted, get-entries}
 use Rattle.md_dirs.specs.Path.{path_cmp}
 use Rattle.md_dirs.specs.State.{State, IsSound, bare, file_at, file_by}
-use Rattle.md_dirs.specs.Calls.{placed, created, empty_file, appended, grown, named, unnamed, without, moved, swept, is_named, is_one_file}
+use Rattle.md_dirs.specs.Calls.{placed, created, empty_file, appended, grown, named, unnamed, without, moved, swept, has_path_to, is_one_file}
 use Rattle.md_dirs.specs.declared.paths.Path.{Path}
 use Rattle.md_dirs.specs.declared.paths.File.{File}
 use Rattle.md_dirs.proofs.PathOrder.{path_total, path_exact}
@@ -83,32 +83,33 @@ pub file_by-last : (files : List (Option File)) (o : Option File) → file_by (f
 file_by-last files o = ap option_flatten (get-last files o)
 
 -- whether a path names a file
-named-among : (q : Path) (n : ℕ) (rows : List (Path × ℕ)) → Among (q, n) rows → is_named rows n ≡ true
+named-among : (q : Path) (n : ℕ) (rows : List (Path × ℕ)) → Among (q, n) rows → has_path_to rows n ≡ true
 named-among q n [] among = absurd among
 named-among q n (e ∷ es) among = elim among [
   | inl is ↦
       let number : n ≡ e.1 = ap (λ (x : Path × ℕ). x.1) is in
       let same : (e.1 == n) ≡ true = grind (arith, nat_tests) in
-      ap (λ b. b || is_named es n) same
+      ap (λ b. b || has_path_to es n) same
   | inr later ↦ by (e.1 == n) (named-among q n es later)
 ]
   where
-    by : (b : Bool) → is_named es n ≡ true → (b || is_named es n) ≡ true
+    by : (b : Bool) → has_path_to es n ≡ true → (b || has_path_to es n) ≡ true
     by true h = refl
     by false h = h
 
-among-named : (n : ℕ) (rows : List (Path × ℕ)) → is_named rows n ≡ true → (q : Path) × Among (q, n) rows
+among-named : (n : ℕ) (rows : List (Path × ℕ)) → has_path_to rows n ≡ true → (q : Path) × Among (q, n) rows
 among-named n [] is = cc
 among-named n (e ∷ es) is = by (among-named n es) (e.1 == n) refl is
   where
-    by : (is_named es n ≡ true → (q : Path) × Among (q, n) es) → (b : Bool) → (e.1 == n) ≡ b → (b || is_named es n) ≡ true → (q : Path) × Among (q, n) (e ∷ es)
+    by : (has_path_to es n ≡ true → (q : Path) × Among (q, n) es) → (b : Bool) → (e.1 == n) ≡ b → (b || has_path_to es n) ≡ true →
+        (q : Path) × Among (q, n) (e ∷ es)
     by rest true t h = let number : n ≡ e.1 = grind (arith, nat_tests) in (e.0, inl (λ i. (e.0, number i)))
     by rest false t h = let later = rest h in (later.0, inr later.1)
 
-pub path-named : (s : State) (q : Path) (n : ℕ) → file_at s q ≡ Some n → is_named (entries s.names) n ≡ true
+pub path-named : (s : State) (q : Path) (n : ℕ) → file_at s q ≡ Some n → has_path_to (entries s.names) n ≡ true
 path-named s q n at = named-among q n (entries s.names) (find-among q n (entries s.names) (sym (get-entries s.names q) ∙ at))
 
-pub named-path : (s : State) (n : ℕ) → is_named (entries s.names) n ≡ true → (q : Path) × (file_at s q ≡ Some n)
+pub named-path : (s : State) (n : ℕ) → has_path_to (entries s.names) n ≡ true → (q : Path) × (file_at s q ≡ Some n)
 named-path s n is =
     let some = among-named n (entries s.names) is in
     (some.0, get-entries s.names some.0 ∙ among-find (some.0, n) (entries s.names) (entries_sorted s.names) some.1)
@@ -116,12 +117,12 @@ named-path s n is =
 -- what is named is not given back
 pub swept-kept : (o : Option ℕ) (s : State) (q : Path) (m : ℕ) → file_at s q ≡ Some m → file_by (swept o s).files m ≡ file_by s.files m
 swept-kept None s q m at = refl
-swept-kept (Some n) s q m at = by (is_named (entries s.names) n) refl
+swept-kept (Some n) s q m at = by (has_path_to (entries s.names) n) refl
   where
-    by : (b : Bool) → is_named (entries s.names) n ≡ b → file_by (cond b s.files (slice_set s.files n None)) m ≡ file_by s.files m
+    by : (b : Bool) → has_path_to (entries s.names) n ≡ b → file_by (cond b s.files (slice_set s.files n None)) m ≡ file_by s.files m
     by true is = refl
-    by false is = file_by-set_other s.files n m None (λ same. let h = path-named s q m at in let g : is_named (entries s.names) m ≡ false =
-        ap (is_named (entries s.names)) same ∙ is in cc)
+    by false is = file_by-set_other s.files n m None (λ same. let h = path-named s q m at in let g : has_path_to (entries s.names) m ≡ false =
+        ap (has_path_to (entries s.names)) same ∙ is in cc)
 
 set-none : (files : List (Option File)) (i j : ℕ) → j ≡ i → file_by (slice_set files i None) j ≡ None
 set-none files i j same = ap (file_by (slice_set files i None)) same ∙ none files i
@@ -135,11 +136,11 @@ set-none files i j same = ap (file_by (slice_set files i None)) same ∙ none fi
 pub swept-there : (o : Option ℕ) (s : State) (m : ℕ) → IsSome (file_by (swept o s).files m) →
     IsSome (file_by s.files m) × ((o ≡ Some m) → (q : Path) × (file_at s q ≡ Some m))
 swept-there None s m is = (is, λ h. cc)
-swept-there (Some n) s m is = by (is_named (entries s.names) n) refl is
+swept-there (Some n) s m is = by (has_path_to (entries s.names) n) refl is
   where
-    by : (b : Bool) → is_named (entries s.names) n ≡ b → IsSome (file_by (cond b s.files (slice_set s.files n None)) m) →
+    by : (b : Bool) → has_path_to (entries s.names) n ≡ b → IsSome (file_by (cond b s.files (slice_set s.files n None)) m) →
         IsSome (file_by s.files m) × ((Some n ≡ Some m) → (q : Path) × (file_at s q ≡ Some m))
-    by true t h = (h, λ same. let number : n ≡ m = cc in named-path s m (ap (is_named (entries s.names)) (sym number) ∙ t))
+    by true t h = (h, λ same. let number : n ≡ m = cc in named-path s m (ap (has_path_to (entries s.names)) (sym number) ∙ t))
     by false t h = by_number m n
         (λ same.
         let within = file-within (slice_set s.files n None) m h in

@@ -291,13 +291,6 @@ below-info (x ∷ xs) (b ∷ bs) = by (below-info xs bs) (nat_lt b x) refl (b ==
     by rest false e true f false f' = absurd (let p : b ≡ x = grind (arith, nat_tests) in let q : x ≢ b = grind (arith, nat_tests) in q (sym p))
     by rest false e false f false f' = refl
 
--- where the unique name itself is
-pub name-place : (u : List ℕ) (n i : ℕ) (es : List (List ℕ × ℕ)) → T (is_sorted name_cmp es) → find name_cmp u es ≡ Some n →
-    slice_get es i ≡ Some (u, n) → IsFirstPlace es u i
-name-place u n i es h is at =
-    let named : is_named u u ≡ true = named-zone u u ∙ ap is_zone (zone-same u) in
-    first-is-name u n es h is ∙ sym (ap (option_and_then (λ e. cond (is_named u e.0) (Some e) None)) at ∙ ap (λ b. cond b (Some (u, n)) None) named)
-
 -- what is kept of rows keeps the first that has the unique name
 name-by : (a : List ℕ) (o : Option File) → (row_by a o).name ≡ a
 name-by a None = refl

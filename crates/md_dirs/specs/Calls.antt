@@ -91,13 +91,13 @@ link o n = record {
 }
 
 -- whether one of the paths names the file of a number
-abbrev pub is_named : List (Path × ℕ) → ℕ → Bool
-is_named names n = list_any (λ e. e.1 == n) names
+abbrev pub has_path_to : List (Path × ℕ) → ℕ → Bool
+has_path_to names n = list_any (λ e. e.1 == n) names
 
 -- the files, without that of a number where no path names it
 abbrev pub released : List (Path × ℕ) → Option ℕ → List (Option File) → List (Option File)
 released names None files = files
-released names (Some n) files = if is_named names n then files else slice_set files n None
+released names (Some n) files = if has_path_to names n then files else slice_set files n None
 
 -- the state, with the file of a number given back where no path names it
 abbrev pub swept : Option ℕ → State → State

@@ -1,6 +1,6 @@
 -- Directories as finite maps: of the names of each directory, and of the paths of all.
 use Rattle.std.specs.Prelude.{ℕ, suc, ◌≡◌, ◌+◌, ◌-◌, ◌<◌, length, slice_index_or, ◌*◌, ◌/◌, ◌%◌, List}
-use Rattle.std.specs.Prelude.{[], ◌∷◌, ◌++◌, map, filter, slice_get, unwrap_or, Option, Some, None, cond, nat_eq}
+use Rattle.std.specs.Prelude.{[], ◌∷◌, ◌++◌, map, filter, slice_get, unwrap_or, Option, Some, None, cond, nat_eq, All}
 use Rattle.std.specs.declared.cmp.Ordering.{Ordering}
 use Rattle.std.specs.declared.cmp.Ordering.TheVariants.{Less, Greater}
 use Rattle.std.specs.declared.vec.Vec.{Vec}
@@ -30,6 +30,15 @@ name_code = finmap.code (coded_list coded_ℕ) coded_ℕ
 abbrev pub rows_by_name : {Z : Type 0} → List (Vec ℕ Z × ℕ) → List (List ℕ × ℕ)
 rows_by_name es = map (λ e. (e.0.items, e.1)) es
 
+-- rows by their positions
+abbrev pub rows_at : List (List ℕ × ℕ) → List ℕ → List (List ℕ × ℕ)
+rows_at rows order = map (λ i. slice_index_or rows i ([], 0)) order
+
+-- positions of rows, in order of the names: they lie within, and the rows at them are those that the names' map lists
+pub record IsOrderOf (rows : List (List ℕ × ℕ)) (order : List ℕ) : Type 0 where
+  pub within : All (λ i. i < length rows) order
+  pub lists : rows_at rows order ≡ finmap.entries {R = name_cmp} (finmap.from_entries rows)
+
 -- the number at a name, as the table looks it up
 abbrev pub get_name : {Z : Type 0} → List (Vec ℕ Z × ℕ) → List ℕ → Option ℕ
 get_name es q = lookup (λ k. pointwise nat_eq q k.items) es
@@ -44,10 +53,6 @@ pub record Renames {Z : Type 0} (old : List (Vec ℕ Z × ℕ)) (i : ℕ) (name 
 -- how the row at a position compares with a name
 abbrev pub order_at : List (List ℕ × ℕ) → ℕ → List ℕ → Ordering
 order_at rows i name = name_cmp (slice_index_or rows i ([], 0)).0 name
-
--- a name is above the last row, if there is one
-abbrev pub EndsBelow : List (List ℕ × ℕ) → List ℕ → Type 0
-EndsBelow rows name = 0 < length rows → order_at rows (length rows - 1) name ≡ Less
 
 -- a name is above the row before a position and below the row behind it
 pub record FitsAt (rows : List (List ℕ × ℕ)) (i : ℕ) (name : List ℕ) : Type 0 where

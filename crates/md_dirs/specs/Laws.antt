@@ -3,6 +3,7 @@ use Rattle.std.specs.Prelude.{◌≡◌, None}
 use Rattle.md_dirs.specs.State.{State, IsSound}
 use Rattle.md_dirs.specs.Calls.{Ask}
 
--- A call that is not refused leaves sound directories sound: each path names a file that is there, and each file that is there has a path.
+-- A call that is not refused leaves sound directories sound: each path lies in a folder that is there and names a file that is there,
+-- and each file that is there has a path.
 abbrev pub KeepsSound : Ask → Type 0
 KeepsSound ask = (s : State) → IsSound s → ask.refusal s ≡ None → IsSound (ask.after s)

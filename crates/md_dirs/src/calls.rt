@@ -12,7 +12,8 @@ use crate::rows::{Row, RowRef, first_named};
 use std::alloc::{AllocError, AllocFailed};
 use thiserror::Error;
 
-/// Why a directory call was refused. After any refusal the directories are as they were.
+/// Why a directory call was refused, or an image. After a refused call the directories are as they were; a refused image is
+/// dropped.
 #[derive(Clone, Copy, Debug, PartialEq, Eq, Error)]
 pub enum DirError {
     /// The name that was to be made is there already, as POSIX's EEXIST.
@@ -24,7 +25,8 @@ pub enum DirError {
     /// The directories failed by themselves, as POSIX's EIO.
     #[error("fault")]
     Fault,
-    /// The call had no other fault, but memory was wanting.
+    /// Memory was wanting. A directory call answers it behind all its other checks; an image may be refused so in place of
+    /// another refusal.
     #[error("no memory")]
     NoMemory,
 }
@@ -57,7 +59,7 @@ pub trait Dirs {
     /// How often a call has failed by itself.
     ghost failures: { Self → ℕ };
 
-    /// How many of the six calls were made. One that is refused for want of memory is none, and neither is a look.
+    /// How many calls were made, a `find` among them. One that is refused for want of memory is none, and neither is a look.
     ghost calls: { Self → ℕ };
 
     /// Makes an empty file, as POSIX's open with O_CREAT and O_EXCL. `NotFound` where the folder is not there, `Exists`

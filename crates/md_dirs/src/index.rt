@@ -1,4 +1,4 @@
-// Directories as one hash table for each, in order of names, and the files in the order of their making.
+// Directories as one hash table for each with the order of its names, and the files in the order of their making.
 mod load;
 mod loose;
 mod names;
@@ -17,11 +17,13 @@ use std::alloc::Global;
 use std::marker::Model;
 use tree::Tree;
 
-/// Directories that are hashed: one table for each directory, its rows in order of the names.
+/// Directories that are hashed: one table for each directory, and the positions of its rows in order of the names.
 ///
-/// A name is looked up by its hash, and a position is an index. A name that comes or goes at the end of the order moves no
-/// row, and neither does one that takes another's place in it; any other moves the rows behind it. Each file knows how many
-/// names it has. No call copies the bytes of a file, and room is made before anything is changed. They never fault.
+/// A name is looked up by its hash, and a position is an index into the order. A name that comes or goes finds its place in
+/// the order by halving. At the end of the order it moves nothing, and neither does one that takes another's place in it; any
+/// other moves the positions behind it, a word each. Where a name goes, the last row of its table takes its row. Each file
+/// knows how many names it has. No call copies the bytes of a file, and room is made before anything is changed. They never
+/// fault.
 #[derive(Drop)]
 pub struct IndexDirs {
     alloc: Global,

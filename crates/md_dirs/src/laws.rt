@@ -8,9 +8,9 @@ ghost use Rattle.md_dirs.specs.declared.paths.Path.{Path};
 ghost use Rattle.md_dirs.specs.declared.paths.Place.{Place};
 ghost use Rattle.md_dirs.specs.declared.image.ImageFile.{ImageFile};
 
-/// Names and files belong together: where each name is that of a file that is there and each file has a name, this holds
-/// after every call as well, and it holds of the directories of each image. So no name dangles, and nothing is kept that
-/// has no name.
+/// Names and files belong together: where each name lies in a folder that is there and is that of a file that is there, and
+/// each file has a name, this holds after every call as well, and it holds of the directories of each image. So no name
+/// dangles, and nothing is kept that has no name.
 pub fn names_and_files_belong_together()
     ensures create { (path : Path) (now : ℕ) → KeepsSound (create path now) }
     ensures append { (path : Path) (bytes : List ℕ) (now : ℕ) → KeepsSound (append path bytes now) }

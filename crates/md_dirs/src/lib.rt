@@ -1,4 +1,5 @@
-//! Directories of mail files: the atomic calls on them, as a trait, and a plain implementation.
+//! Directories of mail files: the atomic calls on them, as a trait; plain and hashed directories in memory; and directories
+//! of which one call fails.
 #![tactic(auto)]
 
 mod calls;

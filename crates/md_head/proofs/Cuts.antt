@@ -1,15 +1,15 @@
 -- The first line of a text, where a search for a line feed finds its end.
-use Rattle.std.proofs.Common.{◌≡◌, ℕ, ◌+◌, ◌-◌, ◌<◌, List, [], ◌∷◌, length, take, drop, Bool, true, false, refl, ap, ◌∙◌, arith}
+use Rattle.std.proofs.Common.{◌≡◌, ℕ, ◌+◌, ◌-◌, ◌<◌, List, [], ◌∷◌, length, take, drop, Bool, true, false, refl, sym, ap, ◌∙◌, arith}
 use Rattle.std.proofs.lemmas.Bool.Decides.{nat_tests}
-use Rattle.std.proofs.lemmas.List.{length-drop}
+use Rattle.std.proofs.lemmas.List.{length-drop, drop_all}
 use Rattle.std.proofs.lemmas.List.Elements.{All-from_get_or}
 use Rattle.std.proofs.lemmas.List.Splits.{slice_split_first, slice_split_none, length-slice_split}
 use Rattle.std.proofs.lemmas.List.Sums.{position_or_len_is}
 use Rattle.std.proofs.Math.Seq.{take-length}
-use Rattle.std.specs.List.{All, slice_split, position_or_len}
+use Rattle.std.specs.List.{All, slice_split, position_or_len, after_first}
 use Rattle.std.specs.Str.Lines.{lines_of_parts, strip_carriage_return}
 use Rattle.memchr.specs.Find.{Nowhere, NoneBefore, Passes, is_byte}
-use Rattle.md_head.specs.Header.{lines_of}
+use Rattle.md_head.specs.Header.{is_line_feed, lines_of}
 
 refuted : (b : Bool) → ¬ (b ≡ true) → b ≡ false
 refuted true h = absurd (h refl)
@@ -58,3 +58,15 @@ first_line text at found =
     let cut : slice_split (is_byte 10) text ≡ take at text ∷ slice_split (is_byte 10) rest = rw is at (slice_split_first (is_byte 10) text 0 within) in
     let some : 0 < length (slice_split (is_byte 10) rest) = omega (arith, length-slice_split (is_byte 10) rest) in
     rw (rest_whole text (at + 1)) (ap lines_of_parts cut ∙ parts_more (take at text) (slice_split (is_byte 10) rest) some)
+
+-- ---- what stands behind the first line
+
+pub nothing_behind : (text : List ℕ) → Nowhere (Passes (is_byte 10) text) 0 (length text) → after_first is_line_feed text ≡ []
+nothing_behind text none =
+    let place : position_or_len is_line_feed text ≡ length text =
+    position_or_len_is is_line_feed text (length text) 0 (omega arith) (λ k h. refuted _ (none k (omega arith) h)) (λ h. absurd (omega arith)) in
+    ap (λ n. drop (n + 1) text) place ∙ drop_all (length text + 1) text (omega arith)
+
+pub rest_behind : (text : List ℕ) (at : ℕ) → NoneBefore (Passes (is_byte 10) text) 0 (length text) at × Passes (is_byte 10) text at
+    → take (length text - (at + 1)) (drop (at + 1) text) ≡ after_first is_line_feed text
+rest_behind text at found = rest_whole text (at + 1) ∙ ap (λ n. drop (n + 1) text) (sym (first_at 10 text at found))

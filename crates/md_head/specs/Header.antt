@@ -13,6 +13,9 @@ is_blank b = b == 32 || b == 9
 abbrev pub is_name_byte : ℕ → Bool
 is_name_byte b = nat_le 33 b && nat_le b 126 && not (b == 58)
 
+abbrev pub is_line_feed : ℕ → Bool
+is_line_feed b = b == 10
+
 -- The lines of a text, as std cuts one: a line ends at LF, and one CR right before it belongs to the line's end
 -- (RFC 5322, 2.1; LF alone is own). What stands behind the last LF is a line unless it is empty, and a CR in it is
 -- a byte like any other (own).

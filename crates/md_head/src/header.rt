@@ -15,7 +15,8 @@ const MESSAGE_ID: &[u8] = b"message-id";
 
 const DATE: &[u8] = b"date";
 
-/// The first field of each of four names (RFC 5322, 3.6) in a message's header section. It borrows from the message and takes no memory.
+/// The first field of each of four names (RFC 5322, 3.6) in a message's header section, none where there is no such field. The case of a
+/// name's letters doesn't matter (1.2.2). It borrows from the message and takes no memory.
 #[derive(Drop, Debug)]
 pub struct HeaderFields<'a> {
     pub subject: Option<FieldBody<'a>>,

@@ -1,6 +1,7 @@
 //! A summary of a mail message's header: the values of its Subject, From, Message-ID and Date fields, and the instant of the date.
 //!
-//! The header is read by the rules of RFC 5322, its obsolete syntax included, and no message is refused: what is no field is passed over.
+//! The header is read by the rules of RFC 5322, with white space before a field's colon as in its obsolete syntax (4.5), and no message is
+//! refused: what is no field is passed over.
 //! Values are bytes, as they stand in the message: encoded words and charsets are left as they are.
 #![tactic(auto)]
 

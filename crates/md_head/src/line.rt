@@ -1,7 +1,8 @@
 //! Lines of a text, and the lines that one field takes.
 ghost use Rattle.std.specs.Prelude.{◌≡◌, ◌<◌, ◌↔◌, [], ◌∷◌, length, IsTrue, IfSome, MatchOption, slice_index};
 ghost use Rattle.std.specs.Str.Lines.{strip_carriage_return};
-ghost use Rattle.md_head.specs.Header.{is_blank, header_section, lines_of};
+ghost use Rattle.std.specs.List.{after_first};
+ghost use Rattle.md_head.specs.Header.{is_blank, is_line_feed, header_section, lines_of};
 ghost use Rattle.md_head.specs.Scan.{EndsGroup};
 
 use memchr::memchr;
@@ -55,10 +56,11 @@ pub(crate) fn group_end(text: &[u8]) -> usize
     text.len()
 }
 
-/// The first line of a text without its end, and what stands behind it; none where nothing is left. A line ends at a line feed, and one
-/// carriage return right before that belongs to the end.
+/// The first line of a text without its end, and all that stands behind the end; none where nothing is left. A line ends at a line
+/// feed, and one carriage return right before that belongs to the end.
 pub fn cut_line(text: &[u8]) -> Option<(&[u8], &[u8])>
     ensures lines { MatchOption result (lines_of text.now ≡ []) (λ cut. lines_of text.now ≡ cut.0.now ∷ lines_of cut.1.now) }
+    ensures behind { IfSome result (λ cut. cut.1.now ≡ after_first is_line_feed text.now) }
     ensures shorter { IfSome result (λ cut. length cut.1.now < length text.now) }
 {
     if text.is_empty() {

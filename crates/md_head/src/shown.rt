@@ -2,7 +2,8 @@
 use md_name::Bytes;
 
 /// The values of the first Subject, From, Message-ID and Date field in a message's header section (RFC 5322, 3.6), and the instant of the
-/// date.
+/// date. Each value is unfolded (2.2.3), without the white space at both ends; none where there is no such field, and of no bytes where
+/// its body is empty.
 #[derive(Debug, Drop)]
 pub struct Summary {
     pub subject: Option<Bytes>,

@@ -1,6 +1,8 @@
 -- What the code's steps on a word do to the set of its letters.
-use Rattle.std.proofs.Common.{◌≡◌, ◌≢◌, ℕ, ◌-◌, ◌*◌, ◌/◌, ◌%◌, ◌^◌, ◌<◌, Bool, true, false, ◌&&◌, ◌||◌, not, refl, sym, ap, ◌∙◌, arith, ⊎_elim}
-use Rattle.std.specs.Prelude.{◌==◌, nat_eq, min, bit_or, bit_and}
+use Rattle.std.proofs.Common.{◌≡◌, ◌≢◌, ◌++◌, List, [], ◌∷◌, ℕ, zero, suc, cond, length, get_or, take, ◌+◌, ◌-◌, ◌*◌, ◌/◌, ◌%◌, ◌^◌, ◌<◌, Bool, true, false, ◌&&◌, ◌||◌, not, refl, sym, ap, ◌∙◌, arith, ⊎_elim}
+use Rattle.std.specs.Prelude.{◌==◌, nat_eq, min, bit_or, bit_and, filter}
+use Rattle.std.proofs.lemmas.List.{append_assoc, take_more}
+use Rattle.std.proofs.lemmas.List.Elements.{filter-append}
 use Rattle.std.proofs.lemmas.Bool.Decides.{nat_tests, eqb_tells}
 use Rattle.std.proofs.lemmas.Nat.Bits.{bit_at-zero, bit_at-lt, bit_at_or, bit_at_and, bit_at_not, shr_and_one, bit_at_set_same, bit_at_set_other}
 use Rattle.std.proofs.lemmas.Nat.{pow_below}
@@ -9,9 +11,9 @@ use Rattle.std.specs.Int.{bit_at, bit_not, w64}
 use Rattle.std.specs.Ordering.{nat_cmp}
 use Rattle.std.specs.Cmp.{nat_cmp_total, unsigned_tied}
 use Rattle.std.specs.FinSet as set
-use Rattle.md_name.specs.Letters.{is_letter, Set}
-use Rattle.md_name.specs.Words.{place_of, letters_in}
-use Rattle.md_name.specs.WordSets.{contains-letters_in}
+use Rattle.md_name.specs.Letters.{is_letter, letters, Set}
+use Rattle.md_name.specs.Words.{place_of, letter_at, letters_in}
+use Rattle.md_name.specs.WordSets.{contains-letters_in, at_place}
 
 same_set : (s t : Set) → ((c : ℕ) → set.contains s c ≡ set.contains t c) → s ≡ t
 same_set s t = set.same_set nat_cmp_total set.nat_cmp-IsAntisymmetric s t
@@ -109,3 +111,44 @@ letters_in-insert w c e = same_set _ _ (λ q.
 
 pub bit_of-within : (k : ℕ) → k < 52 → 1 * 2 ^ k % 2 ^ 64 < 2 ^ 52
 bit_of-within k h = let small = pow_below k 52 h in let part = mod-le (1 * 2 ^ k) (2 ^ 64) in omega arith
+
+-- ---- the letters up to a place
+
+listed : (ℕ → ℕ) → ℕ → List ℕ
+listed f zero = []
+listed f (suc n) = f 0 ∷ listed (λ i. f (suc i)) n
+
+at-listed : (f : ℕ → ℕ) (n i d : ℕ) → i < n → get_or (listed f n) i d ≡ f i
+unfolding listed
+at-listed f zero i d within = absurd (omega arith)
+at-listed f (suc n) zero d within = refl
+at-listed f (suc n) (suc i) d within = at-listed (λ j. f (suc j)) n i d (omega arith)
+
+each-letter : letters ≡ listed letter_at 52
+unfolding letters listed
+each-letter = refl
+
+pub letter_of : (i d : ℕ) → i < 52 → get_or letters i d ≡ letter_at i
+letter_of i d within = ap (λ cs. get_or cs i d) each-letter ∙ at-listed letter_at 52 i d within
+
+module _ (s : Set) (w i : ℕ) (seen : letters_in w ≡ s) (within : i < 52) where
+  among : ℕ → Bool
+  among c = set.contains s c
+
+  -- those of the letters up to a place that are in the set of a word: with one place more, that letter too where its bit is set
+  spelled : filter among (take (i + 1) letters) ≡ filter among (take i letters) ++ cond (bit_at w i == 1) (letter_at i ∷ []) []
+  unfolding listed among
+  spelled =
+      let long : length letters ≡ 52 = ap length each-letter in
+      ap (filter among) (take_more letters i 0 (omega (arith, long)) ∙ ap (λ c. take i letters ++ c ∷ []) (letter_of i 0 within))
+      ∙ filter-append among (take i letters) (letter_at i ∷ [])
+      ∙ ap (λ b. filter among (take i letters) ++ cond b (letter_at i ∷ []) []) (ap (λ t. set.contains t (letter_at i)) (sym seen) ∙ at_place w i within)
+
+  -- so is a text that they stand behind
+  pub spelled-more : (before text : List ℕ) → text ≡ before ++ filter (λ c. set.contains s c) (take i letters)
+      → text ++ cond (bit_at w i == 1) (letter_at i ∷ []) [] ≡ before ++ filter (λ c. set.contains s c) (take (i + 1) letters)
+  unfolding among
+  spelled-more before text is =
+      ap (λ cs. cs ++ cond (bit_at w i == 1) (letter_at i ∷ []) []) is
+      ∙ append_assoc before (filter among (take i letters)) (cond (bit_at w i == 1) (letter_at i ∷ []) [])
+      ∙ ap (λ cs. before ++ cs) (sym spelled)

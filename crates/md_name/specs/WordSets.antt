@@ -77,7 +77,7 @@ place-letter i h = grind (arith, nat_tests)
 letter-place : (i : ℕ) → i < 52 → is_letter (letter_at i) ≡ true
 letter-place i h = grind (arith, nat_tests)
 
-at_place : (w i : ℕ) → i < 52 → set.contains (letters_in w) (letter_at i) ≡ (bit_at w i == 1)
+pub at_place : (w i : ℕ) → i < 52 → set.contains (letters_in w) (letter_at i) ≡ (bit_at w i == 1)
 at_place w i h =
     contains-letters_in w (letter_at i)
     ∙ ap (λ b. b && (bit_at w (place_of (letter_at i)) == 1)) (letter-place i h)

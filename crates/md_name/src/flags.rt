@@ -126,11 +126,15 @@ impl Flags {
     }
 
     /// Writes the letters behind a text.
-    #[tactic(auto, unfolding(crate::specs::Letters::letters, crate::specs::Letters::spelling))]
     pub(crate) fn write_onto(self, text: &mut Vec<u8>) -> Result<(), AllocError>
         ensures { OnOk result (text.new.items ≡ text.old.items ++ spelling self) }
     {
-        push_those_in(self, LETTERS, text)
+        for (place, letter) in LETTERS.iter().enumerate() {
+            if (self.word >> place) & 1 == 1 {
+                text.push(*letter)?;
+            }
+        }
+        Ok(())
     }
 
     /// How many flags there are.
@@ -149,18 +153,6 @@ impl Flags {
             word: self.word | (1 << place(letter)),
         }
     }
-}
-
-/// Writes those of the letters behind the text that are in the set.
-fn push_those_in(flags: Flags, letters: &[u8], text: &mut Vec<u8>) -> Result<(), AllocError>
-    ensures { OnOk result (text.new.items ≡ text.old.items ++ filter (λ c. set.contains flags c) letters.now) }
-{
-    for letter in letters {
-        if flags.has(*letter) {
-            text.push(*letter)?;
-        }
-    }
-    Ok(())
 }
 
 /// A set of flags holds letters alone.

@@ -29,7 +29,7 @@ const MAX_UNIQUE: usize = 200;
 /// What a unique name is made of.
 #[derive(Clone, Copy, Debug)]
 pub struct UniqueParts<'a> {
-    /// The second of the delivery.
+    /// The second of the delivery, since 1970-01-01 00:00:00 UTC.
     pub sec: u64,
     /// The microsecond in that second, below 1,000,000.
     pub micro: u64,

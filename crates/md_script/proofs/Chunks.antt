@@ -40,7 +40,7 @@ module _ (a b d : Source) (old new : List ℕ) (f : ℕ) (so_far : Filled a b ol
   pub filled_more : (n filled : ℕ) → f ≤ length new → Gave b d (drop f new) n → filled ≡ f + n → Filled a d new filled
   filled_more n filled there gave is = rw is (record {
     given = consumes_more a.remaining b.remaining d.remaining old new f n (more_fits n there gave) front so_far.given gave.bytes;
-    sound = gave.no_trouble.failed ∙ so_far.sound;
+    sound = gave.failed ∙ so_far.sound;
   })
 
   pub filled_same : (filled : ℕ) → Paused b d → filled ≡ f → Filled a d new filled

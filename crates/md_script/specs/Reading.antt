@@ -1,5 +1,5 @@
 -- What reading a script whole comes to.
-use Rattle.std.specs.Prelude.{◌≡◌, ℕ, ◌<◌, ◌≤◌, true, false, List, length, Result, Ok, Err}
+use Rattle.std.specs.Prelude.{◌≡◌, ℕ, ◌+◌, ◌<◌, ◌≤◌, true, List, length, Result, Ok, Err}
 use Rattle.std.specs.Global.{Vec}
 use Rattle.std.specs.Io.KnownBytes.{Consumes, IsAtEnd}
 use Rattle.md_script.specs.declared.error.PlayKind.{PlayKind}
@@ -32,12 +32,12 @@ pub record GivesTooMuch (old new : Source) : Type 0 where
   pub beyond : most_bytes < length bytes
   pub sound : Sound old new
 
--- So many reads were made without coming to an end: each gave a byte or more, unless one was interrupted.
+-- So many reads were made without coming to an end, interrupted ones counted.
 pub record GoesOn (old new : Source) : Type 0 where
   pub bytes : List ℕ
   pub given : Consumes old.remaining new.remaining bytes
   pub within : length bytes ≤ most_bytes
-  pub each : new.was_interrupted ≡ false → most_reads ≤ length bytes
+  pub counted : new.reads ≡ old.reads + most_reads
   pub sound : Sound old new
 
 -- why a script was not read whole

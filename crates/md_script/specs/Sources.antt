@@ -1,33 +1,27 @@
 -- What is known of a source of bytes, and what one read makes of it.
-use Rattle.std.specs.Prelude.{◌≡◌, ℕ, ◌≤◌, Bool, true, List, length, take, Option}
+use Rattle.std.specs.Prelude.{◌≡◌, ℕ, ◌+◌, ◌≤◌, Bool, true, List, length, take, Option}
 use Rattle.std.specs.Io.KnownBytes.{Consumes, IsAtEnd, Keeps}
 use Rattle.md_script.specs.declared.source.Got.{Got}
 use Rattle.md_script.specs.declared.source.Got.TheVariants.{Bytes, Interrupted, Failed}
 
--- the bytes that reads will give from here on, where they are known; at most how many reads were made; whether one was interrupted, and
--- whether one failed
+-- the bytes that reads will give from here on, where they are known; how many reads were made; whether one failed
 pub record Source : Type 0 where
   pub remaining : Option (List ℕ)
   pub reads : ℕ
-  pub was_interrupted : Bool
   pub has_failed : Bool
 
--- the same troubles as before
-pub record NoTrouble (old new : Source) : Type 0 where
-  pub interrupted : new.was_interrupted ≡ old.was_interrupted
-  pub failed : new.has_failed ≡ old.has_failed
-
--- some bytes were read into the front of the room, none of them only at the end
+-- some bytes were read into the front of the room, none of them only at the end; the read that finds the end counts as any other
 pub record Gave (old new : Source) (room : List ℕ) (count : ℕ) : Type 0 where
   pub fits : count ≤ length room
   pub bytes : Consumes old.remaining new.remaining (take count room)
   pub ended : count ≡ 0 → IsAtEnd new.remaining
-  pub no_trouble : NoTrouble old new
+  pub counted : new.reads ≡ old.reads + 1
+  pub failed : new.has_failed ≡ old.has_failed
 
--- nothing was read, and a signal came in between
+-- nothing was read, and a signal came in between; this counts as a read too
 pub record Paused (old new : Source) : Type 0 where
   pub bytes : Keeps old.remaining new.remaining
-  pub interrupted : new.was_interrupted ≡ true
+  pub counted : new.reads ≡ old.reads + 1
   pub failed : new.has_failed ≡ old.has_failed
 
 -- one read, and what it gave

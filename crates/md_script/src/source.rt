@@ -1,5 +1,5 @@
 //! What a script is read from.
-ghost use Rattle.std.specs.Prelude.{◌≡◌, ◌+◌, ◌≤◌, Some, false, length};
+ghost use Rattle.std.specs.Prelude.{◌≡◌, ◌+◌, ◌≤◌, false, length};
 ghost use Rattle.md_script.specs.Sources.{Reads};
 
 use std::io::{ErrorKind, Read};
@@ -18,8 +18,8 @@ pub enum Got {
     Failed,
 }
 
-/// Bytes that come in reads, as from std's `Read`, of which contracts see how many reads there were and whether one failed. A slice is
-/// one that never fails, and `Reader` makes one of any `Read`.
+/// Bytes that come in reads, as from std's `Read`, of which contracts see how many reads there were and whether one failed. A read that
+/// was interrupted counts, and so does the one that finds the end; a failed one may. `Reader` makes one of any `Read`.
 pub trait Source {
     ghost use Rattle.md_script.specs.Sources.{Source as State};
 
@@ -32,35 +32,22 @@ pub trait Source {
         ensures counted { (state self.new).reads ≤ (state self.old).reads + 1 };
 }
 
-impl Source for &[u8] {
-    ghost state = { λ s. record { remaining = Some s.now; reads = 0; was_interrupted = false; has_failed = false } };
-
-    fn read(&mut self, room: &mut [u8]) -> Got {
-        let Ok(count) = Read::read(self, room) else {
-            unreachable!()
-        };
-        Got::Bytes(count)
-    }
-}
-
-/// A source over any `Read`.
+/// A source over any `Read`. After so many reads that a `u64` can't count one more it fails.
 #[derive(Drop)]
 pub struct Reader<R> {
     inner: R,
     reads: u64,
-    was_interrupted: bool,
     has_failed: bool,
 }
 
 impl<R: Read> Reader<R> {
     /// A source that was not read from yet.
     pub fn new(inner: R) -> Self
-        ensures { result ≡ record { inner = inner; reads = 0; was_interrupted = false; has_failed = false } }
+        ensures { result ≡ record { inner = inner; reads = 0; has_failed = false } }
     {
         Reader {
             inner,
             reads: 0,
-            was_interrupted: false,
             has_failed: false,
         }
     }
@@ -72,7 +59,6 @@ impl<R: Read> Reader<R> {
         let Reader {
             inner,
             reads: _,
-            was_interrupted: _,
             has_failed: _,
         } = self;
         inner
@@ -80,16 +66,17 @@ impl<R: Read> Reader<R> {
 }
 
 impl<R: Read> Source for Reader<R> {
-    ghost state = { λ s. record { remaining = R.remaining s.inner; reads = s.reads; was_interrupted = s.was_interrupted; has_failed = s.has_failed } };
+    ghost state = { λ s. record { remaining = R.remaining s.inner; reads = s.reads; has_failed = s.has_failed } };
 
     fn read(&mut self, room: &mut [u8]) -> Got {
-        self.reads = self.reads.saturating_add(1);
+        let Some(reads) = self.reads.checked_add(1) else {
+            self.has_failed = true;
+            return Got::Failed;
+        };
+        self.reads = reads;
         match self.inner.read(room) {
             Ok(count) => Got::Bytes(count),
-            Err(error) if error.kind() == ErrorKind::Interrupted => {
-                self.was_interrupted = true;
-                Got::Interrupted
-            }
+            Err(error) if error.kind() == ErrorKind::Interrupted => Got::Interrupted,
             Err(_) => {
                 self.has_failed = true;
                 Got::Failed

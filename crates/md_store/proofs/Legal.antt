@@ -8,7 +8,7 @@ use Rattle.std.specs.FinMap as finmap
 use Rattle.md_dirs.specs.declared.paths.Place.{Place}
 use Rattle.md_dirs.proofs.Maps.{at_put, beside_put, at_drop, beside_drop}
 use Rattle.md_name.specs.Names.{unique_of}
-use Rattle.md_core.specs.History.{Listed, Names, IsAllowedAfter, IsNowhere, WasNowhere, after, changed}
+use Rattle.md_core.specs.History.{Listed, Names, IsAllowedAfter, WasNowhere, after, changed}
 use Rattle.md_core.specs.Mailbox.{is_tmp}
 use Rattle.md_core.specs.declared.jobs.effect.Change.{Change}
 use Rattle.md_core.specs.declared.jobs.effect.Change.TheVariants as change
@@ -17,7 +17,7 @@ use Rattle.md_core.proofs.Mailbox.Changes.{by_name}
 use Rattle.md_core.proofs.Theorem.Effects.{after-push}
 use Rattle.md_core.proofs.Lists.Places.{get-pushed}
 use Rattle.md_view.specs.Named.{Named, IsMessage, AreMessages, is_listed, is_free, fits, applied}
-use Rattle.md_view.proofs.Fitting.{allowed-applied}
+use Rattle.md_view.proofs.Fitting.{allowed-applied, nowhere}
 use Rattle.md_view.proofs.Rows.{and-first, and-second}
 use Rattle.md_store.specs.Histories.{led, IsLegalFrom}
 
@@ -84,12 +84,8 @@ module _ (opening : Named) (history : List Effect) (e : Effect) (legal : IsLegal
   allowed : IsAllowedAfter opening.folders opening.names history e
   allowed = subst (λ h. IsAllowedAfter opening.folders opening.names h e) before-is (legal.each (length history) e (get-pushed history e))
 
-  -- a name that was nowhere is nowhere now
-  nowhere : (u : List ℕ) → WasNowhere opening.names history u → IsNowhere (after opening.names history) u
-  nowhere u was = subst (λ h. IsNowhere (after opening.names h) u) (take_all (length history) history (omega arith)) (was (length history))
-
   -- the names after one more effect
   pub led-push : led opening (history ++ e ∷ []) ≡ applied (led opening history) e.change
   led-push =
       (λ i. record { folders = opening.folders; names = after-push opening.names history e i })
-      ∙ sym (allowed-applied (led opening history) are (WasNowhere opening.names history) nowhere e.answer e.change allowed)
+      ∙ sym (allowed-applied (led opening history) are (WasNowhere opening.names history) (nowhere opening.names history) e.answer e.change allowed)

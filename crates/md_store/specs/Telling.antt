@@ -27,6 +27,12 @@ abbrev pub Stands : Option Answer → ℕ → List Effect → Type 0
 Stands None job history = Unit {0}
 Stands (Some a) job history = is_success a ≡ true → (e : Effect) × (k : ℕ) × (slice_get history k ≡ Some e) × (e.job ≡ job) × (e.answer ≡ a)
 
+-- What the news of a step says: whether the step was an effect; and where that isn't published yet, the pass was told nothing.
+abbrev pub IsNews : News → Bool → List Effect → List Effect → Type 0
+IsNews NoEffect effect before now = effect ≡ false
+IsNews Told effect before now = effect ≡ true
+IsNews Later effect before now = (effect ≡ true) × (now ≡ before)
+
 -- What a pass holds after a step, by its news: a history that ends with the effect that was told, and the effect of an answer of success.
 abbrev pub IsTold : News → Option Answer → ℕ → List Effect → Type 0
 IsTold Told a job now = ((h : List Effect) × EndsWith h job × IsPrefix h now) × Stands a job now

@@ -13,7 +13,7 @@ pub enum ListError {
     #[error("no memory")]
     NoMemory,
 
-    /// What is published could not be entered. It is met before the other two.
+    /// What is published could not be entered, or is shorter than what the pass holds, which never comes. It is met before the other two.
     #[error("closed")]
     Closed,
 }

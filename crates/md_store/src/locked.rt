@@ -109,7 +109,8 @@ impl<D: Dirs, J: Naming> Locked<D, J> {
         ensures lag { Lags (effects_of self.now.run) self.now.published }
         ensures theorem { Interleaves self.now.run }
     {
-        let _ = &self.front;
+        // A field is looked at, so that what the type keeps is known here.
+        let _kept = &self.front;
         self.world.interleaves();
     }
 
@@ -118,7 +119,8 @@ impl<D: Dirs, J: Naming> Locked<D, J> {
         ensures held { IsPrefix pass.old pass.new }
         ensures told { IsPrefix self.now.published pass.new }
     {
-        let _ = &self.front;
+        // A field is looked at, so that what the type keeps is known here.
+        let _kept = &self.front;
         pass.learn(self.writer.published().front());
     }
 
@@ -144,7 +146,8 @@ impl<D: Dirs, J: Naming> Locked<D, J> {
             (λ _. step_refusal (job_at (jobs_of self.now.run) job) ≡ None)
             (λ e. step_refusal (job_at (jobs_of self.now.run) job) ≡ Some e) }
     {
-        let _ = &self.front;
+        // A field is looked at, so that what the type keeps is known here.
+        let _kept = &self.front;
         match self.world.refusal(job) {
             Some(error) => Err(error),
             None => Ok(()),
@@ -164,11 +167,13 @@ impl<D: Dirs, J: Naming> Locked<D, J> {
         self.world.submit(call)
     }
 
-    /// A copy of the bytes of the message of a unique name, in new or cur of any folder. None where there is no such message.
+    /// A copy of the bytes of the message of a unique name, in new or cur of any folder. None where there is no such message. It is refused
+    /// only for want of memory.
     pub fn read(&self, alloc: Global, unique: &[u8]) -> Result<Option<Bytes>, StoreError>
         ensures { IfOk result (λ bytes. bytes ≡ option_map (λ (e : Entry). e.bytes) (finmap.get (mailbox_of (dirs_of self.now.run)) unique.now)) }
     {
-        let _ = &self.front;
+        // A field is looked at, so that what the type keeps is known here.
+        let _kept = &self.front;
         let Some(bytes) = self.world.read(unique) else {
             return Ok(None);
         };
@@ -192,6 +197,8 @@ impl<D: Dirs, J: Naming> Locked<D, J> {
             (IsRefusal (step_refusal (job_at (jobs_of self.old.run) job))) }
         ensures same_run { OnErr result (self.new.run ≡ self.old.run) }
         ensures same_pass { OnErr result (pass.new ≡ pass.old) }
+        // An effect that was left from before is published, or is still left.
+        ensures left { OnErr result ((self.new.published ≡ self.old.published) ⊎ (self.new.published ≡ effects_of self.old.run)) }
         // Where the job isn't there, or has its answer, nothing is published either.
         ensures unchanged { OnErr result (IsSome (step_refusal (job_at (jobs_of self.old.run) job)) → self.new ≡ self.old) }
         ensures event { IfOk result (λ s. self.new.run ≡ and_event self.old.run (marked job now own (is_fault s.out.reply))) }

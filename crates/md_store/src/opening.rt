@@ -57,7 +57,8 @@ impl<D: Dirs> Model for Prepared<D> {
     ghost invariant = { λ p. IsFresh p.world × (0 < p.passes) × (p.passes ≤ 64) × (p.head ≡ head_of p.front.book) × (p.front.log ≡ []) };
 }
 
-/// Makes a store of a world ready to be opened, with 1 to 64 passes. The world has no event yet; calls may have been submitted.
+/// Makes a store of a world ready to be opened, with 1 to 64 passes. The world has no event yet; calls may have been submitted. Refused
+/// `BadPasses` for any other number, and the world comes back.
 pub fn prepare<D: Dirs>(world: World<D>, passes: usize) -> Result<Prepared<D>, OpenRefused<D>>
     requires { IsFresh world }
     ensures world { MatchResult result (λ p. (p.run ≡ world) × (p.passes ≡ passes)) (λ e. e.world ≡ world) }
@@ -80,7 +81,8 @@ pub fn prepare<D: Dirs>(world: World<D>, passes: usize) -> Result<Prepared<D>, O
 
 impl<D: Dirs> Prepared<D> {
     /// Opens the store, with as many passes as were asked for. The naming type names its opening names and its book: it is picked where
-    /// this is called, in a function that is generic over it.
+    /// this is called, in a function that is generic over it. Refused `NoMemory`, or `NoReader` where a pass is refused its reader; the world
+    /// comes back.
     pub fn open<J: Naming, R: Wait>(
         self,
         rt: &R,

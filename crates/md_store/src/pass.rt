@@ -81,6 +81,7 @@ impl<J: Naming> Pass<J> {
         ensures messages { OnOk result (AreMessages J.opening) }
         ensures folder { OnOk result (folder < J.opening.folders) }
         ensures no_folder { IfErr result (λ e. e ≡ refusal.NoFolder → J.opening.folders ≤ folder) }
+        ensures no_memory { IfErr result (λ e. e ≡ refusal.NoMemory → folder < J.opening.folders) }
         ensures entries { IfOk result (λ v. v.items ≡ seen_in (option_map (λ entries. entries.now) first.entry) folder (led J.opening self.new).names) }
         ensures err { OnErr result (self.new ≡ self.old) }
     {
@@ -100,6 +101,8 @@ impl<J: Naming> Pass<J> {
         ensures legal { OnOk result (IsLegalFrom J.opening self.new) }
         ensures folder { OnOk result (folder < J.opening.folders) }
         ensures no_folder { IfErr result (λ e. e ≡ refusal.NoFolder → J.opening.folders ≤ folder) }
+        ensures no_memory { IfErr result (λ e. e ≡ refusal.NoMemory → folder < J.opening.folders) }
+        ensures unchanged { OnErr result (self.new ≡ self.old) }
         ensures entries { IfOk result (λ f. (f.folder ≡ folder) × (f.entries ≡ read_at folder New J.opening self.new)) }
     {
         let entries = self.read(alloc, folder, None)?;
@@ -116,6 +119,8 @@ impl<J: Naming> Pass<J> {
         ensures legal { OnOk result (IsLegalFrom J.opening self.new) }
         ensures folder { OnOk result (first.now.folder < J.opening.folders) }
         ensures no_folder { IfErr result (λ e. e ≡ refusal.NoFolder → J.opening.folders ≤ first.now.folder) }
+        ensures no_memory { IfErr result (λ e. e ≡ refusal.NoMemory → first.now.folder < J.opening.folders) }
+        ensures unchanged { OnErr result (self.new ≡ self.old) }
         ensures entries { IfOk result (λ v. Finishes J.opening first.now self.new v.items) }
     {
         self.read(alloc, first.folder(), Some(first.entries()))
@@ -133,6 +138,7 @@ fn entered(
     ensures entries { IfOk result.1 (λ r.
         Looks (view reader.place) x.entry.3.now.log x.entry.1 (option_map (λ entries. entries.now) x.entry.2) r.0.items r.1) }
     ensures no_folder { IfErr result.1 (λ e. e ≡ refusal.NoFolder → (view reader.place).opening.folders ≤ x.entry.1) }
+    ensures no_memory { IfErr result.1 (λ e. e ≡ refusal.NoMemory → x.entry.1 < (view reader.place).opening.folders) }
 {
     match reader.enter_as::<Sees>() {
         Ok(reading) => {
@@ -155,6 +161,7 @@ fn look(
     requires order { IfSome first (λ entries. IsInOrder entries.now) }
     ensures ok { IfOk result (λ r. IsLooked shown.now held.now.log folder (option_map (λ entries. entries.now) first.entry) r.0.items r.1) }
     ensures no_folder { IfErr result (λ e. e ≡ refusal.NoFolder → shown.now.names.folders ≤ folder) }
+    ensures no_memory { IfErr result (λ e. e ≡ refusal.NoMemory → folder < shown.now.names.folders) }
 {
     let front = shown.front();
     if !held.begins(front) {

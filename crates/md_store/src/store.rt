@@ -8,7 +8,7 @@ ghost use Rattle.md_store.specs.declared.error.ListError.TheVariants as refusal;
 ghost use Rattle.md_store.specs.Histories.{IsLegalFrom, read_at};
 ghost use Rattle.md_store.specs.Listing.{Lists, Finishes};
 ghost use Rattle.md_store.specs.Refusals.{plain_refusal, IsWhy};
-ghost use Rattle.md_store.specs.Telling.{IsTold};
+ghost use Rattle.md_store.specs.Telling.{IsNews, IsTold};
 
 use crate::error::{ListError, StoreError};
 use crate::locked::Locked;
@@ -32,7 +32,7 @@ impl<D: Dirs, J: Naming> Store<D, J> {
         Store { lock }
     }
 
-    /// Submits a call, and gives the number of its job. A call that is refused comes back.
+    /// Submits a call, and gives the number of its job. It is refused as `World::submit` is, and a call that is refused comes back.
     pub fn submit<R: Wait>(&self, rt: &R, call: Call) -> Result<JobId, SubmitRefused>
         ensures call { IfErr result (λ r. r.call ≡ call) }
         ensures refused { MatchResult result
@@ -46,9 +46,12 @@ impl<D: Dirs, J: Naming> Store<D, J> {
         made
     }
 
-    /// Makes the next directory call of a job, publishes its effect, and tells the pass of all that is published.
+    /// Makes the next directory call of a job, publishes its effect, and tells the pass of all that is published; where memory for that is
+    /// wanting, the news is `Later`.
     ///
-    /// `own` is the moment by the clock of the job's host; a job without one goes by the store's.
+    /// `now` and `own` are in seconds. The store's clock becomes `now` where that is greater; `own` is the moment by the clock of the job's
+    /// host, and a job without one goes by the store's. Refused `NoJob`, `Answered`, or `NoMemory`: then no directory call was made, the
+    /// pass holds what it held, and an effect that was left from before may have been published.
     pub fn step<R: Wait>(
         &self,
         rt: &R,
@@ -58,6 +61,7 @@ impl<D: Dirs, J: Naming> Store<D, J> {
         own: Option<u64>,
     ) -> Result<StoreStep, CoreError>
         ensures held { IsPrefix pass.old pass.new }
+        ensures news { IfOk result (λ s. IsNews s.news s.out.effect pass.old pass.new) }
         ensures told { IfOk result (λ s. IsTold s.news s.out.answer job pass.new) }
         ensures refused { OnErr result (pass.new ≡ pass.old) }
         ensures error { IfErr result (λ e. (e ≡ core.NoJob) ⊎ (e ≡ core.Answered) ⊎ (e ≡ core.NoMemory)) }
@@ -68,7 +72,8 @@ impl<D: Dirs, J: Naming> Store<D, J> {
         made
     }
 
-    /// A copy of the bytes of the message of a unique name, in new or cur of any folder. None where there is no such message.
+    /// A copy of the bytes of the message of a unique name, in new or cur of any folder. None where there is no such message. It is refused
+    /// only for want of memory.
     pub fn read<R: Wait>(
         &self,
         rt: &R,
@@ -82,7 +87,8 @@ impl<D: Dirs, J: Naming> Store<D, J> {
     }
 
     /// Lists a folder, in order of unique name: its new as of one moment, joined with its cur as of a later one. It takes no lock, and shows
-    /// at least what the pass has seen or was told of.
+    /// at least what the pass has seen or was told of. Refused `Closed`, else `NoFolder`, else `NoMemory`; the pass then holds no less than
+    /// before.
     pub fn list(
         &self,
         alloc: Global,
@@ -93,12 +99,13 @@ impl<D: Dirs, J: Naming> Store<D, J> {
         ensures entries { IfOk result (λ v. Lists folder J.opening pass.old pass.new v.items) }
         ensures folder { OnOk result (folder < J.opening.folders) }
         ensures no_folder { IfErr result (λ e. e ≡ refusal.NoFolder → J.opening.folders ≤ folder) }
+        ensures no_memory { IfErr result (λ e. e ≡ refusal.NoMemory → folder < J.opening.folders) }
     {
         let first = self.first(alloc, pass, folder)?;
         self.second(alloc, pass, &first)
     }
 
-    /// Reads new of a folder: the first half of a listing.
+    /// Reads new of a folder: the first half of a listing. Refused as `list` is; the pass then holds what it held.
     pub fn first(
         &self,
         alloc: Global,
@@ -109,12 +116,15 @@ impl<D: Dirs, J: Naming> Store<D, J> {
         ensures legal { OnOk result (IsLegalFrom J.opening pass.new) }
         ensures folder { OnOk result (folder < J.opening.folders) }
         ensures no_folder { IfErr result (λ e. e ≡ refusal.NoFolder → J.opening.folders ≤ folder) }
+        ensures no_memory { IfErr result (λ e. e ≡ refusal.NoMemory → folder < J.opening.folders) }
+        ensures unchanged { OnErr result (pass.new ≡ pass.old) }
         ensures entries { IfOk result (λ f. (f.folder ≡ folder) × (f.entries ≡ read_at folder New J.opening pass.new)) }
     {
         pass.first(alloc, folder)
     }
 
-    /// Reads cur of the folder of a first reading, and joins the two: the second half of a listing.
+    /// Reads cur of the folder of a first reading, and joins the two: the second half of a listing. Refused as `list` is; the pass then holds
+    /// what it held.
     pub fn second(
         &self,
         alloc: Global,
@@ -125,12 +135,14 @@ impl<D: Dirs, J: Naming> Store<D, J> {
         ensures legal { OnOk result (IsLegalFrom J.opening pass.new) }
         ensures folder { OnOk result (first.now.folder < J.opening.folders) }
         ensures no_folder { IfErr result (λ e. e ≡ refusal.NoFolder → J.opening.folders ≤ first.now.folder) }
+        ensures no_memory { IfErr result (λ e. e ≡ refusal.NoMemory → first.now.folder < J.opening.folders) }
+        ensures unchanged { OnErr result (pass.new ≡ pass.old) }
         ensures entries { IfOk result (λ v. Finishes J.opening first.now pass.new v.items) }
     {
         pass.second(alloc, first)
     }
 
-    /// The world, once the threads that used the store have ended.
+    /// The world, once the threads that used the store have ended. It waits for listings that are being read.
     pub fn close<R: Wait>(self, rt: &R) -> World<D>
         ensures { named_of result.image ≡ J.opening }
     {

@@ -1,9 +1,10 @@
 -- A change that a legal history allows fits the names.
-use Rattle.std.proofs.Common.{ℕ, ◌≡◌, ◌≢◌, ◌<◌, List, Option, None, true, false, cond, not, is_some, refl, sym, ap, subst, ◌∙◌, lt-ltb}
+use Rattle.std.proofs.Common.{ℕ, ◌≡◌, ◌≢◌, ◌<◌, List, Option, None, true, false, cond, not, is_some, refl, sym, ap, subst, ◌∙◌, lt-ltb, length, arith}
 use Rattle.std.specs.Option.{option_map_or}
 use Rattle.std.specs.FinMap as finmap
 use Rattle.std.specs.FinMap.{get}
 use Rattle.std.proofs.lemmas.Cmp.{nat_eq_equiv, nat_list_eq_equiv, nat_list_cmp_total}
+use Rattle.std.proofs.lemmas.List.{take_all}
 use Rattle.std.proofs.lemmas.Map.Lookups.{exact_bytes}
 use Rattle.md_name.specs.Letters.{Set}
 use Rattle.md_name.specs.Names.{unique_of, is_message_name, flagged}
@@ -13,11 +14,12 @@ use Rattle.md_dirs.specs.declared.paths.Place.{Place}
 use Rattle.md_dirs.specs.declared.paths.Place.TheVariants.{Tmp, New, Cur}
 use Rattle.md_dirs.proofs.Maps.{at_drop}
 use Rattle.md_core.specs.Mailbox.{is_tmp}
-use Rattle.md_core.specs.History.{Listed, Names, IsThere, IsAllowed, changed}
+use Rattle.md_core.specs.History.{Listed, Names, IsThere, IsNowhere, WasNowhere, IsAllowed, after, changed}
 use Rattle.md_core.specs.declared.jobs.answer.Answer.{Answer}
 use Rattle.md_core.specs.declared.jobs.answer.Answer.TheVariants as answer
 use Rattle.md_core.specs.declared.jobs.effect.Change.{Change}
 use Rattle.md_core.specs.declared.jobs.effect.Change.TheVariants as change
+use Rattle.md_core.specs.declared.jobs.effect.Effect.{Effect}
 use Rattle.md_core.proofs.Looking.LookUps.{message-name}
 use Rattle.md_view.specs.Named.{Named, IsMessage, AreMessages, is_listed, has_name, is_there, is_free, fits, applied}
 use Rattle.md_view.proofs.Rows.{and-both}
@@ -98,3 +100,7 @@ module _ (n : Named) where
       pub allowed-applied : (a : Answer) (c : Change) → IsAllowed n.folders n.names IsFresh a c
           → applied n c ≡ record { folders = n.folders; names = changed n.names c }
       allowed-applied a c h = ap (λ b. cond b (record { folders = n.folders; names = changed n.names c }) n) (allowed-fits a c h)
+
+-- a name that was nowhere is nowhere now
+pub nowhere : (opening : Names) (history : List Effect) (u : List ℕ) → WasNowhere opening history u → IsNowhere (after opening history) u
+nowhere opening history u was = subst (λ h. IsNowhere (after opening h) u) (take_all (length history) history (omega arith)) (was (length history))

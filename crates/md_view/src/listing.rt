@@ -26,7 +26,7 @@ pub struct Listing {
 }
 
 impl Listing {
-    /// Reads new of a folder.
+    /// Reads new of a folder. It is refused as `reading` is.
     pub fn begin<D: Dirs>(
         alloc: Global,
         world: &World<D>,
@@ -43,7 +43,7 @@ impl Listing {
     }
 
     /// Reads cur, at the same or a later moment of the same world, and joins the two. By the listing law the result shows each unique name
-    /// as it was in the folder at some moment between the two readings.
+    /// as it was in the folder at some moment between the two readings. It is refused as `reading` is.
     pub fn finish<D: Dirs>(&self, alloc: Global, world: &World<D>) -> Result<Vec<Entry>, ViewError>
         requires { HasBegun world.now self.now }
         ensures entries { IfOk result (λ all. all.items ≡ listing_of (names_at world.now) self.now.folder self.now.begun (length world.now.events)) }
@@ -56,7 +56,8 @@ impl Listing {
     }
 }
 
-/// The listing of a folder whose two readings are made at one moment: its messages now, in order of unique name. No entry is copied.
+/// The listing of a folder whose two readings are made at one moment: its messages now, in order of unique name. No entry is
+/// copied. It is refused as `reading` is.
 pub fn list<D: Dirs>(alloc: Global, world: &World<D>, folder: u32) -> Result<Vec<Entry>, ViewError>
     ensures entries { IfOk result (λ all. all.items ≡ listing_of (names_at world.now) folder (length world.now.events) (length world.now.events)) }
     ensures refusal { IfErr result (λ error. error ≡ reading_refusal (dirs_of world.now) folder) }

@@ -15,8 +15,8 @@ use std::alloc::{AllocError, Global};
 
 /// The messages of a directory of a folder now, in order of unique name. There are none in tmp.
 ///
-/// As in maildir(5), a message is a name that begins with no dot. It is refused where the folder isn't there, and otherwise only for want
-/// of memory.
+/// As in maildir(5), a name that begins with a dot is no message's, and neither is one with nothing in front of its first colon. It is
+/// refused where the folder isn't there, and otherwise only for want of memory.
 pub fn reading<D: Dirs>(
     alloc: Global,
     world: &World<D>,

@@ -5,7 +5,7 @@ ghost use Rattle.md_core.specs.Mailbox.{mailbox_of};
 ghost use Rattle.md_core.specs.Runs.{dirs_of, jobs_of};
 ghost use Rattle.md_script.specs.Folders.{names_of};
 ghost use Rattle.md_script.specs.Texts.{line_end};
-ghost use Rattle.maildir_cli.specs.Threading.{answers_text, folder_text, folders_text, report_of, AllAnswered, Interleaving};
+ghost use Rattle.maildir_cli.specs.Threading.{answers_text, folder_text, folders_text, report_of, AllAnswered, GoesOn, Interleaving};
 
 use crate::indexing::listing;
 use crate::threads::setting_up::Made;
@@ -14,19 +14,30 @@ use md_dirs::Dirs;
 use md_script::{push_answer_line, push_entries};
 use std::alloc::{AllocError, Global};
 
-/// Takes the steps of a store's jobs in their order, and makes the lines of the answers and of the folders. Each job has its answer then.
+/// Takes the steps of a store's jobs in their order, each at moment 0, and makes the lines of the answers and of the folders. Each job has
+/// its answer then.
 pub(super) fn replay(alloc: Global, made: Made, steps: &[Event]) -> Result<Vec<u8>, AllocError>
     ensures { IfOk result (λ text. (r : _) × Interleaving made.world r × (text.items ≡ report_of (names_of made.names.items) r)) }
 {
     let Made { names, mut world } = made;
-    // They were all taken before, so that memory alone can be wanting.
-    let Ok(()) = world.run(steps) else {
-        return Err(AllocError);
-    };
+    take_all(&mut world, steps)?;
     // That they are a run, and that these directories never fail.
     world.interleaves();
     world.counts();
     report(alloc, &world, &names)
+}
+
+/// Takes a step of each of these jobs, at moment 0 whatever the moment was before. They were all taken before, so that memory alone can be
+/// wanting.
+fn take_all<D: Dirs>(world: &mut World<D>, steps: &[Event]) -> Result<(), AllocError>
+    ensures { OnOk result (GoesOn world.old world.new) }
+{
+    for event in steps {
+        let Ok(_) = world.step(event.job, 0, None) else {
+            return Err(AllocError);
+        };
+    }
+    Ok(())
 }
 
 /// The lines of the answers of all jobs, and those of the folders. Each job has its answer.

@@ -28,8 +28,8 @@ pub enum Answer {
     TimedOut,
     /// The file in tmp was gone at an append or the link.
     TmpGone,
-    /// A message of that name is there.
+    /// A message of that name is there. No job of a world ends so, since a used name is refused when its call is submitted.
     NameTaken,
-    /// A directory call of the job faulted, and it had no effect.
+    /// A directory call of the job faulted, and it had no effect on the mailbox. A clean may have removed files before.
     Fault,
 }

@@ -11,6 +11,7 @@ use md_dirs::{Bytes, Dirs, Path, Place, Row};
 use std::alloc::{AllocError, Global};
 use std::marker::Model;
 
+/// A file of tmp that was not used for 36 hours, in seconds, is old (maildir(5)).
 const LEAST_SECONDS: u64 = 129_600;
 
 const LIST: DirCall = DirCall::List(Place::Tmp);

@@ -10,10 +10,13 @@ use crate::world::World;
 use md_dirs::Dirs;
 use md_name::is_unique_name;
 
+/// The most bytes of a body, 16 MiB.
 const MOST_BYTES: usize = 16_777_216;
 
+/// The most jobs of a world.
 const MOST_JOBS: usize = 10_000;
 
+/// The most tries of a call.
 const MOST_TRIES: u64 = 16;
 
 // The error of the first check that is met.

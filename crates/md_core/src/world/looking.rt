@@ -60,7 +60,9 @@ impl Seen {
             return Err(CoreError::BadName);
         }
         match place {
-            Place::Tmp => self.tmp.insert(row.name)?,
+            Place::Tmp => {
+                self.tmp.insert(row.name)?;
+            }
             Place::New | Place::Cur => self.add_message(row.name)?,
         }
         self.clock = self.clock.max(row.stamp);
@@ -79,10 +81,10 @@ impl Seen {
         if unique.len() > MOST_UNIQUE_BYTES {
             return Err(CoreError::LongUnique);
         }
-        if self.messages.contains(unique) {
+        if !self.messages.insert(unique)? {
             return Err(CoreError::DuplicateUnique);
         }
-        Ok(self.messages.insert(unique)?)
+        Ok(())
     }
 }
 

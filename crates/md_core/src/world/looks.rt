@@ -30,7 +30,7 @@ impl<D: Dirs> World<D> {
         self.log.effects.as_slice()
     }
 
-    /// The row at a position of the ordered names of a directory.
+    /// The row at a position of the ordered names of a directory, from 0. None past the last, and where the folder is not there.
     pub fn names(&self, folder: u32, place: Place, at: usize) -> Option<RowRef<'_>>
         ensures { option_map (λ r. record { name = r.name.now; stamp = r.stamp; size = r.size }) result
             ≡ slice_get (rows_of (dirs_of self.now) folder place) at }
@@ -38,7 +38,7 @@ impl<D: Dirs> World<D> {
         self.dirs.row_at(folder, place, at)
     }
 
-    /// The answer of a job, if it has one.
+    /// The answer of a job, if it has one. None also where there is no such job.
     pub fn answer(&self, job: JobId) -> Option<Answer>
         ensures { result ≡ answer_of (job_at (jobs_of self.now) job) }
     {

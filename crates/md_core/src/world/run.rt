@@ -16,7 +16,8 @@ pub struct RunStop {
 }
 
 impl<D: Dirs> World<D> {
-    /// Takes steps, one after another, until one is refused. The events before it were taken, and none after it.
+    /// Takes steps, one after another, until one is refused, as `step` refuses: `NoJob`, `Answered` or `NoMemory`. The events before it were
+    /// taken, and none after it.
     pub fn run(&mut self, events: &[Event]) -> Result<(), RunStop>
         ensures taken { OnOk result (TakesAll events.now self.old self.new) }
         ensures stopped { IfErr result (λ stop. StopsAt events.now stop.at stop.error self.old self.new) }

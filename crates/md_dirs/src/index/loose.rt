@@ -1,5 +1,5 @@
 // Names in the order of their coming, before they are sorted.
-ghost use Rattle.std.specs.Prelude.{◌≡◌, ◌<◌, ◌^◌, ℕ, OnOk, OnErr, IfOk, vec_len};
+ghost use Rattle.std.specs.Prelude.{◌≡◌, ◌<◌, ◌^◌, ℕ, OnOk, OnErr, IfOk, EachIndex, slice_index, vec_len};
 ghost use Rattle.std.specs.FinMap as finmap;
 ghost use Rattle.md_dirs.specs.Index.{directory_at};
 
@@ -27,6 +27,18 @@ impl Model for LooseNames {
     ghost view = { λ d. from_entries (rows_by_name d.rows.entries) };
 }
 
+// The numbers below one, in turn.
+fn in_turn(alloc: Global, count: usize) -> Result<Vec<usize>, AllocError>
+    ensures long { IfOk result (λ order. vec_len order ≡ count) }
+    ensures each { IfOk result (λ order. EachIndex order.items (λ k. slice_index order.items k ≡ k)) }
+{
+    let mut order = Vec::with_capacity(alloc, count)?;
+    for at in 0..count {
+        order.push(at)?;
+    }
+    Ok(order)
+}
+
 impl LooseNames {
     fn new(alloc: Global) -> Self
         ensures { result ≡ finmap.empty }
@@ -51,12 +63,13 @@ impl LooseNames {
     }
 
     // The names in order, by one sort.
-    fn sorted(self) -> Result<Names, AllocError>
+    fn sorted(self, alloc: Global) -> Result<Names, AllocError>
         ensures { IfOk result (λ names. names ≡ self) }
     {
         let LooseNames { mut rows } = self;
         rows.sort_unstable_keys()?;
-        Ok(Names { rows })
+        let order = in_turn(alloc, rows.len())?;
+        Ok(Names { rows, order })
     }
 }
 
@@ -135,7 +148,7 @@ impl LooseTree {
         let LooseTree { directories } = self;
         let mut sorted = Vec::with_capacity(alloc, directories.len())?;
         for names in directories {
-            sorted.push(names.sorted()?)?;
+            sorted.push(names.sorted(alloc)?)?;
         }
         Ok(Tree {
             directories: sorted,

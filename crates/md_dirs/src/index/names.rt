@@ -1,13 +1,13 @@
-// The names of one directory, hashed and in order.
-ghost use Rattle.std.specs.Prelude.{◌≡◌, ◌<◌, ◌+◌, ◌^◌, None, OnOk, OnErr, IfOk, IfSome, IsSome, IsTrue, All, length, map, nat_lt, slice_get, slice_set, find as first_with};
+// The names of one directory, hashed, and their order.
+ghost use Rattle.std.specs.Prelude.{◌≡◌, ◌<◌, ◌+◌, ◌^◌, [], None, OnOk, OnErr, IfOk, IfErr, IfSome, IsSome, IsTrue, All, length, map, nat_lt, slice_get, slice_index_or, slice_set, find as first_with};
 ghost use Rattle.std.specs.Option.{option_map};
 ghost use Rattle.std.specs.FinMap as finmap;
 ghost use Rattle.md_dirs.specs.State.{file_by};
 ghost use Rattle.md_dirs.specs.Files.{files_of, name_row};
-ghost use Rattle.std.specs.FinMap.{is_sorted};
 ghost use Rattle.md_dirs.specs.Rows.{is_named as is_named_by};
-ghost use Rattle.md_dirs.specs.Find.{zone, name_at, IsInfoPoint, IsFirstPlace};
-ghost use Rattle.md_dirs.specs.Index.{name_cmp, rows_by_name, order_at, EndsBelow, FitsAt, get_name, Renames};
+ghost use Rattle.md_dirs.specs.Find.{zone, name_at, IsInfoPoint};
+ghost use Rattle.md_dirs.specs.Plain.{IsAt, IsGap};
+ghost use Rattle.md_dirs.specs.Index.{name_cmp, order_at, FitsAt, get_name, Renames};
 
 use crate::files::{Kept, shown_row};
 use crate::rows::{Row, is_below_info, is_named};
@@ -16,89 +16,25 @@ use std::alloc::{AllocError, Global};
 use std::cmp::Ordering;
 use std::marker::Model;
 
-/// The names of one directory, each with the number of its file: a hash table whose rows stand in order of the names.
+/// The names of one directory, each with the number of its file: a hash table, and the positions of its rows in order of the
+/// names.
 #[derive(Drop)]
 pub struct Names {
     pub(crate) rows: IndexMap<Vec<u8>, usize>,
+    pub(crate) order: Vec<usize>,
 }
 
 impl Model for Names {
-    ghost use Rattle.std.specs.Prelude.{IsTrue};
-    ghost use Rattle.std.specs.FinMap.{from_sorted, is_sorted};
-    ghost use Rattle.md_dirs.specs.Index.{NameMap, name_code, name_cmp, rows_by_name};
+    ghost use Rattle.std.specs.FinMap.{from_entries};
+    ghost use Rattle.md_dirs.specs.Index.{NameMap, name_code, rows_by_name, IsOrderOf};
 
     ghost Value = { NameMap };
 
     ghost coded = { name_code };
 
-    ghost view = { λ d. from_sorted (rows_by_name d.rows.entries) };
+    ghost view = { λ d. from_entries (rows_by_name d.rows.entries) };
 
-    ghost invariant = { λ d. IsTrue (is_sorted name_cmp (rows_by_name d.rows.entries)) };
-}
-
-// How the row at a position compares with a name.
-fn compare_at(rows: &IndexMap<Vec<u8>, usize>, at: usize, name: &[u8]) -> Ordering
-    requires { at < length rows.now.entries }
-    ensures { result ≡ order_at (rows_by_name rows.now.entries) at name.now }
-{
-    let (key, _) = rows.get_index(at).unwrap();
-    key.as_slice().cmp(name)
-}
-
-// Whether the row at a position is below a unique name with a colon.
-fn is_below(rows: &IndexMap<Vec<u8>, usize>, at: usize, unique: &[u8]) -> bool
-    requires { at < length rows.now.entries }
-    ensures { result ≡ nat_lt (zone unique.now (name_at (rows_by_name rows.now.entries) at)) 3 }
-{
-    let (key, _) = rows.get_index(at).unwrap();
-    is_below_info(key.as_slice(), unique)
-}
-
-// Where the rows begin that are not below a unique name with a colon, by halving.
-fn info_point(rows: &IndexMap<Vec<u8>, usize>, unique: &[u8]) -> usize
-    requires { IsTrue (is_sorted name_cmp (rows_by_name rows.now.entries)) }
-    ensures { IsInfoPoint (rows_by_name rows.now.entries) unique.now result }
-{
-    let mut low = 0;
-    let mut high = rows.len();
-    while low < high {
-        let middle = low + (high - low) / 2;
-        if is_below(rows, middle, unique) {
-            low = middle + 1;
-        } else {
-            high = middle;
-        }
-    }
-    low
-}
-
-// Where the first name is that has a unique name: by hash where it is the unique name, and else by halving.
-fn first_place(rows: &IndexMap<Vec<u8>, usize>, unique: &[u8]) -> usize
-    requires { IsTrue (is_sorted name_cmp (rows_by_name rows.now.entries)) }
-    ensures { IsFirstPlace (rows_by_name rows.now.entries) unique.now result }
-{
-    if let Some((at, _, _)) = rows.get_full(unique) {
-        return at;
-    }
-    info_point(rows, unique)
-}
-
-// Whether a name is above the last row, so that it goes behind all.
-fn is_behind(rows: &IndexMap<Vec<u8>, usize>, name: &[u8]) -> bool
-    ensures { IsTrue result → EndsBelow (rows_by_name rows.now.entries) name.now }
-{
-    let count = rows.len();
-    count == 0 || compare_at(rows, count - 1, name).is_lt()
-}
-
-// Whether a name may take the place of the row at a position: it is above the row before and below the row behind.
-fn keeps_place(rows: &IndexMap<Vec<u8>, usize>, at: usize, name: &[u8]) -> bool
-    requires { at < length rows.now.entries }
-    ensures { IsTrue result → FitsAt (rows_by_name rows.now.entries) at name.now }
-{
-    let count = rows.len();
-    let is_after = at == 0 || compare_at(rows, at - 1, name).is_lt();
-    is_after && (at + 1 == count || compare_at(rows, at + 1, name).is_gt())
+    ghost invariant = { λ d. IsOrderOf (rows_by_name d.rows.entries) d.order.items };
 }
 
 // Puts a row in the place of one, which goes.
@@ -128,7 +64,112 @@ impl Names {
     {
         Names {
             rows: IndexMap::new(alloc),
+            order: Vec::new(alloc),
         }
+    }
+
+    // How many names there are.
+    fn count(&self) -> usize
+        ensures { result ≡ length (finmap.entries self.now) }
+    {
+        self.order.len()
+    }
+
+    // The row at a position in order of the names.
+    fn row(&self, at: usize) -> (&[u8], usize)
+        requires { at < length (finmap.entries self.now) }
+        ensures { (result.0.now, result.1) ≡ slice_index_or (finmap.entries self.now) at ([], 0) }
+    {
+        let (name, file) = self.rows.get_index(self.order[at]).unwrap();
+        (name.as_slice(), *file)
+    }
+
+    // How the row at a position compares with a name.
+    fn compare_at(&self, at: usize, name: &[u8]) -> Ordering
+        requires { at < length (finmap.entries self.now) }
+        ensures { result ≡ order_at (finmap.entries self.now) at name.now }
+    {
+        self.row(at).0.cmp(name)
+    }
+
+    // Where the row of a name is, or where it would go, by halving.
+    fn search(&self, name: &[u8]) -> Result<usize, usize>
+        ensures found { IfOk result (IsAt name_cmp (finmap.entries self.now) name.now) }
+        ensures absent { IfErr result (IsGap name_cmp (finmap.entries self.now) name.now) }
+    {
+        let mut low = 0;
+        let mut high = self.count();
+        // Names come in the order of time, so the last row is looked at first.
+        if high > 0 && self.compare_at(high - 1, name).is_lt() {
+            return Err(high);
+        }
+        while low < high {
+            let middle = low + (high - low) / 2;
+            match self.compare_at(middle, name) {
+                Ordering::Less => low = middle + 1,
+                Ordering::Equal => return Ok(middle),
+                Ordering::Greater => high = middle,
+            }
+        }
+        Err(low)
+    }
+
+    // Where the row of a name is that is there.
+    fn place_of(&self, name: &[u8]) -> usize
+        requires { IsSome (finmap.get self.now name.now) }
+        ensures { IsAt name_cmp (finmap.entries self.now) name.now result }
+    {
+        let Ok(at) = self.search(name) else {
+            unreachable!();
+        };
+        at
+    }
+
+    // Where the row of a name is, if it is there: first at its position in the table, which it has in the order too while no
+    // name has come or gone amid the order, and else by halving.
+    fn hashed_place(&self, name: &[u8]) -> Option<usize>
+        ensures { IfSome result (IsAt name_cmp (finmap.entries self.now) name.now) }
+    {
+        let (row, _, _) = self.rows.get_full(name)?;
+        if row < self.order.len() && self.order[row] == row {
+            return Some(row);
+        }
+        self.search(name).ok()
+    }
+
+    // Whether the row at a position is below a unique name with a colon.
+    fn is_below(&self, at: usize, unique: &[u8]) -> bool
+        requires { at < length (finmap.entries self.now) }
+        ensures { result ≡ nat_lt (zone unique.now (name_at (finmap.entries self.now) at)) 3 }
+    {
+        is_below_info(self.row(at).0, unique)
+    }
+
+    // Where the rows begin that are not below a unique name with a colon, by halving.
+    fn info_point(&self, unique: &[u8]) -> usize
+        ensures { IsInfoPoint (finmap.entries self.now) unique.now result }
+    {
+        let mut low = 0;
+        let mut high = self.count();
+        while low < high {
+            let middle = low + (high - low) / 2;
+            if self.is_below(middle, unique) {
+                low = middle + 1;
+            } else {
+                high = middle;
+            }
+        }
+        low
+    }
+
+    // Whether a name may take the place of the row at a position: it is above the row before and below the row behind.
+    fn keeps_place(&self, at: usize, name: &[u8]) -> bool
+        requires { at < length (finmap.entries self.now) }
+        ensures { IsTrue result → FitsAt (finmap.entries self.now) at name.now }
+    {
+        let count = self.count();
+        let is_after = at == 0 || self.compare_at(at - 1, name).is_lt();
+        is_after && (at + 1 == count || self.compare_at(at + 1, name).is_gt())
     }
 
     /// The number of the file of a name.
@@ -138,38 +179,53 @@ impl Names {
         self.rows.get(name).copied()
     }
 
-    /// Gives a name to a file, also in place of the one that it named. At the end of the order no row moves.
+    /// Gives a name to a file, also in place of the one that it named. In the order the positions behind move: none where the
+    /// name goes at the end.
     pub fn put(&mut self, name: Vec<u8>, file: usize) -> Result<(), AllocError>
         ensures ok { OnOk result (self.new ≡ finmap.insert self.old name.items file) }
         ensures err { OnErr result (self.new ≡ self.old) }
     {
-        // Names come in the order of time, so the last row is looked at first.
-        if is_behind(&self.rows, name.as_slice()) {
-            self.rows.insert(name, file)?;
-        } else {
-            self.rows.insert_sorted(name, file)?;
+        let place = self.search(name.as_slice());
+        self.order.reserve(1)?;
+        let last = self.rows.len();
+        self.rows.insert(name, file)?;
+        if let Err(at) = place {
+            self.order.insert(at, last)?;
         }
         Ok(())
     }
 
-    /// Takes a name away, and gives the number of its file. It takes no memory, and at the end of the order no row moves.
+    /// Takes a name away, and gives the number of its file. It takes no memory. The last row of the table takes the place that
+    /// comes free there, and in the order the positions behind move: none where the name stands at the end.
     pub fn take(&mut self, name: &[u8]) -> Option<usize>
         ensures file { result ≡ finmap.get self.old name.now }
         ensures gone { self.new ≡ finmap.remove self.old name.now }
     {
-        self.rows.shift_remove(name)
+        let Ok(at) = self.search(name) else {
+            return None;
+        };
+        let gone = self.order[at];
+        // The last row of the table goes to the position that comes free.
+        let last = self.rows.len() - 1;
+        let (key, _) = self.rows.get_index(last).unwrap();
+        let moved = self.place_of(key.as_slice());
+        self.order[moved] = gone;
+        self.order.remove(at);
+        let (_, file) = self.rows.swap_remove_index(gone).unwrap();
+        Some(file)
     }
 
-    /// Gives the file of a name another name, which is not there yet. Where that keeps the row's place in the order, no row
-    /// moves. Where memory is wanting, nothing has changed.
+    /// Gives the file of a name another name, which is not there yet. Where that keeps the row's place in the order, no
+    /// position moves. Where memory is wanting, nothing has changed.
     pub fn rename(&mut self, old: &[u8], new: Vec<u8>, file: usize) -> Result<(), AllocError>
         requires { finmap.get self.old new.items ≡ None }
         ensures ok { OnOk result (self.new ≡ finmap.remove (finmap.insert self.old new.items file) old.now) }
         ensures err { OnErr result (self.new ≡ self.old) }
     {
-        if let Some((at, _, _)) = self.rows.get_full(old) {
-            if keeps_place(&self.rows, at, new.as_slice()) {
-                replace_row(&mut self.rows, at, new, file)?;
+        if let Some(at) = self.hashed_place(old) {
+            if self.keeps_place(at, new.as_slice()) {
+                let row = self.order[at];
+                replace_row(&mut self.rows, row, new, file)?;
                 return Ok(());
             }
         }
@@ -183,9 +239,12 @@ impl Names {
     pub fn find(&self, unique: &[u8]) -> Option<(&[u8], usize)>
         ensures { option_map (λ r. (r.0.now, r.1)) result ≡ first_with (λ e. is_named_by unique.now e.0) (finmap.entries self.now) }
     {
-        let (name, file) = self.rows.get_index(first_place(&self.rows, unique))?;
-        if is_named(name.as_slice(), unique) {
-            Some((name.as_slice(), *file))
+        if let Some((name, file)) = self.rows.get_key_value(unique) {
+            return Some((name.as_slice(), *file));
+        }
+        let (name, file) = self.row_at(self.info_point(unique))?;
+        if is_named(name, unique) {
+            Some((name, file))
         } else {
             None
         }
@@ -196,10 +255,11 @@ impl Names {
         ensures row { option_map (λ r. (r.0.now, r.1)) result ≡ slice_get (finmap.entries self.now) at }
         ensures few { IfSome result (λ _. at + 1 < 2 ^ 64) }
     {
-        // A map has fewer names than a `usize` may count.
-        let _few = self.rows.len();
-        let (name, file) = self.rows.get_index(at)?;
-        Some((name.as_slice(), *file))
+        if at < self.count() {
+            Some(self.row(at))
+        } else {
+            None
+        }
     }
 
     /// All rows, copied. It is refused only for want of memory.
@@ -207,11 +267,11 @@ impl Names {
         requires { All (λ e. IsSome (file_by (files_of slots.now) e.1)) (finmap.entries self.now) }
         ensures { IfOk result (λ shown. shown.items ≡ map (name_row (files_of slots.now)) (finmap.entries self.now)) }
     {
-        let count = self.rows.len();
+        let count = self.count();
         let mut shown = Vec::with_capacity(alloc, count)?;
         for at in 0..count {
-            let (name, file) = self.rows.get_index(at).unwrap();
-            shown.push(shown_row(slots, name.as_slice(), *file).copied(alloc)?)?;
+            let (name, file) = self.row(at);
+            shown.push(shown_row(slots, name, file).copied(alloc)?)?;
         }
         Ok(shown)
     }

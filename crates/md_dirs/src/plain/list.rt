@@ -25,7 +25,7 @@ fn copied_rows(
     requires { All (λ e. IsSome (file_by (files_of slots.now) e.1)) rows.now }
     ensures { IfOk result (λ shown. shown.items ≡ map (name_row (files_of slots.now)) (map named_row rows.now)) }
 {
-    let mut shown = Vec::new(alloc);
+    let mut shown = Vec::with_capacity(alloc, rows.len())?;
     for (path, file) in rows {
         shown.push(shown_row(slots, path.name.as_slice(), *file).copied(alloc)?)?;
     }

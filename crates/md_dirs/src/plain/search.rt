@@ -19,8 +19,8 @@ pub fn find_name(
     name: &[u8],
 ) -> Result<usize, usize>
     requires { IsTrue (is_sorted path_cmp rows.now) }
-    ensures found { IfOk result (IsAt rows.now (path_of folder place name.now)) }
-    ensures absent { IfErr result (IsGap rows.now (path_of folder place name.now)) }
+    ensures found { IfOk result (IsAt path_cmp rows.now (path_of folder place name.now)) }
+    ensures absent { IfErr result (IsGap path_cmp rows.now (path_of folder place name.now)) }
 {
     let mut low = 0;
     let mut high = rows.len();
@@ -38,8 +38,8 @@ pub fn find_name(
 // Where the row of a path is, or where it would go.
 pub fn find_row(rows: &[(Path, usize)], path: &Path) -> Result<usize, usize>
     requires { IsTrue (is_sorted path_cmp rows.now) }
-    ensures found { IfOk result (IsAt rows.now path.now) }
-    ensures absent { IfErr result (IsGap rows.now path.now) }
+    ensures found { IfOk result (IsAt path_cmp rows.now path.now) }
+    ensures absent { IfErr result (IsGap path_cmp rows.now path.now) }
 {
     find_name(rows, path.folder, path.place, path.name.as_slice())
 }

@@ -9,7 +9,8 @@ use md_core::World;
 use md_dirs::{DirError, ImageFile};
 use std::alloc::Global;
 
-/// A store over folders and files, or why there is none: two files have one path, or else a name that the store refuses.
+/// A store over folders and files. Refused `SamePath` where two files have one path, or where the folder of one isn't there, which no
+/// script can name; else `Core` of `BadName`, `LongUnique` or `DuplicateUnique`. `NoMemory` may come in place of any of these.
 #[tactic(auto, unfolding(crate::specs::Sessions::opened))]
 pub fn open_store<D: Storage>(
     alloc: Global,
@@ -25,7 +26,7 @@ pub fn open_store<D: Storage>(
     }
 }
 
-/// The directories that the files are. The folder of each is there, so that the only refusal is that two have one path.
+/// The directories that the files are. A script names no folder that isn't there, so that the only refusal is that two have one path.
 #[tactic(auto, unfolding(crate::specs::Sessions::image_of))]
 fn directories<D: Storage>(
     alloc: Global,

@@ -77,11 +77,11 @@ fn a_write_fault_comes_before_a_refused_line(rt: HostRuntime) {
     let scripts: [&[u8]; 2] = [b"unique 1 2 3 4 a", b"unique 1 2 3 4 a\nx"];
     for text in scripts {
         for good in 0..18u32 {
-            let mut script: &[u8] = text;
+            let mut script = Reader::new(text);
             let answer = play(rt.alloc(), &mut script, &mut Writer::new(Full { good }));
             assert_eq!(rt; answer, unnumbered(PlayKind::WriteFault), "{good}");
         }
-        let mut script: &[u8] = text;
+        let mut script = Reader::new(text);
         let answer = play(rt.alloc(), &mut script, &mut Writer::new(Unflushed));
         assert_eq!(rt; answer, unnumbered(PlayKind::WriteFault));
     }
@@ -89,19 +89,19 @@ fn a_write_fault_comes_before_a_refused_line(rt: HostRuntime) {
 
 #[test]
 fn a_sink_that_takes_nothing_is_a_write_fault(rt: HostRuntime) {
-    let mut script: &[u8] = SCRIPT;
+    let mut script = Reader::new(SCRIPT);
     let answer = play(rt.alloc(), &mut script, &mut Writer::new(Shut));
     assert_eq!(rt; answer, unnumbered(PlayKind::WriteFault));
 
     // Where nothing is printed, nothing is asked of it.
-    let mut script: &[u8] = b"folder i";
+    let mut script = Reader::new(b"folder i".as_slice());
     let answer = play(rt.alloc(), &mut script, &mut Writer::new(Shut));
     assert_eq!(rt; answer, Ok(()));
 }
 
 #[test]
 fn a_sink_that_takes_a_part_is_given_the_rest(rt: HostRuntime) {
-    let mut script: &[u8] = SCRIPT;
+    let mut script = Reader::new(SCRIPT);
     let mut sink = Writer::new(Slow {
         kept: Vec::new(rt.alloc()),
         is_next: false,

@@ -1,7 +1,7 @@
 //! Scripts of known transcripts.
 
 use crate::tests::plain::played;
-use crate::{PlayError, PlayKind, Writer, count_lines, play, transcript};
+use crate::{PlayError, PlayKind, Reader, Writer, count_lines, play, transcript};
 use std::io;
 use std::io::Write;
 use std::test::Fail;
@@ -209,7 +209,7 @@ const ROWS: [Row; 38] = [
 #[test]
 fn scripts_print_their_transcripts(rt: HostRuntime) -> Result<(), Fail> {
     for row in &ROWS {
-        let mut script: &[u8] = row.script;
+        let mut script = Reader::new(row.script);
         let mut out = Vec::new(rt.alloc());
         let answer = play(rt.alloc(), &mut script, &mut out);
         assert_eq!(rt; answer, Ok(()), "{}", row.shows);
@@ -539,7 +539,7 @@ const REFUSED: [Refused; 56] = [
 #[test]
 fn a_refused_line_ends_the_transcript(rt: HostRuntime) -> Result<(), Fail> {
     for row in &REFUSED {
-        let mut script: &[u8] = row.script;
+        let mut script = Reader::new(row.script);
         let mut out = Vec::new(rt.alloc());
         match play(rt.alloc(), &mut script, &mut out) {
             Ok(()) => assert!(rt; false, "{}", row.text),
@@ -563,7 +563,7 @@ fn a_store_takes_at_most_10000_jobs(rt: HostRuntime) -> Result<(), Fail> {
         let line = format!(in rt.alloc(); "job deliver i u{job} 1\n")?;
         text.extend_from_slice(line.as_bytes())?;
     }
-    let mut script: &[u8] = &text;
+    let mut script = Reader::new(text.as_slice());
     let mut out = Vec::new(rt.alloc());
     match play(rt.alloc(), &mut script, &mut out) {
         Ok(()) => assert!(rt; false),
@@ -586,7 +586,7 @@ fn a_body_has_at_most_16_mebibytes(rt: HostRuntime) -> Result<(), Fail> {
     for _ in 0..16_777_217u32 {
         text.push(b'x')?;
     }
-    let mut script: &[u8] = &text;
+    let mut script = Reader::new(text.as_slice());
     let mut out = Vec::new(rt.alloc());
     match play(rt.alloc(), &mut script, &mut out) {
         Ok(()) => assert!(rt; false),
@@ -624,7 +624,7 @@ impl Write for Room {
 #[test]
 fn where_memory_runs_out_nothing_is_written(rt: HostRuntime) {
     let row = &ROWS[0];
-    let mut script: &[u8] = row.script;
+    let mut script = Reader::new(row.script);
     let mut sink = Writer::new(Room {
         bytes: [0; 200],
         len: 0,

@@ -153,8 +153,8 @@ pub fn all_of<D: Dirs>(alloc: Global, world: &World<D>) -> Result<Vec<FolderName
     ensures refusal { IfErr result (λ error. error ≡ NoMemory) }
 {
     world.interleaves();
-    let mut folders = Vec::new(alloc);
     let count = world.folders();
+    let mut folders = Vec::with_capacity(alloc, count as usize)?;
     for folder in 0..count {
         folders.push(FolderNames::of(alloc, world, folder)?)?;
     }

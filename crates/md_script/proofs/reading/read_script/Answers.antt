@@ -1,4 +1,4 @@
-use Rattle.std.proofs.Common.{◌∙◌, ◌≤◌, length, take, sym, arith, length-take-le}
+use Rattle.std.proofs.Common.{◌∙◌, ◌≤◌, length, take, arith, length-take-le}
 use Rattle.md_script.proofs.Chunks.{Filled, filled_more, filled_same, more_fits}
 use Rattle.md_script.proofs.reading.read_script.Goals as goal
 use Rattle.md_script.proofs.reading.read_script.Goals.{in-Bytes+else-count-eq0, in-Interrupted}
@@ -38,10 +38,7 @@ loop-preserved g c =
             there = omega (arith, fits, w.filled-is);
             within = omega arith;
             sound = filled.sound;
-            each = λ never.
-                let so_far = c.loop.invariant.each (sym w.in-Bytes.ensures.read.no_trouble.interrupted ∙
-                never) in omega (arith, so_far, w.filled-is, w.if-count-eq0.false);
-            counted = omega (arith, c.loop.invariant.counted, c.read_behind.ensures.counted);
+            counted = omega (arith, c.loop.invariant.counted, w.in-Bytes.ensures.read.counted);
           }
       | in-Interrupted w ↦
           let filled = filled_same _ _ _ _ _ c.loop.filled before front c.match-read_behind.filled w.in-Interrupted.ensures.read w.filled-is in
@@ -50,7 +47,6 @@ loop-preserved g c =
             there = omega (arith, w.filled-is, there);
             within = omega (arith, w.filled-is);
             sound = filled.sound;
-            each = λ never. let was = w.in-Interrupted.ensures.read.interrupted in let no = sym was ∙ never in cc;
-            counted = omega (arith, c.loop.invariant.counted, c.read_behind.ensures.counted);
+            counted = omega (arith, c.loop.invariant.counted, w.in-Interrupted.ensures.read.counted);
           }
     ]

@@ -1,4 +1,4 @@
-use Rattle.std.proofs.Common.{◌≡◌, ◌+◌, ◌≤◌, false, vec_len, take}
+use Rattle.std.proofs.Common.{◌≡◌, ◌+◌, ◌≤◌, vec_len, take}
 use Rattle.std.specs.Io.KnownBytes.{Consumes}
 use Rattle.md_script.specs.Reading.{Sound}
 use Rattle.md_script.proofs.reading.read_script.Given as goal
@@ -9,6 +9,5 @@ invariant-loop g l = record {
   there : l.filled ≤ vec_len l.script;
   within : l.filled ≤ 67108864;
   sound : Sound (g.S.Source.state l.fn.source) (g.S.Source.state l.source);
-  each : (g.S.Source.state l.source).was_interrupted ≡ false → l.counter ≤ l.filled;
-  counted : (g.S.Source.state l.source).reads ≤ (g.S.Source.state l.fn.source).reads + l.counter;
+  counted : (g.S.Source.state l.source).reads ≡ (g.S.Source.state l.fn.source).reads + l.counter;
 }

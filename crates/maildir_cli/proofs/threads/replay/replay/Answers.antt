@@ -8,9 +8,8 @@ use Rattle.maildir_cli.proofs.threads.replay.replay.Goals as goal
 
 pub returns : goal.returns
 returns c =
-    let taken = c.in-Ok.ensures.taken in
     subst (λ (names : List (Vec ℕ)). IfOk c.report.result
     (λ text. (x : Run) × Interleaving c.args.made.world x × (text.items ≡ report_of (names_of names) x))) c.deref.ensures.value
-    (reported _ c.args.made.world c.run.new.self c.report.result
-    (λ answered. record { events = _; goes_on = taken.2; is_run = c.interleaves.ensures.run; faultless = sym c.counts.ensures.2; answered = answered })
+    (reported _ c.args.made.world c.take_all.new.world c.report.result
+    (λ answered. record { goes_on = c.in_ok-take_all.ensures; is_run = c.interleaves.ensures.run; faultless = sym c.counts.ensures.2; answered = answered })
     c.report.ensures.answered c.report.ensures.text)

@@ -1,6 +1,6 @@
 use Rattle.std.proofs.Common.{◌∙◌, sym}
-use Rattle.md_dirs.proofs.NameRows.{get-rows}
+use Rattle.md_dirs.proofs.NameRows.{get-loose}
 use Rattle.md_dirs.proofs.index.names.Names.file_of.Goals as goal
 
 pub returns : goal.returns
-returns c = rw (← c.self.view_is) (c.copied.ensures ∙ c.get.ensures.value ∙ sym (get-rows c.self.inside.rows.entries c.args.name.now c.self.invariant))
+returns c = rw (← c.self.view_is) (c.copied.ensures ∙ c.get.ensures.value ∙ sym (get-loose c.self.inside.rows.entries c.args.name.now))

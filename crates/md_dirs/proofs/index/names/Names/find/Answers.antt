@@ -1,35 +1,54 @@
-use Rattle.std.proofs.Common.{ℕ, List, Some, None, ◌∙◌, sym, ap, cond}
+use Rattle.std.proofs.Common.{ℕ, List, Some, None, ◌≡◌, ◌∙◌, sym, ap, cond}
 use Rattle.std.specs.Option.{option_and_then}
+use Rattle.std.specs.FinMap as finmap
+use Rattle.std.specs.FinMap.{from_entries, get-entries, entries_sorted, find}
 use Rattle.md_dirs.specs.Rows.{is_named as is_named_by}
-use Rattle.md_dirs.proofs.NameRows.{entries-rows, read-row, row-none}
+use Rattle.md_dirs.specs.Index.{name_cmp, rows_by_name}
+use Rattle.md_dirs.proofs.NameRows.{get-loose}
+use Rattle.md_dirs.proofs.Renamed.{found-key}
+use Rattle.md_dirs.proofs.Zones.{first-is-name, first-is-info}
 use Rattle.md_dirs.proofs.index.names.Names.find.Goals as goal
+use Rattle.md_dirs.proofs.index.names.Names.find.Goals.{In_default}
+
+pub returns-in-Some : goal.returns-in-Some
+returns-in-Some c =
+    let es = c.self.inside.rows.entries in
+    let u = c.args.unique.now in
+    let m = from_entries {R = name_cmp} (rows_by_name es) in
+    let key = found-key u es c.in-Some.name.now c.in-Some.ensures.key in
+    rw (← c.self.view_is)
+    ((λ i. Some ((c.as_slice.ensures.value ∙ key) i, c.in-Some.file.now)) ∙
+    sym (first-is-name u c.in-Some.file.now (finmap.entries m) (entries_sorted m) (sym (get-entries m u) ∙ get-loose es u ∙ sym c.in-Some.ensures.value)))
+
+-- no row has the unique name itself
+absent : (c : In_default) → find name_cmp c.args.unique.now (finmap.entries c.args.self.now) ≡ None
+absent c =
+    let es = c.self.inside.rows.entries in
+    rw (← c.self.view_is) (sym (get-entries (from_entries {R = name_cmp} (rows_by_name es)) c.args.unique.now) ∙ get-loose es c.args.unique.now ∙
+    sym c.in_default.ensures.value)
 
 pub returns-in_err-name : goal.returns-in_err-name
 returns-in_err-name c =
-    let es = c.self.inside.rows.entries in
-    rw (c.from_residual.ensures, ← c.self.view_is, entries-rows es c.self.invariant)
-    (sym (c.first_place.ensures ∙
-    ap (option_and_then (λ (e : List ℕ × ℕ). cond (is_named_by c.args.unique.now e.0) (Some e) None))
-    (row-none es c.first_place.result (sym c.in_err-name.ensures.entry))))
+    let m = c.args.self.now in
+    let u = c.args.unique.now in
+    rw (c.from_residual.ensures) (sym (first-is-info u (finmap.entries m) c.info_point.result (entries_sorted m) (absent
+    (goal.at.returns-in_err-name c).In_default) c.info_point.ensures ∙
+    ap (option_and_then (λ (e : List ℕ × ℕ). cond (is_named_by u e.0) (Some e) None)) (sym c.in_err-name.ensures.row)))
 
 pub returns-then-is_named : goal.returns-then-is_named
 returns-then-is_named c =
-    let es = c.self.inside.rows.entries in
-    let row : List ℕ × ℕ = (c.in_ok-name.name.now.items, c.in_ok-name.file.now) in
-    let named = sym (ap (is_named_by c.args.unique.now) c.as_slice.ensures.value) ∙ sym c.is_named.ensures ∙ c.if-is_named.true in
-    rw (c.as_slice-then-is_named.ensures.value, ← c.self.view_is, entries-rows es c.self.invariant)
-    (sym (c.first_place.ensures ∙
-    ap (option_and_then (λ (e : List ℕ × ℕ). cond (is_named_by c.args.unique.now e.0) (Some e) None))
-    (read-row es c.first_place.result _ (sym c.in_ok-name.ensures.entry))
-    ∙ ap (λ b. cond b (Some row) None) named))
+    let m = c.args.self.now in
+    let u = c.args.unique.now in
+    let row : List ℕ × ℕ = (c.in_ok-name.name.now, c.in_ok-name.file) in
+    sym (first-is-info u (finmap.entries m) c.info_point.result (entries_sorted m) (absent (goal.at.returns-then-is_named c).In_default) c.info_point.ensures ∙
+    ap (option_and_then (λ (e : List ℕ × ℕ). cond (is_named_by u e.0) (Some e) None)) (sym c.in_ok-name.ensures.row) ∙
+    ap (λ b. cond b (Some row) None) (sym c.if-is_named.ensures))
 
 pub returns-else-is_named : goal.returns-else-is_named
 returns-else-is_named c =
-    let es = c.self.inside.rows.entries in
-    let row : List ℕ × ℕ = (c.in_ok-name.name.now.items, c.in_ok-name.file.now) in
-    let named = sym (ap (is_named_by c.args.unique.now) c.as_slice.ensures.value) ∙ sym c.is_named.ensures ∙ c.if-is_named.false in
-    rw (← c.self.view_is, entries-rows es c.self.invariant)
-    (sym (c.first_place.ensures ∙
-    ap (option_and_then (λ (e : List ℕ × ℕ). cond (is_named_by c.args.unique.now e.0) (Some e) None))
-    (read-row es c.first_place.result _ (sym c.in_ok-name.ensures.entry))
-    ∙ ap (λ b. cond b (Some row) None) named))
+    let m = c.args.self.now in
+    let u = c.args.unique.now in
+    let row : List ℕ × ℕ = (c.in_ok-name.name.now, c.in_ok-name.file) in
+    sym (first-is-info u (finmap.entries m) c.info_point.result (entries_sorted m) (absent (goal.at.returns-else-is_named c).In_default) c.info_point.ensures ∙
+    ap (option_and_then (λ (e : List ℕ × ℕ). cond (is_named_by u e.0) (Some e) None)) (sym c.in_ok-name.ensures.row) ∙
+    ap (λ b. cond b (Some row) None) (sym c.if-is_named.ensures))

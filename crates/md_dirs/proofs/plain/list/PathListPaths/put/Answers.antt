@@ -9,7 +9,7 @@ use Rattle.md_dirs.proofs.Steps.{row-path}
 use Rattle.md_dirs.proofs.plain.list.PathListPaths.put.Goals as goal
 
 -- the row of a path with another file
-put-is : (rows : List (Path × ℕ)) (p q : Path) (i n : ℕ) → IsAt rows p i → q ≡ p → put path_cmp p n rows ≡ slice_set rows i (q, n)
+put-is : (rows : List (Path × ℕ)) (p q : Path) (i n : ℕ) → IsAt path_cmp rows p i → q ≡ p → put path_cmp p n rows ≡ slice_set rows i (q, n)
 put-is rows p q i n at same = at.replaced n ∙ ap (λ x. slice_set rows i (x, n)) (sym same)
 
 pub invariant_of-self : goal.invariant_of-self

@@ -1,0 +1,8 @@
+use Rattle.std.proofs.Common.{◌≡◌, ◌++◌, take}
+use Rattle.std.specs.Prelude.{filter}
+use Rattle.std.specs.FinSet as set
+use Rattle.md_name.specs.Letters.{letters}
+use Rattle.md_name.proofs.flags.Flags.write_onto.Given as goal
+
+abbrev pub invariant-loop-place : goal.invariant-loop-place
+invariant-loop-place l = l.text.items ≡ l.fn.text.items ++ filter (λ c. set.contains l.fn.self c) (take l.place letters)
