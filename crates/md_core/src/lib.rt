@@ -5,8 +5,6 @@ mod error;
 mod image;
 mod jobs;
 pub mod laws;
-#[cfg(test)]
-mod tests;
 mod used;
 mod world;
 

@@ -13,8 +13,6 @@ pub mod laws;
 mod paths;
 mod plain;
 mod rows;
-#[cfg(test)]
-mod tests;
 
 pub use calls::{DirError, Dirs};
 pub use fail_at::FailAt;

@@ -21,6 +21,3 @@ pub use header::{HeaderFields, header_fields};
 pub use line::cut_line;
 pub use read::summary;
 pub use shown::Summary;
-
-#[cfg(test)]
-mod tests;

@@ -8,8 +8,6 @@ mod gate;
 mod gather;
 mod item;
 mod load;
-#[cfg(test)]
-mod tests;
 mod worker;
 
 pub use by_workers::index;

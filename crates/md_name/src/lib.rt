@@ -18,6 +18,3 @@ pub use error::NameError;
 pub use flags::Flags;
 pub use info::{Info, split, with_flags};
 pub use unique::{UniqueParts, is_unique_name, make_unique};
-
-#[cfg(test)]
-mod tests;

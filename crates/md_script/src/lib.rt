@@ -28,7 +28,7 @@ mod words;
 pub use error::{PlayError, PlayKind};
 pub use lines::count_lines;
 pub use listing::push_entries;
-pub use player::{play, transcript, write_whole};
+pub use player::{play, transcript, transcript_over, write_whole};
 pub use reading::read_script;
 pub use run::Printed;
 pub use setup::{Setup, image};
@@ -37,6 +37,3 @@ pub use source::{Got, Reader, Source};
 pub use storage::Storage;
 pub use store::{open_store, push_answer_line};
 pub use summary::push_summary;
-
-#[cfg(test)]
-mod tests;

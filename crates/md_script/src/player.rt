@@ -9,6 +9,7 @@ use crate::reading::{MOST_READS, read_script};
 use crate::run::{Printed, run};
 use crate::sink::{Put, Sink};
 use crate::source::Source;
+use crate::storage::Storage;
 use crate::store::StoreSession;
 use md_dirs::IndexDirs;
 use std::alloc::{AllocError, Global};
@@ -41,7 +42,14 @@ pub fn play<S: Source, T: Sink>(
 pub fn transcript(alloc: Global, script: &[u8]) -> Result<Printed, AllocError>
     ensures { IfOk result (Shows (transcript script.now)) }
 {
-    run(alloc, &mut StoreSession::<IndexDirs>::new(alloc), script)
+    transcript_over::<IndexDirs>(alloc, script)
+}
+
+/// The transcript of a script whose store stands on such directories. It is the same over all.
+pub fn transcript_over<D: Storage>(alloc: Global, script: &[u8]) -> Result<Printed, AllocError>
+    ensures { IfOk result (Shows (transcript script.now)) }
+{
+    run(alloc, &mut StoreSession::<D>::new(alloc), script)
 }
 
 /// Writes a text whole. Refused `WriteFault`, after which nothing is known of what was written, or `NoMemory`, after which nothing was.

@@ -3,7 +3,7 @@ ghost use Rattle.std.specs.Prelude.{◌≡◌, ◌⊎◌, None, Some, IfOk, IfEr
 ghost use Rattle.md_dirs.specs.Image.{image_state, image_refusal};
 ghost use Rattle.md_dirs.specs.declared.calls.DirError.TheVariants.{NoMemory};
 
-use md_dirs::{DirError, Dirs, ImageFile, IndexDirs};
+use md_dirs::{DirError, Dirs, ImageFile, IndexDirs, PlainDirs};
 use std::alloc::Global;
 
 /// Directories that can begin with files, and that never fail.
@@ -25,5 +25,13 @@ impl Storage for IndexDirs {
 
     fn holding(alloc: Global, folders: u32, files: Vec<ImageFile>) -> Result<Self, DirError> {
         IndexDirs::from_image(alloc, folders, files)
+    }
+}
+
+impl Storage for PlainDirs {
+    ghost never_fails = { λ _. refl };
+
+    fn holding(alloc: Global, folders: u32, files: Vec<ImageFile>) -> Result<Self, DirError> {
+        PlainDirs::from_image(alloc, folders, files)
     }
 }

@@ -18,8 +18,6 @@ mod rule;
 mod shown;
 mod step;
 mod store;
-#[cfg(test)]
-mod tests;
 mod writing;
 
 pub use error::{ListError, OpenError, StoreError};

@@ -10,8 +10,6 @@ mod listing;
 mod merge;
 mod names;
 mod read;
-#[cfg(test)]
-mod tests;
 
 pub use entry::Entry;
 pub use error::ViewError;

@@ -1,0 +1,5 @@
+//! Tests of `md_core`.
+#![tactic(auto)]
+
+#[cfg(test)]
+mod tests;

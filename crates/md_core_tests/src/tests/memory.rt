@@ -1,0 +1,45 @@
+// What a refused growth leaves of the clock: a refused step is made again at an earlier moment.
+use super::loads::stamp_at;
+use super::plain_delivery;
+use md_core::{Answer, World};
+use md_dirs::PlainDirs;
+use std::alloc::Global;
+use std::process::Abort;
+use std::test::Fail;
+
+fn is_taken(world: &mut World<PlainDirs>, now: u64) -> bool {
+    world.step(1, now, None).is_ok()
+}
+
+// Takes the five steps of job 1, each late, or where that is refused at 1000, and gives the latest moment at which one was taken.
+fn clock_after(rt: &impl Abort, world: &mut World<PlainDirs>) -> u64 {
+    let mut clock = 1000;
+    for late in 2000..2005 {
+        if is_taken(world, late) {
+            clock = late;
+        } else {
+            assert!(rt; is_taken(world, 1000));
+        }
+    }
+    clock
+}
+
+// The next file has the clock for its stamp.
+fn leaves_the_clock(
+    rt: &impl Abort,
+    alloc: Global,
+    world: &mut World<PlainDirs>,
+) -> Result<(), Fail> {
+    let clock = clock_after(rt, world);
+    assert_eq!(rt; world.answer(1), Some(Answer::Delivered));
+    let stamp = stamp_at(rt, alloc, world, 0)?;
+    assert_eq!(rt; stamp, Some(clock));
+    assert_eq!(rt; world.log().len(), 6);
+    Ok(())
+}
+
+#[test]
+fn a_refused_step_leaves_the_clock(rt: HostRuntime) -> Result<(), Fail> {
+    let mut world = plain_delivery(&rt, rt.alloc())?;
+    leaves_the_clock(&rt, rt.alloc(), &mut world)
+}

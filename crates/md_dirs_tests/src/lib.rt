@@ -1,0 +1,5 @@
+//! Tests of `md_dirs`.
+#![tactic(auto)]
+
+#[cfg(test)]
+mod tests;

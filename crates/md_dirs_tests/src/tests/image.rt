@@ -1,0 +1,108 @@
+// Directories from a list of files: what is accepted, and which refusal comes first.
+use super::At;
+use md_dirs::Place::{Cur, New, Tmp};
+use md_dirs::{Bytes, DirError, Dirs, ImageFile, PlainDirs};
+use std::alloc::{AllocError, Global};
+use std::test::Fail;
+
+static FILES: [(&[(At, &[u8], u64)], Option<DirError>); 8] = [
+    (&[], None),
+    (
+        &[
+            (At(0, Tmp, b"a"), b"x", 3),
+            (At(1, Cur, b"a"), b"", 0),
+            (At(0, New, b"a"), b"x", 2),
+        ],
+        None,
+    ),
+    (&[(At(2, Tmp, b"a"), b"x", 3)], Some(DirError::NotFound)),
+    (
+        &[(At(0, Tmp, b"a"), b"x", 3), (At(0, Tmp, b"a"), b"x", 3)],
+        Some(DirError::Exists),
+    ),
+    (
+        &[
+            (At(0, Tmp, b"a"), b"x", 3),
+            (At(0, New, b"a"), b"x", 3),
+            (At(0, Tmp, b"b"), b"x", 3),
+        ],
+        None,
+    ),
+    (
+        &[
+            (At(0, Tmp, b"a"), b"", 3),
+            (At(0, Tmp, b"a"), b"y", 4),
+            (At(5, Tmp, b"a"), b"", 3),
+        ],
+        Some(DirError::Exists),
+    ),
+    (
+        &[
+            (At(0, Tmp, b"a"), b"", 3),
+            (At(2, Tmp, b"a"), b"", 3),
+            (At(0, Tmp, b"a"), b"", 3),
+        ],
+        Some(DirError::NotFound),
+    ),
+    (
+        &[(At(2, Tmp, b"a"), b"", 3), (At(2, Tmp, b"a"), b"", 3)],
+        Some(DirError::NotFound),
+    ),
+];
+
+fn file_of(alloc: Global, at: At, bytes: &[u8], stamp: u64) -> Result<ImageFile, AllocError> {
+    let bytes = Bytes::copied(alloc, bytes)?;
+    let path = at.path(alloc)?;
+    Ok(ImageFile { path, bytes, stamp })
+}
+
+// The directories of a list of files, with two folders.
+fn dirs_of(alloc: Global, files: &[(At, &[u8], u64)]) -> Result<PlainDirs, DirError> {
+    let mut image = Vec::new(alloc);
+    for (at, bytes, stamp) in files {
+        image.push(file_of(alloc, *at, bytes, *stamp)?)?;
+    }
+    PlainDirs::from_image(alloc, 2, image)
+}
+
+// The same, once more where memory was wanting.
+fn made(alloc: Global, files: &[(At, &[u8], u64)]) -> Result<PlainDirs, DirError> {
+    let made = dirs_of(alloc, files);
+    if matches!(made, Err(DirError::NoMemory)) {
+        return dirs_of(alloc, files);
+    }
+    made
+}
+
+// Whether each file of a list is there with its bytes.
+fn holds(dirs: &PlainDirs, files: &[(At, &[u8], u64)]) -> bool {
+    for (at, bytes, _) in files {
+        if dirs.read(at.0, at.1, at.2) != Some(*bytes) {
+            return false;
+        }
+    }
+    true
+}
+
+#[test]
+fn files_are_made_in_their_order(rt: HostRuntime) {
+    for (files, refusal) in FILES {
+        match made(rt.alloc(), files) {
+            Ok(dirs) => assert!(rt; refusal.is_none() && holds(&dirs, files)),
+            Err(error) => assert_eq!(rt; refusal, Some(error)),
+        }
+    }
+}
+
+#[test]
+fn a_row_shows_name_stamp_and_size(rt: HostRuntime) -> Result<(), Fail> {
+    let files: [(At, &[u8], u64); 2] = [(At(1, Cur, b"b"), b"two", 7), (At(1, Cur, b"a"), b"", 9)];
+    let dirs = made(rt.alloc(), &files)?;
+    let shown = dirs.row_at(1, Cur, 1).ok_or("no second row")?;
+    assert_eq!(rt; shown.name, b"b".as_slice());
+    assert_eq!(rt; shown.stamp, 7);
+    assert_eq!(rt; shown.size, 3);
+    assert!(rt; dirs.row_at(1, Cur, 2).is_none());
+    assert!(rt; dirs.row_at(2, Cur, 0).is_none());
+    Ok(())
+}

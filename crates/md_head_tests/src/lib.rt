@@ -1,0 +1,5 @@
+//! Tests of `md_head`.
+#![tactic(auto)]
+
+#[cfg(test)]
+mod tests;

@@ -1,0 +1,5 @@
+//! Tests of `md_index`.
+#![tactic(auto)]
+
+#[cfg(test)]
+mod tests;

@@ -1,0 +1,5 @@
+//! Tests of `md_name`.
+#![tactic(auto)]
+
+#[cfg(test)]
+mod tests;

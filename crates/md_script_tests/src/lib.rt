@@ -1,0 +1,5 @@
+//! Tests of `md_script`.
+#![tactic(auto)]
+
+#[cfg(test)]
+mod tests;

@@ -1,0 +1,5 @@
+//! Tests of `md_store`.
+#![tactic(auto)]
+
+#[cfg(test)]
+mod tests;

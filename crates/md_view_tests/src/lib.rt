@@ -1,0 +1,5 @@
+//! Tests of `md_view`.
+#![tactic(auto)]
+
+#[cfg(test)]
+mod tests;
