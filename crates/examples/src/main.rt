@@ -1,7 +1,9 @@
-//! Plays each script of the folder that it runs in, and compares what it prints with the text beside it: `NAME.script` with `NAME.out`.
+//! Plays each script of the folder that it runs in, over hashed and over plain directories, and compares what it prints with the text
+//! beside it: `NAME.script` with `NAME.out`.
 #![tactic(auto)]
 
-use md_script::transcript;
+use md_dirs::{IndexDirs, PlainDirs};
+use md_script::{Storage, transcript_over};
 use std::{fs, io};
 
 fn main(rt: HostRuntime) -> io::Result<()> {
@@ -36,6 +38,12 @@ fn is_as_expected(rt: &HostRuntime, name: &str) -> io::Result<bool> {
     let expected = format!(in rt.alloc(); "{name}.out")?;
     let script = fs::read(rt, script.as_str())?;
     let expected = fs::read(rt, expected.as_str())?;
-    let printed = transcript(rt.alloc(), &script)?;
-    Ok(printed.refusal.is_none() && printed.text.as_slice() == expected.as_slice())
+    let is_hashed = prints::<IndexDirs>(rt, &script, &expected)?;
+    let is_plain = prints::<PlainDirs>(rt, &script, &expected)?;
+    Ok(is_hashed && is_plain)
+}
+
+fn prints<D: Storage>(rt: &HostRuntime, script: &[u8], expected: &[u8]) -> io::Result<bool> {
+    let printed = transcript_over::<D>(rt.alloc(), script)?;
+    Ok(printed.refusal.is_none() && printed.text.as_slice() == expected)
 }

@@ -1,19 +1,13 @@
-// What no clause says: worked runs, each refusal once, growths that are refused, faults of the directories, and what may cross
-// threads. One refused allocation anywhere leaves each test passing: the refused call changed nothing, and is made again.
-mod cleans;
-mod copies;
-mod expunges;
+// What no clause says: worked values, growths that are refused, faults of the directories, and what may cross threads. One refused
+// allocation anywhere leaves each test passing: the refused call changed nothing, and is made again. Worked runs of all seven calls
+// are scripts: those of crates/examples/data/, and the rows of md_script_tests.
 mod faults;
 mod loads;
-mod marks;
 mod memory;
-mod moves;
 mod runs;
 mod small;
-mod stops;
 mod submits;
 mod threads;
-mod tries;
 
 use md_core::{Call, CoreError, Event, JobId, RunStop, StepOut, SubmitRefused, World};
 use md_dirs::{Bytes, Dirs, Place, PlainDirs};
@@ -120,18 +114,37 @@ fn run<D: Dirs>(rt: &impl Abort, world: &mut World<D>, events: &[Event]) -> Opti
     })
 }
 
-// A world of one folder and one job, which delivers six bytes by fours.
+// Submits a call, and gives its refusal alone.
+fn submitted<D: Dirs>(
+    rt: &impl Abort,
+    world: &mut World<D>,
+    call: Call,
+) -> Result<JobId, CoreError> {
+    match submit(rt, world, call) {
+        Ok(job) => Ok(job),
+        Err(refused) => Err(refused.error),
+    }
+}
+
+// Submits the delivery of six bytes by fours.
+fn submit_one<D: Dirs>(
+    rt: &impl Abort,
+    alloc: Global,
+    world: &mut World<D>,
+) -> Result<JobId, CoreError> {
+    let call = delivery(alloc, 0, NAME, copied(alloc, BODY)?, 4)?;
+    submitted(rt, world, call)
+}
+
+// A world of one job, which delivers six bytes by fours.
 fn one_delivery<D: Dirs + Drop>(
     rt: &impl Abort,
     alloc: Global,
     dirs: D,
 ) -> Result<World<D>, CoreError> {
-    let call = delivery(alloc, 0, NAME, copied(alloc, BODY)?, 4)?;
     let mut world = load(alloc, dirs)?;
-    match submit(rt, &mut world, call) {
-        Ok(_) => Ok(world),
-        Err(refused) => Err(refused.error),
-    }
+    submit_one(rt, alloc, &mut world)?;
+    Ok(world)
 }
 
 fn plain_delivery(rt: &impl Abort, alloc: Global) -> Result<World<PlainDirs>, CoreError> {

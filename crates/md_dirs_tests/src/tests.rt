@@ -12,16 +12,45 @@ use std::process::Abort;
 
 const PLACES: [Place; 3] = [Place::Tmp, Place::New, Place::Cur];
 
+// Names that begin alike, with bytes below and above the colon, and seven that don't. Tables hold the places of names, since one of
+// slices takes longer to prove.
+static NAMES: [&[u8]; 16] = [
+    b"m", b"m!", b"m!:2,", b"m:2,", b"m:2,S", b"m:1", b"m;", b"mm:2,", b"n:2,F", b"l", b"", b"a",
+    b"b", b"Z", b"~", b"\xff",
+];
+
+static BODIES: [&[u8]; 6] = [b"", b"x", b"From ", b"yy", b"\n\n\n", b"x\n\n\n"];
+
+// A name by its place among NAMES.
+#[derive(Clone, Copy)]
+struct Name(usize);
+
+impl Name {
+    fn bytes(self) -> &'static [u8] {
+        NAMES[self.0 % 16]
+    }
+}
+
+// A text by its place among BODIES.
+#[derive(Clone, Copy)]
+struct Body(usize);
+
+impl Body {
+    fn bytes(self) -> &'static [u8] {
+        BODIES[self.0 % 6]
+    }
+}
+
 // A name in a directory.
 #[derive(Clone, Copy)]
-struct At(u32, Place, &'static [u8]);
+struct At(u32, Place, Name);
 
 impl At {
     fn path(self, alloc: Global) -> Result<Path, AllocError> {
         Ok(Path {
             folder: self.0,
             place: self.1,
-            name: Bytes::copied(alloc, self.2)?,
+            name: Bytes::copied(alloc, self.2.bytes())?,
         })
     }
 }
@@ -29,7 +58,7 @@ impl At {
 #[derive(Clone, Copy)]
 enum Call {
     Create(At),
-    Append(At, &'static [u8]),
+    Append(At, Body),
     Link(At, At),
     Rename(At, At),
     Unlink(At),
@@ -63,7 +92,7 @@ fn call_one<D: Dirs>(
     let path = at.path(alloc)?;
     match call {
         Create(_) => dirs.create(&path, now),
-        Append(_, bytes) => dirs.append(&path, bytes, now),
+        Append(_, body) => dirs.append(&path, body.bytes(), now),
         _ => dirs.unlink(&path),
     }
 }

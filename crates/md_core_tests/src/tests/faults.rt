@@ -1,7 +1,6 @@
 // Calls over directories of which one call fails.
 use super::loads::{Named, directories};
-use super::moves::lists;
-use super::{BODY, NAME, copied, has_names, load, one_delivery, submit};
+use super::{BODY, NAME, copied, has_names, load, one_delivery, submitted};
 use DirCall::{Append, Create, Link, List, Rename, Unlink};
 use md_core::Answer::{Cleaned, Delivered, Fault};
 use md_core::DirReply::{Fault as Failed, Ok as Done};
@@ -79,22 +78,27 @@ pub(super) fn answered<D: Dirs>(
     steps: &[(DirCall, DirReply)],
 ) -> Result<Option<Answer>, CoreError> {
     for (call, reply) in steps {
-        assert_eq!(rt; world.answer(1), None);
+        assert!(rt; world.answer(1).is_none());
         let out = world.step(1, now, None)?;
-        assert_eq!(rt; (out.call, out.reply), (*call, *reply));
+        assert!(rt; out.call == *call && out.reply == *reply, "{call:?}");
     }
     Ok(world.answer(1))
 }
 
+// Whether the names of a delivery are left where they are wanted.
+fn is_left<D: Dirs>(world: &World<D>, want: &Want) -> bool {
+    let there: [(&[u8], u64); 1] = [(NAME, BODY.len() as u64)];
+    let (in_tmp, in_new) = (usize::from(want.1), usize::from(want.2));
+    has_names(world, Place::Tmp, &there[..in_tmp])
+        && has_names(world, Place::New, &there[..in_new])
+        && world.effects().len() == in_new
+}
+
 // A delivery does what is wanted.
 fn does<D: Dirs>(rt: &impl Abort, world: &mut World<D>, want: &Want) -> Result<(), CoreError> {
-    let there: [(&[u8], u64); 1] = [(NAME, BODY.len() as u64)];
-    let (steps, in_tmp, in_new) = want;
-    let answer = answered(rt, world, 1000, steps)?;
-    assert_eq!(rt; answer, Some(if *in_new { Delivered } else { Fault }));
-    assert!(rt; has_names(world, Place::Tmp, &there[..usize::from(*in_tmp)]));
-    assert!(rt; has_names(world, Place::New, &there[..usize::from(*in_new)]));
-    assert_eq!(rt; world.effects().len(), usize::from(*in_new));
+    let answer = answered(rt, world, 1000, want.0)?;
+    assert!(rt; answer == Some(if want.2 { Delivered } else { Fault }));
+    assert!(rt; is_left(world, want));
     Ok(())
 }
 
@@ -117,23 +121,29 @@ fn a_fault_undoes_a_delivery_or_leaves_it_delivered(rt: HostRuntime) -> Result<(
     Ok(())
 }
 
-// The calls of a job with their replies, and the names that are left where it acts.
-type Left = (&'static [(DirCall, DirReply)], &'static [&'static [u8]]);
+// The calls of a job with their replies, and the names that are left where it acts, with their sizes.
+type Left = (
+    &'static [(DirCall, DirReply)],
+    &'static [(&'static [u8], u64)],
+);
 
 // What a flag change that takes S away does where its first, second, .. call fails. The third never comes.
 static FLAGS: [Left; 3] = [
-    (&[(List(Cur), Failed)], &[b"u:2,S"]),
-    (&[(List(Cur), Done), (Rename, Failed)], &[b"u:2,S"]),
-    (&[(List(Cur), Done), (Rename, Done)], &[b"u:2,"]),
+    (&[(List(Cur), Failed)], &[(b"u:2,S", 5)]),
+    (&[(List(Cur), Done), (Rename, Failed)], &[(b"u:2,S", 5)]),
+    (&[(List(Cur), Done), (Rename, Done)], &[(b"u:2,", 5)]),
 ];
 
 // What a clean does that finds two old files. What it removed before a fault stays removed.
 static CLEANS: [Left; 4] = [
-    (&[(List(Tmp), Failed)], &[b"x", b"y"]),
-    (&[(List(Tmp), Done), (Unlink, Failed)], &[b"x", b"y"]),
+    (&[(List(Tmp), Failed)], &[(b"x", 1), (b"y", 1)]),
+    (
+        &[(List(Tmp), Done), (Unlink, Failed)],
+        &[(b"x", 1), (b"y", 1)],
+    ),
     (
         &[(List(Tmp), Done), (Unlink, Done), (Unlink, Failed)],
-        &[b"y"],
+        &[(b"y", 1)],
     ),
     (&[(List(Tmp), Done), (Unlink, Done), (Unlink, Done)], &[]),
 ];
@@ -158,12 +168,9 @@ fn leaves<D: Dirs>(
     place: Place,
     want: &Left,
 ) -> Result<Option<Answer>, CoreError> {
-    if let Err(refused) = submit(rt, world, call) {
-        return Err(refused.error);
-    }
-    let (steps, names) = want;
-    let answer = answered(rt, world, 129_600, steps)?;
-    assert!(rt; lists(world, 0, place, names));
+    submitted(rt, world, call)?;
+    let answer = answered(rt, world, 129_600, want.0)?;
+    assert!(rt; has_names(world, place, want.1));
     Ok(answer)
 }
 

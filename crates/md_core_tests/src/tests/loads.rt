@@ -1,5 +1,5 @@
 // Which directories a world may begin with, what it finds in them, and which messages it reads. The bytes of each file are its name.
-use super::{copied, delivery, submit};
+use super::{copied, delivery, submitted};
 use md_core::{CoreError, World};
 use md_dirs::{Bytes, DirError, Dirs, ImageFile, Path, Place, PlainDirs};
 use std::alloc::{AllocError, Global};
@@ -68,58 +68,33 @@ fn load(
     Ok(World::load(alloc, refused.dirs).map_err(|refused| refused.error))
 }
 
-// Where directories of these files are refused.
-fn refusal(
+// Whether directories of these files are refused so.
+fn is_refused(
     rt: &impl Abort,
     alloc: Global,
     files: &[Named<'_>],
-) -> Result<Option<CoreError>, DirError> {
-    Ok(load(rt, alloc, files)?.err())
+    want: Option<CoreError>,
+) -> Result<bool, DirError> {
+    Ok(load(rt, alloc, files)?.err() == want)
 }
 
-#[test]
-fn names_have_255_bytes_at_most(rt: HostRuntime) -> Result<(), Fail> {
-    let long = [b'n'; 256];
-    for (len, refused) in [
-        (255, None),
-        (256, Some(CoreError::BadName)),
-        (0, Some(CoreError::BadName)),
-    ] {
-        let files = [(1, Place::Tmp, &long[..len], 7)];
-        assert!(rt; refusal(&rt, rt.alloc(), &files)? == refused, "{len}");
-    }
-    // Such a name is also over 200 bytes.
-    let files = [(0, Place::New, long.as_slice(), 7)];
-    assert!(rt; refusal(&rt, rt.alloc(), &files)? == Some(CoreError::BadName));
-    Ok(())
-}
-
-#[test]
-fn names_have_no_separator(rt: HostRuntime) -> Result<(), Fail> {
-    for name in [b"a/b".as_slice(), b"\0", b"a\n", b"\ra", b"u:2,/"] {
-        for place in [Place::Tmp, Place::New, Place::Cur] {
-            let files = [(0, place, name, 0)];
-            assert!(rt;
-                refusal(&rt, rt.alloc(), &files)? == Some(CoreError::BadName),
-                "{name:?}"
-            );
-        }
-    }
-    Ok(())
-}
-
-// A name of the second folder, of 255 bytes.
-fn long_name(first: u8, unique: usize) -> [u8; 255] {
-    let mut name = [b'u'; 255];
+// A name of the second folder, of 256 bytes.
+fn long_name(first: u8, unique: usize) -> [u8; 256] {
+    let mut name = [b'u'; 256];
     name[0] = first;
-    if unique < 255 {
+    if unique < 256 {
         name[unique] = b':';
     }
     name
 }
 
 // A place, the first byte of a name, the length of its unique part and of the whole, and the refusal.
-static LONG: [(Place, u8, usize, usize, Option<CoreError>); 8] = [
+static LONG: [(Place, u8, usize, usize, Option<CoreError>); 12] = [
+    (Place::Tmp, b'u', 256, 255, None),
+    (Place::Tmp, b'u', 256, 256, Some(CoreError::BadName)),
+    (Place::Tmp, b'u', 256, 0, Some(CoreError::BadName)),
+    // Such a name is also over 200 bytes.
+    (Place::New, b'u', 256, 256, Some(CoreError::BadName)),
     (Place::Cur, b'u', 200, 200, None),
     (Place::Cur, b'u', 200, 201, None),
     (Place::Cur, b'u', 200, 255, None),
@@ -132,12 +107,30 @@ static LONG: [(Place, u8, usize, usize, Option<CoreError>); 8] = [
 ];
 
 #[test]
-fn unique_parts_have_200_bytes_at_most(rt: HostRuntime) -> Result<(), Fail> {
+fn names_have_255_bytes_and_unique_parts_200_at_most(rt: HostRuntime) -> Result<(), Fail> {
     for (place, first, unique, len, want) in LONG {
-        assert!(rt; len <= 255);
         let name = long_name(first, unique);
-        let found = refusal(&rt, rt.alloc(), &[(1, place, &name[..len], 0)])?;
-        assert_eq!(rt; found, want, "{unique} of {len}");
+        let name = &name[..len.min(256)];
+        assert!(rt;
+            is_refused(&rt, rt.alloc(), &[(1, place, name, 0)], want)?,
+            "{unique} of {len}"
+        );
+    }
+    Ok(())
+}
+
+static SEPARATED: [&[u8]; 5] = [b"a/b", b"\0", b"a\n", b"\ra", b"u:2,/"];
+
+#[test]
+fn names_have_no_separator(rt: HostRuntime) -> Result<(), Fail> {
+    let want = Some(CoreError::BadName);
+    for name in SEPARATED {
+        for place in [Place::Tmp, Place::New, Place::Cur] {
+            assert!(rt;
+                is_refused(&rt, rt.alloc(), &[(0, place, name, 0)], want)?,
+                "{name:?}"
+            );
+        }
     }
     Ok(())
 }
@@ -154,46 +147,60 @@ static SECOND: [(Named<'static>, bool); 8] = [
     ((1, Place::Cur, b"a!", 0), false),
 ];
 
+// Whether a message and this file beside it are refused where they are to be.
+fn is_alone(
+    rt: &impl Abort,
+    alloc: Global,
+    second: Named<'_>,
+    is_alike: bool,
+) -> Result<bool, DirError> {
+    let want = if is_alike {
+        Some(CoreError::DuplicateUnique)
+    } else {
+        None
+    };
+    is_refused(rt, alloc, &[(0, Place::New, b"a", 0), second], want)
+}
+
 #[test]
 fn a_unique_part_has_one_message(rt: HostRuntime) -> Result<(), Fail> {
     for (at, (second, is_alike)) in SECOND.iter().enumerate() {
-        let files = [(0, Place::New, b"a".as_slice(), 0), *second];
-        let found = refusal(&rt, rt.alloc(), &files)?;
-        let want = if *is_alike {
-            Some(CoreError::DuplicateUnique)
-        } else {
-            None
-        };
-        assert_eq!(rt; found, want, "row {at}");
+        assert!(rt; is_alone(&rt, rt.alloc(), *second, *is_alike)?, "row {at}");
     }
     Ok(())
 }
 
-#[test]
-fn files_that_are_no_messages_may_be_alike(rt: HostRuntime) -> Result<(), Fail> {
-    let files: [Named<'_>; 6] = [
-        (0, Place::Tmp, b"t", 0),
-        (1, Place::Tmp, b"t", 0),
-        (0, Place::New, b".hid", 0),
-        (1, Place::Cur, b".hid", 0),
-        (0, Place::Cur, b":2,S", 0),
-        (1, Place::Cur, b":2,S", 0),
-    ];
-    assert!(rt; refusal(&rt, rt.alloc(), &files)? == None);
-    Ok(())
-}
-
-// Files with two faults, and that which is met first.
-static FAULTS: [(&[Named<'static>], CoreError); 5] = [
+// Files, and the fault that is met first.
+static FAULTS: [(&[Named<'static>], Option<CoreError>); 6] = [
+    // Files that are no messages may be alike.
+    (
+        &[
+            (0, Place::Tmp, b"t", 0),
+            (1, Place::Tmp, b"t", 0),
+            (0, Place::New, b".hid", 0),
+            (1, Place::Cur, b".hid", 0),
+            (0, Place::Cur, b":2,S", 0),
+            (1, Place::Cur, b":2,S", 0),
+        ],
+        None,
+    ),
     // By folder.
     (
-        &[(1, Place::Tmp, b"a/b", 0), (0, Place::Cur, &[b'a'; 201], 0)],
-        CoreError::LongUnique,
+        &[
+            (1, Place::Tmp, b"a/b", 0),
+            (0, Place::Cur, b"u", 0),
+            (0, Place::Cur, b"u:2,", 0),
+        ],
+        Some(CoreError::DuplicateUnique),
     ),
     // By place: tmp, then new, then cur.
     (
-        &[(1, Place::New, &[b'a'; 201], 0), (1, Place::Tmp, b"z/", 0)],
-        CoreError::BadName,
+        &[
+            (1, Place::New, b"u", 0),
+            (0, Place::New, b"u", 0),
+            (1, Place::Tmp, b"z/", 0),
+        ],
+        Some(CoreError::BadName),
     ),
     (
         &[
@@ -201,24 +208,31 @@ static FAULTS: [(&[Named<'static>], CoreError); 5] = [
             (1, Place::New, b"u", 0),
             (0, Place::Cur, b"u:2,", 0),
         ],
-        CoreError::DuplicateUnique,
+        Some(CoreError::DuplicateUnique),
     ),
     // By name.
     (
-        &[(0, Place::New, b"b/", 0), (0, Place::New, &[b'a'; 201], 0)],
-        CoreError::LongUnique,
+        &[
+            (0, Place::New, b"b/", 0),
+            (0, Place::New, b"a", 0),
+            (0, Place::New, b"a:2,", 0),
+        ],
+        Some(CoreError::DuplicateUnique),
     ),
     (
-        &[(0, Place::New, b"Z/", 0), (0, Place::New, &[b'a'; 201], 0)],
-        CoreError::BadName,
+        &[
+            (0, Place::New, b"Z/", 0),
+            (0, Place::New, b"a", 0),
+            (0, Place::New, b"a:2,", 0),
+        ],
+        Some(CoreError::BadName),
     ),
 ];
 
 #[test]
 fn the_first_fault_is_the_refusal(rt: HostRuntime) -> Result<(), Fail> {
     for (at, (files, want)) in FAULTS.iter().enumerate() {
-        let found = refusal(&rt, rt.alloc(), files)?;
-        assert_eq!(rt; found, Some(*want), "row {at}");
+        assert!(rt; is_refused(&rt, rt.alloc(), files, *want)?, "row {at}");
     }
     Ok(())
 }
@@ -270,73 +284,33 @@ fn messages_are_read_by_their_unique_names(rt: HostRuntime) -> Result<(), Fail> 
     Ok(())
 }
 
-// The name of one of many messages.
-fn many_name(at: u8) -> [u8; 7] {
-    [b'm', b'0' + at / 10, b'0' + at % 10, b':', b'2', b',', b'S']
-}
+// Names of the beginning, and whether one may not deliver under them. In tmp the whole name is used.
+static USED: [(&[u8], bool); 5] = [
+    (b"t", true),
+    (b"n", true),
+    (b"c", true),
+    (b"hid", true),
+    (b"x", false),
+];
 
-// Directories with forty messages in cur of folder 1.
-fn many(alloc: Global) -> Result<PlainDirs, DirError> {
-    let mut image = Vec::new(alloc);
-    for at in 0..40 {
-        let path = Path {
-            folder: 1,
-            place: Place::Cur,
-            name: Bytes::copied(alloc, &many_name(at))?,
-        };
-        image.push(ImageFile {
-            path,
-            bytes: Bytes::copied(alloc, &many_name(at))?,
-            stamp: 0,
-        })?;
-    }
-    PlainDirs::from_image(alloc, 2, image)
-}
-
-// Whether one of many messages is read by its unique name, and by no prefix of that.
-fn reads(world: &World<PlainDirs>, at: u8) -> bool {
-    let name = many_name(at);
-    world.read(&name[..3]) == Some(name.as_slice()) && world.read(&name[..2]) == None
-}
-
-#[test]
-fn each_of_many_messages_is_read(rt: HostRuntime) -> Result<(), Fail> {
-    let dirs = match many(rt.alloc()) {
-        Ok(dirs) => dirs,
-        Err(_) => many(rt.alloc())?,
-    };
-    let world = super::load(rt.alloc(), dirs)?;
-    for at in 0..40 {
-        assert!(rt; reads(&world, at), "{at}");
-    }
-    Ok(())
-}
-
-/// Whether a delivery under a name is refused, since the name is used.
-pub(super) fn is_used(
+// Whether a delivery under a name is refused, since the name is used.
+fn is_used(
     rt: &impl Abort,
     alloc: Global,
     world: &mut World<PlainDirs>,
     name: &[u8],
 ) -> Result<bool, AllocError> {
     let call = delivery(alloc, 0, name, copied(alloc, b"")?, 1)?;
-    match submit(rt, world, call) {
-        Ok(_) => Ok(false),
-        Err(refused) => Ok(refused.error == CoreError::NameUsed),
-    }
+    Ok(submitted(rt, world, call).err() == Some(CoreError::NameUsed))
 }
 
-// In tmp the whole name is used.
-fn are_used(rt: &impl Abort, alloc: Global, world: &mut World<PlainDirs>) -> Result<(), Fail> {
-    for (name, used) in [
-        (b"t".as_slice(), true),
-        (b"n", true),
-        (b"c", true),
-        (b"hid", true),
-        (b"x", false),
-    ] {
-        let found = is_used(rt, alloc, world, name)?;
-        assert_eq!(rt; found, used, "{name:?}");
+fn are_used(
+    rt: &impl Abort,
+    alloc: Global,
+    world: &mut World<PlainDirs>,
+) -> Result<(), AllocError> {
+    for (name, used) in USED {
+        assert!(rt; is_used(rt, alloc, world, name)? == used, "{name:?}");
     }
     Ok(())
 }
@@ -351,7 +325,7 @@ fn names_of_the_beginning_are_used(rt: HostRuntime) -> Result<(), Fail> {
         (1, Place::Cur, b"hid:", 0),
     ];
     let mut world = load(&rt, rt.alloc(), &files)??;
-    are_used(&rt, rt.alloc(), &mut world)
+    Ok(are_used(&rt, rt.alloc(), &mut world)?)
 }
 
 /// The stamp of the first file of tmp of folder 0, once a delivery began at this moment.
@@ -360,16 +334,22 @@ pub(super) fn stamp_at(
     alloc: Global,
     world: &mut World<PlainDirs>,
     now: u64,
-) -> Result<Option<u64>, Fail> {
+) -> Result<Option<u64>, CoreError> {
     let call = delivery(alloc, 0, b"u", copied(alloc, b"")?, 1)?;
-    let job = submit(rt, world, call)?;
+    let job = submitted(rt, world, call)?;
     if world.step(job, now, None).is_err() {
         world.step(job, now, None)?;
     }
-    match world.names(0, Place::Tmp, 0) {
-        Some(row) => Ok(Some(row.stamp)),
-        None => Ok(None),
-    }
+    Ok(world.names(0, Place::Tmp, 0).map(|row| row.stamp))
+}
+
+fn has_stamp(
+    rt: &impl Abort,
+    alloc: Global,
+    world: &mut World<PlainDirs>,
+    stamp: u64,
+) -> Result<bool, CoreError> {
+    Ok(stamp_at(rt, alloc, world, 7)? == Some(stamp))
 }
 
 #[test]
@@ -380,16 +360,6 @@ fn the_clock_begins_at_the_greatest_stamp(rt: HostRuntime) -> Result<(), Fail> {
         (0, Place::New, b"z", 5),
     ];
     let mut world = load(&rt, rt.alloc(), &files)??;
-    has_stamp(&rt, rt.alloc(), &mut world, 130_600)
-}
-
-fn has_stamp(
-    rt: &impl Abort,
-    alloc: Global,
-    world: &mut World<PlainDirs>,
-    stamp: u64,
-) -> Result<(), Fail> {
-    let found = stamp_at(rt, alloc, world, 7)?;
-    assert_eq!(rt; found, Some(stamp));
+    assert!(rt; has_stamp(&rt, rt.alloc(), &mut world, 130_600)?);
     Ok(())
 }

@@ -1,10 +1,10 @@
-// Worked runs.
-use super::moves::{Shown, takes};
-use super::{BODY, NAME, copied, delivery, has_names, load, plain_delivery, run, step, submit};
+// Worked runs of one delivery.
+use super::{BODY, NAME, has_names, plain_delivery, run, step};
 use DirCall::{Append, Create, Link, Unlink};
-use md_core::{Answer, Change, CoreError, DirCall, DirReply, Effect, Event, RunStop, World};
+use md_core::{
+    Answer, Change, CoreError, DirCall, DirReply, Effect, Event, RunStop, StepOut, World,
+};
 use md_dirs::{Place, PlainDirs};
-use std::alloc::Global;
 use std::process::Abort;
 use std::test::Fail;
 
@@ -16,15 +16,6 @@ const EVENT: Event = Event {
 };
 
 static EVENTS: [Event; 6] = [EVENT; 6];
-
-const LINKED: Shown = (Link, DirReply::Ok, None, true);
-
-const DELIVERED: Shown = (Unlink, DirReply::Ok, Some(Answer::Delivered), false);
-
-// A step that is no effect.
-fn shown(call: DirCall) -> Shown {
-    (call, DirReply::Ok, None, false)
-}
 
 fn is_the_effect(effect: &Effect) -> bool {
     let is_add = match &effect.change {
@@ -40,16 +31,24 @@ fn is_the_effect(effect: &Effect) -> bool {
 }
 
 fn takes_five_steps(rt: &impl Abort, world: &mut World<PlainDirs>) -> Result<(), CoreError> {
-    takes(
-        rt,
-        world,
-        1,
-        &[shown(Create), shown(Append(4)), shown(Append(2))],
-    )?;
-    takes(rt, world, 1, &[LINKED])?;
-    assert_eq!(rt; world.answer(1), None);
-    takes(rt, world, 1, &[DELIVERED])?;
-    assert_eq!(rt; world.answer(1), Some(Answer::Delivered));
+    let shown = [
+        (Create, None, false),
+        (Append(4), None, false),
+        (Append(2), None, false),
+        (Link, None, true),
+        (Unlink, Some(Answer::Delivered), false),
+    ];
+    for (call, answer, effect) in shown {
+        let reply = DirReply::Ok;
+        let want = StepOut {
+            call,
+            reply,
+            answer,
+            effect,
+        };
+        let shown = step(rt, world, 1, 1)?;
+        assert!(rt; shown == want && world.answer(1) == answer, "{call:?}");
+    }
     Ok(())
 }
 
@@ -62,13 +61,15 @@ fn a_delivery_takes_five_steps(rt: HostRuntime) -> Result<(), Fail> {
 // A run of so many steps of one delivery stops so.
 fn stops(rt: &impl Abort, world: &mut World<PlainDirs>, count: usize, stop: Option<RunStop>) {
     assert!(rt; count <= EVENTS.len());
-    assert_eq!(rt; run(rt, world, &EVENTS[..count]), stop);
-    assert_eq!(rt; world.log(), &EVENTS[..5]);
-    assert_eq!(rt; world.effects().len(), 1);
-    assert!(rt; is_the_effect(&world.effects()[0]));
-    assert!(rt; has_names(world, Place::New, &[(NAME, 6)]));
-    assert!(rt; has_names(world, Place::Tmp, &[]));
-    assert_eq!(rt; (world.jobs(), world.folders()), (1, 1));
+    assert!(rt; run(rt, world, &EVENTS[..count]) == stop);
+    assert!(rt; has_run(world));
+}
+
+// Whether a world has taken the five steps of its delivery.
+fn has_run(world: &World<PlainDirs>) -> bool {
+    let is_logged = world.log() == &EVENTS[..5] && world.effects().iter().all(is_the_effect);
+    let is_moved = has_names(world, Place::New, &[(NAME, 6)]) && has_names(world, Place::Tmp, &[]);
+    is_logged && is_moved && world.effects().len() == 1 && world.jobs() == 1 && world.folders() == 1
 }
 
 #[test]
@@ -84,47 +85,17 @@ fn a_run_stops_at_its_first_refusal(rt: HostRuntime) -> Result<(), Fail> {
     Ok(())
 }
 
-// Two deliveries, of one and of two bytes, in pieces of one byte.
-fn delivers_two(rt: &impl Abort, alloc: Global, world: &mut World<PlainDirs>) -> Result<(), Fail> {
-    for (unique, body) in [(b"a", b"x".as_slice()), (b"b", b"yy".as_slice())] {
-        let call = delivery(alloc, 0, unique, copied(alloc, body)?, 1)?;
-        let _job = submit(rt, world, call)?;
-    }
-    Ok(())
-}
-
-// Both take steps in turn, until the first has linked its message.
-fn take_turns(rt: &impl Abort, world: &mut World<PlainDirs>) -> Result<(), CoreError> {
-    takes(rt, world, 1, &[shown(Create)])?;
-    takes(rt, world, 2, &[shown(Create), shown(Append(1))])?;
-    takes(rt, world, 1, &[shown(Append(1)), LINKED])?;
-    assert!(rt; has_names(world, Place::New, &[(b"a", 1)]));
-    assert!(rt; has_names(world, Place::Tmp, &[(b"a", 1), (b"b", 1)]));
-    takes(rt, world, 2, &[shown(Append(1)), LINKED, DELIVERED])?;
-    assert!(rt; has_names(world, Place::New, &[(b"a", 1), (b"b", 2)]));
-    assert!(rt; has_names(world, Place::Tmp, &[(b"a", 1)]));
-    assert_eq!(rt; world.answer(1), None);
-    Ok(())
-}
-
-fn both_deliver(rt: &impl Abort, alloc: Global, world: &mut World<PlainDirs>) -> Result<(), Fail> {
-    delivers_two(rt, alloc, world)?;
-    Ok(take_turns(rt, world)?)
-}
-
-#[test]
-fn two_deliveries_take_turns(rt: HostRuntime) -> Result<(), Fail> {
-    let mut world = load(rt.alloc(), PlainDirs::new(rt.alloc(), 1))?;
-    both_deliver(&rt, rt.alloc(), &mut world)
+// Whether a step of a job is refused so.
+fn refuses(rt: &impl Abort, world: &mut World<PlainDirs>, job: u64, error: CoreError) -> bool {
+    step(rt, world, job, 1).err() == Some(error)
 }
 
 fn is_refused(rt: &impl Abort, world: &mut World<PlainDirs>) {
     for job in [0, 2, u64::MAX] {
-        assert_eq!(rt; step(rt, world, job, 1), Err(CoreError::NoJob));
-        assert_eq!(rt; world.answer(job), None);
+        assert!(rt; refuses(rt, world, job, CoreError::NoJob) && world.answer(job).is_none());
     }
-    assert_eq!(rt; run(rt, world, &EVENTS[..5]), None);
-    assert_eq!(rt; step(rt, world, 1, 1), Err(CoreError::Answered));
+    assert!(rt; run(rt, world, &EVENTS[..5]).is_none());
+    assert!(rt; refuses(rt, world, 1, CoreError::Answered));
 }
 
 #[test]

@@ -1,5 +1,5 @@
 // Worlds that cross threads, alone and behind a lock, over directories of md_dirs and over a wrapper of them.
-use super::{copied, delivery, has_names, load, submit};
+use super::{copied, delivery, has_names, load, submitted};
 use md_core::{Answer, CoreError, JobId, World};
 use md_dirs::{Dirs, FailAt, Place, PlainDirs};
 use std::alloc::Global;
@@ -23,10 +23,8 @@ fn two_deliveries<D: Dirs + Drop>(
     dirs: D,
 ) -> Result<World<D>, CoreError> {
     let mut world = load(alloc, dirs)?;
-    match delivers_both(rt, alloc, &mut world) {
-        Ok(()) => Ok(world),
-        Err(error) => Err(error),
-    }
+    delivers_both(rt, alloc, &mut world)?;
+    Ok(world)
 }
 
 fn delivers_both<D: Dirs>(
@@ -36,9 +34,7 @@ fn delivers_both<D: Dirs>(
 ) -> Result<(), CoreError> {
     for unique in [b"a", b"b"] {
         let call = delivery(alloc, 0, unique, copied(alloc, b"x")?, 4)?;
-        if let Err(refused) = submit(rt, world, call) {
-            return Err(refused.error);
-        }
+        submitted(rt, world, call)?;
     }
     Ok(())
 }
@@ -72,10 +68,7 @@ fn step_by_turns<R: Threads + Wait + Abort + Sync>(rt: &R, lock: &Mutex<World<Wr
         || finished_behind(rt, lock, 1),
         || finished_behind(rt, lock, 2),
     );
-    assert_eq!(rt;
-        (one, two),
-        (Some(Answer::Delivered), Some(Answer::Delivered))
-    );
+    assert!(rt; one == Some(Answer::Delivered) && two == Some(Answer::Delivered));
 }
 
 #[test]

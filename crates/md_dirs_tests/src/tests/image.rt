@@ -1,5 +1,6 @@
 // Directories from a list of files: what is accepted, and which refusal comes first.
 use super::At;
+use super::calls::{A, B};
 use md_dirs::Place::{Cur, New, Tmp};
 use md_dirs::{Bytes, DirError, Dirs, ImageFile, PlainDirs};
 use std::alloc::{AllocError, Global};
@@ -9,43 +10,43 @@ static FILES: [(&[(At, &[u8], u64)], Option<DirError>); 8] = [
     (&[], None),
     (
         &[
-            (At(0, Tmp, b"a"), b"x", 3),
-            (At(1, Cur, b"a"), b"", 0),
-            (At(0, New, b"a"), b"x", 2),
+            (At(0, Tmp, A), b"x", 3),
+            (At(1, Cur, A), b"", 0),
+            (At(0, New, A), b"x", 2),
         ],
         None,
     ),
-    (&[(At(2, Tmp, b"a"), b"x", 3)], Some(DirError::NotFound)),
+    (&[(At(2, Tmp, A), b"x", 3)], Some(DirError::NotFound)),
     (
-        &[(At(0, Tmp, b"a"), b"x", 3), (At(0, Tmp, b"a"), b"x", 3)],
+        &[(At(0, Tmp, A), b"x", 3), (At(0, Tmp, A), b"x", 3)],
         Some(DirError::Exists),
     ),
     (
         &[
-            (At(0, Tmp, b"a"), b"x", 3),
-            (At(0, New, b"a"), b"x", 3),
-            (At(0, Tmp, b"b"), b"x", 3),
+            (At(0, Tmp, A), b"x", 3),
+            (At(0, New, A), b"x", 3),
+            (At(0, Tmp, B), b"x", 3),
         ],
         None,
     ),
     (
         &[
-            (At(0, Tmp, b"a"), b"", 3),
-            (At(0, Tmp, b"a"), b"y", 4),
-            (At(5, Tmp, b"a"), b"", 3),
+            (At(0, Tmp, A), b"", 3),
+            (At(0, Tmp, A), b"y", 4),
+            (At(5, Tmp, A), b"", 3),
         ],
         Some(DirError::Exists),
     ),
     (
         &[
-            (At(0, Tmp, b"a"), b"", 3),
-            (At(2, Tmp, b"a"), b"", 3),
-            (At(0, Tmp, b"a"), b"", 3),
+            (At(0, Tmp, A), b"", 3),
+            (At(2, Tmp, A), b"", 3),
+            (At(0, Tmp, A), b"", 3),
         ],
         Some(DirError::NotFound),
     ),
     (
-        &[(At(2, Tmp, b"a"), b"", 3), (At(2, Tmp, b"a"), b"", 3)],
+        &[(At(2, Tmp, A), b"", 3), (At(2, Tmp, A), b"", 3)],
         Some(DirError::NotFound),
     ),
 ];
@@ -77,7 +78,7 @@ fn made(alloc: Global, files: &[(At, &[u8], u64)]) -> Result<PlainDirs, DirError
 // Whether each file of a list is there with its bytes.
 fn holds(dirs: &PlainDirs, files: &[(At, &[u8], u64)]) -> bool {
     for (at, bytes, _) in files {
-        if dirs.read(at.0, at.1, at.2) != Some(*bytes) {
+        if dirs.read(at.0, at.1, at.2.bytes()) != Some(*bytes) {
             return false;
         }
     }
@@ -94,15 +95,19 @@ fn files_are_made_in_their_order(rt: HostRuntime) {
     }
 }
 
+// Whether cur of folder 1 has the second of the files below, and no third, and there is no third folder.
+fn shows(dirs: &PlainDirs) -> bool {
+    let second = match dirs.row_at(1, Cur, 1) {
+        Some(row) => row.name == b"b".as_slice() && row.stamp == 7 && row.size == 3,
+        None => false,
+    };
+    second && dirs.row_at(1, Cur, 2).is_none() && dirs.row_at(2, Cur, 0).is_none()
+}
+
 #[test]
 fn a_row_shows_name_stamp_and_size(rt: HostRuntime) -> Result<(), Fail> {
-    let files: [(At, &[u8], u64); 2] = [(At(1, Cur, b"b"), b"two", 7), (At(1, Cur, b"a"), b"", 9)];
+    let files: [(At, &[u8], u64); 2] = [(At(1, Cur, B), b"two", 7), (At(1, Cur, A), b"", 9)];
     let dirs = made(rt.alloc(), &files)?;
-    let shown = dirs.row_at(1, Cur, 1).ok_or("no second row")?;
-    assert_eq!(rt; shown.name, b"b".as_slice());
-    assert_eq!(rt; shown.stamp, 7);
-    assert_eq!(rt; shown.size, 3);
-    assert!(rt; dirs.row_at(1, Cur, 2).is_none());
-    assert!(rt; dirs.row_at(2, Cur, 0).is_none());
+    assert!(rt; shows(&dirs));
     Ok(())
 }

@@ -1,65 +1,103 @@
-// A thousand calls, each as eight letters, digits from a on: a kind, two names of a folder, a place and a name, and a choice.
-pub static CALLS: &[u8] = b"\
-    babcdbjnfabhdbftbdckebfmfcbhacadgfbahbcfbcccdbaahhbkdabcgaahaaiphcckaccshgckhajkgaaidagofhbecacqgabbbaeucfaiccfmgdbkeakneebfgcgt\
-    bbbafccgdccbdaccbbbhhakgaaaiccanaaagfbjgabbagahobbaahccmbhcibcjcgdaacafjbbaeacefahaicaahdcagfbjkeacdgbihdgcggcetgdakhbemgdbcccdn\
-    cbcbgcdjbgcjcakkhdbbdaascdcjccachgaedchpddagebihehagcaisbechdcblcbakecacfabbgbahbebaccdsedbjgbeebhbdfajqcfafbbgphgcdcbkghbadhbai\
-    cgbaaabkhaaihcjgehajfbdmaaaabchjceadbahndgcabbdhcgcibcgoebaeeagragckccfcbcadacchbaagbcdkfdcjgcjshhajbbcnffbbecelbeagaabobeccbbim\
-    dgaehagfebbcaaacadcadckdafcgfbhtdbacdbcggececajefhccdaghggcbcagkcfbgdafmaabcaaisfgbbbcetghahfcjkdfbcfbkqfcbjfcgqheaeaactfhcdfbdd\
-    dhcaachtbcceeabbabccfbjkdcadebhrafafhcbphackdahnhdachcdlgebhcajjcabidcbaebbhcciegbbkebhdcaaedcfqagaefbdgcaafbabmdgbccadjdgbbacdd\
-    eecefbkpbcceaacohbcbhbbcbdbgfcksfcaddahjbdckbccdgcaeecgadaaadcchbbceaahpbdbbgbasdgaehbkuabcidafafcaiebgghcbihafrdaabfckhhdcjaagj\
-    eccjabdchaajaacuhfbhgbjadcbdfajrgeajhcfggfcbfcguccbjeahqffcadbfkedachcdfcbcddccdbabbaajtahaabbdqdaakgchiaeahbacmdhbddaabebbfbaia\
-    ebbacbjldccifacsfgcdcajnfdbahbeadbaebahnhgbfbbeqebcaeaeddacfbbapbecfhakbhbbjacekbfbidaknghbcabfpedagfagqaeadgcbbceccbagigaajcbfl\
-    bgadebahcfaffbijaccggadahfbcdbjqcacjbbfrgfbjfbccbhakcbkhffaffafpfgbhbajmccbfackpedbegaeedebjeafedfacebcldbadacemfgbjdchffgaecaei\
-    hhaggcfphacgdbcageacbaeufcckcbkrbecagbjnfhcieahmbfbbdceuddcdhagsebaagagscdbhebjpcfcfeaishhageadfbebigchhafbhfahreeabdadnfebbdbii\
-    agajeadnegcchckcdfbgfcftghaebceocfbfgbaabaccaajedaccabcldhbgaafgfhbigaksbbafdbcsefahbcfabbahfbeuefcagaefedbfgckqgfaaccbtgbbjhbcn\
-    ddckhbgbacchhcirahckeacgfecjbabtbhaicahnfhcbaajredaabbfbhgbbgcclebchebbabdbdcaatcgagcbaeahbadcajeccbfbkcgebgaaaihdbddbjmadbjbbko\
-    chbidbhbheaibbcidfciecgtgccbgbifaabedcfabhabeahkaachbcimbdbggcbahcadbbbnfecgcbcmefckfcahabbcbbbeegcgfbipchbdhbagggakdcagbcceacjk\
-    bfakhbanaccfdbbbhhbdacdedbcfdbbldcajgbguaacfccaqebbaaaclahaagbhafacdbaguhhbedckkadcdccbkecabfcimcabagaghbccjeagnbebgbcciafafcakf\
-    fdcbbbblhcbhfbfdagcjgceecebgbbhrfbcjackuadccbcibggaadbcccdcfcafsddaefahpbcahfbbdegbgfcfhcbbahacuhebedcajcdbcdcheeecbdcidadbiacdd\
-    dhaghahjbgbbabaabdabebjfagcecaaihhbegahqcdbaaaeccgbaebafacaeaajdhackfaisbaacaceoagahbcaichcfbcjjdfbaecioedaieahddeaegckfccbbcbjg\
-    ggbkbcbjahbfebhfhccchagragadgbhjegcacbkocgafaaijbhaccbbtebagbcajedchgaajfeahdcgrhdcfhbheehcebaihdgciecjnehbfbcfnfaaaeckicebkbbbl\
-    gbbhaacofgaagceeegahccfndaagbbglebbegbdjacbkhckcegahecdhagccccareachebeeaacbfckpfgakgbfchgahebijgbbfacknbgcifccheabdaagccbcdhcba\
-    fbbggacgefaaaabsfaciaajcccadgadjaeagecctcaahecdbgacaabanbdckbbfmbeajdbiqbbbcdaidfgacabjhghcjfbicedcchbfneeakbbfeadbbdbbecdbaecdg\
-    ffbjcakiaaageaacddajbbfnabcchchnghaebbbmagcegcchfhagfbkqfecjabjiedbchcffchahcbbffgabhcbuhhbahbiqdhahacbgbgckhbgofabjcbijbabeeack\
-    ahcjhbdrhbajhbhidfbdgcaogecbfabiggciacjdhbbcaafkgdakhahqefcjhaitgfbkbcfsbfaifbkkccakfbfogdajhagndcabacihfdbdbcdsdbcfacccadcgabgk\
-    accaabjdafaebadsehajackmagcacaglahaceaioagbadcauhccdgceuaachabjofcaaabhrcgacgcbchgaihafsadbecckeafafbbetgfagbaisehbahbeaafcfeaie\
-    ahagabfmdacieadkfcbjfcbrfgcjecbdgabjbcddfabadagnadccdccehcbabcaehhcdgakrhdcbfadcdcbdgchhebaedcchfacfgafbcgcbhbfegfckdbigafbacbip\
-    ghagcbkpbabjcaefbgbiabemagagfcenegadbbbgbbbfdaaqcaagebelghcadajccebccbcgdebagaeagebbbaetfcageakeehbiccibdfbedcbucccdccekahakhbhb\
-    beaihbeahhabacebagbbgcedeacghaacghaagccddcafhaddcaafbbjabhckabjtebakeaakhdcdcbftdhahfbgtbbcadbeddfbicajuefcedaknhfaigcembcaaeagu\
-    dfbjabdoafcibbaafbbhabkmccbbgakkhfbeaadcgcacgcbmfbagfcfdafbhhaaqbebjhaenbfcggbieahbgfcbhhaaicadldebafbehhcacaakodhaeecgcfgaaabhg\
-    fgbbfafoddcghbchecccfadmafbaaaeeadcddagbhabaaabdggcffcfjaebhgabmcbcgbccgheabeabqhdcbhceifebkcbefbdbihbfsgbabgbksfccghcafgcachcho\
-    aeacbcekdcbfacbagdbbeafeebbkcbihedbbfabbbgcagcddbgbgabjjehbebbgkfdbbhcfqgfcchcaccdabbbeghgbehaasdeafgcjdbbccgckhdfahebfkfgadfaju\
-    gacabajrgdafcbbicbabdcaqfdbgeccddbcdcafmgfbhhbcpcgakbbdpbgcbaciddfabdbfscfabdakgdbchhbfcffbcdbaoecckhcjggccafagqfgbhdcbnhhbfaceb\
-    fccgabcqedaigcdiehbkdcjlecadbaedecabhaijhbcjgakudfacaakdaccbhaghgbabeaauadbkgcdlfcccfbasecbaccktdeckbbcrcaaeaaaihccdbcdhceagbaba\
-    edbahbbcbbbiacafbdaffbchbdajfcadhhakebetdfccgadhegbdebbpebceeacqgdaaaadaghaihajtbgbdebcgdechcbdkbecjgcdgdgciacgpefcfaabuddcdacjq\
-    dcbddajrhbaigbhlhbcahagoggaffaitabaagagqddcahccrhbbdfajefgbjcbhrfdbehbbshgbgdbfudhaibbaqagaadchihabafaiaeebdhaddgeaebcgibabjgcgc\
-    fbakacklgebffaflhbbhcbkfeebbdakfehcigcieddcdcckjacahabdsagaigaepecbibcingabiecfiebccccfndgbaeacmdcckbadmcbagdbklcdaidbeegaacgach\
-    cdccecemhgbhgbdmcdccacgrdfcdacbpegafbbbbcdbbccahafahgcerdebhabbebecedceuagaifaanebbkdacrgfchhcfcbhceebetbgceeaciffbjabckggbdacgb\
-    gecdccaddccieajmeacfdaclcfbbccgocdcgdaccgfbaacijfbabcbhjcebbaafjdhcibciheeacecblfbadcaedgechebiiaeaggafpffagcbaecdcjhbjugfaeecgm\
-    fhcihcijcfbjbcelcacfacegbfafcadtcbajaabughcjbajkfbcdcajefcagbcebcebdgbddefcgbccfeeadbcgsdhaefaiifhbdeabocbajccfocfbgfcfldbacgcch\
-    bbaffckoccbiecfdffbecbcobcbfhbdkfgachcgleabbhcfdbhcjbahoacbbdahrfaahebcgdeafbchhdabcaccbbdbbhckbbgahdbdjbdadhchgchcdbbjebdbefbeu\
-    daachbfuhcbddbhqadccdaeachakbbauafbacablebbgfchrdhbgdbadegbcbaeacdagccipbaafdbibfdcfhcisdacadahpeacbbadcdfahdceschcddagodgababhh\
-    hbbddcjkdcbjdaiecdbhhbfcaccaeahlcdagccikebbbacdefabjecjtahccfcdtfebjdaebeebhhckfcabjhagpegagbbkhagbbdajnhgbbbbhoggcafaeaafcbhbfh\
-    fbbjcbagccadgbdlcebkgcgsgccddafgcbcdgckmegakbcgcgfbaecandhcfcbkdggaahcfghecbaagobackbckadecjdakschagfceggebjgbklecbgbbclacbacchc\
-    eeabcbdgcaakaabrabcgfbhpbabbfcacdhbecabegdbihacuaeadebabbbbhhcgjccbhbcbgcbcibafjhbagcacjadbkgbikhdbccbjsdcahebjrffccecgohdbhacjl\
-    bgajabaoeeagccaieeakfbffhfahaaefggahcbgshfbfgckhchcbfcdjddajhbfdhcbifbeiddbadceodfcihcalbecieagegcajgcacdebghacpcaakcchjggcjaabk\
-    bgajfcckecbjaberfebbfajehgbadbhhbeacbcknedacfbadbbbgdablhbabbacmhabgbcgqdfakgbalhabccakdfdacccfkbeabhajefdbkabgqhdbicchogeaifcaa\
-    gdcbdadhbcagdbhqbfcfaccngbbidcctagbcabksfdbeacjpfeaiabgshdbgbcdgccbecbetdcckhbhhdgbbgciscebhhahbagbdfajocdbfbcfchcaiabgpegcbdain\
-    ggbjeahofccacbdecdbkecaodcbdgbdnbdajbberdbckcbajbgbdgbhshbcheckteaagabfbbhcjcajbbbbbbbgdhhccecanfccfdccbheabgaifeeafdbarbccghcah\
-    fhcbgcjlhfagbcgddbbedafneeaehbgpdfccfaatbeacebglfhbdfcdqeccjdccmcgbheahfbfbiaagubdahhcaoadcehbgefbcffbhhccadbcjeefcdgckjdccdcaan\
-    dfbjdbcaegbigahpgcahbbigcdcjbcdeafafecbgcgafhbirebbdbbcoggagbbaoacbbhafpagaedcfagdabdbfqadcgaaksddadcckufdafebhleeagecebdecghabi\
-    bcbcgbiodfajgbjnghbiaaihfdcgfbjodhafgckbghaegckiggaabbhbffbgebftdhaiacjhabccbchkdfcbhbkkbaajdbhqcgcceagmgdcfeckohcbigcdoeebbabeh\
-    heabhakpacbdaagadcaeacbjcbagcccpdhaefchdbhcfebidagcjgcfdggcjgafibhbeccfafaajgciseebffadhecaifciacgbbdbhkabbfdacqacbcfcfqhccddbfn\
-    bdaihbdjadcebcauhcbfebdoehcdgaatcabggbbsfgbjaahgehbhcagteebbdcdifeciacfpadbjdbgjhfckaaalfcadhcgcggbaabhdddahaacaeebjccgcchcehbfj\
-    chbigableabffaeueecbfahpdfcebbjnadcahbkmaaageaacdfccebdiefcbebdhecahdbbraccfabadegakacetfebccbfmfhcjbajrfacjgcbdgdbidcjjhdbcdceo\
-    bgbfhcegghbcfbgshccjecefafagbacaheckcbilaeafeaficcacabkhgebaacdbeeabbbhtgfcadbdafbcjcaeadhbjeairccbgcaclafbjbbbagbbjhcajbhbjccjo\
-    ccckgcamahafgaaqchcgabbfefbfbbcuacaghbcqdacjebaccdbaabdpebakfaaadabjfaicdhabdciafbadfcethgajccknedckabithaceabiuehckbbfnffajhbgn\
-    bgbebcgdfebkgchucgcdaadoabbfgcbicacfbbefccaagbapefbjdcdkdgbbdagceeaddabbdgcfbadgggcdbajoeabaeafragcjaagqafccdcedbhahbabidcaebbjp\
-    fdbafchebfakaakmgfcjfaddhfajfbashfckhbiudgbhbagubbakabbmehaafcdnffbhcbehgfbehajtghcbhbinafaehcekehaidcgqdcbcgcjfccbccajaahckebes\
-    ccbabakideaffakdbdahaaaodccdhbejfbbkgbknbgcgebgnhhbdfakgdababcfmfbbkbcgnbdbkdaejhbbgacfmbdcedbaiaacjdcklaabibcdsbfaghaatdcbaccbh\
-    eeccgbcaahakbaitdbccgbkaeecaecdhefagdafcccafacgmdabkcbdmaaadbabrcbacccedehabcahnebbccaffehaddbbdcecdgcfgahagfcjuagaaccbehhbfcbbd\
-    dbbibabsbfbbabaacaafaackfeahhcjtbdakhajbecaafbgrfeakdagmgfaebaghcacffbfgdaaedbjibdbjfbjhdgafdajkgacigacehbbbbcdfghagcbcjaecadbff\
-    egagfcjqahchfbcpgcabcaepedcfgajjedbidahqfcadhccedgaebadsfdbfgagecdahhajddcadeacegdbkacakacadbaapfabkfberfcagdbbuccbkhbdoacbgdcbi\
-    egbbcchghbckbciiegbfcbkjcdbccbfufhcjaahkcecahbechfccccbihbbeccejdecdfckgagadeadmbdahbchodcbkcbfoffaeaakeffaegbjbdfajfadahhaacbgh\
-    bhadebkabhcbeakaadbddaacaebkeaejeebffciechckacfuhgadbbamghafaafnffbcdbcrdeaebcaadeacaakobccccciuadbhhaclgbbhdchjhbcfabetebagcahs\
-    feaghbfrbebjfbdfebbahcfeddbegckkfabddcisefcfdchcaacbhacrcfaifbgj";
+// A thousand calls, each as the number whose digits `Digits::call` reads.
+pub static CALLS: [u32; 1000] = [
+    7728257, 10871877, 6971673, 1707925, 2921006, 23761, 1174207, 8770374, 10173463, 6048759,
+    8117958, 9027581, 11356486, 6983850, 7765726, 10945444, 3491209, 1223187, 3868489, 7287936,
+    3830208, 8173512, 6840777, 1608953, 5275806, 3025161, 3908792, 6060499, 4338756, 10844339,
+    6927198, 7438942, 5216970, 6088689, 10042847, 1155034, 8759287, 4335003, 10447164, 6225569,
+    1159306, 3932805, 10226401, 2464412, 9388537, 8687658, 3874167, 4492815, 5626482, 3851719,
+    6872124, 5408832, 7605922, 4074227, 8147698, 9792012, 1408688, 4038737, 5764801, 10540765,
+    7370559, 6378541, 7857825, 7115873, 3107571, 1115596, 2219864, 10977384, 3470411, 2691622,
+    4214013, 5884406, 6951850, 10442176, 10832757, 6077630, 9455915, 9271381, 10695975, 1852989,
+    10982587, 617617, 6059848, 9859411, 8463784, 7611591, 6334303, 5479974, 92418, 2675212,
+    2054862, 9215426, 3525744, 6744578, 5174899, 1858867, 8898788, 7908241, 1197839, 10588697,
+    5379861, 1812057, 347158, 4044483, 8719241, 10066073, 11690739, 261448, 3676437, 9748503,
+    4454403, 5324127, 1285972, 11254471, 487215, 9946067, 3649190, 11500206, 9286162, 5852525,
+    2988892, 1814922, 11050241, 9092216, 4863747, 6795680, 564603, 408652, 6610636, 10149843,
+    7709557, 234525, 7606091, 9143927, 1884044, 8383619, 1080353, 5814031, 7763241, 8634366,
+    9236956, 655328, 4767330, 6409542, 3928945, 5452074, 166032, 9401007, 9752962, 1245806,
+    4432953, 8628525, 7150581, 8905234, 2446556, 2493987, 6260395, 6927947, 3184629, 4668341,
+    8664639, 125895, 11356646, 10008725, 7734305, 7055805, 11394537, 10355867, 10353036, 8846490,
+    10451306, 2949567, 4305889, 9845480, 7407012, 4889573, 7410672, 1671156, 10892843, 8045438,
+    30634, 2686977, 6252035, 3600123, 10557437, 10161801, 290732, 11382921, 3003436, 9475484,
+    10682542, 7383246, 895451, 9934224, 3457336, 10648485, 7609017, 9935229, 830044, 6281399,
+    77516, 10598681, 2252594, 5058360, 1649812, 4461798, 7170911, 8333656, 937274, 4582503,
+    10941867, 3223254, 294400, 5939193, 7133696, 98393, 7318679, 6814629, 3949420, 2300424,
+    8797812, 3377786, 3387510, 6066577, 7282025, 632592, 2416831, 6208267, 11486803, 8960192,
+    6234700, 384440, 11458309, 6123583, 5665112, 7140884, 4219842, 7562833, 4599073, 3299944,
+    6203293, 1955031, 2481392, 9853730, 11693901, 999512, 1239798, 10295002, 8729691, 1752209,
+    4202036, 11267594, 5059111, 2625690, 2118692, 1860184, 5388923, 17201, 3269593, 4465712,
+    9289471, 1317978, 2813298, 2129680, 10454343, 8042881, 4497840, 5511354, 8253803, 2037532,
+    3341987, 3822994, 5106742, 3169080, 9798103, 5403120, 8334132, 5424626, 10666041, 5055180,
+    5032284, 9824293, 2617887, 4311548, 7748531, 7538812, 5009669, 6204962, 7908750, 2479541,
+    7541236, 6457539, 5200588, 1672592, 4098676, 9517232, 2459844, 8915072, 1400117, 5450359,
+    7790094, 4050417, 1419908, 99978, 3460685, 10086956, 1572997, 5183442, 10738592, 753218,
+    7265414, 6965337, 9351585, 2085001, 4376501, 1550014, 7534044, 2504676, 2304472, 3539802,
+    4973485, 1124736, 7522587, 7652296, 6761342, 4051760, 9456637, 4935525, 3090332, 2861050,
+    11250869, 9358399, 3431291, 8143857, 5446533, 5686337, 9664312, 4848783, 7853099, 4522150,
+    2164406, 5829583, 9292638, 11015980, 10327598, 6111593, 8088786, 7569054, 4342483, 10224861,
+    1251403, 5898008, 2145936, 10191208, 7233276, 6441776, 8220344, 11191600, 11401303, 8280512,
+    9850389, 1212722, 10306039, 2776024, 10816552, 10445038, 234556, 2645352, 6962360, 5737859,
+    9575509, 1767541, 1862470, 7558917, 2372312, 2266263, 9998975, 1278111, 4304915, 4045260,
+    824773, 2515762, 3776238, 8790248, 8892734, 2996609, 6912113, 7496688, 3415732, 8928457,
+    6362498, 1577854, 3468386, 215523, 10798950, 2746773, 1002748, 11243051, 5817170, 946040,
+    236001, 794367, 1922224, 1131204, 1820606, 1840531, 476162, 11068985, 5586060, 10869087,
+    10926779, 1898825, 11613419, 7762540, 6941615, 11463953, 7976747, 20712, 7216013, 6095506,
+    1268079, 6788374, 1971661, 8937320, 7467745, 2666665, 3999288, 6291079, 4133283, 8313239,
+    1462331, 3717173, 8070261, 4037339, 6853972, 2433128, 868760, 1723463, 5317046, 6755616,
+    3483978, 8980455, 4712223, 3013733, 10322969, 10572878, 2837717, 8209750, 5814752, 85523,
+    2492446, 4331596, 619100, 1871409, 5492465, 5899708, 9223389, 1164270, 3567386, 10051895,
+    2176355, 4456841, 5855851, 11618741, 9937094, 4533342, 8961418, 1817565, 6949195, 8498030,
+    8536562, 2112369, 10313131, 3858858, 1401739, 7829677, 3852244, 9235926, 7340661, 795199,
+    9040661, 4660636, 6631612, 1878164, 5438612, 11672783, 2180011, 4222224, 11160014, 6333784,
+    10064213, 11138772, 9601123, 4461314, 4091671, 53986, 1197596, 2823241, 4032793, 1718809,
+    10823871, 4068267, 8440244, 9031820, 152094, 11066366, 3472817, 5750371, 3545825, 8703155,
+    11203180, 9411803, 9941843, 6519183, 8125007, 11010870, 9237896, 9628763, 2697679, 9856437,
+    10119453, 11429303, 8941691, 4855536, 416135, 1840228, 4801382, 1467521, 6675853, 6398310,
+    3317263, 3301348, 2683964, 5563739, 10206544, 8580528, 7691412, 4757830, 7540364, 6800755,
+    6847059, 6664522, 2457818, 4017414, 6936346, 6873911, 9817114, 8448747, 628276, 3941274,
+    9729256, 2299299, 11395169, 7260528, 9588364, 1418670, 10822841, 4571313, 5695789, 896182,
+    1711462, 7157139, 6242052, 8148394, 1224154, 5457518, 5394253, 5271842, 4346107, 6226596,
+    1880269, 4892902, 8630816, 2252589, 11641114, 7037998, 5473917, 6373738, 3583042, 10751081,
+    11203786, 6035902, 2691405, 797397, 1855010, 2926444, 10376868, 4877435, 7865789, 8099146,
+    6432298, 4051211, 8358153, 1970002, 7929325, 5760465, 6486389, 1974980, 8164793, 9840080,
+    3473477, 4294691, 693187, 1113305, 5194801, 3749401, 2706234, 11382425, 11436867, 9299799,
+    209624, 11172346, 6188264, 9879052, 1697211, 205364, 8808218, 987265, 10491421, 8724803,
+    1269636, 10280491, 8117178, 4274931, 6072655, 2643923, 1401690, 6496656, 6020378, 2416396,
+    11094021, 10790776, 768485, 3344740, 8684226, 4430068, 7711216, 8180087, 213494, 4188456,
+    3368333, 6315474, 10388834, 3605910, 7244874, 1457140, 7290734, 2201851, 3647478, 8110439,
+    544833, 10551331, 3593722, 6671526, 6254868, 1508048, 3518820, 9531266, 8747080, 1159745,
+    2286075, 11269150, 583520, 5372233, 3433426, 5275338, 5124879, 6012760, 10514015, 9961555,
+    8152877, 6624671, 7824625, 4499748, 3070692, 2991983, 10362870, 4457391, 5214906, 1959579,
+    4692375, 8048923, 6183531, 2544545, 1163350, 8480931, 5412866, 5628278, 5723185, 9700116,
+    2697317, 4281143, 7791585, 1700572, 6191497, 6794511, 9262343, 6164779, 2184263, 5867549,
+    2701473, 9244125, 8200415, 45926, 4061726, 9300305, 7384681, 10736910, 10560496, 8854365,
+    10358821, 3534623, 10818514, 4291539, 10488499, 928610, 8273392, 1405530, 8686103, 7660596,
+    8171062, 2403605, 7850202, 7430675, 9702169, 5041291, 10421297, 11144399, 829060, 1019897,
+    1996105, 7291199, 700181, 3206247, 9502884, 3952849, 6636285, 2013935, 7509003, 8700132,
+    10604907, 6463137, 9118205, 6834196, 3152562, 11457129, 7855897, 2567000, 4286349, 2722962,
+    5572204, 7253331, 126443, 8732660, 3771286, 2420122, 3439336, 9916850, 7926988, 7826166,
+    8632016, 294384, 9197982, 10544408, 11696859, 6514397, 803748, 4527331, 8241489, 7735915,
+    4310142, 8290909, 1111931, 5014718, 931446, 10873837, 4394555, 5966920, 6114603, 9300865,
+    7003954, 8356190, 8006103, 4122916, 8885415, 304784, 5103379, 8504074, 2072699, 2104697,
+    1974512, 4728566, 292345, 10489925, 4066660, 451412, 5954034, 9029832, 9219344, 7525783,
+    5203417, 11188184, 7984407, 10607228, 10117698, 3702069, 10903612, 4653028, 8652453, 5347288,
+    6135343, 1468437, 2044534, 102747, 1459108, 5304186, 6198266, 11365700, 8729252, 7724523,
+    7229528, 1124736, 4638507, 4080748, 9553940, 1690704, 10832308, 6965861, 9938877, 1771717,
+    5516062, 8049311, 3597809, 10368318, 3034711, 104680, 6561959, 4723424, 4427154, 743526,
+    10967844, 175470, 208845, 9894459, 6240082, 71528, 5068494, 8302009, 6739346, 8934776, 2856762,
+    11272812, 9055312, 1142339, 8532570, 12492, 1532995, 445883, 10841485, 7795063, 11018268,
+    11574663, 7522940, 7585965, 2013617, 11554661, 7958770, 4558728, 3010690, 8393106, 5769708,
+    1425907, 615204, 3500723, 8265014, 9740612, 9227120, 1916136, 4514745, 8839507, 2629533,
+    7199657, 1837230, 10065455, 11590639, 11459059, 6760329, 7444860, 4128301, 11065646, 7685950,
+    5827816, 9266940, 3290963, 460882, 10266424, 4969618, 2191139, 7807321, 5253267, 7786829,
+    7579185, 3863551, 6980227, 7590413, 5229209, 6979279, 4484697, 6682112, 10225792, 10609769,
+    3991763, 131492, 11003384, 536971, 4097444, 1376108, 7029714, 6865987, 9532032, 1913866,
+    7607676, 3045964, 1747260, 3646050, 11653112, 2319024, 1745599, 10090635, 17193, 5678018,
+    11099941, 1030489, 9810260, 7003237, 4210030, 3627394, 4940739, 4388441, 6039219, 2345990,
+    2976079, 5141822, 3064672, 9422836, 8493880, 8570710, 5488092, 9283868, 2380821, 10191219,
+    2548125, 2145050, 2340691, 5611486, 8366224, 9710853, 11226453, 7991698, 4552592, 3738548,
+    4904015, 5547188, 11426394, 5932413, 1349730, 4549807, 5259727, 3897379, 6851952, 8198041,
+    8082515, 2737965, 1044141, 164395, 4228287, 532857, 515705, 1122136, 5231328, 2681188,
+    11440698, 6710455, 7502846, 9603757, 36707, 8313251, 11595409, 6250840, 5414478, 10814543,
+    10396428, 9764965, 2969185, 2532364, 6129883, 10482501, 1511212, 9595136, 5351274,
+];

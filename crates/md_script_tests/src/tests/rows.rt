@@ -245,7 +245,7 @@ struct Refused {
     text: &'static str,
 }
 
-const REFUSED: [Refused; 56] = [
+const REFUSED: [Refused; 67] = [
     Refused {
         script: b"folder a\nfolder b\njob move a u b 1\nfinish 1 1\nstep 1 1\n",
         prints: b"job 1\n1 list new ok\n1 list cur ok\n1 answer notthere\n",
@@ -407,6 +407,65 @@ const REFUSED: [Refused; 56] = [
         script: b"folder i\njob seen i u S1 1\n",
         prints: b"",
         text: "line 2: bad flag",
+    },
+    // A unique name has 200 bytes at most.
+    Refused {
+        script: b"folder i\njob deliver i uuuuuuuuuuuuuuuuuuuuuuuuuuuuuuuuuuuuuuuuuuuuuuuuuuuuuuuuuuuuuuuuuuu\
+uuuuuuuuuuuuuuuuuuuuuuuuuuuuuuuuuuuuuuuuuuuuuuuuuuuuuuuuuuuuuuuuuuu\
+uuuuuuuuuuuuuuuuuuuuuuuuuuuuuuuuuuuuuuuuuuuuuuuuuuuuuuuuuuuuuuuuuuu 1\n",
+        prints: b"",
+        text: "line 2: bad unique",
+    },
+    // Tries are 1 to 16.
+    Refused {
+        script: b"folder i\nfolder j\njob seen i u S 0\n",
+        prints: b"",
+        text: "line 3: bad tries",
+    },
+    Refused {
+        script: b"folder i\nfolder j\njob seen i u S 17\n",
+        prints: b"",
+        text: "line 3: bad tries",
+    },
+    Refused {
+        script: b"folder i\nfolder j\njob flag i u S - 0\n",
+        prints: b"",
+        text: "line 3: bad tries",
+    },
+    Refused {
+        script: b"folder i\nfolder j\njob flag i u - - 17\n",
+        prints: b"",
+        text: "line 3: bad tries",
+    },
+    Refused {
+        script: b"folder i\nfolder j\njob move i u j 0\n",
+        prints: b"",
+        text: "line 3: bad tries",
+    },
+    Refused {
+        script: b"folder i\nfolder j\njob move i u j 17\n",
+        prints: b"",
+        text: "line 3: bad tries",
+    },
+    Refused {
+        script: b"folder i\nfolder j\njob copy i u i v 0\n",
+        prints: b"",
+        text: "line 3: bad tries",
+    },
+    Refused {
+        script: b"folder i\nfolder j\njob copy i u i v 17\n",
+        prints: b"",
+        text: "line 3: bad tries",
+    },
+    Refused {
+        script: b"folder i\nfolder j\njob expunge i u 0\n",
+        prints: b"",
+        text: "line 3: bad tries",
+    },
+    Refused {
+        script: b"folder i\nfolder j\njob expunge i u 18446744073709551615\n",
+        prints: b"",
+        text: "line 3: bad tries",
     },
     Refused {
         script: b"folder i\njob expunge i u 17\n",
