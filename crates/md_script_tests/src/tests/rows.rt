@@ -15,12 +15,14 @@ struct Row {
     prints: &'static [u8],
 }
 
+const DELIVERED: Row = Row {
+    shows: "a delivery is written in pieces, linked, and listed",
+    script: b"folder inbox\njob deliver inbox 1000.M1P7Q1.a 4 hello\\n\nfinish 1 1000\nlist inbox\n",
+    prints: b"job 1\n1 create ok\n1 append 4 ok\n1 append 2 ok\n1 link ok\n1 unlink ok\n1 answer delivered\nnew 1000.M1P7Q1.a - 6\n",
+};
+
 const ROWS: [Row; 38] = [
-    Row {
-        shows: "a delivery is written in pieces, linked, and listed",
-        script: b"folder inbox\njob deliver inbox 1000.M1P7Q1.a 4 hello\\n\nfinish 1 1000\nlist inbox\n",
-        prints: b"job 1\n1 create ok\n1 append 4 ok\n1 append 2 ok\n1 link ok\n1 unlink ok\n1 answer delivered\nnew 1000.M1P7Q1.a - 6\n",
-    },
+    DELIVERED,
     Row {
         shows: "an empty body takes no append",
         script: b"folder i\njob deliver i u 4\nfinish 1 5\nlist i\n",
@@ -226,7 +228,7 @@ fn scripts_print_their_transcripts(rt: HostRuntime) -> Result<(), Fail> {
 
 #[test]
 fn a_script_that_is_cut_short_prints_the_front(rt: HostRuntime) -> Result<(), Fail> {
-    let row = &ROWS[0];
+    let row = &DELIVERED;
     for len in 0..row.script.len() {
         let front = &row.script[..len];
         let printed = transcript(rt.alloc(), front)?;
@@ -684,7 +686,7 @@ impl Write for Room {
 
 #[test]
 fn where_memory_runs_out_nothing_is_written(rt: HostRuntime) {
-    let row = &ROWS[0];
+    let row = &DELIVERED;
     let mut script = Reader::new(row.script);
     let mut sink = Writer::new(Room {
         bytes: [0; 200],
