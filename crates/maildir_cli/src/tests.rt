@@ -4,6 +4,7 @@ ghost use Rattle.std.specs.Prelude.{◌≤◌};
 use crate::command::{CliFault, Run, command};
 use crate::indexing::run_index;
 use crate::threads::run_threads;
+use md_script::Reader;
 use std::alloc::Global;
 use std::sync::Wait;
 use std::test::Fail;
@@ -138,7 +139,7 @@ fn indexed<R: Threads + Wait + Sync>(
     workers: usize,
     script: &[u8],
 ) -> Result<(Vec<u8>, String), Fail> {
-    let mut source = script;
+    let mut source = Reader::new(script);
     let mut sink = Vec::new(alloc);
     let refusal = match run_index(rt, alloc, workers, &mut source, &mut sink) {
         Ok(()) => String::new(alloc),
@@ -207,7 +208,7 @@ fn runs<R: Threads + Wait + Sync>(
 ) -> Result<bool, Fail>
     requires { (1 ≤ threads) × (threads ≤ 16) }
 {
-    let mut source = script;
+    let mut source = Reader::new(script);
     let mut sink = Vec::new(alloc);
     let refusal = match run_threads(rt, alloc, threads, &mut source, &mut sink) {
         Ok(()) => String::new(alloc),

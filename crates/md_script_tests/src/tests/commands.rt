@@ -167,7 +167,7 @@ fn a_script_names_at_most_64_folders(rt: HostRuntime) -> Result<(), Fail> {
 #[test]
 fn a_folders_name_has_at_most_100_bytes(rt: HostRuntime) -> Result<(), Fail> {
     for (len, want) in [(100, None), (101, bad_folder(1))] {
-        let script = joined(rt.alloc(), b"folder ", &[b'n'; 101][..len])?;
+        let script = joined(rt.alloc(), b"folder ", &[b'n'; 101][..len.min(101)])?;
         let refusal = image(rt.alloc(), &script, true).err();
         assert_eq!(rt; refusal, want, "{len}");
     }
