@@ -1,4 +1,6 @@
 // What no clause says: worked listings, with what happens between their two readings. The bytes of each file are its name.
+ghost use Rattle.md_view.specs.Readings.{IsInOrder};
+
 mod names;
 
 use md_core::{Call, CoreError, World};
@@ -78,7 +80,9 @@ fn are(entries: &[Entry], names: &[&[u8]]) -> bool {
 }
 
 // A reading of new that was lent, and one of cur now.
-fn joined(alloc: Global, world: &World<PlainDirs>, new: &[Entry]) -> Result<Vec<Entry>, ViewError> {
+fn joined(alloc: Global, world: &World<PlainDirs>, new: &[Entry]) -> Result<Vec<Entry>, ViewError>
+    requires { IsInOrder new.now }
+{
     let cur = reading(alloc, world, 0, Place::Cur)?;
     join(alloc, new, &cur)
 }
@@ -135,7 +139,10 @@ fn a_message_that_comes_after_the_first_reading_may_be_missing(
 }
 
 // Whether a list joined with an empty one, on either side, is as it was.
-fn joins(alloc: Global, none: &[Entry], some: &[Entry]) -> Result<bool, ViewError> {
+fn joins(alloc: Global, none: &[Entry], some: &[Entry]) -> Result<bool, ViewError>
+    requires none { IsInOrder none.now }
+    requires some { IsInOrder some.now }
+{
     let is_below = join(alloc, none, some)?.as_slice() == some;
     let is_above = join(alloc, some, none)?.as_slice() == some;
     Ok(is_below && is_above && join(alloc, none, none)?.is_empty())
