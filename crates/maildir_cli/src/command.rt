@@ -1,23 +1,12 @@
 //! The run that the words of a command line name.
 ghost use Rattle.std.specs.Prelude.{map, IfOk};
-ghost use Rattle.maildir_cli.specs.Runs.{Names};
+ghost use Rattle.md_runs.specs.Runs.{Names};
 
 use crate::options::options;
-use crate::words::{first_fault, run_named};
 use clap::Error;
 use clap::error::ErrorKind;
+use md_runs::{Run, run_named};
 use std::alloc::{AllocError, Global};
-
-/// What a command line asks for.
-#[derive(Clone, Copy, Debug, PartialEq, Eq)]
-pub enum Run {
-    /// `play`: the script on standard input is played.
-    Play,
-    /// `threads N`: its jobs are run by 1 to 16 threads.
-    Threads(u64),
-    /// `index N`: its messages are indexed by 1 to 64 workers.
-    Index(u64),
-}
 
 /// Why a command line asks for no run.
 #[derive(Debug, Drop)]
@@ -36,12 +25,16 @@ impl From<AllocError> for CliFault {
     }
 }
 
-/// The run that the words after the program's name ask for: a subcommand, and for `threads` and `index` a number in its range.
+/// The run that the words after the program's name ask for: a subcommand, and for `threads` and `index` a number in its range. The options
+/// allow more, as `--` in front of a number, which is refused.
 pub fn command<'a>(alloc: Global, words: &'a [&'a str]) -> Result<Run, CliFault>
     ensures { IfOk result (Names (map (λ word. word.now) words.entry.now)) }
 {
     match options(alloc)?.try_get_matches_from(words) {
-        Ok(_) => run_named(alloc, words),
+        Ok(_) => match run_named(words) {
+            Some(run) => Ok(run),
+            None => Err(CliFault::Refused(String::from_str(alloc, "a word is unexpected")?)),
+        },
         Err(error) => Err(fault(alloc, &error)),
     }
 }
@@ -58,4 +51,20 @@ fn fault(alloc: Global, error: &Error) -> CliFault {
             Err(_) => CliFault::NoMemory,
         },
     }
+}
+
+/// What an error says in its first line, and in the next where the first ends with a colon.
+fn first_fault(alloc: Global, error: &Error) -> Result<String, AllocError> {
+    let text = format!(in alloc; "{error}")?;
+    let mut lines = text.as_str().lines();
+    let first = lines.next().unwrap_or("the words are wrong");
+    let first = first.strip_prefix("error: ").unwrap_or(first);
+    let mut line = String::from_str(alloc, first)?;
+    if first.ends_with(":")
+        && let Some(next) = lines.next()
+    {
+        line.push_str(" ")?;
+        line.push_str(next.trim())?;
+    }
+    Ok(line)
 }

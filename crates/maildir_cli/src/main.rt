@@ -10,18 +10,12 @@
 ghost use Rattle.std.specs.Prelude.{◌≤◌};
 
 mod command;
-mod fault;
-mod indexing;
-mod loading;
 mod options;
 #[cfg(test)]
 mod tests;
-mod threads;
-mod words;
 
-use command::{CliFault, Run, command};
-use fault::RunFault;
-use indexing::run_index;
+use command::{CliFault, command};
+use md_runs::{Run, RunFault, run_index, run_threads};
 use md_script::{PlayError, PlayKind, Reader, Writer, play};
 use std::alloc::AllocGlobal;
 use std::io::ErrorKind;
@@ -29,7 +23,6 @@ use std::process::ExitCode;
 use std::sync::Wait;
 use std::thread::Threads;
 use std::{env, io};
-use threads::run_threads;
 
 /// The status of a refused script.
 const REFUSED: u8 = 1;

@@ -1,12 +1,8 @@
 //! The subcommands of the program, and its help.
 
 use clap::{Arg, ArgAction, Command, value_parser};
+use md_runs::{MOST_THREADS, MOST_WORKERS};
 use std::alloc::{AllocError, Global};
-
-/// The most threads, and the most workers of an index.
-pub(crate) const MOST_THREADS: u64 = 16;
-
-pub(crate) const MOST_WORKERS: u64 = 64;
 
 const ABOUT: &str =
     "Plays scripts over a Maildir store in memory, and prints what each directory call of its jobs did; \

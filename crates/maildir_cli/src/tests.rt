@@ -1,14 +1,8 @@
-//! What command lines ask for, and what an index and a run on threads print.
-ghost use Rattle.std.specs.Prelude.{◌≤◌};
+//! What command lines ask for.
 
-use crate::command::{CliFault, Run, command};
-use crate::indexing::run_index;
-use crate::threads::run_threads;
-use md_script::Reader;
-use std::alloc::Global;
-use std::sync::Wait;
+use crate::command::{CliFault, command};
+use md_runs::Run;
 use std::test::Fail;
-use std::thread::Threads;
 
 #[test]
 fn words_name_runs(rt: HostRuntime) -> Result<(), Fail> {
@@ -98,132 +92,6 @@ fn help_and_version_are_shown(rt: HostRuntime) -> Result<(), Fail> {
             Err(CliFault::Shown(text)) => assert!(rt; text.as_str().starts_with(want), "{text}"),
             other => assert!(rt; false, "{other:?}"),
         }
-    }
-    Ok(())
-}
-
-// A script, and what its index prints or why it is refused.
-static INDEXES: [(&[u8], &[u8], &str); 6] = [
-    (
-        b"folder i\nfile i cur b:2,S 0 Subject: two\\n\nfile i new a 0 Subject: one\\n\n",
-        b"i a\nsubject=one\nend\ni b\nsubject=two\nend\n",
-        "",
-    ),
-    (b"", b"", ""),
-    (
-        b"folder i\nfolder j\nfile j new u 0\nfile i new v 0 x\n# no message:\nfile i tmp w 0\n",
-        b"i v\nend\nj u\nend\n",
-        "",
-    ),
-    (
-        b"folder i\nlist\nfile i new u 0\n",
-        b"",
-        "line 2: not in this run",
-    ),
-    (
-        b"folder i\nfile i new u 0\nfile i new u 0\n\n",
-        b"",
-        "line 4: same path twice",
-    ),
-    (
-        b"folder i\nfile i new u 0\nfile i cur u:2,S 0\n# the last line",
-        b"",
-        "line 4: duplicate unique",
-    ),
-];
-
-// What an index of a script prints, and why it is refused, if it is.
-fn indexed<R: Threads + Wait + Sync>(
-    rt: &R,
-    alloc: Global,
-    workers: usize,
-    script: &[u8],
-) -> Result<(Vec<u8>, String), Fail> {
-    let mut source = Reader::new(script);
-    let mut sink = Vec::new(alloc);
-    let refusal = match run_index(rt, alloc, workers, &mut source, &mut sink) {
-        Ok(()) => String::new(alloc),
-        Err(error) => format!(in alloc; "{error}")?,
-    };
-    Ok((sink, refusal))
-}
-
-#[test]
-fn messages_are_indexed(rt: HostRuntime) -> Result<(), Fail> {
-    for (script, prints, refused) in INDEXES {
-        for workers in [1, 3] {
-            let (text, refusal) = indexed(&rt, rt.alloc(), workers, script)?;
-            assert_eq!(rt; text.as_slice(), prints);
-            assert_eq!(rt; refusal.as_str(), refused);
-        }
-    }
-    Ok(())
-}
-
-// A script, and what its run on threads prints or why it is refused. Its jobs may run in any order without a change.
-static RUNS: [(&[u8], &[u8], &str); 9] = [
-    (
-        b"folder i\njob deliver i a 4 x\njob deliver i b 4 yy\n",
-        b"1 answer delivered\n2 answer delivered\nfolder i\nnew a - 1\nnew b - 2\n",
-        "",
-    ),
-    (b"", b"", ""),
-    (b"folder i\nfolder j\n", b"folder i\nfolder j\n", ""),
-    (
-        b"folder i\nfolder j\nfile i new u 0 x\nfile j cur v:2,ST 0 yy\nfile i tmp w 0\njob seen i u F 1\njob expunge j v 1\njob clean i\njob flag i t S - 2\n",
-        b"1 answer flags F\n2 answer expunged\n3 answer cleaned 0\n4 answer notthere\nfolder i\ncur u F 1\nfolder j\n",
-        "",
-    ),
-    (
-        b"folder i\njob clean i\nlist i\n",
-        b"",
-        "line 3: not in this run",
-    ),
-    (
-        b"folder i\nfile i new u 0\nfile i new u 0\njob clean i\n\n",
-        b"",
-        "line 5: same path twice",
-    ),
-    (
-        b"folder i\njob deliver i u 4\njob deliver i u 4\n# the last line\n",
-        b"",
-        "line 4: name used",
-    ),
-    (
-        b"folder i\njob deliver i u 0\njob deliver i",
-        b"",
-        "line 3: bad command",
-    ),
-    (b"folder i\njob clean j\n", b"", "line 2: unknown folder"),
-];
-
-// Whether a run of a script on so many threads prints this, or is refused so.
-fn runs<R: Threads + Wait + Sync>(
-    rt: &R,
-    alloc: Global,
-    threads: usize,
-    script: &[u8],
-    prints: &[u8],
-    refused: &str,
-) -> Result<bool, Fail>
-    requires { (1 ≤ threads) × (threads ≤ 16) }
-{
-    let mut source = Reader::new(script);
-    let mut sink = Vec::new(alloc);
-    let refusal = match run_threads(rt, alloc, threads, &mut source, &mut sink) {
-        Ok(()) => String::new(alloc),
-        Err(fault) => format!(in alloc; "{fault}")?,
-    };
-    Ok(sink.as_slice() == prints && refusal.as_str() == refused)
-}
-
-#[test]
-fn jobs_are_run_on_threads(rt: HostRuntime) -> Result<(), Fail> {
-    for (script, prints, refused) in RUNS {
-        let alone = runs(&rt, rt.alloc(), 1, script, prints, refused)?;
-        let two = runs(&rt, rt.alloc(), 2, script, prints, refused)?;
-        let most = runs(&rt, rt.alloc(), 16, script, prints, refused)?;
-        assert_eq!(rt; (alone, two, most), (true, true, true));
     }
     Ok(())
 }

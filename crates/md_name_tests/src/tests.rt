@@ -4,45 +4,16 @@ use md_name::{
     with_flags,
 };
 use std::alloc::{AllocError, Global};
-use std::process::Abort;
 use std::test::Fail;
 
-static ALL_LETTERS: &[u8] = b"ABCDEFGHIJKLMNOPQRSTUVWXYZabcdefghijklmnopqrstuvwxyz";
+static ALL_FLAGS: &[u8] = b"=ABCDEFGHIJKLMNOPQRSTUVWXYZabcdefghijklmnopqrstuvwxyz";
 
-/// What a name says behind its unique part.
-#[derive(Clone, Copy)]
-enum Said {
-    Nothing,
-    Flags(&'static [u8]),
-    Other,
-}
-
-/// Names of messages, with their unique parts. The last eight are the fronts of one name.
-static NAMES: [(&[u8], &[u8], Said); 23] = [
-    (b"u", b"u", Said::Nothing),
-    (b"s,S=5", b"s,S=5", Said::Nothing),
-    (b"u:2,", b"u", Said::Flags(b"")),
-    (b"u:2,S", b"u", Said::Flags(b"S")),
-    (b"u:2,TSSa", b"u", Said::Flags(b"STa")),
-    (b"s,S=5:2,S", b"s,S=5", Said::Flags(b"S")),
-    (b"u:2,S1", b"u", Said::Other),
-    (b"v:1,x", b"v", Said::Other),
-    (b"u:", b"u", Said::Other),
-    (b"u:2", b"u", Said::Other),
-    (b"u:2S", b"u", Said::Other),
-    (b"a:b:2,S", b"a", Said::Other),
-    (b"t:2,S,U=1", b"t", Said::Other),
-    (b"u:2,S\x80", b"u", Said::Other),
-    (b"u:2,\xffS", b"u", Said::Other),
-    (b"w", b"w", Said::Nothing),
-    (b"w:", b"w", Said::Other),
-    (b"w:2", b"w", Said::Other),
-    (b"w:2,", b"w", Said::Flags(b"")),
-    (b"w:2,T", b"w", Said::Flags(b"T")),
-    (b"w:2,TS", b"w", Said::Flags(b"ST")),
-    (b"w:2,TSS", b"w", Said::Flags(b"ST")),
-    (b"w:2,TSSa", b"w", Said::Flags(b"STa")),
-];
+/// Names of messages, each with its unique part and what stands behind that: nothing (`-`), flags (`=`), or other info (`?`). The last eight
+/// are the fronts of one name.
+static NAMES: &[u8] =
+    b"u|u|- s,S=5|s,S=5|- u:2,|u|= u:2,S|u|=S u:2,TSSa|u|=STa s,S=5:2,S|s,S=5|=S u:2,S1|u|? v:1,x|v|? u:|u|? u:2|u|? \
+u:2S|u|? a:b:2,S|a|? t:2,S,U=1|t|? u:2,S\x80|u|? u:2,\xffS|u|? \
+w|w|- w:|w|? w:2|w|? w:2,|w|= w:2,T|w|=T w:2,TS|w|=ST w:2,TSS|w|=ST w:2,TSSa|w|=STa";
 
 static NO_MESSAGES: [&[u8]; 10] = [
     b"",
@@ -84,12 +55,30 @@ static TEXTS: [(NameError, &str); 4] = [
 
 fn wants_send<T: Send + Drop>(_value: T) {}
 
-fn info_of(said: Said) -> Result<Info, NameError> {
-    Ok(match said {
-        Said::Nothing => Info::Bare,
-        Said::Flags(letters) => Info::Two(Flags::parse(letters)?),
-        Said::Other => Info::Opaque,
-    })
+/// Whether an info is this.
+fn is_said(info: Info, said: &[u8]) -> bool {
+    match (info, said) {
+        (Info::Bare, b"-") | (Info::Opaque, b"?") => true,
+        (Info::Two(flags), [b'=', letters @ ..]) => Flags::parse(letters) == Ok(flags),
+        _ => false,
+    }
+}
+
+/// Whether a name is split into this unique part and what is said behind it.
+fn is_split(name: &[u8], unique: &[u8], said: &[u8]) -> bool {
+    match split(name) {
+        Some((part, info)) => part == unique && is_said(info, said),
+        None => false,
+    }
+}
+
+/// Whether a row of names is true.
+fn is_true(row: &[u8]) -> bool {
+    let mut words = row.split(|byte| *byte == b'|');
+    match (words.next(), words.next(), words.next()) {
+        (Some(name), Some(unique), Some(said)) => is_split(name, unique, said),
+        _ => false,
+    }
 }
 
 fn parts(micro: u64, host: &[u8]) -> UniqueParts<'_> {
@@ -102,32 +91,43 @@ fn parts(micro: u64, host: &[u8]) -> UniqueParts<'_> {
     }
 }
 
-/// Stops where the parts make another name.
-fn makes(
-    rt: &impl Abort,
-    alloc: Global,
-    parts: UniqueParts<'_>,
-    wanted: &[u8],
-) -> Result<(), Fail> {
-    let name = make_unique(alloc, parts)?;
-    assert!(rt; name.as_slice() == wanted, "{parts:?} make {name:?}");
-    Ok(())
+/// Whether a call gave this text or wanted memory, and no third thing.
+fn gives(answer: Result<Vec<u8>, NameError>, wanted: &[u8]) -> bool {
+    match answer {
+        Ok(text) => text.as_slice() == wanted,
+        Err(error) => error == NameError::NoMemory,
+    }
+}
+
+/// Whether a call gave this text.
+fn is_text(answer: Result<Vec<u8>, NameError>, wanted: &[u8]) -> bool {
+    match answer {
+        Ok(text) => text.as_slice() == wanted,
+        Err(_) => false,
+    }
+}
+
+/// Whether a call was refused so.
+fn is_refused(answer: Result<Vec<u8>, NameError>, wanted: NameError) -> bool {
+    match answer {
+        Ok(_) => false,
+        Err(error) => error == wanted,
+    }
 }
 
 #[test]
-fn names_are_split_at_the_first_colon(rt: HostRuntime) -> Result<(), Fail> {
-    for (name, unique, said) in NAMES {
-        assert!(rt; split(name) == Some((unique, info_of(said)?)), "{name:?}");
+fn names_are_split_at_the_first_colon(rt: HostRuntime) {
+    for row in NAMES.split(|byte| *byte == b' ') {
+        assert!(rt; is_true(row), "{row:?}");
     }
     for name in NO_MESSAGES {
         assert!(rt; split(name).is_none(), "{name:?}");
     }
-    Ok(())
 }
 
 #[test]
 fn each_letter_is_a_flag(rt: HostRuntime) -> Result<(), Fail> {
-    let flags = Flags::parse(ALL_LETTERS)?;
+    let flags = Flags::parse(&ALL_FLAGS[1..])?;
     for byte in 0..=255u8 {
         assert!(rt;
             flags.has(byte) == byte.is_ascii_alphabetic(),
@@ -140,60 +140,62 @@ fn each_letter_is_a_flag(rt: HostRuntime) -> Result<(), Fail> {
             "{letters:?}"
         );
     }
-    let name = with_flags(rt.alloc(), b"u", flags)?;
+    Ok(())
+}
+
+#[test]
+fn all_letters_stand_in_a_name(rt: HostRuntime) -> Result<(), Fail> {
+    let name = with_flags(rt.alloc(), b"u", Flags::parse(&ALL_FLAGS[1..])?)?;
     assert!(rt; name.len() == 56);
-    assert!(rt; split(&name) == Some((b"u", Info::Two(flags))));
+    assert!(rt; is_split(&name, b"u", ALL_FLAGS));
     Ok(())
 }
 
 #[test]
 fn flags_are_read_joined_and_written(rt: HostRuntime) -> Result<(), Fail> {
     let read = Flags::parse(b"TSSa")?;
-    let text = read.write(rt.alloc())?;
-    assert!(rt; text.as_slice() == b"STa".as_slice());
+    assert!(rt; is_text(read.write(rt.alloc()), b"STa"));
     let joined = read.with(Flags::parse(b"F")?).without(Flags::parse(b"Tx")?);
     assert!(rt; joined == Flags::parse(b"FSa")?);
-    let name = with_flags(rt.alloc(), b"u", joined)?;
-    assert!(rt; name.as_slice() == b"u:2,FSa".as_slice());
+    assert!(rt; is_text(with_flags(rt.alloc(), b"u", joined), b"u:2,FSa"));
     assert!(rt; Info::Two(joined).flags() == Some(joined));
-    assert!(rt; Info::Bare.flags() == Some(Flags::empty()));
-    assert!(rt; Info::Opaque.flags() == None);
     Ok(())
 }
 
 #[test]
-fn unique_names_are_made(rt: HostRuntime) -> Result<(), Fail> {
-    let alloc = rt.alloc();
-    let greatest = UniqueParts {
-        sec: u64::MAX,
-        micro: 999_999,
-        pid: u64::MAX,
-        count: u64::MAX,
-        host: b"h",
-    };
-    let least = UniqueParts {
-        sec: 0,
-        micro: 0,
-        pid: 0,
-        count: 0,
-        host: b".",
-    };
-    makes(&rt, alloc, parts(5, b"a/b:c"), b"1000.M5P7Q1.a\\057b\\072c")?;
-    makes(&rt, alloc, parts(999_999, b"a"), b"1000.M999999P7Q1.a")?;
-    makes(&rt, alloc, least, b"0.M0P0Q0..")?;
-    makes(
-        &rt,
-        alloc,
-        greatest,
-        b"18446744073709551615.M999999P18446744073709551615Q18446744073709551615.h",
-    )?;
-    let longest = make_unique(
-        alloc,
-        UniqueParts {
-            host: &[b'h'; 100],
-            ..greatest
-        },
-    )?;
+fn other_info_has_no_flags(rt: HostRuntime) {
+    assert!(rt; Info::Bare.flags() == Some(Flags::empty()));
+    assert!(rt; Info::Opaque.flags() == None);
+}
+
+/// Whether parts make this name.
+fn makes(alloc: Global, parts: UniqueParts<'_>, wanted: &[u8]) -> bool {
+    is_text(make_unique(alloc, parts), wanted)
+}
+
+#[test]
+fn unique_names_are_made(rt: HostRuntime) {
+    assert!(rt; makes(rt.alloc(), parts(5, b"a/b:c"), b"1000.M5P7Q1.a\\057b\\072c"));
+    assert!(rt; makes(rt.alloc(), parts(999_999, b"a"), b"1000.M999999P7Q1.a"));
+}
+
+/// The least or the greatest numbers.
+fn of_numbers(number: u64, micro: u64, host: &[u8]) -> UniqueParts<'_> {
+    UniqueParts {
+        sec: number,
+        micro,
+        pid: number,
+        count: number,
+        host,
+    }
+}
+
+#[test]
+fn numbers_are_written_whole(rt: HostRuntime) -> Result<(), Fail> {
+    let greatest = b"18446744073709551615.M999999P18446744073709551615Q18446744073709551615.h";
+    assert!(rt; makes(rt.alloc(), of_numbers(0, 0, b"."), b"0.M0P0Q0.."));
+    assert!(rt; makes(rt.alloc(), of_numbers(u64::MAX, 999_999, b"h"), greatest));
+    let longest = make_unique(rt.alloc(), of_numbers(u64::MAX, 999_999, &[b'h'; 100]))?;
     assert!(rt; longest.len() == 171 && is_unique_name(&longest));
     Ok(())
 }
@@ -202,9 +204,11 @@ fn unique_names_are_made(rt: HostRuntime) -> Result<(), Fail> {
 fn bad_parts_make_no_name(rt: HostRuntime) {
     for host in BAD_HOSTS {
         let made = make_unique(rt.alloc(), parts(5, host));
-        assert!(rt; made == Err(NameError::BadHost), "{host:?}");
+        assert!(rt; is_refused(made, NameError::BadHost), "{host:?}");
+    }
+    for host in BAD_HOSTS {
         let made = make_unique(rt.alloc(), parts(1_000_000, host));
-        assert!(rt; made == Err(NameError::BadMicro), "{host:?}");
+        assert!(rt; is_refused(made, NameError::BadMicro), "{host:?}");
     }
 }
 
@@ -231,20 +235,10 @@ fn errors_have_texts(rt: HostRuntime) -> Result<(), Fail> {
 #[test]
 fn want_of_memory_is_said(rt: HostRuntime) -> Result<(), Fail> {
     let flags = Flags::parse(b"SF")?;
-    let calls = [
-        (flags.write(rt.alloc()), b"FS".as_slice()),
-        (with_flags(rt.alloc(), b"u", flags), b"u:2,FS"),
-        (
-            make_unique(rt.alloc(), parts(5, b"a/b")),
-            b"1000.M5P7Q1.a\\057b",
-        ),
-    ];
-    for (answer, wanted) in calls {
-        match answer {
-            Ok(text) => assert!(rt; text.as_slice() == wanted),
-            Err(error) => assert!(rt; error == NameError::NoMemory),
-        }
-    }
+    assert!(rt; gives(flags.write(rt.alloc()), b"FS"));
+    assert!(rt; gives(with_flags(rt.alloc(), b"u", flags), b"u:2,FS"));
+    let made = make_unique(rt.alloc(), parts(5, b"a/b"));
+    assert!(rt; gives(made, b"1000.M5P7Q1.a\\057b"));
     Ok(())
 }
 
@@ -256,15 +250,23 @@ fn lengthened(alloc: Global) -> Result<(Bytes, Bytes), AllocError> {
     Ok((bytes, copy))
 }
 
+/// Whether the copy is as it was, and the other is longer.
+fn are_kept(bytes: &Bytes, copy: &Bytes) -> bool {
+    bytes.len() == 4 && bytes != copy && copy.as_slice() == b"a b".as_slice()
+}
+
 #[test]
 fn bytes_are_kept(rt: HostRuntime) {
-    assert!(rt; Bytes::of(Vec::new(rt.alloc())).is_empty());
     let Ok((bytes, copy)) = lengthened(rt.alloc()) else {
         return;
     };
-    assert!(rt; bytes.len() == 4 && bytes != copy);
-    assert!(rt; copy.as_slice() == b"a b".as_slice());
+    assert!(rt; are_kept(&bytes, &copy));
     assert!(rt; bytes.into_vec().as_slice() == b"a b\0".as_slice());
+}
+
+#[test]
+fn no_bytes_are_empty(rt: HostRuntime) {
+    assert!(rt; Bytes::of(Vec::new(rt.alloc())).is_empty());
 }
 
 #[test]

@@ -1,6 +1,0 @@
-use Rattle.md_view.specs.Named.{named_of}
-use Rattle.maildir_cli.proofs.threads.sharing.share.Given as goal
-
--- the store that was just prepared
-abbrev pub ghosts-share_opened : goal.ghosts-share_opened
-ghosts-share_opened g a = record { opening = named_of a.prepared.run.image; book = a.prepared.book }

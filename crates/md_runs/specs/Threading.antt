@@ -1,0 +1,103 @@
+-- What a run on threads writes of a script, and where it is refused.
+use Rattle.std.specs.Prelude.{◌≡◌, ℕ, zero, suc, ◌+◌, ◌<◌, ◌⊎◌, true, List, [], ◌∷◌, ◌++◌, None, Result, Ok, Err, All, length, is_some, codes}
+use Rattle.md_core.specs.Machine.{Standing, Marked, job_at}
+use Rattle.md_core.specs.Mailbox.{Mailbox, mailbox_of}
+use Rattle.md_core.specs.Runs.{Run, dirs_of, jobs_of, failures_of, answer_of, and_events}
+use Rattle.md_core.specs.Interleaving.{IsRun}
+use Rattle.md_script.specs.declared.error.PlayKind.TheVariants.{NoMemory}
+use Rattle.md_script.specs.declared.error.PlayError.{PlayError}
+use Rattle.md_script.specs.Kinds.{unnumbered}
+use Rattle.md_script.specs.Play.{Stops}
+use Rattle.md_script.specs.Reading.{IsWhole}
+use Rattle.md_script.specs.Sinks.{Sink, Took, Untouched}
+use Rattle.md_script.specs.Sources.{Source}
+use Rattle.md_script.specs.Texts.{line_end, answer_line, entries_text}
+use Rattle.md_runs.specs.declared.fault.RunFault.{RunFault}
+use Rattle.md_runs.specs.declared.fault.RunFault.TheVariants.{Play, NoReader, Closed}
+use Rattle.md_runs.specs.Begun.{begun_of, folders_of}
+use Rattle.md_runs.specs.Indexing.{listing_in}
+
+-- `J answer A` for each of the first jobs, in their order
+unfoldable pub answers_text : List Standing → ℕ → List ℕ
+answers_text jobs zero = []
+answers_text jobs (suc n) = answers_text jobs n ++ answer_line (n + 1) (answer_of (job_at jobs (n + 1)))
+
+-- `folder NAME` and the lines of its listing
+abbrev pub folder_text : Mailbox → ℕ → List ℕ → List ℕ
+folder_text m folder name = codes "folder " ++ name ++ line_end ++ entries_text (listing_in m folder)
+
+-- the same for folders, of which the first has this number
+unfoldable pub folders_text : Mailbox → ℕ → List (List ℕ) → List ℕ
+folders_text m folder [] = []
+folders_text m folder (name ∷ names) = folder_text m folder name ++ folders_text m (folder + 1) names
+
+-- the answers of the jobs, and the folders as they are at the end of the run
+abbrev pub report_of : List (List ℕ) → Run → List ℕ
+report_of names r = answers_text (jobs_of r) (length r.calls) ++ folders_text (mailbox_of (dirs_of r)) 0 names
+
+-- each job has its answer
+abbrev pub AllAnswered : Run → Type 0
+AllAnswered r = (n : ℕ) → n < length r.calls → is_some (answer_of (job_at (jobs_of r) (n + 1))) ≡ true
+
+-- the run goes on from there by events at moment 0, at which no job has a moment of its own
+pub record GoesOn (begun r : Run) : Type 0 where
+  pub events : List Marked
+  pub is : r ≡ and_events begun events
+  pub at_zero : All (λ e. (e.event.now ≡ 0) × (e.event.own ≡ None)) events
+
+-- An interleaving of the jobs of a run to their answers, at moment 0 and without a fault: its steps come in some order, each of a job
+-- that had no answer yet. Of any such run the interleaving theorem holds.
+pub record Interleaving (begun : Run) (r : Run) : Type 0 where
+  pub goes_on : GoesOn begun r
+  pub is_run : IsRun r
+  pub faultless : failures_of r ≡ 0
+  pub answered : AllAnswered r
+
+-- What is written of a script: it sets up a store with jobs, and the text is the report of an interleaving of these.
+pub record Reports (script text : List ℕ) : Type 0 where
+  pub begun : Run
+  pub is : begun_of script ≡ Ok begun
+  pub run : Run
+  pub interleaves : Interleaving begun run
+  pub text_is : text ≡ report_of (folders_of script) run
+
+-- A whole script was read, and the report of an interleaving of its jobs written.
+pub record Ran (old new : Source) (before after : Sink) : Type 0 where
+  pub script : List ℕ
+  pub text : List ℕ
+  pub whole : IsWhole old new script
+  pub reports : Reports script text
+  pub written : Took before after text
+
+-- A whole script was read; it is refused, and nothing was written.
+pub record Refuses (old new : Source) (before after : Sink) (e : PlayError) : Type 0 where
+  pub script : List ℕ
+  pub whole : IsWhole old new script
+  pub is : begun_of script ≡ Err e
+  pub unwritten : Untouched before after
+
+-- A whole script was read. No thread took part, or what is published could not be entered, and nothing was written.
+pub record Unrun (old new : Source) (before after : Sink) : Type 0 where
+  pub script : List ℕ
+  pub whole : IsWhole old new script
+  pub unwritten : Untouched before after
+
+-- Why the threads made no report: it rests on memory, or on what `left_right` gave.
+abbrev pub IsStop : RunFault → Type 0
+IsStop (Play e) = e ≡ unnumbered NoMemory
+IsStop NoReader = Unit {0}
+IsStop Closed = Unit {0}
+
+-- why there is no report of a script
+abbrev pub IsUnreported : List ℕ → RunFault → Type 0
+IsUnreported script (Play e) = (e ≡ unnumbered NoMemory) ⊎ (begun_of script ≡ Err e)
+IsUnreported script NoReader = Unit {0}
+IsUnreported script Closed = Unit {0}
+
+-- The answer of `threads`. Lines are numbered from 1, so that the line 0 is none.
+abbrev pub RunsThreads : Source → Source → Sink → Sink → Result (Unit {0}) RunFault → Type 0
+RunsThreads old new before after (Ok done) = Ran old new before after
+RunsThreads old new before after (Err (Play e)) =
+    Refuses old new before after e ⊎ ((e.line ≡ 0) × Stops old new before after e.kind)
+RunsThreads old new before after (Err NoReader) = Unrun old new before after
+RunsThreads old new before after (Err Closed) = Unrun old new before after

@@ -1,0 +1,107 @@
+//! The index of a script's messages: a line for each, with the summary of its header.
+ghost use Rattle.std.specs.Prelude.{◌≡◌, ◌≢◌, ◌⊎◌, Ok, Err, IfOk, MatchResult};
+ghost use Rattle.md_core.specs.Mailbox.{mailbox_of};
+ghost use Rattle.md_core.specs.Runs.{dirs_of};
+ghost use Rattle.md_script.specs.Folders.{names_of};
+ghost use Rattle.md_script.specs.Kinds.{unnumbered};
+ghost use Rattle.md_script.specs.declared.error.PlayKind.TheVariants.{NoMemory};
+ghost use Rattle.md_runs.specs.Indexing.{Indexes, index_from, index_of_script, index_over};
+
+mod folder;
+
+use crate::loading::{load, refused};
+pub(crate) use folder::listing;
+use folder::push_folder;
+use md_core::World;
+use md_dirs::{Dirs, ImageFile};
+use md_script::{PlayError, PlayKind, Setup, Sink, Source, image, read_script, write_whole};
+use std::alloc::{AllocError, Global};
+use std::sync::Wait;
+use std::thread::Threads;
+
+/// Reads a script whole, opens the store of its folders and files, and writes its index: for each folder, in the order of their lines,
+/// and each of its messages, in order of unique name, `FOLDER UNIQUE`, the lines of the message's header summary (RFC 5322) and `end`.
+/// So many workers, 1 to 64, make the summaries.
+///
+/// Nothing is written where a line is refused, `not in this run` where it has another command than `folder` and `file`; nor where the
+/// store can't be opened, which has the number of the last line; nor at the refusals of line 0: `ReadFault`, `TooLong`, `TooManyReads`
+/// and `NoMemory`. After `WriteFault`, at line 0 too, nothing is known of what was written.
+pub fn run_index<R: Threads + Wait + Sync, S: Source, T: Sink>(
+    rt: &R,
+    alloc: Global,
+    workers: usize,
+    source: &mut S,
+    sink: &mut T,
+) -> Result<(), PlayError>
+    ensures { Indexes (S.state source.old) (S.state source.new) (T.state sink.old) (T.state sink.new) result }
+{
+    let script = read_script(alloc, source)?;
+    let text = index_text(rt, alloc, workers, &script)?;
+    write_whole(sink, &text)?;
+    Ok(())
+}
+
+/// The index of a script over bytes.
+fn index_text<R: Threads + Wait + Sync>(
+    rt: &R,
+    alloc: Global,
+    workers: usize,
+    script: &[u8],
+) -> Result<Vec<u8>, PlayError>
+    ensures { MatchResult result
+        (λ text. index_of_script script.now ≡ Ok text.items)
+        (λ e. (e ≡ unnumbered NoMemory) ⊎ (index_of_script script.now ≡ Err e)) }
+{
+    let Setup {
+        folders,
+        files,
+        calls: _,
+    } = image(alloc, script, false)?;
+    match text_over(rt, alloc, workers, &folders, files) {
+        Ok(text) => Ok(text),
+        Err(kind) => Err(refused(script, kind)),
+    }
+}
+
+/// The index of the store over folders and files.
+#[tactic(auto, unfolding(crate::specs::Indexing::index_over))]
+fn text_over<R: Threads + Wait + Sync>(
+    rt: &R,
+    alloc: Global,
+    workers: usize,
+    names: &[Vec<u8>],
+    files: Vec<ImageFile>,
+) -> Result<Vec<u8>, PlayKind>
+    ensures { MatchResult result
+        (λ text. index_over (names_of names.now) files.items ≡ Ok text.items)
+        (λ kind. kind ≢ NoMemory → index_over (names_of names.now) files.items ≡ Err kind) }
+{
+    let world = load(alloc, names, files)?;
+    Ok(folders_text(rt, alloc, workers, &world, names)?)
+}
+
+/// The index of folders of these names, of which the first has the number 0.
+#[tactic(auto, unfolding(crate::specs::Indexing::index_from))]
+fn folders_text<R: Threads + Wait + Sync, D: Dirs>(
+    rt: &R,
+    alloc: Global,
+    workers: usize,
+    world: &World<D>,
+    names: &[Vec<u8>],
+) -> Result<Vec<u8>, AllocError>
+    ensures { IfOk result (λ text. text.items ≡ index_from (mailbox_of (dirs_of world.now)) 0 (names_of names.now)) }
+{
+    let mut text = Vec::new(alloc);
+    let mut folder = 0u32;
+    let mut left = names;
+    while let [name, others @ ..] = left {
+        push_folder(rt, alloc, workers, world, folder, name, &mut text)?;
+        // No memory holds so many folders.
+        let Some(next) = folder.checked_add(1) else {
+            return Err(AllocError);
+        };
+        folder = next;
+        left = others;
+    }
+    Ok(text)
+}

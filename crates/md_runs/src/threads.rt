@@ -1,0 +1,64 @@
+//! The jobs of a script, run by threads.
+
+ghost use Rattle.std.specs.Prelude.{◌≤◌, MatchResult};
+ghost use Rattle.md_runs.specs.Threading.{Reports, IsUnreported, RunsThreads};
+
+mod replay;
+mod setting_up;
+mod share;
+mod sharing;
+
+use crate::fault::RunFault;
+use md_script::{PlayKind, Sink, Source, read_script, write_whole};
+use replay::replay;
+use setting_up::set_up;
+use sharing::share;
+use std::alloc::Global;
+use std::sync::Wait;
+use std::thread::Threads;
+
+/// Reads a script whole, opens the store of its folders and files, submits its jobs, and runs them by so many threads, 1 to 16. Job J is
+/// the thread's with the number J - 1 modulo their count; a thread takes its jobs in order and steps each at moment 0 until it is answered.
+/// Then `J answer A` is written for each job in order, and for each folder `folder NAME` and its listing.
+///
+/// Nothing is written where a line is refused, `not in this run` where it has another command than `folder`, `file` and `job`; nor where
+/// the store can't be opened or a job not be submitted, which has the number of the last line; nor where `NoReader` or `Closed` is
+/// answered, or at the refusals of line 0: `ReadFault`, `TooLong`, `TooManyReads` and `NoMemory`. After `WriteFault`, at line 0 too,
+/// nothing is known of what was written.
+pub fn run_threads<R: Threads + Wait + Sync, S: Source, T: Sink>(
+    rt: &R,
+    alloc: Global,
+    threads: usize,
+    source: &mut S,
+    sink: &mut T,
+) -> Result<(), RunFault>
+    requires { (1 ≤ threads) × (threads ≤ 16) }
+    ensures { RunsThreads (S.state source.old) (S.state source.new) (T.state sink.old) (T.state sink.new) result }
+{
+    let script = read_script(alloc, source)?;
+    let text = threads_text(rt, alloc, threads, &script)?;
+    write_whole(sink, &text)?;
+    Ok(())
+}
+
+/// What the threads print of a script, which a replay of their steps prints too.
+///
+/// A lock tells what holds of whatever it keeps, and not that it keeps these jobs. So the steps are taken once more over a world of the
+/// same script, and what that prints is compared. The two differ only where a last effect couldn't be published for want of memory.
+fn threads_text<R: Threads + Wait + Sync>(
+    rt: &R,
+    alloc: Global,
+    threads: usize,
+    script: &[u8],
+) -> Result<Vec<u8>, RunFault>
+    ensures { MatchResult result (λ text. Reports script.now text.items) (IsUnreported script.now) }
+{
+    let begun = set_up(alloc, script)?;
+    let shared = share(rt, alloc, threads, begun)?;
+    let again = set_up(alloc, script)?;
+    let replayed = replay(alloc, again, shared.world.log())?;
+    if shared.text.as_slice() != replayed.as_slice() {
+        return Err(RunFault::from(PlayKind::NoMemory));
+    }
+    Ok(replayed)
+}

@@ -1,0 +1,71 @@
+//! The store that threads begin with.
+
+ghost use Rattle.std.specs.Prelude.{◌≡◌, ◌≢◌, ◌⊎◌, Ok, Err, IfOk, MatchResult};
+ghost use Rattle.md_store.specs.Locks.{IsFresh};
+ghost use Rattle.md_script.specs.declared.error.PlayKind.TheVariants.{NoMemory};
+ghost use Rattle.md_script.specs.Folders.{names_of};
+ghost use Rattle.md_script.specs.Kinds.{unnumbered};
+ghost use Rattle.md_runs.specs.Begun.{submitted_all, begun_over, begun_of, IsBegun};
+
+use crate::loading::{load, refused};
+use md_core::{Call, World};
+use md_dirs::{Dirs, ImageFile, IndexDirs};
+use md_script::{PlayError, PlayKind, Setup, image};
+use std::alloc::Global;
+
+/// The names of a script's folders, and a store over its files with its jobs, of which none was stepped.
+#[derive(Drop)]
+pub(super) struct Made {
+    pub names: Vec<Vec<u8>>,
+    pub world: World<IndexDirs>,
+}
+
+/// What a script sets up.
+pub(super) fn set_up(alloc: Global, script: &[u8]) -> Result<Made, PlayError>
+    ensures made { MatchResult result (IsBegun script.now) (λ e. (e ≡ unnumbered NoMemory) ⊎ (begun_of script.now ≡ Err e)) }
+    ensures fresh { IfOk result (λ made. IsFresh made.world) }
+{
+    let Setup {
+        folders,
+        files,
+        calls,
+    } = image(alloc, script, true)?;
+    match world_of(alloc, &folders, files, calls) {
+        Ok(world) => Ok(Made {
+            names: folders,
+            world,
+        }),
+        Err(kind) => Err(refused(script, kind)),
+    }
+}
+
+/// The store over folders and files, with jobs.
+#[tactic(auto, unfolding(crate::specs::Begun::begun_over), using(crate::proofs::Submitting::opened_fresh))]
+fn world_of(
+    alloc: Global,
+    names: &[Vec<u8>],
+    files: Vec<ImageFile>,
+    calls: Vec<Call>,
+) -> Result<World<IndexDirs>, PlayKind>
+    ensures begun { MatchResult result
+        (λ world. begun_over (names_of names.now) files.items calls.items ≡ Ok world)
+        (λ kind. kind ≢ NoMemory → begun_over (names_of names.now) files.items calls.items ≡ Err kind) }
+    ensures fresh { IfOk result (λ world. IsFresh world) }
+{
+    let mut world = load(alloc, names, files)?;
+    submit_all(&mut world, calls)?;
+    Ok(world)
+}
+
+/// Submits calls in their order, up to the first that is refused.
+fn submit_all<D: Dirs>(world: &mut World<D>, calls: Vec<Call>) -> Result<(), PlayKind>
+    ensures all { MatchResult result
+        (λ _. submitted_all world.old calls.items ≡ Ok world.new)
+        (λ kind. kind ≢ NoMemory → submitted_all world.old calls.items ≡ Err kind) }
+    ensures events { world.new.events ≡ world.old.events }
+{
+    for call in calls {
+        world.submit(call)?;
+    }
+    Ok(())
+}

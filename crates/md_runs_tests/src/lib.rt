@@ -1,0 +1,5 @@
+//! Tests of `md_runs`.
+#![tactic(auto)]
+
+#[cfg(test)]
+mod tests;
