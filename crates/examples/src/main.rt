@@ -1,5 +1,6 @@
-//! Plays each script of the folder that it runs in, over hashed and over plain directories, and compares what it prints with the text
-//! beside it: `NAME.script` with `NAME.out`.
+//! Plays each script of the folder that it runs in, over hashed and over plain directories, and compares what it prints, and the refusal that
+//! it ends with, with the text beside it: `NAME.script` with `NAME.out`. Then it does the same with the rows of `NAME.rows`: a script, a
+//! line `>`, and what it prints. Between rows stands a line `%`.
 #![tactic(auto)]
 
 use md_dirs::{IndexDirs, PlainDirs};
@@ -7,9 +8,7 @@ use md_script::{Storage, transcript_over};
 use std::{fs, io};
 
 fn main(rt: HostRuntime) -> io::Result<()> {
-    let mut names = script_names(&rt)?;
-    names.sort()?;
-    for name in &names {
+    for name in &names_with(&rt, ".script")? {
         let verdict = if is_as_expected(&rt, name.as_str())? {
             "as expected"
         } else {
@@ -17,33 +16,67 @@ fn main(rt: HostRuntime) -> io::Result<()> {
         };
         println!(rt; "{name}: {verdict}")?;
     }
+    for name in &names_with(&rt, ".rows")? {
+        play_rows(&rt, name.as_str())?;
+    }
     Ok(())
 }
 
-// The scripts, without their endings.
-fn script_names(rt: &HostRuntime) -> io::Result<Vec<String>> {
+// The files with this ending, without it, in order.
+fn names_with(rt: &HostRuntime, ending: &str) -> io::Result<Vec<String>> {
     let mut names = Vec::new(rt.alloc());
     for entry in fs::read_dir(rt, ".")? {
         let entry = entry?;
-        if let Some(name) = entry.file_name().strip_suffix(".script") {
+        if let Some(name) = entry.file_name().strip_suffix(ending) {
             names.push(String::from_str(rt.alloc(), name)?)?;
         }
     }
+    names.sort()?;
     Ok(names)
 }
 
-// Whether a script prints the text beside it, and runs to its end.
 fn is_as_expected(rt: &HostRuntime, name: &str) -> io::Result<bool> {
     let script = format!(in rt.alloc(); "{name}.script")?;
     let expected = format!(in rt.alloc(); "{name}.out")?;
     let script = fs::read(rt, script.as_str())?;
     let expected = fs::read(rt, expected.as_str())?;
-    let is_hashed = prints::<IndexDirs>(rt, &script, &expected)?;
-    let is_plain = prints::<PlainDirs>(rt, &script, &expected)?;
+    prints(rt, &script, &expected)
+}
+
+fn play_rows(rt: &HostRuntime, name: &str) -> io::Result<()> {
+    let file = format!(in rt.alloc(); "{name}.rows")?;
+    let rows = fs::read_to_string(rt, file.as_str())?;
+    let mut count = 0u64;
+    for row in rows.as_str().split("%\n") {
+        if is_row_as_expected(rt, row)? {
+            count = count.saturating_add(1);
+        } else {
+            println!(rt; "{name}: DIFFERS\n{row}")?;
+        }
+    }
+    println!(rt; "{name}: {count} rows as expected")
+}
+
+fn is_row_as_expected(rt: &HostRuntime, row: &str) -> io::Result<bool> {
+    match row.split_once(">\n") {
+        Some((script, expected)) => prints(rt, script.as_bytes(), expected.as_bytes()),
+        None => Ok(false),
+    }
+}
+
+// Whether a script prints this over both kinds of directories.
+fn prints(rt: &HostRuntime, script: &[u8], expected: &[u8]) -> io::Result<bool> {
+    let is_hashed = prints_over::<IndexDirs>(rt, script, expected)?;
+    let is_plain = prints_over::<PlainDirs>(rt, script, expected)?;
     Ok(is_hashed && is_plain)
 }
 
-fn prints<D: Storage>(rt: &HostRuntime, script: &[u8], expected: &[u8]) -> io::Result<bool> {
+fn prints_over<D: Storage>(rt: &HostRuntime, script: &[u8], expected: &[u8]) -> io::Result<bool> {
     let printed = transcript_over::<D>(rt.alloc(), script)?;
-    Ok(printed.refusal.is_none() && printed.text.as_slice() == expected)
+    let mut text = printed.text;
+    if let Some(refusal) = printed.refusal {
+        let line = format!(in rt.alloc(); "{refusal}\n")?;
+        text.extend_from_slice(line.as_bytes())?;
+    }
+    Ok(text.as_slice() == expected)
 }

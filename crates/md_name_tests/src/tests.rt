@@ -46,21 +46,29 @@ static OTHER_NAMES: [&[u8]; 9] = [
 
 static BAD_HOSTS: [&[u8]; 6] = [b"", b"a\0", b"\nb", b"a\rb", &[b'h'; 101], &[b':'; 26]];
 
-static TEXTS: [(NameError, &str); 4] = [
-    (NameError::BadHost, "bad host"),
-    (NameError::BadMicro, "bad micro"),
-    (NameError::NoMemory, "no memory"),
-    (NameError::BadFlag, "bad flag"),
+static ERRORS: [NameError; 4] = [
+    NameError::BadHost,
+    NameError::BadMicro,
+    NameError::NoMemory,
+    NameError::BadFlag,
 ];
 
 fn wants_send<T: Send + Drop>(_value: T) {}
 
+/// Whether letters spell these flags, behind a `=`.
+fn are_flags(flags: Flags, said: &[u8]) -> bool {
+    match said {
+        [b'=', letters @ ..] => Flags::parse(letters) == Ok(flags),
+        _ => false,
+    }
+}
+
 /// Whether an info is this.
 fn is_said(info: Info, said: &[u8]) -> bool {
-    match (info, said) {
-        (Info::Bare, b"-") | (Info::Opaque, b"?") => true,
-        (Info::Two(flags), [b'=', letters @ ..]) => Flags::parse(letters) == Ok(flags),
-        _ => false,
+    match info {
+        Info::Bare => said == b"-".as_slice(),
+        Info::Opaque => said == b"?".as_slice(),
+        Info::Two(flags) => are_flags(flags, said),
     }
 }
 
@@ -224,10 +232,12 @@ fn a_delivery_needs_a_unique_name(rt: HostRuntime) {
 
 #[test]
 fn errors_have_texts(rt: HostRuntime) -> Result<(), Fail> {
-    for (error, text) in TEXTS {
-        let shown = format!(in rt.alloc(); "{error}")?;
-        assert!(rt; shown.as_str() == text, "{text}");
+    let mut text = String::new(rt.alloc());
+    for error in ERRORS {
+        let line = format!(in rt.alloc(); "{error}\n")?;
+        text.push_str(line.as_str())?;
     }
+    assert!(rt; text.as_str() == "bad host\nbad micro\nno memory\nbad flag\n");
     Ok(())
 }
 

@@ -5,7 +5,6 @@ mod fakes;
 mod faults;
 mod limits;
 mod lines;
-mod listing;
 mod rows;
 mod setups;
 mod texts;

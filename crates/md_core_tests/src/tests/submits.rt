@@ -1,5 +1,5 @@
 // Each refusal of a call, and which of several comes first.
-use super::{NAME, delivery, load, plain_delivery, submit, submitted};
+use super::{NAME, delivery, load, plain_delivery, submitted};
 use CoreError::{BadChunk, BadUnique, BodyTooLong, NameUsed, NoFolder, TooManyJobs};
 use md_core::{Call, CoreError, World};
 use md_dirs::{Bytes, PlainDirs};
@@ -45,7 +45,7 @@ fn zeros(alloc: Global, len: usize) -> Result<Bytes, AllocError> {
     }))
 }
 
-// Why a delivery is refused, if it is. It comes back then.
+// Why a delivery is refused, if it is.
 fn refusal(
     rt: &impl Abort,
     alloc: Global,
@@ -53,22 +53,7 @@ fn refusal(
     row: (u32, &[u8], usize, u64),
 ) -> Result<Option<CoreError>, AllocError> {
     let call = delivery(alloc, row.0, row.1, zeros(alloc, row.2)?, row.3)?;
-    let Err(refused) = submit(rt, world, call) else {
-        return Ok(None);
-    };
-    let is_back = match &refused.call {
-        Call::Deliver {
-            folder,
-            unique,
-            body,
-            chunk,
-        } => {
-            *folder == row.0 && unique.as_slice() == row.1 && body.len() == row.2 && *chunk == row.3
-        }
-        _ => false,
-    };
-    assert!(rt; is_back);
-    Ok(Some(refused.error))
+    Ok(submitted(rt, world, call).err())
 }
 
 fn are_refused(

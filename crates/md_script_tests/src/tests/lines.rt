@@ -1,55 +1,37 @@
-//! Lines: where they end, and which are passed over.
+//! Lines: where they end, and how they come.
 
 use super::fakes::Interrupted;
-use md_script::{PlayError, PlayKind, Reader, image, play, transcript};
+use md_script::{Reader, image, play};
+use std::alloc::Global;
 use std::test::Fail;
 
 /// What stands behind the words of a file, and the file's bytes.
-static ENDS: [(&[u8], &[u8]); 7] = [
-    (b"a", b"a"),
-    (b"a\n", b"a"),
-    (b"a\r\n", b"a"),
-    (b"a\r\r\n", b"a\r"),
-    (b"a\r", b"a\r"),
-    (b"a\rb\n", b"a\rb"),
-    (b"a\\nb", b"a\nb"),
-];
+static ENDS: &[u8] = b"a|a%a\n|a%a\r\n|a%a\r\r\n|a\r%a\r|a\r%a\rb\n|a\rb%a\\nb|a\nb";
+
+/// Whether a file whose line ends so has these bytes.
+fn has_bytes(alloc: Global, end: &[u8], bytes: &[u8]) -> Result<bool, Fail> {
+    let mut script = Vec::from_slice(alloc, b"folder i\nfile i new u 0 ")?;
+    script.extend_from_slice(end)?;
+    let setup = image(alloc, &script, false)?;
+    Ok(match setup.files.as_slice() {
+        [file] => file.bytes.as_slice() == bytes,
+        _ => false,
+    })
+}
+
+/// Whether a row is true.
+fn is_true(alloc: Global, row: &[u8]) -> Result<bool, Fail> {
+    let mut parts = row.split(|byte| *byte == b'|');
+    match (parts.next(), parts.next()) {
+        (Some(end), Some(bytes)) => has_bytes(alloc, end, bytes),
+        _ => Ok(false),
+    }
+}
 
 #[test]
 fn lines_end_at_line_feeds(rt: HostRuntime) -> Result<(), Fail> {
-    for (end, want) in ENDS {
-        let mut script = Vec::from_slice(rt.alloc(), b"folder i\nfile i new u 0 ")?;
-        script.extend_from_slice(end)?;
-        let setup = image(rt.alloc(), &script, false)?;
-        assert_eq!(rt; setup.files.len(), 1);
-        for file in setup.files.iter() {
-            assert_eq!(rt; file.bytes.as_slice(), want, "{end:?}");
-        }
-    }
-    Ok(())
-}
-
-/// Scripts, and their first lines that are no commands and are not passed over.
-static BAD_AT: [(&[u8], Option<u64>); 9] = [
-    (b"", None),
-    (b"\n", None),
-    (b"#", None),
-    (b"#a\n\n#b\r\n\r\n", None),
-    (b"x", Some(1)),
-    (b"\r\r\n", Some(1)),
-    (b"\r\n\r", Some(2)),
-    (b"#a\n\n #b\n#", Some(3)),
-    (b"# one\n\nfolder i\n\r\nthree\nfour", Some(5)),
-];
-
-#[test]
-fn lines_that_are_passed_over_are_counted(rt: HostRuntime) -> Result<(), Fail> {
-    for (script, at) in BAD_AT {
-        let kind = PlayKind::BadCommand;
-        let want = at.map(|line| PlayError { line, kind });
-        let printed = transcript(rt.alloc(), script)?;
-        assert_eq!(rt; printed.refusal, want, "{script:?}");
-        assert_eq!(rt; printed.text.len(), 0);
+    for row in ENDS.split(|byte| *byte == b'%') {
+        assert!(rt; is_true(rt.alloc(), row)?, "{row:?}");
     }
     Ok(())
 }

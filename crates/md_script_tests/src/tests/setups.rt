@@ -1,8 +1,7 @@
 //! What scripts set up for another to run.
 
-use md_name::NameError;
-use md_script::{PlayError, PlayKind, image};
-use std::alloc::{AllocError, Global};
+use md_script::image;
+use std::alloc::Global;
 use std::test::Fail;
 
 #[test]
@@ -37,62 +36,69 @@ Clean { folder: 1 }]";
     Ok(())
 }
 
-/// Lines that are taken, or refused, whether jobs are allowed or not.
-static LINES: [(&[u8], Option<PlayKind>); 10] = [
-    (b"folder j", None),
-    (b"step 1 1", Some(PlayKind::NotInThisRun)),
-    (b"list", Some(PlayKind::NotInThisRun)),
-    (b"unique", Some(PlayKind::NotInThisRun)),
-    (b"summary", Some(PlayKind::NotInThisRun)),
-    (b"lists", Some(PlayKind::BadCommand)),
-    (b"file i old u 0", Some(PlayKind::BadPlace)),
-    (b"file i new u", Some(PlayKind::BadCommand)),
-    (b"file k old u x", Some(PlayKind::UnknownFolder)),
-    (b"file i new u x", Some(PlayKind::BadNumber)),
-];
+/// Lines behind `folder i`, and why they set nothing up, if they do, whether jobs are allowed or not.
+static LINES: &[u8] = b"\
+folder j|%\
+step 1 1|line 2: not in this run%\
+list|line 2: not in this run%\
+unique|line 2: not in this run%\
+summary|line 2: not in this run%\
+lists|line 2: bad command%\
+file i old u 0|line 2: bad place%\
+file i new u|line 2: bad command%\
+file k old u x|line 2: unknown folder%\
+file i new u x|line 2: bad number";
 
 /// Lines of jobs. Where none are allowed, they are refused before their other words are read.
-static JOB_LINES: [(&[u8], Option<PlayKind>); 6] = [
-    (b"job clean i", None),
-    (b"job", Some(PlayKind::BadCommand)),
-    (b"job sea i", Some(PlayKind::BadCommand)),
-    (b"job move i u j 1", Some(PlayKind::UnknownFolder)),
-    (
-        b"job seen i u S1 1 x",
-        Some(PlayKind::Name(NameError::BadFlag)),
-    ),
-    (b"job seen i u - 1 x", Some(PlayKind::BadCommand)),
-];
+static JOB_LINES: &[u8] = b"\
+job clean i|%\
+job|line 2: bad command%\
+job sea i|line 2: bad command%\
+job move i u j 1|line 2: unknown folder%\
+job seen i u S1 1 x|line 2: bad flag%\
+job seen i u - 1 x|line 2: bad command";
 
-/// Why a script sets nothing up whose second line this is, and whose first names the folder `i`.
-fn refusal_at_line_2(
-    alloc: Global,
-    line: &[u8],
-    jobs_allowed: bool,
-) -> Result<Option<PlayError>, AllocError> {
+/// Whether a script is refused so, if at all.
+fn is_refused(alloc: Global, line: &[u8], with_jobs: bool, refusal: &[u8]) -> Result<bool, Fail> {
     let mut script = Vec::from_slice(alloc, b"folder i\n")?;
     script.extend_from_slice(line)?;
-    Ok(image(alloc, &script, jobs_allowed).err())
+    let text = match image(alloc, &script, with_jobs) {
+        Ok(_) => String::new(alloc),
+        Err(error) => format!(in alloc; "{error}")?,
+    };
+    Ok(text.as_bytes() == refusal)
 }
 
-fn at_line_2(kind: Option<PlayKind>) -> Option<PlayError> {
-    kind.map(|kind| PlayError { line: 2, kind })
+/// Whether a row is true, with and without jobs.
+fn is_true(alloc: Global, row: &[u8]) -> Result<bool, Fail> {
+    let mut parts = row.split(|byte| *byte == b'|');
+    match (parts.next(), parts.next()) {
+        (Some(line), Some(refusal)) => {
+            Ok(is_refused(alloc, line, true, refusal)? && is_refused(alloc, line, false, refusal)?)
+        }
+        _ => Ok(false),
+    }
+}
+
+/// Whether a row of a job is true, which is refused where no job is allowed.
+fn is_true_of_job(alloc: Global, row: &[u8]) -> Result<bool, Fail> {
+    let too_soon = b"line 2: not in this run";
+    let mut parts = row.split(|byte| *byte == b'|');
+    match (parts.next(), parts.next()) {
+        (Some(line), Some(refusal)) => {
+            Ok(is_refused(alloc, line, true, refusal)? && is_refused(alloc, line, false, too_soon)?)
+        }
+        _ => Ok(false),
+    }
 }
 
 #[test]
 fn what_sets_nothing_up_is_refused(rt: HostRuntime) -> Result<(), Fail> {
-    for (line, want) in LINES {
-        for jobs_allowed in [true, false] {
-            let refusal = refusal_at_line_2(rt.alloc(), line, jobs_allowed)?;
-            assert_eq!(rt; refusal, at_line_2(want), "{line:?}");
-        }
+    for row in LINES.split(|byte| *byte == b'%') {
+        assert!(rt; is_true(rt.alloc(), row)?, "{row:?}");
     }
-    for (line, want) in JOB_LINES {
-        let refusal = refusal_at_line_2(rt.alloc(), line, true)?;
-        assert_eq!(rt; refusal, at_line_2(want), "{line:?}");
-        let refusal = refusal_at_line_2(rt.alloc(), line, false)?;
-        let too_soon = at_line_2(Some(PlayKind::NotInThisRun));
-        assert_eq!(rt; refusal, too_soon, "{line:?}");
+    for row in JOB_LINES.split(|byte| *byte == b'%') {
+        assert!(rt; is_true_of_job(rt.alloc(), row)?, "{row:?}");
     }
     Ok(())
 }
