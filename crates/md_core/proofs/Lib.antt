@@ -8,3 +8,4 @@ pub mod Runs
 pub mod Theorem
 pub mod Worlds
 pub mod Answers
+pub mod Traces

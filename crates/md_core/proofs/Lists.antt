@@ -1,4 +1,3 @@
 pub mod Found
-pub mod Members
 pub mod Places
 pub mod Pieces

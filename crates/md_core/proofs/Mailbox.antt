@@ -2,5 +2,6 @@ pub mod Shown
 pub mod Changes
 pub mod Naming
 pub mod Renamed
+pub mod Paths
 pub mod WholeName
 pub mod Wholeness

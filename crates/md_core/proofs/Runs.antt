@@ -1,3 +1,4 @@
 pub mod Events
 pub mod ByEvent
 pub mod Extended
+pub mod Going

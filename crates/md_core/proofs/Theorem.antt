@@ -1,7 +1,9 @@
 pub mod Effects
 pub mod Placed
+pub mod Staying
 pub mod Growing
 pub mod Histories
 pub mod Comes
 pub mod Bounds
-pub mod Interleaves
+pub mod RunLaw
+pub mod LawHolds

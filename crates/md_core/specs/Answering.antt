@@ -1,8 +1,7 @@
--- What an answer says that comes without an effect: of which moment it is the answer, or what happened to its job.
-use Rattle.std.specs.Prelude.{ℕ, ◌≡◌, ◌+◌, ◌-◌, ◌≤◌, ◌++◌, ◌⊎◌, ◌==◌, ◌&&◌, List, [], ◌∷◌, Some, Bool, true, false, not, nat_le}
-use Rattle.std.specs.Prelude.{map, filter, drop, length, count_by}
+-- What an answer says that comes without an effect: of which moment it is the answer, or what happened to its job. All of it is read off
+-- the trace.
+use Rattle.std.specs.Prelude.{ℕ, ◌≡◌, ◌+◌, ◌-◌, ◌≤◌, ◌∷◌, ◌⊎◌, ◌==◌, ◌&&◌, List, Some, Bool, true, false, not, nat_le, filter, map, drop, length, count_by}
 use Rattle.std.specs.List.{All}
-use Rattle.std.specs.Option.{option_to_list}
 use Rattle.md_dirs.specs.Path.{path_of as path}
 use Rattle.md_dirs.specs.Rows.{rows_of, is_named}
 use Rattle.md_dirs.specs.declared.paths.Path.{Path}
@@ -18,31 +17,30 @@ use Rattle.md_core.specs.declared.jobs.effect.Effect.{Effect}
 use Rattle.md_core.specs.declared.jobs.step.DirReply.{DirReply}
 use Rattle.md_core.specs.declared.jobs.step.DirReply.TheVariants as reply
 use Rattle.md_core.specs.Alone.{alone}
-use Rattle.md_core.specs.Turn.{create, list, unlink}
-use Rattle.md_core.specs.Machine.{Machine, Done, Marked, done, happens}
-use Rattle.md_core.specs.Runs.{Run, beginning, moment, done_at, call_at, box, first_step, dirs_at_first}
+use Rattle.md_core.specs.History.{after}
+use Rattle.md_core.specs.Asked.{create, unlink, list}
+use Rattle.md_core.specs.Trace.{Trace, Step, IsStepOf, call_at, step_at, state, box, effects}
 
--- event k is a step of the job, and this is what it did
-pub record IsStep (r : Run) (job k : ℕ) : Type 0 where
-  pub what : Done
-  pub at : done_at r k ≡ Some what
-  pub own : what.job ≡ job
-
--- The span of a job goes from the moment before its first step to the moment behind its last: a moment is in it that is not before some
--- step of the job and not after the end of some step.
-pub record IsInSpan (r : Run) (job k : ℕ) : Type 0 where
+-- The span of a job goes from the moment before its first step to the moment after its last.
+pub record IsInSpan (t : Trace) (job k : ℕ) : Type 0 where
   pub from : ℕ
   pub to : ℕ
-  pub begun : IsStep r job from
-  pub goes_on : IsStep r job to
+  pub begun : IsStepOf t job from
+  pub goes_on : IsStepOf t job to
   pub after : from ≤ k
   pub before : k ≤ to + 1
 
--- at some moment of the span of its job the call, made alone, would be answered so
-pub record IsOfSpan (r : Run) (job : ℕ) (c : Call) (a : Answer) : Type 0 where
+-- the first step of a job
+pub record Begins (t : Trace) (job : ℕ) : Type 0 where
   pub k : ℕ
-  pub in_span : IsInSpan r job k
-  pub is : (alone c (box (moment r k))).answer ≡ a
+  pub begun : IsStepOf t job k
+  pub first : (i : ℕ) → IsStepOf t job i → k ≤ i
+
+-- at some moment of the span of its job the call, made alone, would be answered so
+pub record IsOfSpan (t : Trace) (job : ℕ) (c : Call) (a : Answer) : Type 0 where
+  pub k : ℕ
+  pub in_span : IsInSpan t job k
+  pub is : (alone c (box t k)).answer ≡ a
 
 -- whether a change adds, renames or takes away the message of a unique name
 abbrev pub is_on : List ℕ → Change → Bool
@@ -55,137 +53,120 @@ is_on u change.Same = false
 abbrev pub is_touch : ℕ → List ℕ → Effect → Bool
 is_touch job u e = not (e.job == job) && is_on u e.change
 
--- the effects between two moments
-abbrev pub effects_between : Run → ℕ → ℕ → List Effect
-effects_between r i j = drop (length (moment r i).effects) (moment r j).effects
-
 -- in the span of a job, effects of other jobs touched a unique name at least so often
-pub record IsTouched (r : Run) (job : ℕ) (u : List ℕ) (times : ℕ) : Type 0 where
+pub record IsTouched (t : Trace) (job : ℕ) (u : List ℕ) (times : ℕ) : Type 0 where
   pub from : ℕ
   pub to : ℕ
-  pub begun : IsStep r job from
-  pub goes_on : IsStep r job to
-  pub touched : times ≤ count_by (is_touch job u) (effects_between r from (to + 1))
+  pub begun : IsStepOf t job from
+  pub goes_on : IsStepOf t job to
+  pub touched : times ≤ count_by (is_touch job u) (drop (length (effects t from)) (effects t (to + 1)))
 
 -- a call is lost whose message was touched once for each of its tries
-abbrev pub IsLost : Run → ℕ → Call → Type 0
-IsLost r job (call.Deliver folder u body chunk) = ⊥
-IsLost r job (call.Seen folder u flags tries) = IsTouched r job u tries
-IsLost r job (call.Flag folder u add remove tries) = IsTouched r job u tries
-IsLost r job (call.Move folder u to tries) = IsTouched r job u tries
-IsLost r job (call.Expunge folder u tries) = IsTouched r job u tries
-IsLost r job (call.Copy folder u to fresh tries) = IsTouched r job u tries
-IsLost r job (call.Clean folder) = ⊥
+abbrev pub IsLost : Trace → ℕ → Call → Type 0
+IsLost t job (call.Seen folder u flags tries) = IsTouched t job u tries
+IsLost t job (call.Flag folder u add remove tries) = IsTouched t job u tries
+IsLost t job (call.Move folder u to tries) = IsTouched t job u tries
+IsLost t job (call.Expunge folder u tries) = IsTouched t job u tries
+IsLost t job (call.Copy folder u to fresh tries) = IsTouched t job u tries
+IsLost t job c = ⊥
 
 -- the step of a job that gave its answer was to unlink a path
-pub record HasUnlinked (r : Run) (job : ℕ) (p : Path) (a : Answer) : Type 0 where
+pub record HasUnlinked (t : Trace) (job : ℕ) (p : Path) (a : Answer) : Type 0 where
   pub k : ℕ
-  pub step : IsStep r job k
-  pub asked : step.what.asked ≡ unlink p
-  pub answer : step.what.answer ≡ Some a
+  pub last : IsStepOf t job k
+  pub asked : last.step.asked ≡ unlink p
+  pub answer : last.step.answer ≡ Some a
 
--- by its own clock, the step of a job that gave its answer came 24 hours or more behind its first, and was to unlink a path
-pub record IsOutOfTime (r : Run) (job : ℕ) (p : Path) : Type 0 where
-  pub begun : IsStep r job (first_step r job)
-  pub last : HasUnlinked r job p answer.TimedOut
-  pub seconds : 86400 ≤ last.step.what.at.own - begun.what.at.own
+-- by its own clock, the step of a job that gave its answer came 24 hours or more after its first, and was to unlink a path
+pub record IsOutOfTime (t : Trace) (job : ℕ) (p : Path) : Type 0 where
+  pub first : Begins t job
+  pub end : HasUnlinked t job p answer.TimedOut
+  pub seconds : 86400 ≤ end.last.step.at.own - first.begun.step.at.own
 
-abbrev pub IsTimedOut : Run → ℕ → Call → Type 0
-IsTimedOut r job (call.Deliver folder u body chunk) = IsOutOfTime r job (path folder Tmp u)
-IsTimedOut r job c = ⊥
+abbrev pub IsTimedOut : Trace → ℕ → Call → Type 0
+IsTimedOut t job (call.Deliver folder u body chunk) = IsOutOfTime t job (path folder Tmp u)
+IsTimedOut t job c = ⊥
 
--- at event k a clean takes a path away
-pub record IsCleanedAway (r : Run) (k : ℕ) (p : Path) : Type 0 where
-  pub what : Done
-  pub at : done_at r k ≡ Some what
-  pub asked : what.asked ≡ unlink p
-  pub ok : what.reply ≡ reply.Ok
+-- at step k a clean takes a path away
+pub record IsCleanedAway (t : Trace) (k : ℕ) (p : Path) : Type 0 where
+  pub step : Step
+  pub at : step_at t k ≡ Some step
+  pub asked : step.asked ≡ unlink p
+  pub ok : step.reply ≡ reply.Ok
   pub folder : ℕ
-  pub by : call_at r.calls what.job ≡ Some (call.Clean folder)
+  pub by : call_at t.calls step.job ≡ Some (call.Clean folder)
 
 -- in the span of a job, a clean took a path away
-pub record IsGone (r : Run) (job : ℕ) (p : Path) : Type 0 where
+pub record IsGone (t : Trace) (job : ℕ) (p : Path) : Type 0 where
   pub k : ℕ
-  pub cleaned : IsCleanedAway r k p
-  pub before : IsInSpan r job k
-  pub after : IsInSpan r job (k + 1)
+  pub cleaned : IsCleanedAway t k p
+  pub before : IsInSpan t job k
+  pub after : IsInSpan t job (k + 1)
 
-abbrev pub IsTmpGone : Run → ℕ → Call → Type 0
-IsTmpGone r job (call.Deliver folder u body chunk) = IsGone r job (path folder Tmp u)
-IsTmpGone r job c = ⊥
+abbrev pub IsTmpGone : Trace → ℕ → Call → Type 0
+IsTmpGone t job (call.Deliver folder u body chunk) = IsGone t job (path folder Tmp u)
+IsTmpGone t job c = ⊥
 
 -- a directory call of the job faulted
-pub record IsFaulted (r : Run) (job : ℕ) : Type 0 where
+pub record IsFaulted (t : Trace) (job : ℕ) : Type 0 where
   pub k : ℕ
-  pub step : IsStep r job k
-  pub faulted : step.what.reply ≡ reply.Fault
+  pub at : IsStepOf t job k
+  pub faulted : at.step.reply ≡ reply.Fault
 
 -- the create of a path faulted, so that the job made no file
-pub record HasMadeNone (r : Run) (job : ℕ) (p : Path) : Type 0 where
+pub record HasMadeNone (t : Trace) (job : ℕ) (p : Path) : Type 0 where
   pub k : ℕ
-  pub step : IsStep r job k
-  pub asked : step.what.asked ≡ create p
-  pub faulted : step.what.reply ≡ reply.Fault
+  pub at : IsStepOf t job k
+  pub asked : at.step.asked ≡ create p
+  pub faulted : at.step.reply ≡ reply.Fault
 
 -- a delivery that faulted made no file in tmp, or has last unlinked its name there, whatever the reply was
-abbrev pub IsUndone : Run → ℕ → Call → Type 0
-IsUndone r job (call.Deliver folder u body chunk) =
-    HasMadeNone r job (path folder Tmp u) ⊎ HasUnlinked r job (path folder Tmp u) answer.Fault
-IsUndone r job c = Unit {0}
+abbrev pub IsUndone : Trace → ℕ → Call → Type 0
+IsUndone t job (call.Deliver folder u body chunk) =
+    HasMadeNone t job (path folder Tmp u) ⊎ HasUnlinked t job (path folder Tmp u) answer.Fault
+IsUndone t job c = Unit {0}
 
 -- a delivery that is done has last unlinked its name in tmp, whatever the reply was
-abbrev pub IsDelivered : Run → ℕ → Call → Type 0
-IsDelivered r job (call.Deliver folder u body chunk) = HasUnlinked r job (path folder Tmp u) answer.Delivered
-IsDelivered r job c = Unit {0}
-
--- what events did, one after another
-unfoldable pub deeds_from : Machine → List Marked → List Done
-deeds_from m [] = []
-deeds_from m (e ∷ es) = option_to_list (done m e) ++ deeds_from (happens m e) es
-
--- what a job did, step by step
-abbrev pub deeds_of : Run → ℕ → List Done
-deeds_of r job = filter (λ d. d.job == job) (deeds_from (beginning r.image r.calls) r.events)
+abbrev pub IsDelivered : Trace → ℕ → Call → Type 0
+IsDelivered t job (call.Deliver folder u body chunk) = HasUnlinked t job (path folder Tmp u) answer.Delivered
+IsDelivered t job c = Unit {0}
 
 abbrev pub is_ok : DirReply → Bool
 is_ok reply.Ok = true
 is_ok r = false
 
--- whether a row's file has not been used for 36 hours, by a clock. A clock behind the stamp counts as no time
+-- whether a row's file has not been used for 36 hours, by a clock. A clock that is before the stamp counts as no time
 abbrev pub is_unused : ℕ → Row → Bool
 is_unused own row = nat_le 129600 (own - row.stamp)
 
 -- What a clean of a folder did that counted n files: it listed tmp, and then unlinked each name whose file was not used for 36 hours by
 -- its own clock at that listing, once and in order; each of them was found or not, and it counts those that were.
-pub record HasCleaned (r : Run) (job folder n : ℕ) : Type 0 where
-  pub look : Done
-  pub unlinks : List Done
-  pub deeds : deeds_of r job ≡ look ∷ unlinks
+pub record HasCleaned (t : Trace) (job folder n : ℕ) : Type 0 where
+  pub first : Begins t job
+  pub look : Step
+  pub unlinks : List Step
+  pub steps : filter (λ x. x.job == job) t.steps ≡ look ∷ unlinks
   pub listed : look.asked ≡ list folder Tmp
   pub ok : look.reply ≡ reply.Ok
-  pub names : map (λ d. d.asked) unlinks
-      ≡ map (λ row. unlink (path folder Tmp row.name)) (filter (is_unused look.at.own) (rows_of (dirs_at_first r job) folder Tmp))
-  pub replies : All (λ d. (d.reply ≡ reply.Ok) ⊎ (d.reply ≡ reply.NotFound)) unlinks
-  pub count : n ≡ count_by (λ d. is_ok d.reply) unlinks
+  pub names : map (λ x. x.asked) unlinks
+      ≡ map (λ row. unlink (path folder Tmp row.name)) (filter (is_unused look.at.own) (rows_of (state t first.k) folder Tmp))
+  pub replies : All (λ x. (x.reply ≡ reply.Ok) ⊎ (x.reply ≡ reply.NotFound)) unlinks
+  pub count : n ≡ count_by (λ x. is_ok x.reply) unlinks
 
-abbrev pub IsCleaned : Run → ℕ → Call → ℕ → Type 0
-IsCleaned r job (call.Clean folder) n = HasCleaned r job folder n
-IsCleaned r job c n = ⊥
+abbrev pub IsCleaned : Trace → ℕ → Call → ℕ → Type 0
+IsCleaned t job (call.Clean folder) n = HasCleaned t job folder n
+IsCleaned t job c n = ⊥
 
--- What each answer says of its job and its call. Those that say that the call was done are spoken of by its effect. However a delivery
--- ends, nothing of it is left to do: its name in tmp was unlinked last, unless it was never made or was gone.
-abbrev pub Says : Run → ℕ → Call → Answer → Type 0
-Says r job c answer.NotThere = IsOfSpan r job c answer.NotThere
-Says r job c answer.NotTrashed = IsOfSpan r job c answer.NotTrashed
-Says r job c answer.OtherInfo = IsOfSpan r job c answer.OtherInfo
-Says r job c answer.Lost = IsLost r job c
-Says r job c answer.TimedOut = IsTimedOut r job c
-Says r job c answer.TmpGone = IsTmpGone r job c
-Says r job c answer.Fault = IsFaulted r job × IsUndone r job c
-Says r job c answer.NameTaken = ⊥
-Says r job c (answer.Cleaned n) = IsCleaned r job c n
-Says r job c answer.Delivered = IsDelivered r job c
-Says r job c (answer.Flags s) = Unit {0}
-Says r job c answer.Moved = Unit {0}
-Says r job c answer.Expunged = Unit {0}
-Says r job c answer.Copied = Unit {0}
+-- What each answer says of its job and its call. Those that say that the call was done are spoken of by its effect.
+abbrev pub Says : Trace → ℕ → Call → Answer → Type 0
+Says t job c answer.NotThere = IsOfSpan t job c answer.NotThere
+Says t job c answer.NotTrashed = IsOfSpan t job c answer.NotTrashed
+Says t job c answer.OtherInfo = IsOfSpan t job c answer.OtherInfo
+Says t job c answer.Lost = IsLost t job c
+Says t job c answer.TimedOut = IsTimedOut t job c
+Says t job c answer.TmpGone = IsTmpGone t job c
+Says t job c answer.Fault = IsFaulted t job × IsUndone t job c
+Says t job c answer.NameTaken = ⊥
+Says t job c (answer.Cleaned n) = IsCleaned t job c n
+Says t job c answer.Delivered = IsDelivered t job c
+Says t job c a = Unit {0}

@@ -25,7 +25,7 @@ pub record Listed : Type 0 where
 abbrev pub Names : Type 0
 Names = finmap.FinMap name_cmp Listed
 
--- the name of a message: its unique name, and behind a colon its info, if it has one
+-- the name of a message: its unique name, and after a colon its info, if it has one
 abbrev pub name_of : List ℕ → Option (List ℕ) → List ℕ
 name_of u None = u
 name_of u (Some info) = u ++ 58 ∷ info

@@ -1,48 +1,35 @@
--- What holds of every run, whatever the order of its events and whichever directory calls fault.
-use Rattle.std.specs.Prelude.{ℕ, ◌≡◌, ◌≢◌, ◌+◌, ◌*◌, ◌≤◌, ◌<◌, ◌++◌, ◌∷◌, ◌⊎◌, List, [], Option, Some}
-use Rattle.std.specs.Prelude.{None, Bool, true, false, ◌==◌, filter, length, take, slice_get, IfSome, is_some, count_by}
-use Rattle.std.specs.Option.{option_to_list}
+-- The theorem: each call takes effect at one step, whatever steps of other jobs come between its own, and whichever directory calls fault.
+use Rattle.std.specs.Prelude.{ℕ, ◌≡◌, ◌+◌, ◌-◌, ◌≤◌, ◌<◌, ◌⊎◌, List, Option, Some, None, Bool, true, false, length, slice_get, is_some}
 use Rattle.std.specs.FinMap as finmap
 use Rattle.md_dirs.specs.State.{State, IsSound, file_at}
+use Rattle.md_dirs.specs.Path.{path_of as path}
 use Rattle.md_dirs.specs.Rows.{rows_of}
 use Rattle.md_dirs.specs.declared.paths.Path.{Path}
 use Rattle.md_dirs.specs.declared.paths.Place.TheVariants.{Tmp}
+use Rattle.md_dirs.specs.declared.rows.Row.{Row}
 use Rattle.md_core.specs.declared.jobs.answer.Answer.{Answer}
 use Rattle.md_core.specs.declared.jobs.answer.Answer.TheVariants as answer
 use Rattle.md_core.specs.declared.jobs.call.Call.{Call}
 use Rattle.md_core.specs.declared.jobs.call.Call.TheVariants as call
-use Rattle.md_core.specs.declared.jobs.deliver.Stage.{Stage}
-use Rattle.md_core.specs.declared.jobs.deliver.Stage.TheVariants.{Linked}
 use Rattle.md_core.specs.declared.jobs.effect.Effect.{Effect}
 use Rattle.md_core.specs.declared.jobs.step.DirReply.{DirReply}
 use Rattle.md_core.specs.declared.jobs.step.DirReply.TheVariants as reply
-use Rattle.md_core.specs.declared.jobs.step.StepOut.{StepOut}
-use Rattle.md_core.specs.declared.jobs.task.Task.{Task}
-use Rattle.md_core.specs.declared.jobs.task.Task.TheVariants as task
-use Rattle.md_core.specs.Mailbox.{Entry, Mailbox, mailbox_of, is_tmp, is_message, HasOnePath}
+use Rattle.md_core.specs.Mailbox.{Entry, mailbox_of, is_tmp, is_message, HasOnePath}
 use Rattle.md_core.specs.Alone.{alone}
 use Rattle.md_core.specs.History.{names_of, after, IsLegal}
-use Rattle.md_core.specs.Turn.{Asked, link, rename, unlink, list}
-use Rattle.md_core.specs.Machines.Deliver.{pieces}
-use Rattle.md_core.specs.Machine.{Machine, Standing, working, answered, Marked, Done, step_out, job_at, job_left}
-use Rattle.md_core.specs.Machine.{done as done_of}
-use Rattle.md_core.specs.Runs.{Run, moment, machine_of, dirs_of, done_at, jobs_of, effects_of, step_refusal, call_at, box, dirs_at_first}
-use Rattle.md_core.specs.Loading.{load_refusal}
-use Rattle.md_core.specs.Submitting.{submit_refusal}
+use Rattle.md_core.specs.Asked.{Asked, link, rename, unlink, list}
+use Rattle.md_core.specs.Trace.{Trace, Step, IsStepOf, IsAnswered, call_at, step_at, state, box, effects, file_in, steps_of}
 use Rattle.md_core.specs.Answering.{Says}
+use Rattle.md_core.specs.Bounds.{most_steps}
 
--- The runs of a world: sound directories at the beginning, with no fault; each call accepted by the checks when it was submitted; and each
--- event of a job that was there and had no answer.
-pub record IsRun (r : Run) : Type 0 where
-  pub sound : IsSound r.image
-  pub loaded : load_refusal r.image ≡ None
-  pub accepted : (i : ℕ) (call : Call) → slice_get r.calls i ≡ Some call → submit_refusal (record r { calls = take i r.calls }) call ≡ None
-  pub taken : (k : ℕ) (e : Marked) → slice_get r.events k ≡ Some e → step_refusal (job_at (moment r k).jobs e.event.job) ≡ None
-
--- At an effect the call answers as it would alone on the mailbox, and leaves it so. At no other step does the mailbox change.
-abbrev pub AsAlone : Call → Option Effect → Mailbox → Mailbox → Type 0
-AsAlone call None m m' = m' ≡ m
-AsAlone call (Some effect) m m' = alone call m ≡ record { answer = effect.answer; after = m' }
+-- answers that say that the call took effect
+abbrev pub is_success : Answer → Bool
+is_success answer.Delivered = true
+is_success (answer.Flags s) = true
+is_success answer.Moved = true
+is_success answer.Expunged = true
+is_success answer.Copied = true
+is_success a = false
 
 -- Whether a step is where its call takes effect: a link of Deliver or Copy, a rename of Seen, Flag or Move, an unlink of Expunge that is
 -- done; or the look-up of a Flag that answers, since the flags are as they should be.
@@ -56,30 +43,36 @@ is_effect_at (call.Expunge f u tries) (unlink p) reply.Ok a = true
 is_effect_at (call.Copy f u to fresh tries) (link old new) reply.Ok a = true
 is_effect_at call asked r a = false
 
--- What was done of a call simulates the one-at-a-time mailbox, between the machines before and after it: the history grows by its effect,
--- if it is one, and the mailbox is as the call alone would leave it.
-pub record Simulates (call : Call) (d : Done) (m m' : Machine) : Type 0 where
-  pub history : m'.effects ≡ m.effects ++ option_to_list d.effect
-  pub own : IfSome d.effect (λ x. x.job ≡ d.job)
-  pub is_effect : is_some d.effect ≡ is_effect_at call d.asked d.reply d.answer
-  pub as_alone : AsAlone call d.effect (box m) (box m')
+-- Step k is where a call takes effect: alone on the mailbox before that step, the call gives this answer and the mailbox after it.
+pub record IsEffectOf (t : Trace) (job : ℕ) (c : Call) (a : Answer) (k : ℕ) : Type 0 where
+  pub own : IsStepOf t job k
+  pub effect : Effect
+  pub is : own.step.effect ≡ Some effect
+  pub of : effect.job ≡ job
+  pub answers : effect.answer ≡ a
+  pub as_alone : alone c (box t k) ≡ record { answer = a; after = box t (k + 1) }
 
--- event k was done, and simulates its call
-pub record Happened (r : Run) (k : ℕ) : Type 0 where
-  pub what : Done
-  pub at : done_at r k ≡ Some what
-  pub call : Call
-  pub of : call_at r.calls what.job ≡ Some call
-  pub simulates : Simulates call what (moment r k) (moment r (k + 1))
+-- One step of the job is its effect, and no other step is.
+pub record TakesEffect (t : Trace) (job : ℕ) (c : Call) (a : Answer) : Type 0 where
+  pub k : ℕ
+  pub effect : IsEffectOf t job c a k
+  pub only : (i : ℕ) (own : IsStepOf t job i) → is_some own.step.effect ≡ true → i ≡ k
 
--- A step of a world shows what its event did, and that simulates the call of its job.
-pub record ShowsStep (r r' : Run) (e : Marked) (out : StepOut) : Type 0 where
-  pub what : Done
-  pub at : done_of (machine_of r) e ≡ Some what
-  pub shown : out ≡ step_out what
+-- a call answered with success has taken effect with that answer, and one with any other answer has not
+pub record Acts (t : Trace) (job : ℕ) (c : Call) (a : Answer) : Type 0 where
+  pub done : is_success a ≡ true → TakesEffect t job c a
+  pub undone : is_success a ≡ false → (i : ℕ) (own : IsStepOf t job i) → own.step.effect ≡ None
+
+abbrev pub IsDelivery : Call → Type 0
+IsDelivery (call.Deliver folder u body chunk) = Unit {0}
+IsDelivery c = ⊥
+
+-- Each effect is that of its job's call, and the job has no other. Only a delivery may have one before its answer.
+pub record IsOwnEffect (t : Trace) (k : ℕ) (x : Step) (e : Effect) : Type 0 where
   pub call : Call
-  pub of : call_at r.calls what.job ≡ Some call
-  pub simulates : Simulates call what (machine_of r) (machine_of r')
+  pub of : call_at t.calls x.job ≡ Some call
+  pub effect : TakesEffect t x.job call e.answer
+  pub early : x.answer ≡ None → IsDelivery call
 
 -- no path names another file than before: nothing is overwritten
 abbrev pub NoneOverwritten : State → State → Type 0
@@ -95,105 +88,83 @@ abbrev pub IsCopyTo : List ℕ → List ℕ → Call → Type 0
 IsCopyTo unique u (call.Copy folder v to fresh tries) = (v ≡ unique) × (fresh ≡ u)
 IsCopyTo unique u call = ⊥
 
--- an event before moment k was the effect of a copy to the name, whose message had these bytes then
-pub record IsCopied (r : Run) (k : ℕ) (u bytes : List ℕ) : Type 0 where
-  pub event : ℕ
-  pub before : event < k
-  pub what : Done
-  pub at : done_at r event ≡ Some what
-  pub is_effect : is_some what.effect ≡ true
+-- Step i was the effect of a copy to the name, of a message that had these bytes then.
+pub record IsCopied (t : Trace) (k : ℕ) (u bytes : List ℕ) : Type 0 where
+  pub i : ℕ
+  pub before : i < k
+  pub step : Step
+  pub at : step_at t i ≡ Some step
+  pub is_effect : is_some step.effect ≡ true
   pub call : Call
-  pub of : call_at r.calls what.job ≡ Some call
+  pub of : call_at t.calls step.job ≡ Some call
   pub unique : List ℕ
   pub copies : IsCopyTo unique u call
   pub source : Entry
-  pub had : finmap.get (box (moment r event)) unique ≡ Some source
+  pub had : finmap.get (box t i) unique ≡ Some source
   pub same : source.bytes ≡ bytes
 
 -- The bytes are whole at moment k: the body of the delivery of the name, or what the message had at the beginning, or what the message
 -- had that was copied to the name.
-abbrev pub IsWhole : Run → ℕ → List ℕ → List ℕ → Type 0
-IsWhole r k u bytes =
-    ((i : ℕ) × (call : Call) × (slice_get r.calls i ≡ Some call) × IsDeliveryOf u bytes call)
-    ⊎ (((e : Entry) × (finmap.get (mailbox_of r.image) u ≡ Some e) × (e.bytes ≡ bytes)) ⊎ IsCopied r k u bytes)
+abbrev pub IsWhole : Trace → ℕ → List ℕ → List ℕ → Type 0
+IsWhole t k u bytes =
+    ((i : ℕ) × (call : Call) × (slice_get t.calls i ≡ Some call) × IsDeliveryOf u bytes call)
+    ⊎ (((e : Entry) × (finmap.get (mailbox_of t.image) u ≡ Some e) × (e.bytes ≡ bytes)) ⊎ IsCopied t k u bytes)
 
--- what is safe at moment k
-pub record IsSafe (r : Run) (k : ℕ) : Type 0 where
-  pub sound : IsSound (moment r k).dirs
-  pub one_path : HasOnePath (moment r k).dirs
-  pub whole : (u : List ℕ) (e : Entry) → finmap.get (box (moment r k)) u ≡ Some e → IsWhole r k u e.bytes
-  -- names in new and cur that are no messages stay as they were
-  pub others : (p : Path) → is_tmp p.place ≡ false → is_message p ≡ false → file_at (moment r k).dirs p ≡ file_at r.image p
+-- a path is that of a delivery in tmp
+abbrev pub IsTmpOf : Path → Call → Type 0
+IsTmpOf p (call.Deliver folder u body chunk) = p ≡ path folder Tmp u
+IsTmpOf p c = ⊥
 
--- answers that say that the call took effect
-abbrev pub is_success : Answer → Bool
-is_success answer.Delivered = true
-is_success (answer.Flags s) = true
-is_success answer.Moved = true
-is_success answer.Expunged = true
-is_success answer.Copied = true
-is_success a = false
+-- Before step k the job listed tmp of a folder, and a name there had a file that was not used for 36 hours, by the clock of the job.
+pub record HasSeenOld (t : Trace) (job k folder : ℕ) (name : List ℕ) : Type 0 where
+  pub i : ℕ
+  pub before : i < k
+  pub look : IsStepOf t job i
+  pub listed : look.step.asked ≡ list folder Tmp
+  pub ok : look.step.reply ≡ reply.Ok
+  pub at : ℕ
+  pub row : Row
+  pub there : slice_get (rows_of (state t i) folder Tmp) at ≡ Some row
+  pub named : row.name ≡ name
+  pub old : 129600 ≤ look.step.at.own - row.stamp
 
-abbrev pub is_linked : Stage → Bool
-is_linked Linked = true
-is_linked stage = false
+-- Step k may change a path of tmp: it is a step of that path's own delivery; or a clean unlinks a name whose file it saw to be old.
+abbrev pub MayChange : Trace → ℕ → Step → Path → Call → Type 0
+MayChange t k x p (call.Clean folder) = (x.asked ≡ unlink p) × (p.folder ≡ folder) × HasSeenOld t x.job k folder p.name
+MayChange t k x p c = IsTmpOf p c
 
--- a delivery past its link
-abbrev pub is_past_link : Task → Bool
-is_past_link (task.Deliver d) = is_linked d.stage
-is_past_link (task.Mark m) = false
-is_past_link (task.Move m) = false
-is_past_link (task.Expunge x) = false
-is_past_link (task.Copy c) = false
-is_past_link (task.Clean c) = false
+-- what a step may do to a path of tmp: nothing, or what it may change
+abbrev pub KeepsTmp : Trace → ℕ → Step → Path → Type 0
+KeepsTmp t k x p = (file_in (state t (k + 1)) p ≡ file_in (state t k) p)
+    ⊎ ((c : Call) × (call_at t.calls x.job ≡ Some c) × MayChange t k x p c)
 
--- the effects of a job
-abbrev pub effects_by : Run → ℕ → List Effect
-effects_by r job = filter (λ e. e.job == job) (effects_of r)
-
--- where an answer of a job says that its call took effect, the history has one effect of the job, with that answer
-abbrev pub Succeeds : Run → ℕ → Option Answer → Type 0
-Succeeds r job None = Unit {0}
-Succeeds r job (Some a) = is_success a ≡ true → (e : Effect) × (effects_by r job ≡ e ∷ []) × (e.answer ≡ a)
-
--- how many steps a job has taken
-abbrev pub steps_of : Run → ℕ → ℕ
-steps_of r job = count_by (λ e. e.event.job == job) r.events
-
--- The most steps that a call takes which begins over these directories: a delivery takes one for each piece of its body, and three more;
--- a seen, a flag and an expunge take two for each try, a move and a copy three; a clean takes one, and one for each name of tmp.
-abbrev pub most_from : State → Call → ℕ
-most_from s (call.Deliver folder unique body chunk) = pieces (length body) chunk + 3
-most_from s (call.Seen folder unique flags tries) = 2 * tries
-most_from s (call.Flag folder unique add remove tries) = 2 * tries
-most_from s (call.Move folder unique to tries) = 3 * tries
-most_from s (call.Expunge folder unique tries) = 2 * tries
-most_from s (call.Copy folder unique to fresh tries) = 3 * tries
-most_from s (call.Clean folder) = 1 + length (rows_of s folder Tmp)
-
-abbrev pub most_steps : Run → ℕ → Call → ℕ
-most_steps r job call = most_from (dirs_at_first r job) call
-
--- What is promised of each job and its call, by how the job stands.
-pub record JobLaw (r : Run) (number : ℕ) (call : Call) (job : Standing) : Type 0 where
-  pub once : length (effects_by r number) ≤ 1
-  pub success : (a : Answer) → job ≡ answered a → is_success a ≡ true → (e : Effect) × (effects_by r number ≡ e ∷ []) × (e.answer ≡ a)
-  pub failure : (a : Answer) → job ≡ answered a → is_success a ≡ false → effects_by r number ≡ []
-  pub unanswered : (t : Task) → job ≡ working t → effects_by r number ≢ [] → is_past_link t ≡ true
+-- The interleaving theorem, of a trace.
+pub record Interleaves (t : Trace) : Type 0 where
+  -- the headline: success is one step of the job's own, at which the call answers as it would alone; any other answer is none
+  pub acts : (job : ℕ) (c : Call) (a : Answer) → call_at t.calls job ≡ Some c → IsAnswered t job a → Acts t job c a
+  -- each effect is the one of its job, answered by then or not
+  pub own : (k : ℕ) (x : Step) (e : Effect) → step_at t k ≡ Some x → x.effect ≡ Some e → IsOwnEffect t k x e
+  -- a step is an effect exactly where the call's own directory call is done
+  pub placed : (k : ℕ) (x : Step) (c : Call) → step_at t k ≡ Some x → call_at t.calls x.job ≡ Some c
+      → is_some x.effect ≡ is_effect_at c x.asked x.reply x.answer
+  -- all other steps leave the mailbox as it was
+  pub quiet : (k : ℕ) (x : Step) → step_at t k ≡ Some x → x.effect ≡ None → box t (k + 1) ≡ box t k
+  -- the effects are a legal history, and at every moment they give the names of the mailbox
+  pub legal : IsLegal t.image.folders (names_of (mailbox_of t.image)) (effects t (length t.steps))
+  pub names : (k : ℕ) → after (names_of (mailbox_of t.image)) (effects t k) ≡ names_of (box t k)
+  -- no path names another file than before
+  pub none_overwritten : (k : ℕ) → NoneOverwritten (state t k) (state t (k + 1))
+  -- the directories are sound, and each unique name has one path in all new and cur
+  pub sound : (k : ℕ) → IsSound (state t k)
+  pub one_path : (k : ℕ) → HasOnePath (state t k)
+  -- each message is whole
+  pub whole : (k : ℕ) (u : List ℕ) (e : Entry) → finmap.get (box t k) u ≡ Some e → IsWhole t k u e.bytes
+  -- files in new and cur that are no messages keep their bytes and their stamps
+  pub others : (k : ℕ) (p : Path) → is_tmp p.place ≡ false → is_message p ≡ false → file_in (state t k) p ≡ file_in t.image p
+  -- a file in tmp is changed by its own delivery, or taken away by a clean that saw it to be old
+  pub in_tmp : (k : ℕ) (x : Step) (p : Path) → step_at t k ≡ Some x → is_tmp p.place ≡ true → KeepsTmp t k x p
   -- an answer that came without an effect says what happened
-  pub says : (a : Answer) → job ≡ answered a → Says r number call a
-  -- the steps that it has taken, and those that it may still take, are together no more than its call takes
-  pub bounded : steps_of r number + job_left (dirs_of r) job ≤ most_steps r number call
-  -- given that many steps it has its answer, whatever the replies were
-  pub ends : most_steps r number call ≤ steps_of r number → (a : Answer) × (job ≡ answered a)
-
--- The interleaving theorem of a run.
-pub record Interleaves (r : Run) : Type 0 where
-  pub happened : (k : ℕ) → k < length r.events → Happened r k
-  pub none_overwritten : (k : ℕ) → NoneOverwritten (moment r k).dirs (moment r (k + 1)).dirs
-  pub safe : (k : ℕ) → IsSafe r k
-  pub legal : IsLegal r.image.folders (names_of (mailbox_of r.image)) (effects_of r)
-  -- the history gives the names of the mailbox at every moment
-  pub names : (k : ℕ) → after (names_of (mailbox_of r.image)) (moment r k).effects ≡ names_of (box (moment r k))
-  pub jobs : (number : ℕ) (call : Call) (job : Standing) → call_at r.calls number ≡ Some call → job_at (jobs_of r) number ≡ Some job
-      → JobLaw r number call job
+  pub says : (job : ℕ) (c : Call) (a : Answer) → call_at t.calls job ≡ Some c → IsAnswered t job a → Says t job c a
+  -- no job takes more steps than its call may, and one that has taken so many has its answer
+  pub bounded : (job : ℕ) (c : Call) → call_at t.calls job ≡ Some c → steps_of t job ≤ most_steps t job c
+  pub ends : (job : ℕ) (c : Call) → call_at t.calls job ≡ Some c → most_steps t job c ≤ steps_of t job → (a : Answer) × IsAnswered t job a

@@ -1,6 +1,7 @@
 pub mod Mailbox
 pub mod Alone
 pub mod History
+pub mod Asked
 pub mod Turn
 pub mod Machines
 pub mod Machine
@@ -12,6 +13,12 @@ pub mod Submitting
 pub mod Answering
 pub mod Sparing
 pub mod Interleaving
+pub mod Stepping
 pub mod Worlds
 pub mod Looking
 pub mod Reading
+pub mod Accepting
+pub mod Trace
+pub mod Bounds
+pub mod Tracing
+pub mod Laws

@@ -43,6 +43,6 @@ abbrev pub first_fault : List Path → List (Path × ℕ) → Option CoreError
 first_fault earlier [] = None
 first_fault earlier (e ∷ es) = option_or (fault_of earlier e.0) (first_fault (e.0 ∷ earlier) es)
 
--- where directories are refused, want of memory aside
+-- where directories are refused, out of memory aside
 abbrev pub load_refusal : State → Option CoreError
 load_refusal s = first_fault [] (finmap.entries s.names)

@@ -54,7 +54,7 @@ pub record IsLookOf (s : State) (es : List (Path × ℕ)) (seen : Seen) : Type 0
   pub clock : seen.clock ≡ clock_by s es
   pub faultless : first_fault [] es ≡ None
 
--- an error is the fault, or want of memory
+-- an error is the fault, or memory ran out
 abbrev pub IsFault : Option CoreError → CoreError → Type 0
 IsFault fault e = (e ≡ core.NoMemory) ⊎ (fault ≡ Some e)
 

@@ -1,9 +1,10 @@
 -- The jobs as machines over the directories: at an event one job takes its turn.
-use Rattle.std.specs.Prelude.{ℕ, ◌-◌, List, ◌++◌, Option, Some, None, Bool, true}
-use Rattle.std.specs.Prelude.{false, max, is_some, slice_get, slice_set, unwrap_or, zero, suc}
+use Rattle.std.specs.Prelude.{ℕ, ◌-◌, List, ◌++◌, Option, Some, None, Bool, true, false, max, is_some, slice_get, slice_set, unwrap_or, zero, suc}
 use Rattle.std.specs.Option.{option_to_list, option_map}
 use Rattle.md_dirs.specs.State.{State}
-use Rattle.md_core.specs.Turn.{Asked, Turn, ask_of, shown_call, rows_for, reply_of, state_by}
+use Rattle.md_core.specs.Trace.{Step}
+use Rattle.md_core.specs.Asked.{Asked, ask_of, shown_call, state_by}
+use Rattle.md_core.specs.Turn.{Turn, rows_for, reply_of}
 use Rattle.md_core.specs.Machines.Deliver.{new_delivery, delivery_turn, delivery_left}
 use Rattle.md_core.specs.Machines.Mark.{new_marking, marking_turn, marking_left}
 use Rattle.md_core.specs.Machines.Move.{new_moving, moving_turn, moving_left}
@@ -137,17 +138,7 @@ met m e (Some task) =
 abbrev pub happens : Machine → Marked → Machine
 happens m e = met m e (task_of (job_at m.jobs e.event.job))
 
--- What an event did: its job, the directory call and its reply, the moment, the job's answer where it has one now, and its effect where
--- it is one.
-pub record Done : Type 0 where
-  pub job : ℕ
-  pub asked : Asked
-  pub reply : DirReply
-  pub at : Moment
-  pub answer : Option Answer
-  pub effect : Option Effect
-
-abbrev pub done_by : Machine → Marked → Task → Done
+abbrev pub done_by : Machine → Marked → Task → Step
 done_by m e task =
     let at = moment_of m.clock e.event in
     let turn = turn_of e.event.job task at in
@@ -156,9 +147,9 @@ done_by m e task =
     record { job = e.event.job; asked = turn.asked; reply = reply; at = at; answer = after.answer; effect = after.effect }
 
 -- What an event does, where its job is there and has no answer.
-abbrev pub done : Machine → Marked → Option Done
+abbrev pub done : Machine → Marked → Option Step
 done m e = option_map (done_by m e) (task_of (job_at m.jobs e.event.job))
 
 -- what a step shows of what it did
-abbrev pub step_out : Done → StepOut
+abbrev pub step_out : Step → StepOut
 step_out d = record { call = shown_call d.asked; reply = d.reply; answer = d.answer; effect = is_some d.effect }

@@ -11,7 +11,7 @@ use Rattle.md_dirs.specs.declared.paths.Place.{Place}
 use Rattle.md_dirs.specs.declared.paths.Place.TheVariants.{Tmp, New, Cur}
 use Rattle.md_name.specs.Names.{unique_of, info_text, is_message_name}
 
--- a message: its folder, new or cur, the text behind the colon of its name, if there is one, and its bytes
+-- a message: its folder, new or cur, the text after the colon of its name, if there is one, and its bytes
 pub record Entry : Type 0 where
   pub folder : ℕ
   pub place : Place

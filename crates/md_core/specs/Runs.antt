@@ -1,6 +1,5 @@
 -- A run: directories at the beginning, the calls that were submitted, and the events since. All else of a world is a function of these.
-use Rattle.std.specs.Prelude.{ℕ, ◌≡◌, ◌+◌, ◌==◌, List, [], ◌∷◌, ◌++◌, Option, Some}
-use Rattle.std.specs.Prelude.{None, map, max, take, fold, slice_get, length, count_by, zero, suc}
+use Rattle.std.specs.Prelude.{ℕ, ◌≡◌, ◌+◌, ◌==◌, List, [], ◌∷◌, ◌++◌, Option, Some, None, map, max, take, fold, slice_get, length, count_by, zero, suc}
 use Rattle.std.specs.List.{position_or_len}
 use Rattle.std.specs.Option.{option_and_then}
 use Rattle.std.specs.FinMap as finmap
@@ -14,7 +13,8 @@ use Rattle.md_core.specs.declared.jobs.answer.Answer.{Answer}
 use Rattle.md_core.specs.declared.jobs.call.Call.{Call}
 use Rattle.md_core.specs.declared.jobs.effect.Effect.{Effect}
 use Rattle.md_core.specs.declared.jobs.step.Event.{Event}
-use Rattle.md_core.specs.Machine.{Machine, Standing, working, answered, Marked, Done, happens, done, new_job, job_at, job_left}
+use Rattle.md_core.specs.Machine.{Machine, Standing, working, answered, Marked, happens, done, new_job, job_at, job_left}
+use Rattle.md_core.specs.Trace.{Step}
 
 pub record Run : Type 0 where
   -- the directories at the beginning
@@ -60,7 +60,7 @@ abbrev pub machine_of : Run → Machine
 machine_of r = run_from (beginning r.image r.calls) r.events
 
 -- what event k did
-abbrev pub done_at : Run → ℕ → Option Done
+abbrev pub done_at : Run → ℕ → Option Step
 done_at r k = option_and_then (done (moment r k)) (slice_get r.events k)
 
 -- the number of the first event of a job, or of all events where it has none
@@ -74,11 +74,6 @@ dirs_at_first r job = (moment r (first_step r job)).dirs
 -- the mailbox at a moment
 abbrev pub box : Machine → Mailbox
 box m = mailbox_of m.dirs
-
--- calls are numbered as their jobs, from 1
-abbrev pub call_at : List Call → ℕ → Option Call
-call_at calls zero = None
-call_at calls (suc i) = slice_get calls i
 
 abbrev pub dirs_of : Run → State
 dirs_of r = (machine_of r).dirs
@@ -124,13 +119,13 @@ left_of s (Some job) = job_left s job
 abbrev pub steps_left : Run → ℕ → ℕ
 steps_left r job = left_of (dirs_of r) (job_at (jobs_of r) job)
 
--- where a step of a job is refused, want of memory aside: no such job, or it has its answer
+-- where a step of a job is refused, out of memory aside: no such job, or it has its answer
 abbrev pub step_refusal : Option Standing → Option CoreError
 step_refusal None = Some core.NoJob
 step_refusal (Some (working task)) = None
 step_refusal (Some (answered a)) = Some core.Answered
 
--- an error is this refusal; where there is none, it is want of memory
+-- an error is this refusal; where there is none, memory ran out
 abbrev pub IsRefusal : Option CoreError → CoreError → Type 0
 IsRefusal None e = e ≡ core.NoMemory
 IsRefusal (Some refusal) e = e ≡ refusal

@@ -1,25 +1,30 @@
 -- The cleaner's theorem: no delivery is answered that a clean took its file, and a clean takes it late.
-use Rattle.std.specs.Prelude.{ℕ, ◌≡◌, ◌≢◌, ◌+◌, ◌≤◌, List, Some}
+use Rattle.std.specs.Prelude.{ℕ, ◌≡◌, ◌+◌, ◌≤◌, List, Some}
 use Rattle.md_dirs.specs.Path.{path_of as path}
+use Rattle.md_dirs.specs.declared.paths.Path.{Path}
 use Rattle.md_dirs.specs.declared.paths.Place.TheVariants.{Tmp}
 use Rattle.md_core.specs.declared.jobs.answer.Answer.TheVariants.{TmpGone}
 use Rattle.md_core.specs.declared.jobs.call.Call.TheVariants.{Deliver}
-use Rattle.md_core.specs.Machine.{Done, answered, job_at}
-use Rattle.md_core.specs.Runs.{Run, done_at, jobs_of, call_at, first_step}
-use Rattle.md_core.specs.Answering.{IsStep, IsCleanedAway}
+use Rattle.md_core.specs.Trace.{Trace, Step, step_at, call_at, IsAnswered}
+use Rattle.md_core.specs.Answering.{Begins, IsCleanedAway}
 
--- at every event the clock of the job and that of the store are no more than so many seconds apart
-abbrev pub AreApart : Run → ℕ → Type 0
-AreApart r seconds = (k : ℕ) (d : Done) → done_at r k ≡ Some d → (d.at.own ≤ d.at.clock + seconds) × (d.at.clock ≤ d.at.own + seconds)
+-- at every step the clock of the job and that of the store are no more than so many seconds apart
+abbrev pub AreApart : Trace → ℕ → Type 0
+AreApart t seconds = (k : ℕ) (x : Step) → step_at t k ≡ Some x → (x.at.own ≤ x.at.clock + seconds) × (x.at.clock ≤ x.at.own + seconds)
 
--- Where the clocks are no more than so many seconds apart, no delivery is answered that its file in tmp was gone; and where a clean takes
--- that file away, the delivery has begun, and the store's clock is 36 hours less these seconds past its first step.
-pub record Spares (r : Run) (seconds : ℕ) : Type 0 where
-  pub never_gone : (job : ℕ) → job_at (jobs_of r) job ≢ Some (answered TmpGone)
-  pub late : (k job folder : ℕ) (u body : List ℕ) (chunk : ℕ) → call_at r.calls job ≡ Some (Deliver folder u body chunk)
-      → (cleaned : IsCleanedAway r k (path folder Tmp u))
-      → (begun : IsStep r job (first_step r job)) × (begun.what.at.clock + 129600 ≤ cleaned.what.at.clock + seconds)
+-- A clean took the file of a delivery in tmp away: the delivery has begun, and by the store's clock this was 36 hours, less some seconds,
+-- after its first step.
+pub record IsLate (t : Trace) (job seconds k : ℕ) (p : Path) (cleaned : IsCleanedAway t k p) : Type 0 where
+  pub first : Begins t job
+  pub late : first.begun.step.at.clock + 129600 ≤ cleaned.step.at.clock + seconds
+
+-- Where the clocks are no more than so many seconds apart, no delivery is answered that its file in tmp was gone; and a clean takes such a
+-- file away late.
+pub record Spares (t : Trace) (seconds : ℕ) : Type 0 where
+  pub never_gone : (job : ℕ) → IsAnswered t job TmpGone → ⊥
+  pub late : (k job folder : ℕ) (u body : List ℕ) (chunk : ℕ) → call_at t.calls job ≡ Some (Deliver folder u body chunk)
+      → (cleaned : IsCleanedAway t k (path folder Tmp u)) → IsLate t job seconds k (path folder Tmp u) cleaned
 
 -- The cleaner's theorem, with one clock (0 seconds apart) and with clocks up to 4 hours apart.
-abbrev pub CleanersSpare : Run → Type 0
-CleanersSpare r = (seconds : ℕ) → seconds ≤ 14400 → AreApart r seconds → Spares r seconds
+abbrev pub CleanersSpare : Trace → Type 0
+CleanersSpare t = (seconds : ℕ) → seconds ≤ 14400 → AreApart t seconds → Spares t seconds

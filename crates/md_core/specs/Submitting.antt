@@ -73,6 +73,6 @@ checks r (Copy folder unique to fresh tries) =
     ∷ (bad_tries tries, core.BadTries) ∷ (too_many r, core.TooManyJobs) ∷ (is_used r fresh, core.NameUsed) ∷ []
 checks r (Clean folder) = (no_folder r folder, core.NoFolder) ∷ (too_many r, core.TooManyJobs) ∷ []
 
--- where a call is refused, want of memory aside
+-- where a call is refused, out of memory aside
 abbrev pub submit_refusal : Run → Call → Option CoreError
 submit_refusal r call = first_met (checks r call)

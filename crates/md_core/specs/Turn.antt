@@ -1,49 +1,20 @@
 -- A turn of a job: the one directory call that it makes next, and what follows each reply.
-use Rattle.std.specs.Prelude.{ℕ, ◌≡◌, ◌+◌, List, [], length, Option, Some, None, Result, Ok, Err, Bool, true, false, is_some, if◌then◌else◌}
+use Rattle.std.specs.Prelude.{ℕ, ◌≡◌, ◌+◌, List, [], Option, Some, None, Result, Ok, Err, Bool, is_some, if◌then◌else◌}
 use Rattle.md_dirs.specs.State.{State}
 use Rattle.md_dirs.specs.Rows.{rows_of, row_named}
 use Rattle.md_dirs.specs.Calls.{Ask}
 use Rattle.md_dirs.specs.Calls as dirs
-use Rattle.md_dirs.specs.declared.paths.Path.{Path}
 use Rattle.md_dirs.specs.declared.paths.Place.{Place}
 use Rattle.md_dirs.specs.declared.rows.Row.{Row}
 use Rattle.md_dirs.specs.declared.calls.DirError.{DirError}
 use Rattle.md_dirs.specs.declared.calls.DirError.TheVariants.{Exists, NotFound, Fault, NoMemory}
 use Rattle.md_core.specs.declared.jobs.answer.Answer.{Answer}
 use Rattle.md_core.specs.declared.jobs.effect.Effect.{Effect}
-use Rattle.md_core.specs.declared.jobs.step.DirCall.{DirCall}
-use Rattle.md_core.specs.declared.jobs.step.DirCall.TheVariants as call
 use Rattle.md_core.specs.declared.jobs.step.DirReply.{DirReply}
 use Rattle.md_core.specs.declared.jobs.step.DirReply.TheVariants as reply
 use Rattle.md_core.specs.declared.jobs.step.Moment.{Moment}
 use Rattle.md_core.specs.declared.jobs.step.StepOut.{StepOut}
-
--- a directory call, with its paths
-pub data Asked : Type 0 where
-  create : (p : Path) → Asked
-  append : (p : Path) (bytes : List ℕ) → Asked
-  link : (old new : Path) → Asked
-  rename : (old new : Path) → Asked
-  unlink : (p : Path) → Asked
-  list : (folder : ℕ) (place : Place) → Asked
-
--- where the call is refused and what it leaves, at a clock
-abbrev pub ask_of : Asked → ℕ → Ask
-ask_of (create p) clock = dirs.create p clock
-ask_of (append p bytes) clock = dirs.append p bytes clock
-ask_of (link old new) clock = dirs.link old new
-ask_of (rename old new) clock = dirs.rename old new
-ask_of (unlink p) clock = dirs.unlink p
-ask_of (list folder place) clock = dirs.list folder place
-
--- what a step shows of the call
-abbrev pub shown_call : Asked → DirCall
-shown_call (create p) = call.Create
-shown_call (append p bytes) = call.Append (length bytes)
-shown_call (link old new) = call.Link
-shown_call (rename old new) = call.Rename
-shown_call (unlink p) = call.Unlink
-shown_call (list folder place) = call.List place
+use Rattle.md_core.specs.Asked.{Asked, create, append, link, rename, unlink, list, ask_of, shown_call, reply_by, state_by, is_fault}
 
 -- the rows that a listing reads, and none for other calls
 abbrev pub rows_for : Asked → State → List Row
@@ -81,26 +52,11 @@ acts t e = record { task = t; answer = None; effect = Some e }
 abbrev pub ends_by : {T : Type 0} → T → Effect → After T
 ends_by t e = record { task = t; answer = Some e.answer; effect = Some e }
 
-abbrev pub reply_by : Option DirError → DirReply
-reply_by None = reply.Ok
-reply_by (Some Exists) = reply.Exists
-reply_by (Some NotFound) = reply.NotFound
-reply_by (Some e) = reply.Fault
-
 -- what a directory call answers, by whether it faults
 abbrev pub reply_of : Ask → State → Bool → DirReply
 reply_of ask s faulted = if faulted then reply.Fault else reply_by (ask.refusal s)
 
--- the directories after a reply
-abbrev pub state_by : Ask → State → DirReply → State
-state_by ask s reply.Ok = ask.after s
-state_by ask s r = s
-
-abbrev pub is_fault : DirReply → Bool
-is_fault reply.Fault = true
-is_fault r = false
-
--- what directories answered, if it was no want of memory
+-- what directories answered, unless memory ran out
 abbrev pub reply_from : {T : Type 0} → Result T DirError → Option DirReply
 reply_from (Ok x) = Some reply.Ok
 reply_from (Err Exists) = Some reply.Exists

@@ -10,7 +10,7 @@ use Rattle.md_core.specs.Standing.{JobView, standings}
 use Rattle.md_core.specs.Runs.{Run, machine_of, jobs_of, failures_of, calls_made_of, and_events, step_refusal, IsRefusal}
 use Rattle.md_core.specs.Submitting.{is_used}
 use Rattle.md_core.specs.Used.{is_among}
-use Rattle.md_core.specs.Interleaving.{IsRun}
+use Rattle.md_core.specs.Stepping.{IsRun}
 
 -- events and their marks
 abbrev pub marked_events : List Event → List Bool → List Marked

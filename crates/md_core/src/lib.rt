@@ -12,7 +12,7 @@ pub use error::CoreError;
 pub use jobs::answer::Answer;
 pub use jobs::call::{Call, JobId};
 pub use jobs::effect::{Change, Effect};
-pub use jobs::step::{DirCall, DirReply, Event, StepOut};
+pub use jobs::step::{DirCall, DirReply, Event, Moment, StepOut};
 pub use world::World;
 pub use world::load::LoadRefused;
 pub use world::run::RunStop;

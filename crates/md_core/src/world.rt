@@ -58,25 +58,32 @@ impl<D: Dirs> Model for World<D> {
 
 impl<D: Dirs> World<D> {
     ghost use Rattle.std.specs.Prelude.{◌≡◌};
-    ghost use Rattle.md_core.specs.Interleaving.{IsRun, Interleaves};
+    ghost use Rattle.md_core.specs.Stepping.{IsRun};
     ghost use Rattle.md_core.specs.Runs.{dirs_of, failures_of, calls_made_of};
+    ghost use Rattle.md_core.specs.Trace.{IsTrace};
+    ghost use Rattle.md_core.specs.Tracing.{trace_of, IsShown};
+    ghost use Rattle.md_core.specs.Interleaving.{Interleaves};
     ghost use Rattle.md_core.specs.Sparing.{CleanersSpare};
 
-    /// The interleaving theorem and the cleaner's theorem, of any world: whatever calls were submitted, and whatever order their steps came
-    /// in.
+    /// The interleaving theorem and the cleaner's theorem, of the trace of any world: whatever calls were submitted, and whatever order
+    /// their steps came in.
     pub fn interleaves(&self)
         ensures run { IsRun self.now }
-        ensures theorem { Interleaves self.now }
-        ensures cleaners { CleanersSpare self.now }
+        ensures trace { IsTrace (trace_of self.now) }
+        ensures shown { IsShown self.now }
+        ensures theorem { Interleaves (trace_of self.now) }
+        ensures cleaners { CleanersSpare (trace_of self.now) }
     {
         let _kept = &self.clock;
     }
 
-    /// The directories of a world are in the state of its run. They have failed as often as the run has marks since the beginning, and as many
-    /// calls of them were made as the run has events. So directories that never fail leave no mark.
-    pub fn counts(&self)
-        ensures { (now : D) × (D.state now ≡ dirs_of self.now) × (D.failures now ≡ failures_of self.now) × (D.calls now ≡ calls_made_of self.now) }
+    /// The directories of a world. They are in the state of its run; they have failed as often as the run has marks since the beginning, and
+    /// as many calls of them were made as the run has events.
+    pub fn dirs(&self) -> &D
+        ensures state { D.state result.now ≡ dirs_of self.now }
+        ensures failures { D.failures result.now ≡ failures_of self.now }
+        ensures calls { D.calls result.now ≡ calls_made_of self.now }
     {
-        let _kept = &self.clock;
+        &self.dirs
     }
 }

@@ -17,7 +17,7 @@ use Rattle.md_dirs.specs.declared.paths.Path.{Path}
 use Rattle.md_dirs.specs.declared.paths.File.{File}
 use Rattle.md_dirs.specs.declared.files.Kept.{Kept}
 use Rattle.md_dirs.proofs.PathOrder.{path_total, path_exact}
-use Rattle.md_dirs.proofs.Maps.{entries-remove}
+use Rattle.lists.proofs.Maps.{entries-remove}
 use Rattle.md_dirs.proofs.Sound.{by_number, get-set_same, get-set_other}
 use Rattle.md_dirs.proofs.Sorted.{first, second, less}
 

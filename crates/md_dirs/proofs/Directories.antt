@@ -16,7 +16,7 @@ use Rattle.md_dirs.specs.declared.paths.Place.{Place}
 use Rattle.md_dirs.specs.declared.paths.Place.TheVariants.{Tmp, New, Cur}
 use Rattle.md_dirs.proofs.PathOrder.{path_total, path_exact}
 use Rattle.md_dirs.proofs.NameRows.{name_total, name_exact}
-use Rattle.md_dirs.proofs.Maps as maps
+use Rattle.lists.proofs.Maps as maps
 use Rattle.md_dirs.proofs.Sound.{by_path, by_number}
 use Rattle.md_dirs.proofs.Sorted.{first, second, both, less}
 

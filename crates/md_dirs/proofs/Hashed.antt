@@ -5,7 +5,7 @@ use Rattle.std.proofs.lemmas.List.{map-append}
 use Rattle.std.proofs.lemmas.Option.{slice_get-get_or}
 use Rattle.std.specs.Option.{option_map, option_and_then}
 use Rattle.std.specs.FinMap as finmap
-use Rattle.std.specs.FinMap.{entries, entries_sorted, get-entries, same_map, from_sorted, entries-from_sorted, empty_of_len, len-entries}
+use Rattle.std.specs.FinMap.{entries, same_map, from_sorted, entries-from_sorted, empty_of_len, len-entries}
 use Rattle.md_dirs.specs.Path.{path_cmp}
 use Rattle.md_dirs.specs.State.{State, IsSound, file_by, file_at, bare, bytes_at_path}
 use Rattle.md_dirs.specs.Calls.{Obeys, placed, append, link, rename, unlink, appended, grown, named, unnamed, moved, is_one_file, swept, released, without as dirs_without}
@@ -18,8 +18,8 @@ use Rattle.md_dirs.specs.declared.paths.File.{File}
 use Rattle.md_dirs.specs.declared.files.Kept.{Kept}
 use Rattle.md_dirs.specs.declared.calls.DirError.TheVariants.{NotFound}
 use Rattle.md_dirs.proofs.PathOrder.{path_total, path_exact}
-use Rattle.md_dirs.proofs.Maps as maps
-use Rattle.md_dirs.proofs.Among.{Among, among-find}
+use Rattle.lists.proofs.Maps as maps
+use Rattle.lists.proofs.Members.{Has, has-get}
 use Rattle.md_dirs.proofs.Rowed.{get-map}
 use Rattle.md_dirs.proofs.Kept.{made, refused}
 use Rattle.md_dirs.proofs.Sound.{by_path, by_number, file-within, sound-bare, sound-placed, sound-appended, sound-named, sound-without, sound-moved}
@@ -294,7 +294,7 @@ module _ (folders : ℕ) (names : PathMap) (slots : List (Option Kept)) (whole :
   pub rows-shown : (folder : ℕ) (place : Place) → rows_of start folder place ≡ map (name_row (files_of slots)) (rows_in names folder place)
   rows-shown folder place = shown-rows (filter (λ e. is_in folder place e.0) (entries names))
 
-  filed-in : (p : Path × ℕ → Bool) (es : List (Path × ℕ)) → ((x : Path × ℕ) → Among x es → IsSome (file_by (files_of slots) x.1)) →
+  filed-in : (p : Path × ℕ → Bool) (es : List (Path × ℕ)) → ((x : Path × ℕ) → Has es x → IsSome (file_by (files_of slots) x.1)) →
       (i : ℕ) (r : List ℕ × ℕ) → slice_get (map named_row (filter p es)) i ≡ Some r → IsSome (file_by (files_of slots) r.1)
   filed-in p [] filed i r is = cc
   filed-in p (e ∷ es) filed i r is = at (λ j is'. filed-in p es (λ x among. filed x (inr among)) j r is') (p e) i is
@@ -307,8 +307,8 @@ module _ (folders : ℕ) (names : PathMap) (slots : List (Option Kept)) (whole :
       at rest true (suc j) h = rest j h
       at rest false j h = rest j h
 
-  each-filed : (x : Path × ℕ) → Among x (entries names) → IsSome (file_by (files_of slots) x.1)
-  each-filed x among = whole.sound.filed x.0 x.1 (get-entries names x.0 ∙ among-find x (entries names) (entries_sorted names) among)
+  each-filed : (x : Path × ℕ) → Has (entries names) x → IsSome (file_by (files_of slots) x.1)
+  each-filed x among = whole.sound.filed x.0 x.1 (has-get path_total path_exact names x among)
 
   -- each row has a file
   pub row-filed : (folder : ℕ) (place : Place) (i : ℕ) (r : List ℕ × ℕ) → slice_get (rows_in names folder place) i ≡ Some r →

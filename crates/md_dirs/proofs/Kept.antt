@@ -12,7 +12,7 @@ use Rattle.md_dirs.specs.declared.paths.Path.{Path}
 use Rattle.md_dirs.specs.declared.calls.DirError.{DirError}
 use Rattle.md_dirs.specs.declared.calls.DirError.TheVariants.{Exists, NotFound, Fault, NoMemory}
 use Rattle.md_dirs.proofs.PathOrder.{path_total, path_exact}
-use Rattle.md_dirs.proofs.Maps.{find-other}
+use Rattle.lists.proofs.Maps.{find-other}
 use Rattle.md_dirs.proofs.Sorted.{holds, is_true}
 
 abbrev pub Sorted : List (Path × ℕ) → Type 0

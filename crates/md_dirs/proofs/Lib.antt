@@ -1,7 +1,5 @@
 pub mod NoMemory
 pub mod PathOrder
-pub mod Maps
-pub mod Among
 pub mod Sorted
 pub mod Sound
 pub mod Kept

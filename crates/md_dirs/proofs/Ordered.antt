@@ -21,7 +21,7 @@ use Rattle.md_dirs.proofs.Sorted.{first, second, both, less, is_true, other, whe
 use Rattle.md_dirs.proofs.Renamed.{below-at, turned}
 use Rattle.md_dirs.proofs.NameRows.{Row, name_total, name_exact, same, ties, turned-test, length-rows, read-row, get-within, below-trans, is_less}
 use Rattle.md_dirs.proofs.Counted.{map-set}
-use Rattle.md_dirs.proofs.Maps.{entries-remove}
+use Rattle.lists.proofs.Maps.{entries-remove}
 use Rattle.md_dirs.proofs.Steps.{row-file, row-path}
 
 abbrev pub Rows : Type 0

@@ -4,15 +4,15 @@ use Rattle.std.proofs.lemmas.Bool.Decides.{nat_tests}
 use Rattle.std.proofs.lemmas.Option.{slice_get_within}
 use Rattle.std.specs.Option.{option_flatten}
 use Rattle.std.specs.FinMap as finmap
-use Rattle.std.specs.FinMap.{get-empty, entries, entries_sorted, get-entries}
+use Rattle.std.specs.FinMap.{get-empty, entries}
 use Rattle.md_dirs.specs.Path.{path_cmp}
 use Rattle.md_dirs.specs.State.{State, IsSound, bare, file_at, file_by}
 use Rattle.md_dirs.specs.Calls.{placed, created, empty_file, appended, grown, named, unnamed, without, moved, swept, has_path_to, is_one_file}
 use Rattle.md_dirs.specs.declared.paths.Path.{Path}
 use Rattle.md_dirs.specs.declared.paths.File.{File}
 use Rattle.md_dirs.proofs.PathOrder.{path_total, path_exact}
-use Rattle.md_dirs.proofs.Maps as maps
-use Rattle.md_dirs.proofs.Among.{Among, find-among, among-find}
+use Rattle.lists.proofs.Maps as maps
+use Rattle.lists.proofs.Members.{Has, get-has, has-get}
 
 pub by_path : {C : Type 0} (a b : Path) → (a ≡ b → C) → (a ≢ b → C) → C
 by_path = maps.by_key path_total path_exact
@@ -83,7 +83,7 @@ pub file_by-last : (files : List (Option File)) (o : Option File) → file_by (f
 file_by-last files o = ap option_flatten (get-last files o)
 
 -- whether a path names a file
-named-among : (q : Path) (n : ℕ) (rows : List (Path × ℕ)) → Among (q, n) rows → has_path_to rows n ≡ true
+named-among : (q : Path) (n : ℕ) (rows : List (Path × ℕ)) → Has rows (q, n) → has_path_to rows n ≡ true
 named-among q n [] among = absurd among
 named-among q n (e ∷ es) among = elim among [
   | inl is ↦
@@ -97,22 +97,22 @@ named-among q n (e ∷ es) among = elim among [
     by true h = refl
     by false h = h
 
-among-named : (n : ℕ) (rows : List (Path × ℕ)) → has_path_to rows n ≡ true → (q : Path) × Among (q, n) rows
+among-named : (n : ℕ) (rows : List (Path × ℕ)) → has_path_to rows n ≡ true → (q : Path) × Has rows (q, n)
 among-named n [] is = cc
 among-named n (e ∷ es) is = by (among-named n es) (e.1 == n) refl is
   where
-    by : (has_path_to es n ≡ true → (q : Path) × Among (q, n) es) → (b : Bool) → (e.1 == n) ≡ b → (b || has_path_to es n) ≡ true →
-        (q : Path) × Among (q, n) (e ∷ es)
+    by : (has_path_to es n ≡ true → (q : Path) × Has es (q, n)) → (b : Bool) → (e.1 == n) ≡ b → (b || has_path_to es n) ≡ true →
+        (q : Path) × Has (e ∷ es) (q, n)
     by rest true t h = let number : n ≡ e.1 = grind (arith, nat_tests) in (e.0, inl (λ i. (e.0, number i)))
     by rest false t h = let later = rest h in (later.0, inr later.1)
 
 pub path-named : (s : State) (q : Path) (n : ℕ) → file_at s q ≡ Some n → has_path_to (entries s.names) n ≡ true
-path-named s q n at = named-among q n (entries s.names) (find-among q n (entries s.names) (sym (get-entries s.names q) ∙ at))
+path-named s q n at = named-among q n (entries s.names) (get-has path_total path_exact s.names q n at)
 
 pub named-path : (s : State) (n : ℕ) → has_path_to (entries s.names) n ≡ true → (q : Path) × (file_at s q ≡ Some n)
 named-path s n is =
     let some = among-named n (entries s.names) is in
-    (some.0, get-entries s.names some.0 ∙ among-find (some.0, n) (entries s.names) (entries_sorted s.names) some.1)
+    (some.0, has-get path_total path_exact s.names (some.0, n) some.1)
 
 -- what is named is not given back
 pub swept-kept : (o : Option ℕ) (s : State) (q : Path) (m : ℕ) → file_at s q ≡ Some m → file_by (swept o s).files m ≡ file_by s.files m

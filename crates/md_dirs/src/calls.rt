@@ -25,7 +25,7 @@ pub enum DirError {
     /// The directories failed by themselves, as POSIX's EIO.
     #[error("fault")]
     Fault,
-    /// Memory was wanting. A directory call answers it behind all its other checks; an image may be refused so in place of
+    /// Out of memory. A directory call answers it after all its other checks; an image may be refused so in place of
     /// another refusal.
     #[error("no memory")]
     NoMemory,
@@ -59,7 +59,7 @@ pub trait Dirs {
     /// How often a call has failed by itself.
     ghost failures: { Self → ℕ };
 
-    /// How many calls were made, a `find` among them. One that is refused for want of memory is none, and neither is a look.
+    /// How many calls were made, a `find` among them. One that is refused when out of memory is none, and neither is a look.
     ghost calls: { Self → ℕ };
 
     /// Makes an empty file, as POSIX's open with O_CREAT and O_EXCL. `NotFound` where the folder is not there, `Exists`

@@ -12,7 +12,7 @@ use std::alloc::{AllocError, Global};
 pub trait Paths {
     ghost names: { Self → PathMap };
 
-    /// Gives a path to a file, also in place of the one that it named. Where memory is wanting, nothing has changed.
+    /// Gives a path to a file, also in place of the one that it named. When out of memory, nothing has changed.
     fn put(&mut self, alloc: Global, path: Path, file: usize) -> Result<(), AllocError>
         ensures ok { OnOk result (names self.new ≡ finmap.insert (names self.old) path file) }
         ensures err { OnErr result (names self.new ≡ names self.old) };

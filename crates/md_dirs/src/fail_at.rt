@@ -11,8 +11,8 @@ use crate::rows::{Row, RowRef};
 
 /// Other directories, of which one call fails.
 ///
-/// Each call counts, whatever it answers, `list` and `find` alike. The call at the count answers `Fault` and reaches nothing
-/// behind; every other call is passed on, and so is every look.
+/// Each call counts, whatever it answers, `list` and `find` alike. The call at the count answers `Fault` and doesn't reach
+/// the other directories; every other call is passed on, and so is every look.
 #[derive(Drop)]
 pub struct FailAt<D> {
     dirs: D,

@@ -14,7 +14,7 @@ pub struct ImageFile {
 }
 
 impl ImageFile {
-    /// A copy of this file. It is refused only for want of memory.
+    /// A copy of this file. It is refused only when out of memory.
     pub fn again(&self, alloc: Global) -> Result<ImageFile, AllocError>
         ensures { IfOk result (λ file. file ≡ self.now) }
     {

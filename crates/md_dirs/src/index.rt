@@ -21,7 +21,7 @@ use tree::Tree;
 ///
 /// A name is looked up by its hash, and a position is an index into the order. A name that comes or goes finds its place in
 /// the order by halving. At the end of the order it moves nothing, and neither does one that takes another's place in it; any
-/// other moves the positions behind it, a word each. Where a name goes, the last row of its table takes its row. Each file
+/// other moves the positions after it, a word each. Where a name goes, the last row of its table takes its row. Each file
 /// knows how many names it has. No call copies the bytes of a file, and room is made before anything is changed. They never
 /// fault.
 #[derive(Drop)]

@@ -34,7 +34,7 @@ pub struct File {
 }
 
 impl Path {
-    /// A copy of this path. It is refused only for want of memory.
+    /// A copy of this path. It is refused only when out of memory.
     pub fn again(&self, alloc: Global) -> Result<Path, AllocError>
         ensures { IfOk result (λ path. path ≡ self.now) }
     {

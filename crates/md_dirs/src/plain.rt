@@ -18,7 +18,7 @@ use std::marker::Model;
 /// The plain directories: one list of rows, in the order of folder, place and name.
 ///
 /// A name, the first row of a directory and one message of it are found by halving. A name that comes or goes moves the rows
-/// behind it. Each file knows how many names it has. No call copies the bytes of a file, and room is made before anything is
+/// after it. Each file knows how many names it has. No call copies the bytes of a file, and room is made before anything is
 /// changed. They never fault.
 #[derive(Drop)]
 pub struct PlainDirs {

@@ -23,7 +23,7 @@ pub struct RowRef<'a> {
 }
 
 impl Row {
-    /// A copy of this row. It is refused only for want of memory.
+    /// A copy of this row. It is refused only when out of memory.
     pub fn again(&self, alloc: Global) -> Result<Row, AllocError>
         ensures { IfOk result (λ row. row ≡ self.now) }
     {
@@ -36,7 +36,7 @@ impl Row {
 }
 
 impl RowRef<'_> {
-    /// A copy of this row. It is refused only for want of memory.
+    /// A copy of this row. It is refused only when out of memory.
     pub fn copied(self, alloc: Global) -> Result<Row, AllocError>
         ensures { IfOk result (λ row. row ≡ row_shown self.entry) }
     {

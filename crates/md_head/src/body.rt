@@ -1,4 +1,4 @@
-//! The body of a field, as it stands in the message.
+//! The body of a field, as it is in the message.
 ghost use Rattle.std.specs.Prelude.{◌≡◌, IfOk};
 ghost use Rattle.std.specs.List.{concat};
 ghost use Rattle.md_head.specs.Header.{lines_of};
@@ -10,7 +10,7 @@ use bstr::ByteSlice;
 use md_name::Bytes;
 use std::alloc::{AllocError, Global};
 
-/// The body of a field, folded as it stands in the message: all between the field's colon and the end of its last continuation,
+/// The body of a field, folded as it is in the message: all between the field's colon and the end of its last continuation,
 /// line ends among it.
 #[derive(Clone, Copy, Debug)]
 pub struct FieldBody<'a> {

@@ -28,7 +28,7 @@ fn blank_len(text: &[u8]) -> usize
     text.iter().take_while(|b| is_blank(**b)).count()
 }
 
-/// The name of a field, and what stands behind its colon. None where there is no name, or neither white space nor a colon behind it.
+/// The name of a field, and what comes after its colon. None where there is no name, or neither white space nor a colon after it.
 #[tactic(auto, unfolding(crate::specs::Computed::field_of))]
 pub(crate) fn field(text: &[u8]) -> Option<(&[u8], &[u8])>
     ensures { option_map (λ p. (p.0.now, p.1.now)) result ≡ field_of text.now }

@@ -6,7 +6,7 @@ pub fn one_summary()
     ensures { OneSummary }
 {}
 
-/// Bytes behind the first empty line don't matter (RFC 5322, 2.1).
+/// Bytes after the first empty line don't matter (RFC 5322, 2.1).
 pub fn body_is_not_read()
     ensures { BodyIsNotRead }
 {}
@@ -16,7 +16,7 @@ pub fn other_lines_are_passed_over()
     ensures { OtherLinesArePassedOver }
 {}
 
-/// Later fields of a name don't matter where an earlier one stands.
+/// Later fields of a name don't matter where there is an earlier one.
 pub fn first_field_wins()
     ensures { FirstFieldWins }
 {}
@@ -26,7 +26,7 @@ pub fn name_case_does_not_matter()
     ensures { NameCaseDoesNotMatter }
 {}
 
-/// Line ends by LF and by CRLF give the same summary where no other CR stands.
+/// Line ends by LF and by CRLF give the same summary where there is no other CR.
 pub fn line_ends_agree()
     ensures { LineEndsAgree }
 {}

@@ -2,7 +2,7 @@
 //!
 //! The header is read by the rules of RFC 5322, with white space before a field's colon as in its obsolete syntax (4.5), and no message is
 //! refused: what is no field is passed over.
-//! Values are bytes, as they stand in the message: encoded words and charsets are left as they are.
+//! Values are bytes, as they are in the message: encoded words and charsets are left as they are.
 #![tactic(auto)]
 
 mod body;

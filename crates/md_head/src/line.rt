@@ -56,7 +56,7 @@ pub(crate) fn group_end(text: &[u8]) -> usize
     text.len()
 }
 
-/// The first line of a text without its end, and all that stands behind the end; none where nothing is left. A line ends at a line
+/// The first line of a text without its end, and all that comes after the end; none where nothing is left. A line ends at a line
 /// feed, and one carriage return right before that belongs to the end.
 pub fn cut_line(text: &[u8]) -> Option<(&[u8], &[u8])>
     ensures lines { MatchOption result (lines_of text.now ≡ []) (λ cut. lines_of text.now ≡ cut.0.now ∷ lines_of cut.1.now) }

@@ -19,7 +19,7 @@ fn value_of(alloc: Global, body: Option<FieldBody<'_>>) -> Result<Option<Bytes>,
 
 /// The summary of a message, which reads its header section alone.
 ///
-/// No message is refused. The one refusal is want of memory.
+/// No message is refused. The one refusal is out of memory.
 pub fn summary(alloc: Global, message: &[u8]) -> Result<Summary, HeadError>
     ensures by_rules { IfOk result (IsSummary message.now) }
     ensures value { IfOk result (λ shown. shown ≡ summary_of message.now) }

@@ -16,9 +16,9 @@ use std::thread::Threads;
 const MOST_WORKERS: usize = 64;
 
 /// The entry of each message, in the messages' order. So many threads make them, but no more than there are messages, and each takes
-/// the next message as it becomes free. What they can't make for want of memory is tried once more, in the calling thread.
+/// the next message as it becomes free. What they can't make when out of memory is tried once more, in the calling thread.
 ///
-/// It is refused as `BadWorkers`, before anything else, where `workers` is 0 or over 64, and else only for want of memory.
+/// It is refused as `BadWorkers`, before anything else, where `workers` is 0 or over 64, and else only when out of memory.
 pub fn index<G: Gate, R: Threads + Wait + Sync>(
     rt: &R,
     alloc: Global,

@@ -52,7 +52,7 @@ pub(crate) type Owner = Worker<usize, Global, Hand, Deals>;
 
 pub(crate) type Thief = Stealer<usize, Global, Hand, Deals>;
 
-/// A deque with the numbers below `count`. It is refused only for want of memory.
+/// A deque with the numbers below `count`. It is refused only when out of memory.
 pub(crate) fn dealt(alloc: Global, count: usize) -> Result<Owner, AllocError>
     ensures { IfOk result (λ owner. (worker_port owner ≡ 0) × (worker_view owner ≡ hand count [])) }
 {

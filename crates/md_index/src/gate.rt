@@ -2,7 +2,7 @@
 
 /// Calls around the making of each entry, in the thread that makes it. `item` is the message's place in the list, from 0.
 ///
-/// A gate may hold a thread up, so an index returns only if the gate's calls do. Where memory was wanting, an item may pass twice.
+/// A gate may hold a thread up, so an index returns only if the gate's calls do. Where memory ran out, an item may pass twice.
 pub trait Gate: Sync {
     /// Called before the entry is made.
     fn before(&self, item: usize);

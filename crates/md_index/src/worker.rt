@@ -12,7 +12,7 @@ use std::sync::Wait;
 use std::thread;
 use std::thread::Threads;
 
-/// The entry of a number that was stolen. None for want of memory, or at a number past the messages, which the owner never pushes.
+/// The entry of a number that was stolen. None when out of memory, or at a number past the messages, which the owner never pushes.
 fn brought<G: Gate>(
     alloc: Global,
     messages: &[Message<'_>],
@@ -56,7 +56,7 @@ fn work<G: Gate, R: Wait>(
     unreachable!()
 }
 
-/// What the workers bring. It is refused only for want of memory.
+/// What the workers bring. It is refused only when out of memory.
 ///
 /// None of them is the calling thread, which waits: what a thread allocates stays in the thread's own part of the heap.
 pub(crate) fn brought_by<'a, G: Gate, R: Threads + Wait + Sync>(

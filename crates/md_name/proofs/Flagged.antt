@@ -168,7 +168,7 @@ IsUniquePart-unique_of name h = record {
   colonless = colonless_before name;
 }
 
-is_message_name-flagged : (u : List ℕ) (s : Set) → IsUniquePart u → is_message_name (flagged u s) ≡ true
+pub is_message_name-flagged : (u : List ℕ) (s : Set) → IsUniquePart u → is_message_name (flagged u s) ≡ true
 unfolding is_message_name
 is_message_name-flagged u s h =
     message_name _ _ (ap begins_with_dot (colon_first u s) ∙ no_dot u _ h.some h.dotless)

@@ -6,7 +6,7 @@ ghost use Rattle.std.specs.Cmp.Lexicographic.{pointwise, nat_list_eq_equiv};
 use std::alloc::{AllocError, Global};
 use std::marker::Model;
 
-/// Bytes, as those of a file's name, of a file, or of a header field's value. Any byte may stand
+/// Bytes, as those of a file's name, of a file, or of a header field's value. Any byte may be
 /// anywhere in them.
 #[derive(Drop, Debug)]
 pub struct Bytes {
@@ -27,7 +27,7 @@ impl Bytes {
         Bytes { items }
     }
 
-    /// A copy of bytes. It is refused only for want of memory.
+    /// A copy of bytes. It is refused only when out of memory.
     pub fn copied(alloc: Global, items: &[u8]) -> Result<Self, AllocError>
         ensures { IfOk result (λ bytes. bytes ≡ items.now) }
     {
@@ -36,7 +36,7 @@ impl Bytes {
         })
     }
 
-    /// A copy of these bytes. It is refused only for want of memory.
+    /// A copy of these bytes. It is refused only when out of memory.
     pub fn again(&self, alloc: Global) -> Result<Self, AllocError>
         ensures { IfOk result (λ bytes. bytes ≡ self.now) }
     {
@@ -71,7 +71,7 @@ impl Bytes {
         self.items.is_empty()
     }
 
-    /// Adds bytes at the end. Where memory is wanting, nothing has changed.
+    /// Adds bytes at the end. When out of memory, nothing has changed.
     pub fn extend(&mut self, more: &[u8]) -> Result<(), AllocError>
         ensures ok { OnOk result (self.new ≡ self.old ++ more.now) }
         ensures err { OnErr result (self.new ≡ self.old) }

@@ -125,7 +125,7 @@ impl Flags {
         Ok(text)
     }
 
-    /// Writes the letters behind a text.
+    /// Writes the letters after a text.
     pub(crate) fn write_onto(self, text: &mut Vec<u8>) -> Result<(), AllocError>
         ensures { OnOk result (text.new.items ≡ text.old.items ++ spelling self) }
     {

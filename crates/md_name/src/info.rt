@@ -1,4 +1,4 @@
-//! The info of a message, and the name that it stands in.
+//! The info of a message, and the name that it is in.
 ghost use Rattle.std.specs.Prelude.{◌≡◌, ◌<◌, length, position, option_map, IfSome, MatchResult};
 ghost use Rattle.md_name.specs.declared.error.NameError.TheVariants.{NoMemory};
 ghost use Rattle.md_name.specs.Names.{is_colon, unique_of, info_of, info_by, flags_of, split_of, flagged};
@@ -25,7 +25,7 @@ pub enum Info {
 }
 
 impl Info {
-    /// The flags that the info stands for: none where it's bare. Other info has no set of flags.
+    /// The flags that the info means: none where it's bare. Other info has no set of flags.
     pub fn flags(self) -> Option<Flags>
         ensures { result ≡ flags_of self }
     {

@@ -137,7 +137,7 @@ fn made_name(alloc: Global, parts: UniqueParts<'_>) -> Result<Vec<u8>, AllocErro
     Ok(name)
 }
 
-/// Writes the host behind the text, escaped.
+/// Writes the host after the text, escaped.
 #[tactic(auto, using(crate::proofs::Hosts::pushes))]
 fn push_escaped(host: &[u8], text: &mut Vec<u8>) -> Result<(), AllocError>
     ensures { OnOk result (text.new.items ≡ text.old.items ++ escaped host.now) }

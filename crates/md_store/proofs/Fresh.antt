@@ -2,7 +2,6 @@
 use Rattle.std.proofs.Common.{◌≡◌, [], sym, ap, ◌∙◌}
 use Rattle.md_core.specs.Machine.{Machine}
 use Rattle.md_core.specs.Runs.{Run, beginning, run_from, machine_of, dirs_of, effects_of}
-use Rattle.md_core.proofs.Runs.ByEvent.{run_from-none}
 use Rattle.md_view.specs.Named.{Named}
 use Rattle.md_store.specs.declared.rule.View.{View}
 use Rattle.md_store.specs.Pages.{Page}
@@ -12,7 +11,8 @@ use Rattle.md_store.specs.Publishing.{Shows, knower}
 
 module _ (r : Run) (fresh : IsFresh r) where
   machine : machine_of r ≡ beginning r.image r.calls
-  machine = ap (run_from (beginning r.image r.calls)) fresh ∙ run_from-none (beginning r.image r.calls)
+  unfolding run_from
+  machine = ap (run_from (beginning r.image r.calls)) fresh
 
   pub fresh-dirs : dirs_of r ≡ r.image
   fresh-dirs = ap (λ (m : Machine). m.dirs) machine

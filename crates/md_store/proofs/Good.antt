@@ -1,22 +1,20 @@
 -- The listing law of the histories that passes hold.
-use Rattle.std.proofs.Common.{ℕ, ◌≡◌, ◌≢◌, ◌≤◌, ◌++◌, List, [], Option, Some, None, refl, sym, ap, subst, ◌∙◌, length, take, arith, false, true, true≢false, Result, Ok, Err, IfOk, OnOk}
-use Rattle.std.proofs.lemmas.List.{take-append-le, take_all}
+use Rattle.std.proofs.Common.{ℕ, ◌≡◌, ◌≢◌, ◌≤◌, List, Option, Some, None, refl, sym, ap, subst, ◌∙◌, length, arith, false, true, true≢false, Result, Ok, Err, IfOk, OnOk}
 use Rattle.std.specs.FinMap.{get}
 use mathlib.Core.List.{IsPrefix}
 use Rattle.md_dirs.specs.declared.paths.Place.{Place}
-use Rattle.md_dirs.specs.declared.paths.Place.TheVariants.{Tmp, New, Cur}
-use Rattle.md_core.specs.History.{Listed, Names, after}
+use Rattle.md_dirs.specs.declared.paths.Place.TheVariants.{Tmp, Cur}
+use Rattle.md_core.specs.History.{Listed, Names}
+use Rattle.md_core.specs.Laws.{IsNotInTmp, KeepsPlaces}
 use Rattle.md_core.specs.Mailbox.{is_tmp}
 use Rattle.md_core.specs.declared.jobs.effect.Effect.{Effect}
 use Rattle.md_view.specs.declared.entry.Entry.{Entry}
-use Rattle.md_view.specs.Law.{names_after, IsGoodListing}
+use Rattle.md_view.specs.Law.{names_after}
 use Rattle.md_view.specs.Named.{Named, AreMessages}
 use Rattle.md_view.specs.Readings.{reading_of, join_of, IsInOrder}
 use Rattle.md_view.proofs.Keyed.{in-order}
-use Rattle.md_view.proofs.LawHolds.{good-listing}
+use Rattle.md_view.proofs.LawHolds.{good-listing, LegalKeepPlaces}
 use Rattle.md_view.proofs.Readings.{reading-sorted}
-use Rattle.md_core.proofs.Theorem.Placed.{IsPlaced, IsInCur}
-use Rattle.md_view.proofs.Staying.{never-in_tmp, stays-in_cur}
 use Rattle.md_store.specs.declared.error.ListError.{ListError}
 use Rattle.md_store.specs.Histories.{IsLegalFrom, read_at}
 use Rattle.md_store.specs.Listing.{IsGoodFrom, Finishes, Reading}
@@ -26,24 +24,27 @@ use Rattle.md_store.proofs.Beginnings.{no_longer}
 pub reading-in_order : (names : Names) (folder : ℕ) (place : Place) → IsInOrder (reading_of names folder place)
 reading-in_order names folder place = in-order _ (reading-sorted folder place names)
 
-module _ (opening : Named) (now : List Effect) (legal : IsLegalFrom opening now) (messages : AreMessages opening) where
+module _ (opening : Named) (now : List Effect) (keeps : KeepsPlaces opening.names now) (messages : AreMessages opening) where
   never-tmp : (u : List ℕ) (k : ℕ) (x : Listed) → get (names_after opening.names now k) u ≡ Some x → x.place ≢ Tmp
-  never-tmp u k x is = subst (IsPlaced (λ p. p ≢ Tmp)) is (never-in_tmp opening.folders opening.names now legal u (first (get opening.names u) refl) k)
+  never-tmp u k x is = subst IsNotInTmp is (keeps.never_in_tmp u (first (get opening.names u) refl) k)
     where
-      first : (o : Option Listed) → get opening.names u ≡ o → IsPlaced (λ p. p ≢ Tmp) (get opening.names u)
-      first None none = subst (IsPlaced (λ p. p ≢ Tmp)) (sym none) tt
-      first (Some y) some = subst (IsPlaced (λ p. p ≢ Tmp)) (sym some) (λ tmp. true≢false (sym (ap is_tmp tmp) ∙ (messages u y some).place))
+      first : (o : Option Listed) → get opening.names u ≡ o → IsNotInTmp (get opening.names u)
+      first None none = subst IsNotInTmp (sym none) tt
+      first (Some y) some = subst IsNotInTmp (sym some) (λ tmp. true≢false (sym (ap is_tmp tmp) ∙ (messages u y some).place))
 
   -- a listing from a beginning of the history to its end is good
   pub good-from : (folder : ℕ) (h1 : List Effect) → IsPrefix h1 now → IsGoodFrom folder opening h1 now
   good-from folder h1 begun =
       let order : length h1 ≤ length now = no_longer h1 now begun in
       good-listing (names_after opening.names now) folder (length h1) (length now) order never-tmp
-      (λ u x is at. stays-in_cur opening.folders opening.names now legal (length h1) u x is at (length now) order)
+      (λ u x is at. keeps.stays_in_cur (length h1) (length now) order u x is at)
 
 -- what a second reading gives
-pub finishes : {V : Type 0} (items : V → List Entry) (opening : Named) (first : Reading) (now : List Effect) (res : Result V ListError)
-    → OnOk res (IsLegalFrom opening now) → OnOk res (AreMessages opening)
+pub finishes : LegalKeepPlaces → {V : Type 0} (items : V → List Entry) (opening : Named) (first : Reading) (now : List Effect)
+    → (res : Result V ListError) → OnOk res (IsLegalFrom opening now) → OnOk res (AreMessages opening)
     → IfOk res (λ v. items v ≡ join_of first.entries (read_at first.folder Cur opening now)) → IfOk res (λ v. Finishes opening first now (items v))
-finishes items opening first now (Ok v) legal are is = record { entries_are = is; law = λ h1 begun. good-from opening now legal are first.folder h1 begun }
-finishes items opening first now (Err e) legal are is = tt
+finishes keep items opening first now (Ok v) legal are is = record {
+  entries_are = is;
+  law = λ h1 begun. good-from opening now (keep opening.folders opening.names now legal) are first.folder h1 begun;
+}
+finishes keep items opening first now (Err e) legal are is = tt

@@ -6,14 +6,13 @@ use mathlib.Core.List.{IsPrefix}
 use lib.ListN.{get_elem?}
 use Rattle.crossbeam_utils.specs.Register.{Admits, Turns, TurnsAt, Forks, Merges}
 use Rattle.atomic_table.proofs.Lists.{at_set, at_snoc}
-use Rattle.md_core.specs.declared.jobs.effect.Effect.{Effect}
 use Rattle.md_view.specs.Named.{Named, AreMessages, applied}
 use Rattle.md_store.specs.Histories.{led, IsLegalFrom}
 use Rattle.md_store.specs.declared.rule.View.{View}
 use Rattle.md_store.specs.Pages.{Page, Note}
 use Rattle.md_store.specs.Publishing.{newcomer, knower, Fits, Leads, Kept, Seen, turned, CanFollow, MayPublish, Shows}
 use Rattle.md_store.proofs.Beginnings.{begins_itself, begins_later}
-use Rattle.md_store.proofs.Legal.{led-push, applied-messages}
+use Rattle.md_store.proofs.Legal.{GrowByOne, led-push, applied-messages}
 
 off : false ≡ true → {A : Type 0} → A
 off e = absurd (true≢false (sym e))
@@ -85,21 +84,22 @@ merges seat v other w x views h at apart there =
     (h.0, h.1, fits_set h.0 x (set views seat w) other newcomer (new_fits h.0 x) (fits_set h.0 x views seat w theirs h.2))
 
 -- a note that follows legally leads on
-leads-on : (o : Named) (x : Page) (n : Note) → Leads o x → n.front.log ≡ x.front.log ++ n.effect ∷ [] → IsLegalFrom o n.front.log → Leads o (turned x n)
-leads-on o x n leads more legal = record {
+leads-on : GrowByOne → (o : Named) (x : Page) (n : Note) → Leads o x → n.front.log ≡ x.front.log ++ n.effect ∷ [] → IsLegalFrom o n.front.log
+    → Leads o (turned x n)
+leads-on grow o x n leads more legal = record {
   legal = legal;
   names =
       ap (led o) more
-      ∙ led-push o x.front.log n.effect (subst (IsLegalFrom o) more legal) (subst AreMessages (sym leads.names) leads.messages)
+      ∙ led-push grow o x.front.log n.effect (subst (IsLegalFrom o) more legal) (subst AreMessages (sym leads.names) leads.messages)
       ∙ ap (λ (names : Named). applied names n.effect.change) leads.names;
   opening_messages = leads.opening_messages;
   messages = applied-messages x.names n.effect.change leads.messages;
 }
 
 -- what is pending may be published
-pub publishes : (seat : ℕ) (v : View) (x : Page) (pend : List Note) → MayPublish v x pend → (next : Page) → next ≡ fold turned x pend →
+pub publishes : GrowByOne → (seat : ℕ) (v : View) (x : Page) (pend : List Note) → MayPublish v x pend → (next : Page) → next ≡ fold turned x pend →
     TurnsAt Kept seat v x next Seen
-publishes seat v x pend may next is =
+publishes grow seat v x pend may next is =
     ⊎_elim
     (λ (none : pend ≡ []). let same : next ≡ x = is ∙ ap (fold turned x) none in
     subst (λ (y : Page). TurnsAt Kept seat v x y Seen) (sym same) (enters seat v x))
@@ -108,7 +108,7 @@ publishes seat v x pend may next is =
     let same : next ≡ turned x n = is ∙ ap (fold turned x) one.1 in
     subst (λ (y : Page). TurnsAt Kept seat v x y Seen) (sym same)
     (shows seat v x (turned x n) one.3.0 (n.effect ∷ [], sym one.3.1)
-    (λ o fits leads. leads-on o x n leads one.3.1 (subst (λ (p : Named). IsLegalFrom p n.front.log) (fits.0 one.2).0 one.3.2))))
+    (λ o fits leads. leads-on grow o x n leads one.3.1 (subst (λ (p : Named). IsLegalFrom p n.front.log) (fits.0 one.2).0 one.3.2))))
     may
 
 -- what was published, as the writer sees it

@@ -1,21 +1,19 @@
 -- The last effect of a legal history is made, and names of messages stay so.
-use Rattle.std.proofs.Common.{ℕ, ◌≡◌, ◌<◌, ◌++◌, List, [], ◌∷◌, Some, None, Bool, true, false, cond, not, ◌&&◌, sym, ap, subst, ◌∙◌, length, take, nat_lt, refl, arith}
+use Rattle.std.proofs.Common.{ℕ, ◌≡◌, ◌<◌, ◌++◌, List, [], ◌∷◌, Some, None, Bool, true, false, cond, not, sym, subst, ◌∙◌, length, take, slice_get, nat_lt, refl, arith, ◌+◌}
 use Rattle.std.proofs.lemmas.Bool.{ltb-true}
 use Rattle.std.proofs.lemmas.Cmp.{nat_list_cmp_total}
-use Rattle.std.proofs.lemmas.List.{take-append-le, take_all}
+use Rattle.std.proofs.lemmas.List.{take-append-le, take_all, length_push, get_or_push}
+use Rattle.std.proofs.lemmas.Option.{slice_get_read}
 use Rattle.std.proofs.lemmas.Map.Lookups.{exact_bytes}
 use Rattle.std.specs.FinMap as finmap
 use Rattle.md_dirs.specs.declared.paths.Place.{Place}
-use Rattle.md_dirs.proofs.Maps.{at_put, beside_put, at_drop, beside_drop}
+use Rattle.lists.proofs.Maps.{by_key, at_put, beside_put, at_drop, beside_drop}
 use Rattle.md_name.specs.Names.{unique_of}
 use Rattle.md_core.specs.History.{Listed, Names, IsAllowedAfter, WasNowhere, after, changed}
 use Rattle.md_core.specs.Mailbox.{is_tmp}
 use Rattle.md_core.specs.declared.jobs.effect.Change.{Change}
 use Rattle.md_core.specs.declared.jobs.effect.Change.TheVariants as change
 use Rattle.md_core.specs.declared.jobs.effect.Effect.{Effect}
-use Rattle.md_core.proofs.Mailbox.Changes.{by_name}
-use Rattle.md_core.proofs.Theorem.Effects.{after-push}
-use Rattle.md_core.proofs.Lists.Places.{get-pushed}
 use Rattle.md_view.specs.Named.{Named, IsMessage, AreMessages, is_listed, is_free, fits, applied}
 use Rattle.md_view.proofs.Fitting.{allowed-applied, nowhere}
 use Rattle.md_view.proofs.Rows.{and-first, and-second}
@@ -26,7 +24,7 @@ module _ (folders : ℕ) where
   Are names = AreMessages (record { folders = folders; names = names })
 
   put-message : (names : Names) (name : List ℕ) (x : Listed) → Are names → IsMessage folders (unique_of name) x → Are (finmap.insert names (unique_of name) x)
-  put-message names name x are new u message is = by_name u (unique_of name)
+  put-message names name x are new u message is = by_key nat_list_cmp_total exact_bytes u (unique_of name)
       (λ same.
       let there : Some x ≡ Some message = sym (at_put nat_list_cmp_total exact_bytes names (unique_of name) u x same) ∙ is in
       let it : x ≡ message = cc in
@@ -34,7 +32,7 @@ module _ (folders : ℕ) where
       (λ other. are u message (sym (beside_put nat_list_cmp_total exact_bytes names (unique_of name) u x other) ∙ is))
 
   drop-message : (names : Names) (old : List ℕ) → Are names → Are (finmap.remove names old)
-  drop-message names old are u message is = by_name u old
+  drop-message names old are u message is = by_key nat_list_cmp_total exact_bytes u old
       (λ same. let gone : None ≡ Some message = sym (at_drop nat_list_cmp_total exact_bytes names old u same) ∙ is in cc)
       (λ other. are u message (sym (beside_drop nat_list_cmp_total exact_bytes names old u other) ∙ is))
 
@@ -76,16 +74,25 @@ applied-messages n c are = by (fits n c) refl
     by true fit = changed-messages n c are fit
     by false other = are
 
-module _ (opening : Named) (history : List Effect) (e : Effect) (legal : IsLegalFrom opening (history ++ e ∷ []))
+-- the law of histories
+abbrev pub GrowByOne : Type 0
+GrowByOne = (opening : Names) (history : List Effect) (next : Effect) → after opening (history ++ next ∷ []) ≡ changed (after opening history) next.change
+
+module _ (grow : GrowByOne) (opening : Named) (history : List Effect) (e : Effect) (legal : IsLegalFrom opening (history ++ e ∷ []))
     (are : AreMessages (led opening history)) where
   before-is : take (length history) (history ++ e ∷ []) ≡ history
   before-is = take-append-le (length history) history (e ∷ []) (omega arith) ∙ take_all (length history) history (omega arith)
 
+  last : slice_get (history ++ e ∷ []) (length history) ≡ Some e
+  last =
+      slice_get_read (history ++ e ∷ []) (length history + 1) (length history) e (sym (length_push history e)) (omega arith)
+      (sym (get_or_push history e e (length history) refl))
+
   allowed : IsAllowedAfter opening.folders opening.names history e
-  allowed = subst (λ h. IsAllowedAfter opening.folders opening.names h e) before-is (legal.each (length history) e (get-pushed history e))
+  allowed = subst (λ h. IsAllowedAfter opening.folders opening.names h e) before-is (legal.each (length history) e last)
 
   -- the names after one more effect
   pub led-push : led opening (history ++ e ∷ []) ≡ applied (led opening history) e.change
   led-push =
-      (λ i. record { folders = opening.folders; names = after-push opening.names history e i })
+      (λ i. record { folders = opening.folders; names = grow opening.names history e i })
       ∙ sym (allowed-applied (led opening history) are (WasNowhere opening.names history) (nowhere opening.names history) e.answer e.change allowed)

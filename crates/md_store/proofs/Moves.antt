@@ -8,12 +8,12 @@ use Rattle.logbook.specs.Pages.{Book}
 use Rattle.md_core.specs.declared.error.CoreError.{CoreError}
 use Rattle.md_core.specs.declared.jobs.effect.Effect.{Effect}
 use Rattle.md_core.specs.declared.jobs.step.StepOut.{StepOut}
-use Rattle.md_core.specs.Turn.{is_fault}
+use Rattle.md_core.specs.Asked.{is_fault}
 use Rattle.md_core.specs.declared.jobs.task.Task.{Task}
-use Rattle.md_core.specs.Machine.{Machine, Marked, marked, Done, done_by, task_of, job_at}
-use Rattle.md_core.specs.Machine.{done as done_of}
+use Rattle.md_core.specs.Machine.{Machine, Marked, marked, done_by, task_of, job_at, done as done_of}
+use Rattle.md_core.specs.Trace.{Step}
 use Rattle.md_core.specs.Runs.{Run, machine_of, and_event, effects_of}
-use Rattle.md_core.specs.Interleaving.{ShowsStep}
+use Rattle.md_core.specs.Stepping.{ShowsStep}
 use Rattle.md_view.specs.Named.{Named, named_of}
 use Rattle.md_store.specs.declared.rule.View.{View}
 use Rattle.md_store.specs.Pages.{Log, Page, Note}
@@ -26,12 +26,12 @@ Grows r s job true = (e : Effect) × (effects_of s ≡ effects_of r ++ e ∷ [])
 Grows r s job false = effects_of s ≡ effects_of r
 
 -- what an event did, its own job did
-done-job : (m : Machine) (e : Marked) (d : Done) → done_of m e ≡ Some d → d.job ≡ e.event.job
+done-job : (m : Machine) (e : Marked) (d : Step) → done_of m e ≡ Some d → d.job ≡ e.event.job
 done-job m e d is = by (task_of (job_at m.jobs e.event.job)) is
   where
     by : (o : Option Task) → option_map (done_by m e) o ≡ Some d → d.job ≡ e.event.job
     by None none = cc
-    by (Some task) some = let same : done_by m e task ≡ d = cc in ap (λ (x : Done). x.job) (sym same)
+    by (Some task) some = let same : done_by m e task ≡ d = cc in ap (λ (x : Step). x.job) (sym same)
 
 -- a step that is no effect leaves the effects, and one that is adds one of its job
 pub grows : (r s : Run) (e : Marked) (out : StepOut) → ShowsStep r s e out → Grows r s e.event.job out.effect

@@ -6,7 +6,7 @@ use mathlib.Core.List.{IsPrefix}
 use Rattle.md_core.specs.declared.jobs.answer.Answer.{Answer}
 use Rattle.md_core.specs.declared.jobs.effect.Effect.{Effect}
 use Rattle.md_core.specs.Runs.{Run, effects_of}
-use Rattle.md_core.specs.Interleaving.{Succeeds}
+use Rattle.md_core.specs.Stepping.{Succeeds}
 use Rattle.md_store.specs.declared.news.News.{News}
 use Rattle.md_store.specs.declared.news.News.TheVariants.{NoEffect, Told, Later}
 use Rattle.md_store.specs.Locks.{Both}

@@ -1,6 +1,6 @@
 //! A store that threads share: one lock for those that step jobs, and none for those that list.
 //!
-//! Behind the lock stand a world and the writer of what is published: the names of the store, and the history of effects that led to them.
+//! The lock protects a world and the writer of what is published: the names of the store, and the history of effects that led to them.
 //! Each caller has a `Pass`, which holds a beginning of that one history: what the caller has seen, or was told of. A step of a job tells the
 //! pass of what is published, and a listing enters it without the lock.
 #![tactic(auto)]

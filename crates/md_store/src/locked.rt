@@ -3,12 +3,14 @@ ghost use Rattle.std.specs.Prelude.{◌≡◌, ◌≢◌, ◌+◌, ◌<◌, ◌�
 ghost use Rattle.std.specs.FinMap as finmap;
 ghost use mathlib.Core.List.{IsPrefix};
 ghost use Rattle.left_right.specs.Sides.{view};
-ghost use Rattle.md_core.specs.Turn.{is_fault};
+ghost use Rattle.md_core.specs.Asked.{is_fault};
 ghost use Rattle.md_core.specs.Mailbox.{Entry, mailbox_of};
 ghost use Rattle.md_core.specs.Machine.{marked, job_at};
 ghost use Rattle.md_core.specs.Runs.{dirs_of, jobs_of, effects_of, and_event, and_call, step_refusal, steps_left, IsRefusal};
 ghost use Rattle.md_core.specs.Submitting.{submit_refusal};
-ghost use Rattle.md_core.specs.Interleaving.{Interleaves, ShowsStep, Succeeds};
+ghost use Rattle.md_core.specs.Interleaving.{Interleaves};
+ghost use Rattle.md_core.specs.Tracing.{trace_of, GrowsByStep};
+ghost use Rattle.md_core.specs.Stepping.{ShowsStep, Succeeds};
 ghost use Rattle.md_view.specs.Named.{named_of};
 ghost use Rattle.md_store.specs.Rules.{head_of};
 ghost use Rattle.md_store.specs.Publishing.{knower};
@@ -107,7 +109,7 @@ impl<D: Dirs, J: Naming> Locked<D, J> {
     pub fn lags(&self)
         ensures image { named_of self.now.run.image ≡ J.opening }
         ensures lag { Lags (effects_of self.now.run) self.now.published }
-        ensures theorem { Interleaves self.now.run }
+        ensures theorem { Interleaves (trace_of self.now.run) }
     {
         // A field is looked at, so that what the type keeps is known here.
         let _kept = &self.front;
@@ -129,6 +131,7 @@ impl<D: Dirs, J: Naming> Locked<D, J> {
         requires { self.old.published ≡ effects_of self.old.run }
         ensures published { self.new.published ≡ self.old.published }
         ensures event { IfOk result (λ out. self.new.run ≡ and_event self.old.run (marked job now own (is_fault out.reply))) }
+        ensures trace { IfOk result (GrowsByStep (trace_of self.old.run) (trace_of self.new.run) job) }
         ensures shows { IfOk result (λ out. ShowsStep self.old.run self.new.run (marked job now own (is_fault out.reply)) out) }
         ensures success { IfOk result (λ out. Succeeds self.new.run job out.answer) }
         ensures refused { MatchResult result (λ _. step_refusal (job_at (jobs_of self.old.run) job) ≡ None)
@@ -161,14 +164,14 @@ impl<D: Dirs, J: Naming> Locked<D, J> {
         ensures refused { MatchResult result (λ _. submit_refusal self.old.run call ≡ None) (λ r. IsRefusal (submit_refusal self.old.run call) r.error) }
         ensures unchanged { OnErr result (self.new ≡ self.old) }
         ensures call { IfErr result (λ r. r.call ≡ call) }
-        ensures theorem { OnOk result (Interleaves self.new.run) }
+        ensures theorem { OnOk result (Interleaves (trace_of self.new.run)) }
         ensures published { self.new.published ≡ self.old.published }
     {
         self.world.submit(call)
     }
 
     /// A copy of the bytes of the message of a unique name, in new or cur of any folder. None where there is no such message. It is refused
-    /// only for want of memory.
+    /// only when out of memory.
     pub fn read(&self, alloc: Global, unique: &[u8]) -> Result<Option<Bytes>, StoreError>
         ensures { IfOk result (λ bytes. bytes ≡ option_map (λ (e : Entry). e.bytes) (finmap.get (mailbox_of (dirs_of self.now.run)) unique.now)) }
     {
@@ -202,6 +205,7 @@ impl<D: Dirs, J: Naming> Locked<D, J> {
         // Where the job isn't there, or has its answer, nothing is published either.
         ensures unchanged { OnErr result (IsSome (step_refusal (job_at (jobs_of self.old.run) job)) → self.new ≡ self.old) }
         ensures event { IfOk result (λ s. self.new.run ≡ and_event self.old.run (marked job now own (is_fault s.out.reply))) }
+        ensures trace { IfOk result (λ s. GrowsByStep (trace_of self.old.run) (trace_of self.new.run) job s.out) }
         ensures shows { IfOk result (λ s. ShowsStep self.old.run self.new.run (marked job now own (is_fault s.out.reply)) s.out) }
         ensures success { IfOk result (λ s. Succeeds self.new.run job s.out.answer) }
         ensures nearer { OnOk result (steps_left self.new.run job < steps_left self.old.run job) }

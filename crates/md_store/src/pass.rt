@@ -123,6 +123,7 @@ impl<J: Naming> Pass<J> {
         ensures unchanged { OnErr result (self.new ≡ self.old) }
         ensures entries { IfOk result (λ v. Finishes J.opening first.now self.new v.items) }
     {
+        md_core::laws::legal_histories_keep_messages_out_of_new();
         self.read(alloc, first.folder(), Some(first.entries()))
     }
 }

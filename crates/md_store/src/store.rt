@@ -46,8 +46,8 @@ impl<D: Dirs, J: Naming> Store<D, J> {
         made
     }
 
-    /// Makes the next directory call of a job, publishes its effect, and tells the pass of all that is published; where memory for that is
-    /// wanting, the news is `Later`.
+    /// Makes the next directory call of a job, publishes its effect, and tells the pass of all that is published; where memory for that
+    /// runs out, the news is `Later`.
     ///
     /// `now` and `own` are in seconds. The store's clock becomes `now` where that is greater; `own` is the moment by the clock of the job's
     /// host, and a job without one goes by the store's. Refused `NoJob`, `Answered`, or `NoMemory`: then no directory call was made, the
@@ -73,7 +73,7 @@ impl<D: Dirs, J: Naming> Store<D, J> {
     }
 
     /// A copy of the bytes of the message of a unique name, in new or cur of any folder. None where there is no such message. It is refused
-    /// only for want of memory.
+    /// only when out of memory.
     pub fn read<R: Wait>(
         &self,
         rt: &R,

@@ -18,6 +18,7 @@ fn published<R: Wait>(writer: StoreWriter, rt: &R) -> (StoreWriter, Result<(), A
         × (drop result.0.behind result.0.log.items ≡ drop writer.behind writer.log.items)
         × (view result.0.desk.place ≡ view writer.desk.place)) }
 {
+    md_core::laws::histories_grow_by_one_change();
     writer.publish_as::<Sees, R>(rt)
 }
 

@@ -13,7 +13,7 @@ use Rattle.std.proofs.lemmas.Slice.Eq.{bytes_eq-Decides}
 use Rattle.md_name.specs.Names.{unique_of, is_message_name}
 use Rattle.md_dirs.specs.Path.{place_index}
 use Rattle.md_dirs.specs.declared.paths.Place.{Place}
-use Rattle.md_dirs.proofs.Maps.{by_key, at_put, beside_put, at_drop, beside_drop}
+use Rattle.lists.proofs.Maps.{by_key, at_put, beside_put, at_drop, beside_drop}
 use Rattle.md_core.specs.Mailbox.{is_tmp}
 use Rattle.md_core.specs.History.{Listed, Names, IsThere, size_in}
 use Rattle.md_core.specs.declared.jobs.effect.Change.TheVariants as change

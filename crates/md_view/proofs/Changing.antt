@@ -8,7 +8,7 @@ use Rattle.std.proofs.lemmas.Cmp.{nat_list_cmp_total, nat_eq_equiv}
 use Rattle.std.proofs.lemmas.Map.Lookups.{exact_bytes}
 use Rattle.md_dirs.specs.Path.{place_index}
 use Rattle.md_dirs.specs.declared.paths.Place.{Place}
-use Rattle.md_dirs.proofs.Maps.{by_key, at_put, beside_put, at_drop, beside_drop}
+use Rattle.lists.proofs.Maps.{by_key, at_put, beside_put, at_drop, beside_drop}
 use Rattle.md_dirs.proofs.Sound.{get-set_same, get-set_other}
 use Rattle.md_core.specs.Mailbox.{name_cmp}
 use Rattle.md_core.specs.History.{Listed, Names}

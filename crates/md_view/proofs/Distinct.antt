@@ -12,7 +12,7 @@ use Rattle.md_dirs.specs.declared.paths.Place.{Place}
 use Rattle.md_dirs.proofs.PathOrder.{path_total, path_exact}
 use Rattle.md_name.specs.Names.{unique_of, is_message_name}
 use Rattle.md_core.specs.Mailbox.{is_tmp, is_message, HasOnePath}
-use Rattle.md_core.proofs.Lists.Members.{Has, has-get}
+use Rattle.lists.proofs.Members.{Has, has-get}
 use Rattle.md_view.specs.declared.entry.Entry.{Entry}
 use Rattle.md_view.proofs.Keyed.{first, second, less, tie-same}
 use Rattle.md_view.proofs.MadeOf.{came}

@@ -8,11 +8,11 @@ use Rattle.std.proofs.lemmas.List.{take_all}
 use Rattle.std.proofs.lemmas.Map.Lookups.{exact_bytes}
 use Rattle.md_name.specs.Letters.{Set}
 use Rattle.md_name.specs.Names.{unique_of, is_message_name, flagged}
-use Rattle.md_name.proofs.Flagged.{IsUniquePart-unique_of, unique_of-flagged, colonless-unique_of}
+use Rattle.md_name.proofs.Flagged.{IsUniquePart-unique_of, is_message_name-flagged, unique_of-flagged, colonless-unique_of}
 use Rattle.md_dirs.specs.Path.{place_index}
 use Rattle.md_dirs.specs.declared.paths.Place.{Place}
 use Rattle.md_dirs.specs.declared.paths.Place.TheVariants.{Tmp, New, Cur}
-use Rattle.md_dirs.proofs.Maps.{at_drop}
+use Rattle.lists.proofs.Maps.{at_drop}
 use Rattle.md_core.specs.Mailbox.{is_tmp}
 use Rattle.md_core.specs.History.{Listed, Names, IsThere, IsNowhere, WasNowhere, IsAllowed, after, changed}
 use Rattle.md_core.specs.declared.jobs.answer.Answer.{Answer}
@@ -20,7 +20,6 @@ use Rattle.md_core.specs.declared.jobs.answer.Answer.TheVariants as answer
 use Rattle.md_core.specs.declared.jobs.effect.Change.{Change}
 use Rattle.md_core.specs.declared.jobs.effect.Change.TheVariants as change
 use Rattle.md_core.specs.declared.jobs.effect.Effect.{Effect}
-use Rattle.md_core.proofs.Looking.LookUps.{message-name}
 use Rattle.md_view.specs.Named.{Named, IsMessage, AreMessages, is_listed, has_name, is_there, is_free, fits, applied}
 use Rattle.md_view.proofs.Rows.{and-both}
 
@@ -50,8 +49,7 @@ module _ (n : Named) where
     message-there folder place name there = are (unique_of name) _ there.at
 
     flagged-name : (name : List ℕ) (s : Set) → is_message_name name ≡ true → is_message_name (flagged (unique_of name) s) ≡ true
-    flagged-name name s message = message-name (unique_of name) (flagged (unique_of name) s) (IsUniquePart-unique_of name message)
-        (unique_of-flagged (unique_of name) s (colonless-unique_of name))
+    flagged-name name s message = is_message_name-flagged (unique_of name) s (IsUniquePart-unique_of name message)
 
     -- a name under the same unique name is free once the old one is gone
     free-again : (name to_name : List ℕ) → unique_of to_name ≡ unique_of name → is_message_name to_name ≡ true

@@ -1,22 +1,29 @@
 -- The entries of a directory, gathered row by row.
-use Rattle.std.proofs.Common.{ℕ, zero, suc, ◌≡◌, ◌+◌, ◌++◌, List, [], ◌∷◌, Option, Some, None, take, slice_get, refl, sym, ap, subst, ◌∙◌}
+use Rattle.std.proofs.Common.{ℕ, zero, suc, ◌≡◌, ◌+◌, ◌++◌, List, [], ◌∷◌, Option, Some, None, take, slice_get, refl, sym, ap, subst, ◌∙◌, arith}
+use Rattle.std.proofs.Math.Seq.{take-suc}
 use Rattle.std.specs.declared.cmp.Ordering.TheVariants.{Less}
 use Rattle.std.specs.List.{cons_option}
 use Rattle.std.proofs.lemmas.Cmp.{nat_list_cmp_total}
 use Rattle.std.proofs.lemmas.List.Elements.{filter_map-append}
+use Rattle.std.proofs.lemmas.Option.{slice_get_within, get_or_from_slice_get}
 use Rattle.md_dirs.specs.declared.paths.Place.{Place}
 use Rattle.md_dirs.specs.declared.rows.Row.{Row}
 use Rattle.md_core.specs.Mailbox.{name_cmp}
-use Rattle.md_core.proofs.Lists.Places.{take-one_more}
 use Rattle.md_view.specs.declared.entry.Entry.{Entry}
 use Rattle.md_view.specs.Readings.{IsInOrder}
 use Rattle.md_view.specs.Rows.{entry_of_row, entries_of, IsBehind}
 use Rattle.md_view.proofs.Keyed.{IsBelow, IsSorted, both, first, second, less, is_less, in-order, ordered}
 
 module _ (place : Place) (rows : List Row) (at : ℕ) (row : Row) (is : slice_get rows at ≡ Some row) where
+  taken : take (at + 1) rows ≡ take at rows ++ row ∷ []
+  taken =
+      let next : at + 1 ≡ suc at = omega arith in
+      ap (λ n. take n rows) next ∙ take-suc rows at row (slice_get_within rows at row is)
+      ∙ ap (λ x. take at rows ++ x ∷ []) (get_or_from_slice_get rows at row row is)
+
   pub one_more : (o : Option Entry) → entry_of_row place row ≡ o → entries_of place (take (at + 1) rows) ≡ entries_of place (take at rows) ++ cons_option o []
   one_more o made =
-      ap (entries_of place) (take-one_more rows at row is)
+      ap (entries_of place) taken
       ∙ filter_map-append (entry_of_row place) (take at rows) (row ∷ [])
       ∙ ap (λ x. entries_of place (take at rows) ++ cons_option x []) made
 

@@ -4,14 +4,14 @@ use Rattle.std.proofs.lemmas.Bool.{cases_lt}
 use Rattle.std.specs.List.{list_any}
 use Rattle.std.specs.Option.{option_map, option_and_then, option_or, option_map_or}
 use Rattle.std.specs.Ordering.{eq_by_cmp}
-use Rattle.std.specs.FinMap.{find, get, get-from_entries}
+use Rattle.std.specs.FinMap.{find, get, get-from_entries, same_map}
 use Rattle.std.proofs.lemmas.Cmp.{nat_list_cmp_total, nat_eq_equiv}
+use Rattle.std.proofs.lemmas.Map.Lookups.{exact_bytes}
 use Rattle.md_dirs.specs.Path.{place_index}
 use Rattle.md_dirs.specs.declared.paths.Place.{Place}
 use Rattle.md_dirs.specs.declared.paths.Place.TheVariants.{Tmp, New, Cur}
 use Rattle.md_core.specs.Mailbox.{name_cmp, is_tmp}
 use Rattle.md_core.specs.History.{Listed, Names}
-use Rattle.md_core.proofs.Mailbox.Naming.{same_names}
 use Rattle.md_view.specs.declared.entry.Entry.{Entry}
 use Rattle.md_view.specs.Readings.{shown, reading_of, IsInOrder}
 use Rattle.md_view.specs.Named.{Named, AreMessages}
@@ -211,7 +211,7 @@ module _ (n : Named) (fs : List FolderLists) (held : AreHeld n fs) where
   -- the lists make the names that they hold
   pub held-is : held_names fs ≡ n
   held-is =
-      let names : (held_names fs).names ≡ n.names = same_names _ _ (λ u.
+      let names : (held_names fs).names ≡ n.names = same_map nat_list_cmp_total exact_bytes _ _ (λ u.
       get-from_entries nat_list_cmp_total (listed_from 0 fs) u
       ∙ find-from u (get n.names u) 0 fs (λ k f at.
       let plus : k ≡ 0 + k = omega arith in

@@ -3,12 +3,12 @@ use Rattle.std.proofs.Common.{ℕ, ◌≡◌, ◌++◌, List, [], ◌∷◌, Opt
 use Rattle.std.specs.Option.{option_or}
 use Rattle.std.specs.declared.cmp.Ordering.{Ordering}
 use Rattle.std.specs.declared.cmp.Ordering.TheVariants.{Less, Equal, Greater}
+use Rattle.std.specs.Cmp.{Equal-is}
 use Rattle.std.specs.Ordering.{eq_by_cmp, is_lt, is_eq, ordering_reverse}
 use Rattle.std.specs.FinMap.{find, get, get-entries, get-from_entries, entries, entries_sorted, values}
 use Rattle.std.specs.FinMap.Entries.{is_sorted, below_all, same_entries}
 use Rattle.std.proofs.lemmas.Cmp.{nat_list_cmp_total, tied_itself}
 use Rattle.std.proofs.lemmas.Map.Lookups.{exact_bytes}
-use Rattle.md_dirs.proofs.Maps.{tied}
 use Rattle.md_core.specs.Mailbox.{name_cmp}
 use Rattle.md_view.specs.declared.entry.Entry.{Entry}
 use Rattle.md_view.specs.Readings.{keyed, by_unique}
@@ -59,7 +59,7 @@ pub tie-itself : (u : List ℕ) → eq_by_cmp name_cmp u u ≡ true
 tie-itself u = ap is_eq (tied_itself nat_list_cmp_total u)
 
 pub tie-same : (u v : List ℕ) → eq_by_cmp name_cmp u v ≡ true → u ≡ v
-tie-same u v t = exact_bytes u v (tied _ t)
+tie-same u v t = exact_bytes u v ((Equal-is _).0 t)
 
 -- what is below another name is below all that this is below
 pub below-less : (u v : List ℕ) (es : List Entry) → name_cmp u v ≡ Less → IsBelow v es → IsBelow u es

@@ -1,40 +1,27 @@
 -- The listing law holds of every legal history, and so of every run.
-use Rattle.std.proofs.Common.{ℕ, ◌≡◌, ◌≢◌, ◌≤◌, List, Option, Some, None, Bool, true, false, cond, T, ◌&&◌, ◌==◌, not, IsSome, refl, sym, ap, subst, ◌∙◌, arith}
-use Rattle.std.specs.Option.{option_map, option_and_then, option_or}
+use Rattle.std.proofs.Common.{ℕ, ◌≡◌, ◌≢◌, ◌≤◌, List, Option, Some, None, Bool, true, false, cond, ◌&&◌, ◌==◌, IsSome, refl, sym, ap, subst, ◌∙◌, arith}
+use Rattle.std.specs.Option.{option_and_then, option_or}
 use Rattle.std.specs.FinMap.{get}
 use Rattle.md_dirs.specs.Path.{place_index}
 use Rattle.md_dirs.specs.declared.paths.Place.{Place}
 use Rattle.md_dirs.specs.declared.paths.Place.TheVariants.{Tmp, New, Cur}
 use Rattle.md_dirs.specs.State.{State}
 use Rattle.md_core.specs.declared.jobs.effect.Effect.{Effect}
-use Rattle.md_core.specs.Mailbox.{Entry as Message, mailbox_of, is_tmp}
-use Rattle.md_core.specs.History.{Listed, Names, listed, names_of, IsLegal}
-use Rattle.md_core.specs.Runs.{Run, moment, effects_of}
+use Rattle.md_core.specs.Mailbox.{mailbox_of}
+use Rattle.md_core.specs.History.{Listed, Names, names_of, IsLegal}
+use Rattle.md_core.specs.Runs.{Run}
 use Rattle.md_core.specs.Interleaving.{Interleaves}
-use Rattle.md_core.proofs.Mailbox.Naming.{get-names}
-use Rattle.md_core.proofs.Mailbox.Shown.{mailbox-shows}
+use Rattle.md_core.specs.Trace.{Trace, state}
+use Rattle.md_core.specs.Tracing.{trace_of}
+use Rattle.md_core.specs.Laws.{IsInCur, IsNotInTmp, KeepsPlaces}
 use Rattle.md_view.specs.declared.entry.Entry.{Entry}
 use Rattle.md_view.specs.Readings.{shown, reading_of, join_of}
 use Rattle.md_view.specs.Law.{names_at, names_after, shown_in, entry_in, entry_among, listing_of, IsOfSomeMoment, IsGoodListing}
 use Rattle.md_view.proofs.Keyed.{lookup, get-by_unique, in-order, first}
 use Rattle.md_view.proofs.Merged.{join-sorted, merged-join, lookup-merged}
 use Rattle.md_view.proofs.Readings.{entry_at, reading-sorted, lookup-reading}
-use Rattle.md_core.proofs.Theorem.Placed.{IsPlaced, IsInCur}
-use Rattle.md_view.proofs.Staying.{never-in_tmp, stays-in_cur, opening_of, count_at, counts-rise, names-counted}
-
--- a message is in new or cur
-pub not_in_tmp : (s : State) (u : List ℕ) (x : Listed) → get (names_of (mailbox_of s)) u ≡ Some x → x.place ≢ Tmp
-not_in_tmp s u x is in_tmp = by (get (mailbox_of s) u) refl
-  where
-    by : (o : Option Message) → get (mailbox_of s) u ≡ o → ⊥
-    by None none = let h : None ≡ Some x = sym (get-names (mailbox_of s) u ∙ ap (option_map (listed u)) none) ∙ is in cc
-    by (Some e) some =
-        let h : Some (listed u e) ≡ Some x = sym (get-names (mailbox_of s) u ∙ ap (option_map (listed u)) some) ∙ is in
-        let same : listed u e ≡ x = cc in
-        let shows = mailbox-shows s u e some in
-        let place : shows.path.place ≡ Tmp = ap (λ (m : Message). m.place) shows.entry ∙ ap (λ (y : Listed). y.place) same ∙ in_tmp in
-        let never : T (not (is_tmp Tmp)) = subst (λ (p : Place). T (not (is_tmp p))) place (first _ _ (subst T (sym shows.message) tt)) in
-        never
+use Rattle.md_view.proofs.Moments.{history_of, opening_of, count_at, counts-rise, names-counted}
+use Rattle.md_view.proofs.Paths.{AreOfPaths, not_in_tmp}
 
 module _ (names : ℕ → Names) (folder i j : ℕ) (order : i ≤ j) (u : List ℕ) (no_tmp : (k : ℕ) (x : Listed) → get (names k) u ≡ Some x → x.place ≢ Tmp)
     (stays : (x : Listed) → get (names i) u ≡ Some x → x.place ≡ Cur → IsInCur (get (names j) u)) where
@@ -181,25 +168,30 @@ good-listing names folder i j order no_tmp stays = record {
       (reading-sorted folder Cur (names j)));
 }
 
-pub good-history : (folders : ℕ) (s : State) (history : List Effect) → IsLegal folders (names_of (mailbox_of s)) history → (folder i j : ℕ) → i ≤ j
+pub good-history : (s : State) (history : List Effect) → AreOfPaths s → KeepsPlaces (names_of (mailbox_of s)) history → (folder i j : ℕ) → i ≤ j
     → IsGoodListing (names_after (names_of (mailbox_of s)) history) folder i j
-good-history folders s history legal folder i j order = good-listing (names_after opening history) folder i j order
-    (λ u k x is. subst (IsPlaced (λ p. p ≢ Tmp)) is (never-in_tmp folders opening history legal u (at_first u (get opening u) refl) k))
-    (λ u x is at. stays-in_cur folders opening history legal i u x is at j order)
+good-history s history of_paths keeps folder i j order = good-listing (names_after (names_of (mailbox_of s)) history) folder i j order
+    (λ u k x is. subst IsNotInTmp is (keeps.never_in_tmp u (at_first u (get (names_of (mailbox_of s)) u) refl) k))
+    (λ u x is at. keeps.stays_in_cur i j order u x is at)
   where
-    opening : Names
-    opening = names_of (mailbox_of s)
+    at_first : (u : List ℕ) (o : Option Listed) → get (names_of (mailbox_of s)) u ≡ o → IsNotInTmp (get (names_of (mailbox_of s)) u)
+    at_first u None is = subst IsNotInTmp (sym is) tt
+    at_first u (Some x) is = subst IsNotInTmp (sym is) (not_in_tmp s u x (of_paths u x is))
 
-    at_first : (u : List ℕ) (o : Option Listed) → get (names_of (mailbox_of s)) u ≡ o → IsPlaced (λ p. p ≢ Tmp) (get (names_of (mailbox_of s)) u)
-    at_first u None is = subst (IsPlaced (λ p. p ≢ Tmp)) (sym is) tt
-    at_first u (Some x) is = subst (IsPlaced (λ p. p ≢ Tmp)) (sym is) (not_in_tmp s u x is)
+-- the law of legal histories
+abbrev pub LegalKeepPlaces : Type 0
+LegalKeepPlaces = (folders : ℕ) (opening : Names) (history : List Effect) → IsLegal folders opening history → KeepsPlaces opening history
 
-pub good-run : (r : Run) → Interleaves r → (folder i j : ℕ) → i ≤ j → IsGoodListing (names_at r) folder i j
-good-run r all folder i j order = good-listing (names_at r) folder i j order
-    (λ u k x is. not_in_tmp (moment r k).dirs u x is)
-    (λ u x is at.
-    let counted : (k : ℕ) → get (names_at r k) u ≡ get (names_after (opening_of r all) (effects_of r) (count_at r all k)) u =
-    λ k. ap (λ (m : Names). get m u) (names-counted r all k) in
-    subst IsInCur (sym (counted j))
-    (stays-in_cur r.image.folders (opening_of r all) (effects_of r) all.legal (count_at r all i) u x (sym (counted i) ∙ is) at (count_at r all j)
-    (counts-rise r all i j order)))
+module _ (of_paths : (s : State) → AreOfPaths s) (keeps : LegalKeepPlaces) where
+  pub good-run : (r : Run) → Interleaves (trace_of r) → (folder i j : ℕ) → i ≤ j → IsGoodListing (names_at r) folder i j
+  good-run r all folder i j order = good-listing (names_at r) folder i j order
+      (λ u k x is. not_in_tmp (state t k) u x (of_paths (state t k) u x is))
+      (λ u x is at.
+      let counted : (k : ℕ) → get (names_at r k) u ≡ get (names_after (opening_of t all) (history_of t all) (count_at t all k)) u =
+      λ k. ap (λ (m : Names). get m u) (names-counted t all k) in
+      subst IsInCur (sym (counted j))
+      ((keeps t.image.folders (opening_of t all) (history_of t all) all.legal).stays_in_cur (count_at t all i) (count_at t all j)
+      (counts-rise t all i j order) u x (sym (counted i) ∙ is) at))
+    where
+      t : Trace
+      t = trace_of r

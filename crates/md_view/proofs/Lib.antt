@@ -2,11 +2,12 @@ pub mod Keyed
 pub mod Merged
 pub mod Readings
 pub mod MadeOf
+pub mod Paths
 pub mod Rows
 pub mod Gathering
 pub mod Distinct
 pub mod Ordered
-pub mod Staying
+pub mod Moments
 pub mod LawHolds
 pub mod Made
 pub mod Waiting

@@ -9,11 +9,11 @@ use Rattle.md_dirs.specs.declared.paths.Place.{Place}
 use Rattle.md_dirs.specs.declared.paths.Place.TheVariants.{Tmp, New, Cur}
 use Rattle.md_core.specs.Mailbox.{mailbox_of, is_tmp, HasOnePath}
 use Rattle.md_core.specs.History.{Listed, names_of}
-use Rattle.md_core.proofs.Lists.Members.{Has}
+use Rattle.lists.proofs.Members.{Has}
 use Rattle.md_view.specs.declared.entry.Entry.{Entry}
 use Rattle.md_view.specs.Readings.{shown, reading_of}
 use Rattle.md_view.proofs.Keyed.{IsSorted}
-use Rattle.md_view.proofs.LawHolds.{not_in_tmp}
+use Rattle.md_view.proofs.Paths.{AreOfPaths, AreListed, not_in_tmp}
 use Rattle.md_view.proofs.Readings.{entry_at}
 use Rattle.md_view.proofs.Rows.{in_rows, reading-by, rows-reading}
 use Rattle.md_view.proofs.Distinct.{rows-apart}
@@ -24,8 +24,8 @@ and-false true = refl
 and-false false = refl
 
 -- there is no message in tmp
-pub reading-tmp : (s : State) (folder : ℕ) → [] ≡ reading_of (names_of (mailbox_of s)) folder Tmp
-reading-tmp s folder = reading-by s folder Tmp [] tt (λ u. by u (get (names_of (mailbox_of s)) u) refl)
+pub reading-tmp : (s : State) → AreOfPaths s → (folder : ℕ) → [] ≡ reading_of (names_of (mailbox_of s)) folder Tmp
+reading-tmp s of_paths folder = reading-by s folder Tmp [] tt (λ u. by u (get (names_of (mailbox_of s)) u) refl)
   where
     by : (u : List ℕ) (o : Option Listed) → get (names_of (mailbox_of s)) u ≡ o
         → None ≡ option_and_then (entry_at folder Tmp u) (get (names_of (mailbox_of s)) u)
@@ -39,15 +39,16 @@ reading-tmp s folder = reading-by s folder Tmp [] tt (λ u. by u (get (names_of 
             ∙ ap (λ b. cond {A = Option Entry} b (Some (shown (u, x))) None) (and-false (x.folder == folder))
 
         placed : (p : Place) → x.place ≡ p → entry_at folder Tmp u x ≡ None
-        placed Tmp at = absurd (not_in_tmp s u x is at)
+        placed Tmp at = absurd (not_in_tmp s u x (of_paths u x is) at)
         placed New at = elsewhere New at refl
         placed Cur at = elsewhere Cur at refl
 
-module _ (s : State) (one : HasOnePath s) (folder : ℕ) (place : Place) (not_tmp : is_tmp place ≡ false) where
+module _ (s : State) (of_paths : AreOfPaths s) (are_listed : AreListed s) (one : HasOnePath s) (folder : ℕ) (place : Place)
+    (not_tmp : is_tmp place ≡ false) where
   -- the rows were in order of unique name
   pub reading-in_order : (es : List Entry) → es ≡ in_rows s folder place → IsSorted es → es ≡ reading_of (names_of (mailbox_of s)) folder place
   reading-in_order es is sorted =
-      rows-reading s folder place es sorted one not_tmp (λ e has. subst (λ (l : List Entry). Has l e) is has)
+      rows-reading s folder place es sorted of_paths are_listed not_tmp (λ e has. subst (λ (l : List Entry). Has l e) is has)
       (λ e has. subst (λ (l : List Entry). Has l e) (sym is) has)
 
   -- or they were sorted
@@ -58,6 +59,6 @@ module _ (s : State) (one : HasOnePath s) (folder : ℕ) (place : Place) (not_tm
 
     pub reading-sorted_by : es ≡ reading_of (names_of (mailbox_of s)) folder place
     reading-sorted_by =
-        rows-reading s folder place es sorted-in_order one not_tmp
+        rows-reading s folder place es sorted-in_order of_paths are_listed not_tmp
         (λ e has. subst (λ (l : List Entry). Has l e) is (permuted-has was es permutes e has))
         (λ e has. has-permuted was es permutes e (subst (λ (l : List Entry). Has l e) (sym is) has))

@@ -1,7 +1,7 @@
 -- Members of a list that was made of another, and of one that was filtered.
 use Rattle.std.proofs.Common.{◌≡◌, inl, inr, List, [], ◌∷◌, Option, Some, None, Bool, true, false, cond, map, filter, refl, sym, ap, subst, ◌∙◌}
 use Rattle.std.specs.List.{filter_map, cons_option}
-use Rattle.md_core.proofs.Lists.Members.{Has}
+use Rattle.lists.proofs.Members.{Has}
 
 pub filter_map-map : {A B C : Type 0} (f : A → B) (g : B → Option C) (xs : List A) → filter_map g (map f xs) ≡ filter_map (λ x. g (f x)) xs
 filter_map-map f g [] = refl

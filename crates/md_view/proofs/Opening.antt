@@ -1,44 +1,34 @@
 -- The readings of all folders of directories hold their names.
 use Rattle.std.proofs.Common.{ℕ, ◌≡◌, ◌≤◌, ◌<◌, ◌^◌, List, [], Option, Some, None, inl, inr, Bool, true, false, cond, not, length, slice_get, refl, sym, ap, subst, ◌∙◌, arith, eqb-true}
 use Rattle.std.proofs.lemmas.Option.{slice_get_cases}
-use Rattle.std.specs.Option.{option_map, option_and_then, option_map_or}
+use Rattle.std.specs.Option.{option_and_then, option_map_or}
 use Rattle.std.specs.FinMap.{get}
 use Rattle.md_name.specs.Names.{unique_of, is_message_name}
 use Rattle.md_dirs.specs.Path.{place_index}
 use Rattle.md_dirs.specs.State.{State, IsSound}
 use Rattle.md_dirs.specs.declared.paths.Place.{Place}
 use Rattle.md_dirs.specs.declared.paths.Place.TheVariants.{Tmp, New, Cur}
-use Rattle.md_core.specs.Mailbox.{Entry as Message, mailbox_of, is_tmp}
-use Rattle.md_core.specs.History.{Listed, listed, name_of}
-use Rattle.md_core.proofs.Mailbox.Naming.{get-names}
-use Rattle.md_core.proofs.Mailbox.Shown.{mailbox-shows}
-use Rattle.md_core.proofs.Mailbox.WholeName.{whole-name}
+use Rattle.md_core.specs.Mailbox.{is_tmp}
+use Rattle.md_core.specs.History.{Listed}
 use Rattle.md_view.specs.declared.entry.Entry.{Entry}
 use Rattle.md_view.specs.Readings.{shown, is_at, reading_of}
-use Rattle.md_view.specs.Named.{Named, named_of, IsMessage, AreMessages}
+use Rattle.md_view.specs.Named.{Named, named_of, AreMessages}
 use Rattle.md_view.specs.Held.{FolderLists, list_of, AreHeld}
+use Rattle.md_view.proofs.Paths.{AreOfPaths}
 use Rattle.md_view.proofs.Readings.{entry_at}
 use Rattle.md_view.proofs.Rows.{and-first, and-second, not-true}
 use Rattle.md_view.proofs.Holding.{shown_at, reading-is}
 
 -- each name of sound directories is a message's
-pub sound-messages : (s : State) → IsSound s → AreMessages (named_of s)
-sound-messages s sound u x is = by (get (mailbox_of s) u) refl
-  where
-    by : (o : Option Message) → get (mailbox_of s) u ≡ o → IsMessage s.folders u x
-    by None none = let never : None ≡ Some x = sym (get-names (mailbox_of s) u ∙ ap (option_map (listed u)) none) ∙ is in cc
-    by (Some m) some =
-        let here : Some (listed u m) ≡ Some x = sym (get-names (mailbox_of s) u ∙ ap (option_map (listed u)) some) ∙ is in
-        let same : listed u m ≡ x = cc in
-        let shows = mailbox-shows s u m some in
-        let p = shows.path in
-        let name : p.name ≡ name_of u m.info = sym (whole-name p.name) ∙ (λ i. name_of (shows.unique i) (shows.entry i).info) in
-        subst (IsMessage s.folders u) same (record {
-          folder = subst (λ (e : Message). e.folder < s.folders) shows.entry (sound.housed p shows.file shows.there);
-          place = ap (λ (e : Message). is_tmp e.place) (sym shows.entry) ∙ not-true _ (and-first _ _ shows.message);
-          name = ap is_message_name (sym name) ∙ and-second _ _ shows.message;
-          unique = ap unique_of (sym name) ∙ shows.unique;
-        })
+pub sound-messages : (s : State) → AreOfPaths s → IsSound s → AreMessages (named_of s)
+sound-messages s of_paths sound u x is =
+    let at = of_paths u x is in
+    record {
+      folder = subst (λ (y : Listed). y.folder < s.folders) at.shown (sound.housed at.path at.file at.there);
+      place = ap (λ (y : Listed). is_tmp y.place) (sym at.shown) ∙ not-true _ (and-first _ _ at.message);
+      name = ap (λ (y : Listed). is_message_name y.name) (sym at.shown) ∙ and-second _ _ at.message;
+      unique = ap (λ (y : Listed). unique_of y.name) (sym at.shown) ∙ at.unique;
+    }
 
 module _ (n : Named) (are : AreMessages n) where
   -- where no message is, none is read

@@ -9,7 +9,7 @@ use Rattle.std.proofs.lemmas.List.Sorted.{sum_by-IsPermutation, All-permutation,
 use Rattle.std.proofs.lemmas.List.Elements.{All-head, All-tail, All-cons}
 use Rattle.std.proofs.lemmas.List.Sums.{length-filter}
 use Rattle.md_core.specs.Mailbox.{name_cmp}
-use Rattle.md_core.proofs.Lists.Members.{Has}
+use Rattle.lists.proofs.Members.{Has}
 use Rattle.md_view.specs.declared.entry.Entry.{Entry}
 use Rattle.md_view.proofs.Keyed.{IsSorted, both, first, is_less, turned, tie-itself, below-less}
 

@@ -11,7 +11,7 @@ use Rattle.std.specs.Ordering.{eq_by_cmp, is_lt, is_eq, ordering_reverse}
 use Rattle.std.specs.FinMap.Entries.{find, is_sorted, put, where_key, by_order, is_sorted-put, find-put, is_sorted-where_key, find-where_key}
 use Rattle.std.proofs.lemmas.Cmp.{nat_list_cmp_total}
 use Rattle.std.proofs.lemmas.Map.Lookups.{exact_bytes}
-use Rattle.md_dirs.proofs.Maps.{by_key}
+use Rattle.lists.proofs.Maps.{by_key}
 use Rattle.md_dirs.specs.declared.paths.Place.TheVariants.{New}
 use Rattle.md_core.specs.Mailbox.{name_cmp}
 use Rattle.md_view.specs.declared.entry.Entry.{Entry}

@@ -14,17 +14,16 @@ use Rattle.md_dirs.specs.declared.paths.Place.{Place}
 use Rattle.md_dirs.specs.declared.paths.Place.TheVariants.{Tmp, New, Cur}
 use Rattle.md_dirs.proofs.PathOrder.{path_total, path_exact}
 use Rattle.md_name.specs.Names.{unique_of, info_of, is_message_name}
-use Rattle.md_core.specs.Mailbox.{Entry as Message, mailbox_of, bytes_of, is_tmp, entry_of, name_cmp, HasOnePath}
-use Rattle.md_core.specs.History.{Listed, Names, listed, name_of, names_of}
-use Rattle.md_core.proofs.Lists.Members.{Has, get-has, has-get}
-use Rattle.md_core.proofs.Mailbox.Naming.{get-names}
-use Rattle.md_core.proofs.Mailbox.Shown.{Shows, mailbox-shows, shows-mailbox}
-use Rattle.md_core.proofs.Mailbox.WholeName.{whole-name}
+use Rattle.md_core.specs.Mailbox.{mailbox_of, bytes_of, is_tmp, name_cmp}
+use Rattle.md_core.specs.History.{Listed, Names, names_of}
+use Rattle.lists.proofs.Members.{Has, get-has, has-get}
+use Rattle.md_core.specs.Laws.{listed_at}
 use Rattle.md_view.specs.declared.entry.Entry.{Entry}
 use Rattle.md_view.specs.Readings.{shown, is_at, keyed, reading_of}
 use Rattle.md_view.specs.Rows.{entry_of_row, entries_of}
 use Rattle.md_view.proofs.Keyed.{lookup, IsSorted, sorted-values}
 use Rattle.md_view.proofs.MadeOf.{filter_map-map, came, goes}
+use Rattle.md_view.proofs.Paths.{AreOfPaths, AreListed}
 use Rattle.md_view.proofs.Readings.{entry_at, reading-sorted, lookup-reading}
 
 by_bool : {A B : Type 0} (f : A → B) (b : Bool) (x : A) → option_map f (cond b (Some x) None) ≡ cond b (Some (f x)) None
@@ -131,62 +130,55 @@ module _ (s : State) (folder : ℕ) (place : Place) where
   shown_at u = option_and_then (entry_at folder place u) (get names u)
 
   -- a message of a row is shown
-  row-shown : HasOnePath s → is_tmp place ≡ false → (e : Entry) → Has in_rows e → shown_at e.unique ≡ Some e
-  row-shown one not_tmp e has =
+  row-shown : AreListed s → is_tmp place ≡ false → (e : Entry) → Has in_rows e → shown_at e.unique ≡ Some e
+  row-shown are_listed not_tmp e has =
       let from = came in_place row_entry (entries s.names) e (subst (λ (l : List Entry). Has l e) in_rows-is has) in
       by from.0.0 from.0.1 (has-get path_total path_exact s.names from.0 from.1) from.2 from.3
     where
       by : (p : Path) (n : ℕ) → file_at s p ≡ Some n → is_in folder place p ≡ true → row_entry (p, n) ≡ Some e → shown_at e.unique ≡ Some e
       by p n there inside made =
-          let says = if-some (is_message_name p.name) (row_says place p.name (file_by s.files n)) e (sym (entry-row place p.name (file_by s.files n)) ∙ made) in
+          let file : Option File = file_by s.files n in
+          let says = if-some (is_message_name p.name) (row_says place p.name file) e (sym (entry-row place p.name file) ∙ made) in
           let place_is : p.place ≡ place = same_place p.place place
           (eqb-true (place_index p.place) (place_index place) (and-second (p.folder == folder) (place_index p.place == place_index place) inside)) in
           let u_is : unique_of p.name ≡ e.unique = ap (λ (x : Entry). x.unique) says.1 in
-          let shows : Shows s (unique_of p.name) (entry_of s p n) = record {
+          let x : Listed = listed_at s p n in
+          let got : get names e.unique ≡ Some x = are_listed e.unique x (record {
             path = p;
             file = n;
             there = there;
-            message = and-both _ _ (ap (λ (x : Place). not (is_tmp x)) place_is ∙ ap not not_tmp) says.0;
-            unique = refl;
-            entry = refl;
-          } in
-          let x : Listed = listed (unique_of p.name) (entry_of s p n) in
-          let got : get names (unique_of p.name) ≡ Some x =
-          get-names (mailbox_of s) (unique_of p.name)
-          ∙ ap (option_map (listed (unique_of p.name))) (shows-mailbox s (unique_of p.name) (entry_of s p n) one shows) in
-          let test : entry_at folder place (unique_of p.name) x ≡ Some (shown (unique_of p.name, x)) =
-          ap (λ b. cond {A = Option Entry} b (Some (shown (unique_of p.name, x))) None) inside in
-          let same : shown (unique_of p.name, x) ≡ row_says place p.name (file_by s.files n) =
-          (λ i. record { unique = unique_of p.name; place = place_is i; name = whole-name p.name i; size = length (bytes_of (file_by s.files n)) }) in
-          ap shown_at (sym u_is) ∙ ap (option_and_then (entry_at folder place (unique_of p.name))) got ∙ test ∙ ap Some (same ∙ says.1)
+            message = and-both _ _ (ap (λ (q : Place). not (is_tmp q)) place_is ∙ ap not not_tmp) says.0;
+            unique = u_is;
+            shown = refl;
+          }) in
+          let same : shown (e.unique, x) ≡ row_says place p.name file =
+          (λ i. record { unique = sym u_is i; place = place_is i; name = p.name; size = length (bytes_of file) }) in
+          ap (option_and_then (entry_at folder place e.unique)) got
+          ∙ ap (λ b. cond {A = Option Entry} b (Some (shown (e.unique, x))) None) inside ∙ ap Some (same ∙ says.1)
 
   -- a message that is shown has its row
-  shown-row : (u : List ℕ) (e : Entry) → shown_at u ≡ Some e → Has in_rows e × (u ≡ e.unique)
-  shown-row u e is = by (get (mailbox_of s) u) refl
+  shown-row : AreOfPaths s → (u : List ℕ) (e : Entry) → shown_at u ≡ Some e → Has in_rows e × (u ≡ e.unique)
+  shown-row of_paths u e is = by (get names u) refl
     where
-      by : (o : Option Message) → get (mailbox_of s) u ≡ o → Has in_rows e × (u ≡ e.unique)
-      by None none =
-          let h : None ≡ Some e = sym (ap (option_and_then (entry_at folder place u)) (get-names (mailbox_of s) u ∙ ap (option_map (listed u)) none)) ∙ is in
-          cc
-      by (Some m) some =
-          let h : entry_at folder place u (listed u m) ≡ Some e =
-          sym (ap (option_and_then (entry_at folder place u)) (get-names (mailbox_of s) u ∙ ap (option_map (listed u)) some)) ∙ is in
-          let says = if-some (is_at folder place (u, listed u m)) (shown (u, listed u m)) e h in
-          let shows = mailbox-shows s u m some in
-          let p : Path = shows.path in
-          let file : Option File = file_by s.files shows.file in
+      by : (o : Option Listed) → get names u ≡ o → Has in_rows e × (u ≡ e.unique)
+      by None none = let h : None ≡ Some e = sym (ap (option_and_then (entry_at folder place u)) none) ∙ is in cc
+      by (Some x) some =
+          let h : entry_at folder place u x ≡ Some e = sym (ap (option_and_then (entry_at folder place u)) some) ∙ is in
+          let says = if-some (is_at folder place (u, x)) (shown (u, x)) e h in
+          let at = of_paths u x some in
+          let p : Path = at.path in
+          let file : Option File = file_by s.files at.file in
           let inside : is_in folder place p ≡ true =
-          (λ i. ((shows.entry i).folder == folder) && (place_index (shows.entry i).place == place_index place)) ∙ says.0 in
-          let place_is : place ≡ m.place = sym (same_place m.place place (eqb-true (place_index m.place) (place_index place) (and-second _ _ says.0))) in
-          let name_is : p.name ≡ name_of u m.info = sym (whole-name p.name) ∙ (λ i. name_of (shows.unique i) (shows.entry i).info) in
-          let row : row_says place p.name file ≡ shown (u, listed u m) =
-          (λ i. record { unique = shows.unique i; place = place_is i; name = name_is i; size = length (shows.entry i).bytes }) in
-          let made : row_entry (p, shows.file) ≡ Some e =
+          (λ i. ((at.shown i).folder == folder) && (place_index (at.shown i).place == place_index place)) ∙ says.0 in
+          let place_is : place ≡ x.place = sym (same_place x.place place (eqb-true (place_index x.place) (place_index place) (and-second _ _ says.0))) in
+          let row : row_says place p.name file ≡ shown (u, x) =
+          (λ i. record { unique = at.unique i; place = place_is i; name = (at.shown i).name; size = (at.shown i).size }) in
+          let made : row_entry (p, at.file) ≡ Some e =
           entry-row place p.name file
-          ∙ ap (λ b. cond {A = Option Entry} b (Some (row_says place p.name file)) None) (and-second _ _ shows.message)
+          ∙ ap (λ b. cond {A = Option Entry} b (Some (row_says place p.name file)) None) (and-second _ _ at.message)
           ∙ ap Some (row ∙ says.1) in (
             subst (λ (l : List Entry). Has l e) (sym in_rows-is)
-                (goes in_place row_entry (entries s.names) (p, shows.file) e (get-has path_total path_exact s.names p shows.file shows.there) inside made),
+                (goes in_place row_entry (entries s.names) (p, at.file) e (get-has path_total path_exact s.names p at.file at.there) inside made),
             ap (λ (x : Entry). x.unique) says.1,
           )
 
@@ -198,8 +190,8 @@ module _ (s : State) (folder : ℕ) (place : Place) where
         ∙ sym (sorted-values (reading_of names folder place) (reading_of names folder place) (reading-sorted folder place names) (λ u. refl))
 
     -- entries in order are the reading, if they are those of the rows
-    pub rows-reading : HasOnePath s → is_tmp place ≡ false → ((e : Entry) → Has es e → Has in_rows e) → ((e : Entry) → Has in_rows e → Has es e)
+    pub rows-reading : AreOfPaths s → AreListed s → is_tmp place ≡ false → ((e : Entry) → Has es e → Has in_rows e) → ((e : Entry) → Has in_rows e → Has es e)
         → es ≡ reading_of names folder place
-    rows-reading one not_tmp there back = reading-by (λ u. same_option (lookup u es) (shown_at u)
-        (λ e is. let h = found-has es sorted u e is in ap shown_at h.1 ∙ row-shown one not_tmp e (there e h.0))
-        (λ e is. let h = shown-row u e is in ap (λ v. lookup v es) h.1 ∙ has-found es sorted e (back e h.0)))
+    rows-reading of_paths are_listed not_tmp there back = reading-by (λ u. same_option (lookup u es) (shown_at u)
+        (λ e is. let h = found-has es sorted u e is in ap shown_at h.1 ∙ row-shown are_listed not_tmp e (there e h.0))
+        (λ e is. let h = shown-row of_paths u e is in ap (λ v. lookup v es) h.1 ∙ has-found es sorted e (back e h.0)))

@@ -4,19 +4,20 @@ use Rattle.std.specs.Prelude.{ℕ, ◌≡◌, ◌≤◌, ◌==◌, ◌⊎◌, Li
 use Rattle.std.specs.Option.{option_and_then}
 use Rattle.std.specs.FinMap as finmap
 use Rattle.md_dirs.specs.declared.paths.Place.TheVariants.{New, Cur}
-use Rattle.md_core.specs.Mailbox.{mailbox_of}
 use Rattle.md_core.specs.History.{Listed, Names, names_of, after}
 use Rattle.md_core.specs.declared.jobs.call.Call.{Call}
 use Rattle.md_core.specs.declared.jobs.effect.Effect.{Effect}
 use Rattle.md_core.specs.Machine.{Marked}
-use Rattle.md_core.specs.Runs.{Run, moment, and_events, and_call}
+use Rattle.md_core.specs.Trace.{box}
+use Rattle.md_core.specs.Tracing.{trace_of}
+use Rattle.md_core.specs.Runs.{Run, and_events, and_call}
 use Rattle.md_view.specs.declared.entry.Entry.{Entry}
 use Rattle.md_view.specs.declared.listing.Listing.{Listing}
 use Rattle.md_view.specs.Readings.{shown, reading_of, by_unique, join_of, IsInOrder}
 
 -- the names of the mailbox at a moment of a run
 abbrev pub names_at : Run → ℕ → Names
-names_at r k = names_of (mailbox_of (moment r k).dirs)
+names_at r k = names_of (box (trace_of r) k)
 
 -- the names after the first k effects of a history
 abbrev pub names_after : Names → List Effect → ℕ → Names

@@ -17,7 +17,7 @@ pub struct Entry {
 }
 
 impl Entry {
-    /// A copy. It is refused only for want of memory.
+    /// A copy. It is refused only when out of memory.
     pub fn again(&self, alloc: Global) -> Result<Entry, AllocError>
         ensures { IfOk result (λ entry. entry ≡ self.now) }
     {

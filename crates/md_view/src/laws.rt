@@ -2,12 +2,13 @@
 ghost use Rattle.std.specs.Prelude.{◌≡◌, ◌≤◌, List, true};
 ghost use Rattle.md_core.specs.History.{names_of, after, IsAllowedAfter, IsLegal};
 ghost use Rattle.md_core.specs.Mailbox.{mailbox_of};
-ghost use Rattle.md_core.specs.Runs.{dirs_of};
+ghost use Rattle.md_core.specs.Runs.{Run, dirs_of};
+ghost use Rattle.md_core.specs.Stepping.{IsRun};
 ghost use Rattle.md_core.specs.declared.jobs.effect.Effect.{Effect as EffectSeen};
+ghost use Rattle.md_view.specs.declared.listing.Listing.{Listing as BegunListing};
 ghost use Rattle.md_view.specs.Named.{Named, AreMessages, fits};
 ghost use Rattle.md_view.specs.Law.{names_at, names_after, IsGoodListing, HasBegun, GoesOn};
 
-use crate::listing::Listing;
 use md_core::{Effect, World};
 use md_dirs::Dirs;
 
@@ -19,6 +20,8 @@ pub fn a_listing_is_good<D: Dirs>(world: &World<D>, folder: u32, read_new: usize
     ensures { IsGoodListing (names_at world.now) folder read_new read_cur }
 {
     world.interleaves();
+    md_core::laws::names_show_their_directories();
+    md_core::laws::legal_histories_keep_messages_out_of_new();
 }
 
 /// The same for whoever sees effects alone, and no steps: the moments are those of any legal history from the names of a world.
@@ -32,15 +35,18 @@ pub fn a_listing_of_histories_is_good<D: Dirs>(
     requires legal { IsLegal (dirs_of opening.now).folders (names_of (mailbox_of (dirs_of opening.now))) history.now }
     requires order { read_new ≤ read_cur }
     ensures { IsGoodListing (names_after (names_of (mailbox_of (dirs_of opening.now))) history.now) folder read_new read_cur }
-{}
+{
+    md_core::laws::names_show_their_directories();
+    md_core::laws::legal_histories_keep_messages_out_of_new();
+}
 
 /// A listing that has begun may be finished after any steps of the world's jobs, and after calls that were submitted.
-pub fn a_listing_may_wait<D: Dirs>(before: &World<D>, after: &World<D>, listing: &Listing)
-    requires begun { HasBegun before.now listing.now }
-    requires goes_on { GoesOn before.now after.now }
-    ensures { HasBegun after.now listing.now }
+pub fn a_listing_may_wait()
+    ensures { (before after : Run) → IsRun before → IsRun after → GoesOn before after
+        → (listing : BegunListing) → HasBegun before listing → HasBegun after listing }
 {
-    before.interleaves();
+    md_core::laws::steps_keep_moments();
+    md_core::laws::calls_keep_moments();
 }
 
 /// What a legal history allows fits: where a history led to names of messages, the change of every effect that is allowed next fits

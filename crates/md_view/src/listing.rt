@@ -37,6 +37,7 @@ impl Listing {
         ensures moment { IfOk result (λ listing. listing.begun ≡ length world.now.events) }
         ensures refusal { IfErr result (λ error. error ≡ reading_refusal (dirs_of world.now) folder) }
     {
+        world.interleaves();
         let new = reading(alloc, world, folder, Place::New)?;
         let begun = world.log().len();
         Ok(Listing { folder, begun, new })
@@ -51,6 +52,8 @@ impl Listing {
         ensures refusal { IfErr result (λ error. error ≡ reading_refusal (dirs_of world.now) self.now.folder) }
     {
         world.interleaves();
+        md_core::laws::names_show_their_directories();
+        md_core::laws::legal_histories_keep_messages_out_of_new();
         let cur = reading(alloc, world, self.folder, Place::Cur)?;
         join(alloc, &self.new, &cur)
     }
@@ -62,6 +65,7 @@ pub fn list<D: Dirs>(alloc: Global, world: &World<D>, folder: u32) -> Result<Vec
     ensures entries { IfOk result (λ all. all.items ≡ listing_of (names_at world.now) folder (length world.now.events) (length world.now.events)) }
     ensures refusal { IfErr result (λ error. error ≡ reading_refusal (dirs_of world.now) folder) }
 {
+    world.interleaves();
     let new = reading(alloc, world, folder, Place::New)?;
     let cur = reading(alloc, world, folder, Place::Cur)?;
     Ok(merge(alloc, new, cur)?)

@@ -12,7 +12,7 @@ use std::collections::VecDeque;
 /// The listing of a folder: the entries of cur, and those of new whose unique name isn't in cur, in order of unique name.
 ///
 /// New is to be read before cur: a message that is moved from new to cur between them is then in both, and cur counts. Both lists are in
-/// order of unique name, none twice, as `reading` gives them. It is refused only for want of memory.
+/// order of unique name, none twice, as `reading` gives them. It is refused only when out of memory.
 pub fn join(alloc: Global, new: &[Entry], cur: &[Entry]) -> Result<Vec<Entry>, ViewError>
     requires new { IsInOrder new.now }
     requires cur { IsInOrder cur.now }

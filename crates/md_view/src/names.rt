@@ -42,7 +42,7 @@ impl Model for Names {
 }
 
 impl Names {
-    /// The names of a world now. It is refused only for want of memory.
+    /// The names of a world now. It is refused only when out of memory.
     pub fn of<D: Dirs>(alloc: Global, world: &World<D>) -> Result<Names, ViewError>
         ensures names { IfOk result (λ names. names ≡ named_of (dirs_of world.now)) }
         ensures refusal { IfErr result (λ error. error ≡ NoMemory) }
@@ -53,7 +53,7 @@ impl Names {
 
     /// Makes a change, where it fits, and otherwise none: where a folder or the old name isn't there, a place is tmp, the new name is no
     /// message's, or another message has its unique name. A rename that keeps its place in the order moves no other name, and a name at the
-    /// end of the order none either. It is refused only for want of memory, and then nothing has changed.
+    /// end of the order none either. It is refused only when out of memory, and then nothing has changed.
     pub fn apply(&mut self, change: &Change) -> Result<(), ViewError>
         ensures names { OnOk result (self.new ≡ applied self.old change.now) }
         ensures unchanged { OnErr result (self.new ≡ self.old) }
@@ -80,7 +80,7 @@ impl Names {
         self.folders.len() as u32
     }
 
-    /// A copy. It is refused only for want of memory.
+    /// A copy. It is refused only when out of memory.
     pub fn again(&self, alloc: Global) -> Result<Names, AllocError>
         ensures { IfOk result (λ names. names ≡ self.now) }
     {

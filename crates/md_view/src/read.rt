@@ -16,7 +16,7 @@ use std::alloc::{AllocError, Global};
 /// The messages of a directory of a folder now, in order of unique name. There are none in tmp.
 ///
 /// As in maildir(5), a name that begins with a dot is no message's, and neither is one with nothing in front of its first colon. It is
-/// refused where the folder isn't there, and otherwise only for want of memory.
+/// refused where the folder isn't there, and otherwise only when out of memory.
 pub fn reading<D: Dirs>(
     alloc: Global,
     world: &World<D>,
@@ -32,6 +32,7 @@ pub fn reading<D: Dirs>(
         return Err(ViewError::NoFolder);
     }
     world.interleaves();
+    md_core::laws::names_show_their_directories();
     if is_tmp(place) {
         return Ok(Vec::new(alloc));
     }

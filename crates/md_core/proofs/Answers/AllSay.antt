@@ -4,9 +4,10 @@ use Rattle.md_core.specs.declared.jobs.answer.Answer.{Answer}
 use Rattle.md_core.specs.declared.jobs.answer.Answer.TheVariants as answer
 use Rattle.md_core.specs.declared.jobs.call.Call.{Call}
 use Rattle.md_core.specs.Machine.{answered, job_at}
-use Rattle.md_core.specs.Runs.{Run, jobs_of, call_at}
-use Rattle.md_core.specs.Interleaving.{IsRun}
-use Rattle.md_core.specs.Answering.{Says}
+use Rattle.md_core.specs.Runs.{Run, jobs_of}
+use Rattle.md_core.specs.Trace.{call_at}
+use Rattle.md_core.specs.Stepping.{IsRun}
+use Rattle.md_core.proofs.Answers.OfRun.{Says}
 use Rattle.md_core.proofs.Answers.Touches.OfMailbox.{says_of_mailbox}
 use Rattle.md_core.proofs.Answers.Files.OfTime.{says_of_time}
 use Rattle.md_core.proofs.Answers.Files.Unlinks.{is-delivered, is-faulted, is-undone}

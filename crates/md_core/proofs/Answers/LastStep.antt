@@ -9,10 +9,11 @@ use Rattle.md_core.specs.declared.jobs.call.Call.TheVariants as call
 use Rattle.md_core.specs.declared.jobs.step.DirReply.{DirReply}
 use Rattle.md_core.specs.declared.jobs.task.Task.{Task}
 use Rattle.md_core.specs.Turn.{After, Turn, rows_for}
-use Rattle.md_core.specs.Machine.{Machine, Standing, working, answered, Marked, Done, job_at, new_job, moment_of, turn_of, replied, standing_of, done, done_by}
-use Rattle.md_core.specs.Runs.{Run, moment, beginning, jobs_of, call_at, done_at}
-use Rattle.md_core.specs.Interleaving.{IsRun}
-use Rattle.md_core.specs.Answering.{IsStep}
+use Rattle.md_core.specs.Machine.{Machine, Standing, working, answered, Marked, job_at, new_job, moment_of, turn_of, replied, standing_of, done, done_by}
+use Rattle.md_core.specs.Trace.{Step, call_at}
+use Rattle.md_core.specs.Runs.{Run, moment, beginning, jobs_of, done_at}
+use Rattle.md_core.specs.Stepping.{IsRun}
+use Rattle.md_core.proofs.Answers.OfRun.{IsStep}
 use Rattle.md_core.proofs.Lists.Places.{at_place}
 use Rattle.md_core.proofs.Runs.Events.{goes_on-exact, happens-turned, done-turned, job_at-within}
 use Rattle.md_core.proofs.Runs.ByEvent.{moment-start, moment-more, moment-over, moment-end}
@@ -36,7 +37,7 @@ pub record IsTurn (r : Run) (k job : ℕ) : Type 0 where
   pub task : Task
   pub there : job_at (moment r k).jobs job ≡ Some (working task)
 
-abbrev pub done_in : (r : Run) (k job : ℕ) → IsTurn r k job → Done
+abbrev pub done_in : (r : Run) (k job : ℕ) → IsTurn r k job → Step
 done_in r k job t = done_by (moment r k) t.event t.task
 
 abbrev pub left_by : (r : Run) (k job : ℕ) → IsTurn r k job → After Task

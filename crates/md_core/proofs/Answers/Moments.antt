@@ -10,11 +10,13 @@ use Rattle.md_core.specs.declared.jobs.call.Call.{Call}
 use Rattle.md_core.specs.declared.jobs.step.DirReply.{DirReply}
 use Rattle.md_core.specs.declared.jobs.step.Moment.{Moment}
 use Rattle.md_core.specs.declared.jobs.task.Task.{Task}
-use Rattle.md_core.specs.Turn.{Asked, After, ask_of, rows_for, state_by}
-use Rattle.md_core.specs.Machine.{Machine, Standing, working, Marked, Done, done, job_at, moment_of, turn_of, taken}
-use Rattle.md_core.specs.Runs.{Run, moment, done_at, call_at, first_step}
-use Rattle.md_core.specs.Interleaving.{IsRun}
-use Rattle.md_core.specs.Answering.{IsStep}
+use Rattle.md_core.specs.Asked.{Asked, ask_of, state_by}
+use Rattle.md_core.specs.Turn.{After, rows_for}
+use Rattle.md_core.specs.Machine.{Machine, Standing, working, Marked, done, job_at, moment_of, turn_of, taken}
+use Rattle.md_core.specs.Trace.{Step, call_at}
+use Rattle.md_core.specs.Runs.{Run, moment, done_at, first_step}
+use Rattle.md_core.specs.Stepping.{IsRun}
+use Rattle.md_core.proofs.Answers.OfRun.{IsStep}
 use Rattle.md_core.proofs.Induction.Good.{IsGood, TaskFits, Makes}
 use Rattle.md_core.proofs.Machines.EachTurn.{each-turn}
 use Rattle.md_core.proofs.Runs.Events.{happens-turned}
@@ -78,7 +80,7 @@ module _ (r : Run) (k n : ℕ) (t : IsTurn r k n) where
   clock-grows = omega arith
 
 -- what an event did is what the turn of its job did
-pub turn-done : (r : Run) → IsRun r → (k : ℕ) (what : Done) → done_at r k ≡ Some what →
+pub turn-done : (r : Run) → IsRun r → (k : ℕ) (what : Step) → done_at r k ≡ Some what →
     (n : ℕ) × (t : IsTurn r k n) × (what ≡ done_in r k n t)
 turn-done r run k what is = at_place r.events k
     (λ e at.

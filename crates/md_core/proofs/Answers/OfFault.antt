@@ -20,9 +20,10 @@ use Rattle.md_core.specs.declared.jobs.task.Task.{Task}
 use Rattle.md_core.specs.declared.jobs.task.Task.TheVariants.{Deliver, Mark, Move, Expunge, Copy, Clean}
 use Rattle.md_core.specs.Turn.{After}
 use Rattle.md_core.specs.Machine.{Standing, working, answered, job_at, new_job}
-use Rattle.md_core.specs.Runs.{Run, moment, call_at}
-use Rattle.md_core.specs.Interleaving.{IsRun}
-use Rattle.md_core.specs.Answering.{IsFaulted}
+use Rattle.md_core.specs.Runs.{Run, moment}
+use Rattle.md_core.specs.Trace.{call_at}
+use Rattle.md_core.specs.Stepping.{IsRun}
+use Rattle.md_core.proofs.Answers.OfRun.{IsFaulted}
 use Rattle.md_core.proofs.Answers.LastStep.{IsTurn, LastStep, reply_in, left_by, is-step, is_within, holds}
 use Rattle.md_core.proofs.Answers.Turns.OneMessage.{TriesOn, mark_trying, expunge_trying, search_trying, trying_of, idle, sought, Tells}
 use Rattle.md_core.proofs.Answers.Turns.OfDeliver.{DeliveryTells, Undoes}

@@ -7,13 +7,14 @@ use Rattle.md_core.specs.declared.jobs.answer.Answer.{Answer}
 use Rattle.md_core.specs.declared.jobs.call.Call.{Call}
 use Rattle.md_core.specs.declared.jobs.task.Task.{Task}
 use Rattle.md_core.specs.Turn.{rows_for}
-use Rattle.md_core.specs.Machine.{Machine, Standing, working, Marked, job_at, standing_of, happens, done_by, Done, replied}
+use Rattle.md_core.specs.Machine.{Machine, Standing, working, Marked, job_at, standing_of, happens, done_by, replied}
+use Rattle.md_core.specs.Trace.{Step}
 use Rattle.md_core.proofs.Induction.Good.{IsGood, IsApart, Does, EachTurn}
 use Rattle.md_core.proofs.Lists.Places.{at_place, length-changed}
 use Rattle.md_core.proofs.Runs.Events.{at, turn, job_at-place, job_at-within, happens-turned}
 
 -- a machine before and after the turn of the job of a number, and what was done
-pub record Goes (calls : List Call) (m m' : Machine) (what : Done) : Type 0 where
+pub record Goes (calls : List Call) (m m' : Machine) (what : Step) : Type 0 where
   pub place : ℕ
   pub number_is : what.job ≡ suc place
   pub asked : Call
@@ -56,7 +57,7 @@ goes turns calls m e task good is =
       effects = refl;
     })
 
-module _ (calls : List Call) (m m' : Machine) (what : Done) (g : Goes calls m m' what) where
+module _ (calls : List Call) (m m' : Machine) (what : Step) (g : Goes calls m m' what) where
   -- how the job that took its turn stands then
   abbrev pub standing : Standing
   standing = standing_of g.task' what.answer

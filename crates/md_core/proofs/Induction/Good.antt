@@ -33,13 +33,16 @@ use Rattle.md_core.specs.declared.jobs.task.Task.TheVariants.{Deliver, Mark, Mov
 use Rattle.std.specs.FinMap as finmap
 use Rattle.md_core.specs.Mailbox.{Entry, Mailbox, mailbox_of, bytes_of, is_tmp, is_message, HasOnePath}
 use Rattle.md_core.specs.History.{names_of, changed, IsAllowed}
-use Rattle.md_core.specs.Turn.{Asked, After, ask_of, rows_for, reply_of, state_by}
+use Rattle.md_core.specs.Asked.{Asked, ask_of, state_by}
+use Rattle.md_core.specs.Turn.{After, rows_for, reply_of}
 use Rattle.md_core.specs.Machines.Deliver.{delivery_effect}
 use Rattle.md_core.specs.Machines.Expunge.{is_trashed}
 use Rattle.md_core.specs.Machines.Mark.{wanted, is_kept}
 use Rattle.md_core.specs.Machines.Search.{acts_on}
 use Rattle.md_core.specs.Machine.{Machine, working, turn_of, task_left}
-use Rattle.md_core.specs.Interleaving.{AsAlone, NoneOverwritten, is_success, is_linked, is_effect_at}
+use Rattle.md_core.specs.Stepping.{AsAlone}
+use Rattle.md_core.specs.Interleaving.{NoneOverwritten, is_success, is_effect_at}
+use Rattle.md_core.proofs.Theorem.RunLaw.{is_linked}
 
 -- the name that a path uses: all of it in tmp, and else the unique part
 abbrev pub key_of : Path → List ℕ

@@ -15,11 +15,12 @@ use Rattle.md_core.specs.Machines.Move.{new_moving}
 use Rattle.md_core.specs.Machines.Expunge.{new_expunging}
 use Rattle.md_core.specs.Machines.Copy.{new_copying}
 use Rattle.md_core.specs.Machines.Clean.{new_cleaning}
-use Rattle.md_core.specs.Machine.{Machine, Standing, working, Marked, job_at, new_job, happens, done, done_by, Done}
+use Rattle.md_core.specs.Machine.{Machine, Standing, working, Marked, job_at, new_job, happens, done, done_by}
+use Rattle.md_core.specs.Trace.{Step}
 use Rattle.md_core.specs.Runs.{Run, beginning, moment, machine_of, done_at}
 use Rattle.std.specs.Option.{option_and_then}
 use Rattle.md_core.specs.Submitting.{submit_refusal}
-use Rattle.md_core.specs.Interleaving.{IsRun}
+use Rattle.md_core.specs.Stepping.{IsRun}
 use Rattle.md_core.proofs.Induction.Good.{IsGood, Makes, EachTurn, DeliveryFits, MarkingFits, MovingFits, ExpungingFits, CopyingFits, CleaningFits, TaskFits, Found, call_by}
 use Rattle.md_core.proofs.Lists.Places.{get-take}
 use Rattle.md_core.proofs.Runs.Events.{goes_on-exact, done-turned}
@@ -167,7 +168,7 @@ module _ (r : Run) (run : IsRun r) where
       pub waits : (task : Task) × (job_at (moment r k).jobs e.event.job ≡ Some (working task))
       waits = (goes_on-exact (job_at (moment r k).jobs e.event.job)).0 (run.taken k e at)
 
-      abbrev pub what-at : Done
+      abbrev pub what-at : Step
       what-at = done_by (moment r k) e waits.0
 
       pub going-at : Goes r.calls (moment r k) (moment r (k + 1)) what-at
@@ -179,7 +180,7 @@ module _ (r : Run) (run : IsRun r) where
 
     -- What holds at the beginning, and is kept by each turn where all is good, holds at each moment.
     module _ (P : List Marked → Machine → Type 0) (start : P [] (beginning r.image r.calls))
-        (step : (es : List Marked) (m m' : Machine) (e : Marked) (what : Done) → what.job ≡ e.event.job → IsGood r.calls m → Goes r.calls m m' what →
+        (step : (es : List Marked) (m m' : Machine) (e : Marked) (what : Step) → what.job ≡ e.event.job → IsGood r.calls m → Goes r.calls m m' what →
         P es m → P (es ++ e ∷ []) m') where
       abbrev Both : List Marked → Machine → Type 0
       Both es m = IsGood r.calls m × P es m

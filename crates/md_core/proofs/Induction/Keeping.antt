@@ -2,12 +2,13 @@
 use Rattle.std.proofs.Common.{ℕ, ◌≡◌, List, Some, sym, ap, subst, ◌∙◌, slice_get}
 use Rattle.md_core.specs.declared.jobs.call.Call.{Call}
 use Rattle.md_core.specs.declared.jobs.task.Task.{Task}
-use Rattle.md_core.specs.Machine.{Machine, working, Done}
+use Rattle.md_core.specs.Machine.{Machine, working}
+use Rattle.md_core.specs.Trace.{Step}
 use Rattle.md_core.proofs.Induction.Good.{IsGood, TaskFits}
 use Rattle.md_core.proofs.Induction.Going.{Goes, AllApart, goes-cases, goes-as_many, still-working}
 use Rattle.md_core.proofs.Induction.Knowing.{found-after}
 
-module _ (calls : List Call) (apart : AllApart calls) (m m' : Machine) (what : Done) (g : Goes calls m m' what) (good : IsGood calls m) where
+module _ (calls : List Call) (apart : AllApart calls) (m m' : Machine) (what : Step) (g : Goes calls m m' what) (good : IsGood calls m) where
   fits-after : (i : ℕ) (asked : Call) (task : Task) → slice_get calls i ≡ Some asked → slice_get m'.jobs i ≡ Some (working task) → TaskFits m'.dirs asked task
   fits-after i asked task of is = goes-cases calls m m' what g i (working task) is
       (λ same now.

@@ -15,8 +15,10 @@ use Rattle.md_core.specs.declared.jobs.task.Task.{Task}
 use Rattle.md_core.specs.declared.jobs.task.Task.TheVariants.{Deliver, Mark, Move, Expunge, Copy, Clean}
 use Rattle.md_core.specs.Mailbox.{Entry, Mailbox, mailbox_of}
 use Rattle.md_core.specs.Machines.Deliver.{delivery_effect}
-use Rattle.md_core.specs.Machine.{Machine, working, Done}
-use Rattle.md_core.specs.Interleaving.{AsAlone, is_linked}
+use Rattle.md_core.specs.Machine.{Machine, working}
+use Rattle.md_core.specs.Trace.{Step}
+use Rattle.md_core.specs.Stepping.{AsAlone}
+use Rattle.md_core.proofs.Theorem.RunLaw.{is_linked}
 use Rattle.md_core.proofs.Induction.Good.{HasNoMessage, StageFits, TaskFits, IsGood, Makes, Found, HasSize, IsOfSize, Known, Settles, own_effect, call_by}
 use Rattle.md_core.proofs.Directories.Frames.{unused-no_message}
 use Rattle.md_core.proofs.Induction.Going.{Goes, goes-cases, still-working}
@@ -68,7 +70,7 @@ known-there calls m u size good is = record {
       cc;
 }
 
-module _ (calls : List Call) (m m' : Machine) (what : Done) (g : Goes calls m m' what) (u : List ℕ) (size : ℕ) (known : Known calls m u size) where
+module _ (calls : List Call) (m m' : Machine) (what : Step) (g : Goes calls m m' what) (u : List ℕ) (size : ℕ) (known : Known calls m u size) where
   -- the job that took its turn, if it has had no effect by then
   mine : own_effect what.job g.task ≡ None → Makes g.asked u → ⊥
   mine without = known.unmade g.place g.asked g.task g.of g.there (ap (λ n. own_effect n g.task) (sym g.number_is) ∙ without)
@@ -107,7 +109,7 @@ module _ (calls : List Call) (m m' : Machine) (what : Done) (g : Goes calls m m'
   known-more = record { has_size = size-after; unmade = unmade-after }
 
 -- what a task has found by then is known
-pub found-after : (calls : List Call) (m m' : Machine) (what : Done) (g : Goes calls m m' what) (good : IsGood calls m) →
+pub found-after : (calls : List Call) (m m' : Machine) (what : Step) (g : Goes calls m m' what) (good : IsGood calls m) →
     (i : ℕ) (task : Task) (u : List ℕ) (size : ℕ) → slice_get m'.jobs i ≡ Some (working task) → Found task u size → Known calls m' u size
 found-after calls m m' what g good i task u size is its = known-more calls m m' what g u size (goes-cases calls m m' what g i (working task) is
     (λ same now.

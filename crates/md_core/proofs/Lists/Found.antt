@@ -2,13 +2,12 @@
 use Rattle.std.proofs.Common.{◌≡◌, inl, inr, List, [], ◌∷◌, Option, Some, None, true, false, cond, map, refl, sym, ap, ◌∙◌}
 use Rattle.std.specs.declared.cmp.Ordering.{Ordering}
 use Rattle.std.specs.Ordering.{eq_by_cmp, is_eq}
-use Rattle.std.specs.Cmp.{IsTotalOrder}
+use Rattle.std.specs.Cmp.{Equal-is, IsTotalOrder}
 use Rattle.std.specs.List.{filter_map, cons_option}
 use Rattle.std.specs.FinMap.{find}
 use Rattle.std.proofs.lemmas.Cmp.{tied_itself}
 use Rattle.std.proofs.lemmas.Map.Lookups.{CmpEqualImpliesEq}
-use Rattle.md_dirs.proofs.Maps.{tied}
-use Rattle.md_core.proofs.Lists.Members.{Has}
+use Rattle.lists.proofs.Members.{Has}
 
 module _ {A K X : Type 0} {R : K → K → Ordering} (o : IsTotalOrder R) (exact : CmpEqualImpliesEq R) (g : A → Option (K × X)) where
   -- what is found comes of some element
@@ -23,7 +22,7 @@ module _ {A K X : Type 0} {R : K → K → Ordering} (o : IsTotalOrder R) (exact
           elim (eq_by_cmp R k m.0) as (λ b. eq_by_cmp R k m.0 ≡ b → cond b (Some m.1) (find R k (filter_map g es)) ≡ Some v →
           (y : A) × Has (x ∷ es) y × (g y ≡ Some (k, v))) [
             | true ↦ λ t is.
-                let key : k ≡ m.0 = exact k m.0 (tied _ t) in
+                let key : k ≡ m.0 = exact k m.0 ((Equal-is _).0 t) in
                 let value : m.1 ≡ v = cc in
                 (x, inl refl, made ∙ (λ i. Some (sym key i, value i)))
             | false ↦ λ t is. let rest = later is in (rest.0, inr rest.1, rest.2)

@@ -23,7 +23,8 @@ use Rattle.md_core.specs.declared.jobs.task.Task.{Task}
 use Rattle.md_core.specs.Mailbox.{mailbox_of, entry_of, bytes_of, HasOnePath, is_tmp}
 use Rattle.md_core.specs.Machine.{task_left}
 use Rattle.md_core.specs.Machines.Search.{acts_on, after_none, after_row, after_look, after_lost, leads, search_left}
-use Rattle.md_core.specs.Turn.{Asked, After}
+use Rattle.md_core.specs.Asked.{Asked}
+use Rattle.md_core.specs.Turn.{After}
 use Rattle.md_core.specs.Interleaving.{is_effect_at, is_success}
 use Rattle.md_core.proofs.Induction.Good.{SearchFits, TaskFits, Found, FoundAt, IsFixed, IsOfSize, bytes_at, own_effect, Does}
 use Rattle.md_core.proofs.Looking.LookUps.{found-row, row-entry}

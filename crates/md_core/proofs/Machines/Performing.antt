@@ -4,7 +4,8 @@ use Rattle.md_dirs.specs.State.{State}
 use Rattle.md_dirs.specs.Calls.{Ask, Obeys, calls_after}
 use Rattle.md_dirs.specs.declared.calls.DirError.{DirError}
 use Rattle.md_dirs.specs.declared.calls.DirError.TheVariants.{Exists, NotFound, Fault, NoMemory}
-use Rattle.md_core.specs.Turn.{Turn, After, Device, Takes, ask_of, shown_call, rows_for, reply_from, reply_by, reply_of, state_by, is_fault}
+use Rattle.md_core.specs.Turn.{Turn, After, Device, Takes, rows_for, reply_from, reply_of}
+use Rattle.md_core.specs.Asked.{ask_of, shown_call, reply_by, state_by, is_fault}
 use Rattle.md_core.specs.declared.jobs.step.Moment.{Moment}
 use Rattle.md_core.specs.declared.jobs.effect.Effect.{Effect}
 use Rattle.md_core.specs.declared.jobs.step.DirReply.{DirReply}

@@ -8,7 +8,7 @@ use Rattle.md_core.specs.declared.jobs.step.DirReply.{DirReply}
 use Rattle.md_core.specs.declared.jobs.task.Task.{Task}
 use Rattle.md_core.specs.Mailbox.{mailbox_of, HasOnePath}
 use Rattle.md_core.specs.Machine.{task_left}
-use Rattle.md_core.specs.Turn.{Asked}
+use Rattle.md_core.specs.Asked.{Asked}
 use Rattle.md_core.specs.Interleaving.{is_effect_at, is_success}
 use Rattle.md_core.proofs.Induction.Good.{TaskFits, Found, IsFixed, IsOfSize, Settles, own_effect, Does}
 use Rattle.md_core.proofs.Directories.Spares.{Spares, spares-all}

@@ -8,7 +8,7 @@ use Rattle.md_dirs.specs.State.{State, file_at}
 use Rattle.md_dirs.specs.declared.paths.Path.{Path}
 use Rattle.md_name.specs.Names.{unique_of, info_text}
 use Rattle.md_core.specs.Mailbox.{Entry, Mailbox, mailbox_of, is_message, entry_of, HasOnePath}
-use Rattle.md_dirs.proofs.Maps as maps
+use Rattle.lists.proofs.Maps as maps
 use Rattle.md_core.proofs.Induction.Good.{bytes_at}
 use Rattle.md_core.proofs.Mailbox.Shown.{Shows, mailbox-shows, shows-mailbox, same_mailbox}
 

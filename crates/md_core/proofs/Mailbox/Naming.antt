@@ -1,13 +1,13 @@
 -- The names of a mailbox, message by message, and as messages come, change and go.
 use Rattle.std.proofs.Common.{ℕ, ◌≡◌, List, [], ◌∷◌, Option, Some, Bool, true, false, cond, map, refl, sym, ap, ◌∙◌}
 use Rattle.std.specs.Option.{option_map}
+use Rattle.std.specs.Cmp.{Equal-is}
 use Rattle.std.specs.Ordering.{eq_by_cmp}
 use Rattle.std.specs.FinMap as finmap
 use Rattle.std.specs.FinMap.{find, get, get-from_entries, get-entries, entries, same_map}
 use Rattle.std.proofs.lemmas.Cmp.{nat_list_cmp_total}
 use Rattle.std.proofs.lemmas.Map.Lookups.{exact_bytes}
-use Rattle.md_dirs.proofs.Maps as maps
-use Rattle.md_dirs.proofs.Maps.{tied}
+use Rattle.lists.proofs.Maps as maps
 use Rattle.md_core.specs.Mailbox.{Entry, Mailbox, name_cmp}
 use Rattle.md_core.specs.History.{Listed, Names, listed, names_of}
 
@@ -19,7 +19,7 @@ find-listed u (e ∷ es) = by (find-listed u es) (eq_by_cmp name_cmp u e.0) refl
     by : find name_cmp u (map (λ x. (x.0, listed x.0 x.1)) es) ≡ option_map (listed u) (find name_cmp u es) → (b : Bool) → eq_by_cmp name_cmp u e.0 ≡ b →
         cond {A = Option Listed} b (Some (listed e.0 e.1)) (find name_cmp u (map (λ x. (x.0, listed x.0 x.1)) es)) ≡ option_map (listed u)
         (cond {A = Option Entry} b (Some e.1) (find name_cmp u es))
-    by rest true t = ap (λ v. Some (listed v e.1)) (sym (exact_bytes u e.0 (tied _ t)))
+    by rest true t = ap (λ v. Some (listed v e.1)) (sym (exact_bytes u e.0 ((Equal-is _).0 t)))
     by rest false t = rest
 
 -- what is listed of a unique name

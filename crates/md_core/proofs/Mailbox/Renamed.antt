@@ -7,7 +7,7 @@ use Rattle.std.proofs.lemmas.Cmp.{nat_list_cmp_total}
 use Rattle.std.proofs.lemmas.Map.Lookups.{exact_bytes}
 use Rattle.md_dirs.specs.declared.paths.Path.{Path}
 use Rattle.md_dirs.specs.State.{State}
-use Rattle.md_dirs.proofs.Maps as maps
+use Rattle.lists.proofs.Maps as maps
 use Rattle.md_name.specs.Names.{unique_of}
 use Rattle.md_core.specs.Mailbox.{Mailbox, entry_of}
 use Rattle.md_core.specs.History.{Listed, Names, listed, names_of, size_in, IsThere}

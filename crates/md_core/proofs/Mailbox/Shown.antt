@@ -9,7 +9,7 @@ use Rattle.md_dirs.specs.declared.paths.Path.{Path}
 use Rattle.md_dirs.proofs.PathOrder.{path_total, path_exact}
 use Rattle.md_name.specs.Names.{unique_of}
 use Rattle.md_core.specs.Mailbox.{Entry, Mailbox, mailbox_of, name_cmp, is_message, entry_of, message_of, HasOnePath}
-use Rattle.md_core.proofs.Lists.Members.{get-has, has-get}
+use Rattle.lists.proofs.Members.{get-has, has-get}
 use Rattle.md_core.proofs.Lists.Found.{found, finds}
 
 -- the directories have a message of this name and this entry

@@ -5,7 +5,7 @@ use Rattle.md_core.specs.declared.jobs.call.Call.{Call}
 use Rattle.md_core.specs.declared.jobs.task.Task.{Task}
 use Rattle.md_core.specs.Machine.{Machine, working, Marked, job_at, new_job, happens}
 use Rattle.md_core.specs.Runs.{Run, beginning, run_from, moment, machine_of, jobs_of, and_event, and_events, and_call}
-use Rattle.md_core.specs.Interleaving.{IsRun}
+use Rattle.md_core.specs.Stepping.{IsRun}
 use Rattle.md_core.proofs.Lists.Places.{at_place, take-one_more, length-changed}
 use Rattle.md_core.proofs.Runs.Events.{goes_on-exact, happens-turned, with_job, happens-with_job}
 
@@ -75,7 +75,7 @@ module _ (r : Run) (run : IsRun r) (P : List Marked → Machine → Type 0) (sta
       (at_moment (length r.events))
 
 -- each call has its job
-length-met : (m : Machine) (e : Marked) (task : Task) → job_at m.jobs e.event.job ≡ Some (working task) → length (happens m e).jobs ≡ length m.jobs
+pub length-met : (m : Machine) (e : Marked) (task : Task) → job_at m.jobs e.event.job ≡ Some (working task) → length (happens m e).jobs ≡ length m.jobs
 length-met m e task at = ap (λ (x : Machine). length x.jobs) (happens-turned m e task at) ∙ length-changed m.jobs _ _
 
 pub length-jobs : (r : Run) → IsRun r → (k : ℕ) → length (moment r k).jobs ≡ length r.calls

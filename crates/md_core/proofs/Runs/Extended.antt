@@ -8,7 +8,7 @@ use Rattle.md_core.specs.Machine.{Machine, working, Marked, job_at, new_job}
 use Rattle.md_core.specs.Loading.{load_refusal}
 use Rattle.md_core.specs.Runs.{Run, new_run, beginning, run_from, moment, machine_of, jobs_of, and_event, and_call, step_refusal}
 use Rattle.md_core.specs.Submitting.{submit_refusal}
-use Rattle.md_core.specs.Interleaving.{IsRun}
+use Rattle.md_core.specs.Stepping.{IsRun}
 use Rattle.md_core.proofs.Lists.Places.{at_end, get-from_take}
 use Rattle.md_core.proofs.Runs.Events.{goes_on-exact, job_at-more}
 use Rattle.md_core.proofs.Runs.ByEvent.{moment-end, moment-and_event, moment-and_call}

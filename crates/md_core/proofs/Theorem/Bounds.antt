@@ -22,9 +22,11 @@ use Rattle.md_core.specs.Machines.Deliver.{stage_left}
 use Rattle.md_core.specs.Machines.Mark as marked_by
 use Rattle.md_core.specs.Machines.Expunge as expunged_by
 use Rattle.md_core.specs.Machines.Clean as cleaned_by
-use Rattle.md_core.specs.Machine.{Machine, Standing, working, answered, Marked, Done, job_at, job_left, task_left, standing_of, new_job, happens, done_by}
-use Rattle.md_core.specs.Runs.{Run, beginning, run_from, machine_of, dirs_of, jobs_of, and_event, step_refusal, steps_left, left_of, call_at, dirs_at_first}
-use Rattle.md_core.specs.Interleaving.{IsRun, steps_of}
+use Rattle.md_core.specs.Machine.{Machine, Standing, working, answered, Marked, job_at, job_left, task_left, standing_of, new_job, happens, done_by}
+use Rattle.md_core.specs.Trace.{Step, call_at}
+use Rattle.md_core.specs.Runs.{Run, beginning, run_from, machine_of, dirs_of, jobs_of, and_event, step_refusal, steps_left, left_of, dirs_at_first}
+use Rattle.md_core.specs.Stepping.{IsRun}
+use Rattle.md_core.proofs.Theorem.RunLaw.{steps_of}
 use Rattle.md_core.proofs.Induction.Good.{EachTurn, IsGood, IsFixed}
 use Rattle.md_core.proofs.Runs.Events.{goes_on-exact}
 use Rattle.md_core.proofs.Induction.Keeping.{good-kept}
@@ -35,7 +37,7 @@ use Rattle.md_core.proofs.Induction.GoodRuns.{new_at, all-apart, good-beginning,
 use Rattle.md_core.proofs.Looking.Search.{some-left}
 
 -- a turn leaves less to its job
-pub nearer : (calls : List Call) (m m' : Machine) (what : Done) (g : Goes calls m m' what) →
+pub nearer : (calls : List Call) (m m' : Machine) (what : Step) (g : Goes calls m m' what) →
     job_left m'.dirs (standing_of g.task' what.answer) < task_left m.dirs g.task
 nearer calls m m' what g = by what.answer g.does.nearer
   where
@@ -49,7 +51,7 @@ abbrev StaysFixed : Standing → Type 0
 StaysFixed job = (s s' : State) → job_left s job ≡ job_left s' job
 
 -- a job that took its turn
-fixed-then : (calls : List Call) (m m' : Machine) (what : Done) (g : Goes calls m m' what) → StaysFixed (standing_of g.task' what.answer)
+fixed-then : (calls : List Call) (m m' : Machine) (what : Step) (g : Goes calls m m' what) → StaysFixed (standing_of g.task' what.answer)
 fixed-then calls m m' what g = by what.answer g.does.fixed
   where
     by : (a : Option Answer) → (a ≡ None → IsFixed g.task') → StaysFixed (standing_of g.task' a)
@@ -153,7 +155,7 @@ module _ (r : Run) where
       let is : new.0 ≡ asked = (let e : Some new.0 ≡ Some asked = sym new.1 ∙ of in cc) in
       inl (refl, new.2 ∙ ap new_job is)
 
-  module _ (es : List Marked) (m m' : Machine) (e : Marked) (what : Done) (is_job : what.job ≡ e.event.job) (now : m ≡ run_from from es)
+  module _ (es : List Marked) (m m' : Machine) (e : Marked) (what : Step) (is_job : what.job ≡ e.event.job) (now : m ≡ run_from from es)
       (g : Goes r.calls m m' what) where
     -- the job that took its turn
     own-more : (j : ℕ) (job : Standing) (asked : Call) → suc j ≡ e.event.job → job ≡ standing_of g.task' what.answer →
@@ -246,7 +248,7 @@ module _ (r : Run) (run : IsRun r) (turns : EachTurn) where
     waits : (task : Task) × (job_at (jobs_of r) e.event.job ≡ Some (working task))
     waits = (goes_on-exact (job_at (jobs_of r) e.event.job)).0 goes_on
 
-    abbrev what : Done
+    abbrev what : Step
     what = done_by (machine_of r) e waits.0
 
     going : Goes r.calls (machine_of r) (happens (machine_of r) e) what

@@ -5,9 +5,11 @@ use Rattle.md_core.specs.declared.jobs.call.Call.{Call}
 use Rattle.md_core.specs.declared.jobs.call.Call.TheVariants.{Deliver, Seen, Flag, Move, Expunge, Copy, Clean}
 use Rattle.md_core.specs.declared.jobs.effect.Effect.{Effect}
 use Rattle.md_core.specs.Mailbox.{Entry, Mailbox}
-use Rattle.md_core.specs.Machine.{Machine, Marked, Done}
-use Rattle.md_core.specs.Runs.{Run, moment, call_at, box}
-use Rattle.md_core.specs.Interleaving.{IsRun, AsAlone, IsWhole}
+use Rattle.md_core.specs.Machine.{Machine, Marked}
+use Rattle.md_core.specs.Trace.{Step, call_at}
+use Rattle.md_core.specs.Runs.{Run, moment, box}
+use Rattle.md_core.specs.Stepping.{IsRun, AsAlone}
+use Rattle.md_core.proofs.Theorem.RunLaw.{IsWhole}
 use Rattle.md_core.proofs.Induction.Good.{EachTurn}
 use Rattle.md_core.proofs.Induction.Going.{Goes}
 use Rattle.md_core.proofs.Induction.GoodRuns.{what-at, going-at, done-what}
@@ -46,7 +48,7 @@ whole-later r j k u bytes within (inr (inr c)) = inr (inr (record {
 
 module _ (r : Run) (run : IsRun r) (turns : EachTurn) where
   module _ (k : ℕ) (e : Marked) (at : slice_get r.events k ≡ Some e) where
-    abbrev what : Done
+    abbrev what : Step
     what = what-at r run turns k e at
 
     going : Goes r.calls (moment r k) (moment r (k + 1)) what

@@ -8,7 +8,7 @@ use Rattle.std.specs.FinMap as finmap
 use Rattle.md_name.specs.Names.{unique_of}
 use Rattle.md_name.proofs.Flagged.{unique_of-flagged, colonless-unique_of}
 use Rattle.md_dirs.specs.declared.paths.Place.{Place}
-use Rattle.md_dirs.proofs.Maps.{beside_put, beside_drop, at_drop}
+use Rattle.lists.proofs.Maps.{beside_put, beside_drop, at_drop}
 use Rattle.md_core.specs.declared.jobs.answer.Answer.{Answer}
 use Rattle.md_core.specs.declared.jobs.answer.Answer.TheVariants as answer
 use Rattle.md_core.specs.declared.jobs.effect.Change.{Change}

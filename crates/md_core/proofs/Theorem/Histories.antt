@@ -11,8 +11,10 @@ use Rattle.md_core.specs.declared.jobs.effect.Effect.{Effect}
 use Rattle.md_core.specs.declared.jobs.task.Task.{Task}
 use Rattle.md_core.specs.Mailbox.{mailbox_of}
 use Rattle.md_core.specs.History.{Names, names_of, changed, after, WasNowhere, IsAllowed, IsAllowedAfter, IsLegal}
-use Rattle.md_core.specs.Machine.{Machine, Standing, working, answered, standing_of, Done}
-use Rattle.md_core.specs.Interleaving.{AsAlone, is_success}
+use Rattle.md_core.specs.Machine.{Machine, Standing, working, answered, standing_of}
+use Rattle.md_core.specs.Trace.{Step}
+use Rattle.md_core.specs.Stepping.{AsAlone}
+use Rattle.md_core.specs.Interleaving.{is_success}
 use Rattle.md_core.proofs.Induction.Good.{IsGood, Makes, own_effect, Affects, Settles}
 use Rattle.md_core.proofs.Lists.Places.{at_end}
 use Rattle.md_core.proofs.Induction.Going.{Goes, AllApart, goes-cases, goes-as_many, still-working}
@@ -64,7 +66,7 @@ has-standing number task (Some a) had settles = by (is_success a) settles
     by true h = (h.0, ap option_to_list h.1, h.2)
     by false h = ap option_to_list h
 
-module _ (folders : ℕ) (opening : Names) (calls : List Call) (apart : AllApart calls) (m m' : Machine) (what : Done) (g : Goes calls m m' what)
+module _ (folders : ℕ) (opening : Names) (calls : List Call) (apart : AllApart calls) (m m' : Machine) (what : Step) (g : Goes calls m m' what)
     (good : IsGood calls m) (tells : Tells folders opening calls m) where
   abbrev number : ℕ
   number = what.job

@@ -1,26 +1,19 @@
 -- The places that an effect leaves a unique name in: none goes back from cur to new.
-use Rattle.std.proofs.Common.{◌≡◌, ◌≢◌, ℕ, List, Option, Some, None, sym, ap, subst, ◌∙◌}
+use Rattle.std.proofs.Common.{◌≡◌, ◌≢◌, ℕ, List, Option, Some, sym, ap, subst, ◌∙◌}
 use Rattle.std.proofs.lemmas.Cmp.{nat_list_cmp_total}
 use Rattle.std.proofs.lemmas.Map.Lookups.{exact_bytes}
 use Rattle.std.specs.FinMap as finmap
 use Rattle.md_name.specs.Names.{unique_of}
 use Rattle.md_dirs.specs.declared.paths.Place.{Place}
 use Rattle.md_dirs.specs.declared.paths.Place.TheVariants.{Tmp, New, Cur}
-use Rattle.md_dirs.proofs.Maps.{at_put, beside_put, at_drop, beside_drop}
+use Rattle.lists.proofs.Maps.{at_put, beside_put, at_drop, beside_drop}
 use Rattle.md_core.specs.declared.jobs.answer.Answer.{Answer}
 use Rattle.md_core.specs.declared.jobs.answer.Answer.TheVariants as answer
 use Rattle.md_core.specs.declared.jobs.effect.Change.{Change}
 use Rattle.md_core.specs.declared.jobs.effect.Change.TheVariants as change
 use Rattle.md_core.specs.History.{Listed, Names, changed, IsAllowed}
+use Rattle.md_core.specs.Laws.{IsPlaced}
 use Rattle.md_core.proofs.Mailbox.Changes.{by_name}
-
--- a message is in such a place, or nowhere
-abbrev pub IsPlaced : (Place → Type 0) → Option Listed → Type 0
-IsPlaced P None = Unit {0}
-IsPlaced P (Some message) = P message.place
-
-abbrev pub IsInCur : Option Listed → Type 0
-IsInCur = IsPlaced (λ p. p ≡ Cur)
 
 -- An effect leaves a unique name placed so, where cur is such a place, and each place is that may get the name if it is fresh.
 module _ (P : Place → Type 0) (cur : P Cur) (folders : ℕ) (m : Names) (IsFresh : List ℕ → Type 0) (u : List ℕ)

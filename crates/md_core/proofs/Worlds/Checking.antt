@@ -10,7 +10,7 @@ use Rattle.md_core.specs.Submitting.{is_used}
 use Rattle.md_core.specs.Used.{is_among}
 use Rattle.md_core.specs.Worlds.{IsWorld, run_of, machine_by}
 use Rattle.md_core.proofs.Machines.EachTurn.{each-turn}
-use Rattle.md_core.proofs.Theorem.Interleaves.{folders-stay}
+use Rattle.md_core.proofs.Theorem.LawHolds.{folders-stay}
 
 module _ (first : Device) (jobs : List JobView) (events : List Event) (marks : List Bool) (held : Device) (clock : ℕ) (effects : List Effect)
     (used : List (List ℕ)) (r : Run)

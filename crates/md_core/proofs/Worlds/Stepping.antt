@@ -11,7 +11,8 @@ use Rattle.md_core.specs.declared.jobs.step.Moment.{Moment}
 use Rattle.md_core.specs.declared.jobs.step.DirReply.{DirReply}
 use Rattle.md_core.specs.declared.jobs.step.StepOut.{StepOut}
 use Rattle.md_core.specs.declared.jobs.task.Task.{Task}
-use Rattle.md_core.specs.Turn.{Turn, After, Device, rows_for, is_fault}
+use Rattle.md_core.specs.Turn.{Turn, After, Device, rows_for}
+use Rattle.md_core.specs.Asked.{is_fault}
 use Rattle.md_core.specs.Machine.{Machine, Standing, working, answered, is_working, Marked, moment_of, standing_of, happens, taken, turn_of, job_at, done, step_out}
 use Rattle.md_core.specs.Standing.{JobView, TakesTurn, standings}
 use Rattle.md_core.specs.Runs.{Run, machine_of, jobs_of, failures_of, and_event, step_refusal, answer_of}

@@ -4,21 +4,23 @@ use Rattle.std.specs.Option.{option_map}
 use Rattle.md_core.specs.declared.jobs.answer.Answer.{Answer}
 use Rattle.md_core.specs.declared.jobs.step.StepOut.{StepOut}
 use Rattle.md_core.specs.declared.jobs.task.Task.{Task}
-use Rattle.md_core.specs.Machine.{Machine, working, answered, Marked, Done, job_at, standing_of, done, done_by, step_out}
-use Rattle.md_core.specs.Runs.{Run, machine_of, jobs_of, and_event, step_refusal, call_at}
-use Rattle.md_core.specs.Interleaving.{IsRun, ShowsStep, Succeeds, Interleaves}
+use Rattle.md_core.specs.Machine.{Machine, working, answered, Marked, job_at, standing_of, done, done_by, step_out}
+use Rattle.md_core.specs.Trace.{Step, call_at}
+use Rattle.md_core.specs.Runs.{Run, machine_of, jobs_of, and_event, step_refusal}
+use Rattle.md_core.specs.Stepping.{IsRun, ShowsStep, Succeeds}
+use Rattle.md_core.proofs.Theorem.RunLaw.{RunLaw}
 use Rattle.md_core.proofs.Induction.Good.{EachTurn}
 use Rattle.md_core.proofs.Runs.Events.{goes_on-exact, done-turned}
 use Rattle.md_core.proofs.Runs.ByEvent.{machine-and_event}
 use Rattle.md_core.proofs.Induction.Going.{Goes, goes, goes-here}
 use Rattle.md_core.proofs.Induction.GoodRuns.{good-machine}
-use Rattle.md_core.proofs.Theorem.Interleaves.{simulates}
+use Rattle.md_core.proofs.Theorem.LawHolds.{simulates}
 
 module _ (turns : EachTurn) (r : Run) (run : IsRun r) (e : Marked) (goes_on : step_refusal (job_at (jobs_of r) e.event.job) ≡ None) where
   waits : (task : Task) × (job_at (jobs_of r) e.event.job ≡ Some (working task))
   waits = (goes_on-exact (job_at (jobs_of r) e.event.job)).0 goes_on
 
-  abbrev what : Done
+  abbrev what : Step
   what = done_by (machine_of r) e waits.0
 
   going : Goes r.calls (machine_of r) (machine_of (and_event r e)) what
@@ -47,7 +49,7 @@ module _ (turns : EachTurn) (r : Run) (run : IsRun r) (e : Marked) (goes_on : st
     there : job_at (jobs_of (and_event r e)) e.event.job ≡ Some (standing_of going.task' what.answer)
     there = ap (job_at (jobs_of (and_event r e))) going.number_is ∙ goes-here r.calls (machine_of r) (machine_of (and_event r e)) what going
 
-    pub succeeds : Interleaves (and_event r e) → Succeeds (and_event r e) e.event.job out.answer
+    pub succeeds : RunLaw (and_event r e) → Succeeds (and_event r e) e.event.job out.answer
     succeeds theorem = by out.answer (ap (λ (o : StepOut). o.answer) same)
       where
         by : (o : Option Answer) → what.answer ≡ o → Succeeds (and_event r e) e.event.job o

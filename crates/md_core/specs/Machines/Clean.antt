@@ -7,7 +7,8 @@ use Rattle.md_dirs.specs.State.{State}
 use Rattle.md_dirs.specs.declared.paths.Path.{Path}
 use Rattle.md_dirs.specs.declared.paths.Place.TheVariants.{Tmp}
 use Rattle.md_dirs.specs.declared.rows.Row.{Row}
-use Rattle.md_core.specs.Turn.{Turn, After, goes_on, ends, list, unlink}
+use Rattle.md_core.specs.Turn.{Turn, After, goes_on, ends}
+use Rattle.md_core.specs.Asked.{list, unlink}
 use Rattle.md_core.specs.declared.jobs.answer.Answer.TheVariants as answer
 use Rattle.md_core.specs.declared.jobs.cleaning.Cleaning.{Cleaning}
 use Rattle.md_core.specs.declared.jobs.cleaning.Stage.{Stage}
@@ -30,7 +31,7 @@ tmp c name = path c.folder Tmp name
 abbrev pub least_seconds : ℕ
 least_seconds = 129600
 
--- whether a row's file has not been used for so long, by the clock of the job. A clock behind the stamp counts as no time
+-- whether a row's file has not been used for so long, by the clock of the job. A clock that is before the stamp counts as no time
 abbrev pub is_old : ℕ → Row → Bool
 is_old own row = nat_le least_seconds (own - row.stamp)
 

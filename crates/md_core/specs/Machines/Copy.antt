@@ -10,7 +10,8 @@ use Rattle.md_dirs.specs.declared.rows.Row.{Row}
 use Rattle.md_name.specs.Names.{flagged}
 use Rattle.md_name.specs.declared.info.Info.{Info}
 use Rattle.md_name.specs.declared.info.Info.TheVariants.{Bare, Two, Opaque}
-use Rattle.md_core.specs.Turn.{Turn, After, ends, ends_by, list, link}
+use Rattle.md_core.specs.Turn.{Turn, After, ends, ends_by}
+use Rattle.md_core.specs.Asked.{list, link}
 use Rattle.md_core.specs.Machines.Search.{info_in, after_look, after_lost, leads, search_left}
 use Rattle.md_core.specs.declared.jobs.answer.Answer.TheVariants as answer
 use Rattle.md_core.specs.declared.jobs.effect.Change.TheVariants.{Add}

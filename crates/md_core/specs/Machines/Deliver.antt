@@ -4,7 +4,8 @@ use Rattle.std.specs.Prelude.{ℕ, ◌+◌, ◌-◌, ◌/◌, List, Bool, nat_lt
 use Rattle.md_dirs.specs.declared.paths.Path.{Path}
 use Rattle.md_dirs.specs.declared.paths.Place.TheVariants.{Tmp, New}
 use Rattle.md_dirs.specs.Path.{path_of as path}
-use Rattle.md_core.specs.Turn.{Turn, After, goes_on, ends, acts, create, append, link, unlink}
+use Rattle.md_core.specs.Turn.{Turn, After, goes_on, ends, acts}
+use Rattle.md_core.specs.Asked.{create, append, link, unlink}
 use Rattle.md_core.specs.declared.jobs.answer.Answer.{Answer}
 use Rattle.md_core.specs.declared.jobs.answer.Answer.TheVariants as answer
 use Rattle.md_core.specs.declared.jobs.effect.Change.TheVariants.{Add}
@@ -77,7 +78,7 @@ link_turn job d = record { asked = link d.tmp (target d); follows = λ r rows. a
 abbrev pub unlink_turn : Delivery → Answer → Turn Delivery
 unlink_turn d a = record { asked = unlink d.tmp; follows = λ r rows. ends d a }
 
--- the next piece, or the link behind the last; and once it is not in time, the unlink
+-- the next piece, or the link after the last; and once it is not in time, the unlink
 abbrev pub writing_turn : ℕ → Delivery → ℕ → ℕ → ℕ → Turn Delivery
 writing_turn job d own start k =
     if is_in_time start own then (if nat_lt k (length d.body) then append_turn d start k else link_turn job d)

@@ -9,7 +9,8 @@ use Rattle.md_dirs.specs.declared.paths.Place.TheVariants.{Cur}
 use Rattle.md_dirs.specs.declared.rows.Row.{Row}
 use Rattle.md_name.specs.Letters.{Set}
 use Rattle.md_name.specs.Names.{flags_of}
-use Rattle.md_core.specs.Turn.{Turn, After, goes_on, ends, ends_by, list, unlink}
+use Rattle.md_core.specs.Turn.{Turn, After, goes_on, ends, ends_by}
+use Rattle.md_core.specs.Asked.{list, unlink}
 use Rattle.md_core.specs.Machines.Search.{info_in}
 use Rattle.md_core.specs.declared.jobs.answer.Answer.TheVariants as answer
 use Rattle.md_core.specs.declared.jobs.effect.Change.TheVariants.{Remove}

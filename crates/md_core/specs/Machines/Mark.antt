@@ -11,7 +11,8 @@ use Rattle.md_dirs.specs.declared.rows.Row.{Row}
 use Rattle.md_name.specs.Letters.{Set}
 use Rattle.md_name.specs.Names.{split_of, flags_of, flagged}
 use Rattle.md_name.specs.declared.info.Info.{Info}
-use Rattle.md_core.specs.Turn.{Turn, After, goes_on, ends, ends_by, list, rename}
+use Rattle.md_core.specs.Turn.{Turn, After, goes_on, ends, ends_by}
+use Rattle.md_core.specs.Asked.{list, rename}
 use Rattle.md_core.specs.Alone.{is_same_set}
 use Rattle.md_core.specs.declared.jobs.answer.Answer.TheVariants as answer
 use Rattle.md_core.specs.declared.jobs.effect.Change.TheVariants.{Rename, Same}

@@ -6,7 +6,8 @@ use Rattle.md_dirs.specs.Rows.{row_named}
 use Rattle.md_dirs.specs.declared.paths.Path.{Path}
 use Rattle.md_dirs.specs.declared.paths.Place.{Place}
 use Rattle.md_dirs.specs.declared.paths.Place.TheVariants.{New, Cur}
-use Rattle.md_core.specs.Turn.{Turn, After, ends, ends_by, list, rename}
+use Rattle.md_core.specs.Turn.{Turn, After, ends, ends_by}
+use Rattle.md_core.specs.Asked.{list, rename}
 use Rattle.md_core.specs.Machines.Search.{after_look, after_lost, leads, search_left}
 use Rattle.md_core.specs.declared.jobs.answer.Answer.TheVariants as answer
 use Rattle.md_core.specs.declared.jobs.effect.Change.TheVariants.{Rename}

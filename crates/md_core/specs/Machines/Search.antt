@@ -29,7 +29,7 @@ info_in name = info_in_parts (split_of name)
 abbrev pub acts_on : Bool → List ℕ → Bool
 acts_on any name = any || is_some (flags_of (info_in name))
 
--- where no message was found: behind new comes cur
+-- where no message was found: after new comes cur
 abbrev pub after_none : Place → ℕ → Next
 after_none Tmp tries = Ends answer.NotThere
 after_none New tries = To (LookCur tries)

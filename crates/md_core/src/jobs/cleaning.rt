@@ -71,7 +71,7 @@ pub struct Cleaning {
     pub stage: Stage,
 }
 
-// Whether a row's file has not been used for 36 hours. A clock behind the stamp counts as no time.
+// Whether a row's file has not been used for 36 hours. A clock that is before the stamp counts as no time.
 fn is_old(own: u64, row: &Row) -> bool
     ensures { result ≡ is_old_by own row.now }
 {
@@ -114,7 +114,7 @@ impl Cleaning {
     {
         match &self.stage {
             Stage::Look => self.look(dirs, at),
-            // The name is copied before the call, since it is let go behind it.
+            // The name is copied before the call, since it is let go after it.
             Stage::Remove { name, .. } => {
                 let tmp = self.tmp(alloc, name)?;
                 self.unlink(dirs, at, tmp)

@@ -1,6 +1,6 @@
 // Steps, and what they show.
 ghost use Rattle.std.specs.Prelude.{◌≡◌};
-ghost use Rattle.md_core.specs.Turn.{is_fault as is_fault_by};
+ghost use Rattle.md_core.specs.Asked.{is_fault as is_fault_by};
 
 use crate::jobs::answer::Answer;
 use crate::jobs::call::JobId;

@@ -62,7 +62,7 @@ impl Turned {
     }
 }
 
-/// What the directories answered. Want of memory is handed on: no step was taken.
+/// What the directories answered. Out of memory is handed on: no step was taken.
 pub(crate) fn reply_of(answer: Result<(), DirError>) -> Result<DirReply, CoreError>
     ensures ok { IfOk result (λ reply. reply_from answer ≡ Some reply) }
     ensures err { IfErr result (λ e. e ≡ CoreError.NoMemory) }
@@ -77,7 +77,7 @@ pub(crate) fn reply_of(answer: Result<(), DirError>) -> Result<DirReply, CoreErr
     }
 }
 
-/// Looks for one message of a directory, and says what the directories answered. Want of memory is handed on: no step was taken.
+/// Looks for one message of a directory, and says what the directories answered. Out of memory is handed on: no step was taken.
 pub(crate) fn look<D: Dirs>(
     dirs: &mut D,
     folder: u32,

@@ -45,7 +45,7 @@ fn is_bad_tries(tries: u64) -> bool
 }
 
 impl<D: Dirs> World<D> {
-    /// The first check that a call meets, want of memory aside.
+    /// The first check that a call meets, out of memory aside.
     pub(crate) fn refusal_of(&self, call: &Call) -> Option<CoreError>
         ensures { result ≡ submit_refusal self.now call.now }
     {

@@ -3,6 +3,7 @@ ghost use Rattle.std.specs.Prelude.{◌≡◌, ◌⊎◌, None, Some, IfOk, IfEr
 ghost use Rattle.md_core.specs.Loading.{load_refusal};
 ghost use Rattle.md_core.specs.Runs.{new_run};
 ghost use Rattle.md_core.specs.Interleaving.{Interleaves};
+ghost use Rattle.md_core.specs.Tracing.{trace_of};
 
 use crate::error::CoreError;
 use crate::image::Image;
@@ -27,7 +28,7 @@ impl<D: Dirs> World<D> {
     pub fn load(alloc: Global, dirs: D) -> Result<World<D>, LoadRefused<D>>
         ensures ok { IfOk result (λ w. w ≡ new_run (D.state dirs) (D.failures dirs) (D.calls dirs)) }
         ensures accepted { OnOk result (load_refusal (D.state dirs) ≡ None) }
-        ensures theorem { IfOk result Interleaves }
+        ensures theorem { IfOk result (λ w. Interleaves (trace_of w)) }
         ensures refused { IfErr result (λ r. (r.error ≡ CoreError.NoMemory) ⊎ (load_refusal (D.state dirs) ≡ Some r.error)) }
         ensures err { IfErr result (λ r. r.dirs ≡ dirs) }
     {

@@ -121,7 +121,7 @@ fn look_in<D: Dirs>(dirs: &D, folder: u32, place: Place, seen: &mut Seen) -> Res
 
 /// Looks at all names of directories, by folder, then tmp, new and cur, then by the order of names. It makes no directory call.
 ///
-/// The first fault is the refusal; else it is refused only for want of memory.
+/// The first fault is the refusal; else it is refused only when out of memory.
 pub(crate) fn look<D: Dirs>(alloc: Global, dirs: &D) -> Result<Looked, CoreError>
     ensures accepted { IfOk result (λ l. load_refusal (D.state dirs.now) ≡ None) }
     ensures clock { IfOk result (λ l. l.clock ≡ first_clock (D.state dirs.now)) }

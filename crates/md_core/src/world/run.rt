@@ -2,6 +2,7 @@
 ghost use Rattle.std.specs.Prelude.{OnOk, IfErr};
 ghost use Rattle.md_core.specs.Worlds.{TakesAll, StopsAt};
 ghost use Rattle.md_core.specs.Interleaving.{Interleaves};
+ghost use Rattle.md_core.specs.Tracing.{trace_of};
 
 use crate::error::CoreError;
 use crate::jobs::step::Event;
@@ -21,7 +22,7 @@ impl<D: Dirs> World<D> {
     pub fn run(&mut self, events: &[Event]) -> Result<(), RunStop>
         ensures taken { OnOk result (TakesAll events.now self.old self.new) }
         ensures stopped { IfErr result (λ stop. StopsAt events.now stop.at stop.error self.old self.new) }
-        ensures theorem { Interleaves self.new }
+        ensures theorem { Interleaves (trace_of self.new) }
     {
         self.interleaves();
         for (at, event) in events.iter().enumerate() {

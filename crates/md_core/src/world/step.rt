@@ -1,10 +1,12 @@
 //! One step of a job.
 ghost use Rattle.std.specs.Prelude.{◌≡◌, ◌≢◌, ◌+◌, ◌<◌, length, MatchResult, Some, None, IfOk, OnOk, OnErr};
-ghost use Rattle.md_core.specs.Turn.{is_fault};
+ghost use Rattle.md_core.specs.Asked.{is_fault};
 ghost use Rattle.md_core.specs.Machine.{marked, job_at};
 ghost use Rattle.md_core.specs.Standing.{standings};
 ghost use Rattle.md_core.specs.Runs.{jobs_of, and_event, step_refusal, steps_left, IsRefusal};
-ghost use Rattle.md_core.specs.Interleaving.{Interleaves, ShowsStep, Succeeds};
+ghost use Rattle.md_core.specs.Interleaving.{Interleaves};
+ghost use Rattle.md_core.specs.Tracing.{trace_of, GrowsByStep};
+ghost use Rattle.md_core.specs.Stepping.{ShowsStep, Succeeds};
 
 use crate::error::CoreError;
 use crate::jobs::call::JobId;
@@ -31,7 +33,7 @@ fn unanswered(jobs: &[Job], job: JobId) -> Result<usize, CoreError>
 }
 
 impl<D: Dirs> World<D> {
-    /// Where a step of a job would be refused, want of memory aside: there is no such job, or it has its answer.
+    /// Where a step of a job would be refused, out of memory aside: there is no such job, or it has its answer.
     pub fn refusal(&self, job: JobId) -> Option<CoreError>
         ensures { result ≡ step_refusal (job_at (jobs_of self.now) job) }
     {
@@ -50,6 +52,8 @@ impl<D: Dirs> World<D> {
     pub fn step(&mut self, job: JobId, now: u64, own: Option<u64>) -> Result<StepOut, CoreError>
         // The run goes on by this one event, and by nothing else.
         ensures event { IfOk result (λ out. self.new ≡ and_event self.old (marked job now own (is_fault out.reply))) }
+        // The trace grows by one step, and that is what is shown.
+        ensures trace { IfOk result (GrowsByStep (trace_of self.old) (trace_of self.new) job) }
         ensures shows { IfOk result (λ out. ShowsStep self.old self.new (marked job now own (is_fault out.reply)) out) }
         ensures success { IfOk result (λ out. Succeeds self.new job out.answer) }
         ensures refused { MatchResult result (λ _. step_refusal (job_at (jobs_of self.old) job) ≡ None)
@@ -58,7 +62,7 @@ impl<D: Dirs> World<D> {
         // Each step leaves its job fewer steps, and the other jobs as they were.
         ensures nearer { OnOk result (steps_left self.new job < steps_left self.old job) }
         ensures others { OnOk result ((n : _) → n ≢ job → job_at (jobs_of self.new) n ≡ job_at (jobs_of self.old) n) }
-        ensures theorem { OnOk result (Interleaves self.new) }
+        ensures theorem { OnOk result (Interleaves (trace_of self.new)) }
     {
         let at = unanswered(&self.jobs, job)?;
         self.log.reserve()?;

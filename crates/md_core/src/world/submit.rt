@@ -4,6 +4,7 @@ ghost use Rattle.md_core.specs.Runs.{and_call, effects_of, IsRefusal};
 ghost use Rattle.md_core.specs.Submitting.{submit_refusal, makes};
 ghost use Rattle.md_core.specs.Used.{is_among};
 ghost use Rattle.md_core.specs.Interleaving.{Interleaves};
+ghost use Rattle.md_core.specs.Tracing.{trace_of};
 
 use crate::error::CoreError;
 use crate::jobs::call::{Call, JobId};
@@ -59,7 +60,7 @@ impl<D: Dirs> World<D> {
         ensures refused { MatchResult result (λ _. submit_refusal self.old call ≡ None) (λ r. IsRefusal (submit_refusal self.old call) r.error) }
         ensures unchanged { OnErr result (self.new ≡ self.old) }
         ensures call { IfErr result (λ r. r.call ≡ call) }
-        ensures theorem { OnOk result (Interleaves self.new) }
+        ensures theorem { OnOk result (Interleaves (trace_of self.new)) }
     {
         if let Some(error) = self.refusal_of(&call) {
             return Err(SubmitRefused { error, call });

@@ -129,7 +129,7 @@ impl LooseTree {
         self.directories[number].file_of(path.name.as_slice())
     }
 
-    /// Gives a path to a file. Where memory is wanting, nothing has changed.
+    /// Gives a path to a file. When out of memory, nothing has changed.
     pub fn put(&mut self, alloc: Global, path: Path, file: usize) -> Result<(), AllocError>
         ensures ok { OnOk result (self.new ≡ finmap.insert self.old path file) }
         ensures err { OnErr result (self.new ≡ self.old) }

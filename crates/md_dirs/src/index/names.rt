@@ -179,7 +179,7 @@ impl Names {
         self.rows.get(name).copied()
     }
 
-    /// Gives a name to a file, also in place of the one that it named. In the order the positions behind move: none where the
+    /// Gives a name to a file, also in place of the one that it named. In the order the positions after it move: none where the
     /// name goes at the end.
     pub fn put(&mut self, name: Vec<u8>, file: usize) -> Result<(), AllocError>
         ensures ok { OnOk result (self.new ≡ finmap.insert self.old name.items file) }
@@ -196,7 +196,7 @@ impl Names {
     }
 
     /// Takes a name away, and gives the number of its file. It takes no memory. The last row of the table takes the place that
-    /// comes free there, and in the order the positions behind move: none where the name stands at the end.
+    /// comes free there, and in the order the positions after it move: none where the name is at the end.
     pub fn take(&mut self, name: &[u8]) -> Option<usize>
         ensures file { result ≡ finmap.get self.old name.now }
         ensures gone { self.new ≡ finmap.remove self.old name.now }
@@ -216,7 +216,7 @@ impl Names {
     }
 
     /// Gives the file of a name another name, which is not there yet. Where that keeps the row's place in the order, no
-    /// position moves. Where memory is wanting, nothing has changed.
+    /// position moves. When out of memory, nothing has changed.
     pub fn rename(&mut self, old: &[u8], new: Vec<u8>, file: usize) -> Result<(), AllocError>
         requires { finmap.get self.old new.items ≡ None }
         ensures ok { OnOk result (self.new ≡ finmap.remove (finmap.insert self.old new.items file) old.now) }
@@ -262,7 +262,7 @@ impl Names {
         }
     }
 
-    /// All rows, copied. It is refused only for want of memory.
+    /// All rows, copied. It is refused only when out of memory.
     pub fn rows(&self, alloc: Global, slots: &[Option<Kept>]) -> Result<Vec<Row>, AllocError>
         requires { All (λ e. IsSome (file_by (files_of slots.now) e.1)) (finmap.entries self.now) }
         ensures { IfOk result (λ shown. shown.items ≡ map (name_row (files_of slots.now)) (finmap.entries self.now)) }

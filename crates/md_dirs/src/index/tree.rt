@@ -115,7 +115,7 @@ impl Tree {
         self.directories[number].find(unique)
     }
 
-    /// The rows of a directory, copied. It is refused only for want of memory.
+    /// The rows of a directory, copied. It is refused only when out of memory.
     pub fn rows_of(
         &self,
         alloc: Global,
@@ -134,7 +134,7 @@ impl Tree {
     }
 
     /// Gives the file of a path another path, also in place of the file that this named: `is_free` says that it named none.
-    /// Where memory is wanting, nothing has changed.
+    /// When out of memory, nothing has changed.
     pub fn rename(
         &mut self,
         alloc: Global,

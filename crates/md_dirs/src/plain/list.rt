@@ -113,7 +113,7 @@ impl PathList {
         }
     }
 
-    /// The rows of a directory, copied. It is refused only for want of memory.
+    /// The rows of a directory, copied. It is refused only when out of memory.
     pub fn rows_of(
         &self,
         alloc: Global,

@@ -153,6 +153,7 @@ pub fn all_of<D: Dirs>(alloc: Global, world: &World<D>) -> Result<Vec<FolderName
     ensures refusal { IfErr result (λ error. error ≡ NoMemory) }
 {
     world.interleaves();
+    md_core::laws::names_show_their_directories();
     let count = world.folders();
     let mut folders = Vec::with_capacity(alloc, count as usize)?;
     for folder in 0..count {

@@ -37,7 +37,7 @@ use Rattle.md_core.specs.Machines.Move as moved_by
 use Rattle.md_core.specs.Machines.Expunge as expunged_by
 use Rattle.md_core.specs.Machines.Copy as copied_by
 use Rattle.md_core.specs.Machines.Clean as cleaned_by
-use Rattle.md_core.specs.Turn.{Asked, create, unlink}
+use Rattle.md_core.specs.Asked.{Asked, create, unlink}
 use Rattle.md_core.proofs.Induction.Good.{SearchFits, TaskFits, DeliveryFits, Makes}
 use Rattle.md_core.proofs.Directories.Frames.{makes-delivery}
 use Rattle.md_core.proofs.Answers.Files.Tmp.{LeavesTmp}

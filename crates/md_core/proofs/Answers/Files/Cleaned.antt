@@ -22,12 +22,16 @@ use Rattle.md_core.specs.declared.jobs.step.DirReply.{DirReply}
 use Rattle.md_core.specs.declared.jobs.step.DirReply.TheVariants as reply
 use Rattle.md_core.specs.declared.jobs.task.Task.{Task}
 use Rattle.md_core.specs.declared.jobs.task.Task.TheVariants.{Deliver, Mark, Move, Expunge, Copy, Clean}
-use Rattle.md_core.specs.Machine.{Machine, Standing, working, answered, Marked, Done, happens, done, job_at, new_job, standing_of}
+use Rattle.md_core.specs.Machine.{Machine, Standing, working, answered, Marked, happens, done, job_at, new_job, standing_of}
+use Rattle.md_core.specs.Trace.{Step, call_at}
 use Rattle.md_core.specs.Machines.Clean.{old_rows, after_next, at_stage, tmp, stage_turn}
-use Rattle.md_core.specs.Turn.{Turn, Asked, list, unlink, rows_for}
-use Rattle.md_core.specs.Runs.{Run, beginning, run_from, moment, jobs_of, call_at, first_step, dirs_at_first}
-use Rattle.md_core.specs.Interleaving.{IsRun}
-use Rattle.md_core.specs.Answering.{deeds_from, is_ok, HasCleaned}
+use Rattle.md_core.specs.Turn.{Turn, rows_for}
+use Rattle.md_core.specs.Asked.{Asked, list, unlink}
+use Rattle.md_core.specs.Runs.{Run, beginning, run_from, moment, jobs_of, first_step, dirs_at_first}
+use Rattle.md_core.specs.Stepping.{IsRun}
+use Rattle.md_core.specs.Tracing.{deeds_from}
+use Rattle.md_core.specs.Answering.{is_ok}
+use Rattle.md_core.proofs.Answers.OfRun.{HasCleaned}
 use Rattle.md_core.proofs.Induction.Good.{CleaningFits, TaskFits}
 use Rattle.md_core.proofs.Induction.GoodRuns.{new_at}
 use Rattle.md_core.proofs.Lists.Places.{take-one_more}
@@ -55,11 +59,11 @@ map-twice f g [] = refl
 map-twice f g (x ∷ xs) = ap (λ ys. g (f x) ∷ ys) (map-twice f g xs)
 
 module _ (r : Run) (job : ℕ) where
-  abbrev is_own : Done → Bool
+  abbrev is_own : Step → Bool
   is_own d = d.job == job
 
   -- what the job did before moment k
-  abbrev deeds : ℕ → List Done
+  abbrev deeds : ℕ → List Step
   deeds k = filter is_own (deeds_from (beginning r.image r.calls) (take k r.events))
 
   deeds-start : deeds 0 ≡ []
@@ -73,7 +77,7 @@ module _ (r : Run) (job : ℕ) where
         let this : done (moment r k) t.event ≡ Some (done_in r k n t) =
         sym (ap (option_and_then (done (moment r k))) t.at) ∙ done-in r k n t in
         ap (λ (xs : List Marked). filter is_own (deeds_from from xs)) (take-one_more r.events k t.event t.at)
-        ∙ ap (filter is_own) (deeds-more from es t.event ∙ ap (λ (o : Option Done). deeds_from from es ++ option_to_list o) this)
+        ∙ ap (filter is_own) (deeds-more from es t.event ∙ ap (λ (o : Option Step). deeds_from from es ++ option_to_list o) this)
         ∙ filter-append is_own (deeds_from from es) (done_in r k n t ∷ [])
 
     deeds-own : job ≡ n → deeds (k + 1) ≡ deeds k ++ done_in r k n t ∷ []
@@ -92,13 +96,13 @@ module _ (r : Run) (job : ℕ) where
     abbrev takes : List ℕ → Asked
     takes name = unlink (path folder Tmp name)
 
-    abbrev IsFoundOrNot : Done → Type 0
+    abbrev IsFoundOrNot : Step → Type 0
     IsFoundOrNot d = (d.reply ≡ reply.Ok) ⊎ (d.reply ≡ reply.NotFound)
 
     -- before moment k the job looked, and then took names away or found them gone; these names are left, and so many files will be counted
     pub record HasTaken (k : ℕ) (left : List (List ℕ)) (files : ℕ) : Type 0 where
-      pub look : Done
-      pub unlinks : List Done
+      pub look : Step
+      pub unlinks : List Step
       pub deeds_are : deeds k ≡ look ∷ unlinks
       pub listed : look.asked ≡ list folder Tmp
       pub ok : look.reply ≡ reply.Ok
@@ -144,7 +148,7 @@ module _ (r : Run) (job : ℕ) where
       abbrev s : State
       s = (moment r k).dirs
 
-      abbrev this : Done
+      abbrev this : Step
       this = done_in r k job t
 
       look-taken : (c : Cleaning) → c.folder ≡ folder → deeds k ≡ [] → k ≤ first_step r job → this.asked ≡ list c.folder Tmp →
@@ -157,7 +161,7 @@ module _ (r : Run) (job : ℕ) where
           record {
             look = this;
             unlinks = [];
-            deeds_are = deeds-own k job t refl ∙ ap (λ (ds : List Done). ds ++ this ∷ []) none;
+            deeds_are = deeds-own k job t refl ∙ ap (λ (ds : List Step). ds ++ this ∷ []) none;
             listed = asked ∙ ap (λ f. list f Tmp) in_folder;
             ok = replied;
             names = map-twice (λ (row : Row). row.name) takes old
@@ -172,17 +176,17 @@ module _ (r : Run) (job : ℕ) where
           IsFoundOrNot this →
           files' ≡ cond (is_ok this.reply) files (files - 1) → HasTaken (k + 1) left files'
       more-taken name left files files' h asked found counts =
-          let split = sum_by-append (λ (d : Done). cond (is_ok d.reply) 1 0) h.unlinks (this ∷ []) in
+          let split = sum_by-append (λ (d : Step). cond (is_ok d.reply) 1 0) h.unlinks (this ∷ []) in
           let before = h.count in
           record {
             look = h.look;
             unlinks = h.unlinks ++ this ∷ [];
-            deeds_are = deeds-own k job t refl ∙ ap (λ (ds : List Done). ds ++ this ∷ []) h.deeds_are;
+            deeds_are = deeds-own k job t refl ∙ ap (λ (ds : List Step). ds ++ this ∷ []) h.deeds_are;
             listed = h.listed;
             ok = h.ok;
-            names = ap (λ (xs : List Asked). xs ++ map takes left) (map-append (λ (d : Done). d.asked) h.unlinks (this ∷ []))
-                ∙ append_assoc (map (λ (d : Done). d.asked) h.unlinks) (this.asked ∷ []) (map takes left)
-                ∙ ap (λ (a : Asked). map (λ (d : Done). d.asked) h.unlinks ++ a ∷ map takes left) asked ∙ h.names;
+            names = ap (λ (xs : List Asked). xs ++ map takes left) (map-append (λ (d : Step). d.asked) h.unlinks (this ∷ []))
+                ∙ append_assoc (map (λ (d : Step). d.asked) h.unlinks) (this.asked ∷ []) (map takes left)
+                ∙ ap (λ (a : Asked). map (λ (d : Step). d.asked) h.unlinks ++ a ∷ map takes left) asked ∙ h.names;
             replies = All-append IsFoundOrNot h.unlinks (this ∷ []) h.replies (All-cons IsFoundOrNot this [] found (All-nil IsFoundOrNot));
             count = elim found [
               | inl ok ↦
@@ -331,7 +335,7 @@ module _ (r : Run) (run : IsRun r) (job folder : ℕ) (of : call_at r.calls job 
             (sym (take_all end r.events (omega arith))) ∙ h.deeds_are;
         listed = h.listed;
         ok = h.ok;
-        names = sym (append-nil (map (λ (d : Done). d.asked) h.unlinks)) ∙ h.names;
+        names = sym (append-nil (map (λ (d : Step). d.asked) h.unlinks)) ∙ h.names;
         replies = h.replies;
         count = omega (arith, counted);
       }

@@ -9,13 +9,14 @@ use Rattle.md_core.specs.declared.jobs.call.Call.TheVariants.{Deliver}
 use Rattle.md_core.specs.declared.jobs.deliver.Delivery.{Delivery}
 use Rattle.md_core.specs.declared.jobs.task.Task.{Task}
 use Rattle.md_core.specs.declared.jobs.task.Task.TheVariants as task
-use Rattle.md_core.specs.Machine.{Done, answered, working, job_at}
+use Rattle.md_core.specs.Trace.{Step, call_at}
+use Rattle.md_core.specs.Machine.{answered, working, job_at}
 use Rattle.md_core.specs.Machines.Clean.{least_seconds}
 use Rattle.md_core.specs.Machines.Deliver.{most_seconds}
-use Rattle.md_core.specs.Runs.{Run, moment, jobs_of, call_at, first_step}
-use Rattle.md_core.specs.Interleaving.{IsRun}
-use Rattle.md_core.specs.Answering.{IsStep, IsCleanedAway}
-use Rattle.md_core.specs.Sparing.{AreApart, CleanersSpare}
+use Rattle.md_core.specs.Runs.{Run, moment, jobs_of, first_step}
+use Rattle.md_core.specs.Stepping.{IsRun}
+use Rattle.md_core.proofs.Answers.OfRun.{IsStep, IsCleanedAway}
+use Rattle.md_core.proofs.Answers.RunSparing.{AreApart, CleanersSpare}
 use Rattle.md_core.proofs.Induction.Good.{DeliveryFits}
 use Rattle.md_core.proofs.Answers.LastStep.{IsTurn, last-step, done_in, done-in}
 use Rattle.md_core.proofs.Answers.Moments.{its-call, its-fits, at, turn-done, next-clock, clock-grows, clock-later}
@@ -46,14 +47,14 @@ module _ (r : Run) (run : IsRun r) (seconds : ℕ) (few : seconds ≤ 14400) (ap
   -- two steps at one event are one
   same-own : (job k : ℕ) (a b : IsStep r job k) → a.what.at.own ≡ b.what.at.own
   same-own job k a b =
-      let same : a.what ≡ b.what = (let e : Some a.what ≡ Some b.what = sym a.at ∙ b.at in cc) in ap (λ (d : Done). d.at.own) same
+      let same : a.what ≡ b.what = (let e : Some a.what ≡ Some b.what = sym a.at ∙ b.at in cc) in ap (λ (d : Step). d.at.own) same
 
   -- the clock of an event is at most that of a later one
   clock-of : (k : ℕ) (p : Path) (cleaned : IsCleanedAway r k p) (i n : ℕ) (t : IsTurn r i n) → k < i →
       cleaned.what.at.clock ≤ (at r i n t).clock
   clock-of k p cleaned i n t before =
       let done = turn-done r run k cleaned.what cleaned.at in
-      let clock : cleaned.what.at.clock ≡ (at r k done.0 done.1).clock = ap (λ (d : Done). d.at.clock) done.2 in
+      let clock : cleaned.what.at.clock ≡ (at r k done.0 done.1).clock = ap (λ (d : Step). d.at.clock) done.2 in
       let next = next-clock r k done.0 done.1 in
       let later = clock-later r run (k + 1) i (omega (arith, before)) in
       let grows = clock-grows r i n t in

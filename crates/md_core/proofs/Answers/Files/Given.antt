@@ -22,9 +22,10 @@ use Rattle.md_core.specs.declared.jobs.task.Task.TheVariants.{Deliver, Mark, Mov
 use Rattle.md_core.specs.Machine.{working}
 use Rattle.md_core.specs.Machines.Clean as cleaned_by
 use Rattle.md_core.specs.Machines.Deliver.{at_stage, target, create_turn, append_turn, link_turn, unlink_turn, stage_turn, is_in_time}
-use Rattle.md_core.specs.Turn.{Turn, ask_of, reply_by, reply_of, rows_for}
+use Rattle.md_core.specs.Turn.{Turn, reply_of, rows_for}
+use Rattle.md_core.specs.Asked.{ask_of, reply_by}
 use Rattle.md_core.specs.Runs.{Run, moment}
-use Rattle.md_core.specs.Interleaving.{IsRun}
+use Rattle.md_core.specs.Stepping.{IsRun}
 use Rattle.md_core.proofs.Induction.Good.{DeliveryFits, TaskFits}
 use Rattle.md_core.proofs.Answers.LastStep.{IsTurn, is_within, LastStep, reply_in}
 use Rattle.md_core.proofs.Answers.Moments.{its-call, its-fits, at, asked_by, after_task}

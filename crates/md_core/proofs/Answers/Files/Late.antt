@@ -18,15 +18,17 @@ use Rattle.md_core.specs.declared.jobs.step.DirReply.{DirReply}
 use Rattle.md_core.specs.declared.jobs.step.DirReply.TheVariants as reply
 use Rattle.md_core.specs.declared.jobs.task.Task.{Task}
 use Rattle.md_core.specs.declared.jobs.task.Task.TheVariants.{Deliver, Mark, Move, Expunge, Copy, Clean}
-use Rattle.md_core.specs.Machine.{Done, working, job_at, new_job}
+use Rattle.md_core.specs.Trace.{Step, call_at}
+use Rattle.md_core.specs.Machine.{working, job_at, new_job}
 use Rattle.md_core.specs.Machines.Clean.{least_seconds, new_cleaning, is_old, old_rows, after_next, at_stage, tmp, stage_turn}
-use Rattle.md_core.specs.Turn.{Turn, unlink, rows_for}
-use Rattle.md_core.specs.Runs.{Run, moment, call_at, first_step}
-use Rattle.md_core.specs.Interleaving.{IsRun}
-use Rattle.md_core.specs.Answering.{IsStep, IsCleanedAway}
-use Rattle.md_core.specs.Sparing.{AreApart}
+use Rattle.md_core.specs.Turn.{Turn, rows_for}
+use Rattle.md_core.specs.Asked.{unlink}
+use Rattle.md_core.specs.Runs.{Run, moment, first_step}
+use Rattle.md_core.specs.Stepping.{IsRun}
+use Rattle.md_core.proofs.Answers.OfRun.{IsStep, IsCleanedAway}
+use Rattle.md_core.proofs.Answers.RunSparing.{AreApart}
 use Rattle.md_core.proofs.Induction.Good.{TaskFits, call_by}
-use Rattle.md_core.proofs.Lists.Members.{Has}
+use Rattle.lists.proofs.Members.{Has}
 use Rattle.md_core.proofs.Answers.LastStep.{IsTurn, is_within, left_by, turn-at, holds, reply_in, done_in, done-in}
 use Rattle.md_core.proofs.Answers.Moments.{its-fits, at, asked_by, after_task, next-clock, clock-grows, turn-done}
 use Rattle.md_core.proofs.Answers.Files.Stamps.{stamped-at}
@@ -194,13 +196,13 @@ module _ (r : Run) (run : IsRun r) (seconds : ℕ) (apart : AreApart r seconds) 
       let n = done.0 in
       let t = done.1 in
       let its : call_at r.calls n ≡ Some (call.Clean cleaned.folder) =
-      ap (call_at r.calls) (sym t.own ∙ ap (λ (d : Done). d.job) (sym done.2)) ∙ cleaned.by in
+      ap (call_at r.calls) (sym t.own ∙ ap (λ (d : Step). d.job) (sym done.2)) ∙ cleaned.by in
       let clean = cleans (moment r k).dirs cleaned.folder t.task (its-fits r run k n (call.Clean cleaned.folder) t.task its t.there) in
-      let asks = ap (λ (d : Done). d.asked) (sym done.2) ∙ cleaned.asked in
+      let asks = ap (λ (d : Step). d.asked) (sym done.2) ∙ cleaned.asked in
       let left = left-now clean.0 (at r k n t).own clean.0.stage (ap (asked_by r k n t) (sym clean.1) ∙ asks) in
       let within : k ≤ length r.events = (let less = is_within r k n t in omega (arith, less)) in
       let late = subst (λ (x : Task). AtTask k n x) clean.1 (late-task k n t.task within t.there) left.0 left.1 in
       let before = late.late in
-      let clock : cleaned.what.at.clock ≡ (at r k n t).clock = ap (λ (d : Done). d.at.clock) done.2 in
+      let clock : cleaned.what.at.clock ≡ (at r k n t).clock = ap (λ (d : Step). d.at.clock) done.2 in
       let grows = clock-grows r k n t in
       (late.begun, omega (arith, before, clock, grows))

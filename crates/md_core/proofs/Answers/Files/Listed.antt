@@ -9,7 +9,7 @@ use Rattle.md_dirs.specs.declared.paths.Place.{Place}
 use Rattle.md_dirs.specs.declared.rows.Row.{Row}
 use Rattle.md_dirs.proofs.PathOrder.{path_total, path_exact}
 use Rattle.md_core.specs.Runs.{stamp_of}
-use Rattle.md_core.proofs.Lists.Members.{Has, has-get}
+use Rattle.lists.proofs.Members.{Has, has-get}
 use Rattle.md_core.proofs.Looking.LookUps.{name-row, path-in}
 use Rattle.md_core.proofs.Answers.Files.Tmp.{stamp_at}
 

@@ -11,9 +11,10 @@ use Rattle.md_core.specs.declared.jobs.call.Call.TheVariants as call
 use Rattle.md_core.specs.declared.jobs.deliver.Delivery.{Delivery}
 use Rattle.md_core.specs.Machine.{answered, job_at}
 use Rattle.md_core.specs.Machines.Deliver.{most_seconds}
-use Rattle.md_core.specs.Runs.{Run, moment, jobs_of, call_at, first_step}
-use Rattle.md_core.specs.Interleaving.{IsRun}
-use Rattle.md_core.specs.Answering.{IsStep, IsOutOfTime, IsGone, IsTimedOut, IsTmpGone, IsCleaned, Says}
+use Rattle.md_core.specs.Runs.{Run, moment, jobs_of, first_step}
+use Rattle.md_core.specs.Trace.{call_at}
+use Rattle.md_core.specs.Stepping.{IsRun}
+use Rattle.md_core.proofs.Answers.OfRun.{IsStep, IsOutOfTime, IsGone, IsTimedOut, IsTmpGone, IsCleaned, Says}
 use Rattle.md_core.proofs.Induction.Good.{CleaningFits, TaskFits}
 use Rattle.md_core.proofs.Answers.LastStep.{IsTurn, last-step, is-step}
 use Rattle.md_core.proofs.Answers.Moments.{its-fits, at}

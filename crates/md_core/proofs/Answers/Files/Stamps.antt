@@ -8,9 +8,10 @@ use Rattle.md_core.specs.declared.jobs.call.Call.TheVariants.{Deliver}
 use Rattle.md_core.specs.declared.jobs.deliver.Stage.{Stage}
 use Rattle.md_core.specs.declared.jobs.task.Task.{Task}
 use Rattle.md_core.specs.Machine.{Machine}
-use Rattle.md_core.specs.Runs.{Run, moment, call_at, first_step}
-use Rattle.md_core.specs.Interleaving.{IsRun}
-use Rattle.md_core.specs.Answering.{IsStep}
+use Rattle.md_core.specs.Runs.{Run, moment, first_step}
+use Rattle.md_core.specs.Trace.{call_at}
+use Rattle.md_core.specs.Stepping.{IsRun}
+use Rattle.md_core.proofs.Answers.OfRun.{IsStep}
 use Rattle.md_core.proofs.Induction.Good.{IsUnused}
 use Rattle.md_core.proofs.Worlds.Accepted.{accepted}
 use Rattle.md_core.proofs.Worlds.Loading.Loaded.{unused-path}

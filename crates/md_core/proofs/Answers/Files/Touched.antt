@@ -8,10 +8,11 @@ use Rattle.md_core.specs.declared.jobs.deliver.Delivery.{Delivery}
 use Rattle.md_core.specs.declared.jobs.deliver.Stage.TheVariants.{Start}
 use Rattle.md_core.specs.declared.jobs.step.DirReply.{DirReply}
 use Rattle.md_core.specs.declared.jobs.task.Task.TheVariants.{Deliver}
-use Rattle.md_core.specs.Turn.{Asked}
-use Rattle.md_core.specs.Runs.{Run, moment, call_at}
-use Rattle.md_core.specs.Interleaving.{IsRun}
-use Rattle.md_core.specs.Answering.{IsCleanedAway}
+use Rattle.md_core.specs.Asked.{Asked}
+use Rattle.md_core.specs.Runs.{Run, moment}
+use Rattle.md_core.specs.Trace.{call_at}
+use Rattle.md_core.specs.Stepping.{IsRun}
+use Rattle.md_core.proofs.Answers.OfRun.{IsCleanedAway}
 use Rattle.md_core.proofs.Induction.Good.{TaskFits, Makes}
 use Rattle.md_core.proofs.Induction.GoodRuns.{all-apart}
 use Rattle.md_core.proofs.Answers.LastStep.{IsTurn, turn_by, reply_in, done_in, done-in}

@@ -22,10 +22,12 @@ use Rattle.md_core.specs.declared.jobs.task.Task.{Task}
 use Rattle.md_core.specs.declared.jobs.task.Task.TheVariants.{Deliver, Mark, Move, Expunge, Copy, Clean}
 use Rattle.md_core.specs.Machine.{Machine, answered, job_at, turn_of}
 use Rattle.md_core.specs.Machines.Deliver.{append_turn, link_turn, unlink_turn, stage_turn, is_in_time}
-use Rattle.md_core.specs.Turn.{Turn, create, unlink}
-use Rattle.md_core.specs.Runs.{Run, moment, jobs_of, call_at}
-use Rattle.md_core.specs.Interleaving.{IsRun}
-use Rattle.md_core.specs.Answering.{IsFaulted, IsDelivered, IsUndone}
+use Rattle.md_core.specs.Turn.{Turn}
+use Rattle.md_core.specs.Asked.{create, unlink}
+use Rattle.md_core.specs.Runs.{Run, moment, jobs_of}
+use Rattle.md_core.specs.Trace.{call_at}
+use Rattle.md_core.specs.Stepping.{IsRun}
+use Rattle.md_core.proofs.Answers.OfRun.{IsFaulted, IsDelivered, IsUndone}
 use Rattle.md_core.proofs.Induction.Good.{DeliveryFits, TaskFits, call_by}
 use Rattle.md_core.proofs.Answers.LastStep.{LastStep, last-step, is-step, turn_by, reply_in}
 use Rattle.md_core.proofs.Answers.Moments.{its-fits, at}

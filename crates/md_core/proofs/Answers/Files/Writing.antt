@@ -5,7 +5,7 @@ use Rattle.md_dirs.specs.declared.paths.Path.{Path}
 use Rattle.md_dirs.specs.declared.rows.Row.{Row}
 use Rattle.md_dirs.specs.declared.paths.Place.TheVariants.{Tmp}
 use Rattle.md_dirs.proofs.PathOrder.{path_total, path_exact}
-use Rattle.md_dirs.proofs.Maps as maps
+use Rattle.lists.proofs.Maps as maps
 use Rattle.md_core.specs.declared.jobs.answer.Answer.TheVariants as answer
 use Rattle.md_core.specs.declared.jobs.call.Call.{Call}
 use Rattle.md_core.specs.declared.jobs.call.Call.TheVariants as call
@@ -24,10 +24,12 @@ use Rattle.md_core.specs.Machines.Move.{new_moving}
 use Rattle.md_core.specs.Machines.Expunge.{new_expunging}
 use Rattle.md_core.specs.Machines.Copy.{new_copying}
 use Rattle.md_core.specs.Machines.Clean.{new_cleaning}
-use Rattle.md_core.specs.Turn.{Turn, append, ask_of, state_by}
-use Rattle.md_core.specs.Runs.{Run, moment, call_at, first_step}
-use Rattle.md_core.specs.Interleaving.{IsRun}
-use Rattle.md_core.specs.Answering.{IsStep, IsCleanedAway}
+use Rattle.md_core.specs.Turn.{Turn}
+use Rattle.md_core.specs.Asked.{append, ask_of, state_by}
+use Rattle.md_core.specs.Runs.{Run, moment, first_step}
+use Rattle.md_core.specs.Trace.{call_at}
+use Rattle.md_core.specs.Stepping.{IsRun}
+use Rattle.md_core.proofs.Answers.OfRun.{IsStep, IsCleanedAway}
 use Rattle.md_core.proofs.Induction.Good.{DeliveryFits, TaskFits}
 use Rattle.md_core.proofs.Directories.Frames.{makes-delivery}
 use Rattle.md_core.proofs.Answers.LastStep.{IsTurn, left_by, turn-at, holds, reply_in}

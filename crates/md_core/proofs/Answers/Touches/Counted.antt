@@ -12,7 +12,7 @@ use Rattle.std.proofs.lemmas.Map.Lookups.{exact_bytes}
 use Rattle.md_name.specs.Names.{unique_of}
 use Rattle.md_name.proofs.Flagged.{unique_of-flagged, colonless-unique_of}
 use Rattle.md_dirs.specs.Rows.{is_named}
-use Rattle.md_dirs.proofs.Maps.{beside_put, beside_drop}
+use Rattle.lists.proofs.Maps.{beside_put, beside_drop}
 use Rattle.md_core.specs.declared.jobs.answer.Answer.{Answer}
 use Rattle.md_core.specs.declared.jobs.answer.Answer.TheVariants as answer
 use Rattle.md_core.specs.declared.jobs.effect.Change.{Change}
@@ -20,10 +20,12 @@ use Rattle.md_core.specs.declared.jobs.effect.Change.TheVariants as change
 use Rattle.md_core.specs.declared.jobs.effect.Effect.{Effect}
 use Rattle.md_core.specs.Mailbox.{Mailbox}
 use Rattle.md_core.specs.History.{Names, names_of, changed, IsAllowed}
-use Rattle.md_core.specs.Machine.{Machine, Marked, Done}
+use Rattle.md_core.specs.Machine.{Machine, Marked}
+use Rattle.md_core.specs.Trace.{Step}
 use Rattle.md_core.specs.Runs.{Run, moment, box}
-use Rattle.md_core.specs.Interleaving.{IsRun, AsAlone}
-use Rattle.md_core.specs.Answering.{is_on, is_touch, effects_between}
+use Rattle.md_core.specs.Stepping.{IsRun, AsAlone}
+use Rattle.md_core.specs.Answering.{is_on, is_touch}
+use Rattle.md_core.proofs.Answers.OfRun.{effects_between}
 use Rattle.md_core.proofs.Induction.Good.{Affects}
 use Rattle.md_core.proofs.Machines.EachTurn.{each-turn}
 use Rattle.md_core.proofs.Induction.Going.{Goes}
@@ -92,7 +94,7 @@ module _ (r : Run) (run : IsRun r) where
 
   -- an event of another job touches a unique name, or leaves it as it is
   module _ (k : ℕ) (e : Marked) (at : slice_get r.events k ≡ Some e) (job : ℕ) (differ : job ≢ e.event.job) (u : List ℕ) where
-    abbrev what : Done
+    abbrev what : Step
     what = what-at r run each-turn k e at
 
     abbrev TouchesOr : Type 0

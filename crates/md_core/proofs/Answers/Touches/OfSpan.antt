@@ -18,10 +18,11 @@ use Rattle.md_core.specs.declared.jobs.task.Task.TheVariants.{Deliver, Mark, Mov
 use Rattle.md_core.specs.Mailbox.{Entry, is_tmp}
 use Rattle.md_core.specs.Alone.{moved, copied, such, is_in_place, is_in_folder}
 use Rattle.md_core.specs.Machine.{Standing, working, answered, job_at, new_job}
-use Rattle.md_core.specs.Runs.{Run, moment, box, call_at}
+use Rattle.md_core.specs.Runs.{Run, moment, box}
+use Rattle.md_core.specs.Trace.{call_at}
 use Rattle.md_core.specs.Turn.{After}
-use Rattle.md_core.specs.Interleaving.{IsRun}
-use Rattle.md_core.specs.Answering.{IsStep, IsOfSpan}
+use Rattle.md_core.specs.Stepping.{IsRun}
+use Rattle.md_core.proofs.Answers.OfRun.{IsStep, IsOfSpan}
 use Rattle.md_core.proofs.Induction.Good.{TaskFits}
 use Rattle.md_core.proofs.Mailbox.Shown.{mailbox-shows}
 use Rattle.md_core.proofs.Answers.LastStep.{IsTurn, reply_in, left_by, is-step, is_within, holds}

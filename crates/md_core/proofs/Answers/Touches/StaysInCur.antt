@@ -6,22 +6,24 @@ use Rattle.md_dirs.specs.declared.paths.Place.TheVariants.{Cur}
 use Rattle.md_core.specs.declared.jobs.effect.Effect.{Effect}
 use Rattle.md_core.specs.Mailbox.{Entry, Mailbox}
 use Rattle.md_core.specs.History.{Names, names_of, listed}
-use Rattle.md_core.specs.Machine.{Machine, Done}
+use Rattle.md_core.specs.Machine.{Machine}
+use Rattle.md_core.specs.Trace.{Step}
 use Rattle.md_core.specs.Runs.{Run, moment, box}
-use Rattle.md_core.specs.Interleaving.{IsRun, AsAlone}
+use Rattle.md_core.specs.Stepping.{IsRun, AsAlone}
 use Rattle.md_core.proofs.Induction.Good.{Affects, Makes, Known, own_effect}
 use Rattle.md_core.proofs.Machines.EachTurn.{each-turn}
 use Rattle.md_core.proofs.Induction.Going.{Goes}
 use Rattle.md_core.proofs.Induction.GoodRuns.{going-at, what-at}
 use Rattle.md_core.proofs.Induction.Knowing.{known-there, known-more}
 use Rattle.md_core.proofs.Mailbox.Naming.{get-names}
-use Rattle.md_core.proofs.Theorem.Placed.{IsInCur, placed-kept}
+use Rattle.md_core.specs.Laws.{IsInCur}
+use Rattle.md_core.proofs.Theorem.Placed.{placed-kept}
 use Rattle.md_core.proofs.Lists.Places.{at_place}
 use Rattle.md_core.proofs.Runs.ByEvent.{moment-over}
 use Rattle.md_core.proofs.Answers.Turns.EachSays.{is-good}
 
 -- a turn leaves a known name in cur, or takes it away
-cur-kept : (r : Run) (m m' : Machine) (what : Done) (g : Goes r.calls m m' what) (u : List ℕ) (size : ℕ) → Known r.calls m u size →
+cur-kept : (r : Run) (m m' : Machine) (what : Step) (g : Goes r.calls m m' what) (u : List ℕ) (size : ℕ) → Known r.calls m u size →
     IsInCur (get (names_of (box m)) u) → IsInCur (get (names_of (box m')) u)
 cur-kept r m m' what g u size known was = by what.effect g.does.as_alone g.does.first g.does.effect
   where

@@ -13,10 +13,11 @@ use Rattle.md_core.specs.declared.jobs.task.Task.{Task}
 use Rattle.md_core.specs.declared.jobs.task.Task.TheVariants.{Deliver, Mark, Move, Expunge, Copy, Clean}
 use Rattle.md_core.specs.History.{names_of}
 use Rattle.md_core.specs.Machine.{Standing, working, answered, Marked, job_at, new_job}
-use Rattle.md_core.specs.Runs.{Run, moment, box, call_at}
+use Rattle.md_core.specs.Runs.{Run, moment, box}
+use Rattle.md_core.specs.Trace.{call_at}
 use Rattle.md_core.specs.Turn.{After}
-use Rattle.md_core.specs.Interleaving.{IsRun}
-use Rattle.md_core.specs.Answering.{IsStep, IsTouched, IsLost}
+use Rattle.md_core.specs.Stepping.{IsRun}
+use Rattle.md_core.proofs.Answers.OfRun.{IsStep, IsTouched, IsLost}
 use Rattle.md_core.proofs.Induction.Good.{TaskFits, call_by}
 use Rattle.md_core.proofs.Answers.LastStep.{IsTurn, reply_in, left_by, is-step, is_within, holds}
 use Rattle.md_core.proofs.Answers.Turns.OneMessage.{Trying, idle, looking, acting, trying_of, sought, TriesOn, IsOver}

@@ -10,10 +10,12 @@ use Rattle.md_core.specs.declared.jobs.step.Moment.{Moment}
 use Rattle.md_core.specs.declared.jobs.task.Task.{Task}
 use Rattle.md_core.specs.declared.jobs.task.Task.TheVariants.{Deliver, Mark, Move, Expunge, Copy, Clean}
 use Rattle.md_core.specs.Machine.{Machine, working, job_at, moment_of}
-use Rattle.md_core.specs.Runs.{Run, moment, call_at}
+use Rattle.md_core.specs.Runs.{Run, moment}
+use Rattle.md_core.specs.Trace.{call_at}
 use Rattle.md_core.specs.Submitting.{submit_refusal, no_folder, too_many}
-use Rattle.md_core.specs.Turn.{After, ask_of, state_by}
-use Rattle.md_core.specs.Interleaving.{IsRun}
+use Rattle.md_core.specs.Turn.{After}
+use Rattle.md_core.specs.Asked.{ask_of, state_by}
+use Rattle.md_core.specs.Stepping.{IsRun}
 use Rattle.md_core.proofs.Induction.Good.{IsGood, TaskFits}
 use Rattle.md_core.proofs.Machines.EachTurn.{each-turn}
 use Rattle.md_core.proofs.Runs.Events.{happens-turned}

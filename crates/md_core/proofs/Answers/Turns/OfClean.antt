@@ -13,7 +13,8 @@ use Rattle.md_core.specs.declared.jobs.cleaning.Stage.TheVariants.{Look, Remove}
 use Rattle.md_core.specs.declared.jobs.step.Moment.{Moment}
 use Rattle.md_core.specs.declared.jobs.step.DirReply.{DirReply}
 use Rattle.md_core.specs.declared.jobs.step.DirReply.TheVariants as reply
-use Rattle.md_core.specs.Turn.{After, Turn, ask_of, rows_for, reply_of}
+use Rattle.md_core.specs.Turn.{After, Turn, rows_for, reply_of}
+use Rattle.md_core.specs.Asked.{ask_of}
 use Rattle.md_core.specs.Machines.Clean.{at_stage, tmp, old_rows, after_next, look_turn, unlink_turn, stage_turn, cleaning_turn}
 use Rattle.md_core.proofs.Answers.Turns.Refusals.{list-exists, list-not_found, unlink-exists}
 

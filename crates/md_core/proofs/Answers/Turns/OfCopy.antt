@@ -25,7 +25,8 @@ use Rattle.md_core.specs.Alone.{copied, copy_by, such, is_in_folder}
 use Rattle.md_core.specs.Machine.{as_task}
 use Rattle.md_core.specs.Machines.Search.{after_look, after_lost, leads}
 use Rattle.md_core.specs.Machines.Copy.{at_stage, source, target, look_turn, link_turn, stage_turn, copying_turn}
-use Rattle.md_core.specs.Turn.{Turn, ask_of, rows_for, reply_of, state_by}
+use Rattle.md_core.specs.Turn.{Turn, rows_for, reply_of}
+use Rattle.md_core.specs.Asked.{ask_of, state_by}
 use Rattle.md_core.proofs.Induction.Good.{CopyingFits}
 use Rattle.md_core.proofs.Looking.Search.{as_after}
 use Rattle.md_core.proofs.Machines.Copy.Names.{copy-name}

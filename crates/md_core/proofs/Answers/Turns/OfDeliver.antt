@@ -12,7 +12,8 @@ use Rattle.md_core.specs.declared.jobs.deliver.Stage.TheVariants.{Start, Writing
 use Rattle.md_core.specs.declared.jobs.step.Moment.{Moment}
 use Rattle.md_core.specs.declared.jobs.step.DirReply.{DirReply}
 use Rattle.md_core.specs.declared.jobs.step.DirReply.TheVariants as reply
-use Rattle.md_core.specs.Turn.{After, Turn, ask_of, rows_for, reply_of}
+use Rattle.md_core.specs.Turn.{After, Turn, rows_for, reply_of}
+use Rattle.md_core.specs.Asked.{ask_of}
 use Rattle.md_core.specs.Machines.Deliver.{at_stage, target, piece, create_turn, append_turn, link_turn, unlink_turn, stage_turn, delivery_turn, is_in_time}
 use Rattle.md_core.proofs.Induction.Good.{DeliveryFits}
 use Rattle.md_core.proofs.Directories.Frames.{tmp-key}

@@ -24,7 +24,8 @@ use Rattle.md_core.specs.declared.jobs.step.DirReply.TheVariants as reply
 use Rattle.md_core.specs.declared.jobs.task.Task.TheVariants.{Expunge}
 use Rattle.md_core.specs.Mailbox.{Entry, Mailbox, mailbox_of, entry_of, HasOnePath}
 use Rattle.md_core.specs.Alone.{Outcome, expunged, expunge_by, refused, such, is_in_place, flags_in}
-use Rattle.md_core.specs.Turn.{Turn, After, ends, goes_on, ask_of, rows_for, reply_of, state_by}
+use Rattle.md_core.specs.Turn.{Turn, After, ends, goes_on, rows_for, reply_of}
+use Rattle.md_core.specs.Asked.{ask_of, state_by}
 use Rattle.md_core.specs.Machine.{as_task}
 use Rattle.md_core.specs.Machines.Expunge.{at_stage, source, has_trashed, is_trashed, after_row, look_turn, unlink_turn, stage_turn, expunging_turn}
 use Rattle.md_core.proofs.Induction.Good.{ExpungingFits}

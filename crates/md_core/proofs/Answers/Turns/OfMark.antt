@@ -27,7 +27,8 @@ use Rattle.md_core.specs.declared.jobs.task.Task.{Task}
 use Rattle.md_core.specs.declared.jobs.task.Task.TheVariants.{Mark}
 use Rattle.md_core.specs.Mailbox.{Entry, Mailbox, mailbox_of, entry_of, is_tmp, HasOnePath}
 use Rattle.md_core.specs.Alone.{alone, seen, seen_by, flag, flag_by, such, is_in_place, flags_in}
-use Rattle.md_core.specs.Turn.{Turn, After, ask_of, rows_for, reply_of, state_by}
+use Rattle.md_core.specs.Turn.{Turn, After, rows_for, reply_of}
+use Rattle.md_core.specs.Asked.{ask_of, state_by}
 use Rattle.md_core.specs.Machine.{as_task}
 use Rattle.md_core.specs.Machines.Mark.{at_stage, source, target, place_by, wanted, is_kept, kept, after_flags, after_split, after_row, look_turn, act_turn, stage_turn, marking_turn}
 use Rattle.md_core.proofs.Induction.Good.{call_by, MarkingFits}

@@ -21,7 +21,8 @@ use Rattle.md_core.specs.Mailbox.{HasOnePath}
 use Rattle.md_core.specs.Machine.{as_task}
 use Rattle.md_core.specs.Machines.Search.{after_look, after_lost, leads}
 use Rattle.md_core.specs.Machines.Move.{at_stage, source, target, look_turn, rename_turn, stage_turn, moving_turn}
-use Rattle.md_core.specs.Turn.{Turn, ask_of, rows_for, reply_of, state_by}
+use Rattle.md_core.specs.Turn.{Turn, rows_for, reply_of}
+use Rattle.md_core.specs.Asked.{ask_of, state_by}
 use Rattle.md_core.proofs.Induction.Good.{MovingFits}
 use Rattle.md_core.proofs.Looking.Search.{as_after}
 use Rattle.md_core.proofs.Answers.Turns.Refusals.{rename-exists, rename-not_found}

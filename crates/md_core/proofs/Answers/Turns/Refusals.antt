@@ -7,7 +7,8 @@ use Rattle.md_dirs.specs.declared.calls.DirError.{DirError}
 use Rattle.md_dirs.specs.declared.calls.DirError.TheVariants.{Exists, NotFound, Fault, NoMemory}
 use Rattle.md_dirs.specs.declared.paths.Path.{Path}
 use Rattle.md_dirs.specs.declared.paths.Place.{Place}
-use Rattle.md_core.specs.Turn.{reply_of, reply_by}
+use Rattle.md_core.specs.Turn.{reply_of}
+use Rattle.md_core.specs.Asked.{reply_by}
 use Rattle.md_core.specs.declared.jobs.step.DirReply.TheVariants as reply
 
 -- a call that says that a name is there, or isn't, was refused for that

@@ -4,7 +4,7 @@ use Rattle.md_dirs.specs.State.{State, file_at, IsSound}
 use Rattle.md_dirs.specs.Calls.{named}
 use Rattle.md_dirs.specs.declared.paths.Path.{Path}
 use Rattle.md_dirs.proofs.PathOrder.{path_total, path_exact}
-use Rattle.md_dirs.proofs.Maps as maps
+use Rattle.lists.proofs.Maps as maps
 use Rattle.md_dirs.proofs.Sound.{by_path, sound-named}
 use Rattle.md_name.specs.Names.{unique_of}
 use Rattle.md_core.specs.Mailbox.{is_message}

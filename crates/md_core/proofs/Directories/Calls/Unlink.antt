@@ -5,7 +5,7 @@ use Rattle.md_dirs.specs.Calls.{unnamed, without}
 use Rattle.md_dirs.specs.declared.paths.Path.{Path}
 use Rattle.md_dirs.specs.declared.paths.Place.TheVariants.{Tmp}
 use Rattle.md_dirs.proofs.PathOrder.{path_total, path_exact}
-use Rattle.md_dirs.proofs.Maps as maps
+use Rattle.lists.proofs.Maps as maps
 use Rattle.md_dirs.proofs.Sound.{by_path, swept-kept, sound-without}
 use Rattle.md_core.specs.Mailbox.{is_tmp, bytes_of}
 use Rattle.md_core.proofs.Induction.Good.{bytes_at, HasNoMessage}

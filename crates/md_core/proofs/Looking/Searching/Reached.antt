@@ -22,7 +22,7 @@ use Rattle.md_core.specs.Looking.{is_of}
 use Rattle.md_core.specs.Mailbox.{Entry, name_cmp, is_message, is_tmp, entry_of, mailbox_of, HasOnePath}
 use Rattle.md_core.specs.Reading.{least_with_info, row_is_below, IsFirstFrom, IsBytesOf, IsNotIn, IsNotBelow}
 use Rattle.std.specs.FinMap.{get, entries}
-use Rattle.md_core.proofs.Lists.Members.{has-get}
+use Rattle.lists.proofs.Members.{has-get}
 use Rattle.md_core.proofs.Mailbox.Shown.{mailbox-shows, shows-mailbox}
 use Rattle.md_core.proofs.Worlds.Loading.Rows.{in-is, row-at}
 use Rattle.md_core.proofs.Looking.Searching.Bytes.{between, not-below, colon-cut, of-with, of-unique}

@@ -21,7 +21,7 @@ use Rattle.md_core.specs.Mailbox.{name_cmp}
 use Rattle.md_core.specs.Reading.{least_with_info, row_is_below}
 use Rattle.md_core.proofs.Worlds.Loading.Order.{entries_in}
 use Rattle.md_core.proofs.Worlds.Loading.Rows.{row-at, row_name}
-use Rattle.md_core.proofs.Lists.Members.{Has, get-has}
+use Rattle.lists.proofs.Members.{Has, get-has}
 
 first : (a b : Bool) → T (a && b) → T a
 first true b p = tt

@@ -21,7 +21,8 @@ use Rattle.md_core.specs.Mailbox.{HasOnePath}
 use Rattle.md_core.specs.Interleaving.{is_effect_at, is_success}
 use Rattle.md_core.specs.Machine.{as_task}
 use Rattle.md_core.specs.Machines.Clean.{at_stage, tmp, is_old, old_rows, after_next, look_turn, unlink_turn, stage_turn, cleaning_turn, cleaning_left}
-use Rattle.md_core.specs.Turn.{Asked, Turn, After, ends, list, unlink, ask_of, rows_for, reply_of, state_by}
+use Rattle.md_core.specs.Asked.{Asked, list, unlink, ask_of, state_by}
+use Rattle.md_core.specs.Turn.{Turn, After, ends, rows_for, reply_of}
 use Rattle.md_core.proofs.Induction.Good.{CleaningFits, Does}
 use Rattle.md_core.proofs.Mailbox.Changes.{one-keeps, mailbox-keeps}
 use Rattle.md_core.proofs.Directories.Frames.{Shrinks, task-shrinks}

@@ -19,9 +19,10 @@ use Rattle.md_core.specs.declared.jobs.task.Task.TheVariants.{Copy}
 use Rattle.md_core.specs.Mailbox.{Entry, Mailbox, mailbox_of, entry_of, is_message, is_tmp, HasOnePath}
 use Rattle.md_core.specs.Alone.{alone, copied, copy_by, such, is_in_folder, info_copied}
 use Rattle.md_core.specs.History.{names_of, changed}
-use Rattle.md_core.specs.Turn.{link}
+use Rattle.md_core.specs.Asked.{link}
 use Rattle.md_core.specs.Machines.Copy.{at_stage, source, target, copying_effect}
-use Rattle.md_core.specs.Interleaving.{AsAlone, is_effect_at}
+use Rattle.md_core.specs.Stepping.{AsAlone}
+use Rattle.md_core.specs.Interleaving.{is_effect_at}
 use Rattle.md_core.proofs.Induction.Good.{bytes_at, HasSize, CopyingFits, Makes, Does}
 use Rattle.md_core.proofs.Mailbox.Changes.{one-puts, mailbox-puts}
 use Rattle.md_core.proofs.Mailbox.Naming.{names-insert}

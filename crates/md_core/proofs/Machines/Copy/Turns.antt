@@ -25,7 +25,8 @@ use Rattle.md_core.specs.Mailbox.{mailbox_of, HasOnePath}
 use Rattle.md_core.specs.Machine.{as_task}
 use Rattle.md_core.specs.Machines.Search.{after_look, after_lost, leads, search_left}
 use Rattle.md_core.specs.Machines.Copy.{at_stage, source, target, copying_effect, look_turn, link_turn, stage_turn, copying_turn}
-use Rattle.md_core.specs.Turn.{Asked, After, Turn, ask_of, rows_for, reply_of, state_by, list, link}
+use Rattle.md_core.specs.Asked.{Asked, ask_of, state_by, list, link}
+use Rattle.md_core.specs.Turn.{After, Turn, rows_for, reply_of}
 use Rattle.md_core.specs.Interleaving.{is_effect_at}
 use Rattle.md_core.proofs.Induction.Good.{SearchFits, FoundAt, HasSize, CopyingFits, Does}
 use Rattle.md_core.proofs.Machines.Deliver.Replies.{accepted, there}

@@ -16,9 +16,11 @@ use Rattle.md_core.specs.declared.jobs.task.Task.TheVariants.{Deliver}
 use Rattle.md_core.specs.Mailbox.{Entry, mailbox_of, HasOnePath}
 use Rattle.md_core.specs.Alone.{alone, delivered}
 use Rattle.md_core.specs.History.{names_of, changed}
-use Rattle.md_core.specs.Turn.{Asked}
+use Rattle.md_core.specs.Asked.{Asked}
 use Rattle.md_core.specs.Machines.Deliver.{at_stage, target, delivery_effect, stage_left, delivery_left}
-use Rattle.md_core.specs.Interleaving.{AsAlone, is_linked, is_effect_at, is_success}
+use Rattle.md_core.specs.Stepping.{AsAlone}
+use Rattle.md_core.proofs.Theorem.RunLaw.{is_linked}
+use Rattle.md_core.specs.Interleaving.{is_effect_at, is_success}
 use Rattle.md_core.proofs.Induction.Good.{bytes_at, HasNoMessage, StageFits, DeliveryFits, Settles, Does}
 use Rattle.md_core.proofs.Mailbox.Changes.{Puts, one-keeps, mailbox-keeps, one-puts, mailbox-puts}
 use Rattle.md_core.proofs.Mailbox.Naming.{names-insert}

@@ -2,7 +2,7 @@
 use Rattle.std.proofs.Common.{ℕ, ◌≡◌, Option, Some, None, Bool, true, false, cond, refl, is_some}
 use Rattle.md_dirs.specs.declared.calls.DirError.{DirError}
 use Rattle.md_dirs.specs.declared.calls.DirError.TheVariants.{Exists, NotFound, Fault, NoMemory}
-use Rattle.md_core.specs.Turn.{reply_by}
+use Rattle.md_core.specs.Asked.{reply_by}
 use Rattle.md_core.specs.declared.jobs.step.DirReply.TheVariants as reply
 
 -- a call that is done was refused by nothing

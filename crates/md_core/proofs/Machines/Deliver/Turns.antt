@@ -17,10 +17,11 @@ use Rattle.md_core.specs.declared.jobs.step.DirReply.TheVariants as reply
 use Rattle.md_core.specs.declared.jobs.task.Task.{Task}
 use Rattle.md_core.specs.declared.jobs.task.Task.TheVariants.{Deliver}
 use Rattle.md_core.specs.Mailbox.{HasOnePath}
-use Rattle.md_core.specs.Turn.{Turn, After, ask_of, rows_for, reply_of, state_by}
+use Rattle.md_core.specs.Turn.{Turn, After, rows_for, reply_of}
+use Rattle.md_core.specs.Asked.{ask_of, state_by, Asked, append, link}
 use Rattle.md_core.specs.Machine.{as_task}
-use Rattle.md_core.specs.Interleaving.{is_success, is_linked, is_effect_at}
-use Rattle.md_core.specs.Turn.{Asked, append, link}
+use Rattle.md_core.specs.Interleaving.{is_success, is_effect_at}
+use Rattle.md_core.proofs.Theorem.RunLaw.{is_linked}
 use Rattle.md_core.specs.Machines.Deliver.{at_stage, target, piece, piece_len, pieces, create_turn, append_turn, link_turn, unlink_turn, stage_turn, delivery_turn, delivery_effect, delivery_left, is_in_time}
 use Rattle.md_core.proofs.Induction.Good.{IsAlone, DeliveryFits, Settles, Does}
 use Rattle.md_core.proofs.Directories.Frames.{tmp-key}

@@ -19,9 +19,10 @@ use Rattle.md_core.specs.declared.jobs.task.Task.TheVariants.{Expunge}
 use Rattle.md_core.specs.Mailbox.{mailbox_of, entry_of, is_message, HasOnePath}
 use Rattle.md_core.specs.Alone.{alone, expunged, expunge_by, refused, such, is_in_place}
 use Rattle.md_core.specs.History.{names_of, changed}
-use Rattle.md_core.specs.Turn.{unlink}
+use Rattle.md_core.specs.Asked.{unlink}
 use Rattle.md_core.specs.Machines.Expunge.{at_stage, source, has_trashed, is_trashed, expunging_effect}
-use Rattle.md_core.specs.Interleaving.{AsAlone, is_effect_at}
+use Rattle.md_core.specs.Stepping.{AsAlone}
+use Rattle.md_core.specs.Interleaving.{is_effect_at}
 use Rattle.md_core.proofs.Induction.Good.{HasNoMessage, ExpungingFits, Does}
 use Rattle.md_core.proofs.Mailbox.Changes.{one-drops, mailbox-drops}
 use Rattle.md_core.proofs.Mailbox.Naming.{names-remove}

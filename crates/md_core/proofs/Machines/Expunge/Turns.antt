@@ -22,7 +22,8 @@ use Rattle.md_core.specs.Mailbox.{HasOnePath}
 use Rattle.md_core.specs.Interleaving.{is_effect_at, is_success}
 use Rattle.md_core.specs.Machine.{as_task}
 use Rattle.md_core.specs.Machines.Expunge.{at_stage, source, is_trashed, after_row, look_turn, unlink_turn, stage_turn, stage_left, expunging_turn, expunging_left}
-use Rattle.md_core.specs.Turn.{Asked, Turn, After, ends, goes_on, list, unlink, ask_of, rows_for, reply_of, state_by}
+use Rattle.md_core.specs.Asked.{Asked, list, unlink, ask_of, state_by}
+use Rattle.md_core.specs.Turn.{Turn, After, ends, goes_on, rows_for, reply_of}
 use Rattle.md_core.proofs.Induction.Good.{IsAtTrashed, ExpungingFits, Does}
 use Rattle.md_core.proofs.Looking.Search.{as_after}
 use Rattle.md_core.proofs.Machines.Stays.{stays-does}

@@ -27,9 +27,10 @@ use Rattle.md_core.specs.declared.jobs.task.Task.TheVariants.{Mark}
 use Rattle.md_core.specs.Mailbox.{Entry, Mailbox, mailbox_of, entry_of, is_message, is_tmp, HasOnePath}
 use Rattle.md_core.specs.Alone.{Outcome, alone, seen, seen_by, flag, flag_by, such, is_in_place, flags_in, info_with, refused}
 use Rattle.md_core.specs.History.{Listed, listed, names_of, name_of, changed, size_in, IsThere, ShowsFlags, MayGetFlags}
-use Rattle.md_core.specs.Turn.{Asked, list, rename}
+use Rattle.md_core.specs.Asked.{Asked, list, rename}
 use Rattle.md_core.specs.Machines.Mark.{at_stage, source, target, place_by, wanted, is_kept, renamed, kept, stage_left, marking_left}
-use Rattle.md_core.specs.Interleaving.{AsAlone, is_effect_at, is_success}
+use Rattle.md_core.specs.Stepping.{AsAlone}
+use Rattle.md_core.specs.Interleaving.{is_effect_at, is_success}
 use Rattle.md_core.proofs.Induction.Good.{bytes_at, HasNoMessage, call_by, MarkingFits, IsAtName, Settles, Does}
 use Rattle.md_core.proofs.Mailbox.Changes.{one-puts, mailbox-puts}
 use Rattle.md_core.proofs.Mailbox.Naming.{get-names, names-insert}

@@ -9,7 +9,7 @@ use Rattle.std.proofs.lemmas.Map.Lookups.{exact_bytes}
 use Rattle.md_dirs.specs.State.{State, IsSound, file_at}
 use Rattle.md_dirs.specs.Calls.{moved, named, unnamed, swept, is_one_file}
 use Rattle.md_dirs.specs.declared.paths.Path.{Path}
-use Rattle.md_dirs.proofs.Maps as maps
+use Rattle.lists.proofs.Maps as maps
 use Rattle.md_dirs.proofs.Sound.{by_path}
 use Rattle.md_name.specs.Letters.{Set, spelling}
 use Rattle.md_name.specs.Names.{is_colon, unique_of, info_text, flagged}

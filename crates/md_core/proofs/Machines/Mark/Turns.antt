@@ -22,7 +22,8 @@ use Rattle.md_core.specs.declared.jobs.task.Task.{Task}
 use Rattle.md_core.specs.declared.jobs.task.Task.TheVariants.{Mark}
 use Rattle.md_core.specs.Mailbox.{HasOnePath}
 use Rattle.md_core.specs.Interleaving.{is_success}
-use Rattle.md_core.specs.Turn.{Turn, After, list, rename, ask_of, rows_for, reply_of, state_by}
+use Rattle.md_core.specs.Turn.{Turn, After, rows_for, reply_of}
+use Rattle.md_core.specs.Asked.{list, rename, ask_of, state_by}
 use Rattle.md_core.specs.Machine.{as_task}
 use Rattle.md_core.specs.Machines.Mark.{at_stage, source, target, place_by, wanted, is_kept, kept, after_flags, after_split, after_row, look_turn, act_turn, stage_turn, marking_turn}
 use Rattle.md_core.proofs.Induction.Good.{MarkingFits, Does}

@@ -18,9 +18,10 @@ use Rattle.md_core.specs.declared.jobs.task.Task.TheVariants.{Move}
 use Rattle.md_core.specs.Mailbox.{mailbox_of, entry_of, is_message, HasOnePath}
 use Rattle.md_core.specs.Alone.{alone, moved, such, is_in_folder}
 use Rattle.md_core.specs.History.{names_of, changed, listed}
-use Rattle.md_core.specs.Turn.{rename}
+use Rattle.md_core.specs.Asked.{rename}
 use Rattle.md_core.specs.Machines.Move.{at_stage, source, target, moving_effect}
-use Rattle.md_core.specs.Interleaving.{AsAlone, is_effect_at}
+use Rattle.md_core.specs.Stepping.{AsAlone}
+use Rattle.md_core.specs.Interleaving.{is_effect_at}
 use Rattle.md_core.proofs.Induction.Good.{HasNoMessage, MovingFits, Does}
 use Rattle.md_core.proofs.Mailbox.Changes.{Puts, one-puts, mailbox-puts}
 use Rattle.md_core.proofs.Mailbox.Naming.{names-insert}

@@ -24,7 +24,8 @@ use Rattle.md_core.specs.Mailbox.{HasOnePath}
 use Rattle.md_core.specs.Machine.{as_task}
 use Rattle.md_core.specs.Machines.Search.{after_look, after_lost, leads, search_left}
 use Rattle.md_core.specs.Machines.Move.{at_stage, source, target, look_turn, rename_turn, stage_turn, moving_turn}
-use Rattle.md_core.specs.Turn.{Asked, Turn, ask_of, rows_for, reply_of, state_by, list}
+use Rattle.md_core.specs.Asked.{Asked, ask_of, state_by, list}
+use Rattle.md_core.specs.Turn.{Turn, rows_for, reply_of}
 use Rattle.md_core.specs.Interleaving.{is_effect_at}
 use Rattle.md_core.proofs.Induction.Good.{SearchFits, MovingFits, Does}
 use Rattle.md_core.proofs.Machines.Deliver.Replies.{accepted, there}

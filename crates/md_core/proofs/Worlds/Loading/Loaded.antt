@@ -17,7 +17,7 @@ use Rattle.md_core.specs.Loading.{is_bad_name, is_long_unique, is_same_message, 
 use Rattle.md_core.specs.Runs.{stamp_of, first_clock}
 use Rattle.md_core.specs.Submitting.{uses}
 use Rattle.md_core.proofs.Induction.Good.{key_of, IsUnused}
-use Rattle.md_core.proofs.Lists.Members.{Has, get-has}
+use Rattle.lists.proofs.Members.{Has, get-has}
 use Rattle.md_core.proofs.Worlds.UsedLemmas.{bytes_eq-sym}
 
 -- ---- no entry has a fault

@@ -14,7 +14,7 @@ use Rattle.md_dirs.specs.declared.paths.Place.{Place}
 use Rattle.md_dirs.specs.declared.paths.Place.TheVariants.{Tmp, New, Cur}
 use Rattle.md_dirs.proofs.PathOrder.{path_total, path_exact}
 use Rattle.md_core.specs.Looking.{is_before, entries_before}
-use Rattle.md_core.proofs.Lists.Members.{Has, has-get}
+use Rattle.lists.proofs.Members.{Has, has-get}
 
 -- ---- lists cut by two tests
 

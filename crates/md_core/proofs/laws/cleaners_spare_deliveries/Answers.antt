@@ -1,5 +1,5 @@
-use Rattle.md_core.proofs.Answers.Files.Cleaner.{cleaners-spare}
+use Rattle.md_core.proofs.Traces.Cleaners.{cleaners}
 use Rattle.md_core.proofs.laws.cleaners_spare_deliveries.Goals as goal
 
 pub returns : goal.returns
-returns c = λ r run. cleaners-spare r run
+returns c = λ r run. cleaners r run

@@ -1,8 +1,12 @@
+use Rattle.md_core.specs.History.{names_of}
+use Rattle.md_core.specs.Mailbox.{mailbox_of}
 use Rattle.md_core.specs.Runs.{dirs_of}
 use Rattle.md_view.proofs.LawHolds.{good-history}
 use Rattle.md_view.proofs.laws.a_listing_of_histories_is_good.Goals as goal
 
 pub returns : goal.returns
 returns g c =
-    good-history (dirs_of c.args.opening.now).folders
-    (dirs_of c.args.opening.now) c.args.history.now c.requires.legal c.args.folder c.args.read_new c.args.read_cur c.requires.order
+    let s = dirs_of c.args.opening.now in
+    good-history s c.args.history.now (c.names_show_their_directories.ensures.shown s)
+    (c.legal_histories_keep_messages_out_of_new.ensures s.folders (names_of (mailbox_of s)) c.args.history.now c.requires.legal)
+    c.args.folder c.args.read_new c.args.read_cur c.requires.order

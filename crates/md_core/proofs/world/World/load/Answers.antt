@@ -1,6 +1,5 @@
 use Rattle.md_core.specs.Turn.{device}
-use Rattle.md_core.proofs.Machines.EachTurn.{each-turn}
-use Rattle.md_core.proofs.Theorem.Interleaves.{interleaves}
+use Rattle.md_core.proofs.Traces.All.{interleaves}
 use Rattle.md_core.proofs.Worlds.Submitted.{load-world}
 use Rattle.md_core.proofs.world.World.load.Goals as goal
 
@@ -12,4 +11,4 @@ invariant_of-result g c =
     c.in-Ok.ensures.used)
 
 pub returns-in-Ok-clause-theorem : goal.returns-in-Ok-clause-theorem
-returns-in-Ok-clause-theorem g c = interleaves each-turn _ (invariant_of-result g c).run
+returns-in-Ok-clause-theorem g c = interleaves _ (invariant_of-result g c).run

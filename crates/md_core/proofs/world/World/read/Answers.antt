@@ -2,7 +2,8 @@ use Rattle.std.proofs.Common.{◌≡◌, ◌∙◌, sym, ap, subst, length}
 use Rattle.md_core.specs.Mailbox.{HasOnePath}
 use Rattle.md_core.specs.Machine.{Machine}
 use Rattle.md_core.specs.Runs.{dirs_of}
-use Rattle.md_core.proofs.Runs.ByEvent.{moment-end}
+use Rattle.md_core.specs.Tracing.{trace_of}
+use Rattle.md_core.proofs.Traces.Shown.{shown-dirs}
 use Rattle.md_core.proofs.world.World.read.Goals as goal
 
 pub message_bytes-requires : goal.message_bytes-requires
@@ -10,4 +11,4 @@ message_bytes-requires g c =
     let s = c.self.inside in
     let r = c.args.self.now in
     let here : g.D.Dirs.state s.dirs ≡ dirs_of r = ap (λ (m : Machine). m.dirs) c.self.invariant.now ∙ ap dirs_of c.self.view_is in
-    subst HasOnePath (ap (λ (m : Machine). m.dirs) (moment-end r) ∙ sym here) (c.interleaves.ensures.theorem.safe (length r.events)).one_path
+    subst HasOnePath (shown-dirs r c.interleaves.ensures.run ∙ sym here) (c.interleaves.ensures.theorem.one_path (length (trace_of r).steps))

@@ -3,14 +3,18 @@ use Rattle.std.specs.Option.{option_to_list}
 use Rattle.std.proofs.lemmas.Option.{slice_get_read}
 use Rattle.md_core.specs.declared.jobs.step.Event.{Event}
 use Rattle.md_core.specs.declared.jobs.step.Moment.{Moment}
-use Rattle.md_core.specs.Turn.{is_fault, device}
+use Rattle.md_core.specs.Asked.{is_fault}
+use Rattle.md_core.specs.Turn.{device}
 use Rattle.md_core.specs.Machine.{Machine, Marked, marked, job_at}
 use Rattle.md_core.specs.Standing.{TakesTurn}
 use Rattle.md_core.specs.Runs.{Run, jobs_of, and_event, step_refusal, steps_left}
 use Rattle.md_core.specs.Worlds.{run_of}
-use Rattle.md_core.specs.Interleaving.{ShowsStep, Succeeds, Interleaves}
+use Rattle.md_core.specs.Stepping.{IsRun, ShowsStep, Succeeds}
 use Rattle.md_core.proofs.Machines.EachTurn.{each-turn}
-use Rattle.md_core.proofs.Theorem.Interleaves.{interleaves}
+use Rattle.md_core.proofs.Theorem.LawHolds.{run-law}
+use Rattle.md_core.proofs.Traces.All.{interleaves}
+use Rattle.md_core.proofs.Traces.Grown.{grows-by-step}
+use Rattle.md_core.specs.Tracing.{trace_of, GrowsByStep}
 use Rattle.md_core.proofs.Theorem.Bounds.{steps_left-less, jobs-same}
 use Rattle.md_core.proofs.Worlds.Steps.{shows, succeeds}
 use Rattle.md_core.proofs.Worlds.Stepping.{working-at, moment-is, step-world, run-after, step-shown}
@@ -73,7 +77,7 @@ returns-clause-event g c =
     ∙ ap (λ (r : Run). and_event r (marked c.args.job c.args.now c.args.own (is_fault out.reply))) c.self.view_is
 
 pub returns-clause-theorem : goal.returns-clause-theorem
-returns-clause-theorem g c = interleaves each-turn _ (invariant_of-self-2 g c).run
+returns-clause-theorem g c = interleaves _ (invariant_of-self-2 g c).run
 
 pub returns-clause-shows : goal.returns-clause-shows
 returns-clause-shows g c =
@@ -102,6 +106,14 @@ returns-clause-shows g c =
     subst (λ (x : Run). ShowsStep c.args.self.now x what out) (sym (returns-clause-event g c))
     (subst (λ (r : Run). ShowsStep r (and_event r what) what out) c.self.view_is shown)
 
+-- what is shown is the step by which the trace grows
+pub returns-clause-trace : goal.returns-clause-trace
+returns-clause-trace g c =
+    let what : Marked = marked c.args.job c.args.now c.args.own (is_fault c.in_ok-turned.turned.out.reply) in
+    subst (λ (x : Run). GrowsByStep (trace_of c.args.self.now) (trace_of x) c.args.job c.in_ok-turned.turned.out) (sym (returns-clause-event g c))
+    (grows-by-step c.args.self.now what c.in_ok-turned.turned.out
+    (subst (λ (x : Run). ShowsStep c.args.self.now x what c.in_ok-turned.turned.out) (returns-clause-event g c) (returns-clause-shows g c)))
+
 pub returns-clause-success : goal.returns-clause-success
 returns-clause-success g c =
     let s = c.self.inside in
@@ -124,7 +136,8 @@ returns-clause-success g c =
     rw c.deref.ensures.value at c.in_ok-at.ensures.refused in
     let what : Marked = marked c.args.job c.args.now c.args.own (is_fault out.reply) in
     let is : _ ≡ and_event r what = returns-clause-event g c ∙ ap (λ (x : Run). and_event x what) (sym c.self.view_is) in
-    let theorem : Interleaves (and_event r what) = subst (λ (x : Run). Interleaves x) is (returns-clause-theorem g c) in
+    let later : IsRun (and_event r what) = subst (λ (x : Run). IsRun x) is (invariant_of-self-2 g c).run in
+    let theorem = run-law each-turn (and_event r what) later in
     subst (λ (x : Run). Succeeds x c.args.job out.answer) (sym is)
     (succeeds each-turn r c.self.invariant.run what goes out
     (step-shown first s.jobs.items s.log.events.items s.log.marks.items held s.clock s.log.effects.items s.used event c.in_ok-at.at place.0

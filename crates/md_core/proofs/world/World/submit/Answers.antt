@@ -3,8 +3,7 @@ use Rattle.md_core.specs.Turn.{device}
 use Rattle.md_core.specs.Runs.{Run, effects_of}
 use Rattle.md_core.specs.Submitting.{submit_refusal}
 use Rattle.md_core.specs.Worlds.{run_of}
-use Rattle.md_core.proofs.Machines.EachTurn.{each-turn}
-use Rattle.md_core.proofs.Theorem.Interleaves.{interleaves}
+use Rattle.md_core.proofs.Traces.All.{interleaves}
 use Rattle.md_core.proofs.Worlds.Submitted.{submit-world, run-submitted, effects-submitted}
 use Rattle.md_core.proofs.world.World.submit.Goals as goal
 
@@ -20,7 +19,7 @@ invariant_of-self-2 g c =
     c.prepare.new.used c.in-Ok.ensures.used)
 
 pub returns-clause-theorem : goal.returns-clause-theorem
-returns-clause-theorem g c = interleaves each-turn _ (invariant_of-self-2 g c).run
+returns-clause-theorem g c = interleaves _ (invariant_of-self-2 g c).run
 
 -- the run before, by the world's fields
 pub returns-clause-effects : goal.returns-clause-effects

@@ -1,6 +1,6 @@
 use Rattle.std.proofs.Common.{◌≡◌, true, false, ◌∙◌, sym, rules}
 use Rattle.md_core.specs.Machine.{marked}
-use Rattle.md_core.specs.Turn.{is_fault}
+use Rattle.md_core.specs.Asked.{is_fault}
 use Rattle.md_core.specs.Runs.{effects_of}
 use Rattle.md_store.proofs.Moves.{no_effect, one_effect}
 use Rattle.md_store.proofs.Told.{stands}

@@ -8,6 +8,7 @@ use Rattle.md_store.proofs.pass.Pass.second.Goals as goal
 
 pub returns-clause-entries : goal.returns-clause-entries
 returns-clause-entries g c =
-    finishes (λ v. v.items) g.J.Naming.opening c.args.first.now c.read.new.self c.read.result c.read.ensures.legal c.read.ensures.messages
+    finishes c.legal_histories_keep_messages_out_of_new.ensures (λ v. v.items) g.J.Naming.opening c.args.first.now
+    c.read.new.self c.read.result c.read.ensures.legal c.read.ensures.messages
     (subst (λ (x : List Entry × ℕ). IfOk c.read.result (λ v. v.items ≡ join_of x.0 (read_at x.1 Cur g.J.Naming.opening c.read.new.self)))
     (λ i. (c.entries.ensures.entries i, c.folder.ensures i)) c.read.ensures.entries)

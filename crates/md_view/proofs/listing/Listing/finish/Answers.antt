@@ -10,7 +10,8 @@ use Rattle.md_view.proofs.listing.Listing.finish.Goals as goal
 
 pub returns-in_err-cur-clause-law : goal.returns-in_err-cur-clause-law
 returns-in_err-cur-clause-law g c =
-    good-run c.args.world.now c.interleaves.ensures.theorem c.args.self.now.folder c.args.self.now.begun (length c.args.world.now.events) c.requires.past
+    good-run c.names_show_their_directories.ensures.shown c.legal_histories_keep_messages_out_of_new.ensures c.args.world.now
+    c.interleaves.ensures.theorem c.args.self.now.folder c.args.self.now.begun (length c.args.world.now.events) c.requires.past
 
 pub join-requires-clause-new : goal.join-requires-clause-new
 join-requires-clause-new g c =
@@ -19,4 +20,5 @@ join-requires-clause-new g c =
 
 pub returns-clause-law : goal.returns-clause-law
 returns-clause-law g c =
-    good-run c.args.world.now c.interleaves.ensures.theorem c.args.self.now.folder c.args.self.now.begun (length c.args.world.now.events) c.requires.past
+    good-run c.names_show_their_directories.ensures.shown c.legal_histories_keep_messages_out_of_new.ensures c.args.world.now
+    c.interleaves.ensures.theorem c.args.self.now.folder c.args.self.now.begun (length c.args.world.now.events) c.requires.past

@@ -12,5 +12,5 @@ returns-clause-names g c =
     let low = c.loop-folder-test.false in
     let high = c.loop-folder.auto.folder-end in
     let all = c.folders-count.ensures.count in
-    readings-held (named_of s) (sound-messages s c.folders-count.ensures.sound) c.loop-folder.folders.items
+    readings-held (named_of s) (sound-messages s (c.names_show_their_directories.ensures.shown s) c.folders-count.ensures.sound) c.loop-folder.folders.items
     (omega (arith, few, count, low, high)) (omega (arith, count, low, high, all)) c.loop-folder.invariant.lists

@@ -5,7 +5,7 @@ use Rattle.std.specs.Map.Iter.{deref_pair}
 use Rattle.std.specs.FinMap as finmap
 use Rattle.std.specs.FinMap.{from_entries, get-entries}
 use Rattle.md_dirs.specs.Index.{name_cmp, rows_by_name}
-use Rattle.md_dirs.proofs.Maps.{drop-absent}
+use Rattle.lists.proofs.Maps.{drop-absent}
 use Rattle.md_dirs.proofs.NameRows.{name_total, name_exact, get-loose, taken-loose}
 use Rattle.md_dirs.proofs.Ordered.{long, key-at, file-at, read, go-row}
 use Rattle.md_dirs.proofs.index.names.Names.take.Goals as goal

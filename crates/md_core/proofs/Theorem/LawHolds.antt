@@ -1,0 +1,229 @@
+-- What holds of every run, from what each turn does.
+use Rattle.std.proofs.Common.{ℕ, zero, suc, ◌≡◌, ◌≢◌, ◌<◌, ◌≤◌, ◌+◌, List, [], ◌∷◌, Option, Some, None, Bool, true, false, cond, MatchBool, IfSome, refl, sym, ap, subst, ◌∙◌, length, take, slice_get, arith}
+use Rattle.std.specs.Option.{option_to_list, option_map}
+use Rattle.std.specs.FinMap as finmap
+use Rattle.std.proofs.lemmas.List.{take_all}
+use Rattle.md_dirs.specs.State.{State, file_at}
+use Rattle.md_dirs.specs.declared.paths.Path.{Path}
+use Rattle.md_core.specs.declared.jobs.answer.Answer.{Answer}
+use Rattle.md_core.specs.declared.jobs.call.Call.{Call}
+use Rattle.md_core.specs.declared.jobs.call.Call.TheVariants as call
+use Rattle.md_core.specs.declared.jobs.effect.Effect.{Effect}
+use Rattle.md_core.specs.declared.jobs.task.Task.{Task}
+use Rattle.md_core.specs.declared.jobs.task.Task.TheVariants.{Deliver, Mark, Move, Expunge, Copy, Clean}
+use Rattle.md_core.specs.Mailbox.{Entry, mailbox_of, is_tmp, is_message}
+use Rattle.md_core.specs.History.{Names, names_of, listed, after, IsNowhere}
+use Rattle.md_core.specs.Machine.{Machine, Standing, working, answered, Marked, job_at, job_left, new_job}
+use Rattle.md_core.specs.Trace.{Step, call_at}
+use Rattle.md_core.specs.Machines.Deliver.{delivery_effect}
+use Rattle.md_core.specs.Runs.{Run, beginning, moment, machine_of, jobs_of, dirs_of, dirs_at_first}
+use Rattle.md_core.specs.Submitting.{submit_refusal}
+use Rattle.md_core.specs.Stepping.{IsRun, Simulates, effects_by}
+use Rattle.md_core.proofs.Theorem.RunLaw.{Happened, IsSafe, is_linked, is_past_link, steps_of, most_from, JobLaw, RunLaw}
+use Rattle.md_core.specs.Interleaving.{NoneOverwritten, is_success}
+use Rattle.md_core.proofs.Induction.Good.{EachTurn, IsGood, Makes, HasNoMessage, Affects, own_effect}
+use Rattle.md_core.proofs.Lists.Places.{at_place}
+use Rattle.md_core.proofs.Directories.Frames.{message-key}
+use Rattle.md_core.proofs.Mailbox.Shown.{mailbox-shows}
+use Rattle.md_core.proofs.Mailbox.Naming.{get-names}
+use Rattle.md_core.proofs.Worlds.Accepted.{accepted, accepted-look_up, accepted-move, accepted-copy}
+use Rattle.md_core.proofs.Worlds.Loading.Loaded.{unused-path}
+use Rattle.md_core.proofs.Runs.ByEvent.{moment-over}
+use Rattle.md_core.proofs.Induction.Going.{Goes}
+use Rattle.md_core.proofs.Induction.GoodRuns.{new_at, all-apart, good-moment, what-at, going-at, done-what, kept-moment, kept-machine}
+use Rattle.md_core.proofs.Theorem.Histories.{Has, Tells, tells-more}
+use Rattle.md_core.proofs.Theorem.Comes.{wholes-moment}
+use Rattle.md_core.proofs.Theorem.Bounds.{bounded-machine, left-some}
+use Rattle.md_core.proofs.Answers.AllSay.{all-say}
+
+-- what goes on simulates its call
+pub simulates : (calls : List Call) (m m' : Machine) (what : Step) (g : Goes calls m m' what) → Simulates g.asked what m m'
+simulates calls m m' what g = record {
+  history = g.effects;
+  own = own what.effect g.does.effect;
+  is_effect = g.does.is_effect;
+  as_alone = g.does.as_alone;
+}
+  where
+    own : (o : Option Effect) → IfSome o (Affects what.job g.asked m.dirs.folders (mailbox_of m.dirs) (mailbox_of m'.dirs)) → IfSome o (λ x. x.job ≡ what.job)
+    own None h = tt
+    own (Some e) h = h.of
+
+-- nothing is overwritten where nothing happens
+none_overwritten-same : (s s' : State) → s' ≡ s → NoneOverwritten s s'
+none_overwritten-same s s' same p m n at at' = let e : Some n ≡ Some m = sym at' ∙ ap (λ (x : State). file_at x p) same ∙ at in cc
+
+-- how a job stands, and the effects that it has had
+at_most_one : (number : ℕ) (job : Standing) (es : List Effect) → Has number job es → length es ≤ 1
+at_most_one number (working task) es own = by (own_effect number task) own
+  where
+    by : (o : Option Effect) → es ≡ option_to_list o → length es ≤ 1
+    by None is = let h = ap length is in omega (arith, h)
+    by (Some e) is = let h = ap length is in omega (arith, h)
+at_most_one number (answered a) es own = by (is_success a) own
+  where
+    by : (b : Bool) → MatchBool b ((e : Effect) × (es ≡ e ∷ []) × (e.answer ≡ a)) (es ≡ []) → length es ≤ 1
+    by true h = let n = ap length h.1 in omega (arith, n)
+    by false h = let n = ap length h in omega (arith, n)
+
+by_success : (number : ℕ) (a : Answer) (es : List Effect) → Has number (answered a) es → is_success a ≡ true → (e : Effect) × (es ≡ e ∷ []) × (e.answer ≡ a)
+by_success number a es own success = subst (λ b. MatchBool b ((e : Effect) × (es ≡ e ∷ []) × (e.answer ≡ a)) (es ≡ [])) success own
+
+by_failure : (number : ℕ) (a : Answer) (es : List Effect) → Has number (answered a) es → is_success a ≡ false → es ≡ []
+by_failure number a es own failure = subst (λ b. MatchBool b ((e : Effect) × (es ≡ e ∷ []) × (e.answer ≡ a)) (es ≡ [])) failure own
+
+-- the effect of a delivery that has no answer is its link
+by_link : (number : ℕ) (task : Task) (es : List Effect) → Has number (working task) es → es ≢ [] → is_past_link task ≡ true
+by_link number (Deliver d) es own some = by (is_linked d.stage) own
+  where
+    by : (b : Bool) → es ≡ option_to_list (cond {A = Option Effect} b (Some (delivery_effect number d)) None) → b ≡ true
+    by true h = refl
+    by false h = absurd (some h)
+by_link number (Mark m) es own some = absurd (some own)
+by_link number (Move m) es own some = absurd (some own)
+by_link number (Expunge x) es own some = absurd (some own)
+by_link number (Copy c) es own some = absurd (some own)
+by_link number (Clean c) es own some = absurd (some own)
+
+-- what a job of an accepted call may take at its beginning is the most that its call takes
+left-most : (r : Run) (s : State) (asked : Call) → submit_refusal r asked ≡ None → job_left s (new_job asked) ≡ most_from s asked
+left-most r s (call.Deliver a b c d) none = refl
+left-most r s (call.Seen a b c tries) none = let some = (accepted-look_up r a b tries none).some in omega arith
+left-most r s (call.Flag a b c d tries) none = let some = (accepted-look_up r a b tries none).some in omega arith
+left-most r s (call.Move a b c tries) none = let some = (accepted-move r a b c tries none).tried in omega arith
+left-most r s (call.Expunge a b tries) none = let some = (accepted-look_up r a b tries none).some in omega arith
+left-most r s (call.Copy a b c d tries) none = let some = (accepted-copy r a b c d tries none).tried in omega arith
+left-most r s (call.Clean a) none = refl
+
+-- a job with no step left has its answer
+ends-by : (s : State) (job : Standing) → job_left s job ≤ 0 → (a : Answer) × (job ≡ answered a)
+ends-by s (working task) none = let some = left-some s task in absurd (omega arith)
+ends-by s (answered a) none = (a, refl)
+
+module _ (turns : EachTurn) (r : Run) (run : IsRun r) where
+  abbrev opening : Names
+  opening = names_of (mailbox_of r.image)
+
+  -- event k, as it goes
+  module _ (k : ℕ) (e : Marked) (at : slice_get r.events k ≡ Some e) where
+    going : Goes r.calls (moment r k) (moment r (k + 1)) (what-at r run turns k e at)
+    going = going-at r run turns k e at
+
+    happened : Happened r k
+    happened = record {
+      what = what-at r run turns k e at;
+      at = done-what r run turns k e at;
+      call = going.asked;
+      of = ap (call_at r.calls) going.number_is ∙ going.of;
+      simulates = simulates r.calls (moment r k) (moment r (k + 1)) (what-at r run turns k e at) going;
+    }
+
+  happens-at : (k : ℕ) → k < length r.events → Happened r k
+  happens-at k within = at_place r.events k (happened k) (λ past. absurd (omega arith))
+
+  none_overwritten : (k : ℕ) → NoneOverwritten (moment r k).dirs (moment r (k + 1)).dirs
+  none_overwritten k = at_place r.events k
+      (λ e at. (going k e at).does.none_overwritten)
+      (λ past. none_overwritten-same (moment r k).dirs (moment r (k + 1)).dirs (ap (λ (m : Machine). m.dirs) (moment-over r k past)))
+
+  abbrev Others : List Marked → Machine → Type 0
+  Others es m = (p : Path) → is_tmp p.place ≡ false → is_message p ≡ false → file_at m.dirs p ≡ file_at r.image p
+
+  others : (k : ℕ) → Others (take k r.events) (moment r k)
+  others = kept-moment r run turns Others (λ p not_tmp not_message. refl)
+      (λ es m m' e what of good g was p not_tmp not_message. g.does.no_messages p not_tmp not_message ∙ was p not_tmp not_message)
+
+  safe : (k : ℕ) → IsSafe r k
+  safe k = record {
+    sound = (good-moment r run turns k).sound;
+    one_path = (good-moment r run turns k).one_path;
+    whole = wholes-moment r run turns k;
+    others = others k;
+  }
+
+  -- a name that a call makes is nowhere at the beginning
+  fresh-name : (i : ℕ) (asked : Call) (u : List ℕ) → slice_get r.calls i ≡ Some asked → Makes asked u → IsNowhere opening u
+  fresh-name i asked u at makes = by asked (run.accepted i asked at) makes
+    where
+      no_entry : HasNoMessage r.image u → (o : Option Entry) → finmap.get (mailbox_of r.image) u ≡ o → finmap.get (mailbox_of r.image) u ≡ None
+      no_entry none None is = is
+      no_entry none (Some e) is = let h = mailbox-shows r.image u e is in let gone = none h.path h.message h.unique in let there = h.there in cc
+
+      by : (c : Call) → submit_refusal (record r { calls = take i r.calls }) c ≡ None → Makes c u → IsNowhere opening u
+      by (call.Deliver folder v body chunk) none its =
+          let a = accepted (record r { calls = take i r.calls }) folder v body chunk none in
+          let unused = unused-path r.image v a.valid a.unused in
+          get-names (mailbox_of r.image) u ∙ ap (option_map (listed u)) (no_entry (λ p message same. unused p (message-key p message ∙ same ∙ sym its)) _ refl)
+      by (call.Copy folder v to fresh tries) none its =
+          let a = accepted-copy (record r { calls = take i r.calls }) folder v to fresh tries none in
+          let unused = unused-path r.image fresh a.fresh_valid a.unused in
+          get-names (mailbox_of r.image) u ∙ ap (option_map (listed u)) (no_entry (λ p message same. unused p (message-key p message ∙ same ∙ sym its)) _ refl)
+      by (call.Seen a b c d) none its = absurd its
+      by (call.Flag a b c d e) none its = absurd its
+      by (call.Move a b c d) none its = absurd its
+      by (call.Expunge a b c) none its = absurd its
+      by (call.Clean a) none its = absurd its
+
+  tells-start : Tells r.image.folders opening r.calls (beginning r.image r.calls)
+  tells-start = record {
+    folders_stay = refl;
+    legal = record { once = λ i j a b ata atb same. cc; each = λ i e at. cc };
+    names = refl;
+    nowhere = λ j asked task u of at without makes k. subst (λ (es : List Effect). IsNowhere (after opening es) u) (sym (take_all k [] (omega arith)))
+        (fresh-name j asked u of makes);
+    own = λ j job at. let new = new_at r.calls j job at in subst (λ (x : Standing). Has (suc j) x []) (sym new.2) (new-has (suc j) new.0);
+    there = λ i e at. cc;
+  }
+    where
+      new-has : (number : ℕ) (asked : Call) → Has number (new_job asked) []
+      new-has number (call.Deliver folder u body chunk) = refl
+      new-has number (call.Seen a b c d) = refl
+      new-has number (call.Flag a b c d e) = refl
+      new-has number (call.Move a b c d) = refl
+      new-has number (call.Expunge a b c) = refl
+      new-has number (call.Copy a b c d e) = refl
+      new-has number (call.Clean a) = refl
+
+  abbrev Told : List Marked → Machine → Type 0
+  Told es m = Tells r.image.folders opening r.calls m
+
+  told-more : (es : List Marked) (m m' : Machine) (e : Marked) (what : Step) → what.job ≡ e.event.job → IsGood r.calls m → Goes r.calls m m' what →
+      Told es m → Told es m'
+  told-more es m m' e what of good g was = tells-more r.image.folders opening r.calls (all-apart r run) m m' what g good was
+
+  tells-moment : (k : ℕ) → Tells r.image.folders opening r.calls (moment r k)
+  tells-moment = kept-moment r run turns Told tells-start told-more
+
+  tells : Tells r.image.folders opening r.calls (machine_of r)
+  tells = kept-machine r run turns Told tells-start told-more
+
+  keeps : (number : ℕ) (asked : Call) (job : Standing) → call_at r.calls number ≡ Some asked → job_at (jobs_of r) number ≡ Some job → JobLaw r number asked job
+  keeps zero asked job from at = cc
+  keeps (suc j) asked job from at =
+      let own : Has (suc j) job (effects_by r (suc j)) = tells.own j job at in
+      let most = bounded-machine r run turns (suc j) asked job from at in
+      let whole = left-most (record r { calls = take j r.calls }) (dirs_at_first r (suc j)) asked (run.accepted j asked from) in
+      record {
+        once = at_most_one (suc j) job (effects_by r (suc j)) own;
+        success = λ a is success. by_success (suc j) a (effects_by r (suc j)) (subst (λ (x : Standing). Has (suc j) x (effects_by r (suc j))) is own) success;
+        failure = λ a is failure. by_failure (suc j) a (effects_by r (suc j)) (subst (λ (x : Standing). Has (suc j) x (effects_by r (suc j))) is own) failure;
+        unanswered = λ t is some. by_link (suc j) t (effects_by r (suc j)) (subst (λ (x : Standing). Has (suc j) x (effects_by r (suc j))) is own) some;
+        says = λ a is. all-say r run (suc j) asked a from (at ∙ ap Some is);
+        bounded = subst (λ (n : ℕ). steps_of r (suc j) + job_left (dirs_of r) job ≤ n) whole most;
+        ends = λ all. ends-by (dirs_of r) job (omega (arith, most, whole, all));
+      }
+
+-- Whatever the order of a run's events and whichever directory calls fault, it interleaves: if each turn does what it should.
+pub run-law : EachTurn → (r : Run) → IsRun r → RunLaw r
+run-law turns r run = record {
+  happened = happens-at turns r run;
+  none_overwritten = none_overwritten turns r run;
+  safe = safe turns r run;
+  legal = (tells turns r run).legal;
+  names = λ k. (tells-moment turns r run k).names;
+  jobs = keeps turns r run;
+}
+
+-- no event makes or takes away a folder
+pub folders-stay : EachTurn → (r : Run) → IsRun r → (machine_of r).dirs.folders ≡ r.image.folders
+folders-stay turns r run = (tells turns r run).folders_stay

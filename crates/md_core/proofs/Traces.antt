@@ -1,0 +1,16 @@
+-- Traces of runs.
+pub mod Same
+pub mod Stands
+pub mod Few
+pub mod Headline
+pub mod Plain
+pub mod Telling
+pub mod OneClock
+pub mod Files
+pub mod Old
+pub mod All
+pub mod Grown
+pub mod Refused
+pub mod Shown
+pub mod Cleaners
+pub mod Kept

@@ -1,0 +1,311 @@
+-- What a clean still has to take away it saw to be old; and what a step does to a path of tmp.
+use Rattle.std.proofs.Common.{ℕ, zero, suc, ◌≡◌, ◌<◌, ◌≤◌, ◌+◌, ◌-◌, ◌⊎◌, inl, inr, List, [], ◌∷◌, Some, None, true, refl, sym, ap, subst, ◌∙◌, length, slice_get, arith}
+use Rattle.std.proofs.lemmas.Bool.Decides.{nat_tests}
+use Rattle.md_dirs.specs.State.{State}
+use Rattle.md_dirs.specs.Rows.{rows_of}
+use Rattle.md_dirs.specs.declared.paths.Path.{Path}
+use Rattle.md_dirs.specs.declared.paths.Place.{Place}
+use Rattle.md_dirs.specs.declared.paths.Place.TheVariants as place
+use Rattle.md_dirs.specs.declared.paths.Place.TheVariants.{Tmp}
+use Rattle.md_dirs.specs.declared.rows.Row.{Row}
+use Rattle.md_dirs.proofs.Sound.{by_path}
+use Rattle.md_core.specs.declared.jobs.call.Call.{Call}
+use Rattle.md_core.specs.declared.jobs.call.Call.TheVariants as call
+use Rattle.md_core.specs.declared.jobs.cleaning.Cleaning.{Cleaning}
+use Rattle.md_core.specs.declared.jobs.cleaning.Stage.{Stage}
+use Rattle.md_core.specs.declared.jobs.cleaning.Stage.TheVariants.{Look, Remove}
+use Rattle.md_core.specs.declared.jobs.expunging.Stage as expunging
+use Rattle.md_core.specs.declared.jobs.expunging.Stage.TheVariants as expunging_stage
+use Rattle.md_core.specs.declared.jobs.mark.Stage as marking
+use Rattle.md_core.specs.declared.jobs.mark.Stage.TheVariants as marking_stage
+use Rattle.md_core.specs.declared.jobs.search.Stage as search
+use Rattle.md_core.specs.declared.jobs.search.Stage.TheVariants.{LookNew, LookCur, Act}
+use Rattle.md_core.specs.declared.jobs.step.DirReply.{DirReply}
+use Rattle.md_core.specs.declared.jobs.step.DirReply.TheVariants as reply
+use Rattle.md_core.specs.declared.jobs.task.Task.{Task}
+use Rattle.md_core.specs.declared.jobs.task.Task.TheVariants.{Deliver, Mark, Move, Expunge, Copy, Clean}
+use Rattle.md_core.specs.Mailbox.{is_tmp}
+use Rattle.md_core.specs.Turn.{Turn, rows_for}
+use Rattle.md_core.specs.Asked.{Asked, create, append, link, rename, unlink, list, ask_of, state_by}
+use Rattle.md_core.specs.Trace.{Step, call_at, Trace, IsStepOf, step_at, state, file_in}
+use Rattle.md_core.specs.Machine.{working, new_job, job_at}
+use Rattle.md_core.specs.Machines.Clean.{new_cleaning, is_old, old_rows, after_next, at_stage, tmp, stage_turn}
+use Rattle.md_core.specs.Machines.Expunge as expunged_by
+use Rattle.md_core.specs.Machines.Mark as marked_by
+use Rattle.md_core.specs.Machines.Move as moved_by
+use Rattle.md_core.specs.Machines.Copy as copied_by
+use Rattle.md_core.specs.Runs.{Run, moment}
+use Rattle.md_core.specs.Stepping.{IsRun}
+use Rattle.md_core.specs.Interleaving.{IsTmpOf, HasSeenOld, MayChange, KeepsTmp}
+use Rattle.md_core.specs.Tracing.{trace_of}
+use Rattle.md_core.proofs.Induction.Good.{TaskFits}
+use Rattle.lists.proofs.Members.{Has}
+use Rattle.md_core.proofs.Answers.LastStep.{IsTurn, left_by, reply_in, done_in, done-in, is_within, holds}
+use Rattle.md_core.proofs.Answers.Moments.{its-call, its-fits, at, asked_by, after_task}
+use Rattle.md_core.proofs.Answers.Files.Asking.{asks-fair, creates}
+use Rattle.md_core.proofs.Answers.Files.Listed.{has-filter}
+use Rattle.md_core.proofs.Answers.Files.Tmp.{Touches, LeavesTmp, touches}
+use Rattle.md_core.proofs.Traces.Same.{state-same, done-step}
+use Rattle.md_core.proofs.Traces.Stands.{turn-of}
+use Rattle.md_core.proofs.Traces.Files.{Away, file-kept, tmp-of, delivery-unlinks, next-state, sound-at, writes}
+
+-- an element of a list has a place there
+has-at : {X : Type 0} (xs : List X) (x : X) → Has xs x → (i : ℕ) × (slice_get xs i ≡ Some x)
+has-at [] x has = absurd has
+has-at (y ∷ ys) x has = elim has [ inl is ↦ (zero, ap Some (sym is)) | inr later ↦ (let h = has-at ys x later in (suc h.0, h.1)) ]
+
+module _ (r : Run) (run : IsRun r) where
+  abbrev t : Trace
+  t = trace_of r
+
+  -- before moment k the job listed tmp of the folder, and saw the files of these rows to be old
+  pub record SawOld (k job folder : ℕ) (rows : List Row) : Type 0 where
+    pub i : ℕ
+    pub before : i < k
+    pub look : IsStepOf t job i
+    pub listed : look.step.asked ≡ list folder Tmp
+    pub ok : look.step.reply ≡ reply.Ok
+    pub all : (row : Row) → Has rows row → Has (old_rows look.step.at.own (rows_of (moment r i).dirs folder Tmp)) row
+
+  abbrev AtStage : ℕ → ℕ → ℕ → Stage → Type 0
+  AtStage k job folder Look = Unit {0}
+  AtStage k job folder (Remove name rest files) = (row : Row) × (row.name ≡ name) × SawOld k job folder (row ∷ rest)
+
+  abbrev AtTask : ℕ → ℕ → Task → Type 0
+  AtTask k job (Deliver d) = Unit {0}
+  AtTask k job (Mark m) = Unit {0}
+  AtTask k job (Move m) = Unit {0}
+  AtTask k job (Expunge x) = Unit {0}
+  AtTask k job (Copy c) = Unit {0}
+  AtTask k job (Clean c) = AtStage k job c.folder c.stage
+
+  saw-more : (k job folder : ℕ) (rows : List Row) → SawOld k job folder rows → SawOld (k + 1) job folder rows
+  saw-more k job folder rows h =
+      let less = h.before in
+      record { i = h.i; before = omega (arith, less); look = h.look; listed = h.listed; ok = h.ok; all = h.all }
+
+  saw-rest : (k job folder : ℕ) (row : Row) (rows : List Row) → SawOld k job folder (row ∷ rows) → SawOld (k + 1) job folder rows
+  saw-rest k job folder row rows h =
+      let less = h.before in
+      record { i = h.i; before = omega (arith, less); look = h.look; listed = h.listed; ok = h.ok; all = λ x has. h.all x (inr has) }
+
+  next-saw : (k job : ℕ) (c : Cleaning) (rows : List Row) (files : ℕ) → SawOld k job c.folder rows → (after_next c rows files).answer ≡ None →
+      AtTask k job (Clean (after_next c rows files).task)
+  next-saw k job c [] files h none = cc
+  next-saw k job c (row ∷ rest) files h none = (row, refl, h)
+
+  module _ (k job : ℕ) (u : IsTurn r k job) where
+    abbrev s : State
+    s = (moment r k).dirs
+
+    abbrev Leads : Turn Cleaning → DirReply → Type 0
+    Leads turn rep =
+        (done_in r k job u).asked ≡ turn.asked → (done_in r k job u).reply ≡ rep →
+        (turn.follows rep (rows_for turn.asked s)).answer ≡ None → AtTask (k + 1) job (Clean (turn.follows rep (rows_for turn.asked s)).task)
+
+    looked : (c : Cleaning) → (done_in r k job u).asked ≡ list c.folder Tmp → (done_in r k job u).reply ≡ reply.Ok →
+        SawOld (k + 1) job c.folder (old_rows (at r k job u).own (rows_of s c.folder Tmp))
+    looked c asked ok = record {
+      i = k;
+      before = omega arith;
+      look = record { step = done_in r k job u; at = done-step r run k (done_in r k job u) (done-in r k job u); own = u.own };
+      listed = asked;
+      ok = ok;
+      all = λ row has. has;
+    }
+
+    stage-leads : (c : Cleaning) (stage : Stage) → AtStage k job c.folder stage → (rep : DirReply) →
+        Leads (stage_turn (at_stage c stage) (at r k job u).own stage) rep
+    stage-leads c Look before reply.Ok asked replied none =
+        let old = old_rows (at r k job u).own (rows_of s c.folder Tmp) in
+        next-saw (k + 1) job (at_stage c Look) old (length old) (looked c asked replied) none
+    stage-leads c Look before reply.Exists asked replied none = cc
+    stage-leads c Look before reply.NotFound asked replied none = cc
+    stage-leads c Look before reply.Fault asked replied none = cc
+    stage-leads c (Remove name rest files) before reply.Ok asked replied none =
+        next-saw (k + 1) job (at_stage c (Remove name rest files)) rest files (saw-rest k job c.folder before.0 rest before.2) none
+    stage-leads c (Remove name rest files) before reply.Exists asked replied none = cc
+    stage-leads c (Remove name rest files) before reply.NotFound asked replied none =
+        next-saw (k + 1) job (at_stage c (Remove name rest files)) rest (files - 1) (saw-rest k job c.folder before.0 rest before.2) none
+    stage-leads c (Remove name rest files) before reply.Fault asked replied none = cc
+
+    own-turn : (left_by r k job u).answer ≡ None → AtTask k job u.task → AtTask (k + 1) job (left_by r k job u).task
+    own-turn none h = by u.task h (reply_in (moment r k) u.event u.task) refl refl none
+      where
+        by : (task : Task) → AtTask k job task → (rep : DirReply) → (done_in r k job u).asked ≡ asked_by r k job u task → (done_in r k job u).reply ≡ rep →
+            (after_task r k job u task rep).answer ≡ None → AtTask (k + 1) job (after_task r k job u task rep).task
+        by (Deliver d) now rep asked replied e = tt
+        by (Mark m) now rep asked replied e = tt
+        by (Move m) now rep asked replied e = tt
+        by (Expunge x) now rep asked replied e = tt
+        by (Copy c) now rep asked replied e = tt
+        by (Clean c) now rep asked replied e = stage-leads c c.stage now rep asked replied e
+
+  stage-more : (k job folder : ℕ) (stage : Stage) → AtStage k job folder stage → AtStage (k + 1) job folder stage
+  stage-more k job folder Look h = tt
+  stage-more k job folder (Remove name rest files) h = (h.0, h.1, saw-more k job folder (h.0 ∷ rest) h.2)
+
+  other-turn : (k job : ℕ) (task : Task) → AtTask k job task → AtTask (k + 1) job task
+  other-turn k job (Deliver d) h = tt
+  other-turn k job (Mark m) h = tt
+  other-turn k job (Move m) h = tt
+  other-turn k job (Expunge x) h = tt
+  other-turn k job (Copy c) h = tt
+  other-turn k job (Clean c) h = stage-more k job c.folder c.stage h
+
+  new-at : (job : ℕ) (c : Call) (task : Task) → new_job c ≡ working task → AtTask 0 job task
+  new-at job c (Deliver d) is = tt
+  new-at job c (Mark m) is = tt
+  new-at job c (Move m) is = tt
+  new-at job c (Expunge x) is = tt
+  new-at job c (Copy x) is = tt
+  new-at job c (Clean x) is = subst (AtStage 0 job x.folder) (sym (looks c is)) tt
+    where
+      looks : (c : Call) → new_job c ≡ working (Clean x) → x.stage ≡ Look
+      looks (call.Deliver a b c d) is = cc
+      looks (call.Seen a b c d) is = cc
+      looks (call.Flag a b c d e) is = cc
+      looks (call.Move a b c d) is = cc
+      looks (call.Expunge a b c) is = cc
+      looks (call.Copy a b c d e) is = cc
+      looks (call.Clean a) is = let same : new_cleaning a ≡ x = cc in ap (λ (y : Cleaning). y.stage) (sym same)
+
+  old-task : (k job : ℕ) (task : Task) → k ≤ length r.events → job_at (moment r k).jobs job ≡ Some (working task) → AtTask k job task
+  old-task = holds r run AtTask (λ n c task of-c is. new-at n c task is) own-turn (λ k n task e at-k differ is h. other-turn k n task h)
+
+  -- the name that a clean takes away it saw to be old
+  module _ (k : ℕ) (x : Step) (is : step_at t k ≡ Some x) (p : Path) where
+    abbrev mine : IsStepOf t x.job k
+    mine = record { step = x; at = is; own = refl }
+
+    abbrev u : IsTurn r k x.job
+    u = (turn-of r run x.job k mine).0
+
+    does : x ≡ done_in r k x.job u
+    does = (turn-of r run x.job k mine).1
+
+    its : (c : Call) × (call_at r.calls x.job ≡ Some c)
+    its = its-call r run k x.job _ u.there
+
+    fits : TaskFits (moment r k).dirs its.0 u.task
+    fits = its-fits r run k x.job its.0 u.task its.1 u.there
+
+    abbrev MayHere : Call → Type 0
+    MayHere c = MayChange t k x p c
+
+    seen-old : (folder : ℕ) (row : Row) (rest : List Row) → row.name ≡ p.name → SawOld k x.job folder (row ∷ rest) → HasSeenOld t x.job k folder p.name
+    seen-old folder row rest same h =
+        let old = has-filter (is_old h.look.step.at.own) (rows_of (moment r h.i).dirs folder Tmp) row (h.all row (inl refl)) in
+        let place = has-at (rows_of (moment r h.i).dirs folder Tmp) row old.0 in
+        record {
+          i = h.i;
+          before = h.before;
+          look = h.look;
+          listed = h.listed;
+          ok = h.ok;
+          at = place.0;
+          row = row;
+          there = ap (λ (s : State). slice_get (rows_of s folder Tmp) place.0) (state-same r run h.i) ∙ place.1;
+          named = same;
+          old = let hit = old.1 in grind (arith, nat_tests);
+        }
+
+    clean-changes : (c : Cleaning) (own : ℕ) (stage : Stage) → AtStage k x.job c.folder stage → (stage_turn (at_stage c stage) own stage).asked ≡ unlink p →
+        (p.folder ≡ c.folder) × HasSeenOld t x.job k c.folder p.name
+    clean-changes c own Look now asks = cc
+    clean-changes c own (Remove name rest files) now asks =
+        let same : tmp c name ≡ p = cc in
+        (ap (λ (q : Path). q.folder) (sym same), seen-old c.folder now.0 rest (now.1 ∙ ap (λ (q : Path). q.name) same) now.2)
+
+    -- a path of a delivery in tmp may be changed by it
+    may-own : (c : Call) → IsTmpOf p c → MayHere c
+    may-own (call.Deliver a b c d) h = h
+    may-own (call.Seen a b c d) h = h
+    may-own (call.Flag a b c d e) h = h
+    may-own (call.Move a b c d) h = h
+    may-own (call.Expunge a b c) h = h
+    may-own (call.Copy a b c d e) h = h
+    may-own (call.Clean a) h = absurd h
+
+    within : k ≤ length r.events
+    within = let less = is_within r k x.job u in omega (arith, less)
+
+    asks-now : x.asked ≡ asked_by r k x.job u u.task
+    asks-now = ap (λ (d : Step). d.asked) does
+
+    unlinks : p.place ≡ Tmp → x.asked ≡ unlink p → MayHere its.0
+    unlinks in_tmp asks = by u.task fits (old-task k x.job u.task within u.there) (sym asks-now ∙ asks)
+      where
+        by : (task : Task) → TaskFits (moment r k).dirs its.0 task → AtTask k x.job task → asked_by r k x.job u task ≡ unlink p → MayHere its.0
+        by (Deliver d) f now is = may-own its.0 (tmp-of (moment r k).dirs its.0 d p f
+            (delivery-unlinks (moment r k).dirs u.event.event.job d (at r k x.job u) p d.stage is))
+        by (Mark m) f now is = marks m.stage is
+          where
+            marks : (stage : marking.Stage) → (marked_by.stage_turn u.event.event.job m stage).asked ≡ unlink p → MayHere its.0
+            marks (marking_stage.Look tries) h = cc
+            marks (marking_stage.Act name flags tries) h = cc
+        by (Move m) f now is = moves m.stage is
+          where
+            moves : (stage : search.Stage) → (moved_by.stage_turn u.event.event.job m stage).asked ≡ unlink p → MayHere its.0
+            moves (LookNew tries) h = cc
+            moves (LookCur tries) h = cc
+            moves (Act place row tries) h = cc
+        by (Expunge y) f now is = expunges y.stage is
+          where
+            expunges : (stage : expunging.Stage) → (expunged_by.stage_turn u.event.event.job y stage).asked ≡ unlink p → MayHere its.0
+            expunges (expunging_stage.Look tries) h = cc
+            expunges (expunging_stage.Act name tries) h =
+                let same : expunged_by.source y name ≡ p = cc in
+                let cur : place.Cur ≡ Tmp = ap (λ (q : Path). q.place) same ∙ in_tmp in cc
+        by (Copy c) f now is = copies c.stage is
+          where
+            copies : (stage : search.Stage) → (copied_by.stage_turn u.event.event.job c stage).asked ≡ unlink p → MayHere its.0
+            copies (LookNew tries) h = cc
+            copies (LookCur tries) h = cc
+            copies (Act place row tries) h = cc
+        by (Clean c) f now is =
+            let h = clean-changes c (at r k x.job u).own c.stage now is in
+            subst MayHere (sym f) (asks, h.0, h.1)
+
+    makes : p.place ≡ Tmp → x.asked ≡ create p → MayHere its.0
+    makes in_tmp asks =
+        let by = creates (moment r k).dirs its.0 u.event.event.job (at r k x.job u) p in_tmp u.task fits (sym asks-now ∙ asks) in
+        may-own its.0 (tmp-of (moment r k).dirs its.0 by.1.0 p (subst (TaskFits (moment r k).dirs its.0) by.1.1 fits) by.1.3)
+
+    -- a call that writes to the file of a path of tmp is of its delivery
+    away-or : (asked : Asked) → x.asked ≡ asked → Away (state t k) p asked ⊎ MayHere its.0
+    away-or (append q bytes) asks =
+        let w = writes r run k x is q bytes asks in
+        let called : w.0 ≡ its.0 = (let e : Some w.0 ≡ Some its.0 = sym w.1 ∙ its.1 in cc) in
+        by_path p q
+        (λ same. inr (may-own its.0 (subst (λ (c : Call). IsTmpOf p c) called (subst (λ (y : Path). IsTmpOf y w.0) (sym same) w.2.own))))
+        (λ differ. inl (λ n here there. differ (w.2.only n p there here)))
+    away-or (create q) asks = inl tt
+    away-or (link old new) asks = inl tt
+    away-or (rename old new) asks = inl tt
+    away-or (unlink q) asks = inl tt
+    away-or (list folder place) asks = inl tt
+
+    tmp-place : (q : Place) → is_tmp q ≡ true → q ≡ Tmp
+    tmp-place place.Tmp h = refl
+    tmp-place place.New h = cc
+    tmp-place place.Cur h = cc
+
+    changes : p.place ≡ Tmp → Touches (state t k) (state_by (ask_of x.asked x.at.clock) (state t k) x.reply) p x.asked x.reply x.at.clock
+    changes in_tmp = touches (state t k) p in_tmp (sound-at r run k) x.at.clock x.asked x.reply
+        (subst (λ (a : Asked). LeavesTmp a) (sym asks-now) (asks-fair (moment r k).dirs its.0 u.event.event.job u.task (at r k x.job u) fits))
+
+    pub in_tmp : is_tmp p.place ≡ true → KeepsTmp t k x p
+    in_tmp hit =
+        let tmp-is = tmp-place p.place hit in
+        elim (changes tmp-is) [
+          | inl keeps ↦ elim (away-or x.asked refl) [
+            | inl away ↦ inl (ap (λ (s : State). file_in s p) (next-state r run k x is)
+                ∙ file-kept (state t k) (sound-at r run k) x.at.clock p x.asked x.reply away keeps.names)
+            | inr may ↦ inr (its.0, its.1, may)
+          ]
+          | inr other ↦ elim other [
+            | inl made ↦ inr (its.0, its.1, makes tmp-is made.call)
+            | inr taken ↦ inr (its.0, its.1, unlinks tmp-is taken.call)
+          ]
+        ]

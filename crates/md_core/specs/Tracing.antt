@@ -1,0 +1,50 @@
+-- The trace of a run: what its events did, one after another. Here alone the machines are used.
+use Rattle.std.specs.Prelude.{ℕ, ◌≡◌, ◌≤◌, ◌++◌, ◌∷◌, [], List, Some, None, length, slice_get, is_some}
+use Rattle.std.specs.Option.{option_to_list}
+use Rattle.md_core.specs.declared.jobs.answer.Answer.{Answer}
+use Rattle.md_core.specs.declared.jobs.step.StepOut.{StepOut}
+use Rattle.md_core.specs.Asked.{shown_call}
+use Rattle.md_core.specs.Machine.{Machine, Marked, done, happens, job_at}
+use Rattle.md_core.specs.Runs.{Run, beginning, dirs_of, jobs_of, effects_of, answer_of}
+use Rattle.md_core.specs.Trace.{Step, Trace, IsAnswered, state, effects}
+
+-- what events did, one after another, from a machine
+unfoldable pub deeds_from : Machine → List Marked → List Step
+deeds_from m [] = []
+deeds_from m (e ∷ es) = option_to_list (done m e) ++ deeds_from (happens m e) es
+
+abbrev pub trace_of : Run → Trace
+trace_of r = record { image = r.image; calls = r.calls; steps = deeds_from (beginning r.image r.calls) r.events }
+
+-- no event of a run has a moment of its own: all jobs go by the clock of the store
+abbrev pub HasOneClock : Run → Type 0
+HasOneClock r = (k : ℕ) (e : Marked) → slice_get r.events k ≡ Some e → e.event.own ≡ None
+
+-- a step shows its directory call, the reply, its answer and whether it is an effect
+pub record IsShownBy (step : Step) (out : StepOut) : Type 0 where
+  pub call : out.call ≡ shown_call step.asked
+  pub reply : out.reply ≡ step.reply
+  pub answer : out.answer ≡ step.answer
+  pub effect : out.effect ≡ is_some step.effect
+
+-- the trace has one step more, a step of the job, and that is what was shown
+pub record GrowsByStep (t t' : Trace) (job : ℕ) (out : StepOut) : Type 0 where
+  pub step : Step
+  pub steps : t'.steps ≡ t.steps ++ step ∷ []
+  pub image : t'.image ≡ t.image
+  pub calls : t'.calls ≡ t.calls
+  pub own : step.job ≡ job
+  pub shown : IsShownBy step out
+
+-- What a world shows is what the trace of its run says: one step for each event, and after the last step its directories and effects; and a
+-- job has the answer that a step of it gave.
+pub record IsShown (r : Run) : Type 0 where
+  pub steps : length (trace_of r).steps ≡ length r.events
+  pub dirs : state (trace_of r) (length r.events) ≡ dirs_of r
+  pub effects : effects (trace_of r) (length r.events) ≡ effects_of r
+  pub answer : (job : ℕ) (a : Answer) → answer_of (job_at (jobs_of r) job) ≡ Some a → IsAnswered (trace_of r) job a
+  pub answered : (job : ℕ) (a : Answer) → IsAnswered (trace_of r) job a → answer_of (job_at (jobs_of r) job) ≡ Some a
+
+-- a run and a later one show the same directories at each moment that the first has come to
+abbrev pub KeepsMoments : Run → Run → Type 0
+KeepsMoments r r' = (k : ℕ) → k ≤ length r.events → state (trace_of r') k ≡ state (trace_of r) k
