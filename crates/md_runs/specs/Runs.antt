@@ -1,8 +1,20 @@
 -- The run that the words of a command line name.
-use Rattle.std.specs.Prelude.{◌≡◌, ℕ, ◌≤◌, List, [], ◌∷◌, codes}
+use Rattle.std.specs.Prelude.{◌≡◌, ℕ, ◌≤◌, List, [], ◌∷◌, codes, if◌then◌else◌}
+use Rattle.std.specs.Str.{bytes_eq}
 use Rattle.std.specs.Str.Parse.{IsNumeral, without_leading_plus, digits_value}
 use Rattle.md_runs.specs.declared.words.Run.{Run}
 use Rattle.md_runs.specs.declared.words.Run.TheVariants.{Play, Threads, Index}
+
+-- The operands among the words after a subcommand. A `--` in front of them ends its options, as for any utility of POSIX.
+abbrev pub operands_of : List (List ℕ) → List (List ℕ)
+operands_of [] = []
+operands_of (word ∷ words) = if bytes_eq word (codes "--") then words else word ∷ words
+
+-- a subcommand and its operands
+pub record Calls (words : List (List ℕ)) (name : List ℕ) (operands : List (List ℕ)) : Type 0 where
+  pub others : List (List ℕ)
+  pub words_are : words ≡ name ∷ others
+  pub operands_are : operands_of others ≡ operands
 
 -- a number from 1 to the most, in decimal digits, with or without a plus sign
 pub record IsNumber (word : List ℕ) (n most : ℕ) : Type 0 where
@@ -14,10 +26,14 @@ pub record IsNumber (word : List ℕ) (n most : ℕ) : Type 0 where
 -- a subcommand and a number
 pub record IsCounted (words : List (List ℕ)) (name : List ℕ) (n most : ℕ) : Type 0 where
   pub word : List ℕ
-  pub words_are : words ≡ name ∷ word ∷ []
+  pub called : Calls words name (word ∷ [])
   pub number : IsNumber word n most
 
 abbrev pub Names : List (List ℕ) → Run → Type 0
-Names words Play = words ≡ codes "play" ∷ []
+Names words Play = Calls words (codes "play") []
 Names words (Threads n) = IsCounted words (codes "threads") n 16
 Names words (Index n) = IsCounted words (codes "index") n 64
+
+-- no run is named
+abbrev pub NamesNone : List (List ℕ) → Type 0
+NamesNone words = (run : Run) → ¬ Names words run

@@ -1,28 +1,58 @@
 //! Why a run on threads ended without its text.
-ghost use Rattle.std.specs.Prelude.{◌≡◌};
+ghost use Rattle.std.specs.Prelude.{◌≡◌, ◌≤◌, length};
 ghost use Rattle.md_script.specs.Kinds.{unnumbered};
 ghost use Rattle.md_script.specs.declared.error.PlayKind.TheVariants.{NoMemory};
 ghost use Rattle.md_runs.specs.declared.fault.RunFault.TheVariants as fault;
+ghost use Rattle.md_runs.specs.Faults.{refused_line, refusal_text};
 ghost use Rattle.md_runs.specs.Threading.{IsStop};
 
 use md_script::{PlayError, PlayKind};
 use md_store::{ListError, OpenError};
 use std::alloc::{AllocError, AllocFailed};
-use thiserror::Error;
+use std::fmt::{self, Display, Formatter};
 
 /// Why a run on threads ended without its text.
-#[derive(Clone, Copy, Debug, PartialEq, Eq, Error)]
+#[derive(Clone, Copy, Debug, PartialEq, Eq)]
 pub enum RunFault {
     /// As a script that is played is refused.
-    #[error(transparent)]
     Play(PlayError),
     /// A thread's pass was refused its reader.
-    #[error("line 0: no reader")]
     NoReader,
     /// What is published could not be entered.
-    #[error("line 0: closed")]
     Closed,
 }
+
+impl RunFault {
+    /// The line that was refused, counted from 1, or 0 where no line was.
+    pub fn line(self) -> u64
+        ensures { result ≡ refused_line self }
+    {
+        match self {
+            RunFault::Play(error) => error.line,
+            RunFault::NoReader | RunFault::Closed => 0,
+        }
+    }
+
+    /// What the refusal says of its cause, in at most 16 bytes.
+    pub fn text(self) -> &'static str
+        ensures text { result.now ≡ refusal_text self }
+        ensures short { length result.now ≤ 16 }
+    {
+        match self {
+            RunFault::Play(error) => error.kind.text(),
+            RunFault::NoReader => "no reader",
+            RunFault::Closed => "closed",
+        }
+    }
+}
+
+impl Display for RunFault {
+    fn fmt<W: fmt::Write>(&self, f: &mut Formatter<W>) -> fmt::Result {
+        write!(f, "line {}: {}", self.line(), self.text())
+    }
+}
+
+impl std::error::Error for RunFault {}
 
 impl From<PlayError> for RunFault {
     ghost from_gives = { λ error result. result ≡ fault.Play error };

@@ -1,5 +1,5 @@
 //! The index of a script's messages: a line for each, with the summary of its header.
-ghost use Rattle.std.specs.Prelude.{◌≡◌, ◌≢◌, ◌⊎◌, Ok, Err, IfOk, MatchResult};
+ghost use Rattle.std.specs.Prelude.{◌≡◌, ◌≢◌, ◌≤◌, ◌⊎◌, Ok, Err, IfOk, MatchResult};
 ghost use Rattle.md_core.specs.Mailbox.{mailbox_of};
 ghost use Rattle.md_core.specs.Runs.{dirs_of};
 ghost use Rattle.md_script.specs.Folders.{names_of};
@@ -33,6 +33,7 @@ pub fn run_index<R: Threads + Wait + Sync, S: Source, T: Sink>(
     source: &mut S,
     sink: &mut T,
 ) -> Result<(), PlayError>
+    requires { (1 ≤ workers) × (workers ≤ 64) }
     ensures { Indexes (S.state source.old) (S.state source.new) (T.state sink.old) (T.state sink.new) result }
 {
     let script = read_script(alloc, source)?;

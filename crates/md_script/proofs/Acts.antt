@@ -11,7 +11,7 @@ use Rattle.md_core.specs.declared.jobs.step.Event.{Event}
 use Rattle.md_core.specs.declared.jobs.step.StepOut.{StepOut}
 use Rattle.md_core.specs.Machine.{Marked, done, step_out}
 use Rattle.md_core.specs.Runs.{Run, machine_of, failures_of, and_call, and_event, IsRefusal}
-use Rattle.md_core.specs.Interleaving.{ShowsStep}
+use Rattle.md_core.specs.Stepping.{ShowsStep}
 use Rattle.md_core.specs.Submitting.{submit_refusal}
 use Rattle.md_script.specs.declared.error.PlayKind.{PlayKind}
 use Rattle.md_script.specs.declared.error.PlayKind.TheVariants.{Core}

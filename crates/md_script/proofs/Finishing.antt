@@ -5,12 +5,9 @@ use Rattle.md_core.specs.declared.error.CoreError.{CoreError}
 use Rattle.md_core.specs.declared.error.CoreError.TheVariants.{Answered}
 use Rattle.md_core.specs.declared.jobs.answer.Answer.{Answer}
 use Rattle.md_core.specs.declared.jobs.step.Event.{Event}
-use Rattle.md_core.specs.Machine.{Machine, Standing, working, answered, job_at}
-use Rattle.md_core.specs.Runs.{Run, machine_of, dirs_of, jobs_of, and_event, answer_of, step_refusal, steps_left}
-use Rattle.md_core.proofs.Theorem.Bounds.{left-exact}
-use Rattle.md_core.proofs.Runs.Events.{job_at-within, goes_on-exact, happens-turned}
-use Rattle.md_core.proofs.Lists.Places.{length-changed}
-use Rattle.md_core.proofs.Runs.ByEvent.{machine-and_event}
+use Rattle.md_core.specs.Machine.{Marked, Standing, working, answered, job_at}
+use Rattle.md_core.specs.Laws.{HasJob}
+use Rattle.md_core.specs.Runs.{Run, jobs_of, and_event, answer_of, step_refusal, steps_left}
 use Rattle.md_script.specs.declared.error.PlayKind.{PlayKind}
 use Rattle.md_script.specs.Step.{Steps}
 use Rattle.md_script.specs.Sessions.{stepped, finished, steps_of, before, unfaulted, step_text, event_refusal}
@@ -19,10 +16,12 @@ use Rattle.md_script.proofs.Acts.{is_done, was_done, refused_too}
 abbrev job_in : Run → ℕ → Option Standing
 job_in r job = job_at (jobs_of r) job
 
--- there is a job of this number
-pub record IsThere (r : Run) (job : ℕ) : Type 0 where
-  pub from : 0 < job
-  pub within : job ≤ length (jobs_of r)
+-- the law of jobs whose next step is not refused: a step is left, and leaves the job there
+abbrev IsLeft : Type 0
+IsLeft = (r : Run) (job : ℕ) → step_refusal (job_in r job) ≡ None → 0 < steps_left r job
+
+abbrev Stays : Type 0
+Stays = (r : Run) (e : Marked) → step_refusal (job_in r e.event.job) ≡ None → HasJob (and_event r e) e.event.job
 
 job_of : (jobs : List Standing) (number : ℕ) → 0 < number → number ≤ length jobs → (job : Standing) × (job_at jobs number ≡ Some job)
 job_of jobs zero from within = absurd (omega arith)
@@ -34,29 +33,13 @@ waits-by None job is none = cc
 waits-by (Some (working task)) job is none = refl
 waits-by (Some (answered a)) job is none = cc
 
-pub waits : (r : Run) (event : Event) → IsThere r event.job → answer_of (job_in r event.job) ≡ None → event_refusal r event ≡ None
+pub waits : (r : Run) (event : Event) → HasJob r event.job → answer_of (job_in r event.job) ≡ None → event_refusal r event ≡ None
 waits r event there none = let at = job_of (jobs_of r) event.job there.from there.within in waits-by (job_in r event.job) at.0 at.1 none
 
 ends-by : (o : Option Standing) (a : Answer) → answer_of o ≡ Some a → step_refusal o ≡ Some Answered
 ends-by None a is = cc
 ends-by (Some (working task)) a is = cc
 ends-by (Some (answered b)) a is = refl
-
--- a job that goes on is there, and stays there
-there-here : (r : Run) (event : Event) → event_refusal r event ≡ None → IsThere r event.job
-there-here r event goes_on =
-    let task = (goes_on-exact (job_in r event.job)).0 goes_on in
-    let at = job_at-within (jobs_of r) event.job _ task.1 in
-    record { from = at.0; within = at.1 }
-
-there-after : (r : Run) (event : Event) → event_refusal r event ≡ None → IsThere (and_event r (unfaulted event)) event.job
-there-after r event goes_on =
-    let task = (goes_on-exact (job_in r event.job)).0 goes_on in
-    let here = there-here r event goes_on in
-    let as_many : length (jobs_of (and_event r (unfaulted event))) ≡ length (jobs_of r) =
-    ap (λ (m : Machine). length m.jobs) (machine-and_event r (unfaulted event) ∙ happens-turned (machine_of r) (unfaulted event) task.0 task.1) ∙
-    length-changed (jobs_of r) _ _ in
-    record { from = here.from; within = omega (arith, as_many, here.within) }
 
 -- what a step that was taken says
 pub record Stepped (r : Run) (event : Event) (r' : Run) (text : List ℕ) : Type 0 where
@@ -87,20 +70,13 @@ step-none (suc more) r event e refused = let is : is_some (event_refusal r event
 -- The steps since run r led to r' and printed this text, and what is left of them goes on from there.
 pub record Finishes (r : Run) (event : Event) (r' : Run) (text : List ℕ) : Type 0 where
   pub goes_on : event_refusal r event ≡ None
-  pub there : IsThere r' event.job
+  pub there : HasJob r' event.job
   pub more : ℕ
   pub enough : steps_left r' event.job ≤ more
   pub rest : steps_of (steps_left r event.job) r event ≡ before text (steps_of more r' event)
 
-some_left : (r : Run) (event : Event) → event_refusal r event ≡ None → 0 < steps_left r event.job
-some_left r event goes_on = (left-exact (dirs_of r) (job_in r event.job)).0 goes_on
-
-one_more : (n : ℕ) → 0 < n → (m : ℕ) × (n ≡ suc m)
-one_more zero some = absurd (omega arith)
-one_more (suc m) some = (m, refl)
-
-there-stepped : (r : Run) (event : Event) (r' : Run) (text : List ℕ) → Stepped r event r' text → IsThere r' event.job
-there-stepped r event r' text s = subst (λ (x : Run). IsThere x event.job) s.run (there-after r event s.goes_on)
+there-stepped : Stays → (r : Run) (event : Event) (r' : Run) (text : List ℕ) → Stepped r event r' text → HasJob r' event.job
+there-stepped stays r event r' text s = subst (λ (x : Run). HasJob x event.job) s.run (stays r (unfaulted event) s.goes_on)
 
 -- so many steps, of which the first is this
 first-of : (n : ℕ) (r : Run) (event : Event) (r' : Run) (text : List ℕ) → Stepped r event r' text → 0 < n → steps_left r' event.job < n
@@ -108,22 +84,22 @@ first-of : (n : ℕ) (r : Run) (event : Event) (r' : Run) (text : List ℕ) → 
 first-of zero r event r' text s some less = absurd (omega arith)
 first-of (suc more) r event r' text s some less = (more, omega arith, step-more more r event r' text s)
 
-pub finishes-start : (r : Run) (event : Event) (r' : Run) (text : List ℕ) → stepped r event ≡ Ok (r', text) →
+pub finishes-start : IsLeft → Stays → (r : Run) (event : Event) (r' : Run) (text : List ℕ) → stepped r event ≡ Ok (r', text) →
     steps_left r' event.job < steps_left r event.job → Finishes r event r' text
-finishes-start r event r' text is less =
+finishes-start is_left stays r event r' text is less =
     let s = stepped-is r event r' text is in
-    let first = first-of (steps_left r event.job) r event r' text s (some_left r event s.goes_on) less in
-    record { goes_on = s.goes_on; there = there-stepped r event r' text s; more = first.0; enough = first.1; rest = first.2 }
+    let first = first-of (steps_left r event.job) r event r' text s (is_left r event.job s.goes_on) less in
+    record { goes_on = s.goes_on; there = there-stepped stays r event r' text s; more = first.0; enough = first.1; rest = first.2 }
 
-pub finishes-more : (r : Run) (event : Event) (r' : Run) (text : List ℕ) (r'' : Run) (next : List ℕ) → Finishes r event r' text →
+pub finishes-more : IsLeft → Stays → (r : Run) (event : Event) (r' : Run) (text : List ℕ) (r'' : Run) (next : List ℕ) → Finishes r event r' text →
     stepped r' event ≡ Ok (r'', next) → steps_left r'' event.job < steps_left r' event.job → Finishes r event r'' (text ++ next)
-finishes-more r event r' text r'' next f is less =
+finishes-more is_left stays r event r' text r'' next f is less =
     let s = stepped-is r' event r'' next is in
-    let some = some_left r' event s.goes_on in
+    let some = is_left r' event.job s.goes_on in
     let first = first-of f.more r' event r'' next s (omega (arith, some, f.enough)) (omega (arith, less, f.enough)) in
     record {
       goes_on = f.goes_on;
-      there = there-stepped r' event r'' next s;
+      there = there-stepped stays r' event r'' next s;
       more = first.0;
       enough = first.1;
       rest = f.rest ∙ ap (before text) first.2 ∙ (let last = steps_of first.0 r'' event in λ i. (last.0, sym (append_assoc text next last.1) i));

@@ -1,5 +1,6 @@
 pub mod Bind
 pub mod Kinds
+pub mod Refusals
 pub mod Escapes
 pub mod Words
 pub mod Verb
@@ -17,3 +18,4 @@ pub mod Sources
 pub mod Sinks
 pub mod Reading
 pub mod Play
+pub mod OneClock

@@ -10,6 +10,10 @@ pub record Source : Type 0 where
   pub reads : ℕ
   pub has_failed : Bool
 
+-- the least room that a read is offered, in bytes
+abbrev pub least_room : ℕ
+least_room = 4096
+
 -- some bytes were read into the front of the room, none of them only at the end; the read that finds the end counts as any other
 pub record Gave (old new : Source) (room : List ℕ) (count : ℕ) : Type 0 where
   pub fits : count ≤ length room

@@ -1,71 +1,128 @@
 //! Why a script, or one of its lines, is refused.
-ghost use Rattle.std.specs.Prelude.{◌≡◌};
+ghost use Rattle.std.specs.Prelude.{◌≡◌, ◌≤◌, length};
 ghost use Rattle.md_script.specs.declared.error.PlayKind.TheVariants.{NoMemory};
 ghost use Rattle.md_script.specs.Kinds.{core_kind, name_kind, unnumbered};
+ghost use Rattle.md_script.specs.Refusals.{core_text, name_text, kind_text};
 
 use md_core::{CoreError, SubmitRefused};
 use md_head::HeadError;
 use md_name::NameError;
 use md_view::ViewError;
 use std::alloc::{AllocError, AllocFailed};
+use std::fmt::{self, Display, Formatter};
 use thiserror::Error;
 
 /// Why a script, or one of its lines, is refused. A line is refused for what it says alone: at a line, want of memory is no refusal of
 /// it, and the faults of a reader and a writer and the limits on a script don't occur.
-#[derive(Clone, Copy, Debug, PartialEq, Eq, Error)]
+#[derive(Clone, Copy, Debug, PartialEq, Eq)]
 pub enum PlayKind {
     /// The first word is no command, or a word is missing, empty or one too many.
-    #[error("bad command")]
     BadCommand,
     /// A word that should be a number is none, or is over 2^64 - 1.
-    #[error("bad number")]
     BadNumber,
     /// A backslash begins no escape.
-    #[error("bad escape")]
     BadEscape,
     /// A word that should be `tmp`, `new` or `cur` is none of these.
-    #[error("bad place")]
     BadPlace,
     /// A folder can't be made under this name.
-    #[error("bad folder")]
     BadFolder,
     /// No folder was named so.
-    #[error("unknown folder")]
     UnknownFolder,
     /// The store was loaded, so it can't be added to.
-    #[error("too late")]
     TooLate,
     /// No first reading of the folder is kept.
-    #[error("no first reading")]
     NoFirst,
     /// Two files of the image have one path.
-    #[error("same path twice")]
     SamePath,
     /// The store refuses the line; want of memory is never among these.
-    #[error(transparent)]
     Core(CoreError),
     /// Flags are none, or no unique name is made of the words; want of memory is never among these.
-    #[error(transparent)]
     Name(NameError),
     /// The reader failed.
-    #[error("read fault")]
     ReadFault,
     /// The writer failed.
-    #[error("write fault")]
     WriteFault,
     /// The script has more than 67,108,864 bytes.
-    #[error("script too long")]
     TooLong,
     /// After 1,048,576 reads the script had not ended.
-    #[error("too many reads")]
     TooManyReads,
     /// A growth was refused, in whatever crate.
-    #[error("no memory")]
     NoMemory,
     /// The command is none of those that this run takes.
-    #[error("not in this run")]
     NotInThisRun,
 }
+
+impl PlayKind {
+    /// What a refusal says of its cause, in at most 16 bytes.
+    pub fn text(self) -> &'static str
+        ensures text { result.now ≡ kind_text self }
+        ensures short { length result.now ≤ 16 }
+    {
+        match self {
+            PlayKind::BadCommand => "bad command",
+            PlayKind::BadNumber => "bad number",
+            PlayKind::BadEscape => "bad escape",
+            PlayKind::BadPlace => "bad place",
+            PlayKind::BadFolder => "bad folder",
+            PlayKind::UnknownFolder => "unknown folder",
+            PlayKind::TooLate => "too late",
+            PlayKind::NoFirst => "no first reading",
+            PlayKind::SamePath => "same path twice",
+            PlayKind::Core(error) => core_text(error),
+            PlayKind::Name(error) => name_text(error),
+            PlayKind::ReadFault => "read fault",
+            PlayKind::WriteFault => "write fault",
+            PlayKind::TooLong => "script too long",
+            PlayKind::TooManyReads => "too many reads",
+            PlayKind::NoMemory => "no memory",
+            PlayKind::NotInThisRun => "not in this run",
+        }
+    }
+}
+
+/// What the store's error says: a derived `Display` has no contract, so its texts stand here too, and a test compares them.
+fn core_text(error: CoreError) -> &'static str
+    ensures text { result.now ≡ core_text error }
+    ensures short { length result.now ≤ 16 }
+{
+    match error {
+        CoreError::BadName => "bad name",
+        CoreError::LongUnique => "long unique",
+        CoreError::DuplicateUnique => "duplicate unique",
+        CoreError::NameUsed => "name used",
+        CoreError::NoFolder => "no folder",
+        CoreError::SameFolder => "same folder",
+        CoreError::BadUnique => "bad unique",
+        CoreError::BadTries => "bad tries",
+        CoreError::BadChunk => "bad chunk",
+        CoreError::TooManyJobs => "too many jobs",
+        CoreError::BodyTooLong => "body too long",
+        CoreError::NoJob => "no job",
+        CoreError::Answered => "answered",
+        CoreError::NoMemory => "no memory",
+    }
+}
+
+/// What a name's error says.
+fn name_text(error: NameError) -> &'static str
+    ensures text { result.now ≡ name_text error }
+    ensures short { length result.now ≤ 16 }
+{
+    match error {
+        NameError::BadHost => "bad host",
+        NameError::BadMicro => "bad micro",
+        NameError::NoMemory => "no memory",
+        NameError::BadFlag => "bad flag",
+    }
+}
+
+impl Display for PlayKind {
+    fn fmt<W: fmt::Write>(&self, f: &mut Formatter<W>) -> fmt::Result {
+        f.write_str(self.text())
+    }
+}
+
+impl std::error::Error for PlayKind {}
 
 /// Why a script was not run to its end, with the number of the line that was refused, counted from 1, or 0 where no line was.
 #[derive(Clone, Copy, Debug, PartialEq, Eq, Error)]

@@ -3,9 +3,10 @@ ghost use Rattle.std.specs.Prelude.{◌+◌, ◌≤◌, IfOk};
 ghost use Rattle.md_script.specs.Sessions.{transcript};
 ghost use Rattle.md_script.specs.Printed.{Shows};
 ghost use Rattle.md_script.specs.Play.{Plays, Writes};
+ghost use Rattle.md_script.specs.Reading.{most_reads};
 
 use crate::error::{PlayError, PlayKind};
-use crate::reading::{MOST_READS, read_script};
+use crate::reading::read_script;
 use crate::run::{Printed, run};
 use crate::sink::{Put, Sink};
 use crate::source::Source;
@@ -26,7 +27,7 @@ pub fn play<S: Source, T: Sink>(
     sink: &mut T,
 ) -> Result<(), PlayError>
     ensures play { Plays (S.state source.old) (S.state source.new) (T.state sink.old) (T.state sink.new) result }
-    ensures reads { (S.state source.new).reads ≤ (S.state source.old).reads + MOST_READS }
+    ensures reads { (S.state source.new).reads ≤ (S.state source.old).reads + most_reads }
 {
     let script = read_script(alloc, source)?;
     let printed = transcript(alloc, &script)?;

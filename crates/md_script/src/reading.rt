@@ -1,6 +1,6 @@
 //! A script, read whole.
 ghost use Rattle.std.specs.Prelude.{◌+◌, ◌≤◌};
-ghost use Rattle.md_script.specs.Reading.{ReadsWhole};
+ghost use Rattle.md_script.specs.Reading.{ReadsWhole, most_reads};
 
 use crate::chunk::{make_room, read_behind};
 use crate::error::PlayKind;
@@ -17,7 +17,7 @@ pub(crate) const MOST_READS: u32 = 1_048_576;
 /// `TooManyReads` or `NoMemory`.
 pub fn read_script<S: Source>(alloc: Global, source: &mut S) -> Result<Vec<u8>, PlayKind>
     ensures whole { ReadsWhole (S.state source.old) (S.state source.new) result }
-    ensures counted { (S.state source.new).reads ≤ (S.state source.old).reads + MOST_READS }
+    ensures counted { (S.state source.new).reads ≤ (S.state source.old).reads + most_reads }
 {
     let mut script = Vec::new(alloc);
     let mut filled = 0;

@@ -1,6 +1,6 @@
 //! What a script is read from.
 ghost use Rattle.std.specs.Prelude.{◌≡◌, ◌+◌, ◌≤◌, false, length};
-ghost use Rattle.md_script.specs.Sources.{Reads};
+ghost use Rattle.md_script.specs.Sources.{Reads, least_room};
 
 use std::io::{ErrorKind, Read};
 
@@ -27,7 +27,7 @@ pub trait Source {
 
     /// Reads into the front of the room, which has 4,096 bytes or more.
     fn read(&mut self, room: &mut [u8]) -> Got
-        requires { LEAST_ROOM ≤ length room.old }
+        requires { least_room ≤ length room.old }
         ensures read { Reads (state self.old) (state self.new) room.new result }
         ensures counted { (state self.new).reads ≤ (state self.old).reads + 1 };
 }

@@ -54,6 +54,7 @@ pub(crate) fn listing<D: Dirs>(
 ) -> Result<Vec<Entry>, ViewError>
     ensures { IfOk result (λ all. all.items ≡ listing_in (mailbox_of (dirs_of world.now)) folder) }
 {
+    world.interleaves();
     list(alloc, world, folder)
 }
 

@@ -23,7 +23,7 @@ pub(super) fn replay(alloc: Global, made: Made, steps: &[Event]) -> Result<Vec<u
     take_all(&mut world, steps)?;
     // That they are a run, and that these directories never fail.
     world.interleaves();
-    world.counts();
+    let _dirs = world.dirs();
     report(alloc, &world, &names)
 }
 

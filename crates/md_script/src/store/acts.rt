@@ -22,9 +22,11 @@ pub(super) fn submit<D: Storage>(
     ensures submit { Steps (submitted world.old call) world.new out.old.items out.new.items result }
     ensures waits { MayWait world.old world.new }
 {
-    // The theorem of the run: listings that have begun wait for what is done now.
+    // Listings that have begun wait for what is done now.
+    md_view::laws::a_listing_may_wait();
     world.interleaves();
     let job = world.submit(call)?;
+    world.interleaves();
     push_job(out, job)?;
     Ok(())
 }
@@ -40,15 +42,17 @@ pub(super) fn step<D: Storage>(
     ensures waits { MayWait world.old world.new }
     ensures nearer { OnOk result (steps_left world.new event.job < steps_left world.old event.job) }
 {
-    // The theorem of the run: listings that have begun wait for this step.
+    // Listings that have begun wait for this step.
+    md_view::laws::a_listing_may_wait();
     world.interleaves();
     // The kit's borrow checker refuses a `?` here, where no signature names `Answer`.
     let shown = match world.step(event.job, event.now, event.own) {
         Ok(shown) => shown,
         Err(error) => return Err(PlayKind::from(error)),
     };
+    world.interleaves();
     // The directories never fail, so that no step is marked.
-    world.counts();
+    let _dirs = world.dirs();
     push_step(alloc, out, event.job, shown)?;
     Ok(())
 }
@@ -65,6 +69,8 @@ pub(super) fn finish<D: Storage>(
     ensures waits { MayWait world.old world.new }
     ensures answered { OnOk result (is_some (answer_of (job_at (jobs_of world.new) event.job)) ≡ true) }
 {
+    // A job that was not refused is there after its step, and has a step left until it is answered.
+    md_core::laws::a_step_leaves_its_job_there();
     step(alloc, world, event, out)?;
     while world.answer(event.job).is_none() {
         step(alloc, world, event, out)?;

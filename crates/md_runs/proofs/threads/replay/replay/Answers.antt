@@ -11,5 +11,10 @@ returns c =
     subst (λ (names : List (Vec ℕ)). IfOk c.report.result
     (λ text. (x : Run) × Interleaving c.args.made.world x × (text.items ≡ report_of (names_of names) x))) c.deref.ensures.value
     (reported _ c.args.made.world c.take_all.new.world c.report.result
-    (λ answered. record { goes_on = c.in_ok-take_all.ensures; is_run = c.interleaves.ensures.run; faultless = sym c.counts.ensures.2; answered = answered })
+    (λ answered. record {
+      goes_on = c.in_ok-take_all.ensures;
+      is_run = c.interleaves.ensures.run;
+      faultless = sym c.dirs-dirs.ensures.failures;
+      answered = answered;
+    })
     c.report.ensures.answered c.report.ensures.text)

@@ -7,15 +7,17 @@ use Rattle.md_script.proofs.store.acts.finish.Goals as goal
 pub loop-alloc-init : goal.loop-alloc-init
 loop-alloc-init g c =
     let step = c.in_ok-step.ensures.step in
-    (step.0, step.2, finishes-start _ _ _ _ step.1 c.in_ok-step.ensures.nearer, c.in_ok-step.ensures.waits)
+    let law = c.a_step_leaves_its_job_there.ensures in
+    (step.0, step.2, finishes-start law.left law.stays _ _ _ _ step.1 c.in_ok-step.ensures.nearer, c.in_ok-step.ensures.waits)
 
 pub loop-alloc-preserved : goal.loop-alloc-preserved
 loop-alloc-preserved g c =
     let so_far = c.loop-alloc.invariant in
-    let step = c.in_ok-step-2.ensures.step in (
+    let step = c.in_ok-step-2.ensures.step in
+    let law = c.a_step_leaves_its_job_there.ensures in (
       so_far.0 ++ step.0,
       step.2 ∙ ap (λ text. text ++ step.0) so_far.1 ∙ append_assoc c.args.out.now.items so_far.0 step.0,
-      finishes-more _ _ _ _ _ _ so_far.2 step.1 c.in_ok-step-2.ensures.nearer,
+      finishes-more law.left law.stays _ _ _ _ _ _ so_far.2 step.1 c.in_ok-step-2.ensures.nearer,
       λ l begun. c.in_ok-step-2.ensures.waits l (so_far.3 l begun),
     )
 

@@ -8,10 +8,10 @@ returns g c = record {
   step = (
     _,
     stepped-ok _ _ c.args.event _ _ c.in-Ok.ensures.refused c.in-Ok.ensures.event c.in-Ok.ensures.shows
-        (sym (g.met.D.Storage.never_fails c.counts.ensures.0) ∙ c.counts.ensures.2),
+        (sym (g.met.D.Storage.never_fails c.dirs-dirs.result.now) ∙ c.dirs-dirs.ensures.failures),
     c.in_ok-push_step.ensures,
   );
-  waits = waits-event _ _ _ c.interleaves.ensures.run c.in-Ok.ensures.event;
+  waits = waits-event c.a_listing_may_wait.ensures _ _ _ c.interleaves.ensures.run c.interleaves-2.ensures.run c.in-Ok.ensures.event;
   nearer = c.in-Ok.ensures.nearer;
 }
 

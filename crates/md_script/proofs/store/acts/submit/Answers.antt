@@ -11,10 +11,11 @@ returns-in_err-job g c = record {
 }
 
 pub returns-in_err-push_job-clause-waits : goal.returns-in_err-push_job-clause-waits
-returns-in_err-push_job-clause-waits g c = waits-call _ _ _ c.interleaves.ensures.run c.in_ok-job.ensures.ok.0
+returns-in_err-push_job-clause-waits g c =
+    waits-call c.a_listing_may_wait.ensures _ _ _ c.interleaves.ensures.run c.interleaves-2.ensures.run c.in_ok-job.ensures.ok.0
 
 pub returns : goal.returns
 returns g c = record {
   submit = (_, submitted-ok _ _ _ _ c.in_ok-job.ensures.refused c.in_ok-job.ensures.ok.0 c.in_ok-job.ensures.ok.1, c.in_ok-push_job.ensures);
-  waits = waits-call _ _ _ c.interleaves.ensures.run c.in_ok-job.ensures.ok.0;
+  waits = waits-call c.a_listing_may_wait.ensures _ _ _ c.interleaves.ensures.run c.interleaves-2.ensures.run c.in_ok-job.ensures.ok.0;
 }

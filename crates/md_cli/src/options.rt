@@ -26,13 +26,26 @@ docs/SCRIPT.md has the language, and `man -l docs/maildir_cli.1` the manual.";
 /// The command line: a subcommand, and for two of them a number.
 pub(crate) fn options<'a>(alloc: Global) -> Result<Command<'a>, AllocError> {
     let play = Command::new(alloc, "play").about("Plays the script on standard input");
-    let threads = counted(alloc, "threads", MOST_THREADS as i64)?.about(
+    let threads = counted(
+        alloc,
+        "threads",
+        "How many threads, 1 to 16",
+        MOST_THREADS as i64,
+    )?
+    .about(
         "Runs the script's jobs by N threads, 1 to 16, and prints their answers and the folders",
     );
-    let index = counted(alloc, "index", MOST_WORKERS as i64)?.about(
+    let index = counted(
+        alloc,
+        "index",
+        "How many workers, 1 to 64",
+        MOST_WORKERS as i64,
+    )?
+    .about(
         "Prints the header summaries of the script's files that are messages, made by N workers, 1 to 64",
     );
     Command::new(alloc, "maildir_cli")
+        .bin_name("maildir_cli")?
         .version("0.1.0")
         .about(ABOUT)
         .after_help(AFTER)
@@ -43,8 +56,14 @@ pub(crate) fn options<'a>(alloc: Global) -> Result<Command<'a>, AllocError> {
         .subcommand(index)
 }
 
-fn counted<'a>(alloc: Global, name: &'a str, most: i64) -> Result<Command<'a>, AllocError> {
+fn counted<'a>(
+    alloc: Global,
+    name: &'a str,
+    help: &'a str,
+    most: i64,
+) -> Result<Command<'a>, AllocError> {
     let count = Arg::new(alloc, "N")
+        .help(help)
         .required(true)
         .action(ArgAction::Set)
         .value_parser(value_parser!(u64).range(1..=most));

@@ -1,0 +1,121 @@
+-- What the program does for the words of its command line: its status, and what it read, printed and said on standard error.
+use Rattle.std.specs.Prelude.{◌≡◌, ℕ, ◌≤◌, ◌⊎◌, List, [], ◌++◌, Result, Ok, Err, codes}
+use Rattle.std.specs.Fmt.{decimal}
+use Rattle.std.specs.Str.Iter.{LacksByte}
+use Rattle.md_script.specs.declared.error.PlayKind.{PlayKind}
+use Rattle.md_script.specs.declared.error.PlayKind.TheVariants.{NoMemory}
+use Rattle.md_script.specs.declared.error.PlayError.{PlayError}
+use Rattle.md_script.specs.declared.sink.Put.{Put}
+use Rattle.md_script.specs.Kinds.{unnumbered}
+use Rattle.md_script.specs.Play.{Plays, Writes}
+use Rattle.md_script.specs.Sinks.{Sink, Puts}
+use Rattle.md_script.specs.Sources.{Source}
+use Rattle.md_script.specs.Texts.{line_end}
+use Rattle.md_runs.specs.declared.fault.RunFault.{RunFault}
+use Rattle.md_runs.specs.declared.fault.RunFault.TheVariants as fault
+use Rattle.md_runs.specs.declared.words.Run.{Run}
+use Rattle.md_runs.specs.declared.words.Run.TheVariants.{Play, Threads, Index}
+use Rattle.md_runs.specs.Faults.{refused_line, refusal_text}
+use Rattle.md_runs.specs.Indexing.{Indexes}
+use Rattle.md_runs.specs.Runs.{Names, NamesNone}
+use Rattle.md_runs.specs.Threading.{RunsThreads}
+
+-- standard input, standard output and standard error
+pub record Streams : Type 0 where
+  pub input : Source
+  pub output : Sink
+  pub errors : Sink
+
+-- nothing was read and nothing printed
+pub record Idle (old new : Streams) : Type 0 where
+  pub unread : new.input ≡ old.input
+  pub unprinted : new.output ≡ old.output
+
+-- Standard error took the text whole; or it failed; or it was refused memory and took none of it.
+abbrev pub Tells : Sink → Sink → List ℕ → Type 0
+Tells before after text = (put : Put) × Puts before after text put
+
+-- `line N: TEXT`, with the number of the line that is refused, or 0 where none is
+abbrev pub refusal_line : RunFault → List ℕ
+refusal_line fault = codes "line " ++ decimal (refused_line fault) ++ codes ": " ++ refusal_text fault ++ line_end
+
+-- The status is 0 where a run came to its end, and standard error is untouched. It is 1 where the run is refused, and standard error is
+-- told the one line of the refusal.
+abbrev pub Reported : Sink → Sink → Result (Unit {0}) RunFault → ℕ → Type 0
+Reported before after (Ok done) status = (status ≡ 0) × (after ≡ before)
+Reported before after (Err fault) status = (status ≡ 1) × Tells before after (refusal_line fault)
+
+-- of a run that is refused as a script is
+abbrev pub OfScript : (Result (Unit {0}) PlayError → Type 0) → Result (Unit {0}) RunFault → Type 0
+OfScript Answers (Ok done) = Answers (Ok done)
+OfScript Answers (Err (fault.Play e)) = Answers (Err e)
+OfScript Answers (Err fault.NoReader) = ⊥
+OfScript Answers (Err fault.Closed) = ⊥
+
+-- what a run reads, prints and answers
+abbrev pub Performs : Run → Source → Source → Sink → Sink → Result (Unit {0}) RunFault → Type 0
+Performs Play old new before after = OfScript (Plays old new before after)
+Performs (Threads n) old new before after = RunsThreads old new before after
+Performs (Index n) old new before after = OfScript (Indexes old new before after)
+
+-- of a text that is written, where want of memory or a fault is no line's
+abbrev pub Shows : Sink → Sink → List ℕ → Result (Unit {0}) RunFault → Type 0
+Shows before after text (Ok done) = Writes before after text (Ok done)
+Shows before after text (Err (fault.Play e)) = (e ≡ unnumbered e.kind) × Writes before after text (Err e.kind)
+Shows before after text (Err fault.NoReader) = ⊥
+Shows before after text (Err fault.Closed) = ⊥
+
+-- The words name a run, it was made, and its answer reported.
+pub record Ran (words : List (List ℕ)) (old new : Streams) (status : ℕ) : Type 0 where
+  pub run : Run
+  pub named : Names words run
+  pub answer : Result (Unit {0}) RunFault
+  pub performed : Performs run old.input new.input old.output new.output answer
+  pub reported : Reported old.errors new.errors answer status
+
+-- The words name no run, and ask for help or for the version. It was printed, or why not is reported; nothing was read.
+pub record Helped (words : List (List ℕ)) (old new : Streams) (status : ℕ) : Type 0 where
+  pub unnamed : NamesNone words
+  pub unread : new.input ≡ old.input
+  pub text : List ℕ
+  pub answer : Result (Unit {0}) RunFault
+  pub shown : Shows old.output new.output text answer
+  pub reported : Reported old.errors new.errors answer status
+
+-- nothing, or one more line
+abbrev pub IsTip : List ℕ → Type 0
+IsTip tip = (tip ≡ []) ⊎ ((text : List ℕ) × LacksByte 10 text × (tip ≡ text ++ line_end))
+
+-- A line that says what is wrong with words, and where help is; a second may name a subcommand that was meant.
+pub record IsComplaint (lines : List ℕ) : Type 0 where
+  pub why : List ℕ
+  pub in_line : LacksByte 10 why
+  pub tip : List ℕ
+  pub is_tip : IsTip tip
+  pub are : lines ≡ codes "maildir_cli: " ++ why ++ codes "; try 'maildir_cli --help'\n" ++ tip
+
+-- The words name no run. Standard error is told why, and the status is 2.
+pub record Misspelled (words : List (List ℕ)) (old new : Streams) (status : ℕ) : Type 0 where
+  pub unnamed : NamesNone words
+  pub idle : Idle old new
+  pub lines : List ℕ
+  pub complain : IsComplaint lines
+  pub told : Tells old.errors new.errors lines
+  pub refused : status ≡ 2
+
+-- The words name no run, and memory for saying so was refused.
+pub record Starved (words : List (List ℕ)) (old new : Streams) (status : ℕ) : Type 0 where
+  pub unnamed : NamesNone words
+  pub idle : Idle old new
+  pub reported : Reported old.errors new.errors (Err (fault.Play (unnumbered NoMemory))) status
+
+-- How the program ends. Words that name a run are never refused, and only these read standard input.
+abbrev pub Ends : List (List ℕ) → Streams → Streams → ℕ → Type 0
+Ends words old new status =
+    Ran words old new status ⊎ Helped words old new status ⊎ Misspelled words old new status ⊎ Starved words old new status
+
+-- the count of a run's threads or workers is in its range
+abbrev pub IsWithin : Run → Type 0
+IsWithin Play = Unit {0}
+IsWithin (Threads n) = (1 ≤ n) × (n ≤ 16)
+IsWithin (Index n) = (1 ≤ n) × (n ≤ 64)

@@ -1,0 +1,103 @@
+//! What the words of a command line ask for.
+ghost use Rattle.std.specs.Prelude.{map, MatchResult, IfOk};
+ghost use Rattle.md_cli.specs.Program.{IsComplaint};
+ghost use Rattle.md_runs.specs.Runs.{Names, NamesNone};
+ghost use Rattle.md_cli.specs.Answers.{IsAnswer};
+
+use crate::complaint::complaint;
+use crate::options::options;
+use clap::Error;
+use clap::error::ErrorKind;
+use md_runs::{Run, run_named};
+use std::alloc::{AllocError, Global};
+
+/// What words that name no run are answered with.
+#[derive(Drop)]
+pub(crate) enum Answer {
+    /// Help or the version was asked for; this is its text.
+    Shown(String),
+    /// The words are wrong; this line says why.
+    Refused(Vec<u8>),
+    /// Memory was refused.
+    NoMemory,
+}
+
+/// The run that the words after the program's name ask for: a subcommand, and for `threads` and `index` a number in its range. Words that
+/// name none are read by the options, which say what is wrong with them, or have help shown.
+pub(crate) fn command<'a>(alloc: Global, words: &'a [&'a str]) -> Result<Run, Answer>
+    ensures { MatchResult result
+        (Names (map (λ word. word.now) words.entry.now))
+        (λ answer. NamesNone (map (λ word. word.now) words.entry.now) × IsAnswer answer) }
+{
+    match run_named(words) {
+        Some(run) => Ok(run),
+        None => Err(without_run(alloc, words)),
+    }
+}
+
+/// What words that name no run are answered with.
+fn without_run<'a>(alloc: Global, words: &'a [&'a str]) -> Answer
+    ensures { IsAnswer result }
+{
+    let Ok(options) = options(alloc) else {
+        return Answer::NoMemory;
+    };
+    match options.try_get_matches_from(words) {
+        // The options allow a `--` after a number too.
+        Ok(_) => refused(complaint(alloc, "a word is unexpected", "")),
+        Err(error) => explained(alloc, &error),
+    }
+}
+
+/// What the options say of words, or the help that these ask for.
+fn explained(alloc: Global, error: &Error) -> Answer
+    ensures { IsAnswer result }
+{
+    match error.kind() {
+        ErrorKind::OutOfMemory => Answer::NoMemory,
+        ErrorKind::DisplayHelp | ErrorKind::DisplayVersion => match format!(in alloc; "{error}") {
+            Ok(text) => Answer::Shown(text),
+            Err(_) => Answer::NoMemory,
+        },
+        _ => refused(complaint_of(alloc, error)),
+    }
+}
+
+fn refused(line: Result<Vec<u8>, AllocError>) -> Answer
+    requires { IfOk line (λ line. IsComplaint line.items) }
+    ensures { IsAnswer result }
+{
+    match line {
+        Ok(line) => Answer::Refused(line),
+        Err(_) => Answer::NoMemory,
+    }
+}
+
+/// What an error says in its first line, and in the next where the first ends with a colon; and the subcommand that was meant, if one is
+/// like it.
+fn complaint_of(alloc: Global, error: &Error) -> Result<Vec<u8>, AllocError>
+    ensures { IfOk result (λ line. IsComplaint line.items) }
+{
+    let text = format!(in alloc; "{error}")?;
+    let mut lines = text.as_str().lines();
+    let first = lines.next().unwrap_or("the words are wrong");
+    let first = first.strip_prefix("error: ").unwrap_or(first);
+    let mut why = String::from_str(alloc, first)?;
+    if first.ends_with(":")
+        && let Some(next) = lines.next()
+    {
+        why.push_str(" ")?;
+        why.push_str(next.trim())?;
+    }
+    complaint(alloc, &why, similar(&text))
+}
+
+/// The line of an error that names a subcommand like the one that was given, or nothing.
+fn similar(text: &str) -> &str {
+    for line in text.lines() {
+        if line.starts_with("  tip: ") && line.contains("similar subcommand") {
+            return line;
+        }
+    }
+    ""
+}

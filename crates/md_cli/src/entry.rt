@@ -1,0 +1,87 @@
+//! The program: what it does for the words of its command line.
+ghost use Rattle.std.specs.Prelude.{map};
+ghost use Rattle.md_cli.specs.Program.{Ends, IsWithin, Performs, Reported, Shows};
+
+use crate::command::{Answer, command};
+use crate::refusal::refusal_line;
+use md_runs::{Run, RunFault, run_index, run_threads};
+use md_script::{PlayKind, Sink, Source, play, write_whole};
+use std::alloc::Global;
+use std::sync::Wait;
+use std::thread::Threads;
+
+/// The status of a run that came to its end, and of help.
+const DONE: u8 = 0;
+
+/// The status of a refused run.
+const REFUSED: u8 = 1;
+
+/// The status of refused words.
+const BAD_WORDS: u8 = 2;
+
+/// Does what the words after the program's name ask for, and gives the status that it ends with.
+///
+/// `play`, `threads N` and `index N` run the script that the source gives and print on the sink: the status is 0, or 1 where the run is
+/// refused, and then one line `line N: TEXT` goes to the errors. Help and the version go to the sink. Wrong words are answered with one line
+/// to the errors and the status 2. Memory that is refused before a run is one more refusal, of the line 0.
+pub fn program<R: Threads + Wait + Sync, S: Source, T: Sink, E: Sink>(
+    rt: &R,
+    alloc: Global,
+    words: &[&str],
+    source: &mut S,
+    sink: &mut T,
+    errors: &mut E,
+) -> u8
+    ensures { Ends (map (λ word. word.now) words.now)
+        (record { input = S.state source.old; output = T.state sink.old; errors = E.state errors.old })
+        (record { input = S.state source.new; output = T.state sink.new; errors = E.state errors.new })
+        result }
+{
+    match command(alloc, words) {
+        Ok(run) => report(errors, perform(rt, alloc, run, source, sink)),
+        Err(Answer::Shown(text)) => report(errors, show(sink, &text)),
+        Err(Answer::Refused(line)) => {
+            let _told = errors.put(&line);
+            BAD_WORDS
+        }
+        Err(Answer::NoMemory) => report(errors, Err(RunFault::from(PlayKind::NoMemory))),
+    }
+}
+
+/// Makes a run of the script that the source gives.
+fn perform<R: Threads + Wait + Sync, S: Source, T: Sink>(
+    rt: &R,
+    alloc: Global,
+    run: Run,
+    source: &mut S,
+    sink: &mut T,
+) -> Result<(), RunFault>
+    requires { IsWithin run }
+    ensures { Performs run (S.state source.old) (S.state source.new) (T.state sink.old) (T.state sink.new) result }
+{
+    match run {
+        Run::Play => Ok(play(alloc, source, sink)?),
+        Run::Threads(count) => run_threads(rt, alloc, count as usize, source, sink),
+        Run::Index(count) => Ok(run_index(rt, alloc, count as usize, source, sink)?),
+    }
+}
+
+/// Prints a text.
+fn show<T: Sink>(sink: &mut T, text: &str) -> Result<(), RunFault>
+    ensures { Shows (T.state sink.old) (T.state sink.new) text.now result }
+{
+    Ok(write_whole(sink, text.as_bytes())?)
+}
+
+/// The status of an answer, once the errors were told of its refusal.
+fn report<E: Sink>(errors: &mut E, answer: Result<(), RunFault>) -> u8
+    ensures { Reported (E.state errors.old) (E.state errors.new) answer result }
+{
+    match answer {
+        Ok(()) => DONE,
+        Err(fault) => {
+            let _told = errors.put(refusal_line(fault).as_slice());
+            REFUSED
+        }
+    }
+}

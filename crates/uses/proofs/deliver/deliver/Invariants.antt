@@ -1,0 +1,6 @@
+use Rattle.md_core.specs.Runs.{steps_left}
+use Rattle.uses.proofs.deliver.deliver.Given as goal
+
+-- each step leaves its job fewer steps
+abbrev pub decreases-loop-world : goal.decreases-loop-world
+decreases-loop-world l = steps_left l.world l.job
