@@ -9,7 +9,7 @@ use std::test::Fail;
 use std::thread::Threads;
 
 // Words, and the run that they name.
-static WORDS: [(&[&str], Option<Run>); 14] = [
+static WORDS: [(&[&str], Option<Run>); 17] = [
     (&["play"], Some(Run::Play)),
     (&["threads", "1"], Some(Run::Threads(1))),
     (&["threads", "16"], Some(Run::Threads(16))),
@@ -23,7 +23,10 @@ static WORDS: [(&[&str], Option<Run>); 14] = [
     (&["threads", "17"], None),
     (&["index", "65"], None),
     (&["index", "x"], None),
-    (&["index", "--", "3"], None),
+    (&["index", "--", "3"], Some(Run::Index(3))),
+    (&["play", "--"], Some(Run::Play)),
+    (&["--", "play"], None),
+    (&["index", "3", "--"], None),
 ];
 
 #[test]
@@ -70,7 +73,9 @@ fn indexed<R: Threads + Wait + Sync>(
     alloc: Global,
     workers: usize,
     script: &[u8],
-) -> Result<(Vec<u8>, String), Fail> {
+) -> Result<(Vec<u8>, String), Fail>
+    requires { (1 ≤ workers) × (workers ≤ 64) }
+{
     let mut source = Reader::new(script);
     let mut sink = Vec::new(alloc);
     let refusal = match run_index(rt, alloc, workers, &mut source, &mut sink) {
@@ -83,11 +88,12 @@ fn indexed<R: Threads + Wait + Sync>(
 #[test]
 fn messages_are_indexed(rt: HostRuntime) -> Result<(), Fail> {
     for (script, prints, refused) in INDEXES {
-        for workers in [1, 3] {
-            let (text, refusal) = indexed(&rt, rt.alloc(), workers, script)?;
-            assert_eq!(rt; text.as_slice(), prints);
-            assert_eq!(rt; refusal.as_str(), refused);
-        }
+        let alone = indexed(&rt, rt.alloc(), 1, script)?;
+        let three = indexed(&rt, rt.alloc(), 3, script)?;
+        assert_eq!(rt; alone.0.as_slice(), prints);
+        assert_eq!(rt; three.0.as_slice(), prints);
+        assert_eq!(rt; alone.1.as_str(), refused);
+        assert_eq!(rt; three.1.as_str(), refused);
     }
     Ok(())
 }

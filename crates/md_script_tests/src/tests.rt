@@ -5,6 +5,7 @@ mod fakes;
 mod faults;
 mod limits;
 mod lines;
+mod plays;
 mod rows;
 mod setups;
 mod texts;

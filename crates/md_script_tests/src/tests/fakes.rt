@@ -20,24 +20,6 @@ impl Read for Stream {
     }
 }
 
-/// Gives a number sign at each of the first reads, and then fails.
-#[derive(Drop)]
-pub(super) struct Broken {
-    pub good: u32,
-    pub kind: ErrorKind,
-}
-
-impl Read for Broken {
-    fn read(&mut self, buf: &mut [u8]) -> io::Result<usize> {
-        if self.good == 0 || buf.is_empty() {
-            return Err(io::Error::from(self.kind));
-        }
-        self.good -= 1;
-        buf[0] = b'#';
-        Ok(1)
-    }
-}
-
 /// Gives a script a byte at a time, and is interrupted before each.
 #[derive(Drop)]
 pub(super) struct Interrupted<'a> {
@@ -58,18 +40,20 @@ impl Read for Interrupted<'_> {
     }
 }
 
-/// Gives a script at most so many bytes at a time, and then ends, or fails.
+/// Gives a script at most so many bytes at a time, and then ends, or fails at each read.
 #[derive(Drop)]
 pub(super) struct Torn<'a> {
     pub script: &'a [u8],
     pub at_once: usize,
-    pub fails: bool,
+    pub fault: Option<ErrorKind>,
 }
 
 impl Read for Torn<'_> {
     fn read(&mut self, buf: &mut [u8]) -> io::Result<usize> {
-        if self.fails && self.script.is_empty() {
-            return Err(io::Error::from(ErrorKind::ConnectionReset));
+        if self.script.is_empty()
+            && let Some(fault) = self.fault
+        {
+            return Err(io::Error::from(fault));
         }
         let count = buf.len().min(self.at_once);
         self.script.read(&mut buf[..count])

@@ -1,29 +1,25 @@
 //! The limits on a script's bytes and reads.
 
 use super::fakes::Stream;
-use md_script::{PlayError, PlayKind, Reader, play, transcript};
+use super::plays::{is_refused, prints};
+use md_script::PlayKind;
+use std::alloc::{AllocError, Global};
 use std::test::Fail;
 
-fn unnumbered(kind: PlayKind) -> Result<(), PlayError> {
-    Err(PlayError { line: 0, kind })
+/// So many bytes, so many at a time.
+fn stream(byte: u8, left: u64, at_once: usize) -> Stream {
+    Stream {
+        byte,
+        left,
+        at_once,
+    }
 }
 
 #[test]
 fn a_script_takes_at_most_so_many_reads(rt: HostRuntime) {
-    let cases = [
-        (1_048_575, Ok(())),
-        (1_048_576, unnumbered(PlayKind::TooManyReads)),
-    ];
-    for (left, want) in cases {
-        let mut script = Reader::new(Stream {
-            byte: b'\n',
-            left,
-            at_once: 1,
-        });
-        let mut out = Vec::new(rt.alloc());
-        assert_eq!(rt; play(rt.alloc(), &mut script, &mut out), want, "{left}");
-        assert_eq!(rt; out.len(), 0);
-    }
+    assert!(rt; prints(rt.alloc(), stream(b'\n', 1_048_575, 1), b""));
+    let script = stream(b'\n', 1_048_576, 1);
+    assert!(rt; is_refused(rt.alloc(), script, PlayKind::TooManyReads));
 }
 
 #[test]
@@ -35,42 +31,29 @@ fn an_endless_script_is_refused(rt: HostRuntime) {
         (4_096, PlayKind::TooLong),
     ];
     for (at_once, kind) in cases {
-        let mut script = Reader::new(Stream {
-            byte: b'a',
-            left: u64::MAX,
-            at_once,
-        });
-        let mut out = Vec::new(rt.alloc());
-        let answer = play(rt.alloc(), &mut script, &mut out);
-        assert_eq!(rt; answer, unnumbered(kind), "{at_once}");
-        assert_eq!(rt; out.len(), 0);
+        let script = stream(b'a', u64::MAX, at_once);
+        assert!(rt; is_refused(rt.alloc(), script, kind), "{at_once}");
     }
 }
 
 #[test]
 fn a_script_has_at_most_so_many_bytes(rt: HostRuntime) {
-    let cases = [
-        (67_108_864, Ok(())),
-        (67_108_865, unnumbered(PlayKind::TooLong)),
-    ];
-    for (left, want) in cases {
-        let mut script = Reader::new(Stream {
-            byte: b'#',
-            left,
-            at_once: 1_000_000,
-        });
-        let mut out = Vec::new(rt.alloc());
-        assert_eq!(rt; play(rt.alloc(), &mut script, &mut out), want, "{left}");
-    }
+    assert!(rt; prints(rt.alloc(), stream(b'#', 67_108_864, 1_000_000), b""));
+    let script = stream(b'#', 67_108_865, 1_000_000);
+    assert!(rt; is_refused(rt.alloc(), script, PlayKind::TooLong));
+}
+
+/// A line that is longer than a summary reads, and then a header.
+fn long_summary(alloc: Global) -> Result<Vec<u8>, AllocError> {
+    let mut script = Vec::from_slice(alloc, b"summary ")?;
+    script.resize(8 + 16_777_216, b'a')?;
+    script.extend_from_slice(b"\\nSubject: b")?;
+    Ok(script)
 }
 
 #[test]
 fn a_line_of_16_mebibytes_is_passed_over_in_a_summary(rt: HostRuntime) -> Result<(), Fail> {
-    let mut script = Vec::from_slice(rt.alloc(), b"summary ")?;
-    script.resize(8 + 16_777_216, b'a')?;
-    script.extend_from_slice(b"\\nSubject: b")?;
-    let printed = transcript(rt.alloc(), &script)?;
-    assert_eq!(rt; printed.refusal, None);
-    assert_eq!(rt; printed.text.as_slice(), b"subject=b\nend\n".as_slice());
+    let script = long_summary(rt.alloc())?;
+    assert!(rt; prints(rt.alloc(), script.as_slice(), b"subject=b\nend\n"));
     Ok(())
 }

@@ -1,7 +1,9 @@
 //! Lines: where they end, and how they come.
 
+use super::commands::joined;
 use super::fakes::Interrupted;
-use md_script::{Reader, image, play};
+use super::plays::prints;
+use md_script::image;
 use std::alloc::Global;
 use std::test::Fail;
 
@@ -10,8 +12,7 @@ static ENDS: &[u8] = b"a|a%a\n|a%a\r\n|a%a\r\r\n|a\r%a\r|a\r%a\rb\n|a\rb%a\\nb|a
 
 /// Whether a file whose line ends so has these bytes.
 fn has_bytes(alloc: Global, end: &[u8], bytes: &[u8]) -> Result<bool, Fail> {
-    let mut script = Vec::from_slice(alloc, b"folder i\nfile i new u 0 ")?;
-    script.extend_from_slice(end)?;
+    let script = joined(alloc, b"folder i\nfile i new u 0 ", end)?;
     let setup = image(alloc, &script, false)?;
     Ok(match setup.files.as_slice() {
         [file] => file.bytes.as_slice() == bytes,
@@ -37,15 +38,16 @@ fn lines_end_at_line_feeds(rt: HostRuntime) -> Result<(), Fail> {
 }
 
 #[test]
-fn interrupted_reads_are_tried_again(rt: HostRuntime) -> Result<(), Fail> {
-    let mut script = Reader::new(Interrupted {
+fn interrupted_reads_are_tried_again(rt: HostRuntime) {
+    let script = Interrupted {
         script: b"unique 1 2 3 4 a\nunique 1 2 3 5 a",
         is_next: false,
-    });
-    let mut out = Vec::new(rt.alloc());
-    let answer = play(rt.alloc(), &mut script, &mut out);
-    assert_eq!(rt; answer, Ok(()));
-    let want = b"unique 1.M2P3Q4.a\nunique 1.M2P3Q5.a\n";
-    assert_eq!(rt; out.as_slice(), want.as_slice());
-    Ok(())
+    };
+    assert!(rt;
+        prints(
+            rt.alloc(),
+            script,
+            b"unique 1.M2P3Q4.a\nunique 1.M2P3Q5.a\n"
+        )
+    );
 }

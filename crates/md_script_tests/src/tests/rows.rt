@@ -1,7 +1,8 @@
 //! Scripts of known transcripts. More of them, which are text in whole lines, are in crates/examples/data/.
 
+use super::plays::{has_text, played};
 use md_script::{PlayError, PlayKind, Reader, Writer, count_lines, play, transcript};
-use std::alloc::Global;
+use std::alloc::{AllocError, Global};
 use std::io;
 use std::io::Write;
 use std::test::Fail;
@@ -40,18 +41,13 @@ line 2: bad command||\r\n\r%\
 line 5: bad command||# one\n\nfolder i\n\r\nthree\nfour";
 
 /// Whether a script prints this, and ends with this refusal.
-fn plays(alloc: Global, script: &[u8], prints: &[u8], refusal: &[u8]) -> Result<bool, Fail> {
-    let mut source = Reader::new(script);
-    let mut out = Vec::new(alloc);
-    let refused = match play(alloc, &mut source, &mut out) {
-        Ok(()) => String::new(alloc),
-        Err(error) => format!(in alloc; "{error}")?,
-    };
-    Ok(out.as_slice() == prints && refused.as_bytes() == refusal)
+fn plays(alloc: Global, script: &[u8], prints: &[u8], refusal: &[u8]) -> Result<bool, AllocError> {
+    let (refused, is_printed) = played(alloc, script, prints);
+    Ok(has_text(alloc, refused, refusal)? && is_printed)
 }
 
 /// Whether a row is true.
-fn is_true(alloc: Global, row: &[u8]) -> Result<bool, Fail> {
+fn is_true(alloc: Global, row: &[u8]) -> Result<bool, AllocError> {
     let mut parts = row.split(|byte| *byte == b'|');
     match (parts.next(), parts.next(), parts.next()) {
         (Some(refusal), Some(prints), Some(script)) => plays(alloc, script, prints, refusal),
@@ -68,7 +64,7 @@ fn scripts_of_any_bytes_are_played(rt: HostRuntime) -> Result<(), Fail> {
 }
 
 /// What the front of a script prints is a front of what the whole prints, and it is refused at its last line if at all.
-fn prints_the_front(alloc: Global, front: &[u8]) -> Result<bool, Fail> {
+fn prints_the_front(alloc: Global, front: &[u8]) -> Result<bool, AllocError> {
     let printed = transcript(alloc, front)?;
     let is_last = match printed.refusal {
         Some(refused) => refused.line == count_lines(front),
@@ -86,21 +82,28 @@ fn a_script_that_is_cut_short_prints_the_front(rt: HostRuntime) -> Result<(), Fa
 }
 
 /// Whether a script is refused so, and prints so many bytes before.
-fn is_refused(alloc: Global, script: &[u8], refusal: &str, count: usize) -> Result<bool, Fail> {
+fn is_refused(
+    alloc: Global,
+    script: &[u8],
+    refusal: &[u8],
+    count: usize,
+) -> Result<bool, AllocError> {
     let printed = transcript(alloc, script)?;
-    let text = match printed.refusal {
-        Some(error) => format!(in alloc; "{error}")?,
-        None => String::new(alloc),
-    };
-    Ok(printed.text.len() == count && text.as_str() == refusal)
+    let is_counted = printed.text.len() == count;
+    Ok(has_text(alloc, printed.refusal, refusal)? && is_counted)
+}
+
+/// A delivery of a name of its own.
+fn push_job(alloc: Global, script: &mut Vec<u8>, job: u32) -> Result<(), AllocError> {
+    let line = format!(in alloc; "job deliver i u{job} 1\n")?;
+    script.extend_from_slice(line.as_bytes())
 }
 
 /// 10,001 deliveries.
-fn too_many_jobs(alloc: Global) -> Result<Vec<u8>, Fail> {
+fn too_many_jobs(alloc: Global) -> Result<Vec<u8>, AllocError> {
     let mut script = Vec::from_slice(alloc, b"folder i\n")?;
     for job in 0..10_001u32 {
-        let line = format!(in alloc; "job deliver i u{job} 1\n")?;
-        script.extend_from_slice(line.as_bytes())?;
+        push_job(alloc, &mut script, job)?;
     }
     Ok(script)
 }
@@ -110,16 +113,21 @@ fn a_store_takes_at_most_10000_jobs(rt: HostRuntime) -> Result<(), Fail> {
     let script = too_many_jobs(rt.alloc())?;
     // `job 1` to `job 10000`, a line each.
     let count = 10_000 * 5 + 9 + 90 * 2 + 900 * 3 + 9_000 * 4 + 5;
-    let is_so = is_refused(rt.alloc(), &script, "line 10002: too many jobs", count)?;
-    assert!(rt; is_so);
+    assert!(rt; is_refused(rt.alloc(), &script, b"line 10002: too many jobs", count)?);
     Ok(())
+}
+
+/// A body of one byte more than 16 mebibytes.
+fn long_body(alloc: Global) -> Result<Vec<u8>, AllocError> {
+    let mut script = Vec::from_slice(alloc, b"folder i\njob deliver i u 16777216 ")?;
+    script.resize(script.len() + 16_777_217, b'x')?;
+    Ok(script)
 }
 
 #[test]
 fn a_body_has_at_most_16_mebibytes(rt: HostRuntime) -> Result<(), Fail> {
-    let mut script = Vec::from_slice(rt.alloc(), b"folder i\njob deliver i u 16777216 ")?;
-    script.resize(script.len() + 16_777_217, b'x')?;
-    assert!(rt; is_refused(rt.alloc(), &script, "line 2: body too long", 0)?);
+    let script = long_body(rt.alloc())?;
+    assert!(rt; is_refused(rt.alloc(), &script, b"line 2: body too long", 0)?);
     Ok(())
 }
 
@@ -145,6 +153,14 @@ impl Write for Room {
     }
 }
 
+/// Whether all is written, or nothing where memory was wanting.
+fn is_all_or_nothing(answer: Result<(), PlayError>, room: &Room) -> bool {
+    match answer {
+        Ok(()) => &room.bytes[..room.len.min(room.bytes.len())] == PRINTED,
+        Err(error) => error.line == 0 && error.kind == PlayKind::NoMemory && room.len == 0,
+    }
+}
+
 #[test]
 fn where_memory_runs_out_nothing_is_written(rt: HostRuntime) {
     let mut script = Reader::new(DELIVERED);
@@ -152,20 +168,6 @@ fn where_memory_runs_out_nothing_is_written(rt: HostRuntime) {
         bytes: [0; 200],
         len: 0,
     });
-    let no_memory = PlayError {
-        line: 0,
-        kind: PlayKind::NoMemory,
-    };
     let answer = play(rt.alloc(), &mut script, &mut sink);
-    let room = sink.into_inner();
-    match answer {
-        Ok(()) => {
-            let len = room.len.min(room.bytes.len());
-            assert_eq!(rt; &room.bytes[..len], PRINTED);
-        }
-        Err(error) => {
-            assert_eq!(rt; error, no_memory);
-            assert_eq!(rt; room.len, 0);
-        }
-    }
+    assert!(rt; is_all_or_nothing(answer, &sink.into_inner()));
 }

@@ -1,21 +1,32 @@
 //! What scripts set up for another to run.
 
-use md_script::image;
-use std::alloc::Global;
+use super::commands::{joined, spells};
+use super::plays::has_text;
+use md_script::{Setup, image};
+use std::alloc::{AllocError, Global};
 use std::test::Fail;
+
+/// Whether a setup is written so.
+fn is_written(alloc: Global, setup: &Setup, text: &[u8]) -> Result<bool, AllocError> {
+    Ok(format!(in alloc; "{setup:?}")?.as_bytes() == text)
+}
+
+/// Whether a script sets this up.
+fn is_set_up(alloc: Global, script: &[u8], text: &[u8]) -> Result<bool, Fail> {
+    let setup = image(alloc, script, true)?;
+    Ok(is_written(alloc, &setup, text)?)
+}
 
 #[test]
 fn a_setup_has_what_the_lines_name(rt: HostRuntime) -> Result<(), Fail> {
     let script =
         b"folder i\nfolder j\nfile i new u:2,S 7 a b\\n\n# none\njob clean i\njob flag j u SF - 3\nfile j tmp x 9";
-    let setup = image(rt.alloc(), script, true)?;
-    let text = format!(in rt.alloc(); "{setup:?}")?;
-    let want = "Setup { folders: [[105], [106]], files: [\
+    let want = b"Setup { folders: [[105], [106]], files: [\
 ImageFile { path: Path { folder: 0, place: New, name: Bytes { items: [117, 58, 50, 44, 83] } }, bytes: Bytes { items: [97, 32, 98, 10] }, stamp: 7 }, \
 ImageFile { path: Path { folder: 1, place: Tmp, name: Bytes { items: [120] } }, bytes: Bytes { items: [] }, stamp: 9 }], calls: [\
 Clean { folder: 0 }, \
 Flag { folder: 1, unique: Bytes { items: [117] }, add: Flags { word: 262176 }, remove: Flags { word: 0 }, tries: 3 }] }";
-    assert_eq!(rt; text.as_str(), want);
+    assert!(rt; is_set_up(rt.alloc(), script, want)?);
     Ok(())
 }
 
@@ -23,16 +34,14 @@ Flag { folder: 1, unique: Bytes { items: [117] }, add: Flags { word: 262176 }, r
 fn the_calls_of_a_setup(rt: HostRuntime) -> Result<(), Fail> {
     let script =
         b"folder a\nfolder b\njob deliver a u 4 x\njob seen a u S 1\njob move a u b 2\njob copy a u b v 3\njob expunge b u 16\njob clean b";
-    let setup = image(rt.alloc(), script, true)?;
-    let text = format!(in rt.alloc(); "{:?}", setup.calls)?;
     let want =
-        "[Deliver { folder: 0, unique: Bytes { items: [117] }, body: Bytes { items: [120] }, chunk: 4 }, \
+        b"[Deliver { folder: 0, unique: Bytes { items: [117] }, body: Bytes { items: [120] }, chunk: 4 }, \
 Seen { folder: 0, unique: Bytes { items: [117] }, flags: Flags { word: 262144 }, tries: 1 }, \
 Move { folder: 0, unique: Bytes { items: [117] }, to: 1, tries: 2 }, \
 Copy { folder: 0, unique: Bytes { items: [117] }, to: 1, fresh: Bytes { items: [118] }, tries: 3 }, \
 Expunge { folder: 1, unique: Bytes { items: [117] }, tries: 16 }, \
 Clean { folder: 1 }]";
-    assert_eq!(rt; text.as_str(), want);
+    assert!(rt; spells(rt.alloc(), script, want)?);
     Ok(())
 }
 
@@ -59,18 +68,19 @@ job seen i u S1 1 x|line 2: bad flag%\
 job seen i u - 1 x|line 2: bad command";
 
 /// Whether a script is refused so, if at all.
-fn is_refused(alloc: Global, line: &[u8], with_jobs: bool, refusal: &[u8]) -> Result<bool, Fail> {
-    let mut script = Vec::from_slice(alloc, b"folder i\n")?;
-    script.extend_from_slice(line)?;
-    let text = match image(alloc, &script, with_jobs) {
-        Ok(_) => String::new(alloc),
-        Err(error) => format!(in alloc; "{error}")?,
-    };
-    Ok(text.as_bytes() == refusal)
+fn is_refused(
+    alloc: Global,
+    line: &[u8],
+    with_jobs: bool,
+    refusal: &[u8],
+) -> Result<bool, AllocError> {
+    let script = joined(alloc, b"folder i\n", line)?;
+    let refused = image(alloc, &script, with_jobs).err();
+    has_text(alloc, refused, refusal)
 }
 
 /// Whether a row is true, with and without jobs.
-fn is_true(alloc: Global, row: &[u8]) -> Result<bool, Fail> {
+fn is_true(alloc: Global, row: &[u8]) -> Result<bool, AllocError> {
     let mut parts = row.split(|byte| *byte == b'|');
     match (parts.next(), parts.next()) {
         (Some(line), Some(refusal)) => {
@@ -81,7 +91,7 @@ fn is_true(alloc: Global, row: &[u8]) -> Result<bool, Fail> {
 }
 
 /// Whether a row of a job is true, which is refused where no job is allowed.
-fn is_true_of_job(alloc: Global, row: &[u8]) -> Result<bool, Fail> {
+fn is_true_of_job(alloc: Global, row: &[u8]) -> Result<bool, AllocError> {
     let too_soon = b"line 2: not in this run";
     let mut parts = row.split(|byte| *byte == b'|');
     match (parts.next(), parts.next()) {
@@ -108,8 +118,7 @@ fn a_setup_is_not_checked_beyond_its_words(rt: HostRuntime) -> Result<(), Fail> 
     let script =
         b"folder i\nfile i new u 0\nfile i new u 0\nfile i cur u 0\njob deliver i .u 0\nfolder j";
     let setup = image(rt.alloc(), script, true)?;
-    assert_eq!(rt; setup.folders.len(), 2);
-    assert_eq!(rt; setup.files.len(), 3);
-    assert_eq!(rt; setup.calls.len(), 1);
+    let counts = (setup.folders.len(), setup.files.len(), setup.calls.len());
+    assert!(rt; counts == (2, 3, 1));
     Ok(())
 }

@@ -1,5 +1,7 @@
 //! What refusals print. Those of lines stand in crates/examples/data/.
 
+use md_core::CoreError;
+use md_name::NameError;
 use md_script::{PlayError, PlayKind};
 use std::alloc::{AllocError, Global};
 use std::test::Fail;
@@ -34,5 +36,42 @@ fn refusals_have_texts(rt: HostRuntime) -> Result<(), Fail> {
         push_text(rt.alloc(), &mut text, kind)?;
     }
     assert!(rt; text.as_str() == TEXTS, "{text}");
+    Ok(())
+}
+
+static CORE: [CoreError; 14] = [
+    CoreError::BadName,
+    CoreError::LongUnique,
+    CoreError::DuplicateUnique,
+    CoreError::NameUsed,
+    CoreError::NoFolder,
+    CoreError::SameFolder,
+    CoreError::BadUnique,
+    CoreError::BadTries,
+    CoreError::BadChunk,
+    CoreError::TooManyJobs,
+    CoreError::BodyTooLong,
+    CoreError::NoJob,
+    CoreError::Answered,
+    CoreError::NoMemory,
+];
+
+static NAMES: [NameError; 4] = [
+    NameError::BadHost,
+    NameError::BadMicro,
+    NameError::NoMemory,
+    NameError::BadFlag,
+];
+
+#[test]
+fn errors_of_the_store_keep_their_texts(rt: HostRuntime) -> Result<(), Fail> {
+    for error in CORE {
+        let shown = format!(in rt.alloc(); "{error}")?;
+        assert!(rt; PlayKind::Core(error).text() == shown.as_str(), "{shown}");
+    }
+    for error in NAMES {
+        let shown = format!(in rt.alloc(); "{error}")?;
+        assert!(rt; PlayKind::Name(error).text() == shown.as_str(), "{shown}");
+    }
     Ok(())
 }

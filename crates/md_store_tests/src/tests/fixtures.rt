@@ -1,4 +1,4 @@
-// Calls, files and steps for the tests.
+// Calls, files, steps and listings for the tests.
 use md_core::{Answer, Call, CoreError, JobId};
 use md_dirs::{Bytes, Dirs, ImageFile, Path, Place};
 use md_name::Flags;
@@ -7,14 +7,23 @@ use md_view::Entry;
 use std::alloc::{AllocError, Global};
 use std::sync::Wait;
 
-// A message of one byte, written in one piece: its delivery takes four steps.
-pub fn delivery(alloc: Global, unique: &[u8]) -> Result<Call, AllocError> {
+// How a delivery ends that its pass was told of.
+pub const DELIVERED: (Option<Answer>, News) = (Some(Answer::Delivered), News::Told);
+
+// The delivery of a message of one byte, written in one piece.
+pub fn delivered(alloc: Global, folder: u32, unique: Bytes) -> Result<Call, AllocError> {
+    let body = Bytes::copied(alloc, b"x")?;
     Ok(Call::Deliver {
-        folder: 0,
-        unique: Bytes::copied(alloc, unique)?,
-        body: Bytes::copied(alloc, b"x")?,
+        folder,
+        unique,
+        body,
         chunk: 4,
     })
+}
+
+// The same, by its name: it takes four steps.
+pub fn delivery(alloc: Global, unique: &[u8]) -> Result<Call, AllocError> {
+    delivered(alloc, 0, Bytes::copied(alloc, unique)?)
 }
 
 // Adds flags to a message.
@@ -35,21 +44,24 @@ pub fn file(
     place: Place,
     name: &[u8],
 ) -> Result<ImageFile, AllocError> {
+    let name = Bytes::copied(alloc, name)?;
+    let bytes = Bytes::copied(alloc, b"x")?;
+    let path = Path {
+        folder,
+        place,
+        name,
+    };
     Ok(ImageFile {
-        path: Path {
-            folder,
-            place,
-            name: Bytes::copied(alloc, name)?,
-        },
-        bytes: Bytes::copied(alloc, b"x")?,
+        path,
+        bytes,
         stamp: 0,
     })
 }
 
-// The deliveries of these names.
-pub fn deliveries(alloc: Global, names: &[&[u8]]) -> Result<Vec<Call>, AllocError> {
+// The deliveries of these names, which are of one byte each.
+pub fn deliveries(alloc: Global, names: &[u8]) -> Result<Vec<Call>, AllocError> {
     let mut calls = Vec::new(alloc);
-    for name in names {
+    for name in names.chunks(1) {
         calls.push(delivery(alloc, name)?)?;
     }
     Ok(calls)
@@ -60,6 +72,19 @@ pub fn message(alloc: Global, name: &[u8]) -> Result<Vec<ImageFile>, AllocError>
     let mut image = Vec::new(alloc);
     image.push(file(alloc, 0, Place::Cur, name)?)?;
     Ok(image)
+}
+
+// Makes a step of a job. Its news, or its refusal.
+pub fn news<D: Dirs, J: Naming, R: Wait>(
+    rt: &R,
+    store: &Store<D, J>,
+    pass: &mut Pass<J>,
+    job: JobId,
+) -> Result<News, CoreError> {
+    match store.step(rt, pass, job, 1000, None) {
+        Ok(step) => Ok(step.news),
+        Err(error) => Err(error),
+    }
 }
 
 // Steps a job to its answer, a step once more where it found no memory. Its answer, and the news of its last effect.
@@ -92,4 +117,30 @@ pub fn shows(listing: &[Entry], name: &[u8]) -> bool {
     listing
         .iter()
         .any(|entry| entry.name.as_slice() == name && entry.size == 1)
+}
+
+// Whether a listing shows messages of these file names, between which stand blanks, and no others.
+fn shows_all(listing: &[Entry], names: &[u8]) -> bool {
+    let mut count = 0usize;
+    for name in names.split(|byte| *byte == b' ') {
+        if !shows(listing, name) {
+            return false;
+        }
+        count = count.wrapping_add(1);
+    }
+    count == listing.len()
+}
+
+// Whether a folder is listed so.
+pub fn lists<D: Dirs, J: Naming>(
+    alloc: Global,
+    store: &Store<D, J>,
+    pass: &mut Pass<J>,
+    folder: u32,
+    names: &[u8],
+) -> bool {
+    match store.list(alloc, pass, folder) {
+        Ok(entries) => shows_all(&entries, names),
+        Err(_) => false,
+    }
 }

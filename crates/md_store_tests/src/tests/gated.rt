@@ -1,10 +1,9 @@
 // Directories with a gate at each link, and a listing while another thread stands there, behind the lock.
-use super::fixtures::delivery;
-use super::scene::{Scene, play, world};
+use super::fixtures::{deliveries, lists, news};
+use super::scene::{Plan, Scene, stage};
 use md_dirs::{DirError, Dirs, Path, Place, PlainDirs, Row, RowRef};
 use md_store::{Naming, News, Pass, Store};
 use std::alloc::{AllocError, Global};
-use std::process::Abort;
 use std::sync::atomic::{AtomicBool, Ordering};
 use std::sync::{Arc, Wait};
 use std::test::Fail;
@@ -44,17 +43,12 @@ impl Gate {
         Ok(Gated { dirs, reached, go })
     }
 
-    // Waits until the link was reached, lists, and opens the gate.
-    fn look<J: Naming>(
-        &self,
-        alloc: Global,
-        store: &Store<Gated, J>,
-        pass: &mut Pass<J>,
-    ) -> (bool, Option<usize>) {
+    // Waits until the link was reached, lists, and opens the gate. Whether it was reached, and nothing was listed.
+    fn look<J: Naming>(&self, alloc: Global, store: &Store<Gated, J>, pass: &mut Pass<J>) -> bool {
         let was_reached = is_set(&self.reached);
-        let listed = count(alloc, store, pass);
+        let is_empty = is_empty(alloc, store, pass);
         self.go.store(true, Ordering::SeqCst);
-        (was_reached, listed)
+        was_reached && is_empty
     }
 }
 
@@ -121,37 +115,23 @@ impl Dirs for Gated {
 
 // Makes the next step of the one job. Whether it was told.
 fn is_told<J: Naming, R: Wait>(rt: &R, store: &Store<Gated, J>, pass: &mut Pass<J>) -> bool {
-    match store.step(rt, pass, 1, 1000, None) {
-        Ok(step) => step.news == News::Told,
+    news(rt, store, pass, 1) == Ok(News::Told)
+}
+
+// Whether a pass lists no message.
+fn is_empty<J: Naming>(alloc: Global, store: &Store<Gated, J>, pass: &mut Pass<J>) -> bool {
+    match store.list(alloc, pass, 0) {
+        Ok(entries) => entries.is_empty(),
         Err(_) => false,
     }
 }
 
-// How many messages a pass lists.
-fn count<J: Naming>(alloc: Global, store: &Store<Gated, J>, pass: &mut Pass<J>) -> Option<usize> {
-    Some(store.list(alloc, pass, 0).ok()?.len())
+// Makes the two steps before the link.
+fn creates<J: Naming, R: Wait>(rt: &R, store: &Store<Gated, J>, pass: &mut Pass<J>) -> bool {
+    news(rt, store, pass, 1).is_ok() && news(rt, store, pass, 1).is_ok()
 }
 
 // One thread makes the link, and another lists while it waits.
-pub fn look_at_gate<J: Naming + Send + Sync, R: Threads + Wait + Abort + Sync>(
-    rt: &R,
-    alloc: Global,
-    gate: &Gate,
-    store: &Store<Gated, J>,
-    passes: &mut [Pass<J>],
-) {
-    assert!(rt; passes.len() == 2);
-    let (one, two) = passes.split_at_mut(1);
-    let one = &mut one[0];
-    let two = &mut two[0];
-    for _ in 0..2 {
-        assert!(rt; store.step(rt, one, 1, 1000, None).is_ok());
-    }
-    let (told, (was_reached, before)) = link_and_look(rt, alloc, gate, store, one, two);
-    assert!(rt; told && was_reached);
-    assert_eq!(rt; (before, count(alloc, store, two)), (Some(0), Some(1)));
-}
-
 fn link_and_look<J: Naming + Send + Sync, R: Threads + Wait + Sync>(
     rt: &R,
     alloc: Global,
@@ -159,22 +139,52 @@ fn link_and_look<J: Naming + Send + Sync, R: Threads + Wait + Sync>(
     store: &Store<Gated, J>,
     one: &mut Pass<J>,
     two: &mut Pass<J>,
-) -> (bool, (bool, Option<usize>)) {
-    thread::join(
+) -> bool {
+    let (is_told, is_seen) = thread::join(
         rt,
         || is_told(rt, store, one),
         || gate.look(alloc, store, two),
-    )
+    );
+    is_told && is_seen
+}
+
+// A listing shows nothing while the link waits, and the message once it was made.
+fn waits_for_no_link<J: Naming + Send + Sync, R: Threads + Wait + Sync>(
+    rt: &R,
+    alloc: Global,
+    gate: &Gate,
+    store: &Store<Gated, J>,
+    one: &mut Pass<J>,
+    two: &mut Pass<J>,
+) -> bool {
+    creates(rt, store, one)
+        && link_and_look(rt, alloc, gate, store, one, two)
+        && lists(alloc, store, two, 0, b"a")
+}
+
+pub fn look_at_gate<J: Naming + Send + Sync, R: Threads + Wait + Sync>(
+    rt: &R,
+    alloc: Global,
+    gate: &Gate,
+    store: &Store<Gated, J>,
+    passes: &mut [Pass<J>],
+) -> bool {
+    match passes {
+        [one, two] => waits_for_no_link(rt, alloc, gate, store, one, two),
+        _ => false,
+    }
 }
 
 #[test]
 fn a_listing_waits_for_no_link(rt: HostRuntime) -> Result<(), Fail> {
-    let alloc = rt.alloc();
-    let gate = Gate::new(alloc, false)?;
-    let mut calls = Vec::new(alloc);
-    calls.push(delivery(alloc, b"a")?)?;
-    let world = world(alloc, 1, Vec::new(alloc), calls, &gate)?;
-    let scene = Scene::Gate(&gate);
-    assert_eq!(rt; play(&rt, alloc, world, 2, &scene, (1, 3, 1)), None);
+    let plan = Plan {
+        scene: Scene::Gate,
+        folders: 1,
+        passes: 2,
+        wanted: (1, 3, 1),
+    };
+    let calls = deliveries(rt.alloc(), b"a")?;
+    let refused = stage(&rt, rt.alloc(), &plan, Vec::new(rt.alloc()), calls)?;
+    assert!(rt; refused.is_none());
     Ok(())
 }

@@ -1,12 +1,11 @@
 // A flag change of which one allocation in the store may be refused, whichever it is: the step answers that there is no memory and is made
 // again, or its effect is published by the next step. `rt try --test --fail-alloc N..` refuses each in turn.
-use super::fixtures::{flagging, message, shows};
-use super::gated::{Gate, Gated};
-use super::scene::{Scene, play, world};
+use super::fixtures::{flagging, message, news, shows};
+use super::gated::Gated;
+use super::scene::{Plan, Scene, stage};
 use md_core::{Call, CoreError};
 use md_store::{ListError, Naming, News, Pass, Store};
 use std::alloc::{AllocError, Global};
-use std::process::Abort;
 use std::sync::Wait;
 use std::test::Fail;
 
@@ -17,11 +16,10 @@ fn step<J: Naming, R: Wait>(
     pass: &mut Pass<J>,
     job: u64,
 ) -> Option<News> {
-    let mut made = store.step(rt, pass, job, 1, None);
-    if let Err(CoreError::NoMemory) = made {
-        made = store.step(rt, pass, job, 1, None);
+    match news(rt, store, pass, job) {
+        Err(CoreError::NoMemory) => news(rt, store, pass, job).ok(),
+        made => made.ok(),
     }
-    Some(made.ok()?.news)
 }
 
 // Whether a listing shows the message, once more where there was no memory.
@@ -36,20 +34,37 @@ fn lists<J: Naming>(alloc: Global, store: &Store<Gated, J>, pass: &mut Pass<J>) 
     false
 }
 
+// Whether the step that renames is told at once, or later.
+fn renames<J: Naming, R: Wait>(rt: &R, store: &Store<Gated, J>, pass: &mut Pass<J>) -> bool {
+    matches!(
+        step(rt, store, pass, 1),
+        Some(News::Told) | Some(News::Later)
+    )
+}
+
 // Two flag changes of one message, of which the second meets the first.
-pub fn flag_later<J: Naming, R: Wait + Abort>(
+fn is_published<J: Naming, R: Wait>(
+    rt: &R,
+    alloc: Global,
+    store: &Store<Gated, J>,
+    pass: &mut Pass<J>,
+) -> bool {
+    step(rt, store, pass, 1) == Some(News::NoEffect)
+        && renames(rt, store, pass)
+        && step(rt, store, pass, 2) == Some(News::NoEffect)
+        && lists(alloc, store, pass)
+}
+
+pub fn flag_later<J: Naming, R: Wait>(
     rt: &R,
     alloc: Global,
     store: &Store<Gated, J>,
     passes: &mut [Pass<J>],
-) {
-    assert!(rt; passes.len() == 1);
-    let pass = &mut passes[0];
-    assert_eq!(rt; step(rt, store, pass, 1), Some(News::NoEffect));
-    let first = step(rt, store, pass, 1);
-    assert!(rt; first == Some(News::Told) || first == Some(News::Later));
-    assert_eq!(rt; step(rt, store, pass, 2), Some(News::NoEffect));
-    assert!(rt; lists(alloc, store, pass));
+) -> bool {
+    match passes {
+        [pass] => is_published(rt, alloc, store, pass),
+        _ => false,
+    }
 }
 
 fn calls(alloc: Global) -> Result<Vec<Call>, AllocError> {
@@ -61,12 +76,20 @@ fn calls(alloc: Global) -> Result<Vec<Call>, AllocError> {
 
 #[test]
 fn an_effect_is_published_later(rt: HostRuntime) -> Result<(), Fail> {
-    let alloc = rt.alloc();
-    let gate = Gate::new(alloc, true)?;
-    let world = world(alloc, 1, message(alloc, b"u:2,S")?, calls(alloc)?, &gate)?;
-    assert_eq!(rt;
-        play(&rt, alloc, world, 1, &Scene::Flaggers, (2, 3, 1)),
-        None
-    );
+    let plan = Plan {
+        scene: Scene::Flaggers,
+        folders: 1,
+        passes: 1,
+        wanted: (2, 3, 1),
+    };
+    let calls = calls(rt.alloc())?;
+    let refused = stage(
+        &rt,
+        rt.alloc(),
+        &plan,
+        message(rt.alloc(), b"u:2,S")?,
+        calls,
+    )?;
+    assert!(rt; refused.is_none());
     Ok(())
 }

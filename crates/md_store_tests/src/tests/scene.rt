@@ -30,12 +30,34 @@ pub enum Scene<'a> {
     Deliverers,
     DelivererAndFlagger,
     Newcomer,
-    Gate(&'a Gate),
+    Gate,
     Stampede(&'a Stampede),
 }
 
+// A scene, the folders of its world, the passes of its store, and how many jobs, steps and effects the world has behind it.
+#[derive(Clone, Copy)]
+pub struct Plan<'a> {
+    pub scene: Scene<'a>,
+    pub folders: u32,
+    pub passes: usize,
+    pub wanted: (u64, usize, usize),
+}
+
+// Plays a scene over a world of these files and calls. The refusal of the store, if it wasn't opened.
+pub fn stage<R: Threads + Wait + Abort + Sync>(
+    rt: &R,
+    alloc: Global,
+    plan: &Plan<'_>,
+    image: Vec<ImageFile>,
+    calls: Vec<Call>,
+) -> Result<Option<OpenError>, Fail> {
+    let gate = Gate::new(alloc, !matches!(plan.scene, Scene::Gate))?;
+    let world = world(alloc, plan.folders, image, calls, &gate)?;
+    Ok(play(rt, alloc, world, &gate, plan))
+}
+
 // A world of so many folders with these files, in which these calls are submitted.
-pub fn world(
+fn world(
     alloc: Global,
     folders: u32,
     image: Vec<ImageFile>,
@@ -55,21 +77,19 @@ pub fn world(
     Ok(world)
 }
 
-// Opens a store of a world with so many passes, plays a scene there, and closes it; or says why it wasn't opened. Either way the world then
-// has so many jobs, steps and effects.
-pub fn play<R: Threads + Wait + Abort + Sync>(
+// Opens a store of a world, plays a scene there, and closes it; or says why it wasn't opened.
+fn play<R: Threads + Wait + Abort + Sync>(
     rt: &R,
     alloc: Global,
     world: World<Gated>,
-    passes: usize,
-    scene: &Scene<'_>,
-    wanted: (u64, usize, usize),
+    gate: &Gate,
+    plan: &Plan<'_>,
 ) -> Option<OpenError>
     requires { IsFresh world }
 {
-    match prepare(world, passes) {
-        Ok(prepared) => play_in::<Brand, R>(rt, alloc, prepared, passes, scene, wanted),
-        Err(refused) => refuse(rt, alloc, refused, scene, wanted),
+    match prepare(world, plan.passes) {
+        Ok(prepared) => play_in::<Brand, R>(rt, alloc, prepared, gate, plan),
+        Err(refused) => refuse(rt, alloc, refused, plan),
     }
 }
 
@@ -77,19 +97,17 @@ fn play_in<J: Naming + Send + Sync, R: Threads + Wait + Abort + Sync>(
     rt: &R,
     alloc: Global,
     prepared: Prepared<Gated>,
-    wanted_passes: usize,
-    scene: &Scene<'_>,
-    wanted: (u64, usize, usize),
+    gate: &Gate,
+    plan: &Plan<'_>,
 ) -> Option<OpenError>
     requires { (named_of prepared.run.image ≡ J.opening) × (prepared.book ≡ J.book) }
 {
     match prepared.open::<J, R>(rt, alloc) {
         Ok((store, passes)) => {
-            assert_eq!(rt; passes.len(), wanted_passes);
-            play_over(rt, alloc, store, passes, scene, wanted);
+            play_over(rt, alloc, store, passes, gate, plan);
             None
         }
-        Err(refused) => refuse(rt, alloc, refused, scene, wanted),
+        Err(refused) => refuse(rt, alloc, refused, plan),
     }
 }
 
@@ -98,61 +116,61 @@ fn play_over<J: Naming + Send + Sync, R: Threads + Wait + Abort + Sync>(
     alloc: Global,
     store: Store<Gated, J>,
     mut passes: Vec<Pass<J>>,
-    scene: &Scene<'_>,
-    wanted: (u64, usize, usize),
+    gate: &Gate,
+    plan: &Plan<'_>,
 ) {
-    play_scene(rt, alloc, &store, passes.as_mut_slice(), scene);
-    look(rt, alloc, &store.close(rt), scene, wanted);
+    assert!(rt; is_played(rt, alloc, &store, &mut passes, gate, plan));
+    let world = store.close(rt);
+    assert!(rt; is_as_wanted(rt, alloc, &world, plan));
 }
 
 fn refuse<R: Wait + Abort>(
     rt: &R,
     alloc: Global,
     refused: OpenRefused<Gated>,
-    scene: &Scene<'_>,
-    wanted: (u64, usize, usize),
+    plan: &Plan<'_>,
 ) -> Option<OpenError> {
-    look(rt, alloc, &refused.world, scene, wanted);
+    assert!(rt; is_as_wanted(rt, alloc, &refused.world, plan));
     Some(refused.error)
 }
 
-fn play_scene<J: Naming + Send + Sync, R: Threads + Wait + Abort + Sync>(
+// Plays a scene, where there are as many passes as it wants.
+fn is_played<J: Naming + Send + Sync, R: Threads + Wait + Sync>(
     rt: &R,
     alloc: Global,
     store: &Store<Gated, J>,
     passes: &mut [Pass<J>],
+    gate: &Gate,
+    plan: &Plan<'_>,
+) -> bool {
+    passes.len() == plan.passes && play_scene(rt, alloc, store, passes, gate, &plan.scene)
+}
+
+fn play_scene<J: Naming + Send + Sync, R: Threads + Wait + Sync>(
+    rt: &R,
+    alloc: Global,
+    store: &Store<Gated, J>,
+    passes: &mut [Pass<J>],
+    gate: &Gate,
     scene: &Scene<'_>,
-) {
+) -> bool {
     match scene {
-        Scene::Nothing => {}
+        Scene::Nothing => true,
         Scene::Refusals => refuse_calls(rt, alloc, store, passes),
         Scene::TwoPasses => look_by_two(rt, alloc, store, passes),
         Scene::Flaggers => flag_later(rt, alloc, store, passes),
         Scene::Deliverers => deliver_by_all(rt, alloc, store, passes),
         Scene::DelivererAndFlagger => deliver_beside_flags(rt, alloc, store, passes),
         Scene::Newcomer => deliver_to_another(rt, alloc, store, passes),
-        Scene::Gate(gate) => look_at_gate(rt, alloc, gate, store, passes),
-        Scene::Stampede(stampede) => {
-            assert!(rt; run_all(rt, alloc, stampede, store, passes) > 500);
-        }
+        Scene::Gate => look_at_gate(rt, alloc, gate, store, passes),
+        Scene::Stampede(stampede) => run_all(rt, alloc, stampede, store, passes) > 500,
     }
 }
 
-// Looks at a world behind a scene.
-fn look<R: Wait + Abort>(
-    rt: &R,
-    alloc: Global,
-    world: &World<Gated>,
-    scene: &Scene<'_>,
-    wanted: (u64, usize, usize),
-) {
-    match scene {
-        Scene::Stampede(stampede) => {
-            assert!(rt; are_beginnings(rt, alloc, stampede, world));
-        }
-        _ => {
-            let counts = (world.jobs(), world.log().len(), world.effects().len());
-            assert_eq!(rt; counts, wanted);
-        }
+// Whether a world behind a scene has the jobs, steps and effects that are wanted, or that of a stampede is as its passes saw it.
+fn is_as_wanted<R: Wait>(rt: &R, alloc: Global, world: &World<Gated>, plan: &Plan<'_>) -> bool {
+    match &plan.scene {
+        Scene::Stampede(stampede) => are_beginnings(rt, alloc, stampede, world),
+        _ => (world.jobs(), world.log().len(), world.effects().len()) == plan.wanted,
     }
 }

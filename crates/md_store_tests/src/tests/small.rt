@@ -1,25 +1,37 @@
 // Each call once, over one thread.
-use super::fixtures::{deliveries, finish, message};
-use super::gated::{Gate, Gated};
-use super::scene::{Scene, play, world};
-use md_core::{Answer, Call, CoreError};
+use super::fixtures::{DELIVERED, deliveries, finish, message, news};
+use super::gated::Gated;
+use super::scene::{Plan, Scene, stage};
+use md_core::{Call, CoreError, SubmitRefused};
 use md_dirs::Bytes;
-use md_store::{ListError, Naming, News, OpenError, Pass, Store};
+use md_store::{ListError, Naming, OpenError, Pass, Store};
 use std::alloc::{AllocError, Global};
 use std::process::Abort;
 use std::sync::Wait;
 use std::test::Fail;
+use std::thread::Threads;
+
+// Opens a store with so many passes, and closes it.
+fn opened<R: Threads + Wait + Abort + Sync>(
+    rt: &R,
+    alloc: Global,
+    passes: usize,
+) -> Result<Option<OpenError>, Fail> {
+    let plan = Plan {
+        scene: Scene::Nothing,
+        folders: 1,
+        passes,
+        wanted: (1, 0, 0),
+    };
+    let calls = deliveries(alloc, b"a")?;
+    stage(rt, alloc, &plan, message(alloc, b"u")?, calls)
+}
 
 #[test]
 fn passes_are_1_to_64(rt: HostRuntime) -> Result<(), Fail> {
-    let alloc = rt.alloc();
-    let gate = Gate::new(alloc, true)?;
     let refused = Some(OpenError::BadPasses);
     for (passes, refusal) in [(0, refused), (65, refused), (64, None), (2, None)] {
-        let calls = deliveries(alloc, &[b"a"])?;
-        let world = world(alloc, 1, message(alloc, b"u")?, calls, &gate)?;
-        let opened = play(&rt, alloc, world, passes, &Scene::Nothing, (1, 0, 0));
-        assert_eq!(rt; opened, refusal);
+        assert!(rt; opened(&rt, rt.alloc(), passes)? == refusal, "{passes}");
     }
     Ok(())
 }
@@ -56,51 +68,67 @@ fn reads<J: Naming, R: Wait>(
     }
 }
 
-// The refusal of a second delivery under one name, which comes back.
-fn refusal<J: Naming, R: Wait>(
-    rt: &R,
-    alloc: Global,
-    store: &Store<Gated, J>,
-) -> Option<CoreError> {
-    let refused = store.submit(rt, hello(alloc).ok()?).err()?;
-    if matches!(refused.call, Call::Deliver { chunk: 4, .. }) {
-        Some(refused.error)
-    } else {
-        None
+// Whether a call comes back that used a name again.
+fn is_given_back(refused: &SubmitRefused) -> bool {
+    refused.error == CoreError::NameUsed && matches!(refused.call, Call::Deliver { chunk: 4, .. })
+}
+
+// Whether a second delivery under one name is refused, and comes back.
+fn refuses_name<J: Naming, R: Wait>(rt: &R, alloc: Global, store: &Store<Gated, J>) -> bool {
+    match hello(alloc) {
+        Ok(call) => match store.submit(rt, call) {
+            Ok(_) => false,
+            Err(refused) => is_given_back(&refused),
+        },
+        Err(_) => false,
+    }
+}
+
+// Whether a job with an answer, and one that isn't there, take no step.
+fn refuses_steps<J: Naming, R: Wait>(rt: &R, store: &Store<Gated, J>, pass: &mut Pass<J>) -> bool {
+    news(rt, store, pass, 1) == Err(CoreError::Answered)
+        && news(rt, store, pass, 2) == Err(CoreError::NoJob)
+}
+
+// Whether a folder that isn't there is not listed.
+fn refuses_folder<J: Naming>(alloc: Global, store: &Store<Gated, J>, pass: &mut Pass<J>) -> bool {
+    match store.list(alloc, pass, 1) {
+        Ok(_) => false,
+        Err(error) => error == ListError::NoFolder,
     }
 }
 
 // Submits, delivers and reads, and makes each call that is refused.
-pub fn refuse_calls<J: Naming, R: Wait + Abort>(
+pub fn refuse_calls<J: Naming, R: Wait>(
     rt: &R,
     alloc: Global,
     store: &Store<Gated, J>,
     passes: &mut [Pass<J>],
-) {
-    assert!(rt; passes.len() == 1);
-    let pass = &mut passes[0];
-    assert!(rt; submits(rt, alloc, store));
-    let done = finish(rt, store, pass, 1);
-    assert_eq!(rt; done, (Some(Answer::Delivered), News::Told));
-    assert!(rt; reads(rt, alloc, store, b"u", Some(b"hello\n")));
-    assert!(rt; reads(rt, alloc, store, b"v", None));
-    assert_eq!(rt; refusal(rt, alloc, store), Some(CoreError::NameUsed));
-    let again = store.step(rt, pass, 1, 1000, None);
-    assert_eq!(rt; again.err(), Some(CoreError::Answered));
-    let absent = store.step(rt, pass, 2, 1000, None);
-    assert_eq!(rt; absent.err(), Some(CoreError::NoJob));
-    let listed = store.list(alloc, pass, 1);
-    assert_eq!(rt; listed.err(), Some(ListError::NoFolder));
+) -> bool {
+    match passes {
+        [pass] => {
+            submits(rt, alloc, store)
+                && finish(rt, store, pass, 1) == DELIVERED
+                && reads(rt, alloc, store, b"u", Some(b"hello\n"))
+                && reads(rt, alloc, store, b"v", None)
+                && refuses_name(rt, alloc, store)
+                && refuses_steps(rt, store, pass)
+                && refuses_folder(alloc, store, pass)
+        }
+        _ => false,
+    }
 }
 
 #[test]
 fn read_and_submit_through_the_lock(rt: HostRuntime) -> Result<(), Fail> {
+    let plan = Plan {
+        scene: Scene::Refusals,
+        folders: 1,
+        passes: 1,
+        wanted: (1, 5, 1),
+    };
     let alloc = rt.alloc();
-    let gate = Gate::new(alloc, true)?;
-    let world = world(alloc, 1, Vec::new(alloc), Vec::new(alloc), &gate)?;
-    assert_eq!(rt;
-        play(&rt, alloc, world, 1, &Scene::Refusals, (1, 5, 1)),
-        None
-    );
+    let refused = stage(&rt, alloc, &plan, Vec::new(alloc), Vec::new(alloc))?;
+    assert!(rt; refused.is_none());
     Ok(())
 }

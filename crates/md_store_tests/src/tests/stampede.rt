@@ -1,11 +1,11 @@
 // Sixteen threads of mixed calls over a thousand messages, with listings between them. At the end the log says of each listing that it
 // showed two beginnings of the log, no earlier than those of the listing before nor than the effect that its pass was told of last. So no
 // two passes saw the effects in different orders.
-use super::fixtures::{file, finish};
+use super::fixtures::{delivered, file, finish};
 use md_core::{Call, Change, Effect, World};
 use md_dirs::{Bytes, Dirs, ImageFile, Place};
 use md_name::Flags;
-use md_store::{Naming, News, Pass, Store};
+use md_store::{FirstReading, Naming, News, Pass, Store};
 use md_view::{Entry, Names};
 use std::alloc::{AllocError, Global};
 use std::sync::atomic::{AtomicU64, Ordering};
@@ -114,55 +114,68 @@ fn scattered(number: u64) -> u64 {
 fn call(alloc: Global, number: u64) -> Result<Call, AllocError> {
     let any = scattered(number);
     let folder = (any % 2) as u32;
-    let unique = name(alloc, "m", (any / 64) % MESSAGES, "")?;
+    match (any / 2) % 16 {
+        0..3 => delivered(alloc, folder, name(alloc, "d", number, "")?),
+        13 => copy(alloc, folder, any, number),
+        15 => Ok(Call::Clean { folder }),
+        kind => Ok(change_of(kind, folder, message(alloc, any)?)),
+    }
+}
+
+// The unique name of any of the messages that were there first.
+fn message(alloc: Global, any: u64) -> Result<Bytes, AllocError> {
+    name(alloc, "m", (any / 64) % MESSAGES, "")
+}
+
+fn copy(alloc: Global, folder: u32, any: u64, number: u64) -> Result<Call, AllocError> {
+    let unique = message(alloc, any)?;
+    let fresh = name(alloc, "c", number, "")?;
+    Ok(Call::Copy {
+        folder,
+        unique,
+        to: 1 - folder.min(1),
+        fresh,
+        tries: 16,
+    })
+}
+
+// The calls that name one message alone.
+fn change_of(kind: u64, folder: u32, unique: Bytes) -> Call {
     let trashed = Flags::parse(b"T").unwrap_or(Flags::empty());
-    Ok(match (any / 2) % 16 {
-        0..3 => Call::Deliver {
-            folder,
-            unique: name(alloc, "d", number, "")?,
-            body: Bytes::copied(alloc, b"x")?,
-            chunk: 1,
-        },
+    let tries = 16;
+    match kind {
         3..6 => Call::Seen {
             folder,
             unique,
             flags: trashed,
-            tries: 16,
+            tries,
         },
         6..9 => Call::Flag {
             folder,
             unique,
             add: trashed,
             remove: Flags::empty(),
-            tries: 16,
+            tries,
         },
         9..11 => Call::Flag {
             folder,
             unique,
             add: Flags::empty(),
             remove: trashed,
-            tries: 16,
+            tries,
         },
         11..13 => Call::Move {
             folder,
             unique,
-            to: 1 - folder,
-            tries: 16,
+            to: 1 - folder.min(1),
+            tries,
         },
-        13 => Call::Copy {
+        _ => Call::Expunge {
             folder,
             unique,
-            to: 1 - folder,
-            fresh: name(alloc, "c", number, "")?,
-            tries: 16,
+            tries,
         },
-        14 => Call::Expunge {
-            folder,
-            unique,
-            tries: 16,
-        },
-        _ => Call::Clean { folder },
-    })
+    }
 }
 
 // The threads' listings, and the sums of the opening names.
@@ -174,6 +187,19 @@ pub struct Stampede {
     readings: Mutex<Vec<Reading>>,
 }
 
+// Submits a call.
+fn submitted<D: Dirs, J: Naming, R: Wait>(
+    rt: &R,
+    alloc: Global,
+    store: &Store<D, J>,
+    number: u64,
+) -> Option<u64> {
+    match call(alloc, number) {
+        Ok(call) => store.submit(rt, call).ok(),
+        Err(_) => None,
+    }
+}
+
 // Submits a call and steps it to its answer. The job, where its effect was told.
 fn make<D: Dirs, J: Naming, R: Wait>(
     rt: &R,
@@ -182,10 +208,23 @@ fn make<D: Dirs, J: Naming, R: Wait>(
     pass: &mut Pass<J>,
     number: u64,
 ) -> Option<u64> {
-    let job = store.submit(rt, call(alloc, number).ok()?).ok()?;
+    let job = submitted(rt, alloc, store, number)?;
     match finish(rt, store, pass, job) {
         (Some(_), News::Told) => Some(job),
         _ => None,
+    }
+}
+
+// Lists the second half of a folder. The sums of both.
+fn read_on<D: Dirs, J: Naming>(
+    alloc: Global,
+    store: &Store<D, J>,
+    pass: &mut Pass<J>,
+    first: &FirstReading<J>,
+) -> Option<(u64, u64)> {
+    match store.second(alloc, pass, first) {
+        Ok(entries) => Some((sum(first.entries(), Place::New), sum(&entries, Place::Cur))),
+        Err(_) => None,
     }
 }
 
@@ -196,9 +235,10 @@ fn read<D: Dirs, J: Naming>(
     pass: &mut Pass<J>,
     folder: u32,
 ) -> Option<(u64, u64)> {
-    let first = store.first(alloc, pass, folder).ok()?;
-    let entries = store.second(alloc, pass, &first).ok()?;
-    Some((sum(first.entries(), Place::New), sum(&entries, Place::Cur)))
+    match store.first(alloc, pass, folder) {
+        Ok(first) => read_on(alloc, store, pass, &first),
+        Err(_) => None,
+    }
 }
 
 impl Stampede {

@@ -1,9 +1,9 @@
 // Threads that step and list.
-use super::fixtures::{deliveries, finish, flagging, message, shows};
-use super::gated::{Gate, Gated};
-use super::scene::{Scene, play, world};
+use super::fixtures::{DELIVERED, deliveries, finish, flagging, lists, message, shows};
+use super::gated::Gated;
+use super::scene::{Plan, Scene, stage};
 use md_core::{Answer, Call};
-use md_store::{Naming, News, Pass, Store};
+use md_store::{Naming, News, OpenError, Pass, Store};
 use std::alloc::{AllocError, Global};
 use std::process::Abort;
 use std::sync::Wait;
@@ -12,10 +12,24 @@ use std::test::Fail;
 use std::thread;
 use std::thread::Threads;
 
-// Four names for each of four threads.
-static NAMES: [&[u8]; 16] = [
-    b"a", b"b", b"c", b"d", b"e", b"f", b"g", b"h", b"i", b"j", b"k", b"l", b"m", b"n", b"o", b"p",
-];
+// Four names, of a byte each, for each of four threads.
+const NAMES: &[u8] = b"abcdefghijklmnop";
+
+// Whether a delivery is told, and its message then listed.
+fn is_delivered<J: Naming, R: Wait>(
+    rt: &R,
+    alloc: Global,
+    store: &Store<Gated, J>,
+    pass: &mut Pass<J>,
+    job: u64,
+    name: u8,
+) -> bool {
+    let done = finish(rt, store, pass, job);
+    match store.list(alloc, pass, 0) {
+        Ok(entries) => done == DELIVERED && shows(&entries, &[name]),
+        Err(_) => false,
+    }
+}
 
 // Steps the four deliveries of a thread to their answers, and lists after each. How many of them were told and then listed.
 fn deliver<J: Naming, R: Wait>(
@@ -27,15 +41,8 @@ fn deliver<J: Naming, R: Wait>(
 ) -> u64 {
     let mut listed = 0u64;
     for (number, name) in NAMES.iter().enumerate() {
-        if number / 4 != thread {
-            continue;
-        }
-        let done = finish(rt, store, pass, number as u64 + 1);
-        let is_listed = match store.list(alloc, pass, 0) {
-            Ok(entries) => shows(&entries, name),
-            Err(_) => false,
-        };
-        if is_listed && done == (Some(Answer::Delivered), News::Told) {
+        let is_own = number / 4 == thread;
+        if is_own && is_delivered(rt, alloc, store, pass, number as u64 + 1, *name) {
             listed = listed.wrapping_add(1);
         }
     }
@@ -53,6 +60,22 @@ fn flag<J: Naming, R: Wait>(rt: &R, store: &Store<Gated, J>, pass: &mut Pass<J>)
     flagged
 }
 
+// What one of the threads does: it delivers, or flags where it isn't the first and the others flag. How many calls were told.
+fn act<J: Naming, R: Wait>(
+    rt: &R,
+    alloc: Global,
+    store: &Store<Gated, J>,
+    pass: &mut Pass<J>,
+    thread: usize,
+    others_flag: bool,
+) -> u64 {
+    if others_flag && thread > 0 {
+        flag(rt, store, pass)
+    } else {
+        deliver(rt, alloc, store, pass, thread)
+    }
+}
+
 // Each pass in a thread of its own: all deliver, or all but the first flag. How many calls were told.
 fn by_threads<J: Naming + Send + Sync, R: Threads + Wait + Sync>(
     rt: &R,
@@ -68,123 +91,132 @@ fn by_threads<J: Naming + Send + Sync, R: Threads + Wait + Sync>(
         passes,
         threads,
         &|thread, pass| {
-            let made = if others_flag && thread > 0 {
-                flag(rt, store, pass)
-            } else {
-                deliver(rt, alloc, store, pass, thread)
-            };
-            told.fetch_add(made, Ordering::SeqCst);
+            told.fetch_add(
+                act(rt, alloc, store, pass, thread, others_flag),
+                Ordering::SeqCst,
+            );
         },
     );
     told.load(Ordering::SeqCst)
 }
 
 // So many threads, of four deliveries each.
-pub fn deliver_by_all<J: Naming + Send + Sync, R: Threads + Wait + Abort + Sync>(
+pub fn deliver_by_all<J: Naming + Send + Sync, R: Threads + Wait + Sync>(
     rt: &R,
     alloc: Global,
     store: &Store<Gated, J>,
     passes: &mut [Pass<J>],
-) {
+) -> bool {
     let wanted = 4u64.wrapping_mul(passes.len() as u64);
-    assert_eq!(rt; by_threads(rt, alloc, store, passes, false), wanted);
+    by_threads(rt, alloc, store, passes, false) == wanted
+}
+
+// Sixteen deliveries by so many threads, of which each takes four.
+fn deliver_with<R: Threads + Wait + Abort + Sync>(
+    rt: &R,
+    alloc: Global,
+    threads: usize,
+    steps: usize,
+    effects: usize,
+) -> Result<Option<OpenError>, Fail> {
+    let plan = Plan {
+        scene: Scene::Deliverers,
+        folders: 1,
+        passes: threads,
+        wanted: (16, steps, effects),
+    };
+    let calls = deliveries(alloc, NAMES)?;
+    stage(rt, alloc, &plan, message(alloc, b"z")?, calls)
 }
 
 #[test]
 fn threads_deliver(rt: HostRuntime) -> Result<(), Fail> {
-    let alloc = rt.alloc();
-    let gate = Gate::new(alloc, true)?;
     for (threads, steps, effects) in [(2, 32, 8), (4, 64, 16)] {
-        let calls = deliveries(alloc, &NAMES)?;
-        let world = world(alloc, 1, message(alloc, b"z")?, calls, &gate)?;
-        let wanted = (16, steps, effects);
-        assert_eq!(rt;
-            play(&rt, alloc, world, threads, &Scene::Deliverers, wanted),
-            None
-        );
+        let refused = deliver_with(&rt, rt.alloc(), threads, steps, effects)?;
+        assert!(rt; refused.is_none(), "{threads}");
     }
     Ok(())
 }
 
-// How many messages a pass lists.
-fn count<J: Naming>(alloc: Global, store: &Store<Gated, J>, pass: &mut Pass<J>) -> Option<usize> {
-    Some(store.list(alloc, pass, 0).ok()?.len())
-}
-
 // One thread delivers while a second flags another message. A third pass lists before and behind them: it makes no step, and so it learns
 // of their effects by listing alone.
-pub fn deliver_beside_flags<J: Naming + Send + Sync, R: Threads + Wait + Abort + Sync>(
+pub fn deliver_beside_flags<J: Naming + Send + Sync, R: Threads + Wait + Sync>(
     rt: &R,
     alloc: Global,
     store: &Store<Gated, J>,
     passes: &mut [Pass<J>],
-) {
-    assert!(rt; passes.len() == 3);
-    let (threads, third) = passes.split_at_mut(2);
-    let third = &mut third[0];
-    assert_eq!(rt; count(alloc, store, third), Some(1));
-    assert_eq!(rt; by_threads(rt, alloc, store, threads, true), 8);
-    assert_eq!(rt; count(alloc, store, third), Some(5));
+) -> bool {
+    match passes.split_last_mut() {
+        Some((third, threads)) => {
+            lists(alloc, store, third, 0, b"z:2,")
+                && by_threads(rt, alloc, store, threads, true) == 8
+                && lists(alloc, store, third, 0, b"a b c d z:2,FRST")
+        }
+        None => false,
+    }
 }
 
 // Four deliveries, and four flags for another message.
 fn deliveries_and_flags(alloc: Global) -> Result<Vec<Call>, AllocError> {
-    let mut calls = deliveries(alloc, &[b"a", b"b", b"c", b"d"])?;
-    for letters in [b"F", b"R", b"S", b"T"] {
-        calls.push(flagging(alloc, b"z", letters)?)?;
+    let mut calls = deliveries(alloc, b"abcd")?;
+    for letter in b"FRST".chunks(1) {
+        calls.push(flagging(alloc, b"z", letter)?)?;
     }
     Ok(calls)
 }
 
 #[test]
 fn a_told_delivery_is_listed(rt: HostRuntime) -> Result<(), Fail> {
-    let alloc = rt.alloc();
-    let gate = Gate::new(alloc, true)?;
-    let calls = deliveries_and_flags(alloc)?;
-    let world = world(alloc, 1, message(alloc, b"z:2,")?, calls, &gate)?;
-    let scene = Scene::DelivererAndFlagger;
-    assert_eq!(rt; play(&rt, alloc, world, 3, &scene, (8, 24, 8)), None);
+    let plan = Plan {
+        scene: Scene::DelivererAndFlagger,
+        folders: 1,
+        passes: 3,
+        wanted: (8, 24, 8),
+    };
+    let calls = deliveries_and_flags(rt.alloc())?;
+    let refused = stage(&rt, rt.alloc(), &plan, message(rt.alloc(), b"z:2,")?, calls)?;
+    assert!(rt; refused.is_none());
     Ok(())
 }
 
-// A pass lists, another thread delivers and ends, and the pass lists once more. It makes no step.
-pub fn deliver_to_another<J: Naming + Send + Sync, R: Threads + Wait + Abort + Sync>(
+// How many deliveries of another thread are told and listed there.
+fn delivered_there<J: Naming + Send + Sync, R: Threads + Wait + Sync>(
     rt: &R,
     alloc: Global,
     store: &Store<Gated, J>,
-    passes: &mut [Pass<J>],
-) {
-    assert!(rt; passes.len() == 2);
-    let (mine, theirs) = passes.split_at_mut(1);
-    let mine = &mut mine[0];
-    assert_eq!(rt; count(alloc, store, mine), Some(1));
-    let (delivered, _) = thread::join(rt, || deliver_first(rt, alloc, store, theirs), || ());
-    assert_eq!(rt; delivered, 1);
-    assert_eq!(rt; count(alloc, store, mine), Some(2));
+    theirs: &mut Pass<J>,
+) -> u64 {
+    let (delivered, ()) = thread::join(rt, || deliver(rt, alloc, store, theirs, 0), || ());
+    delivered
 }
 
-// Steps the first delivery to its answer. How many were told and listed.
-fn deliver_first<J: Naming, R: Wait>(
+// A pass lists, another thread delivers and ends, and the pass lists once more. It makes no step.
+pub fn deliver_to_another<J: Naming + Send + Sync, R: Threads + Wait + Sync>(
     rt: &R,
     alloc: Global,
     store: &Store<Gated, J>,
     passes: &mut [Pass<J>],
-) -> u64 {
-    match passes.first_mut() {
-        Some(pass) => deliver(rt, alloc, store, pass, 0),
-        None => 0,
+) -> bool {
+    match passes {
+        [mine, theirs] => {
+            lists(alloc, store, mine, 0, b"z")
+                && delivered_there(rt, alloc, store, theirs) == 1
+                && lists(alloc, store, mine, 0, b"a z")
+        }
+        _ => false,
     }
 }
 
 #[test]
 fn a_listing_enters_anew(rt: HostRuntime) -> Result<(), Fail> {
-    let alloc = rt.alloc();
-    let gate = Gate::new(alloc, true)?;
-    let calls = deliveries(alloc, &[b"a"])?;
-    let world = world(alloc, 1, message(alloc, b"z")?, calls, &gate)?;
-    assert_eq!(rt;
-        play(&rt, alloc, world, 2, &Scene::Newcomer, (1, 4, 1)),
-        None
-    );
+    let plan = Plan {
+        scene: Scene::Newcomer,
+        folders: 1,
+        passes: 2,
+        wanted: (1, 4, 1),
+    };
+    let calls = deliveries(rt.alloc(), b"a")?;
+    let refused = stage(&rt, rt.alloc(), &plan, message(rt.alloc(), b"z")?, calls)?;
+    assert!(rt; refused.is_none());
     Ok(())
 }

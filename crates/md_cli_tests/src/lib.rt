@@ -1,0 +1,5 @@
+//! Tests of `md_cli`.
+#![tactic(auto)]
+
+#[cfg(test)]
+mod tests;
