@@ -1,0 +1,56 @@
+//! What happens where memory is refused: the program ends with a line that says so.
+//!
+//! All output is kept to the end, and written from memory that is there by then. So wherever an allocation is refused nothing was
+//! written yet, and there is nothing to take back.
+
+use std::alloc::{GlobalAlloc, Layout, System};
+use std::io::Write;
+
+use crate::refusal::{Refusal, Refused};
+
+struct OrEnd;
+
+#[global_allocator]
+static ALLOCATOR: OrEnd = OrEnd;
+
+/// The block that the system gave, or the end of the program.
+fn or_end(block: *mut u8) -> *mut u8 {
+    if block.is_null() {
+        end()
+    }
+    block
+}
+
+unsafe extern "C" {
+    /// Ends the process, and does nothing else that might ask for memory.
+    safe fn _exit(status: i32) -> !;
+}
+
+#[cold]
+fn end() -> ! {
+    let _ = writeln!(std::io::stderr(), "{}", Refused::from(Refusal::NoMemory));
+    _exit(1)
+}
+
+// SAFETY: each call is passed on to the system's allocator, whose answer is given back.
+unsafe impl GlobalAlloc for OrEnd {
+    #[inline]
+    unsafe fn alloc(&self, layout: Layout) -> *mut u8 {
+        or_end(unsafe { System.alloc(layout) })
+    }
+
+    #[inline]
+    unsafe fn alloc_zeroed(&self, layout: Layout) -> *mut u8 {
+        or_end(unsafe { System.alloc_zeroed(layout) })
+    }
+
+    #[inline]
+    unsafe fn realloc(&self, block: *mut u8, layout: Layout, size: usize) -> *mut u8 {
+        or_end(unsafe { System.realloc(block, layout, size) })
+    }
+
+    #[inline]
+    unsafe fn dealloc(&self, block: *mut u8, layout: Layout) {
+        unsafe { System.dealloc(block, layout) }
+    }
+}

@@ -1,0 +1,29 @@
+"""The programs that are measured and compared, and what is built beside them. It needs rt, rustc and cargo."""
+
+import os
+import subprocess
+
+HERE = os.path.dirname(os.path.realpath(__file__))
+TOP = os.path.dirname(os.path.dirname(HERE))
+EXAMPLES = os.path.join(TOP, 'crates', 'examples', 'data')
+
+
+def ours():
+    """The proved program, which is proved and built first where it is older than what it is made of."""
+    subprocess.run([os.path.join(TOP, 'deolmutt'), 'build'], check=True, stdout=subprocess.DEVNULL)
+    return os.path.join(TOP, 'crates', 'maildir_cli', 'out', 'maildir_cli')
+
+
+def plain(work):
+    """The plain Rust program, built in the folder `work`."""
+    manifest = os.path.join(HERE, 'plain', 'Cargo.toml')
+    build = ['cargo', 'build', '--quiet', '--release', '--offline', '--locked', '--manifest-path', manifest, '--target-dir', work]
+    subprocess.run(build, check=True)
+    return os.path.join(work, 'release', 'plain')
+
+
+def rust(work, name, source, *flags):
+    """A Rust file of this folder, built in the folder `work`."""
+    built = os.path.join(work, name)
+    subprocess.run(['rustc', '--edition', '2024', '-O', *flags, '-o', built, os.path.join(HERE, source)], check=True)
+    return built
