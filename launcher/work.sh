@@ -1,0 +1,46 @@
+# A temporary folder, and a job of rt that ends when the launcher ends.
+
+work=
+job=
+
+# Opens the folder. However the launcher ends, the folder goes, and so does a job that still runs.
+open_work() {
+  work=$(mktemp -d) || refuse 73 "no temporary folder can be made"
+  trap close_work EXIT
+  trap 'exit 129' HUP
+  trap 'exit 130' INT
+  trap 'exit 141' PIPE
+  trap 'exit 143' TERM
+}
+
+close_work() {
+  trap '' HUP INT PIPE TERM
+  set +e
+  end_telling
+  if [ -n "$job" ]; then
+    kill -TERM "$job" 2>/dev/null
+    wait "$job" 2>/dev/null
+  fi
+  rm -rf "$work"
+}
+
+# Starts rt in the folder of a crate: start_rt CRATE INPUT OUTPUT WORD.. Its standard error goes to the file log. In a session of its own it
+# gets no Ctrl-C, and so one signal alone, the launcher's: a second one keeps it from ending what it has started.
+start_rt() {
+  folder=$top/crates/$1
+  input=$2
+  output=$3
+  shift 3
+  : >"$work/log"
+  set -- rt "$@"
+  if command -v setsid >/dev/null; then set -- setsid "$@"; fi
+  (cd "$folder" && exec "$@") <"$input" >>"$output" 2>>"$work/log" &
+  job=$!
+}
+
+# Waits for the job, and sets its status.
+join_job() {
+  joined=0
+  wait "$job" || joined=$?
+  job=
+}
