@@ -44,6 +44,12 @@ def without_rights():
     return [shutil.which('setpriv'), '--reuid=65534', '--regid=65534', '--clear-groups']
 
 
+def take_signals():
+    """A shell can't trap a signal that was ignored when it began, as one is in a run of these tests by nohup or in the background."""
+    for number in (signal.SIGHUP, signal.SIGINT, signal.SIGTERM):
+        signal.signal(number, signal.SIG_DFL)
+
+
 class Scene(unittest.TestCase):
     """Each test has its own tree, whose path a careless shell would misread, and its own folder of commands."""
 
@@ -152,7 +158,8 @@ class Watch:
         command = [os.path.join(scene.top, 'deolmutt'), *words]
         how = {'cwd': scene.room, 'env': {**scene.environment, **environment}, 'stdin': stdin}
         self.began = time.monotonic()
-        self.process = subprocess.Popen(command, stdout=subprocess.PIPE, stderr=theirs, start_new_session=True, **how)
+        how.update(start_new_session=True, preexec_fn=take_signals)
+        self.process = subprocess.Popen(command, stdout=subprocess.PIPE, stderr=theirs, **how)
         os.close(theirs)
         self.reader = threading.Thread(target=self.read_all, args=(ours,))
         self.reader.start()
