@@ -1,5 +1,5 @@
 //! Refuses an allocation of the program that it is loaded before: the one whose number the variable REFUSE_AT has, and where
-//! REFUSE_REST is set all behind it too. It writes a byte to the file of the number REFUSE_TELLS when it first refuses one.
+//! REFUSE_REST is set all after it too. It writes a byte to the file of the number REFUSE_TELLS when it first refuses one.
 #![no_std]
 
 use core::ffi::{CStr, c_char, c_int, c_void};
