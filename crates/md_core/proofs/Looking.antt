@@ -1,3 +1,2 @@
 pub mod LookUps
-pub mod Search
 pub mod Searching

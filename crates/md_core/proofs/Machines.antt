@@ -1,9 +1,6 @@
 pub mod Performing
 pub mod Stays
 pub mod Deliver
-pub mod Mark
-pub mod Move
-pub mod Expunge
-pub mod Copy
+pub mod Errand
 pub mod Clean
 pub mod EachTurn

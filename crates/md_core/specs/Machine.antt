@@ -6,10 +6,7 @@ use Rattle.md_core.specs.Trace.{Step}
 use Rattle.md_core.specs.Asked.{Asked, ask_of, shown_call, state_by}
 use Rattle.md_core.specs.Turn.{Turn, rows_for, reply_of}
 use Rattle.md_core.specs.Machines.Deliver.{new_delivery, delivery_turn, delivery_left}
-use Rattle.md_core.specs.Machines.Mark.{new_marking, marking_turn, marking_left}
-use Rattle.md_core.specs.Machines.Move.{new_moving, moving_turn, moving_left}
-use Rattle.md_core.specs.Machines.Expunge.{new_expunging, expunging_turn, expunging_left}
-use Rattle.md_core.specs.Machines.Copy.{new_copying, copying_turn, copying_left}
+use Rattle.md_core.specs.Machines.Errand.{new_errand, errand_turn, errand_left}
 use Rattle.md_core.specs.Machines.Clean.{new_cleaning, cleaning_turn, cleaning_left}
 use Rattle.md_core.specs.declared.jobs.call.Call.{Call}
 use Rattle.md_core.specs.declared.jobs.call.Call.TheVariants as call
@@ -19,9 +16,9 @@ use Rattle.md_core.specs.declared.jobs.step.DirReply.{DirReply}
 use Rattle.md_core.specs.declared.jobs.step.Event.{Event}
 use Rattle.md_core.specs.declared.jobs.step.Moment.{Moment}
 use Rattle.md_core.specs.declared.jobs.step.StepOut.{StepOut}
-use Rattle.md_core.specs.declared.jobs.mark.Mark.TheVariants as mark
+use Rattle.md_core.specs.declared.jobs.purpose.Purpose.TheVariants as purpose
 use Rattle.md_core.specs.declared.jobs.task.Task.{Task}
-use Rattle.md_core.specs.declared.jobs.task.Task.TheVariants.{Deliver, Mark, Move, Expunge, Copy, Clean}
+use Rattle.md_core.specs.declared.jobs.task.Task.TheVariants.{Deliver, Errand, Clean}
 
 -- a turn of one kind of task, as a turn of a task
 abbrev pub as_task : {T : Type 0} → (T → Task) → Turn T → Turn Task
@@ -33,20 +30,14 @@ as_task wrap t = record {
 -- The turn of a task, by the number of its job and the moment.
 abbrev pub turn_of : ℕ → Task → Moment → Turn Task
 turn_of job (Deliver d) at = as_task Deliver (delivery_turn job d at)
-turn_of job (Mark m) at = as_task Mark (marking_turn job m)
-turn_of job (Move m) at = as_task Move (moving_turn job m)
-turn_of job (Expunge x) at = as_task Expunge (expunging_turn job x)
-turn_of job (Copy c) at = as_task Copy (copying_turn job c)
+turn_of job (Errand e) at = as_task Errand (errand_turn job e)
 turn_of job (Clean c) at = as_task Clean (cleaning_turn c at.own)
 
 -- How many turns a task takes at most from here to its answer, if no other job takes one. A clean that has not begun goes by the names
 -- of tmp that are there.
 abbrev pub task_left : State → Task → ℕ
 task_left s (Deliver d) = delivery_left d
-task_left s (Mark m) = marking_left m
-task_left s (Move m) = moving_left m
-task_left s (Expunge x) = expunging_left x
-task_left s (Copy c) = copying_left c
+task_left s (Errand e) = errand_left e
 task_left s (Clean c) = cleaning_left s c
 
 -- How a job stands: at work, or answered. One that is answered holds nothing but its answer.
@@ -61,11 +52,11 @@ is_working (answered a) = false
 -- a job at its beginning
 abbrev pub new_job : Call → Standing
 new_job (call.Deliver folder unique body chunk) = working (Deliver (new_delivery folder unique body chunk))
-new_job (call.Seen folder unique flags tries) = working (Mark (new_marking folder unique (mark.Seen flags) tries))
-new_job (call.Flag folder unique add remove tries) = working (Mark (new_marking folder unique (mark.Flag add remove) tries))
-new_job (call.Move folder unique to tries) = working (Move (new_moving folder unique to tries))
-new_job (call.Expunge folder unique tries) = working (Expunge (new_expunging folder unique tries))
-new_job (call.Copy folder unique to fresh tries) = working (Copy (new_copying folder unique to fresh tries))
+new_job (call.Seen folder unique flags tries) = working (Errand (new_errand folder unique (purpose.Seen flags) tries))
+new_job (call.Flag folder unique add remove tries) = working (Errand (new_errand folder unique (purpose.Flag add remove) tries))
+new_job (call.Move folder unique to tries) = working (Errand (new_errand folder unique (purpose.Move to) tries))
+new_job (call.Expunge folder unique tries) = working (Errand (new_errand folder unique purpose.Expunge tries))
+new_job (call.Copy folder unique to fresh tries) = working (Errand (new_errand folder unique (purpose.Copy to fresh) tries))
 new_job (call.Clean folder) = working (Clean (new_cleaning folder))
 
 abbrev pub job_left : State → Standing → ℕ

@@ -1,7 +1,5 @@
 pub mod Deliver
-pub mod Mark
-pub mod Search
-pub mod Move
-pub mod Expunge
-pub mod Copy
 pub mod Clean
+pub mod Refusals
+pub mod Purposes
+pub mod Errand

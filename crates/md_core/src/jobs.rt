@@ -2,14 +2,12 @@
 pub mod answer;
 pub mod call;
 pub mod cleaning;
-pub mod copying;
 pub mod deliver;
 pub mod effect;
-pub mod expunging;
+pub mod errand;
 pub(crate) mod job;
-pub mod mark;
-pub mod moving;
-pub mod search;
+pub mod purpose;
+pub mod refusal;
 pub mod step;
 pub mod task;
 pub(crate) mod turn;

@@ -1,4 +1,6 @@
 -- A job is answered that it faulted only where one of its directory calls did, and never that its name is taken.
+use Rattle.md_core.specs.declared.jobs.errand.Stage as errand
+use Rattle.md_core.specs.declared.jobs.errand.Stage.TheVariants.{Look, Act}
 use Rattle.std.proofs.Common.{ℕ, ◌≡◌, ◌+◌, ◌≤◌, List, Some, None, refl, subst, ◌∙◌, length, arith}
 use Rattle.md_dirs.specs.State.{State}
 use Rattle.md_core.specs.declared.jobs.answer.Answer.{Answer}
@@ -7,17 +9,10 @@ use Rattle.md_core.specs.declared.jobs.call.Call.{Call}
 use Rattle.md_core.specs.declared.jobs.call.Call.TheVariants as call
 use Rattle.md_core.specs.declared.jobs.deliver.Stage.{Stage}
 use Rattle.md_core.specs.declared.jobs.deliver.Stage.TheVariants.{Start, Writing, Linked, Undo}
-use Rattle.md_core.specs.declared.jobs.expunging.Stage as expunging
-use Rattle.md_core.specs.declared.jobs.expunging.Stage.TheVariants as expunging_stage
-use Rattle.md_core.specs.declared.jobs.mark.Stage as marking
-use Rattle.md_core.specs.declared.jobs.mark.Stage.TheVariants as marking_stage
-use Rattle.md_core.specs.declared.jobs.mark.Marking.{Marking}
-use Rattle.md_core.specs.declared.jobs.search.Stage as search
-use Rattle.md_core.specs.declared.jobs.search.Stage.TheVariants.{LookNew, LookCur, Act}
 use Rattle.md_core.specs.declared.jobs.step.DirReply.{DirReply}
 use Rattle.md_core.specs.declared.jobs.step.DirReply.TheVariants as reply
 use Rattle.md_core.specs.declared.jobs.task.Task.{Task}
-use Rattle.md_core.specs.declared.jobs.task.Task.TheVariants.{Deliver, Mark, Move, Expunge, Copy, Clean}
+use Rattle.md_core.specs.declared.jobs.task.Task.TheVariants.{Deliver, Errand, Clean}
 use Rattle.md_core.specs.Turn.{After}
 use Rattle.md_core.specs.Machine.{Standing, working, answered, job_at, new_job}
 use Rattle.md_core.specs.Runs.{Run, moment}
@@ -25,7 +20,7 @@ use Rattle.md_core.specs.Trace.{call_at}
 use Rattle.md_core.specs.Stepping.{IsRun}
 use Rattle.md_core.proofs.Answers.OfRun.{IsFaulted}
 use Rattle.md_core.proofs.Answers.LastStep.{IsTurn, LastStep, reply_in, left_by, is-step, is_within, holds}
-use Rattle.md_core.proofs.Answers.Turns.OneMessage.{TriesOn, mark_trying, expunge_trying, search_trying, trying_of, idle, sought, Tells}
+use Rattle.md_core.proofs.Answers.Turns.OneMessage.{TriesOn, errand_trying, trying_of, idle, sought, Tells}
 use Rattle.md_core.proofs.Answers.Turns.OfDeliver.{DeliveryTells, Undoes}
 use Rattle.md_core.proofs.Answers.Turns.OfClean.{CleanTells}
 use Rattle.md_core.proofs.Answers.Turns.Told.{at-none, Told, told, IsOfLook}
@@ -33,18 +28,9 @@ use Rattle.md_core.proofs.Answers.Turns.EachSays.{TaskSays, UndoesTask, IsClean,
 
 -- a job that acts on one message goes on as one
 module _ (s s' : State) (u : List ℕ) where
-  pub mark-tries : (m : Marking) (stage : marking.Stage) → TriesOn s s' u (mark_trying m stage) idle → ⊥
-  mark-tries m (marking_stage.Look tries) h = h
-  mark-tries m (marking_stage.Act name flags tries) h = h
-
-  pub expunge-tries : (folder : ℕ) (stage : expunging.Stage) → TriesOn s s' u (expunge_trying folder stage) idle → ⊥
-  expunge-tries folder (expunging_stage.Look tries) h = h
-  expunge-tries folder (expunging_stage.Act name tries) h = h
-
-  pub search-tries : (folder : ℕ) (stage : search.Stage) → TriesOn s s' u (search_trying folder stage) idle → ⊥
-  search-tries folder (LookNew tries) h = h
-  search-tries folder (LookCur tries) h = h
-  search-tries folder (Act place row tries) h = h
+  pub errand-tries : (folder : ℕ) (stage : errand.Stage) → TriesOn s s' u (errand_trying folder stage) idle → ⊥
+  errand-tries folder (Look place tries) h = h
+  errand-tries folder (Act place row tries) h = h
 
 -- a delivery that takes its file away again does so for a fault of its own
 abbrev PendingAt : Run → ℕ → Stage → Type 0
@@ -55,10 +41,7 @@ PendingAt r job (Undo a) = (a ≡ answer.Fault) × IsFaulted r job
 
 abbrev Pending : Run → ℕ → Task → Type 0
 Pending r job (Deliver d) = PendingAt r job d.stage
-Pending r job (Mark m) = Unit {0}
-Pending r job (Move m) = Unit {0}
-Pending r job (Expunge x) = Unit {0}
-Pending r job (Copy c) = Unit {0}
+Pending r job (Errand e) = Unit {0}
 Pending r job (Clean c) = Unit {0}
 
 -- the same of a job of any call
@@ -74,10 +57,7 @@ module _ (r : Run) (job : ℕ) where
   -- a job that has tries takes no file away
   not-idle : (task : Task) → (trying_of task ≡ idle → ⊥) → Pending r job task
   not-idle (Deliver d) tries = absurd (tries refl)
-  not-idle (Mark m) tries = tt
-  not-idle (Move m) tries = tt
-  not-idle (Expunge x) tries = tt
-  not-idle (Copy c) tries = tt
+  not-idle (Errand e) tries = tt
   not-idle (Clean c) tries = tt
 
   pending-stage : (stage : Stage) (given : DirReply) → Undoes given stage → (given ≡ reply.Fault → IsFaulted r job) → PendingAt r job stage
@@ -96,22 +76,10 @@ module _ (r : Run) (job : ℕ) where
       (given ≡ reply.Fault → IsFaulted r job) → Pending r job after.task
   pending-on s s' asked (Deliver d) given after says none faulted =
       pending-delivery after.task given (at-none after.answer _ _ none says) faulted
-  pending-on s s' asked (Mark m) given after says none faulted =
+  pending-on s s' asked (Errand e) given after says none faulted =
       not-idle after.task
-      (λ is. mark-tries s s' (sought asked) m m.stage
-      (subst (TriesOn s s' (sought asked) (mark_trying m m.stage)) is (at-none after.answer _ _ none says).tries))
-  pending-on s s' asked (Move m) given after says none faulted =
-      not-idle after.task
-      (λ is. search-tries s s' (sought asked) m.folder m.stage
-      (subst (TriesOn s s' (sought asked) (search_trying m.folder m.stage)) is (at-none after.answer _ _ none says).tries))
-  pending-on s s' asked (Expunge x) given after says none faulted =
-      not-idle after.task
-      (λ is. expunge-tries s s' (sought asked) x.folder x.stage
-      (subst (TriesOn s s' (sought asked) (expunge_trying x.folder x.stage)) is (at-none after.answer _ _ none says).tries))
-  pending-on s s' asked (Copy c) given after says none faulted =
-      not-idle after.task
-      (λ is. search-tries s s' (sought asked) c.folder c.stage
-      (subst (TriesOn s s' (sought asked) (search_trying c.folder c.stage)) is (at-none after.answer _ _ none says).tries))
+      (λ is. errand-tries s s' (sought asked) e.folder e.stage
+      (subst (TriesOn s s' (sought asked) (errand_trying e.folder e.stage)) is (at-none after.answer _ _ none says).tries))
   pending-on s s' asked (Clean c) given after says none faulted = clean after.task (at-none after.answer _ _ none says)
     where
       clean : (task : Task) → IsClean task → Pending r job task
@@ -151,10 +119,7 @@ module _ (r : Run) (run : IsRun r) where
       by (Writing start k) was told = faulted told
       by Linked was told = faulted told
       by (Undo a) was told = was.1
-  told-fault s asked (Mark m) job given faulted pending h = faulted h
-  told-fault s asked (Move m) job given faulted pending h = faulted h
-  told-fault s asked (Expunge x) job given faulted pending h = faulted h
-  told-fault s asked (Copy c) job given faulted pending h = faulted h
+  told-fault s asked (Errand e) job given faulted pending h = faulted h
   told-fault s asked (Clean c) job given faulted pending h = faulted h
 
   told-taken : (s : State) (asked : Call) (task : Task) (job : ℕ) (given : DirReply) → Pending r job task →
@@ -166,10 +131,7 @@ module _ (r : Run) (run : IsRun r) where
       by (Writing start k) was told = told
       by Linked was told = told
       by (Undo a) was told = let e : answer.NameTaken ≡ answer.Fault = told ∙ was.0 in cc
-  told-taken s asked (Mark m) job given pending h = h
-  told-taken s asked (Move m) job given pending h = h
-  told-taken s asked (Expunge x) job given pending h = h
-  told-taken s asked (Copy c) job given pending h = h
+  told-taken s asked (Errand e) job given pending h = h
   told-taken s asked (Clean c) job given pending h = h
 
   -- no delivery and no clean looks for a message
@@ -202,10 +164,7 @@ module _ (r : Run) (run : IsRun r) where
   told-look : (s : State) (asked : Call) (task : Task) (job : ℕ) (given : DirReply) (a : Answer) → IsOfLook a → Pending r job task →
       Told s asked task given a → Tells s asked task given a
   told-look s asked (Deliver d) job given a look pending h = absurd (delivery-looks job given d.stage a look h pending)
-  told-look s asked (Mark m) job given a look pending h = h
-  told-look s asked (Move m) job given a look pending h = h
-  told-look s asked (Expunge x) job given a look pending h = h
-  told-look s asked (Copy c) job given a look pending h = h
+  told-look s asked (Errand e) job given a look pending h = h
   told-look s asked (Clean c) job given a look pending h = absurd (clean-looks given a look h)
 
   -- what the last turn of an answered job tells

@@ -1,11 +1,7 @@
 pub mod OneMessage
 pub mod Refusals
-pub mod OfSearch
 pub mod OfDeliver
-pub mod OfMark
-pub mod OfMove
-pub mod OfCopy
-pub mod OfExpunge
+pub mod OfErrand
 pub mod OfClean
 pub mod EachSays
 pub mod Told

@@ -6,18 +6,15 @@ use Rattle.md_dirs.specs.declared.paths.Place.{Place}
 use Rattle.md_dirs.specs.declared.paths.Place.TheVariants.{Tmp, New, Cur}
 use Rattle.md_name.specs.Names.{unique_of, is_message_name}
 use Rattle.md_core.specs.Mailbox.{is_message, is_tmp}
-use Rattle.md_core.proofs.Induction.Good.{key_of, bytes_at, IsUnused, HasNoMessage, IsAlone, StageFits, DeliveryFits, MarkingFits, MovingFits, ExpungingFits, CopyingFits, TaskFits, Makes}
+use Rattle.md_core.proofs.Induction.Good.{key_of, bytes_at, IsUnused, HasNoMessage, IsAlone, StageFits, DeliveryFits, ErrandFits, folder_to, TaskFits, Makes}
 use Rattle.md_core.proofs.Mailbox.Changes.{by_name}
 use Rattle.md_core.specs.declared.jobs.call.Call.{Call}
 use Rattle.md_core.specs.declared.jobs.deliver.Delivery.{Delivery}
 use Rattle.md_core.specs.declared.jobs.deliver.Stage.{Stage}
 use Rattle.md_core.specs.declared.jobs.deliver.Stage.TheVariants.{Start, Writing, Linked, Undo}
-use Rattle.md_core.specs.declared.jobs.expunging.Expunging.{Expunging}
-use Rattle.md_core.specs.declared.jobs.mark.Marking.{Marking}
+use Rattle.md_core.specs.declared.jobs.errand.Errand.{Errand as ErrandOf}
 use Rattle.md_core.specs.declared.jobs.task.Task.{Task}
-use Rattle.md_core.specs.declared.jobs.copying.Copying.{Copying}
-use Rattle.md_core.specs.declared.jobs.moving.Moving.{Moving}
-use Rattle.md_core.specs.declared.jobs.task.Task.TheVariants.{Deliver, Mark, Move, Expunge, Copy, Clean}
+use Rattle.md_core.specs.declared.jobs.task.Task.TheVariants.{Deliver, Errand, Clean}
 
 pub message-key : (p : Path) → is_message p ≡ true → key_of p ≡ unique_of p.name
 message-key p m = by p.place m
@@ -118,82 +115,40 @@ module _ (s s' : State) (d : Delivery) (v : List ℕ) (f : Frame s s' v) (some :
     stage = stage-stays d.stage h.in_tmp h.stage;
   }
 
--- a move, whatever changes
-pub moving-stays : (s s' : State) (m : Moving) (asked : Call) → s'.folders ≡ s.folders → MovingFits s asked m → MovingFits s' asked m
-moving-stays s s' m asked folders h = record {
+-- an errand, where a name that it makes has no message still
+pub errand-refit : (s s' : State) (e : ErrandOf) (asked : Call) → s'.folders ≡ s.folders →
+    ((u : List ℕ) → Makes asked u → HasNoMessage s u → HasNoMessage s' u) → ErrandFits s asked e → ErrandFits s' asked e
+errand-refit s s' e asked folders none h = record {
   tries = h.tries;
   of = h.of;
-  in_folder = subst (λ (n : ℕ). m.folder < n) (sym folders) h.in_folder;
-  to_folder = subst (λ (n : ℕ). m.to < n) (sym folders) h.to_folder;
-  differ = h.differ;
+  in_folder = subst (λ (n : ℕ). e.folder < n) (sym folders) h.in_folder;
+  to_folder = subst (λ (n : ℕ). folder_to e.folder e.purpose < n) (sym folders) h.to_folder;
   valid = h.valid;
+  is_for = h.is_for;
+  none = λ u makes. none u makes (h.none u makes);
   stage = h.stage;
 }
-
--- an expunge, whatever changes
-expunging-stays : (s s' : State) (x : Expunging) (asked : Call) → s'.folders ≡ s.folders → ExpungingFits s asked x → ExpungingFits s' asked x
-expunging-stays s s' x asked folders h = record {
-  tries = h.tries;
-  of = h.of;
-  in_folder = subst (λ (n : ℕ). x.folder < n) (sym folders) h.in_folder;
-  valid = h.valid;
-  stage = h.stage;
-}
-
--- a copy, where its fresh name has no message still
-pub copying-refit : (s s' : State) (c : Copying) (asked : Call) → s'.folders ≡ s.folders → (HasNoMessage s c.fresh → HasNoMessage s' c.fresh) →
-    CopyingFits s asked c → CopyingFits s' asked c
-copying-refit s s' c asked folders none h = record {
-  tries = h.tries;
-  of = h.of;
-  in_folder = subst (λ (n : ℕ). c.folder < n) (sym folders) h.in_folder;
-  to_folder = subst (λ (n : ℕ). c.to < n) (sym folders) h.to_folder;
-  valid = h.valid;
-  fresh = h.fresh;
-  none = none h.none;
-  stage = h.stage;
-}
-
--- the fresh name of a copy is one that its call makes
-pub makes-copy : (s : State) (asked : Call) (c : Copying) → CopyingFits s asked c → Makes asked c.fresh
-makes-copy s asked c fits = subst (λ (x : Call). Makes x c.fresh) (sym fits.of) refl
 
 -- the name of a delivery is one that its call makes
 pub makes-delivery : (s : State) (asked : Call) (d : Delivery) → DeliveryFits s asked d → Makes asked d.tmp.name
 makes-delivery s asked d fits = subst (λ (c : Call). Makes c d.tmp.name) (sym fits.of) refl
-
--- a marking asks nothing of directories but its folder
-marking-frame : (s s' : State) → s'.folders ≡ s.folders → (asked : Call) (m : Marking) → MarkingFits s asked m → MarkingFits s' asked m
-marking-frame s s' folders asked m h = record {
-  tries = h.tries;
-  of = h.of;
-  in_folder = subst (λ (n : ℕ). m.folder < n) (sym folders) h.in_folder;
-  valid = h.valid;
-  stage = h.stage;
-}
 
 -- a task of a call that doesn't make the name
 pub task-frame : (s s' : State) (v : List ℕ) → Frame s s' v → s'.folders ≡ s.folders → (asked : Call) (task : Task) → (Makes asked v → ⊥) →
     TaskFits s asked task → TaskFits s' asked task
 task-frame s s' v f folders asked (Deliver d) apart h =
     delivery-frame s s' d v (λ is. apart (subst (Makes asked) is (makes-delivery s asked d h))) f asked folders h
-task-frame s s' v f folders asked (Move m) apart h = moving-stays s s' m asked folders h
-task-frame s s' v f folders asked (Expunge x) apart h = expunging-stays s s' x asked folders h
-task-frame s s' v f folders asked (Copy c) apart h =
-    copying-refit s s' c asked folders (no_message-frame s s' c.fresh v (λ is. apart (subst (Makes asked) is (makes-copy s asked c h))) f) h
+task-frame s s' v f folders asked (Errand e) apart h =
+    errand-refit s s' e asked folders (λ u makes. no_message-frame s s' u v (λ is. apart (subst (Makes asked) is makes)) f) h
 task-frame s s' v f folders asked (Clean c) apart h = h
-task-frame s s' v f folders asked (Mark m) apart h = marking-frame s s' folders asked m h
 
 -- a task of any call, where a message has the name
 pub task-stays : (s s' : State) (v : List ℕ) → Frame s s' v → s'.folders ≡ s.folders → (HasNoMessage s v → ⊥) → (asked : Call) (task : Task) →
     TaskFits s asked task → TaskFits s' asked task
 task-stays s s' v f folders some asked (Deliver d) h = delivery-stays s s' d v f some asked folders h
-task-stays s s' v f folders some asked (Move m) h = moving-stays s s' m asked folders h
-task-stays s s' v f folders some asked (Expunge x) h = expunging-stays s s' x asked folders h
-task-stays s s' v f folders some asked (Copy c) h =
-    copying-refit s s' c asked folders (λ none. no_message-frame s s' c.fresh v (λ is. some (subst (HasNoMessage s) is none)) f none) h
+task-stays s s' v f folders some asked (Errand e) h =
+    errand-refit s s' e asked folders (λ u makes none. no_message-frame s s' u v (λ is. some (subst (HasNoMessage s) is none)) f none) h
 task-stays s s' v f folders some asked (Clean c) h = h
-task-stays s s' v f folders some asked (Mark m) h = marking-frame s s' folders asked m h
 
 -- names alone go, and files with the last of theirs
 pub record Shrinks (s s' : State) : Type 0 where
@@ -235,8 +190,5 @@ module _ (s s' : State) (h : Shrinks s s') where
     chunked = fits.chunked;
     stage = stage-shrinks d d.stage fits.stage;
   }
-  task-shrinks asked (Mark m) fits = marking-frame s s' h.folders asked m fits
-  task-shrinks asked (Move m) fits = moving-stays s s' m asked h.folders fits
-  task-shrinks asked (Expunge x) fits = expunging-stays s s' x asked h.folders fits
-  task-shrinks asked (Copy c) fits = copying-refit s s' c asked h.folders (no_message-shrinks c.fresh) fits
+  task-shrinks asked (Errand e) fits = errand-refit s s' e asked h.folders (λ u makes. no_message-shrinks u) fits
   task-shrinks asked (Clean c) fits = fits

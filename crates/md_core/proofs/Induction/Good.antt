@@ -3,42 +3,35 @@ use Rattle.std.proofs.Common.{ℕ, suc, ◌⊎◌, ◌≡◌, ◌≢◌, ◌<◌
 use Rattle.std.specs.Option.{option_or}
 use Rattle.md_dirs.specs.State.{State, file_at, file_by, IsSound}
 use Rattle.md_dirs.specs.declared.paths.Path.{Path}
-use Rattle.md_dirs.specs.declared.paths.Place.TheVariants.{Tmp}
-use Rattle.md_name.specs.Letters.{Set}
-use Rattle.md_name.specs.Names.{unique_of, info_text, info_of, flags_of, is_message_name, is_unique_name}
+use Rattle.md_dirs.specs.declared.paths.Place.{Place}
+use Rattle.md_dirs.specs.declared.paths.Place.TheVariants.{Tmp, Cur}
+use Rattle.md_dirs.specs.declared.rows.Row.{Row}
+use Rattle.md_name.specs.Names.{unique_of, info_text, is_message_name, is_unique_name}
 use Rattle.md_core.specs.declared.jobs.answer.Answer.{Answer}
 use Rattle.md_core.specs.declared.jobs.call.Call.{Call}
 use Rattle.md_core.specs.declared.jobs.call.Call.TheVariants as call
 use Rattle.md_core.specs.declared.jobs.cleaning.Cleaning.{Cleaning}
-use Rattle.md_core.specs.declared.jobs.copying.Copying.{Copying}
 use Rattle.md_core.specs.declared.jobs.deliver.Delivery.{Delivery}
 use Rattle.md_core.specs.declared.jobs.deliver.Stage.{Stage}
 use Rattle.md_core.specs.declared.jobs.deliver.Stage.TheVariants.{Start, Writing, Linked, Undo}
 use Rattle.md_core.specs.declared.jobs.effect.Effect.{Effect}
-use Rattle.md_core.specs.declared.jobs.expunging.Expunging.{Expunging}
-use Rattle.md_core.specs.declared.jobs.expunging.Stage as expunging
-use Rattle.md_core.specs.declared.jobs.expunging.Stage.TheVariants as expunging_stage
-use Rattle.md_core.specs.declared.jobs.mark.Mark as marks
-use Rattle.md_core.specs.declared.jobs.mark.Mark.TheVariants as mark
-use Rattle.md_core.specs.declared.jobs.mark.Marking.{Marking}
-use Rattle.md_core.specs.declared.jobs.mark.Stage as marking
-use Rattle.md_core.specs.declared.jobs.mark.Stage.TheVariants as marking_stage
-use Rattle.md_core.specs.declared.jobs.moving.Moving.{Moving}
-use Rattle.md_core.specs.declared.jobs.search.Stage as search
-use Rattle.md_core.specs.declared.jobs.search.Stage.TheVariants.{LookNew, LookCur, Act}
+use Rattle.md_core.specs.declared.jobs.errand.Errand.{Errand as ErrandOf}
+use Rattle.md_core.specs.declared.jobs.errand.Stage as errand
+use Rattle.md_core.specs.declared.jobs.errand.Stage.TheVariants.{Look, Act}
+use Rattle.md_core.specs.declared.jobs.purpose.Decision.TheVariants as decision
+use Rattle.md_core.specs.declared.jobs.purpose.Purpose.{Purpose}
+use Rattle.md_core.specs.declared.jobs.purpose.Purpose.TheVariants as purpose
 use Rattle.md_core.specs.declared.jobs.step.DirReply.{DirReply}
 use Rattle.md_core.specs.declared.jobs.step.Moment.{Moment}
 use Rattle.md_core.specs.declared.jobs.task.Task.{Task}
-use Rattle.md_core.specs.declared.jobs.task.Task.TheVariants.{Deliver, Mark, Move, Expunge, Copy, Clean}
+use Rattle.md_core.specs.declared.jobs.task.Task.TheVariants.{Deliver, Errand, Clean}
 use Rattle.std.specs.FinMap as finmap
 use Rattle.md_core.specs.Mailbox.{Entry, Mailbox, mailbox_of, bytes_of, is_tmp, is_message, HasOnePath}
 use Rattle.md_core.specs.History.{names_of, changed, IsAllowed}
 use Rattle.md_core.specs.Asked.{Asked, ask_of, state_by}
 use Rattle.md_core.specs.Turn.{After, rows_for, reply_of}
 use Rattle.md_core.specs.Machines.Deliver.{delivery_effect}
-use Rattle.md_core.specs.Machines.Expunge.{is_trashed}
-use Rattle.md_core.specs.Machines.Mark.{wanted, is_kept}
-use Rattle.md_core.specs.Machines.Search.{acts_on}
+use Rattle.md_core.specs.Machines.Purposes.{first, searches, info_in, decide}
 use Rattle.md_core.specs.Machine.{Machine, working, turn_of, task_left}
 use Rattle.md_core.specs.Stepping.{AsAlone}
 use Rattle.md_core.specs.Interleaving.{NoneOverwritten, is_success, is_effect_at}
@@ -85,71 +78,57 @@ pub record DeliveryFits (s : State) (asked : Call) (d : Delivery) : Type 0 where
   pub chunked : 0 < d.chunk
   pub stage : StageFits s d d.stage
 
--- what a search for a unique name has found: a name of a message in new or cur, on which its job acts
-abbrev pub SearchFits : Bool → List ℕ → search.Stage → Type 0
-SearchFits any u (LookNew tries) = Unit {0}
-SearchFits any u (LookCur tries) = Unit {0}
-SearchFits any u (Act place row tries) = (is_tmp place ≡ false) × (is_message_name row.name ≡ true) × (unique_of row.name ≡ u) × (acts_on any row.name ≡ true)
+-- the name that a call makes, if it makes one
+abbrev pub Makes : Call → List ℕ → Type 0
+Makes (call.Deliver folder unique body chunk) u = unique ≡ u
+Makes (call.Copy folder unique to fresh tries) u = fresh ≡ u
+Makes other u = ⊥
 
--- what directories have of a move: its two folders
-pub record MovingFits (s : State) (asked : Call) (m : Moving) : Type 0 where
+-- the call of an errand
+abbrev pub call_by : ℕ → List ℕ → Purpose → ℕ → Call
+call_by folder unique (purpose.Seen given) tries = call.Seen folder unique given tries
+call_by folder unique (purpose.Flag add remove) tries = call.Flag folder unique add remove tries
+call_by folder unique (purpose.Move to) tries = call.Move folder unique to tries
+call_by folder unique (purpose.Copy to fresh) tries = call.Copy folder unique to fresh tries
+call_by folder unique purpose.Expunge tries = call.Expunge folder unique tries
+
+-- the folder that the message is in then
+abbrev pub folder_to : ℕ → Purpose → ℕ
+folder_to folder (purpose.Move to) = to
+folder_to folder (purpose.Copy to fresh) = to
+folder_to folder other = folder
+
+-- what the call of a purpose was accepted with: a move goes to another folder, and the fresh name of a copy is one
+abbrev pub IsFor : ℕ → Purpose → Type 0
+IsFor folder (purpose.Move to) = folder ≢ to
+IsFor folder (purpose.Copy to fresh) = is_unique_name fresh ≡ true
+IsFor folder other = Unit {0}
+
+-- a place that an errand looks in
+abbrev pub IsPlaceOf : Purpose → Place → Type 0
+IsPlaceOf p place = (place ≡ first p) ⊎ ((searches p ≡ true) × (place ≡ Cur))
+
+-- what an errand has found: a name of its message in a place of its own, on which it acts
+pub record IsFound (u : List ℕ) (p : Purpose) (place : Place) (row : Row) : Type 0 where
+  pub at : IsPlaceOf p place
+  pub named : is_message_name row.name ≡ true
+  pub unique : unique_of row.name ≡ u
+  pub acts : decide p (info_in row.name) ≡ decision.Act
+
+abbrev pub IsAtStage : List ℕ → Purpose → errand.Stage → Type 0
+IsAtStage u p (Look place tries) = IsPlaceOf p place
+IsAtStage u p (Act place row tries) = IsFound u p place row
+
+-- what directories have of an errand: its folders, and no message of a name that it makes
+pub record ErrandFits (s : State) (asked : Call) (e : ErrandOf) : Type 0 where
   pub tries : ℕ
-  pub of : asked ≡ call.Move m.folder m.unique m.to tries
-  pub in_folder : m.folder < s.folders
-  pub to_folder : m.to < s.folders
-  pub differ : m.folder ≢ m.to
-  pub valid : is_unique_name m.unique ≡ true
-  pub stage : SearchFits true m.unique m.stage
-
--- what directories have of a copy: its two folders, and no message of its fresh name
-pub record CopyingFits (s : State) (asked : Call) (c : Copying) : Type 0 where
-  pub tries : ℕ
-  pub of : asked ≡ call.Copy c.folder c.unique c.to c.fresh tries
-  pub in_folder : c.folder < s.folders
-  pub to_folder : c.to < s.folders
-  pub valid : is_unique_name c.unique ≡ true
-  pub fresh : is_unique_name c.fresh ≡ true
-  pub none : HasNoMessage s c.fresh
-  pub stage : SearchFits false c.unique c.stage
-
--- the call of a mark
-abbrev pub call_by : ℕ → List ℕ → marks.Mark → ℕ → Call
-call_by folder unique (mark.Seen given) tries = call.Seen folder unique given tries
-call_by folder unique (mark.Flag add remove) tries = call.Flag folder unique add remove tries
-
--- the name that a marking renames is one of its message, with flags that are not yet as they should be
-pub record IsMarked (u : List ℕ) (m : marks.Mark) (name : List ℕ) (flags : Set) : Type 0 where
-  pub had : Set
-  pub named : is_message_name name ≡ true
-  pub unique : unique_of name ≡ u
-  pub shows : flags_of (info_of name) ≡ Some had
-  pub wants : flags ≡ wanted m had
-  pub changes : is_kept m had ≡ false
-
-abbrev pub IsAtName : List ℕ → marks.Mark → marking.Stage → Type 0
-IsAtName u m (marking_stage.Look tries) = Unit {0}
-IsAtName u m (marking_stage.Act name flags tries) = IsMarked u m name flags
-
--- a marking asks nothing of the directories but its folder
-pub record MarkingFits (s : State) (asked : Call) (m : Marking) : Type 0 where
-  pub tries : ℕ
-  pub of : asked ≡ call_by m.folder m.unique m.mark tries
-  pub in_folder : m.folder < s.folders
-  pub valid : is_unique_name m.unique ≡ true
-  pub stage : IsAtName m.unique m.mark m.stage
-
--- the name that an expunge takes away is one of its message, and trashed
-abbrev pub IsAtTrashed : List ℕ → expunging.Stage → Type 0
-IsAtTrashed u (expunging_stage.Look tries) = Unit {0}
-IsAtTrashed u (expunging_stage.Act name tries) = (is_message_name name ≡ true) × (unique_of name ≡ u) × (is_trashed name ≡ true)
-
--- an expunge asks nothing of the directories but its folder
-pub record ExpungingFits (s : State) (asked : Call) (x : Expunging) : Type 0 where
-  pub tries : ℕ
-  pub of : asked ≡ call.Expunge x.folder x.unique tries
-  pub in_folder : x.folder < s.folders
-  pub valid : is_unique_name x.unique ≡ true
-  pub stage : IsAtTrashed x.unique x.stage
+  pub of : asked ≡ call_by e.folder e.unique e.purpose tries
+  pub in_folder : e.folder < s.folders
+  pub to_folder : folder_to e.folder e.purpose < s.folders
+  pub valid : is_unique_name e.unique ≡ true
+  pub is_for : IsFor e.folder e.purpose
+  pub none : (u : List ℕ) → Makes asked u → HasNoMessage s u
+  pub stage : IsAtStage e.unique e.purpose e.stage
 
 -- a clean asks nothing of the directories
 abbrev pub CleaningFits : Call → Cleaning → Type 0
@@ -158,25 +137,18 @@ CleaningFits asked c = asked ≡ call.Clean c.folder
 -- what directories have of a task of a call
 abbrev pub TaskFits : State → Call → Task → Type 0
 TaskFits s asked (Deliver d) = DeliveryFits s asked d
-TaskFits s asked (Mark m) = MarkingFits s asked m
-TaskFits s asked (Move m) = MovingFits s asked m
-TaskFits s asked (Expunge x) = ExpungingFits s asked x
-TaskFits s asked (Copy c) = CopyingFits s asked c
+TaskFits s asked (Errand e) = ErrandFits s asked e
 TaskFits s asked (Clean c) = CleaningFits asked c
 
--- the size of the message of a unique name that a search has found
-abbrev pub FoundAt : List ℕ → search.Stage → List ℕ → ℕ → Type 0
-FoundAt unique (LookNew tries) u size = ⊥
-FoundAt unique (LookCur tries) u size = ⊥
+-- the size of the message of a unique name that an errand has found
+abbrev pub FoundAt : List ℕ → errand.Stage → List ℕ → ℕ → Type 0
+FoundAt unique (Look place tries) u size = ⊥
 FoundAt unique (Act place row tries) u size = (unique ≡ u) × (row.size ≡ size)
 
--- the size of a message that a task has found, and that it will show
+-- the size of a message that a task has found
 abbrev pub Found : Task → List ℕ → ℕ → Type 0
 Found (Deliver d) u size = ⊥
-Found (Mark m) u size = ⊥
-Found (Move m) u size = ⊥
-Found (Expunge x) u size = ⊥
-Found (Copy c) u size = FoundAt c.unique c.stage u size
+Found (Errand e) u size = FoundAt e.unique e.stage u size
 Found (Clean c) u size = ⊥
 
 -- the message of the unique name has this size, where it is there
@@ -187,12 +159,6 @@ HasSize m u size = (e : Entry) → finmap.get m u ≡ Some e → length e.bytes 
 abbrev pub IsOfSize : Mailbox → List ℕ → ℕ → Type 0
 IsOfSize m u size = (e : Entry) × (finmap.get m u ≡ Some e) × (length e.bytes ≡ size)
 
--- the name that a call makes, if it makes one
-abbrev pub Makes : Call → List ℕ → Type 0
-Makes (call.Deliver folder unique body chunk) u = unique ≡ u
-Makes (call.Copy folder unique to fresh tries) u = fresh ≡ u
-Makes other u = ⊥
-
 -- the two calls make no one name
 abbrev pub IsApart : Call → Call → Type 0
 IsApart a b = (u : List ℕ) → Makes a u → Makes b u → ⊥
@@ -200,10 +166,7 @@ IsApart a b = (u : List ℕ) → Makes a u → Makes b u → ⊥
 -- the effect that a task has had
 abbrev pub own_effect : ℕ → Task → Option Effect
 own_effect number (Deliver d) = if is_linked d.stage then Some (delivery_effect number d) else None
-own_effect number (Mark m) = None
-own_effect number (Move m) = None
-own_effect number (Expunge x) = None
-own_effect number (Copy c) = None
+own_effect number (Errand e) = None
 own_effect number (Clean c) = None
 
 -- What is known of a message that was found: where it is there it has this size, and no job without an effect makes its name.

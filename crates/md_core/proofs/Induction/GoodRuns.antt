@@ -5,15 +5,12 @@ use Rattle.std.proofs.lemmas.List.{length-map}
 use Rattle.md_core.specs.declared.jobs.call.Call.{Call}
 use Rattle.md_core.specs.declared.jobs.call.Call.TheVariants.{Deliver, Seen, Flag, Move, Expunge, Copy, Clean}
 use Rattle.md_name.specs.Names.{is_unique_name}
-use Rattle.md_core.specs.declared.jobs.mark.Mark.{Mark}
-use Rattle.md_core.specs.declared.jobs.mark.Mark.TheVariants as mark
+use Rattle.md_core.specs.declared.jobs.purpose.Purpose.{Purpose}
+use Rattle.md_core.specs.declared.jobs.purpose.Purpose.TheVariants as purpose
 use Rattle.md_core.specs.declared.jobs.task.Task.{Task}
 use Rattle.md_core.specs.declared.jobs.task.Task.TheVariants as task
 use Rattle.md_core.specs.Machines.Deliver.{new_delivery}
-use Rattle.md_core.specs.Machines.Mark.{new_marking}
-use Rattle.md_core.specs.Machines.Move.{new_moving}
-use Rattle.md_core.specs.Machines.Expunge.{new_expunging}
-use Rattle.md_core.specs.Machines.Copy.{new_copying}
+use Rattle.md_core.specs.Machines.Errand.{new_errand}
 use Rattle.md_core.specs.Machines.Clean.{new_cleaning}
 use Rattle.md_core.specs.Machine.{Machine, Standing, working, Marked, job_at, new_job, happens, done, done_by}
 use Rattle.md_core.specs.Trace.{Step}
@@ -21,7 +18,7 @@ use Rattle.md_core.specs.Runs.{Run, beginning, moment, machine_of, done_at}
 use Rattle.std.specs.Option.{option_and_then}
 use Rattle.md_core.specs.Submitting.{submit_refusal}
 use Rattle.md_core.specs.Stepping.{IsRun}
-use Rattle.md_core.proofs.Induction.Good.{IsGood, Makes, EachTurn, DeliveryFits, MarkingFits, MovingFits, ExpungingFits, CopyingFits, CleaningFits, TaskFits, Found, call_by}
+use Rattle.md_core.proofs.Induction.Good.{IsGood, Makes, EachTurn, DeliveryFits, ErrandFits, CleaningFits, HasNoMessage, IsFor, folder_to, TaskFits, Found, call_by}
 use Rattle.md_core.proofs.Lists.Places.{get-take}
 use Rattle.md_core.proofs.Runs.Events.{goes_on-exact, done-turned}
 use Rattle.md_core.proofs.Runs.ByEvent.{at_moment, at_last, moment-end, moment-more}
@@ -39,11 +36,24 @@ new_at (call ∷ calls) zero job at = (call, refl, cc)
 new_at (call ∷ calls) (suc i) job at = new_at calls i job at
 
 module _ (r : Run) (run : IsRun r) where
-  -- a new task fits the directories at the beginning
-  fits-mark : (folder : ℕ) (u : List ℕ) (m : Mark) (tries : ℕ) → folder < r.image.folders → is_unique_name u ≡ true →
-      MarkingFits r.image (call_by folder u m tries) (new_marking folder u m tries)
-  fits-mark folder u m tries within valid = record { tries = tries; of = refl; in_folder = within; valid = valid; stage = tt }
+  -- a new errand fits the directories at the beginning
+  fits-errand : (folder : ℕ) (u : List ℕ) (p : Purpose) (tries : ℕ) (job : Task) → working (task.Errand (new_errand folder u p tries)) ≡ working job →
+      folder < r.image.folders → folder_to folder p < r.image.folders → is_unique_name u ≡ true → IsFor folder p →
+      ((v : List ℕ) → Makes (call_by folder u p tries) v → HasNoMessage r.image v) → TaskFits r.image (call_by folder u p tries) job
+  fits-errand folder u p tries job is within to valid for none =
+      let fits : ErrandFits r.image (call_by folder u p tries) (new_errand folder u p tries) = record {
+        tries = tries;
+        of = refl;
+        in_folder = within;
+        to_folder = to;
+        valid = valid;
+        is_for = for;
+        none = none;
+        stage = inl refl;
+      } in
+      subst (TaskFits r.image (call_by folder u p tries)) (let e : task.Errand (new_errand folder u p tries) ≡ job = cc in e) fits
 
+  -- a new task fits them
   fits-new : (i : ℕ) (asked : Call) (job : Task) → slice_get r.calls i ≡ Some asked → new_job asked ≡ working job → TaskFits r.image asked job
   fits-new i asked job at new = by asked (run.accepted i asked at) new
     where
@@ -61,47 +71,20 @@ module _ (r : Run) (run : IsRun r) where
           subst (TaskFits r.image (Deliver folder u body chunk)) (let e : task.Deliver (new_delivery folder u body chunk) ≡ job = cc in e) fits
       by (Seen folder u given tries) none is =
           let a = accepted-look_up (record r { calls = take i r.calls }) folder u tries none in
-          subst (TaskFits r.image (Seen folder u given tries)) (let e : task.Mark (new_marking folder u (mark.Seen given) tries) ≡ job = cc in e)
-          (fits-mark folder u (mark.Seen given) tries a.in_folder a.valid)
+          fits-errand folder u (purpose.Seen given) tries job is a.in_folder a.in_folder a.valid tt (λ v its. absurd its)
       by (Flag folder u add remove tries) none is =
           let a = accepted-look_up (record r { calls = take i r.calls }) folder u tries none in
-          subst (TaskFits r.image (Flag folder u add remove tries)) (let e : task.Mark (new_marking folder u (mark.Flag add remove) tries) ≡ job = cc in e)
-          (fits-mark folder u (mark.Flag add remove) tries a.in_folder a.valid)
+          fits-errand folder u (purpose.Flag add remove) tries job is a.in_folder a.in_folder a.valid tt (λ v its. absurd its)
       by (Move folder u to tries) none is =
           let a = accepted-move (record r { calls = take i r.calls }) folder u to tries none in
-          let fits : MovingFits r.image (Move folder u to tries) (new_moving folder u to tries) = record {
-            tries = tries;
-            of = refl;
-            in_folder = a.in_folder;
-            to_folder = a.to_folder;
-            differ = a.differ;
-            valid = a.valid;
-            stage = tt;
-          } in
-          subst (TaskFits r.image (Move folder u to tries)) (let e : task.Move (new_moving folder u to tries) ≡ job = cc in e) fits
+          fits-errand folder u (purpose.Move to) tries job is a.in_folder a.to_folder a.valid a.differ (λ v its. absurd its)
       by (Expunge folder u tries) none is =
           let a = accepted-look_up (record r { calls = take i r.calls }) folder u tries none in
-          let fits : ExpungingFits r.image (Expunge folder u tries) (new_expunging folder u tries) = record {
-            tries = tries;
-            of = refl;
-            in_folder = a.in_folder;
-            valid = a.valid;
-            stage = tt;
-          } in
-          subst (TaskFits r.image (Expunge folder u tries)) (let e : task.Expunge (new_expunging folder u tries) ≡ job = cc in e) fits
+          fits-errand folder u purpose.Expunge tries job is a.in_folder a.in_folder a.valid tt (λ v its. absurd its)
       by (Copy folder u to fresh tries) none is =
           let a = accepted-copy (record r { calls = take i r.calls }) folder u to fresh tries none in
-          let fits : CopyingFits r.image (Copy folder u to fresh tries) (new_copying folder u to fresh tries) = record {
-            tries = tries;
-            of = refl;
-            in_folder = a.in_folder;
-            to_folder = a.to_folder;
-            valid = a.valid;
-            fresh = a.fresh_valid;
-            none = unused-no_message r.image fresh (unused-path r.image fresh a.fresh_valid a.unused);
-            stage = tt;
-          } in
-          subst (TaskFits r.image (Copy folder u to fresh tries)) (let e : task.Copy (new_copying folder u to fresh tries) ≡ job = cc in e) fits
+          fits-errand folder u (purpose.Copy to fresh) tries job is a.in_folder a.to_folder a.valid a.fresh_valid
+          (λ v its. subst (HasNoMessage r.image) its (unused-no_message r.image fresh (unused-path r.image fresh a.fresh_valid a.unused)))
       by (Clean folder) none is =
           let fits : CleaningFits (Clean folder) (new_cleaning folder) = refl in
           subst (TaskFits r.image (Clean folder)) (let e : task.Clean (new_cleaning folder) ≡ job = cc in e) fits
@@ -126,12 +109,12 @@ module _ (r : Run) (run : IsRun r) where
   -- a new task has found nothing
   none-found : (asked : Call) (job : Task) (u : List ℕ) (size : ℕ) → new_job asked ≡ working job → Found job u size → ⊥
   none-found (Deliver a b c d) job u size is its = subst (λ (t : Task). Found t u size) (let e : job ≡ task.Deliver (new_delivery a b c d) = cc in e) its
-  none-found (Seen a b c d) job u size is its = subst (λ (t : Task). Found t u size) (let e : job ≡ task.Mark (new_marking a b (mark.Seen c) d) = cc in e) its
+  none-found (Seen a b c d) job u size is its = subst (λ (t : Task). Found t u size) (let e : job ≡ task.Errand (new_errand a b (purpose.Seen c) d) = cc in e) its
   none-found (Flag a b c d e) job u size is its =
-      subst (λ (t : Task). Found t u size) (let h : job ≡ task.Mark (new_marking a b (mark.Flag c d) e) = cc in h) its
-  none-found (Move a b c d) job u size is its = subst (λ (t : Task). Found t u size) (let e : job ≡ task.Move (new_moving a b c d) = cc in e) its
-  none-found (Expunge a b c) job u size is its = subst (λ (t : Task). Found t u size) (let e : job ≡ task.Expunge (new_expunging a b c) = cc in e) its
-  none-found (Copy a b c d e) job u size is its = subst (λ (t : Task). Found t u size) (let h : job ≡ task.Copy (new_copying a b c d e) = cc in h) its
+      subst (λ (t : Task). Found t u size) (let h : job ≡ task.Errand (new_errand a b (purpose.Flag c d) e) = cc in h) its
+  none-found (Move a b c d) job u size is its = subst (λ (t : Task). Found t u size) (let e : job ≡ task.Errand (new_errand a b (purpose.Move c) d) = cc in e) its
+  none-found (Expunge a b c) job u size is its = subst (λ (t : Task). Found t u size) (let e : job ≡ task.Errand (new_errand a b purpose.Expunge c) = cc in e) its
+  none-found (Copy a b c d e) job u size is its = subst (λ (t : Task). Found t u size) (let h : job ≡ task.Errand (new_errand a b (purpose.Copy c d) e) = cc in h) its
   none-found (Clean a) job u size is its = subst (λ (t : Task). Found t u size) (let e : job ≡ task.Clean (new_cleaning a) = cc in e) its
 
   pub all-apart : AllApart r.calls

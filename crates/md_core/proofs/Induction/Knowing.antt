@@ -9,17 +9,15 @@ use Rattle.md_core.specs.declared.jobs.call.Call.TheVariants as call
 use Rattle.md_core.specs.declared.jobs.deliver.Stage.{Stage}
 use Rattle.md_core.specs.declared.jobs.deliver.Stage.TheVariants.{Start, Writing, Linked, Undo}
 use Rattle.md_core.specs.declared.jobs.effect.Effect.{Effect}
-use Rattle.md_core.specs.declared.jobs.mark.Mark as marks
-use Rattle.md_core.specs.declared.jobs.mark.Mark.TheVariants as mark
 use Rattle.md_core.specs.declared.jobs.task.Task.{Task}
-use Rattle.md_core.specs.declared.jobs.task.Task.TheVariants.{Deliver, Mark, Move, Expunge, Copy, Clean}
+use Rattle.md_core.specs.declared.jobs.task.Task.TheVariants.{Deliver, Errand, Clean}
 use Rattle.md_core.specs.Mailbox.{Entry, Mailbox, mailbox_of}
 use Rattle.md_core.specs.Machines.Deliver.{delivery_effect}
 use Rattle.md_core.specs.Machine.{Machine, working}
 use Rattle.md_core.specs.Trace.{Step}
 use Rattle.md_core.specs.Stepping.{AsAlone}
 use Rattle.md_core.proofs.Theorem.RunLaw.{is_linked}
-use Rattle.md_core.proofs.Induction.Good.{HasNoMessage, StageFits, TaskFits, IsGood, Makes, Found, HasSize, IsOfSize, Known, Settles, own_effect, call_by}
+use Rattle.md_core.proofs.Induction.Good.{HasNoMessage, StageFits, TaskFits, IsGood, Makes, Found, HasSize, IsOfSize, Known, Settles, own_effect}
 use Rattle.md_core.proofs.Directories.Frames.{unused-no_message}
 use Rattle.md_core.proofs.Induction.Going.{Goes, goes-cases, still-working}
 use Rattle.md_core.proofs.Mailbox.Shown.{mailbox-shows}
@@ -35,11 +33,6 @@ gives-makes (call.Expunge folder v tries) m u bytes gives = gives
 gives-makes (call.Copy folder v to fresh tries) m u bytes gives = gives.0
 gives-makes (call.Clean folder) m u bytes gives = gives
 
--- a mark makes no name
-mark-makes : (folder : ℕ) (v : List ℕ) (k : marks.Mark) (tries : ℕ) (u : List ℕ) → Makes (call_by folder v k tries) u → ⊥
-mark-makes folder v (mark.Seen given) tries u makes = makes
-mark-makes folder v (mark.Flag add remove) tries u makes = makes
-
 -- a job that has had no effect makes only names that no message has
 pub makes-none : (s : State) (number : ℕ) (asked : Call) (task : Task) (u : List ℕ) → TaskFits s asked task → own_effect number task ≡ None →
     Makes asked u → HasNoMessage s u
@@ -52,12 +45,8 @@ makes-none s number asked (Deliver d) u fits without makes =
     by (Writing start k) h is = h.1
     by Linked h is = cc
     by (Undo a) h is = h.0
-makes-none s number asked (Mark m) u fits without makes =
-    absurd (mark-makes m.folder m.unique m.mark fits.tries u (subst (λ (c : Call). Makes c u) fits.of makes))
-makes-none s number asked (Move m) u fits without makes = absurd (subst (λ (c : Call). Makes c u) fits.of makes)
-makes-none s number asked (Expunge x) u fits without makes = absurd (subst (λ (c : Call). Makes c u) fits.of makes)
+makes-none s number asked (Errand e) u fits without makes = fits.none u makes
 makes-none s number asked (Clean c) u fits without makes = absurd (subst (λ (x : Call). Makes x u) fits makes)
-makes-none s number asked (Copy c) u fits without makes = subst (HasNoMessage s) (subst (λ (x : Call). Makes x u) fits.of makes) fits.none
 
 -- a message that is there is known
 pub known-there : (calls : List Call) (m : Machine) (u : List ℕ) (size : ℕ) → IsGood calls m → IsOfSize (mailbox_of m.dirs) u size → Known calls m u size

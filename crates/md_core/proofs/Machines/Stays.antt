@@ -9,6 +9,7 @@ use Rattle.md_core.specs.declared.jobs.task.Task.{Task}
 use Rattle.md_core.specs.Mailbox.{mailbox_of, HasOnePath}
 use Rattle.md_core.specs.Machine.{task_left}
 use Rattle.md_core.specs.Asked.{Asked}
+use Rattle.md_core.specs.Turn.{After}
 use Rattle.md_core.specs.Interleaving.{is_effect_at, is_success}
 use Rattle.md_core.proofs.Induction.Good.{TaskFits, Found, IsFixed, IsOfSize, Settles, own_effect, Does}
 use Rattle.md_core.proofs.Directories.Spares.{Spares, spares-all}
@@ -20,6 +21,10 @@ settles-none had a none failure = by (is_success a) failure
     by : (b : Bool) → b ≡ false → MatchBool b ((e : Effect) × (had ≡ Some e) × (e.answer ≡ a)) (had ≡ None)
     by true is = cc
     by false is = none
+
+-- how a job of one kind stands, as one of a task
+abbrev pub as_after : {T : Type 0} → (T → Task) → After T → After Task
+as_after wrap a = record { task = wrap a.task; answer = a.answer; effect = a.effect }
 
 module _ (s : State) (number : ℕ) (asked : Call) (task task' : Task) (made : Asked) (r : DirReply) (o : Option Answer) where
   pub stays-does : IsSound s → HasOnePath s → (o ≡ None → TaskFits s asked task') → is_effect_at asked made r o ≡ false →

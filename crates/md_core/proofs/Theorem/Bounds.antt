@@ -13,14 +13,8 @@ use Rattle.md_core.specs.declared.jobs.deliver.Stage.TheVariants.{Start, Writing
 use Rattle.md_core.specs.declared.jobs.task.Task.{Task}
 use Rattle.md_core.specs.declared.jobs.cleaning.Stage as cleaning
 use Rattle.md_core.specs.declared.jobs.cleaning.Stage.TheVariants as cleaning_stage
-use Rattle.md_core.specs.declared.jobs.expunging.Stage as expunging
-use Rattle.md_core.specs.declared.jobs.expunging.Stage.TheVariants as expunging_stage
-use Rattle.md_core.specs.declared.jobs.mark.Stage as marking
-use Rattle.md_core.specs.declared.jobs.mark.Stage.TheVariants.{Look, Act}
-use Rattle.md_core.specs.declared.jobs.task.Task.TheVariants.{Deliver, Mark, Move, Expunge, Copy, Clean}
+use Rattle.md_core.specs.declared.jobs.task.Task.TheVariants.{Deliver, Errand, Clean}
 use Rattle.md_core.specs.Machines.Deliver.{stage_left}
-use Rattle.md_core.specs.Machines.Mark as marked_by
-use Rattle.md_core.specs.Machines.Expunge as expunged_by
 use Rattle.md_core.specs.Machines.Clean as cleaned_by
 use Rattle.md_core.specs.Machine.{Machine, Standing, working, answered, Marked, job_at, job_left, task_left, standing_of, new_job, happens, done_by}
 use Rattle.md_core.specs.Trace.{Step, call_at}
@@ -34,7 +28,8 @@ use Rattle.md_core.proofs.Lists.Places.{none-of_kind, some-of_kind, first-of_kin
 use Rattle.md_core.proofs.Runs.ByEvent.{at_last, machine-and_event, run_from-none, run_from-more_event}
 use Rattle.md_core.proofs.Induction.Going.{Goes, goes, goes-cases, goes-here, goes-others}
 use Rattle.md_core.proofs.Induction.GoodRuns.{new_at, all-apart, good-beginning, good-machine}
-use Rattle.md_core.proofs.Looking.Search.{some-left}
+use Rattle.md_core.specs.Machines.Purposes.{searches}
+use Rattle.md_core.proofs.Machines.Errand.Table.{left-some as errand_left-some}
 
 -- a turn leaves less to its job
 pub nearer : (calls : List Call) (m m' : Machine) (what : Step) (g : Goes calls m m' what) →
@@ -67,18 +62,7 @@ left-some s (Deliver d) = by d.stage
     by (Writing start k) = omega arith
     by Linked = omega arith
     by (Undo a) = omega arith
-left-some s (Move m) = some-left m.stage
-left-some s (Copy c) = some-left c.stage
-left-some s (Expunge x) = by x.stage
-  where
-    by : (stage : expunging.Stage) → 0 < expunged_by.stage_left stage
-    by (expunging_stage.Look tries) = omega arith
-    by (expunging_stage.Act name tries) = omega arith
-left-some s (Mark m) = by m.stage
-  where
-    by : (stage : marking.Stage) → 0 < marked_by.stage_left stage
-    by (Look tries) = omega arith
-    by (Act name flags tries) = omega arith
+left-some s (Errand e) = errand_left-some (searches e.purpose) e.stage
 left-some s (Clean c) = by c.stage
   where
     by : (stage : cleaning.Stage) → 0 < cleaned_by.stage_left s c.folder stage

@@ -10,7 +10,7 @@ use Rattle.md_core.specs.declared.jobs.call.Call.{Call}
 use Rattle.md_core.specs.declared.jobs.call.Call.TheVariants as call
 use Rattle.md_core.specs.declared.jobs.effect.Effect.{Effect}
 use Rattle.md_core.specs.declared.jobs.task.Task.{Task}
-use Rattle.md_core.specs.declared.jobs.task.Task.TheVariants.{Deliver, Mark, Move, Expunge, Copy, Clean}
+use Rattle.md_core.specs.declared.jobs.task.Task.TheVariants.{Deliver, Errand, Clean}
 use Rattle.md_core.specs.Mailbox.{Entry, mailbox_of, is_tmp, is_message}
 use Rattle.md_core.specs.History.{Names, names_of, listed, after, IsNowhere}
 use Rattle.md_core.specs.Machine.{Machine, Standing, working, answered, Marked, job_at, job_left, new_job}
@@ -79,10 +79,7 @@ by_link number (Deliver d) es own some = by (is_linked d.stage) own
     by : (b : Bool) → es ≡ option_to_list (cond {A = Option Effect} b (Some (delivery_effect number d)) None) → b ≡ true
     by true h = refl
     by false h = absurd (some h)
-by_link number (Mark m) es own some = absurd (some own)
-by_link number (Move m) es own some = absurd (some own)
-by_link number (Expunge x) es own some = absurd (some own)
-by_link number (Copy c) es own some = absurd (some own)
+by_link number (Errand e) es own some = absurd (some own)
 by_link number (Clean c) es own some = absurd (some own)
 
 -- what a job of an accepted call may take at its beginning is the most that its call takes

@@ -68,10 +68,7 @@ is_linked stage = false
 -- a delivery past its link
 abbrev pub is_past_link : Task → Bool
 is_past_link (task.Deliver d) = is_linked d.stage
-is_past_link (task.Mark m) = false
-is_past_link (task.Move m) = false
-is_past_link (task.Expunge x) = false
-is_past_link (task.Copy c) = false
+is_past_link (task.Errand e) = false
 is_past_link (task.Clean c) = false
 
 -- how many steps a job has taken

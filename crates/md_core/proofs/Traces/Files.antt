@@ -1,5 +1,7 @@
 -- The clauses on files: in new and cur, those that are no messages stay as they are; in tmp, a delivery changes its own, and a clean takes
 -- away what it saw to be old.
+use Rattle.md_core.specs.Machines.Errand.{errand_turn}
+use Rattle.md_core.proofs.Machines.Errand.Asks.{errand-of-mail, no-append}
 use Rattle.std.proofs.Common.{ℕ, zero, suc, ◌≡◌, ◌≤◌, ◌+◌, List, Option, Some, None, Bool, true, false, cond, refl, sym, ap, subst, ◌∙◌, length, take, arith, nat_lt}
 use Rattle.std.specs.Option.{option_and_then}
 use Rattle.std.proofs.lemmas.List.{take_all}
@@ -16,27 +18,17 @@ use Rattle.md_core.specs.declared.jobs.deliver.Stage.{Stage}
 use Rattle.md_core.specs.declared.jobs.deliver.Stage.TheVariants.{Start, Writing, Linked, Undo}
 use Rattle.md_core.specs.declared.jobs.cleaning.Stage as cleaning
 use Rattle.md_core.specs.declared.jobs.cleaning.Stage.TheVariants as cleaning_stage
-use Rattle.md_core.specs.declared.jobs.expunging.Stage as expunging
-use Rattle.md_core.specs.declared.jobs.expunging.Stage.TheVariants as expunging_stage
-use Rattle.md_core.specs.declared.jobs.mark.Stage as marking
-use Rattle.md_core.specs.declared.jobs.mark.Stage.TheVariants as marking_stage
-use Rattle.md_core.specs.declared.jobs.search.Stage as search
-use Rattle.md_core.specs.declared.jobs.search.Stage.TheVariants.{LookNew, LookCur, Act}
 use Rattle.md_core.specs.declared.jobs.step.DirReply.{DirReply}
 use Rattle.md_core.specs.declared.jobs.step.DirReply.TheVariants as reply
 use Rattle.md_core.specs.declared.jobs.step.Moment.{Moment}
 use Rattle.md_core.specs.declared.jobs.task.Task.{Task}
-use Rattle.md_core.specs.declared.jobs.task.Task.TheVariants.{Deliver, Mark, Move, Expunge, Copy, Clean}
+use Rattle.md_core.specs.declared.jobs.task.Task.TheVariants.{Deliver, Errand, Clean}
 use Rattle.md_core.specs.Mailbox.{is_tmp, is_message}
 use Rattle.md_core.specs.Asked.{Asked, create, append, link, rename, unlink, list, ask_of, state_by}
 use Rattle.md_core.specs.Trace.{Step, call_at, Trace, step_at, state, state_after, file_in}
 use Rattle.md_core.specs.Machine.{turn_of}
 use Rattle.md_core.specs.Machines.Deliver as delivered_by
 use Rattle.md_core.specs.Machines.Deliver.{append_turn, link_turn, unlink_turn, is_in_time}
-use Rattle.md_core.specs.Machines.Mark as marked_by
-use Rattle.md_core.specs.Machines.Move as moved_by
-use Rattle.md_core.specs.Machines.Expunge as expunged_by
-use Rattle.md_core.specs.Machines.Copy as copied_by
 use Rattle.md_core.specs.Machines.Clean as cleaned_by
 use Rattle.md_core.specs.Runs.{Run, moment}
 use Rattle.md_core.specs.Stepping.{IsRun}
@@ -154,28 +146,8 @@ appends s asked number at (Deliver d) fits p bytes is =
       in_tmp = ap (λ (x : Path). x.place) (sym h.0) ∙ fits.in_tmp;
       only = λ n q a b. h.1 n q (ap (file_at s) h.0 ∙ a) b ∙ h.0;
     }
-appends s asked number at (Mark m) fits p bytes is = by m.stage is
-  where
-    by : (stage : marking.Stage) → (marked_by.stage_turn number m stage).asked ≡ append p bytes → Writes s asked p
-    by (marking_stage.Look tries) h = cc
-    by (marking_stage.Act name flags tries) h = cc
-appends s asked number at (Move m) fits p bytes is = by m.stage is
-  where
-    by : (stage : search.Stage) → (moved_by.stage_turn number m stage).asked ≡ append p bytes → Writes s asked p
-    by (LookNew tries) h = cc
-    by (LookCur tries) h = cc
-    by (Act place row tries) h = cc
-appends s asked number at (Expunge x) fits p bytes is = by x.stage is
-  where
-    by : (stage : expunging.Stage) → (expunged_by.stage_turn number x stage).asked ≡ append p bytes → Writes s asked p
-    by (expunging_stage.Look tries) h = cc
-    by (expunging_stage.Act name tries) h = cc
-appends s asked number at (Copy c) fits p bytes is = by c.stage is
-  where
-    by : (stage : search.Stage) → (copied_by.stage_turn number c stage).asked ≡ append p bytes → Writes s asked p
-    by (LookNew tries) h = cc
-    by (LookCur tries) h = cc
-    by (Act place row tries) h = cc
+appends s asked number at (Errand e) fits p bytes is =
+    absurd (no-append (errand_turn number e).asked p bytes (errand-of-mail number e fits.stage) is)
 appends s asked number at (Clean c) fits p bytes is = by c.stage is
   where
     by : (stage : cleaning.Stage) → (cleaned_by.stage_turn c at.own stage).asked ≡ append p bytes → Writes s asked p

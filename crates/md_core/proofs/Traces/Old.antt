@@ -1,4 +1,6 @@
 -- What a clean still has to take away it saw to be old; and what a step does to a path of tmp.
+use Rattle.md_core.specs.Machines.Errand.{errand_turn}
+use Rattle.md_core.proofs.Machines.Errand.Asks.{errand-of-mail, no-unlink}
 use Rattle.std.proofs.Common.{ℕ, zero, suc, ◌≡◌, ◌<◌, ◌≤◌, ◌+◌, ◌-◌, ◌⊎◌, inl, inr, List, [], ◌∷◌, Some, None, true, refl, sym, ap, subst, ◌∙◌, length, slice_get, arith}
 use Rattle.std.proofs.lemmas.Bool.Decides.{nat_tests}
 use Rattle.md_dirs.specs.State.{State}
@@ -14,26 +16,16 @@ use Rattle.md_core.specs.declared.jobs.call.Call.TheVariants as call
 use Rattle.md_core.specs.declared.jobs.cleaning.Cleaning.{Cleaning}
 use Rattle.md_core.specs.declared.jobs.cleaning.Stage.{Stage}
 use Rattle.md_core.specs.declared.jobs.cleaning.Stage.TheVariants.{Look, Remove}
-use Rattle.md_core.specs.declared.jobs.expunging.Stage as expunging
-use Rattle.md_core.specs.declared.jobs.expunging.Stage.TheVariants as expunging_stage
-use Rattle.md_core.specs.declared.jobs.mark.Stage as marking
-use Rattle.md_core.specs.declared.jobs.mark.Stage.TheVariants as marking_stage
-use Rattle.md_core.specs.declared.jobs.search.Stage as search
-use Rattle.md_core.specs.declared.jobs.search.Stage.TheVariants.{LookNew, LookCur, Act}
 use Rattle.md_core.specs.declared.jobs.step.DirReply.{DirReply}
 use Rattle.md_core.specs.declared.jobs.step.DirReply.TheVariants as reply
 use Rattle.md_core.specs.declared.jobs.task.Task.{Task}
-use Rattle.md_core.specs.declared.jobs.task.Task.TheVariants.{Deliver, Mark, Move, Expunge, Copy, Clean}
+use Rattle.md_core.specs.declared.jobs.task.Task.TheVariants.{Deliver, Errand, Clean}
 use Rattle.md_core.specs.Mailbox.{is_tmp}
 use Rattle.md_core.specs.Turn.{Turn, rows_for}
 use Rattle.md_core.specs.Asked.{Asked, create, append, link, rename, unlink, list, ask_of, state_by}
 use Rattle.md_core.specs.Trace.{Step, call_at, Trace, IsStepOf, step_at, state, file_in}
 use Rattle.md_core.specs.Machine.{working, new_job, job_at}
 use Rattle.md_core.specs.Machines.Clean.{new_cleaning, is_old, old_rows, after_next, at_stage, tmp, stage_turn}
-use Rattle.md_core.specs.Machines.Expunge as expunged_by
-use Rattle.md_core.specs.Machines.Mark as marked_by
-use Rattle.md_core.specs.Machines.Move as moved_by
-use Rattle.md_core.specs.Machines.Copy as copied_by
 use Rattle.md_core.specs.Runs.{Run, moment}
 use Rattle.md_core.specs.Stepping.{IsRun}
 use Rattle.md_core.specs.Interleaving.{IsTmpOf, HasSeenOld, MayChange, KeepsTmp}
@@ -73,10 +65,7 @@ module _ (r : Run) (run : IsRun r) where
 
   abbrev AtTask : ℕ → ℕ → Task → Type 0
   AtTask k job (Deliver d) = Unit {0}
-  AtTask k job (Mark m) = Unit {0}
-  AtTask k job (Move m) = Unit {0}
-  AtTask k job (Expunge x) = Unit {0}
-  AtTask k job (Copy c) = Unit {0}
+  AtTask k job (Errand e) = Unit {0}
   AtTask k job (Clean c) = AtStage k job c.folder c.stage
 
   saw-more : (k job folder : ℕ) (rows : List Row) → SawOld k job folder rows → SawOld (k + 1) job folder rows
@@ -135,10 +124,7 @@ module _ (r : Run) (run : IsRun r) where
         by : (task : Task) → AtTask k job task → (rep : DirReply) → (done_in r k job u).asked ≡ asked_by r k job u task → (done_in r k job u).reply ≡ rep →
             (after_task r k job u task rep).answer ≡ None → AtTask (k + 1) job (after_task r k job u task rep).task
         by (Deliver d) now rep asked replied e = tt
-        by (Mark m) now rep asked replied e = tt
-        by (Move m) now rep asked replied e = tt
-        by (Expunge x) now rep asked replied e = tt
-        by (Copy c) now rep asked replied e = tt
+        by (Errand d) now rep asked replied e = tt
         by (Clean c) now rep asked replied e = stage-leads c c.stage now rep asked replied e
 
   stage-more : (k job folder : ℕ) (stage : Stage) → AtStage k job folder stage → AtStage (k + 1) job folder stage
@@ -147,18 +133,12 @@ module _ (r : Run) (run : IsRun r) where
 
   other-turn : (k job : ℕ) (task : Task) → AtTask k job task → AtTask (k + 1) job task
   other-turn k job (Deliver d) h = tt
-  other-turn k job (Mark m) h = tt
-  other-turn k job (Move m) h = tt
-  other-turn k job (Expunge x) h = tt
-  other-turn k job (Copy c) h = tt
+  other-turn k job (Errand e) h = tt
   other-turn k job (Clean c) h = stage-more k job c.folder c.stage h
 
   new-at : (job : ℕ) (c : Call) (task : Task) → new_job c ≡ working task → AtTask 0 job task
   new-at job c (Deliver d) is = tt
-  new-at job c (Mark m) is = tt
-  new-at job c (Move m) is = tt
-  new-at job c (Expunge x) is = tt
-  new-at job c (Copy x) is = tt
+  new-at job c (Errand e) is = tt
   new-at job c (Clean x) is = subst (AtStage 0 job x.folder) (sym (looks c is)) tt
     where
       looks : (c : Call) → new_job c ≡ working (Clean x) → x.stage ≡ Look
@@ -239,30 +219,8 @@ module _ (r : Run) (run : IsRun r) where
         by : (task : Task) → TaskFits (moment r k).dirs its.0 task → AtTask k x.job task → asked_by r k x.job u task ≡ unlink p → MayHere its.0
         by (Deliver d) f now is = may-own its.0 (tmp-of (moment r k).dirs its.0 d p f
             (delivery-unlinks (moment r k).dirs u.event.event.job d (at r k x.job u) p d.stage is))
-        by (Mark m) f now is = marks m.stage is
-          where
-            marks : (stage : marking.Stage) → (marked_by.stage_turn u.event.event.job m stage).asked ≡ unlink p → MayHere its.0
-            marks (marking_stage.Look tries) h = cc
-            marks (marking_stage.Act name flags tries) h = cc
-        by (Move m) f now is = moves m.stage is
-          where
-            moves : (stage : search.Stage) → (moved_by.stage_turn u.event.event.job m stage).asked ≡ unlink p → MayHere its.0
-            moves (LookNew tries) h = cc
-            moves (LookCur tries) h = cc
-            moves (Act place row tries) h = cc
-        by (Expunge y) f now is = expunges y.stage is
-          where
-            expunges : (stage : expunging.Stage) → (expunged_by.stage_turn u.event.event.job y stage).asked ≡ unlink p → MayHere its.0
-            expunges (expunging_stage.Look tries) h = cc
-            expunges (expunging_stage.Act name tries) h =
-                let same : expunged_by.source y name ≡ p = cc in
-                let cur : place.Cur ≡ Tmp = ap (λ (q : Path). q.place) same ∙ in_tmp in cc
-        by (Copy c) f now is = copies c.stage is
-          where
-            copies : (stage : search.Stage) → (copied_by.stage_turn u.event.event.job c stage).asked ≡ unlink p → MayHere its.0
-            copies (LookNew tries) h = cc
-            copies (LookCur tries) h = cc
-            copies (Act place row tries) h = cc
+        by (Errand e) f now is =
+            absurd (no-unlink (errand_turn u.event.event.job e).asked p in_tmp (errand-of-mail u.event.event.job e f.stage) is)
         by (Clean c) f now is =
             let h = clean-changes c (at r k x.job u).own c.stage now is in
             subst MayHere (sym f) (asks, h.0, h.1)

@@ -6,11 +6,9 @@ ghost use Rattle.md_core.specs.Machine.{turn_of, new_job, working};
 use crate::error::CoreError;
 use crate::jobs::call::{Call, JobId};
 use crate::jobs::cleaning::Cleaning;
-use crate::jobs::copying::Copying;
 use crate::jobs::deliver::Delivery;
-use crate::jobs::expunging::Expunging;
-use crate::jobs::mark::{Mark, Marking};
-use crate::jobs::moving::Moving;
+use crate::jobs::errand::Errand;
+use crate::jobs::purpose::Purpose;
 use crate::jobs::step::Moment;
 use crate::jobs::turn::Turned;
 use md_dirs::Dirs;
@@ -20,10 +18,7 @@ use std::alloc::Global;
 #[derive(Debug, Drop)]
 pub enum Task {
     Deliver(Delivery),
-    Mark(Marking),
-    Move(Moving),
-    Expunge(Expunging),
-    Copy(Copying),
+    Errand(Errand),
     Clean(Cleaning),
 }
 
@@ -44,32 +39,32 @@ impl Task {
                 unique,
                 flags,
                 tries,
-            } => Task::Mark(Marking::new(folder, unique, Mark::Seen(flags), tries)),
+            } => Task::Errand(Errand::new(folder, unique, Purpose::Seen(flags), tries)),
             Call::Flag {
                 folder,
                 unique,
                 add,
                 remove,
                 tries,
-            } => Task::Mark(Marking::new(folder, unique, Mark::Flag { add, remove }, tries)),
+            } => Task::Errand(Errand::new(folder, unique, Purpose::Flag { add, remove }, tries)),
             Call::Move {
                 folder,
                 unique,
                 to,
                 tries,
-            } => Task::Move(Moving::new(folder, unique, to, tries)),
+            } => Task::Errand(Errand::new(folder, unique, Purpose::Move { to }, tries)),
             Call::Expunge {
                 folder,
                 unique,
                 tries,
-            } => Task::Expunge(Expunging::new(folder, unique, tries)),
+            } => Task::Errand(Errand::new(folder, unique, Purpose::Expunge, tries)),
             Call::Copy {
                 folder,
                 unique,
                 to,
                 fresh,
                 tries,
-            } => Task::Copy(Copying::new(folder, unique, to, fresh, tries)),
+            } => Task::Errand(Errand::new(folder, unique, Purpose::Copy { to, fresh }, tries)),
             Call::Clean { folder } => Task::Clean(Cleaning::new(folder)),
         }
     }
@@ -92,10 +87,7 @@ impl Task {
     {
         match self {
             Task::Deliver(delivery) => delivery.turn(alloc, dirs, job, at),
-            Task::Mark(marking) => marking.turn(alloc, dirs, job, at),
-            Task::Move(moving) => moving.turn(alloc, dirs, job, at),
-            Task::Expunge(expunging) => expunging.turn(alloc, dirs, job, at),
-            Task::Copy(copying) => copying.turn(alloc, dirs, job, at),
+            Task::Errand(errand) => errand.turn(alloc, dirs, job, at),
             Task::Clean(cleaning) => cleaning.turn(alloc, dirs, at),
         }
     }

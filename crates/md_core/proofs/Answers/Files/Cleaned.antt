@@ -21,7 +21,7 @@ use Rattle.md_core.specs.declared.jobs.cleaning.Stage.TheVariants.{Look, Remove}
 use Rattle.md_core.specs.declared.jobs.step.DirReply.{DirReply}
 use Rattle.md_core.specs.declared.jobs.step.DirReply.TheVariants as reply
 use Rattle.md_core.specs.declared.jobs.task.Task.{Task}
-use Rattle.md_core.specs.declared.jobs.task.Task.TheVariants.{Deliver, Mark, Move, Expunge, Copy, Clean}
+use Rattle.md_core.specs.declared.jobs.task.Task.TheVariants.{Deliver, Errand, Clean}
 use Rattle.md_core.specs.Machine.{Machine, Standing, working, answered, Marked, happens, done, job_at, new_job, standing_of}
 use Rattle.md_core.specs.Trace.{Step, call_at}
 use Rattle.md_core.specs.Machines.Clean.{old_rows, after_next, at_stage, tmp, stage_turn}
@@ -117,10 +117,7 @@ module _ (r : Run) (job : ℕ) where
 
     abbrev Stands : ℕ → Standing → Type 0
     Stands k (working (Deliver d)) = Unit {0}
-    Stands k (working (Mark m)) = Unit {0}
-    Stands k (working (Move m)) = Unit {0}
-    Stands k (working (Expunge x)) = Unit {0}
-    Stands k (working (Copy c)) = Unit {0}
+    Stands k (working (Errand e)) = Unit {0}
     Stands k (working (Clean c)) = AtStage k c.stage
     Stands k (answered answer.TimedOut) = Unit {0}
     Stands k (answered answer.TmpGone) = Unit {0}
@@ -250,10 +247,7 @@ module _ (r : Run) (job : ℕ) where
               let same : x ≡ c = cc in
               stage-stands x (ap (λ (y : Cleaning). y.folder) same ∙ in_folder) x.stage now rep asked replied
           by (Deliver d) c is in_folder now rep asked replied = cc
-          by (Mark d) c is in_folder now rep asked replied = cc
-          by (Move d) c is in_folder now rep asked replied = cc
-          by (Expunge d) c is in_folder now rep asked replied = cc
-          by (Copy d) c is in_folder now rep asked replied = cc
+          by (Errand e) c is in_folder now rep asked replied = cc
 
     -- what was taken stays so, where the job does nothing
     taken-still : (k : ℕ) (left : List (List ℕ)) (files : ℕ) → deeds (k + 1) ≡ deeds k → HasTaken k left files → HasTaken (k + 1) left files
@@ -276,10 +270,7 @@ module _ (r : Run) (job : ℕ) where
 
       other-stands : (st : Standing) → Stands k st → Stands (k + 1) st
       other-stands (working (Deliver d)) now = tt
-      other-stands (working (Mark m)) now = tt
-      other-stands (working (Move m)) now = tt
-      other-stands (working (Expunge x)) now = tt
-      other-stands (working (Copy c)) now = tt
+      other-stands (working (Errand e)) now = tt
       other-stands (working (Clean c)) now = stage-still c.stage now
       other-stands (answered answer.TimedOut) now = tt
       other-stands (answered answer.TmpGone) now = tt

@@ -18,7 +18,7 @@ use Rattle.md_core.specs.declared.jobs.deliver.Stage.TheVariants.{Start, Writing
 use Rattle.md_core.specs.declared.jobs.step.DirReply.{DirReply}
 use Rattle.md_core.specs.declared.jobs.step.DirReply.TheVariants as reply
 use Rattle.md_core.specs.declared.jobs.task.Task.{Task}
-use Rattle.md_core.specs.declared.jobs.task.Task.TheVariants.{Deliver, Mark, Move, Expunge, Copy, Clean}
+use Rattle.md_core.specs.declared.jobs.task.Task.TheVariants.{Deliver, Errand, Clean}
 use Rattle.md_core.specs.Machine.{working}
 use Rattle.md_core.specs.Machines.Clean as cleaned_by
 use Rattle.md_core.specs.Machines.Deliver.{at_stage, target, create_turn, append_turn, link_turn, unlink_turn, stage_turn, is_in_time}
@@ -29,7 +29,7 @@ use Rattle.md_core.specs.Stepping.{IsRun}
 use Rattle.md_core.proofs.Induction.Good.{DeliveryFits, TaskFits}
 use Rattle.md_core.proofs.Answers.LastStep.{IsTurn, is_within, LastStep, reply_in}
 use Rattle.md_core.proofs.Answers.Moments.{its-call, its-fits, at, asked_by, after_task}
-use Rattle.md_core.proofs.Answers.Plain.{IsPlain, GivesPlain, marking-plain, moving-plain, expunging-plain, copying-plain}
+use Rattle.md_core.proofs.Answers.Plain.{IsPlain, GivesPlain, errand-plain}
 use Rattle.md_core.proofs.Answers.Files.Writing.{IsTaken, HasBegun, AtStage, AtTask, at-task}
 
 -- what a delivery knows that gives an answer at moment k, by its own clock
@@ -55,10 +55,7 @@ CleanSays a = (a ≡ answer.Fault) ⊎ ((n : ℕ) × (a ≡ answer.Cleaned n))
 
 abbrev pub TaskSays : Run → ℕ → ℕ → ℕ → Task → Answer → Type 0
 TaskSays r k job own (Deliver d) a = DeliverySays r k job d.tmp own a
-TaskSays r k job own (Mark m) a = IsPlain a
-TaskSays r k job own (Move m) a = IsPlain a
-TaskSays r k job own (Expunge x) a = IsPlain a
-TaskSays r k job own (Copy c) a = IsPlain a
+TaskSays r k job own (Errand e) a = IsPlain a
 TaskSays r k job own (Clean c) a = CleanSays a
 
 -- a reply that a file was not found, where a file is there
@@ -176,10 +173,7 @@ module _ (r : Run) (run : IsRun r) (k job : ℕ) (t : IsTurn r k job) where
   by-task asked (Deliver d) fits now rep replied a is =
       subst (Gives d asked fits []) is
       (delivery-says d asked fits (rows_for (stage_turn n d (at r k job t) d.stage).asked s) now rep replied)
-  by-task asked (Mark m) fits now rep replied a is = subst GivesPlain is (marking-plain n m m.stage rep _)
-  by-task asked (Move m) fits now rep replied a is = subst GivesPlain is (moving-plain n m m.stage rep _)
-  by-task asked (Expunge x) fits now rep replied a is = subst GivesPlain is (expunging-plain n x x.stage rep _)
-  by-task asked (Copy c) fits now rep replied a is = subst GivesPlain is (copying-plain n c c.stage rep _)
+  by-task asked (Errand e) fits now rep replied a is = subst GivesPlain is (errand-plain n e e.stage rep _)
   by-task asked (Clean c) fits now rep replied a is = clean-says c own c.stage rep _ a is
 
 -- what the task of the last step says with its answer
@@ -200,27 +194,18 @@ OfDelivery r k job own task a = (d : Delivery) × (task ≡ Deliver d) × Delive
 pub gone-of : (r : Run) (k job own : ℕ) (task : Task) → TaskSays r k job own task answer.TmpGone →
     OfDelivery r k job own task answer.TmpGone
 gone-of r k job now (Deliver d) says = (d, refl, says)
-gone-of r k job now (Mark m) says = absurd says
-gone-of r k job now (Move m) says = absurd says
-gone-of r k job now (Expunge x) says = absurd says
-gone-of r k job now (Copy c) says = absurd says
+gone-of r k job now (Errand e) says = absurd says
 gone-of r k job now (Clean c) says = elim says [ inl is ↦ cc | inr is ↦ (let e = is.1 in cc) ]
 
 pub timed-of : (r : Run) (k job own : ℕ) (task : Task) → TaskSays r k job own task answer.TimedOut →
     OfDelivery r k job own task answer.TimedOut
 timed-of r k job now (Deliver d) says = (d, refl, says)
-timed-of r k job now (Mark m) says = absurd says
-timed-of r k job now (Move m) says = absurd says
-timed-of r k job now (Expunge x) says = absurd says
-timed-of r k job now (Copy c) says = absurd says
+timed-of r k job now (Errand e) says = absurd says
 timed-of r k job now (Clean c) says = elim says [ inl is ↦ cc | inr is ↦ (let e = is.1 in cc) ]
 
 -- Cleaned is an answer of a clean
 pub clean-of : (r : Run) (k job own : ℕ) (task : Task) (n : ℕ) → TaskSays r k job own task (answer.Cleaned n) →
     (c : Cleaning) × (task ≡ Clean c)
 clean-of r k job now (Deliver d) n says = absurd says
-clean-of r k job now (Mark m) n says = absurd says
-clean-of r k job now (Move m) n says = absurd says
-clean-of r k job now (Expunge x) n says = absurd says
-clean-of r k job now (Copy c) n says = absurd says
+clean-of r k job now (Errand e) n says = absurd says
 clean-of r k job now (Clean c) n says = (c, refl)

@@ -1,4 +1,5 @@
 -- What a clean still has to take away was old when it looked: of a delivery's file, the delivery had begun long before.
+use Rattle.md_core.proofs.Machines.Errand.Table.{no-clean}
 use Rattle.std.proofs.Common.{ℕ, ◌≡◌, ◌≤◌, ◌⊎◌, ◌+◌, ◌-◌, inl, inr, List, [], ◌∷◌, Some, None, length, refl, sym, ap, subst, ◌∙◌, arith}
 use Rattle.std.proofs.lemmas.Bool.Decides.{nat_tests}
 use Rattle.md_dirs.specs.State.{State, file_at}
@@ -12,12 +13,10 @@ use Rattle.md_core.specs.declared.jobs.call.Call.TheVariants as call
 use Rattle.md_core.specs.declared.jobs.cleaning.Cleaning.{Cleaning}
 use Rattle.md_core.specs.declared.jobs.cleaning.Stage.{Stage}
 use Rattle.md_core.specs.declared.jobs.cleaning.Stage.TheVariants.{Look, Remove}
-use Rattle.md_core.specs.declared.jobs.mark.Mark as marks
-use Rattle.md_core.specs.declared.jobs.mark.Mark.TheVariants as mark
 use Rattle.md_core.specs.declared.jobs.step.DirReply.{DirReply}
 use Rattle.md_core.specs.declared.jobs.step.DirReply.TheVariants as reply
 use Rattle.md_core.specs.declared.jobs.task.Task.{Task}
-use Rattle.md_core.specs.declared.jobs.task.Task.TheVariants.{Deliver, Mark, Move, Expunge, Copy, Clean}
+use Rattle.md_core.specs.declared.jobs.task.Task.TheVariants.{Deliver, Errand, Clean}
 use Rattle.md_core.specs.Trace.{Step, call_at}
 use Rattle.md_core.specs.Machine.{working, job_at, new_job}
 use Rattle.md_core.specs.Machines.Clean.{least_seconds, new_cleaning, is_old, old_rows, after_next, at_stage, tmp, stage_turn}
@@ -27,7 +26,7 @@ use Rattle.md_core.specs.Runs.{Run, moment, first_step}
 use Rattle.md_core.specs.Stepping.{IsRun}
 use Rattle.md_core.proofs.Answers.OfRun.{IsStep, IsCleanedAway}
 use Rattle.md_core.proofs.Answers.RunSparing.{AreApart}
-use Rattle.md_core.proofs.Induction.Good.{TaskFits, call_by}
+use Rattle.md_core.proofs.Induction.Good.{TaskFits}
 use Rattle.lists.proofs.Members.{Has}
 use Rattle.md_core.proofs.Answers.LastStep.{IsTurn, is_within, left_by, turn-at, holds, reply_in, done_in, done-in}
 use Rattle.md_core.proofs.Answers.Moments.{its-fits, at, asked_by, after_task, next-clock, clock-grows, turn-done}
@@ -58,25 +57,15 @@ module _ (u : List ℕ) (c : Cleaning) where
   folder-next (row ∷ rest) files = refl
 
 -- the task of a clean
-unmarked : (folder f : ℕ) (v : List ℕ) (m : marks.Mark) (tries : ℕ) → call.Clean f ≡ call_by folder v m tries → ⊥
-unmarked folder f v (mark.Seen given) tries is = cc
-unmarked folder f v (mark.Flag add remove) tries is = cc
-
 pub cleans : (s : State) (f : ℕ) (task : Task) → TaskFits s (call.Clean f) task → (c : Cleaning) × (task ≡ Clean c)
 cleans s f (Deliver d) fits = let e = fits.of in cc
-cleans s f (Mark m) fits = absurd (unmarked m.folder f m.unique m.mark fits.tries fits.of)
-cleans s f (Move m) fits = let e = fits.of in cc
-cleans s f (Expunge x) fits = let e = fits.of in cc
-cleans s f (Copy c) fits = let e = fits.of in cc
+cleans s f (Errand e) fits = absurd (no-clean e.purpose e.folder e.unique fits.tries f fits.of)
 cleans s f (Clean c) fits = (c, refl)
 
 -- what is left to a clean of the folder, at moment k
 abbrev LateTask : Run → ℕ → ℕ → ℕ → List ℕ → ℕ → Task → Type 0
 LateTask r seconds job folder u k (Deliver d) = Unit {0}
-LateTask r seconds job folder u k (Mark m) = Unit {0}
-LateTask r seconds job folder u k (Move m) = Unit {0}
-LateTask r seconds job folder u k (Expunge x) = Unit {0}
-LateTask r seconds job folder u k (Copy c) = Unit {0}
+LateTask r seconds job folder u k (Errand e) = Unit {0}
 LateTask r seconds job folder u k (Clean c) = c.folder ≡ folder → IsLeft u c.stage → IsLate r seconds job k
 
 module _ (r : Run) (run : IsRun r) (seconds : ℕ) (apart : AreApart r seconds) (job folder : ℕ) (u body : List ℕ) (chunk : ℕ)
@@ -144,27 +133,18 @@ module _ (r : Run) (run : IsRun r) (seconds : ℕ) (apart : AreApart r seconds) 
         by : (task : Task) → AtTask k n task → (rep : DirReply) → (after_task r k n t task rep).answer ≡ None →
             AtTask (k + 1) n (after_task r k n t task rep).task
         by (Deliver d) now rep none = tt
-        by (Mark m) now rep none = tt
-        by (Move m) now rep none = tt
-        by (Expunge x) now rep none = tt
-        by (Copy c) now rep none = tt
+        by (Errand e) now rep none = tt
         by (Clean c) now rep none = stage-leads c c.stage now rep none
 
     other-turn : (task : Task) → AtTask k n task → AtTask (k + 1) n task
     other-turn (Deliver d) h = tt
-    other-turn (Mark m) h = tt
-    other-turn (Move m) h = tt
-    other-turn (Expunge x) h = tt
-    other-turn (Copy c) h = tt
+    other-turn (Errand e) h = tt
     other-turn (Clean c) h = λ in_folder left. late-more (h in_folder left)
 
   -- a new clean has nothing to take away yet
   new-at : (n : ℕ) (c : Call) (task : Task) → new_job c ≡ working task → AtTask 0 n task
   new-at n c (Deliver d) is = tt
-  new-at n c (Mark m) is = tt
-  new-at n c (Move m) is = tt
-  new-at n c (Expunge x) is = tt
-  new-at n c (Copy x) is = tt
+  new-at n c (Errand e) is = tt
   new-at n c (Clean x) is = λ in_folder left. absurd (subst (IsLeft u) (looks c is) left)
     where
       looks : (c : Call) → new_job c ≡ working (Clean x) → x.stage ≡ Look

@@ -1,5 +1,6 @@
 -- A delivery ends by the unlink of its name in tmp, whether it is done, out of time or faulted, but where its create faulted or its file
 -- in tmp is gone.
+use Rattle.md_core.proofs.Machines.Errand.Table.{no-delivery}
 use Rattle.std.proofs.Common.{ℕ, ◌≡◌, ◌∙◌, ◌⊎◌, inl, inr, List, Some, Bool, true, false, cond, nat_lt, length, refl, ap, subst}
 use Rattle.md_dirs.specs.State.{State}
 use Rattle.md_dirs.specs.Path.{path_of as path}
@@ -13,13 +14,11 @@ use Rattle.md_core.specs.declared.jobs.call.Call.TheVariants as call
 use Rattle.md_core.specs.declared.jobs.deliver.Delivery.{Delivery}
 use Rattle.md_core.specs.declared.jobs.deliver.Stage.{Stage}
 use Rattle.md_core.specs.declared.jobs.deliver.Stage.TheVariants.{Start, Writing, Linked, Undo}
-use Rattle.md_core.specs.declared.jobs.mark.Mark as marks
-use Rattle.md_core.specs.declared.jobs.mark.Mark.TheVariants as mark
 use Rattle.md_core.specs.declared.jobs.step.DirReply.{DirReply}
 use Rattle.md_core.specs.declared.jobs.step.DirReply.TheVariants as reply
 use Rattle.md_core.specs.declared.jobs.step.Moment.{Moment}
 use Rattle.md_core.specs.declared.jobs.task.Task.{Task}
-use Rattle.md_core.specs.declared.jobs.task.Task.TheVariants.{Deliver, Mark, Move, Expunge, Copy, Clean}
+use Rattle.md_core.specs.declared.jobs.task.Task.TheVariants.{Deliver, Errand, Clean}
 use Rattle.md_core.specs.Machine.{Machine, answered, job_at, turn_of}
 use Rattle.md_core.specs.Machines.Deliver.{append_turn, link_turn, unlink_turn, stage_turn, is_in_time}
 use Rattle.md_core.specs.Turn.{Turn}
@@ -28,7 +27,7 @@ use Rattle.md_core.specs.Runs.{Run, moment, jobs_of}
 use Rattle.md_core.specs.Trace.{call_at}
 use Rattle.md_core.specs.Stepping.{IsRun}
 use Rattle.md_core.proofs.Answers.OfRun.{IsFaulted, IsDelivered, IsUndone}
-use Rattle.md_core.proofs.Induction.Good.{DeliveryFits, TaskFits, call_by}
+use Rattle.md_core.proofs.Induction.Good.{DeliveryFits, TaskFits}
 use Rattle.md_core.proofs.Answers.LastStep.{LastStep, last-step, is-step, turn_by, reply_in}
 use Rattle.md_core.proofs.Answers.Moments.{its-fits, at}
 use Rattle.md_core.proofs.Answers.Turns.OfDeliver.{DeliveryTells}
@@ -126,17 +125,10 @@ module _ (folder : ℕ) (u body : List ℕ) (chunk : ℕ) (s : State) where
       let same_name : d.tmp.name ≡ u = cc in
       λ i. record { folder = same_folder i; place = fits.in_tmp i; name = same_name i }
 
-  no-mark : (f : ℕ) (v : List ℕ) (m : marks.Mark) (tries : ℕ) → asked ≡ call_by f v m tries → ⊥
-  no-mark f v (mark.Seen given) tries is = cc
-  no-mark f v (mark.Flag add remove) tries is = cc
-
   -- its task is a delivery
   by-delivery : (P : Task → Type 0) → ((d : Delivery) → DeliveryFits s asked d → P (Deliver d)) → (task : Task) → TaskFits s asked task → P task
   by-delivery P delivers (Deliver d) fits = delivers d fits
-  by-delivery P delivers (Mark m) fits = absurd (no-mark m.folder m.unique m.mark fits.tries fits.of)
-  by-delivery P delivers (Move m) fits = let of = fits.of in cc
-  by-delivery P delivers (Expunge x) fits = let of = fits.of in cc
-  by-delivery P delivers (Copy c) fits = let of = fits.of in cc
+  by-delivery P delivers (Errand e) fits = absurd (no-delivery e.purpose e.folder e.unique fits.tries _ _ _ _ fits.of)
   by-delivery P delivers (Clean c) fits = cc
 
   module _ (n : ℕ) (at : Moment) (rep : DirReply) (rows : List Row) where

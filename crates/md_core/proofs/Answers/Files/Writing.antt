@@ -1,4 +1,6 @@
 -- A delivery that writes has begun, at the moment of its own clock that it keeps, and has its file in tmp, or a clean took that away since.
+use Rattle.md_core.specs.declared.jobs.purpose.Purpose.TheVariants as purpose
+use Rattle.md_core.specs.Machines.Errand.{new_errand}
 use Rattle.std.proofs.Common.{ℕ, ◌≡◌, ◌≢◌, ◌<◌, ◌≤◌, ◌⊎◌, ◌+◌, inl, inr, List, Some, None, Bool, true, false, cond, length, nat_lt, slice_get, refl, sym, ap, subst, ◌∙◌, arith}
 use Rattle.md_dirs.specs.State.{State, file_at}
 use Rattle.md_dirs.specs.declared.paths.Path.{Path}
@@ -12,17 +14,12 @@ use Rattle.md_core.specs.declared.jobs.call.Call.TheVariants as call
 use Rattle.md_core.specs.declared.jobs.deliver.Delivery.{Delivery}
 use Rattle.md_core.specs.declared.jobs.deliver.Stage.{Stage}
 use Rattle.md_core.specs.declared.jobs.deliver.Stage.TheVariants.{Start, Writing, Linked, Undo}
-use Rattle.md_core.specs.declared.jobs.mark.Mark.TheVariants as mark
 use Rattle.md_core.specs.declared.jobs.step.DirReply.{DirReply}
 use Rattle.md_core.specs.declared.jobs.step.DirReply.TheVariants as reply
 use Rattle.md_core.specs.declared.jobs.task.Task.{Task}
-use Rattle.md_core.specs.declared.jobs.task.Task.TheVariants.{Deliver, Mark, Move, Expunge, Copy, Clean}
+use Rattle.md_core.specs.declared.jobs.task.Task.TheVariants.{Deliver, Errand, Clean}
 use Rattle.md_core.specs.Machine.{Marked, working, job_at, new_job}
 use Rattle.md_core.specs.Machines.Deliver.{new_delivery, at_stage, piece, append_turn, link_turn, unlink_turn, stage_turn, is_in_time}
-use Rattle.md_core.specs.Machines.Mark.{new_marking}
-use Rattle.md_core.specs.Machines.Move.{new_moving}
-use Rattle.md_core.specs.Machines.Expunge.{new_expunging}
-use Rattle.md_core.specs.Machines.Copy.{new_copying}
 use Rattle.md_core.specs.Machines.Clean.{new_cleaning}
 use Rattle.md_core.specs.Turn.{Turn}
 use Rattle.md_core.specs.Asked.{append, ask_of, state_by}
@@ -59,10 +56,7 @@ AtStage r k job p (Undo a) = (a ≡ answer.Fault) ⊎ (a ≡ answer.NameTaken)
 
 abbrev pub AtTask : Run → ℕ → ℕ → Task → Type 0
 AtTask r k job (Deliver d) = AtStage r k job d.tmp d.stage
-AtTask r k job (Mark m) = Unit {0}
-AtTask r k job (Move m) = Unit {0}
-AtTask r k job (Expunge x) = Unit {0}
-AtTask r k job (Copy c) = Unit {0}
+AtTask r k job (Errand e) = Unit {0}
 AtTask r k job (Clean c) = Unit {0}
 
 -- the path stays there, or is taken away now, or has been
@@ -152,12 +146,12 @@ module _ (r : Run) (run : IsRun r) (k job : ℕ) (t : IsTurn r k job) (d : Deliv
 new-at : (r : Run) (job : ℕ) (c : Call) (task : Task) → call_at r.calls job ≡ Some c → new_job c ≡ working task → AtTask r 0 job task
 new-at r job (call.Deliver a b c d) task of is =
     subst (AtTask r 0 job) (let e : Deliver (new_delivery a b c d) ≡ task = cc in e) (omega arith)
-new-at r job (call.Seen a b c d) task of is = subst (AtTask r 0 job) (let e : Mark (new_marking a b (mark.Seen c) d) ≡ task = cc in e) tt
+new-at r job (call.Seen a b c d) task of is = subst (AtTask r 0 job) (let e : Errand (new_errand a b (purpose.Seen c) d) ≡ task = cc in e) tt
 new-at r job (call.Flag a b c d x) task of is =
-    subst (AtTask r 0 job) (let e : Mark (new_marking a b (mark.Flag c d) x) ≡ task = cc in e) tt
-new-at r job (call.Move a b c d) task of is = subst (AtTask r 0 job) (let e : Move (new_moving a b c d) ≡ task = cc in e) tt
-new-at r job (call.Expunge a b c) task of is = subst (AtTask r 0 job) (let e : Expunge (new_expunging a b c) ≡ task = cc in e) tt
-new-at r job (call.Copy a b c d x) task of is = subst (AtTask r 0 job) (let e : Copy (new_copying a b c d x) ≡ task = cc in e) tt
+    subst (AtTask r 0 job) (let e : Errand (new_errand a b (purpose.Flag c d) x) ≡ task = cc in e) tt
+new-at r job (call.Move a b c d) task of is = subst (AtTask r 0 job) (let e : Errand (new_errand a b (purpose.Move c) d) ≡ task = cc in e) tt
+new-at r job (call.Expunge a b c) task of is = subst (AtTask r 0 job) (let e : Errand (new_errand a b purpose.Expunge c) ≡ task = cc in e) tt
+new-at r job (call.Copy a b c d x) task of is = subst (AtTask r 0 job) (let e : Errand (new_errand a b (purpose.Copy c d) x) ≡ task = cc in e) tt
 new-at r job (call.Clean a) task of is = subst (AtTask r 0 job) (let e : Clean (new_cleaning a) ≡ task = cc in e) tt
 
 module _ (r : Run) (run : IsRun r) where
@@ -173,10 +167,7 @@ module _ (r : Run) (run : IsRun r) where
           (moment r (k + 1)).dirs ≡ state_by (ask_of (asked_by r k job t task) (at r k job t).clock) (moment r k).dirs rep →
           (after_task r k job t task rep).answer ≡ None → AtTask r (k + 1) job (after_task r k job t task rep).task
       by asked (Deliver d) fits now rep dirs none = stage-leads r run k job t d fits.in_tmp _ d.stage now rep dirs none
-      by asked (Mark m) fits now rep dirs none = tt
-      by asked (Move m) fits now rep dirs none = tt
-      by asked (Expunge x) fits now rep dirs none = tt
-      by asked (Copy c) fits now rep dirs none = tt
+      by asked (Errand e) fits now rep dirs none = tt
       by asked (Clean c) fits now rep dirs none = tt
 
   -- the turn of another job
@@ -206,10 +197,7 @@ module _ (r : Run) (run : IsRun r) where
     other-turn (Deliver d) is h =
         let asked = its-call r run k job _ is in
         still-stage d asked.0 asked.1 (its-fits r run k job asked.0 (Deliver d) asked.1 is) d.stage h
-    other-turn (Mark m) is h = tt
-    other-turn (Move m) is h = tt
-    other-turn (Expunge x) is h = tt
-    other-turn (Copy c) is h = tt
+    other-turn (Errand e) is h = tt
     other-turn (Clean c) is h = tt
 
   pub at-task : (k job : ℕ) (task : Task) → k ≤ length r.events → job_at (moment r k).jobs job ≡ Some (working task) → AtTask r k job task

@@ -1,4 +1,11 @@
 -- What one look-up says is so at its moment; and what a search says that looked in new and then in cur is so at one of the two moments.
+use Rattle.md_core.specs.declared.jobs.errand.Stage.{Stage}
+use Rattle.md_core.specs.declared.jobs.errand.Stage.TheVariants.{Look, Act}
+use Rattle.md_core.specs.declared.jobs.purpose.Purpose.{Purpose}
+use Rattle.md_core.specs.declared.jobs.purpose.Purpose.TheVariants as purpose
+use Rattle.md_core.specs.Machines.Purposes.{searches}
+use Rattle.md_core.specs.Machines.Errand.{at_stage}
+use Rattle.md_core.proofs.Machines.Errand.Table.{one-place, last-place}
 use Rattle.std.proofs.Common.{ℕ, ◌≡◌, ◌<◌, ◌≤◌, ◌+◌, ◌⊎◌, inl, inr, List, Option, Some, None, Bool, true, false, cond, not, refl, sym, ap, subst, ◌∙◌, length, arith}
 use Rattle.std.proofs.lemmas.Bool.{eq-eqb, and_from, and_parts, not-true}
 use Rattle.std.specs.FinMap.{get}
@@ -10,23 +17,21 @@ use Rattle.md_core.specs.declared.jobs.answer.Answer.{Answer}
 use Rattle.md_core.specs.declared.jobs.answer.Answer.TheVariants as answer
 use Rattle.md_core.specs.declared.jobs.call.Call.{Call}
 use Rattle.md_core.specs.declared.jobs.call.Call.TheVariants as call
-use Rattle.md_core.specs.declared.jobs.search.Stage.{Stage}
-use Rattle.md_core.specs.declared.jobs.search.Stage.TheVariants.{LookNew, LookCur, Act}
 use Rattle.md_core.specs.declared.jobs.step.DirReply.{DirReply}
 use Rattle.md_core.specs.declared.jobs.task.Task.{Task}
-use Rattle.md_core.specs.declared.jobs.task.Task.TheVariants.{Deliver, Mark, Move, Expunge, Copy, Clean}
+use Rattle.md_core.specs.declared.jobs.task.Task.TheVariants.{Deliver, Errand, Clean}
 use Rattle.md_core.specs.Mailbox.{Entry, is_tmp}
-use Rattle.md_core.specs.Alone.{moved, copied, such, is_in_place, is_in_folder}
+use Rattle.md_core.specs.Alone.{seen, flag, moved, copied, expunged, such, is_in_place, is_in_folder}
 use Rattle.md_core.specs.Machine.{Standing, working, answered, job_at, new_job}
 use Rattle.md_core.specs.Runs.{Run, moment, box}
 use Rattle.md_core.specs.Trace.{call_at}
 use Rattle.md_core.specs.Turn.{After}
 use Rattle.md_core.specs.Stepping.{IsRun}
 use Rattle.md_core.proofs.Answers.OfRun.{IsStep, IsOfSpan}
-use Rattle.md_core.proofs.Induction.Good.{TaskFits}
+use Rattle.md_core.proofs.Induction.Good.{ErrandFits, TaskFits}
 use Rattle.md_core.proofs.Mailbox.Shown.{mailbox-shows}
 use Rattle.md_core.proofs.Answers.LastStep.{IsTurn, reply_in, left_by, is-step, is_within, holds}
-use Rattle.md_core.proofs.Answers.Turns.OneMessage.{IsAlone, IsPastNew, IsPastCur, FindsNone, HasLooked}
+use Rattle.md_core.proofs.Answers.Turns.OneMessage.{IsAlone, IsPastNew, IsPastLast, FindsNone, HasLooked}
 use Rattle.md_core.proofs.Answers.Turns.EachSays.{TaskSays, UndoesTask, IsClean, turn-says, fits-at}
 use Rattle.md_core.proofs.Answers.Turns.Told.{at-none}
 use Rattle.md_core.proofs.Answers.Touches.StaysInCur.{stays-in_cur}
@@ -48,17 +53,13 @@ record WasPastNew (r : Run) (job : ℕ) (folder : ℕ) (u : List ℕ) (k : ℕ) 
   before : from < k
   none : such (is_in_place New folder) (get (box (moment r from)) u) ≡ None
 
-abbrev SearchedAt : Run → ℕ → ℕ → ℕ → List ℕ → Stage → Type 0
-SearchedAt r k job folder u (LookNew tries) = Unit {0}
-SearchedAt r k job folder u (LookCur tries) = WasPastNew r job folder u k
-SearchedAt r k job folder u (Act place row tries) = Unit {0}
+abbrev SearchedAt : Run → ℕ → ℕ → ℕ → List ℕ → Bool → Stage → Type 0
+SearchedAt r k job folder u both (Look place tries) = both ≡ true → place ≡ Cur → WasPastNew r job folder u k
+SearchedAt r k job folder u both (Act place row tries) = Unit {0}
 
 abbrev SearchedBy : Run → ℕ → ℕ → Task → Type 0
 SearchedBy r k job (Deliver d) = Unit {0}
-SearchedBy r k job (Mark m) = Unit {0}
-SearchedBy r k job (Move m) = SearchedAt r k job m.folder m.unique m.stage
-SearchedBy r k job (Expunge x) = Unit {0}
-SearchedBy r k job (Copy c) = SearchedAt r k job c.folder c.unique c.stage
+SearchedBy r k job (Errand e) = SearchedAt r k job e.folder e.unique (searches e.purpose) e.stage
 SearchedBy r k job (Clean c) = Unit {0}
 
 abbrev Searched : Run → ℕ → ℕ → Task → Type 0
@@ -70,30 +71,22 @@ AtWork r job (answered a) = Unit {0}
 
 new-searched : (r : Run) (job : ℕ) (c : Call) → AtWork r job (new_job c)
 new-searched r job (call.Deliver folder u body chunk) = tt
-new-searched r job (call.Seen folder u flags tries) = tt
-new-searched r job (call.Flag folder u add remove tries) = tt
-new-searched r job (call.Move folder u to tries) = tt
-new-searched r job (call.Expunge folder u tries) = tt
-new-searched r job (call.Copy folder u to fresh tries) = tt
+new-searched r job (call.Seen folder u flags tries) = λ both cur. cc
+new-searched r job (call.Flag folder u add remove tries) = λ both cur. cc
+new-searched r job (call.Move folder u to tries) = λ both cur. cc
+new-searched r job (call.Expunge folder u tries) = λ both cur. cc
+new-searched r job (call.Copy folder u to fresh tries) = λ both cur. cc
 new-searched r job (call.Clean folder) = tt
 
 module _ (r : Run) (k job : ℕ) where
   -- the step at which the job looked in new
   just-searched : (step : IsStep r job k) (task : Task) → HasLooked (moment r k).dirs task → SearchedBy r (k + 1) job task
   just-searched step (Deliver d) h = tt
-  just-searched step (Mark m) h = tt
-  just-searched step (Move m) h = by m.stage h
+  just-searched step (Errand e) h = by e.stage h
     where
-      by : (stage : Stage) → IsPastNew (moment r k).dirs m.folder m.unique stage → SearchedAt r (k + 1) job m.folder m.unique stage
-      by (LookNew tries) none = tt
-      by (LookCur tries) none = record { from = k; begun = step; before = omega arith; none = none }
-      by (Act place row tries) none = tt
-  just-searched step (Expunge x) h = tt
-  just-searched step (Copy c) h = by c.stage h
-    where
-      by : (stage : Stage) → IsPastNew (moment r k).dirs c.folder c.unique stage → SearchedAt r (k + 1) job c.folder c.unique stage
-      by (LookNew tries) none = tt
-      by (LookCur tries) none = record { from = k; begun = step; before = omega arith; none = none }
+      by : (stage : Stage) → IsPastNew (moment r k).dirs e.folder e.unique (searches e.purpose) stage →
+          SearchedAt r (k + 1) job e.folder e.unique (searches e.purpose) stage
+      by (Look place tries) none = λ both cur. record { from = k; begun = step; before = omega arith; none = none both cur }
       by (Act place row tries) none = tt
   just-searched step (Clean c) h = tt
 
@@ -109,24 +102,19 @@ module _ (r : Run) (k job : ℕ) where
       TaskSays (moment r k).dirs s' c given task after →
       after.answer ≡ None → SearchedBy r (k + 1) job after.task
   searched-on s' c step (Deliver d) given after says none = undoing-searched given after.task (at-none after.answer _ _ none says)
-  searched-on s' c step (Mark m) given after says none = just-searched step after.task (at-none after.answer _ _ none says).looked
-  searched-on s' c step (Move m) given after says none = just-searched step after.task (at-none after.answer _ _ none says).looked
-  searched-on s' c step (Expunge x) given after says none = just-searched step after.task (at-none after.answer _ _ none says).looked
-  searched-on s' c step (Copy x) given after says none = just-searched step after.task (at-none after.answer _ _ none says).looked
+  searched-on s' c step (Errand e) given after says none = just-searched step after.task (at-none after.answer _ _ none says).looked
   searched-on s' c step (Clean x) given after says none = clean-searched after.task (at-none after.answer _ _ none says)
 
-  later : (folder : ℕ) (u : List ℕ) (stage : Stage) → SearchedAt r k job folder u stage → SearchedAt r (k + 1) job folder u stage
-  later folder u (LookNew tries) h = tt
-  later folder u (LookCur tries) h =
-      record { from = h.from; begun = h.begun; before = (let b = h.before in omega (arith, b)); none = h.none }
-  later folder u (Act place row tries) h = tt
+  later : (folder : ℕ) (u : List ℕ) (both : Bool) (stage : Stage) → SearchedAt r k job folder u both stage →
+      SearchedAt r (k + 1) job folder u both stage
+  later folder u both (Look place tries) h = λ is cur.
+      let w = h is cur in
+      record { from = w.from; begun = w.begun; before = (let b = w.before in omega (arith, b)); none = w.none }
+  later folder u both (Act place row tries) h = tt
 
   still-searched : (task : Task) → SearchedBy r k job task → SearchedBy r (k + 1) job task
   still-searched (Deliver d) h = tt
-  still-searched (Mark m) h = tt
-  still-searched (Move m) h = later m.folder m.unique m.stage h
-  still-searched (Expunge x) h = tt
-  still-searched (Copy c) h = later c.folder c.unique c.stage h
+  still-searched (Errand e) h = later e.folder e.unique (searches e.purpose) e.stage h
   still-searched (Clean c) h = tt
 
 module _ (r : Run) (run : IsRun r) where
@@ -192,18 +180,46 @@ module _ (r : Run) (run : IsRun r) where
             on true inside = inr (by-place x is inside x.place refl)
             on false out = inl (outside (get (box (moment r i)) u) x is out)
 
-  -- what a search says that ended behind cur
-  module _ (k job : ℕ) (c : Call) (step : IsStep r job k) (folder : ℕ) (u : List ℕ)
-      (alone-none : (i : ℕ) → such (is_in_folder folder) (get (box (moment r i)) u) ≡ None →
-      IsAlone (moment r i).dirs c answer.NotThere) where
-    search-none : (stage : Stage) → IsPastCur (moment r k).dirs folder u stage → SearchedAt r k job folder u stage →
+  -- what an errand says that ended after its last place
+  module _ (k job : ℕ) (c : Call) (step : IsStep r job k) (folder : ℕ) (u : List ℕ) (place : Place) (tries : ℕ) where
+    -- one look says it of its own moment, and a search of one of its two
+    search-none : ((i : ℕ) → such (is_in_folder folder) (get (box (moment r i)) u) ≡ None → IsAlone (moment r i).dirs c answer.NotThere) →
+        place ≡ Cur → such (is_in_place place folder) (get (box (moment r k)) u) ≡ None → WasPastNew r job folder u k →
         IsOfSpan r job c answer.NotThere
-    search-none (LookNew tries) none was = absurd none
-    search-none (LookCur tries) none was = let b = was.before in elim (not-there was.from k (omega (arith, b)) folder u was.none none) [
-      | inl first ↦ at-step r job was.from c answer.NotThere was.begun (alone-none was.from first)
-      | inr last ↦ at-step r job k c answer.NotThere step (alone-none k last)
-    ]
-    search-none (Act place row tries) none was = absurd none
+    search-none alone-none cur none was =
+        let b = was.before in
+        let gone = subst (λ (q : Place). such (is_in_place q folder) (get (box (moment r k)) u) ≡ None) cur none in
+        elim (not-there was.from k (omega (arith, b)) folder u was.none gone) [
+          | inl first ↦ at-step r job was.from c answer.NotThere was.begun (alone-none was.from first)
+          | inr last ↦ at-step r job k c answer.NotThere step (alone-none k last)
+        ]
+
+    errand-none : (p : Purpose) (fits : ErrandFits (moment r k).dirs c (record { folder = folder; unique = u; purpose = p; stage = Look place tries })) →
+        IsPastLast (moment r k).dirs folder u (searches p) (Look place tries) → SearchedAt r k job folder u (searches p) (Look place tries) →
+        IsOfSpan r job c answer.NotThere
+    errand-none (purpose.Seen given) fits h was =
+        let new = one-place (purpose.Seen given) place refl fits.stage in
+        at-step r job k c answer.NotThere step (subst (λ (x : Call). IsAlone (moment r k).dirs x answer.NotThere) (sym fits.of)
+        (ap (λ (o : Option Entry). (seen (box (moment r k)) u given o).answer)
+        (subst (λ (q : Place). such (is_in_place q folder) (get (box (moment r k)) u) ≡ None) new h.0)))
+    errand-none (purpose.Flag add remove) fits h was =
+        let cur = one-place (purpose.Flag add remove) place refl fits.stage in
+        at-step r job k c answer.NotThere step (subst (λ (x : Call). IsAlone (moment r k).dirs x answer.NotThere) (sym fits.of)
+        (ap (λ (o : Option Entry). (flag (box (moment r k)) u add remove o).answer)
+        (subst (λ (q : Place). such (is_in_place q folder) (get (box (moment r k)) u) ≡ None) cur h.0)))
+    errand-none (purpose.Move to) fits h was =
+        let cur = last-place (purpose.Move to) place refl fits.stage h.1 in
+        search-none (λ i none. subst (λ (x : Call). IsAlone (moment r i).dirs x answer.NotThere) (sym fits.of)
+        (ap (λ (o : Option Entry). (moved (box (moment r i)) u to o).answer) none)) cur h.0 (was refl cur)
+    errand-none (purpose.Copy to fresh) fits h was =
+        let cur = last-place (purpose.Copy to fresh) place refl fits.stage h.1 in
+        search-none (λ i none. subst (λ (x : Call). IsAlone (moment r i).dirs x answer.NotThere) (sym fits.of)
+        (ap (λ (o : Option Entry). (copied (box (moment r i)) to fresh o).answer) none)) cur h.0 (was refl cur)
+    errand-none purpose.Expunge fits h was =
+        let cur = one-place purpose.Expunge place refl fits.stage in
+        at-step r job k c answer.NotThere step (subst (λ (x : Call). IsAlone (moment r k).dirs x answer.NotThere) (sym fits.of)
+        (ap (λ (o : Option Entry). (expunged (box (moment r k)) u o).answer)
+        (subst (λ (q : Place). such (is_in_place q folder) (get (box (moment r k)) u) ≡ None) cur h.0)))
 
   -- nothing was found at the last turn of a job
   pub says-none : (k job : ℕ) (c : Call) → call_at r.calls job ≡ Some c → (t : IsTurn r k job) → FindsNone (moment r k).dirs c t.task →
@@ -218,12 +234,11 @@ module _ (r : Run) (run : IsRun r) where
       by : (task : Task) → FindsNone (moment r k).dirs c task → SearchedBy r k job task → TaskFits (moment r k).dirs c task →
           IsOfSpan r job c answer.NotThere
       by (Deliver d) h was fits = absurd h
-      by (Mark m) h was fits = at-step r job k c answer.NotThere step h
-      by (Move m) h was fits = search-none k job c step m.folder m.unique
-          (λ i none. subst (λ (x : Call). IsAlone (moment r i).dirs x answer.NotThere) (sym fits.of)
-          (ap (λ (o : Option Entry). (moved (box (moment r i)) m.unique m.to o).answer) none)) m.stage h was
-      by (Expunge x) h was fits = at-step r job k c answer.NotThere step h
-      by (Copy x) h was fits = search-none k job c step x.folder x.unique
-          (λ i none. subst (λ (y : Call). IsAlone (moment r i).dirs y answer.NotThere) (sym fits.of)
-          (ap (λ (o : Option Entry). (copied (box (moment r i)) x.to x.fresh o).answer) none)) x.stage h was
+      by (Errand e) h was fits = at e.stage h was fits
+        where
+          at : (stage : Stage) → IsPastLast (moment r k).dirs e.folder e.unique (searches e.purpose) stage →
+              SearchedAt r k job e.folder e.unique (searches e.purpose) stage → ErrandFits (moment r k).dirs c (at_stage e stage) →
+              IsOfSpan r job c answer.NotThere
+          at (Look place tries) h was fits = errand-none k job c step e.folder e.unique place tries e.purpose fits h was
+          at (Act place row tries) h was fits = absurd h
       by (Clean x) h was fits = absurd h

@@ -1,4 +1,6 @@
 -- A try is over only where another job touched the message since it began: so a call that is lost was touched once for each of its tries.
+use Rattle.md_core.specs.declared.jobs.purpose.Purpose.{Purpose}
+use Rattle.md_core.specs.declared.jobs.purpose.Purpose.TheVariants as purpose
 use Rattle.std.proofs.Common.{ℕ, ◌≡◌, ◌≢◌, ◌≤◌, ◌+◌, ◌⊎◌, inl, inr, List, Some, None, refl, sym, ap, subst, ◌∙◌, length, slice_get, arith}
 use Rattle.std.specs.FinMap.{get}
 use Rattle.md_dirs.specs.State.{State}
@@ -6,11 +8,9 @@ use Rattle.md_dirs.specs.declared.paths.Path.{Path}
 use Rattle.md_name.specs.Names.{unique_of}
 use Rattle.md_core.specs.declared.jobs.call.Call.{Call}
 use Rattle.md_core.specs.declared.jobs.call.Call.TheVariants as call
-use Rattle.md_core.specs.declared.jobs.mark.Mark.{Mark as Marks}
-use Rattle.md_core.specs.declared.jobs.mark.Mark.TheVariants.{Seen, Flag}
 use Rattle.md_core.specs.declared.jobs.step.DirReply.{DirReply}
 use Rattle.md_core.specs.declared.jobs.task.Task.{Task}
-use Rattle.md_core.specs.declared.jobs.task.Task.TheVariants.{Deliver, Mark, Move, Expunge, Copy, Clean}
+use Rattle.md_core.specs.declared.jobs.task.Task.TheVariants.{Deliver, Errand, Clean}
 use Rattle.md_core.specs.History.{names_of}
 use Rattle.md_core.specs.Machine.{Standing, working, answered, Marked, job_at, new_job}
 use Rattle.md_core.specs.Runs.{Run, moment, box}
@@ -195,17 +195,8 @@ module _ (r : Run) (run : IsRun r) where
       IsTrying r job (sought c) (tries_in c) (k + 1) (trying_of after.task)
   tries-on k job c step (Deliver d) given after says none was =
       undoing-tries job (sought c) (tries_in c) (k + 1) given after.task (at-none after.answer _ _ none says)
-  tries-on k job c step (Mark m) given after says none was =
-      turn-tries r run job (sought c) (tries_in c) k step (trying_of (Mark m)) (trying_of after.task)
-      (at-none after.answer _ _ none says).tries was
-  tries-on k job c step (Move m) given after says none was =
-      turn-tries r run job (sought c) (tries_in c) k step (trying_of (Move m)) (trying_of after.task)
-      (at-none after.answer _ _ none says).tries was
-  tries-on k job c step (Expunge x) given after says none was =
-      turn-tries r run job (sought c) (tries_in c) k step (trying_of (Expunge x)) (trying_of after.task)
-      (at-none after.answer _ _ none says).tries was
-  tries-on k job c step (Copy x) given after says none was =
-      turn-tries r run job (sought c) (tries_in c) k step (trying_of (Copy x)) (trying_of after.task)
+  tries-on k job c step (Errand e) given after says none was =
+      turn-tries r run job (sought c) (tries_in c) k step (trying_of (Errand e)) (trying_of after.task)
       (at-none after.answer _ _ none says).tries was
   tries-on k job c step (Clean x) given after says none was =
       clean-tries job (sought c) (tries_in c) (k + 1) after.task (at-none after.answer _ _ none says)
@@ -225,20 +216,17 @@ module _ (r : Run) (run : IsRun r) where
   lost-call : (s s' : State) (job : ℕ) (c : Call) (task : Task) → TaskFits s c task → IsOver s' (trying_of task) →
       IsTouched r job (sought c) (tries_in c) → IsLost r job c
   lost-call s s' job c (Deliver d) fits over = absurd over
-  lost-call s s' job c (Mark m) fits over =
-      subst (λ (x : Call). IsTouched r job (sought x) (tries_in x) → IsLost r job x) (sym fits.of) (by m.mark)
+  lost-call s s' job c (Errand e) fits over =
+      subst (λ (x : Call). IsTouched r job (sought x) (tries_in x) → IsLost r job x) (sym fits.of) (by e.purpose)
     where
-      by : (k : Marks) →
-          IsTouched r job (sought (call_by m.folder m.unique k fits.tries)) (tries_in (call_by m.folder m.unique k fits.tries)) →
-          IsLost r job (call_by m.folder m.unique k fits.tries)
-      by (Seen given) h = h
-      by (Flag add remove) h = h
-  lost-call s s' job c (Move m) fits over =
-      subst (λ (x : Call). IsTouched r job (sought x) (tries_in x) → IsLost r job x) (sym fits.of) (λ h. h)
-  lost-call s s' job c (Expunge x) fits over =
-      subst (λ (x : Call). IsTouched r job (sought x) (tries_in x) → IsLost r job x) (sym fits.of) (λ h. h)
-  lost-call s s' job c (Copy x) fits over =
-      subst (λ (x : Call). IsTouched r job (sought x) (tries_in x) → IsLost r job x) (sym fits.of) (λ h. h)
+      by : (p : Purpose) →
+          IsTouched r job (sought (call_by e.folder e.unique p fits.tries)) (tries_in (call_by e.folder e.unique p fits.tries)) →
+          IsLost r job (call_by e.folder e.unique p fits.tries)
+      by (purpose.Seen given) h = h
+      by (purpose.Flag add remove) h = h
+      by (purpose.Move to) h = h
+      by (purpose.Copy to fresh) h = h
+      by purpose.Expunge h = h
   lost-call s s' job c (Clean x) fits over = absurd over
 
   -- a job that ends with its last try

@@ -8,7 +8,7 @@ use Rattle.md_core.specs.declared.jobs.call.Call.TheVariants as call
 use Rattle.md_core.specs.declared.jobs.step.DirReply.{DirReply}
 use Rattle.md_core.specs.declared.jobs.step.Moment.{Moment}
 use Rattle.md_core.specs.declared.jobs.task.Task.{Task}
-use Rattle.md_core.specs.declared.jobs.task.Task.TheVariants.{Deliver, Mark, Move, Expunge, Copy, Clean}
+use Rattle.md_core.specs.declared.jobs.task.Task.TheVariants.{Deliver, Errand, Clean}
 use Rattle.md_core.specs.Machine.{Machine, working, job_at, moment_of}
 use Rattle.md_core.specs.Runs.{Run, moment}
 use Rattle.md_core.specs.Trace.{call_at}
@@ -24,10 +24,7 @@ use Rattle.md_core.proofs.Runs.ByEvent.{moment-more}
 use Rattle.md_core.proofs.Answers.LastStep.{IsTurn, turn_by, reply_in, after_in, left_by}
 use Rattle.md_core.proofs.Answers.Turns.OneMessage.{TurnSays}
 use Rattle.md_core.proofs.Answers.Turns.OfDeliver.{Undoes, DeliveryTells, delivery-says}
-use Rattle.md_core.proofs.Answers.Turns.OfMark.{marking-says}
-use Rattle.md_core.proofs.Answers.Turns.OfMove.{moving-says}
-use Rattle.md_core.proofs.Answers.Turns.OfExpunge.{expunging-says}
-use Rattle.md_core.proofs.Answers.Turns.OfCopy.{copying-says}
+use Rattle.md_core.proofs.Answers.Turns.OfErrand.{errand-says}
 use Rattle.md_core.proofs.Answers.Turns.OfClean.{CleanTells, cleaning-says}
 
 -- how a delivery and a clean go on
@@ -43,10 +40,7 @@ IsClean task = ⊥
 abbrev pub TaskSays : State → State → Call → DirReply → Task → After Task → Type 0
 TaskSays s s' asked r (Deliver d) after = MatchOption after.answer (UndoesTask r after.task) (DeliveryTells d.stage r)
 TaskSays s s' asked r (Clean c) after = MatchOption after.answer (IsClean after.task) (CleanTells r)
-TaskSays s s' asked r (Mark m) after = TurnSays s s' asked (Mark m) r after
-TaskSays s s' asked r (Move m) after = TurnSays s s' asked (Move m) r after
-TaskSays s s' asked r (Expunge x) after = TurnSays s s' asked (Expunge x) r after
-TaskSays s s' asked r (Copy c) after = TurnSays s s' asked (Copy c) r after
+TaskSays s s' asked r (Errand e) after = TurnSays s s' asked (Errand e) r after
 
 module _ (r : Run) (run : IsRun r) where
   pub is-good : (k : ℕ) → IsGood r.calls (moment r k)
@@ -100,10 +94,7 @@ module _ (r : Run) (run : IsRun r) where
     by-task : (task : Task) → TaskFits m.dirs asked task →
         Says (state_by (ask_of (turn_by m t.event task).asked at.clock) m.dirs (reply_in m t.event task)) task
     by-task (Deliver d) fits = delivery-says m.dirs t.event.event.job asked at t.event.faulted d fits
-    by-task (Mark x) fits = marking-says m.dirs t.event.event.job asked at (is-good k).one_path t.event.faulted x fits
-    by-task (Move x) fits = moving-says m.dirs t.event.event.job asked at (is-good k).one_path t.event.faulted x fits
-    by-task (Expunge x) fits = expunging-says m.dirs t.event.event.job asked at (is-good k).one_path t.event.faulted x fits
-    by-task (Copy x) fits = copying-says m.dirs t.event.event.job asked at (is-good k).one_path t.event.faulted x fits
+    by-task (Errand e) fits = errand-says m.dirs t.event.event.job asked at (is-good k).one_path t.event.faulted e fits
     by-task (Clean c) fits =
         cleaning-says m.dirs at t.event.faulted c
         (subst (λ (n : ℕ). c.folder < n) (sym (folders-at k)) (clean-folder job c.folder (of ∙ ap Some fits)))

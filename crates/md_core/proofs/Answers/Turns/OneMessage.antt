@@ -1,5 +1,8 @@
 -- What a turn of a job that acts on one message says: of the answer that it gives, or of how the job goes on.
-use Rattle.std.proofs.Common.{ℕ, ◌≡◌, ◌+◌, ◌≤◌, List, [], Some, None, true, MatchOption}
+use Rattle.md_core.specs.declared.jobs.errand.Stage.{Stage}
+use Rattle.md_core.specs.declared.jobs.errand.Stage.TheVariants.{Look, Act}
+use Rattle.md_core.specs.Machines.Purposes.{searches, place_after}
+use Rattle.std.proofs.Common.{ℕ, ◌≡◌, ◌+◌, ◌≤◌, List, [], Some, None, Bool, true, MatchOption}
 use Rattle.std.specs.FinMap.{get}
 use Rattle.md_dirs.specs.State.{State, file_at}
 use Rattle.md_dirs.specs.Path.{path_of}
@@ -10,20 +13,12 @@ use Rattle.md_core.specs.declared.jobs.answer.Answer.{Answer}
 use Rattle.md_core.specs.declared.jobs.answer.Answer.TheVariants as answer
 use Rattle.md_core.specs.declared.jobs.call.Call.{Call}
 use Rattle.md_core.specs.declared.jobs.call.Call.TheVariants as call
-use Rattle.md_core.specs.declared.jobs.expunging.Stage as expunging
-use Rattle.md_core.specs.declared.jobs.expunging.Stage.TheVariants as expunging_stage
-use Rattle.md_core.specs.declared.jobs.mark.Stage as marking
-use Rattle.md_core.specs.declared.jobs.mark.Stage.TheVariants as marking_stage
-use Rattle.md_core.specs.declared.jobs.mark.Marking.{Marking}
-use Rattle.md_core.specs.declared.jobs.search.Stage.{Stage}
-use Rattle.md_core.specs.declared.jobs.search.Stage.TheVariants.{LookNew, LookCur, Act}
 use Rattle.md_core.specs.declared.jobs.step.DirReply.{DirReply}
 use Rattle.md_core.specs.declared.jobs.step.DirReply.TheVariants as reply
 use Rattle.md_core.specs.declared.jobs.task.Task.{Task}
-use Rattle.md_core.specs.declared.jobs.task.Task.TheVariants.{Deliver, Mark, Move, Expunge, Copy, Clean}
+use Rattle.md_core.specs.declared.jobs.task.Task.TheVariants.{Deliver, Errand, Clean}
 use Rattle.md_core.specs.Mailbox.{mailbox_of, is_message}
 use Rattle.md_core.specs.Alone.{alone, such, is_in_place}
-use Rattle.md_core.specs.Machines.Mark.{place_by}
 use Rattle.md_core.specs.Turn.{After}
 
 -- How far a job is with its tries: it looks for its message, or it acts on a path of it. Deliveries and cleans have none.
@@ -32,25 +27,13 @@ pub data Trying : Type 0 where
   looking : (tries : ℕ) → Trying
   acting : (p : Path) (tries : ℕ) → Trying
 
-abbrev pub mark_trying : Marking → marking.Stage → Trying
-mark_trying m (marking_stage.Look tries) = looking tries
-mark_trying m (marking_stage.Act name flags tries) = acting (path_of m.folder (place_by m.mark) name) tries
-
-abbrev pub expunge_trying : ℕ → expunging.Stage → Trying
-expunge_trying folder (expunging_stage.Look tries) = looking tries
-expunge_trying folder (expunging_stage.Act name tries) = acting (path_of folder Cur name) tries
-
-abbrev pub search_trying : ℕ → Stage → Trying
-search_trying folder (LookNew tries) = looking tries
-search_trying folder (LookCur tries) = looking tries
-search_trying folder (Act place row tries) = acting (path_of folder place row.name) tries
+abbrev pub errand_trying : ℕ → Stage → Trying
+errand_trying folder (Look place tries) = looking tries
+errand_trying folder (Act place row tries) = acting (path_of folder place row.name) tries
 
 abbrev pub trying_of : Task → Trying
 trying_of (Deliver d) = idle
-trying_of (Mark m) = mark_trying m m.stage
-trying_of (Move m) = search_trying m.folder m.stage
-trying_of (Expunge x) = expunge_trying x.folder x.stage
-trying_of (Copy c) = search_trying c.folder c.stage
+trying_of (Errand e) = errand_trying e.folder e.stage
 trying_of (Clean c) = idle
 
 -- the unique name of the message that a call looks for
@@ -87,23 +70,18 @@ IsOver s idle = ⊥
 IsOver s (looking tries) = ⊥
 IsOver s (acting p tries) = (tries ≤ 1) × (file_at s p ≡ None)
 
--- what a search has seen that goes on to cur, and what it sees that ends there
-abbrev pub IsPastNew : State → ℕ → List ℕ → Stage → Type 0
-IsPastNew s folder u (LookNew tries) = Unit {0}
-IsPastNew s folder u (LookCur tries) = such (is_in_place New folder) (get (mailbox_of s) u) ≡ None
-IsPastNew s folder u (Act place row tries) = Unit {0}
+-- what an errand has seen that goes on to cur, and what it sees where it ends after its last place
+abbrev pub IsPastNew : State → ℕ → List ℕ → Bool → Stage → Type 0
+IsPastNew s folder u both (Look place tries) = both ≡ true → place ≡ Cur → such (is_in_place New folder) (get (mailbox_of s) u) ≡ None
+IsPastNew s folder u both (Act place row tries) = Unit {0}
 
-abbrev pub IsPastCur : State → ℕ → List ℕ → Stage → Type 0
-IsPastCur s folder u (LookNew tries) = ⊥
-IsPastCur s folder u (LookCur tries) = such (is_in_place Cur folder) (get (mailbox_of s) u) ≡ None
-IsPastCur s folder u (Act place row tries) = ⊥
+abbrev pub IsPastLast : State → ℕ → List ℕ → Bool → Stage → Type 0
+IsPastLast s folder u both (Look place tries) = (such (is_in_place place folder) (get (mailbox_of s) u) ≡ None) × (place_after both place ≡ None)
+IsPastLast s folder u both (Act place row tries) = ⊥
 
 abbrev pub HasLooked : State → Task → Type 0
 HasLooked s (Deliver d) = Unit {0}
-HasLooked s (Mark m) = Unit {0}
-HasLooked s (Move m) = IsPastNew s m.folder m.unique m.stage
-HasLooked s (Expunge x) = Unit {0}
-HasLooked s (Copy c) = IsPastNew s c.folder c.unique c.stage
+HasLooked s (Errand e) = IsPastNew s e.folder e.unique (searches e.purpose) e.stage
 HasLooked s (Clean c) = Unit {0}
 
 -- a job that goes on
@@ -115,13 +93,10 @@ pub record GoesOn (s s' : State) (asked : Call) (task task' : Task) : Type 0 whe
 abbrev pub IsAlone : State → Call → Answer → Type 0
 IsAlone s asked a = (alone asked (mailbox_of s)).answer ≡ a
 
--- nothing was found by one look-up, or by that in cur behind that in new
+-- nothing was found in the last place
 abbrev pub FindsNone : State → Call → Task → Type 0
 FindsNone s asked (Deliver d) = ⊥
-FindsNone s asked (Mark m) = IsAlone s asked answer.NotThere
-FindsNone s asked (Move m) = IsPastCur s m.folder m.unique m.stage
-FindsNone s asked (Expunge x) = IsAlone s asked answer.NotThere
-FindsNone s asked (Copy c) = IsPastCur s c.folder c.unique c.stage
+FindsNone s asked (Errand e) = IsPastLast s e.folder e.unique (searches e.purpose) e.stage
 FindsNone s asked (Clean c) = ⊥
 
 -- what an answer says of the turn that gave it

@@ -6,7 +6,7 @@ use Rattle.md_core.specs.declared.jobs.answer.Answer.TheVariants as answer
 use Rattle.md_core.specs.declared.jobs.call.Call.{Call}
 use Rattle.md_core.specs.declared.jobs.step.DirReply.{DirReply}
 use Rattle.md_core.specs.declared.jobs.task.Task.{Task}
-use Rattle.md_core.specs.declared.jobs.task.Task.TheVariants.{Deliver, Mark, Move, Expunge, Copy, Clean}
+use Rattle.md_core.specs.declared.jobs.task.Task.TheVariants.{Deliver, Errand, Clean}
 use Rattle.md_core.specs.Turn.{After}
 use Rattle.md_core.proofs.Answers.Turns.OneMessage.{Tells}
 use Rattle.md_core.proofs.Answers.Turns.OfDeliver.{DeliveryTells}
@@ -31,17 +31,11 @@ IsOfLook a = ⊥
 -- what an answer tells of the turn that gave it, whatever the task
 abbrev pub Told : State → Call → Task → DirReply → Answer → Type 0
 Told s asked (Deliver d) given a = DeliveryTells d.stage given a
-Told s asked (Mark m) given a = Tells s asked (Mark m) given a
-Told s asked (Move m) given a = Tells s asked (Move m) given a
-Told s asked (Expunge x) given a = Tells s asked (Expunge x) given a
-Told s asked (Copy c) given a = Tells s asked (Copy c) given a
+Told s asked (Errand e) given a = Tells s asked (Errand e) given a
 Told s asked (Clean c) given a = CleanTells given a
 
 pub told : (s s' : State) (asked : Call) (task : Task) (given : DirReply) (after : After Task) (a : Answer) →
     TaskSays s s' asked given task after → after.answer ≡ Some a → Told s asked task given a
 told s s' asked (Deliver d) given after a says is = at-some after.answer _ _ a is says
-told s s' asked (Mark m) given after a says is = at-some after.answer _ _ a is says
-told s s' asked (Move m) given after a says is = at-some after.answer _ _ a is says
-told s s' asked (Expunge x) given after a says is = at-some after.answer _ _ a is says
-told s s' asked (Copy c) given after a says is = at-some after.answer _ _ a is says
+told s s' asked (Errand e) given after a says is = at-some after.answer _ _ a is says
 told s s' asked (Clean c) given after a says is = at-some after.answer _ _ a is says

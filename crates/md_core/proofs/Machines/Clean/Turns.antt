@@ -27,7 +27,7 @@ use Rattle.md_core.proofs.Induction.Good.{CleaningFits, Does}
 use Rattle.md_core.proofs.Mailbox.Changes.{one-keeps, mailbox-keeps}
 use Rattle.md_core.proofs.Directories.Frames.{Shrinks, task-shrinks}
 use Rattle.md_core.proofs.Directories.Quiet.{Quiet, quiet-stays, quiet-unlink}
-use Rattle.md_core.proofs.Looking.Search.{as_after}
+use Rattle.md_core.proofs.Machines.Stays.{as_after}
 use Rattle.md_core.proofs.Machines.Stays.{settles-none}
 use Rattle.md_core.proofs.Directories.Calls.Unlink.{unlink-shrinks}
 

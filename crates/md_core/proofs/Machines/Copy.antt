@@ -1,3 +1,0 @@
-pub mod Names
-pub mod Does
-pub mod Turns

@@ -1,0 +1,11 @@
+pub mod Deeds
+pub mod Sets
+pub mod Moves
+pub mod Names
+pub mod Table
+pub mod Asks
+pub mod Marked
+pub mod Moved
+pub mod Copied
+pub mod Expunged
+pub mod Turns

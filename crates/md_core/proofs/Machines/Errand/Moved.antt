@@ -1,0 +1,128 @@
+-- What a rename does that is the effect of a move: the message is in the other folder.
+use Rattle.std.proofs.Common.{ℕ, ◌≡◌, ◌≢◌, List, Some, None, true, cond, refl, sym, ap, subst, ◌∙◌, not}
+use Rattle.std.proofs.lemmas.Bool.{and_from, eq-eqb}
+use Rattle.std.specs.FinMap as finmap
+use Rattle.std.specs.FinMap.{get}
+use Rattle.md_dirs.specs.Path.{path_of}
+use Rattle.md_dirs.specs.State.{State, IsSound, file_at}
+use Rattle.md_dirs.specs.Calls as dirs
+use Rattle.md_dirs.specs.declared.paths.Path.{Path}
+use Rattle.md_dirs.specs.declared.paths.Place.{Place}
+use Rattle.md_dirs.specs.declared.rows.Row.{Row}
+use Rattle.md_name.specs.Names.{unique_of}
+use Rattle.md_core.specs.declared.jobs.answer.Answer.TheVariants as answer
+use Rattle.md_core.specs.declared.jobs.call.Call.{Call}
+use Rattle.md_core.specs.declared.jobs.effect.Effect.{Effect}
+use Rattle.md_core.specs.declared.jobs.errand.Errand.{Errand as ErrandOf}
+use Rattle.md_core.specs.declared.jobs.errand.Stage.TheVariants.{Act}
+use Rattle.md_core.specs.declared.jobs.purpose.Deed.TheVariants as deed
+use Rattle.md_core.specs.declared.jobs.purpose.Purpose.TheVariants as purpose
+use Rattle.md_core.specs.declared.jobs.step.DirReply.TheVariants as reply
+use Rattle.md_core.specs.declared.jobs.task.Task.TheVariants.{Errand}
+use Rattle.md_core.specs.Mailbox.{mailbox_of, entry_of, is_message, HasOnePath}
+use Rattle.md_core.specs.Alone.{alone, moved, such, is_in_folder}
+use Rattle.md_core.specs.History.{names_of, changed, listed}
+use Rattle.md_core.specs.Asked.{rename}
+use Rattle.md_core.specs.Machines.Purposes.{info_in}
+use Rattle.md_core.specs.Machines.Errand.{done_by}
+use Rattle.md_core.specs.Stepping.{AsAlone}
+use Rattle.md_core.specs.Interleaving.{is_effect_at}
+use Rattle.md_core.proofs.Induction.Good.{HasNoMessage, ErrandFits, Does}
+use Rattle.md_core.proofs.Mailbox.Changes.{Puts, one-puts, mailbox-puts}
+use Rattle.md_core.proofs.Mailbox.Naming.{names-insert}
+use Rattle.md_core.proofs.Mailbox.Renamed.{put-again, listed-entry, listed-there, size-there}
+use Rattle.md_core.proofs.Mailbox.Shown.{shows-mailbox}
+use Rattle.md_core.proofs.Directories.Frames.{task-stays}
+use Rattle.md_core.proofs.Directories.Calls.Rename.{shifted, moved-is, rename-puts, rename-frame, rename-sound, rename-spares}
+use Rattle.md_core.proofs.Machines.Errand.Table.{not-tmp, left-some}
+
+module _ (s : State) (number : ℕ) (asked : Call) (folder : ℕ) (v : List ℕ) (to : ℕ) (place : Place) (row : Row) (tries k : ℕ) (sound : IsSound s)
+    (one : HasOnePath s)
+    (fits : ErrandFits s asked (record { folder = folder; unique = v; purpose = purpose.Move to; stage = Act place row tries }))
+    (at : file_at s (path_of folder place row.name) ≡ Some k) where
+  abbrev x : ErrandOf
+  x = record { folder = folder; unique = v; purpose = purpose.Move to; stage = Act place row tries }
+
+  abbrev o : Path
+  o = path_of folder place row.name
+
+  abbrev n : Path
+  n = path_of to place row.name
+
+  abbrev s' : State
+  s' = shifted o n s k
+
+  abbrev u : List ℕ
+  u = unique_of row.name
+
+  abbrev effect : Effect
+  effect = done_by number (deed.Rename o n) answer.Moved row.size
+
+  message : is_message o ≡ true
+  message = and_from _ _ (ap not (not-tmp (purpose.Move to) place fits.stage.at)) fits.stage.named
+
+  -- the other folder is another
+  differ : o ≢ n
+  differ is = fits.is_for (ap (λ (p : Path). p.folder) is)
+
+  puts : Puts s s' n k
+  puts = rename-puts s o n k one message message refl differ at
+
+  -- a message has the name
+  some : HasNoMessage s u → ⊥
+  some none = let gone = none o message refl in cc
+
+  before : get (mailbox_of s) u ≡ Some (entry_of s o k)
+  before = shows-mailbox s u (entry_of s o k) one (record { path = o; file = k; there = at; message = message; unique = refl; entry = refl })
+
+  after : mailbox_of s' ≡ finmap.insert (mailbox_of s) u (entry_of s' n k)
+  after = mailbox-puts s s' n k one puts
+
+  in_folder : such (is_in_folder folder) (get (mailbox_of s) u) ≡ Some (entry_of s o k)
+  in_folder =
+      ap (such (is_in_folder folder)) before
+      ∙ ap (λ b. cond b (Some (entry_of s o k)) None) (eq-eqb folder folder refl)
+
+  effect-alone : AsAlone asked (Some effect) (mailbox_of s) (mailbox_of s')
+  effect-alone =
+      ap (λ (c : Call). alone c (mailbox_of s)) fits.of
+      ∙ (λ i. moved (mailbox_of s) (sym fits.stage.unique i) to (such (is_in_folder folder) (get (mailbox_of s) (sym fits.stage.unique i))))
+      ∙ ap (moved (mailbox_of s) u to) in_folder
+      ∙ sym (λ i. record { answer = answer.Moved; after = after i })
+
+  changes : names_of (mailbox_of s') ≡ changed (names_of (mailbox_of s)) effect.change
+  changes =
+      ap names_of after ∙ names-insert (mailbox_of s) u (entry_of s' n k) ∙ put-again (names_of (mailbox_of s)) u (listed u (entry_of s' n k))
+      ∙ ap (finmap.insert (finmap.remove (names_of (mailbox_of s)) u) u) (listed-entry s' n k)
+      ∙ ap (λ size. finmap.insert (finmap.remove (names_of (mailbox_of s)) u) u (record { folder = to; place = place; name = row.name; size = size }))
+      (sym (size-there (mailbox_of s) s o k before))
+
+  shifted-does : Does s s' number asked (Errand x) (rename o n) reply.Ok
+      (record { task = Errand x; answer = Some answer.Moved; effect = Some effect })
+  shifted-does = record {
+    sound = rename-sound s o n k one message message refl differ at fits.to_folder sound;
+    one_path = one-puts s s' n k one puts;
+    folders = refl;
+    fits = λ is. cc;
+    others = λ asked' task' apart. task-stays s s' u (rename-frame s o n k one message message refl differ at) refl some asked' task';
+    none_overwritten = (rename-spares s o n k one message message refl differ at).none_overwritten;
+    no_messages = (rename-spares s o n k one message message refl differ at).no_messages;
+    as_alone = effect-alone;
+    is_effect = sym (ap (λ (c : Call). is_effect_at c (rename o n) reply.Ok (Some answer.Moved)) fits.of);
+    first = refl;
+    found = λ u size unanswered its. cc;
+    effect = record {
+      of = refl;
+      changes = changes;
+      allowed = (fits.in_folder, fits.to_folder, fits.is_for, refl, refl, listed-there (mailbox_of s) s o k before);
+    };
+    settles = (effect, refl, refl);
+    nearer = left-some true x.stage;
+    fixed = λ is a b. refl;
+  }
+
+  pub rename-does : Does s (dirs.moved o n s) number asked (Errand x) (rename o n) reply.Ok
+      (record { task = Errand x; answer = Some answer.Moved; effect = Some effect })
+  rename-does = subst (λ (t : State). Does s t number asked (Errand x) (rename o n) reply.Ok
+      (record { task = Errand x; answer = Some answer.Moved; effect = Some effect }))
+      (sym (moved-is s o n k one message message refl differ at)) shifted-does

@@ -1,0 +1,284 @@
+-- What each turn of an errand does, by its stage, the reply and what is decided.
+use Rattle.std.proofs.Common.{ℕ, ◌≡◌, ◌<◌, ◌-◌, inl, inr, List, Option, Some, None, Bool, true, false, cond, length, is_some, not, unwrap_or, nat_le, refl, sym, ap, subst, ◌∙◌, arith}
+use Rattle.std.proofs.lemmas.Bool.Decides.{nat_tests}
+use Rattle.std.proofs.lemmas.Bool.{and_from}
+use Rattle.std.specs.FinMap.{get}
+use Rattle.std.specs.FinSet as set
+use Rattle.md_dirs.specs.Calls as dirs
+use Rattle.md_dirs.specs.Path.{path_of}
+use Rattle.md_dirs.specs.Rows.{rows_of, row_by, row_named}
+use Rattle.md_dirs.specs.State.{State, IsSound, file_at, file_by}
+use Rattle.md_dirs.specs.declared.calls.DirError.TheVariants.{NotFound}
+use Rattle.md_dirs.specs.declared.paths.File.{File}
+use Rattle.md_dirs.specs.declared.paths.Place.{Place}
+use Rattle.md_dirs.specs.declared.paths.Place.TheVariants.{New, Cur}
+use Rattle.md_dirs.specs.declared.rows.Row.{Row}
+use Rattle.md_name.specs.Letters.{Set}
+use Rattle.md_name.specs.Names.{info_of, flags_of}
+use Rattle.md_name.specs.declared.info.Info.{Info}
+use Rattle.md_core.specs.declared.jobs.answer.Answer.{Answer}
+use Rattle.md_core.specs.declared.jobs.answer.Answer.TheVariants as answer
+use Rattle.md_core.specs.declared.jobs.call.Call.{Call}
+use Rattle.md_core.specs.declared.jobs.effect.Effect.{Effect}
+use Rattle.md_core.specs.declared.jobs.errand.Errand.{Errand as ErrandOf}
+use Rattle.md_core.specs.declared.jobs.errand.Stage.{Stage}
+use Rattle.md_core.specs.declared.jobs.errand.Stage.TheVariants.{Look, Act}
+use Rattle.md_core.specs.declared.jobs.purpose.Decision.{Decision}
+use Rattle.md_core.specs.declared.jobs.purpose.Decision.TheVariants as decision
+use Rattle.md_core.specs.declared.jobs.purpose.Purpose.{Purpose}
+use Rattle.md_core.specs.declared.jobs.purpose.Purpose.TheVariants.{Seen, Flag, Move, Copy, Expunge}
+use Rattle.md_core.specs.declared.jobs.refusal.Refusal.{Refusal}
+use Rattle.md_core.specs.declared.jobs.refusal.Refusal.TheVariants as refusal
+use Rattle.md_core.specs.declared.jobs.step.Moment.{Moment}
+use Rattle.md_core.specs.declared.jobs.step.DirReply.{DirReply}
+use Rattle.md_core.specs.declared.jobs.step.DirReply.TheVariants as reply
+use Rattle.md_core.specs.declared.jobs.task.Task.TheVariants.{Errand}
+use Rattle.md_core.specs.Alone.{alone}
+use Rattle.md_core.specs.History.{MayGetFlags}
+use Rattle.md_core.specs.Mailbox.{Entry, mailbox_of, entry_of, bytes_of, HasOnePath}
+use Rattle.md_core.specs.Interleaving.{is_effect_at}
+use Rattle.md_core.specs.Turn.{Turn, After, goes_on, ends_by, rows_for, reply_of}
+use Rattle.md_core.specs.Asked.{Asked, list, ask_of, state_by}
+use Rattle.md_core.specs.Machine.{as_task}
+use Rattle.md_core.specs.Machines.Purposes.{first, searches, place_after, info_in, wanted, decide, answer_by, deed_by, shown}
+use Rattle.md_core.specs.Machines.Errand.{at_stage, refuses, asked_of, taken_by, after_none, kept, after_decision, after_row, lost_or_again, done_by, look_turn, act_turn, stage_turn, errand_turn, stage_left, errand_left}
+use Rattle.md_core.specs.Machines.Refusals.{refused_by}
+use Rattle.md_core.proofs.Induction.Good.{bytes_at, FoundAt, HasSize, IsOfSize, IsPlaceOf, IsAtStage, IsFound, ErrandFits, call_by, Does}
+use Rattle.md_core.proofs.Looking.LookUps.{IsRow, found-row, row-entry, info-in}
+use Rattle.md_core.proofs.Mailbox.Shown.{shows-mailbox}
+use Rattle.md_core.proofs.Machines.Deliver.Replies.{accepted, there}
+use Rattle.md_core.proofs.Machines.Stays.{as_after, stays-does}
+use Rattle.md_core.proofs.Machines.Errand.Sets.{same-sets, subset-union}
+use Rattle.md_core.proofs.Machines.Errand.Table.{not-tmp, one-place, left-some, next-left, act-left, again-left, acts-flags, acts-flag, keeps-flag, test-keeps, refusal-fails, look-goes, look-refused, IsRefusal, deed-none}
+use Rattle.md_core.proofs.Machines.Errand.Marked.{alone-seen, alone-flags, alone-keeps, keeps-it, gives-flags}
+use Rattle.md_core.proofs.Machines.Errand.Moved.{rename-does}
+use Rattle.md_core.proofs.Machines.Errand.Copied.{link-does}
+use Rattle.md_core.proofs.Machines.Errand.Expunged.{unlink-does}
+
+-- what a turn of an errand does at a reply
+abbrev pub DoesBy : State → ℕ → Call → ErrandOf → ℕ → Turn ErrandOf → DirReply → Type 0
+DoesBy s number asked e clock turn r =
+    Does s (state_by (ask_of turn.asked clock) s r) number asked (Errand e) turn.asked r ((as_task Errand turn).follows r (rows_for turn.asked s))
+
+-- an errand at a stage
+abbrev on : ℕ → List ℕ → Purpose → Stage → ErrandOf
+on folder u p stage = record { folder = folder; unique = u; purpose = p; stage = stage }
+
+-- ---- a turn at which nothing changes
+
+module _ (s : State) (number : ℕ) (asked : Call) (sound : IsSound s) (one : HasOnePath s) (e : ErrandOf) (fits : ErrandFits s asked e) (made : Asked)
+    (r : DirReply) where
+  abbrev DoesNothing : After ErrandOf → Type 0
+  DoesNothing after = Does s s number asked (Errand e) made r (as_after Errand after)
+
+  refuses-does : (a : Refusal) → is_effect_at (call_by e.folder e.unique e.purpose fits.tries) made r (Some (refused_by a)) ≡ false →
+      DoesNothing (refuses e a)
+  refuses-does a none =
+      stays-does s number asked (Errand e) (Errand e) made r (Some (refused_by a)) sound one (λ is. cc)
+      (ap (λ (c : Call). is_effect_at c made r (Some (refused_by a))) fits.of ∙ none) refl refl (refusal-fails a)
+      (left-some (searches e.purpose) e.stage) (λ is. cc) (λ v size unanswered its. cc)
+
+  goes-does : (stage : Stage) → IsAtStage e.unique e.purpose stage →
+      is_effect_at (call_by e.folder e.unique e.purpose fits.tries) made r None ≡ false →
+      stage_left (searches e.purpose) stage < errand_left e →
+      ((v : List ℕ) (size : ℕ) → FoundAt e.unique stage v size → IsOfSize (mailbox_of s) v size) → DoesNothing (goes_on (at_stage e stage))
+  goes-does stage h none less sees =
+      stays-does s number asked (Errand e) (Errand (at_stage e stage)) made r None sound one
+      (λ is. record {
+        tries = fits.tries;
+        of = fits.of;
+        in_folder = fits.in_folder;
+        to_folder = fits.to_folder;
+        valid = fits.valid;
+        is_for = fits.is_for;
+        none = fits.none;
+        stage = h;
+      })
+      (ap (λ (c : Call). is_effect_at c made r None) fits.of ∙ none) refl refl tt less (λ is a b. refl)
+      (λ v size unanswered its. inr (sees v size its))
+
+row-size : (name : List ℕ) (o : Option File) → (row_by name o).size ≡ length (bytes_of o)
+row-size name None = refl
+row-size name (Some file) = refl
+
+-- ---- the look
+
+module _ (s : State) (number : ℕ) (asked : Call) (sound : IsSound s) (one : HasOnePath s) (folder : ℕ) (u : List ℕ) (place : Place) (tries : ℕ)
+  where
+    -- only a Flag keeps
+    keep-does : (p : Purpose) (fits : ErrandFits s asked (on folder u p (Look place tries))) (row : Row) (h : IsRow s folder place u row) →
+        decide p (info_in row.name) ≡ decision.Keep →
+        Does s s number asked (Errand (on folder u p (Look place tries))) (list folder place) reply.Ok
+        (as_after Errand (ends_by (on folder u p (Look place tries)) (kept number (answer_by p (info_in row.name)))))
+    keep-does (Seen given) fits row h is = absurd (test-keeps _ _ is)
+    keep-does (Flag add remove) fits row h is =
+        let keeps = keeps-flag (Flag add remove) (flags_of (info_in row.name)) is in
+        let had : Set = shown (info_in row.name) in
+        let at = one-place (Flag add remove) place refl fits.stage in
+        let shows : flags_of (info_of row.name) ≡ Some had = ap flags_of (sym (info-in row.name h.named)) ∙ keeps.0 in
+        let no_tmp = not-tmp (Flag add remove) place fits.stage in
+        keeps-it s number asked (on folder u (Flag add remove) (Look place tries)) sound one fits place row.name h.file had no_tmp h.named h.unique shows h.there
+        (wanted (Flag add remove) had) at (same-sets had (wanted (Flag add remove) had) keeps.1)
+        (ap (λ (c : Call). alone c (mailbox_of s)) fits.of
+        ∙ alone-keeps (mailbox_of s) folder u (entry_of s (path_of folder place row.name) h.file) had (row-entry s folder place u row no_tmp one h) refl shows
+        add remove fits.tries at keeps.1)
+        (ap (λ (c : Call). is_effect_at c (list folder place) reply.Ok (Some (answer.Flags (wanted (Flag add remove) had)))) fits.of)
+    keep-does (Move to) fits row h is = cc
+    keep-does (Copy to fresh) fits row h is = absurd (test-keeps _ _ is)
+    keep-does Expunge fits row h is = absurd (test-keeps _ _ is)
+
+    module _ (p : Purpose) (fits : ErrandFits s asked (on folder u p (Look place tries))) where
+      abbrev x : ErrandOf
+      x = on folder u p (Look place tries)
+
+      abbrev DoesLook : DirReply → After ErrandOf → Type 0
+      DoesLook r after = Does s s number asked (Errand x) (list folder place) r (as_after Errand after)
+
+      ends-does : (r : DirReply) (a : Refusal) → DoesLook r (refuses x a)
+      ends-does r a = refuses-does s number asked sound one x fits (list folder place) r a (look-refused p folder u fits.tries folder place r a)
+
+      -- it was not found
+      none-does : (o : Option Place) → place_after (searches p) place ≡ o → DoesLook reply.Ok (after_none x tries o)
+      none-does None is = ends-does reply.Ok refusal.NotThere
+      none-does (Some next) is =
+          let h = next-left (searches p) place next tries is in
+          goes-does s number asked sound one x fits (list folder place) reply.Ok (Look next tries) (inr (h.1, h.2))
+          (look-goes p folder u fits.tries folder place reply.Ok) h.0 (λ v size its. absurd its)
+
+      -- it was found
+      decision-does : (row : Row) (h : IsRow s folder place u row) (d : Decision) → decide p (info_in row.name) ≡ d →
+          DoesLook reply.Ok (after_decision number x place tries row d)
+      decision-does row h (decision.Refuse a) is = ends-does reply.Ok a
+      decision-does row h decision.Keep is = keep-does p fits row h is
+      decision-does row h decision.Act is =
+          let size : length (bytes_at s h.file) ≡ row.size = sym (row-size row.name (file_by s.files h.file)) ∙ ap (λ (x : Row). x.size) h.shows in
+          goes-does s number asked sound one x fits (list folder place) reply.Ok (Act place row tries)
+          (record { at = fits.stage; named = h.named; unique = h.unique; acts = is })
+          (look-goes p folder u fits.tries folder place reply.Ok) (act-left (searches p) place place row tries)
+          (λ v n its. (
+            entry_of s (path_of folder place row.name) h.file,
+            ap (get (mailbox_of s)) (sym its.0) ∙ row-entry s folder place u row (not-tmp p place fits.stage) one h,
+            size ∙ its.1,
+          ))
+
+      row-does : (o : Option Row) → row_named u (rows_of s folder place) ≡ o → DoesLook reply.Ok (after_row number x place tries o)
+      row-does None is = none-does (place_after (searches p) place) refl
+      row-does (Some row) is = decision-does row (found-row s folder place u row fits.valid is) (decide p (info_in row.name)) refl
+
+      look-does : (clock : ℕ) (r : DirReply) → DoesBy s number asked x clock (look_turn number x place tries) r
+      look-does clock reply.Ok = row-does (row_named u (rows_of s folder place)) refl
+      look-does clock reply.Exists = ends-does reply.Exists refusal.Fault
+      look-does clock reply.NotFound = ends-does reply.NotFound refusal.Fault
+      look-does clock reply.Fault = ends-does reply.Fault refusal.Fault
+
+-- ---- the act
+
+module _ (s : State) (number : ℕ) (asked : Call) (sound : IsSound s) (one : HasOnePath s) (folder : ℕ) (u : List ℕ) (place : Place) (row : Row) (tries : ℕ)
+    (clock : ℕ) (faulted : Bool) (sized : HasSize (mailbox_of s) u row.size) where
+  abbrev info : Info
+  info = info_in row.name
+
+  abbrev acting : Purpose → ErrandOf
+  acting p = on folder u p (Act place row tries)
+
+  abbrev DoesAct : Purpose → DirReply → Type 0
+  DoesAct p r = DoesBy s number asked (acting p) clock (stage_turn number (acting p) (Act place row tries)) r
+
+  abbrev had : Set
+  had = shown info
+
+  -- the message that a mark acts on
+  module _ (p : Purpose) (fits : ErrandFits s asked (acting p)) (k : ℕ) (at : file_at s (path_of folder place row.name) ≡ Some k) where
+    abbrev entry : Entry
+    entry = entry_of s (path_of folder place row.name) k
+
+    before : get (mailbox_of s) u ≡ Some entry
+    before = shows-mailbox s u entry one (record {
+      path = path_of folder place row.name;
+      file = k;
+      there = at;
+      message = and_from _ _ (ap not (not-tmp p place fits.stage.at)) fits.stage.named;
+      unique = fits.stage.unique;
+      entry = refl;
+    })
+
+    shows-had : flags_of info ≡ Some had → flags_of (info_of row.name) ≡ Some had
+    shows-had is = ap flags_of (sym (info-in row.name fits.stage.named)) ∙ is
+
+  done-does : (p : Purpose) → ErrandFits s asked (acting p) →
+      reply.Ok ≡ reply_of (ask_of (asked_of (deed_by p folder u place row.name info)) clock) s faulted → DoesAct p reply.Ok
+  done-does (Seen given) fits replied =
+      let here = there (file_at s (path_of folder place row.name)) _ NotFound (accepted _ faulted (sym replied)) in
+      let shows = shows-had (Seen given) fits here.0 here.1 (acts-flags (flags_of info) fits.stage.acts) in
+      let new = one-place (Seen given) place refl fits.stage.at in
+      gives-flags s number asked (acting (Seen given)) sound one fits place row.name here.0 had (not-tmp (Seen given) place fits.stage.at) fits.stage.named
+      fits.stage.unique shows here.1 (wanted (Seen given) had) row.size
+      (ap (λ (c : Call). alone c (mailbox_of s)) fits.of
+      ∙ alone-seen (mailbox_of s) folder u (entry (Seen given) fits here.0 here.1) had (before (Seen given) fits here.0 here.1) refl shows given fits.tries new)
+      (ap (λ (c : Call). is_effect_at c (asked_of (deed_by (Seen given) folder u place row.name info)) reply.Ok (Some (answer_by (Seen given) info))) fits.of)
+      (subst (λ (q : Place). MayGetFlags q row.name (wanted (Seen given) had)) (sym new) (had, shows, subset-union had given))
+  done-does (Flag add remove) fits replied =
+      let here = there (file_at s (path_of folder place row.name)) _ NotFound (accepted _ faulted (sym replied)) in
+      let acts = acts-flag (Flag add remove) (flags_of info) fits.stage.acts in
+      let shows = shows-had (Flag add remove) fits here.0 here.1 acts.0 in
+      let cur = one-place (Flag add remove) place refl fits.stage.at in
+      gives-flags s number asked (acting (Flag add remove)) sound one fits place row.name here.0 had (not-tmp (Flag add remove) place fits.stage.at)
+      fits.stage.named fits.stage.unique shows here.1 (wanted (Flag add remove) had) row.size
+      (ap (λ (c : Call). alone c (mailbox_of s)) fits.of
+      ∙ alone-flags (mailbox_of s) folder u (entry (Flag add remove) fits here.0 here.1) had (before (Flag add remove) fits here.0 here.1) refl shows add
+      remove fits.tries cur acts.1)
+      (ap (λ (c : Call). is_effect_at c (asked_of (deed_by (Flag add remove) folder u place row.name info)) reply.Ok
+      (Some (answer_by (Flag add remove) info))) fits.of)
+      (subst (λ (q : Place). MayGetFlags q row.name (wanted (Flag add remove) had)) (sym cur) (had, shows))
+  done-does (Move to) fits replied =
+      let here = there (file_at s (path_of folder place row.name)) _ NotFound (accepted _ faulted (sym replied)) in
+      rename-does s number asked folder u to place row tries here.0 sound one fits here.1
+  done-does (Copy to fresh) fits replied =
+      let here = there (file_at s (path_of folder place row.name)) _ NotFound (accepted _ faulted (sym replied)) in
+      link-does s number asked folder u to fresh place row tries here.0 sound one fits sized here.1
+  done-does Expunge fits replied =
+      let here = there (file_at s (path_of folder place row.name)) _ NotFound (accepted _ faulted (sym replied)) in
+      unlink-does s number asked folder u place row tries here.0 sound one fits here.1
+
+  module _ (p : Purpose) (fits : ErrandFits s asked (acting p)) where
+    abbrev made : Asked
+    made = asked_of (deed_by p folder u place row.name info)
+
+    stops-does : (r : DirReply) (a : Refusal) → IsRefusal r → Does s s number asked (Errand (acting p)) made r (as_after Errand (refuses (acting p) a))
+    stops-does r a failed = refuses-does s number asked sound one (acting p) fits made r a
+        (deed-none folder u fits.tries place row.name info (Some (refused_by a)) p r failed)
+
+    again-does : (b : Bool) → nat_le tries 1 ≡ b → Does s s number asked (Errand (acting p)) made reply.NotFound
+        (as_after Errand (cond b (refuses (acting p) refusal.Lost) (goes_on (at_stage (acting p) (Look (first p) (tries - 1))))))
+    again-does true is = stops-does reply.NotFound refusal.Lost tt
+    again-does false is =
+        let more : 1 < tries = grind (arith, nat_tests) in
+        goes-does s number asked sound one (acting p) fits made reply.NotFound (Look (first p) (tries - 1)) (inl refl)
+        (deed-none folder u fits.tries place row.name info None p reply.NotFound tt) (again-left (searches p) (first p) place row tries more)
+        (λ v size its. absurd its)
+
+    act-does : (r : DirReply) → r ≡ reply_of (ask_of made clock) s faulted → DoesAct p r
+    act-does reply.Ok replied = done-does p fits replied
+    act-does reply.Exists replied = stops-does reply.Exists (taken_by (deed_by p folder u place row.name info)) tt
+    act-does reply.NotFound replied = again-does (nat_le tries 1) refl
+    act-does reply.Fault replied = stops-does reply.Fault refusal.Fault tt
+
+-- ---- any stage
+
+module _ (s : State) (number : ℕ) (asked : Call) (at : Moment) (faulted : Bool) (sound : IsSound s) (one : HasOnePath s) (folder : ℕ) (u : List ℕ)
+    (p : Purpose) where
+  abbrev DoesStage : Stage → Type 0
+  DoesStage stage = ErrandFits s asked (on folder u p stage) → ((v : List ℕ) (size : ℕ) → FoundAt u stage v size → HasSize (mailbox_of s) v size) →
+      DoesBy s number asked (on folder u p stage) at.clock (stage_turn number (on folder u p stage) stage)
+      (reply_of (ask_of (stage_turn number (on folder u p stage) stage).asked at.clock) s faulted)
+
+  stage-does : (stage : Stage) → DoesStage stage
+  stage-does (Look place tries) fits known = look-does s number asked sound one folder u place tries p fits at.clock _
+  stage-does (Act place row tries) fits known =
+      act-does s number asked sound one folder u place row tries at.clock faulted (known u row.size (refl, refl)) p fits _ refl
+
+-- What a turn of an errand does.
+pub errand-does : (s : State) (number : ℕ) (asked : Call) (at : Moment) (faulted : Bool) → IsSound s → HasOnePath s → (e : ErrandOf) → ErrandFits s asked e →
+    ((u : List ℕ) (size : ℕ) → FoundAt e.unique e.stage u size → HasSize (mailbox_of s) u size) →
+    DoesBy s number asked e at.clock (errand_turn number e) (reply_of (ask_of (errand_turn number e).asked at.clock) s faulted)
+errand-does s number asked at faulted sound one e fits known = stage-does s number asked at faulted sound one e.folder e.unique e.purpose e.stage fits known

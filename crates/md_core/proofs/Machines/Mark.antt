@@ -1,4 +1,0 @@
-pub mod Moves
-pub mod Sets
-pub mod Does
-pub mod Turns

@@ -1,0 +1,346 @@
+//! The table of errands, a row for each purpose: the places that it looks in, what it decides of a message that it found, and what it does
+//! with it.
+ghost use Rattle.std.specs.Prelude.{◌≡◌, IfOk, IfErr, MatchResult};
+ghost use Rattle.md_dirs.specs.Path.{path_of};
+ghost use Rattle.md_dirs.specs.Calls.{Obeys, calls_after};
+ghost use Rattle.md_name.specs.Names.{flags_of, flagged};
+ghost use Rattle.md_core.specs.Alone.{is_same_set};
+ghost use Rattle.md_core.specs.Asked.{ask_of, shown_call};
+ghost use Rattle.md_core.specs.Machines.Purposes.{first, searches, place_after, info_in, wanted as wanted_by, shown as shown_by, has_trashed, act_if as act_if_by, decide_flag, decide as decide_by, answer_by, name_copied, deed_by};
+ghost use Rattle.md_core.specs.Machines.Errand.{asked_of, change_of, taken_by};
+
+use crate::error::CoreError;
+use crate::jobs::answer::Answer;
+use crate::jobs::effect::Change;
+use crate::jobs::refusal::Refusal;
+use crate::jobs::step::DirCall;
+use md_dirs::{Bytes, DirError, Dirs, Path, Place};
+use md_name::laws::only_letters;
+use md_name::{Flags, Info, split, with_flags};
+use std::alloc::{AllocError, Global};
+
+/// What an errand is for.
+#[derive(Debug, Drop)]
+pub enum Purpose {
+    /// A new message goes to cur, its flags joined by these.
+    Seen(Flags),
+    /// A message of cur gets those that are added, and then loses those that are removed.
+    Flag { add: Flags, remove: Flags },
+    /// A message goes to another folder, and keeps its place and its whole name.
+    Move { to: u32 },
+    /// A message gets a second one of its file, under a fresh name in the same place of a folder.
+    Copy { to: u32, fresh: Bytes },
+    /// A message of cur that has the flag T (trashed) goes.
+    Expunge,
+}
+
+/// What an errand does with a message that it found.
+#[derive(Clone, Copy, Debug)]
+pub enum Decision {
+    /// It ends without an effect.
+    Refuse(Refusal),
+    /// The message is as it should be: that takes effect at once.
+    Keep,
+    /// It acts on the name.
+    Act,
+}
+
+/// A directory call that an errand makes, with its paths.
+#[derive(Debug, Drop)]
+pub enum Deed {
+    Rename { old: Path, new: Path },
+    Link { old: Path, new: Path },
+    Unlink { old: Path },
+}
+
+// The info of a message's name. What is no message's name has other info.
+fn info_of(name: &[u8]) -> Info
+    ensures { result ≡ info_in name.now }
+{
+    match split(name) {
+        Some((_, info)) => info,
+        None => Info::Opaque,
+    }
+}
+
+// Whether two sets have the same letters.
+fn is_same(first: Flags, second: Flags) -> bool
+    ensures { result ≡ is_same_set first second }
+{
+    only_letters(first);
+    only_letters(second);
+    first == second
+}
+
+// The flags of a message, and none where it has other info.
+fn shown(name: &[u8]) -> Flags
+    ensures { result ≡ shown_by (info_in name.now) }
+{
+    match info_of(name).flags() {
+        Some(flags) => flags,
+        None => Flags::empty(),
+    }
+}
+
+// Whether a message has the flag T.
+fn is_trashed(name: &[u8]) -> bool
+    ensures { result ≡ has_trashed (flags_of (info_in name.now)) }
+{
+    match info_of(name).flags() {
+        Some(flags) => flags.has(b'T'),
+        None => false,
+    }
+}
+
+// What is done by a test, or refused.
+fn act_if(test: bool, refusal: Refusal) -> Decision
+    ensures { result ≡ act_if_by test refusal }
+{
+    if test {
+        return Decision::Act;
+    }
+    Decision::Refuse(refusal)
+}
+
+// A path, of a copy of the name.
+fn path(alloc: Global, folder: u32, place: Place, name: &Bytes) -> Result<Path, AllocError>
+    ensures { IfOk result (λ path. path ≡ path_of folder place name.now) }
+{
+    Ok(Path {
+        folder,
+        place,
+        name: name.again(alloc)?,
+    })
+}
+
+// A unique name with flags.
+fn named(alloc: Global, unique: &Bytes, flags: Flags) -> Result<Bytes, CoreError>
+    ensures { MatchResult result (λ name. name ≡ flagged unique.now flags) (λ e. e ≡ CoreError.NoMemory) }
+{
+    match with_flags(alloc, unique.as_slice(), flags) {
+        Ok(name) => Ok(Bytes::of(name)),
+        Err(_) => Err(CoreError::NoMemory),
+    }
+}
+
+// The whole name of a copy: it shows the flags of the message, where that has info.
+fn copied_name(alloc: Global, fresh: &Bytes, info: Info) -> Result<Bytes, CoreError>
+    ensures { MatchResult result (λ name. name ≡ name_copied fresh.now info) (λ e. e ≡ CoreError.NoMemory) }
+{
+    match info {
+        Info::Two(flags) => named(alloc, fresh, flags),
+        Info::Bare => Ok(fresh.again(alloc)?),
+        Info::Opaque => Ok(fresh.again(alloc)?),
+    }
+}
+
+impl Purpose {
+    /// The place that is looked in first.
+    pub(crate) fn first(&self) -> Place
+        ensures { result ≡ first self.now }
+    {
+        match self {
+            Purpose::Seen(_) => Place::New,
+            Purpose::Flag { .. } => Place::Cur,
+            Purpose::Move { .. } => Place::New,
+            Purpose::Copy { .. } => Place::New,
+            Purpose::Expunge => Place::Cur,
+        }
+    }
+
+    // Whether cur is looked in too, where the message is not in new.
+    fn searches(&self) -> bool
+        ensures { result ≡ searches self.now }
+    {
+        match self {
+            Purpose::Seen(_) => false,
+            Purpose::Flag { .. } => false,
+            Purpose::Move { .. } => true,
+            Purpose::Copy { .. } => true,
+            Purpose::Expunge => false,
+        }
+    }
+
+    /// The place that is looked in after this one.
+    pub(crate) fn after(&self, place: Place) -> Option<Place>
+        ensures { result ≡ place_after (searches self.now) place }
+    {
+        let searches = self.searches();
+        match place {
+            Place::New => { if searches { Some(Place::Cur) } else { None } }
+            Place::Tmp => None,
+            Place::Cur => None,
+        }
+    }
+
+    // The flags that a message with these gets.
+    fn wanted(&self, had: Flags) -> Flags
+        ensures { result ≡ wanted_by self.now had }
+    {
+        match self {
+            Purpose::Seen(given) => had.with(*given),
+            Purpose::Flag { add, remove } => had.with(*add).without(*remove),
+            Purpose::Move { .. } => had,
+            Purpose::Copy { .. } => had,
+            Purpose::Expunge => had,
+        }
+    }
+
+    // A Flag keeps the name of a message that has its flags.
+    fn decide_flag(&self, name: &[u8]) -> Decision
+        ensures { result ≡ decide_flag self.now (flags_of (info_in name.now)) }
+    {
+        let Some(had) = info_of(name).flags() else {
+            return Decision::Refuse(Refusal::OtherInfo);
+        };
+        if is_same(had, self.wanted(had)) {
+            return Decision::Keep;
+        }
+        Decision::Act
+    }
+
+    /// What is decided of a message of this name.
+    pub(crate) fn decide(&self, name: &[u8]) -> Decision
+        ensures { result ≡ decide_by self.now (info_in name.now) }
+    {
+        match self {
+            Purpose::Seen(_) => act_if(info_of(name).flags().is_some(), Refusal::OtherInfo),
+            Purpose::Flag { .. } => self.decide_flag(name),
+            Purpose::Move { .. } => Decision::Act,
+            Purpose::Copy { .. } => act_if(info_of(name).flags().is_some(), Refusal::OtherInfo),
+            Purpose::Expunge => act_if(is_trashed(name), Refusal::NotTrashed),
+        }
+    }
+
+    // The answer that says which flags the message has then.
+    fn flags(&self, name: &[u8]) -> Answer
+        ensures { result ≡ Answer.Flags (wanted_by self.now (shown_by (info_in name.now))) }
+    {
+        Answer::Flags(self.wanted(shown(name)))
+    }
+
+    /// The answer of one whose call took effect on a message of this name.
+    pub(crate) fn answer(&self, name: &[u8]) -> Answer
+        ensures { result ≡ answer_by self.now (info_in name.now) }
+    {
+        match self {
+            Purpose::Seen(_) => self.flags(name),
+            Purpose::Flag { .. } => self.flags(name),
+            Purpose::Move { .. } => Answer::Moved,
+            Purpose::Copy { .. } => Answer::Copied,
+            Purpose::Expunge => Answer::Expunged,
+        }
+    }
+
+    /// What is done with a message of this unique name, place and whole name, in a folder. The names are copies, so that a directory call
+    /// that was made needs no memory.
+    pub(crate) fn deed(
+        &self,
+        alloc: Global,
+        folder: u32,
+        unique: &Bytes,
+        place: Place,
+        name: &Bytes,
+    ) -> Result<Deed, CoreError>
+        ensures { MatchResult result (λ deed. deed ≡ deed_by self.now folder unique.now place name.now (info_in name.now)) (λ e. e ≡ CoreError.NoMemory) }
+    {
+        let old = path(alloc, folder, place, name)?;
+        match self {
+            Purpose::Seen(_) => self.marked(alloc, old, unique),
+            Purpose::Flag { .. } => self.marked(alloc, old, unique),
+            Purpose::Move { to } => {
+                let new = path(alloc, *to, place, name)?;
+                Ok(Deed::Rename { old, new })
+            }
+            Purpose::Copy { to, fresh } => {
+                let name = copied_name(alloc, fresh, info_of(name.as_slice()))?;
+                let new = Path {
+                    folder: *to,
+                    place,
+                    name,
+                };
+                Ok(Deed::Link { old, new })
+            }
+            Purpose::Expunge => Ok(Deed::Unlink { old }),
+        }
+    }
+
+    // A message gets its flags by another name in cur.
+    fn marked(&self, alloc: Global, old: Path, unique: &Bytes) -> Result<Deed, CoreError>
+        ensures { MatchResult result
+            (λ deed. deed ≡ Deed.Rename old (path_of old.folder Place.Cur (flagged unique.now (wanted_by self.now (shown_by (info_in old.name))))))
+            (λ e. e ≡ CoreError.NoMemory) }
+    {
+        let flags = self.wanted(shown(old.name.as_slice()));
+        let name = named(alloc, unique, flags)?;
+        let new = Path {
+            folder: old.folder,
+            place: Place::Cur,
+            name,
+        };
+        Ok(Deed::Rename { old, new })
+    }
+}
+
+impl Deed {
+    /// Makes the directory call. No clock plays a part in it.
+    pub(crate) fn make<D: Dirs>(&self, dirs: &mut D) -> Result<(), DirError>
+        ensures meets { Obeys (ask_of (asked_of self.now) 0) (D.state dirs.old) (D.failures dirs.old) result (D.state dirs.new) (D.failures dirs.new) }
+        ensures counted { D.calls dirs.new ≡ calls_after result (D.calls dirs.old) }
+    {
+        match self {
+            Deed::Rename { old, new } => dirs.rename(old, new),
+            Deed::Link { old, new } => dirs.link(old, new),
+            Deed::Unlink { old } => dirs.unlink(old),
+        }
+    }
+
+    /// The directory call, as a step shows it.
+    pub(crate) fn shown(&self) -> DirCall
+        ensures { result ≡ shown_call (asked_of self.now) }
+    {
+        match self {
+            Deed::Rename { .. } => DirCall::Rename,
+            Deed::Link { .. } => DirCall::Link,
+            Deed::Unlink { .. } => DirCall::Unlink,
+        }
+    }
+
+    /// What it changed, with a message of this size.
+    pub(crate) fn change(self, size: u64) -> Change
+        ensures { result ≡ change_of self size }
+    {
+        match self {
+            Deed::Rename { old, new } => Change::Rename {
+                folder: old.folder,
+                place: old.place,
+                name: old.name,
+                to_folder: new.folder,
+                to_place: new.place,
+                to_name: new.name,
+            },
+            Deed::Link { new, .. } => Change::Add {
+                folder: new.folder,
+                place: new.place,
+                name: new.name,
+                size,
+            },
+            Deed::Unlink { old } => Change::Remove {
+                folder: old.folder,
+                place: old.place,
+                name: old.name,
+            },
+        }
+    }
+
+    /// What it says where a name is there: a link makes a name, and nothing else does.
+    pub(crate) fn taken(&self) -> Refusal
+        ensures { result ≡ taken_by self.now }
+    {
+        match self {
+            Deed::Link { .. } => Refusal::NameTaken,
+            Deed::Rename { .. } => Refusal::Fault,
+            Deed::Unlink { .. } => Refusal::Fault,
+        }
+    }
+}
