@@ -1,11 +1,19 @@
 -- Runs on threads: why there is no report, and what the next answer adds to one.
-use Rattle.std.proofs.Common.{◌≡◌, ℕ, ◌+◌, ◌<◌, ◌++◌, inl, inr, true, List, Result, Ok, Err, refl, sym, ap, subst, ◌∙◌, zero, suc, is_some, Option, Some, None, Bool, All, [], ◌∷◌, arith, add-one, append_assoc, append-nil, IfOk, OnOk}
-use Rattle.std.proofs.lemmas.List.Elements.{All-push}
-use Rattle.std.specs.Global.{Vec}
+use Rattle.std.proofs.Common.{◌≡◌, ℕ, ◌+◌, ◌<◌, ◌==◌, ◌++◌, inl, inr, true, List, Result, Ok, Err, refl, sym, ap, subst, ◌∙◌, zero, suc, is_some, not, Option, Some, None, Bool, All, [], ◌∷◌, arith, add-one, append_assoc, append-nil, length, length-append, map, OnOk}
+use Rattle.std.specs.Prelude.{slice_index_or}
 use Rattle.std.specs.declared.alloc.AllocError.{AllocError}
+use Rattle.std.specs.List.{list_all}
+use Rattle.std.proofs.lemmas.Bool.{eqb-true}
+use Rattle.std.proofs.lemmas.List.{length-map}
+use Rattle.std.proofs.lemmas.List.Sums.{AllPass-from_list_all}
+use Rattle.md_view.proofs.Rows.{and-first, and-second}
+use Rattle.md_core.specs.declared.jobs.call.Call.{Call}
 use Rattle.md_core.specs.declared.jobs.answer.Answer.{Answer}
-use Rattle.md_core.specs.Machine.{Standing, Marked, marked, job_at}
-use Rattle.md_core.specs.Runs.{Run, answer_of, and_event, and_events}
+use Rattle.md_core.specs.declared.jobs.step.Event.{Event}
+use Rattle.md_core.specs.Stepping.{IsRun}
+use Rattle.md_core.specs.Machine.{Standing, Marked, job_at}
+use Rattle.md_core.specs.Runs.{Run, answer_of, and_events, failures_of, log_of}
+use Rattle.md_store.specs.Locks.{IsFresh, IsSince}
 use Rattle.md_script.specs.declared.error.PlayError.{PlayError}
 use Rattle.md_script.specs.Reading.{IsWhole}
 use Rattle.md_script.specs.Sinks.{Sink, Untouched}
@@ -13,7 +21,7 @@ use Rattle.md_script.specs.Sources.{Source}
 use Rattle.md_script.specs.Texts.{answer_line}
 use Rattle.md_runs.specs.declared.fault.RunFault.{RunFault}
 use Rattle.md_runs.specs.declared.fault.RunFault.TheVariants.{Play, NoReader, Closed}
-use Rattle.md_runs.specs.Threading.{answers_text, report_of, AllAnswered, GoesOn, Interleaving, IsStop, IsUnreported, RunsThreads}
+use Rattle.md_runs.specs.Threading.{answers_text, is_at_zero, AllAnswered, Interleaving, IsStop, IsUnreported, RunsThreads}
 
 -- one more answer
 pub answers-next : (jobs : List Standing) (n : ℕ) → answers_text jobs (n + 1) ≡ answers_text jobs n ++ answer_line (n + 1) (answer_of (job_at jobs (n + 1)))
@@ -49,28 +57,56 @@ pub more-answered : (jobs : List Standing) (n : ℕ) (a : Answer) → ((k : ℕ)
     → (k : ℕ) → k < n + 1 → is_some (answer_of (job_at jobs (k + 1))) ≡ true
 more-answered jobs n a below has = below-next (λ k. is_some (answer_of (job_at jobs (k + 1))) ≡ true) n below (ap is_some has)
 
--- a run goes on by no event
-pub none-more : (r : Run) → GoesOn r r
-none-more r = record { events = []; is = ap (λ es. record r { events = es }) (sym (append-nil r.events)); at_zero = λ k d within. absurd (omega arith) }
+index-map : {X Y : Type 0} (f : Y → X) (ys : List Y) (k : ℕ) (d : Y) → slice_index_or (map f ys) k (f d) ≡ f (slice_index_or ys k d)
+index-map f [] k d = refl
+index-map f (y ∷ ys) zero d = refl
+index-map f (y ∷ ys) (suc k) d = index-map f ys k d
 
--- a run that goes on at moment 0, and then by one more event at moment 0
-pub one-more : (begun r s : Run) (job : ℕ) (faulted : Bool) → GoesOn begun r → s ≡ and_event r (marked job 0 None faulted) → GoesOn begun s
-one-more begun r s job faulted before is =
-    let e : Marked = marked job 0 None faulted in
+-- what holds of each image holds of each element by its image
+all-unmap : {X Y : Type 0} (P : X → Type 0) (f : Y → X) (ys : List Y) → All P (map f ys) → All (λ y. P (f y)) ys
+all-unmap P f ys all k d within = subst P (index-map f ys k d) (all k (f d) (omega (arith, within, length-map ys f)))
+
+none-there : (o : Option ℕ) → not (is_some o) ≡ true → o ≡ None
+none-there None is = refl
+none-there (Some x) is = cc
+
+all-at_zero : (es : List Event) → list_all is_at_zero es ≡ true → All (λ e. (e.now ≡ 0) × (e.own ≡ None)) es
+all-at_zero es is k d within =
+    let e : Event = slice_index_or es k d in
+    let passes : is_at_zero e ≡ true = AllPass-from_list_all is_at_zero es is k d within in
+    (eqb-true e.now 0 (and-first (e.now == 0) (not (is_some e.own)) passes), none-there e.own (and-second (e.now == 0) (not (is_some e.own)) passes))
+
+-- the run of a store that was opened with jobs, each of which has its answer now
+pub interleaved : (begun r : Run) → IsFresh begun → IsSince begun r → length r.calls ≡ length begun.calls
+    → list_all is_at_zero (log_of r) ≡ true → IsRun r → failures_of r ≡ 0 → AllAnswered r → Interleaving begun r
+interleaved begun r fresh since many at_zero run faultless answered =
+    let calls : begun.calls ++ since.calls ≡ begun.calls = none-more since.calls
+    (omega (arith, many, ap (λ (x : Run). length x.calls) since.is, length-append begun.calls since.calls)) in
+    let is : r ≡ and_events begun since.events = since.is ∙ ap (λ cs. record begun { calls = cs; events = begun.events ++ since.events }) calls in
+    let events : r.events ≡ since.events = ap (λ (x : Run). x.events) since.is ∙ ap (λ es. es ++ since.events) fresh in
     record {
-      events = before.events ++ e ∷ [];
-      is = is
-          ∙ ap (λ (x : Run). and_event x e) before.is
-          ∙ ap (λ (es : List Marked). record begun { events = es }) (append_assoc begun.events before.events (e ∷ []));
-      at_zero = All-push (λ (m : Marked). (m.event.now ≡ 0) × (m.event.own ≡ None)) before.events e before.at_zero (refl, refl);
+      goes_on = record {
+        events = since.events;
+        is = is;
+        at_zero = subst (All (λ e. (e.event.now ≡ 0) × (e.event.own ≡ None))) events
+            (all-unmap (λ (e : Event). (e.now ≡ 0) × (e.own ≡ None)) (λ (e : Marked). e.event) r.events (all-at_zero (log_of r) at_zero));
+      };
+      is_run = run;
+      faultless = faultless;
+      answered = answered;
     }
+  where
+    none-more : (more : List Call) → length more ≡ 0 → begun.calls ++ more ≡ begun.calls
+    none-more [] none = append-nil begun.calls
+    none-more (x ∷ more) none = absurd (omega (arith, none))
 
--- the report of an interleaving, where it is one once each job has its answer
-pub reported : (names : List (List ℕ)) (begun r : Run) (result : Result (Vec ℕ) AllocError) → (AllAnswered r → Interleaving begun r) →
-    OnOk result (AllAnswered r)
-    → IfOk result (λ text. text.items ≡ report_of names r) → IfOk result (λ text. (x : Run) × Interleaving begun x × (text.items ≡ report_of names x))
-reported names begun r (Ok text) ends answered is = (r, ends answered, is)
-reported names begun r (Err e) ends answered is = tt
+-- the same of what is answered
+pub ends : {A : Type 0} (r : Run) (jobs : ℕ) (res : Result A AllocError) → length r.calls ≡ jobs → list_all is_at_zero (log_of r) ≡ true
+    → IsRun r → failures_of r ≡ 0 → OnOk res (AllAnswered r)
+    → OnOk res ((begun : Run) → IsFresh begun → IsSince begun r → jobs ≡ length begun.calls → Interleaving begun r)
+ends r jobs (Ok text) many at_zero run faultless answered =
+    λ begun fresh since begins. interleaved begun r fresh since (many ∙ begins) at_zero run faultless answered
+ends r jobs (Err e) many at_zero run faultless answered = tt
 
 -- threads that made no report of a store made none of its script
 pub stopped : (script : List ℕ) (fault : RunFault) → IsStop fault → IsUnreported script fault

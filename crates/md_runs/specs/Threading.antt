@@ -1,5 +1,6 @@
 -- What a run on threads writes of a script, and where it is refused.
-use Rattle.std.specs.Prelude.{◌≡◌, ℕ, zero, suc, ◌+◌, ◌<◌, ◌⊎◌, true, List, [], ◌∷◌, ◌++◌, None, Result, Ok, Err, All, length, is_some, codes}
+use Rattle.std.specs.Prelude.{◌≡◌, ℕ, zero, suc, ◌+◌, ◌<◌, ◌==◌, ◌&&◌, ◌⊎◌, Bool, true, not, List, [], ◌∷◌, ◌++◌, None, Result, Ok, Err, All, length, is_some, codes}
+use Rattle.md_core.specs.declared.jobs.step.Event.{Event}
 use Rattle.md_core.specs.Machine.{Standing, Marked, job_at}
 use Rattle.md_core.specs.Mailbox.{Mailbox, mailbox_of}
 use Rattle.md_core.specs.Runs.{Run, dirs_of, jobs_of, failures_of, answer_of, and_events}
@@ -38,6 +39,10 @@ report_of names r = answers_text (jobs_of r) (length r.calls) ++ folders_text (m
 -- each job has its answer
 abbrev pub AllAnswered : Run → Type 0
 AllAnswered r = (n : ℕ) → n < length r.calls → is_some (answer_of (job_at (jobs_of r) (n + 1))) ≡ true
+
+-- whether a step was at moment 0, and its job had no moment of its own
+abbrev pub is_at_zero : Event → Bool
+is_at_zero e = (e.now == 0) && not (is_some e.own)
 
 -- the run goes on from there by events at moment 0, at which no job has a moment of its own
 pub record GoesOn (begun r : Run) : Type 0 where

@@ -3,15 +3,15 @@
 ghost use Rattle.std.specs.Prelude.{◌≤◌, MatchResult};
 ghost use Rattle.md_runs.specs.Threading.{Reports, IsUnreported, RunsThreads};
 
-mod replay;
+mod report;
 mod setting_up;
 mod share;
 mod sharing;
 
 use crate::fault::RunFault;
 use md_script::{PlayKind, Sink, Source, read_script, write_whole};
-use replay::replay;
-use setting_up::set_up;
+use report::ended;
+use setting_up::{Made, set_up};
 use sharing::share;
 use std::alloc::Global;
 use std::sync::Wait;
@@ -41,10 +41,10 @@ pub fn run_threads<R: Threads + Wait + Sync, S: Source, T: Sink>(
     Ok(())
 }
 
-/// What the threads print of a script, which a replay of their steps prints too.
+/// What the threads print of a script.
 ///
-/// A lock tells what holds of whatever it keeps, and not that it keeps these jobs. So the steps are taken once more over a world of the
-/// same script, and what that prints is compared. The two differ only where a last effect couldn't be published for want of memory.
+/// The type of the store's lock keeps the jobs and the files that the store was opened with. So the world that it leaves is known to be
+/// theirs, and what it prints is compared. The two differ only where a last effect couldn't be published for want of memory.
 fn threads_text<R: Threads + Wait + Sync>(
     rt: &R,
     alloc: Global,
@@ -53,12 +53,13 @@ fn threads_text<R: Threads + Wait + Sync>(
 ) -> Result<Vec<u8>, RunFault>
     ensures { MatchResult result (λ text. Reports script.now text.items) (IsUnreported script.now) }
 {
-    let begun = set_up(alloc, script)?;
-    let shared = share(rt, alloc, threads, begun)?;
-    let again = set_up(alloc, script)?;
-    let replayed = replay(alloc, again, shared.world.log())?;
-    if shared.text.as_slice() != replayed.as_slice() {
+    let made = set_up(alloc, script)?;
+    let Made { names, world } = made;
+    let jobs = world.jobs();
+    let shared = share(rt, alloc, threads, &names, world)?;
+    let text = ended(alloc, &shared.world, &names, jobs)?;
+    if shared.text.as_slice() != text.as_slice() {
         return Err(RunFault::from(PlayKind::NoMemory));
     }
-    Ok(replayed)
+    Ok(text)
 }

@@ -4,7 +4,9 @@ pub mod Legal
 pub mod Good
 pub mod Looking
 pub mod Keeps
+pub mod Since
 pub mod Moves
 pub mod Told
 pub mod Fresh
 pub mod Submits
+pub mod Last

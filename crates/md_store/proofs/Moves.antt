@@ -1,24 +1,29 @@
 -- What the value behind the lock keeps at each move.
-use Rattle.std.proofs.Common.{◌≡◌, ℕ, ◌<◌, ◌≤◌, ◌⊎◌, Bool, true, false, List, [], ◌∷◌, ◌++◌, length, fold, refl, sym, ap, ◌∙◌, subst, ⊎_elim, inl, inr, arith, length-append, Option, Some, None, is_some, IfSome, Ok, Err, Result, MatchResult, IfOk, OnErr}
+use Rattle.std.proofs.Common.{◌≡◌, ℕ, ◌+◌, ◌<◌, ◌≤◌, ◌⊎◌, Bool, true, false, List, [], ◌∷◌, ◌++◌, length, fold, refl, sym, ap, ◌∙◌, subst, ⊎_elim, inl, inr, arith, length-append, Option, Some, None, is_some, IfSome, Ok, Err, Result, MatchResult, IfOk, OnOk, OnErr}
 use Rattle.std.specs.Prelude.{slice_index_or}
 use Rattle.std.specs.Option.{option_map, option_to_list}
 use Rattle.std.specs.declared.alloc.AllocError.{AllocError}
 use Rattle.std.proofs.lemmas.List.{append-nil}
 use Rattle.logbook.specs.Pages.{Book}
 use Rattle.md_core.specs.declared.error.CoreError.{CoreError}
+use Rattle.md_core.specs.declared.jobs.call.Call.{Call}
+use Rattle.md_core.specs.declared.world.submit.SubmitRefused.{SubmitRefused}
 use Rattle.md_core.specs.declared.jobs.effect.Effect.{Effect}
 use Rattle.md_core.specs.declared.jobs.step.StepOut.{StepOut}
 use Rattle.md_core.specs.Asked.{is_fault}
 use Rattle.md_core.specs.declared.jobs.task.Task.{Task}
 use Rattle.md_core.specs.Machine.{Machine, Marked, marked, done_by, task_of, job_at, done as done_of}
 use Rattle.md_core.specs.Trace.{Step}
-use Rattle.md_core.specs.Runs.{Run, machine_of, and_event, effects_of}
+use Rattle.md_core.specs.Runs.{Run, machine_of, and_event, and_call, effects_of}
 use Rattle.md_core.specs.Stepping.{ShowsStep}
 use Rattle.md_view.specs.Named.{Named, named_of}
 use Rattle.md_store.specs.declared.rule.View.{View}
 use Rattle.md_store.specs.Pages.{Log, Page, Note}
-use Rattle.md_store.specs.Locks.{IsLocked, Lags}
+use Rattle.md_store.specs.Locks.{IsLocked, IsSince, Lags}
 use Rattle.md_store.specs.Publishing.{CanFollow, Shows, turned, knower}
+use mathlib.Core.List.{IsPrefix}
+use Rattle.md_store.proofs.Beginnings.{all_of_it}
+use Rattle.md_store.proofs.Since.{since-event, since-call}
 
 -- the effects after a step, by whether it was one
 abbrev Grows : Run → Run → ℕ → Bool → Type 0
@@ -56,15 +61,16 @@ one_effect r s e out h on = subst (Grows r s e.event.job) on (grows r s e out h)
 none_waits : (all shown : List Effect) (e : Effect) → shown ≡ all → all ≡ shown ++ e ∷ [] → {A : Type 0} → A
 none_waits all shown e a b = absurd (omega (arith, ap length a, ap length b, length-append shown (e ∷ [])))
 
-module _ (opening : Named) (book : Book) (shown : Page) (seat : View) (front : Log) (pending : List Note) where
-  nothing : (r : Run) → IsLocked opening book r shown seat front pending → shown.front.log ≡ effects_of r → pending ≡ []
+module _ (begun : Run) (opening : Named) (book : Book) (shown : Page) (seat : View) (front : Log) (pending : List Note) where
+  nothing : (r : Run) → IsLocked begun opening book r shown seat front pending → shown.front.log ≡ effects_of r → pending ≡ []
   nothing r k all = ⊎_elim (λ (e : pending ≡ []). e)
       (λ (n : (n : Note) × (pending ≡ n ∷ []) × CanFollow opening shown n × (n.front.log ≡ effects_of r)). none_waits
       (effects_of r) shown.front.log n.0.effect all (sym n.3 ∙ n.2.1)) k.waits
 
-  advances : (r s : Run) (job : ℕ) (b : Bool) → IsLocked opening book r shown seat front pending → shown.front.log ≡ effects_of r →
-      named_of s.image ≡ named_of r.image → Grows r s job b → IsLocked opening book s shown seat front pending
-  advances r s job b k all image t = record {
+  advances : (r s : Run) (job : ℕ) (b : Bool) → IsLocked begun opening book r shown seat front pending → shown.front.log ≡ effects_of r →
+      IsSince begun s → named_of s.image ≡ named_of r.image → Grows r s job b → IsLocked begun opening book s shown seat front pending
+  advances r s job b k all since image t = record {
+    since = since;
     image = image ∙ k.image;
     book_is = k.book_is;
     seat_is = k.seat_is;
@@ -77,15 +83,16 @@ module _ (opening : Named) (book : Book) (shown : Page) (seat : View) (front : L
   pub stepped : (r s : Run) (job now : ℕ) (own : Option ℕ) (res : Result StepOut CoreError) →
       IfOk res (λ out. s ≡ and_event r (marked job now own (is_fault out.reply)))
       → IfOk res (λ out. ShowsStep r s (marked job now own (is_fault out.reply)) out) → OnErr res (s ≡ r)
-      → IsLocked opening book r shown seat front pending → shown.front.log ≡ effects_of r → IsLocked opening book s shown seat front pending
+      → IsLocked begun opening book r shown seat front pending → shown.front.log ≡ effects_of r → IsLocked begun opening book s shown seat front pending
   stepped r s job now own (Ok out) event shows same k all =
-      advances r s job out.effect k all (ap (λ (x : Run). named_of x.image) event) (grows r s (marked job now own (is_fault out.reply)) out shows)
-  stepped r s job now own (Err e) event shows same k all = subst (λ (x : Run). IsLocked opening book x shown seat front pending) (sym same) k
+      advances r s job out.effect k all (since-event begun r s (marked job now own (is_fault out.reply)) k.since event) (ap (λ (x : Run). named_of x.image) event) (grows r s (marked job now own (is_fault out.reply)) out shows)
+  stepped r s job now own (Err e) event shows same k all = subst (λ (x : Run). IsLocked begun opening book x shown seat front pending) (sym same) k
 
   -- where image and effects stay
-  pub stays : (r s : Run) → IsLocked opening book r shown seat front pending → s.image ≡ r.image → effects_of s ≡ effects_of r →
-      IsLocked opening book s shown seat front pending
-  stays r s k image same = record {
+  pub stays : (r s : Run) → IsLocked begun opening book r shown seat front pending → IsSince begun s → s.image ≡ r.image → effects_of s ≡ effects_of r →
+      IsLocked begun opening book s shown seat front pending
+  stays r s k since image same = record {
+    since = since;
     image = ap named_of image ∙ k.image;
     book_is = k.book_is;
     seat_is = k.seat_is;
@@ -94,6 +101,13 @@ module _ (opening : Named) (book : Book) (shown : Page) (seat : View) (front : L
     front_is = subst (λ (l : List Effect). (front.log ≡ shown.front.log) ⊎ (front.log ≡ l)) (sym same) k.front_is;
     waits = subst (λ (l : List Effect). (pending ≡ []) ⊎ ((n : Note) × (pending ≡ n ∷ []) × CanFollow opening shown n × (n.front.log ≡ l))) (sym same) k.waits;
   }
+
+  -- a call that is submitted changes neither image nor effects
+  pub submitted : (r s : Run) (call : Call) (res : Result ℕ SubmitRefused) → IfOk res (λ job. (s ≡ and_call r call) × (job ≡ length r.calls + 1))
+      → OnOk res (effects_of s ≡ effects_of r) → OnErr res (s ≡ r) → IsLocked begun opening book r shown seat front pending →
+      IsLocked begun opening book s shown seat front pending
+  submitted r s call (Ok job) is effects same k = stays r s k (since-call begun r s call k.since is.0) (ap (λ (x : Run). x.image) is.0) effects
+  submitted r s call (Err e) is effects same k = subst (λ (x : Run). IsLocked begun opening book x shown seat front pending) (sym same) k
 
 -- a beginning as long as all is all
 pub whole : (all shown : List Effect) → Lags all shown → length all ≤ length shown → all ≡ shown
@@ -117,19 +131,20 @@ seat_after opening shown shown' seat seat' is s =
     let same : opening ≡ s.0 = sym (ap (λ (v : View). v.opening) is) ∙ s.2 (ap (λ (v : View). v.opened) is) in
     s.1 ∙ ap (λ (o : Named). knower o shown') (sym same)
 
-pub catches : (opening : Named) (book : Book) (r : Run) (front : Log) (shown shown' : Page) (seat seat' : View) (pend pend' : List Note)
+pub catches : (begun : Run) (opening : Named) (book : Book) (r : Run) (front : Log) (shown shown' : Page) (seat seat' : View) (pend pend' : List Note)
     (res : Result (Unit {0}) AllocError)
-    → named_of r.image ≡ opening → shown.front.book ≡ book → seat ≡ knower opening shown → Lags (effects_of r) shown.front.log → front.book ≡ book →
+    → IsSince begun r → named_of r.image ≡ opening → shown.front.book ≡ book → seat ≡ knower opening shown → Lags (effects_of r) shown.front.log → front.book ≡ book →
     front.log ≡ effects_of r
     → ((n : Note) × (pend ≡ n ∷ []) × CanFollow opening shown n × (n.front.log ≡ effects_of r))
     → MatchResult res (λ _. (shown' ≡ fold turned shown pend) × (pend' ≡ []) × Shows seat shown' seat')
     (λ _. (shown' ≡ shown) × (pend' ≡ pend) × (seat' ≡ seat))
-    → IsLocked opening book r shown' seat' front pend' × MatchResult res (λ _. shown'.front.log ≡ effects_of r) (λ _. shown'.front.log ≡ shown.front.log)
-catches opening book r front shown shown' seat seat' pend pend' (Ok u) image b s lag fb f w t =
+    → IsLocked begun opening book r shown' seat' front pend' × MatchResult res (λ _. shown'.front.log ≡ effects_of r) (λ _. shown'.front.log ≡ shown.front.log)
+catches begun opening book r front shown shown' seat seat' pend pend' (Ok u) since image b s lag fb f w t =
     let n = w.0 in
     let now : shown' ≡ turned shown n = t.0 ∙ ap (fold turned shown) w.1 in
     let all : shown'.front.log ≡ effects_of r = ap (λ (p : Page). p.front.log) now ∙ w.3 in (
       record {
+        since = since;
         image = image;
         book_is = ap (λ (p : Page). p.front.book) now ∙ (w.2.0 ∙ b);
         seat_is = seat_after opening shown shown' seat seat' s t.2;
@@ -140,7 +155,14 @@ catches opening book r front shown shown' seat seat' pend pend' (Ok u) image b s
       },
       all,
     )
-catches opening book r front shown shown' seat seat' pend pend' (Err e) image b s lag fb f w t =
-    let P : Page × (List Note × View) → Type 0 = λ x. IsLocked opening book r x.0 x.1.1 front x.1.0 in
-    let here : P (shown, (pend, seat)) = record { image = image; book_is = b; seat_is = s; lag = lag; front_book = fb; front_is = inr f; waits = inr w } in
+catches begun opening book r front shown shown' seat seat' pend pend' (Err e) since image b s lag fb f w t =
+    let P : Page × (List Note × View) → Type 0 = λ x. IsLocked begun opening book r x.0 x.1.1 front x.1.0 in
+    let here : P (shown, (pend, seat)) = record { since = since; image = image; book_is = b; seat_is = s; lag = lag; front_book = fb; front_is = inr f; waits = inr w } in
     (subst P (λ i. (sym t.0 i, (sym t.1 i, sym t.2 i))) here, ap (λ (p : Page). p.front.log) t.0)
+
+-- what is held and is as much as all is all
+pub held_whole : (all shown held : List Effect) → Lags all shown → length all ≤ length shown → length all ≤ length held → IsPrefix held shown →
+    held ≡ all
+held_whole all shown held lags less much begun =
+    let same : all ≡ shown = whole all shown lags less in
+    all_of_it held shown begun (omega (arith, much, ap length same)) ∙ sym same

@@ -3,7 +3,9 @@ use Rattle.std.specs.Prelude.{◌≡◌, ◌<◌, ℕ, length, Option, Some, Non
 use mathlib.Core.List.{IsPrefix}
 use Rattle.md_dirs.specs.declared.paths.Place.TheVariants.{New, Cur}
 use Rattle.md_core.specs.declared.jobs.effect.Effect.{Effect}
-use Rattle.md_core.specs.History.{Names}
+use Rattle.md_core.specs.History.{Names, names_of}
+use Rattle.md_core.specs.Mailbox.{mailbox_of}
+use Rattle.md_core.specs.Runs.{Run, dirs_of}
 use Rattle.md_view.specs.declared.entry.Entry.{Entry}
 use Rattle.md_view.specs.Law.{names_after, IsGoodListing}
 use Rattle.md_view.specs.Named.{Named, AreMessages}
@@ -59,3 +61,9 @@ pub record Lists (folder : ℕ) (opening : Named) (before now : List Effect) (en
   pub legal : IsLegalFrom opening now
   pub entries_are : entries ≡ listing folder opening h1 now
   pub law : IsGoodFrom folder opening h1 now
+
+-- Listings with a pass that held this history are those of the directories at the end of the run.
+pub record ShowsLast (opening : Named) (held : List Effect) (r : Run) : Type 0 where
+  pub shows : (folder : ℕ) (before : List Effect) (entries : List Entry) → Lists folder opening before held entries
+      → length before ≡ length held → entries ≡ join_of (reading_of (names_of (mailbox_of (dirs_of r))) folder New)
+      (reading_of (names_of (mailbox_of (dirs_of r))) folder Cur)

@@ -1,8 +1,14 @@
 -- What is kept behind the lock.
-use Rattle.std.specs.Prelude.{◌≡◌, ◌≤◌, ◌⊎◌, ℕ, length, List, [], ◌∷◌, ◌++◌}
+use Rattle.std.specs.Prelude.{◌≡◌, ◌≤◌, ◌+◌, ◌⊎◌, ℕ, length, List, [], ◌∷◌, ◌++◌, Option, None}
 use Rattle.logbook.specs.Pages.{Book}
+use Rattle.md_core.specs.declared.jobs.call.Call.{Call}
 use Rattle.md_core.specs.declared.jobs.effect.Effect.{Effect}
-use Rattle.md_core.specs.Runs.{Run, effects_of}
+use Rattle.md_core.specs.declared.jobs.step.StepOut.{StepOut}
+use Rattle.md_core.specs.Stepping.{IsRun, ShowsStep}
+use Rattle.md_core.specs.Machine.{Marked, marked, job_at}
+use Rattle.md_core.specs.Runs.{Run, jobs_of, effects_of, and_event, step_refusal}
+use Rattle.md_core.specs.Submitting.{submit_refusal}
+use Rattle.md_core.specs.Asked.{is_fault}
 use Rattle.md_view.specs.Named.{Named, named_of}
 use Rattle.md_store.specs.Pages.{Log, Page, Note}
 use Rattle.md_store.specs.Publishing.{knower, WaitsFor}
@@ -17,10 +23,17 @@ pub record Both : Type 0 where
   pub run : Run
   pub published : List Effect
 
--- The run began with the opening names. Its effects are published, or all but the last, of which a note may wait. The front has the
--- published effects, or all.
-pub record IsLocked (opening : Named) (book : Book) (run : Run) (shown : Page)
+-- the run goes on from the one that the store was opened with: calls may have been submitted since, and steps taken
+pub record IsSince (begun run : Run) : Type 0 where
+  pub calls : List Call
+  pub events : List Marked
+  pub is : run ≡ record begun { calls = begun.calls ++ calls; events = begun.events ++ events }
+
+-- The run goes on from the one that the store was opened with, which had the opening names. Its effects are published, or all but the
+-- last, of which a note may wait. The front has the published effects, or all.
+pub record IsLocked (begun : Run) (opening : Named) (book : Book) (run : Run) (shown : Page)
     (seat : View) (front : Log) (pending : List Note) : Type 0 where
+  pub since : IsSince begun run
   pub image : named_of run.image ≡ opening
   pub book_is : shown.front.book ≡ book
   pub seat_is : seat ≡ knower opening shown
@@ -38,3 +51,19 @@ pub record Ready : Type 0 where
   pub run : Run
   pub book : Book
   pub passes : ℕ
+
+-- the number is that of a job of this call, which was submitted at some moment since the store was opened
+pub record SubmitsSince (begun : Run) (call : Call) (job : ℕ) : Type 0 where
+  pub run : Run
+  pub since : IsSince begun run
+  pub is_run : IsRun run
+  pub accepted : submit_refusal run call ≡ None
+  pub number : job ≡ length run.calls + 1
+
+-- a step of this job was taken at some moment since the store was opened, and showed this
+pub record StepsSince (begun : Run) (job now : ℕ) (own : Option ℕ) (out : StepOut) : Type 0 where
+  pub run : Run
+  pub since : IsSince begun run
+  pub is_run : IsRun run
+  pub taken : step_refusal (job_at (jobs_of run) job) ≡ None
+  pub shows : ShowsStep run (and_event run (marked job now own (is_fault out.reply))) (marked job now own (is_fault out.reply)) out

@@ -5,7 +5,9 @@ use mathlib.Core.Option.{some}
 use mathlib.Core.List.{IsPrefix}
 use lib.ListN.{get_elem?}
 use Rattle.logbook.specs.Pages.{Book}
+use Rattle.md_dirs.specs.State.{bare}
 use Rattle.md_core.specs.declared.jobs.effect.Effect.{Effect}
+use Rattle.md_core.specs.Runs.{Run, new_run}
 use Rattle.md_view.specs.Named.{Named, AreMessages, applied}
 use Rattle.md_store.specs.Histories.{led, IsLegalFrom}
 use Rattle.md_store.specs.Pages.{Log, Page, Note}
@@ -13,6 +15,9 @@ use Rattle.md_store.specs.declared.rule.View.{View}
 
 abbrev pub no_book : Book
 no_book = record { number = 0; log_name = 0; cells_name = 0 }
+
+abbrev pub no_run : Run
+no_run = new_run (bare 0) 0 0
 
 abbrev pub no_names : Named
 no_names = record { folders = 0; names = finmap.empty }

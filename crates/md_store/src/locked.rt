@@ -1,5 +1,5 @@
 // What lies behind the lock: the world, and the writer of what is published.
-ghost use Rattle.std.specs.Prelude.{◌≡◌, ◌≢◌, ◌+◌, ◌<◌, ◌≤◌, ◌⊎◌, ◌++◌, ◌∷◌, [], length, drop, Some, None, IsSome, IfOk, IfErr, OnOk, OnErr, MatchResult, option_map};
+ghost use Rattle.std.specs.Prelude.{◌≡◌, ◌≢◌, ◌+◌, ◌<◌, ◌≤◌, ◌⊎◌, ◌++◌, ◌∷◌, [], length, drop, Some, None, IsSome, IsTrue, IfOk, IfErr, OnOk, OnErr, MatchResult, option_map};
 ghost use Rattle.std.specs.FinMap as finmap;
 ghost use mathlib.Core.List.{IsPrefix};
 ghost use Rattle.left_right.specs.Sides.{view};
@@ -10,11 +10,11 @@ ghost use Rattle.md_core.specs.Runs.{dirs_of, jobs_of, effects_of, and_event, an
 ghost use Rattle.md_core.specs.Submitting.{submit_refusal};
 ghost use Rattle.md_core.specs.Interleaving.{Interleaves};
 ghost use Rattle.md_core.specs.Tracing.{trace_of, GrowsByStep};
-ghost use Rattle.md_core.specs.Stepping.{ShowsStep, Succeeds};
+ghost use Rattle.md_core.specs.Stepping.{IsRun, ShowsStep, Succeeds};
 ghost use Rattle.md_view.specs.Named.{named_of};
 ghost use Rattle.md_store.specs.Rules.{head_of};
 ghost use Rattle.md_store.specs.Publishing.{knower};
-ghost use Rattle.md_store.specs.Locks.{Lags};
+ghost use Rattle.md_store.specs.Locks.{IsSince, Lags};
 ghost use Rattle.md_store.specs.Telling.{Tells, IsTold};
 
 use crate::book::{Front, Head};
@@ -59,11 +59,12 @@ impl<D: Dirs, J: Naming> Model for Locked<D, J> {
     ghost view = { λ l. record { run = l.world; published = l.writer.desk.shown.value.front.log } };
 
     ghost invariant = { λ l. (l.head ≡ head_of J.book)
-        × IsLocked J.opening J.book l.world l.writer.desk.shown.value (seat_view l.writer.desk.place) l.front
+        × IsLocked J.begun J.opening J.book l.world l.writer.desk.shown.value (seat_view l.writer.desk.place) l.front
         (drop l.writer.behind l.writer.log.items) };
 }
 
 impl<D: Dirs, J: Naming> Locked<D, J> {
+    #[tactic(auto, using(crate::proofs::Since::since_itself))]
     pub(crate) fn new(
         alloc: Global,
         world: World<D>,
@@ -71,6 +72,7 @@ impl<D: Dirs, J: Naming> Locked<D, J> {
         front: Front,
         writer: StoreWriter,
     ) -> Locked<D, J>
+        requires begun { world ≡ J.begun }
         requires world { (named_of world.image ≡ J.opening) × (effects_of world ≡ []) }
         requires named { (head ≡ head_of J.book) × (front.book ≡ J.book) × (front.log ≡ []) }
         requires shown { writer.desk.shown.value.front ≡ front }
@@ -90,6 +92,7 @@ impl<D: Dirs, J: Naming> Locked<D, J> {
     /// The world. It waits for the readers.
     pub(crate) fn close<R: Wait>(self, rt: &R) -> World<D>
         ensures world { result ≡ self.run }
+        ensures since { IsSince J.begun result }
         ensures image { named_of result.image ≡ J.opening }
     {
         let Locked {
@@ -104,16 +107,33 @@ impl<D: Dirs, J: Naming> Locked<D, J> {
         world
     }
 
-    /// What the type keeps of any such value: its run began with the opening names, its effects are published, or all of them but the last,
-    /// and its jobs interleave.
+    /// What the type keeps of any such value: its run goes on from the one that the store was opened with, its effects are published, or
+    /// all of them but the last, and its jobs interleave.
     pub fn lags(&self)
+        ensures since { IsSince J.begun self.now.run }
         ensures image { named_of self.now.run.image ≡ J.opening }
         ensures lag { Lags (effects_of self.now.run) self.now.published }
+        ensures run { IsRun self.now.run }
         ensures theorem { Interleaves (trace_of self.now.run) }
     {
         // A field is looked at, so that what the type keeps is known here.
         let _kept = &self.front;
         self.world.interleaves();
+    }
+
+    /// Whether a pass holds all effects.
+    #[tactic(auto, using(crate::proofs::Moves::held_whole))]
+    pub(crate) fn is_held(&self, pass: &Pass<J>) -> bool
+        ensures { IsTrue result → pass.now ≡ effects_of self.now.run }
+    {
+        // A field is looked at, so that what the type keeps is known here.
+        let _kept = &self.front;
+        let count = self.world.effects().len() as u64;
+        let front = self.writer.published().front();
+        if pass.len() < count || front.len() < count {
+            return false;
+        }
+        pass.begins(front)
     }
 
     // Tells a pass of all that is published.

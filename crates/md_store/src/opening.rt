@@ -80,7 +80,7 @@ pub fn prepare<D: Dirs>(world: World<D>, passes: usize) -> Result<Prepared<D>, O
 }
 
 impl<D: Dirs> Prepared<D> {
-    /// Opens the store, with as many passes as were asked for. The naming type names its opening names and its book: it is picked where
+    /// Opens the store, with as many passes as were asked for. The naming type names its run, its opening names and its book: it is picked where
     /// this is called, in a function that is generic over it. Refused `NoMemory`, or `NoReader` where a pass is refused its reader; the world
     /// comes back.
     pub fn open<J: Naming, R: Wait>(
@@ -88,6 +88,7 @@ impl<D: Dirs> Prepared<D> {
         rt: &R,
         alloc: Global,
     ) -> Result<(Store<D, J>, Vec<Pass<J>>), OpenRefused<D>>
+        requires begun { self.run ≡ J.begun }
         requires named { (named_of self.run.image ≡ J.opening) × (self.book ≡ J.book) }
         ensures passes { IfOk result (λ r. (length r.1.items ≡ self.passes) × All (λ p. p ≡ []) r.1.items) }
         ensures refused { IfErr result (λ e. (e.world ≡ self.run) × ((e.error ≡ refusal.NoMemory) ⊎ (e.error ≡ refusal.NoReader))) }

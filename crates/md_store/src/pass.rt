@@ -1,5 +1,5 @@
 // Passes, and listings that take no lock.
-ghost use Rattle.std.specs.Prelude.{◌≡◌, ◌<◌, ◌≤◌, true, IfOk, IfErr, IfSome, OnOk, OnErr, option_map};
+ghost use Rattle.std.specs.Prelude.{◌≡◌, ◌<◌, ◌≤◌, true, length, IsTrue, IfOk, IfErr, IfSome, OnOk, OnErr, option_map};
 ghost use mathlib.Core.List.{IsPrefix};
 ghost use Rattle.left_right.specs.Sides.{view};
 ghost use Rattle.md_dirs.specs.declared.paths.Place.TheVariants.{New};
@@ -57,6 +57,21 @@ impl<J: Naming> Pass<J> {
             front,
             of: PhantomData,
         }
+    }
+
+    /// How many effects it holds.
+    pub fn len(&self) -> u64
+        ensures { result ≡ length self.now }
+    {
+        self.front.len()
+    }
+
+    /// Whether it holds no more than the other. Then the other begins with all that it holds.
+    pub(crate) fn begins(&self, front: &Front) -> bool
+        requires { front.now.book ≡ J.book }
+        ensures { IsTrue result → IsPrefix self.now front.now.log }
+    {
+        self.front.begins(front)
     }
 
     /// Tells the pass of a history.

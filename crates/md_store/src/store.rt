@@ -1,12 +1,14 @@
 // The store that threads share.
-ghost use Rattle.std.specs.Prelude.{◌≡◌, ◌⊎◌, ◌<◌, ◌≤◌, None, IfOk, IfErr, OnOk, OnErr, MatchResult};
+ghost use Rattle.std.specs.Prelude.{◌≡◌, ◌⊎◌, ◌<◌, ◌≤◌, length, None, IsTrue, IfOk, IfErr, OnOk, OnErr, MatchResult};
 ghost use mathlib.Core.List.{IsPrefix};
 ghost use Rattle.md_dirs.specs.declared.paths.Place.TheVariants.{New};
 ghost use Rattle.md_core.specs.declared.error.CoreError.TheVariants as core;
+ghost use Rattle.md_core.specs.Runs.{effects_of};
 ghost use Rattle.md_view.specs.Named.{named_of};
 ghost use Rattle.md_store.specs.declared.error.ListError.TheVariants as refusal;
 ghost use Rattle.md_store.specs.Histories.{IsLegalFrom, read_at};
-ghost use Rattle.md_store.specs.Listing.{Lists, Finishes};
+ghost use Rattle.md_store.specs.Listing.{Lists, Finishes, ShowsLast};
+ghost use Rattle.md_store.specs.Locks.{IsSince, SubmitsSince, StepsSince};
 ghost use Rattle.md_store.specs.Refusals.{plain_refusal, IsWhy};
 ghost use Rattle.md_store.specs.Telling.{IsNews, IsTold};
 
@@ -34,6 +36,7 @@ impl<D: Dirs, J: Naming> Store<D, J> {
 
     /// Submits a call, and gives the number of its job. It is refused as `World::submit` is, and a call that is refused comes back.
     pub fn submit<R: Wait>(&self, rt: &R, call: Call) -> Result<JobId, SubmitRefused>
+        ensures job { IfOk result (λ job. SubmitsSince J.begun call job) }
         ensures call { IfErr result (λ r. r.call ≡ call) }
         ensures refused { MatchResult result
             (λ _. plain_refusal J.opening.folders call ≡ None)
@@ -60,13 +63,17 @@ impl<D: Dirs, J: Naming> Store<D, J> {
         now: u64,
         own: Option<u64>,
     ) -> Result<StoreStep, CoreError>
+        ensures step { IfOk result (λ s. StepsSince J.begun job now own s.out) }
         ensures held { IsPrefix pass.old pass.new }
         ensures news { IfOk result (λ s. IsNews s.news s.out.effect pass.old pass.new) }
         ensures told { IfOk result (λ s. IsTold s.news s.out.answer job pass.new) }
         ensures refused { OnErr result (pass.new ≡ pass.old) }
+        ensures no_job { IfErr result (λ e. e ≡ core.NoJob → (job ≡ 0) ⊎ (length J.begun.calls < job)) }
         ensures error { IfErr result (λ e. (e ≡ core.NoJob) ⊎ (e ≡ core.Answered) ⊎ (e ≡ core.NoMemory)) }
     {
         let mut guard = self.lock.lock(rt);
+        guard.lags();
+        md_core::laws::each_call_has_its_job();
         let made = guard.step(rt, pass, job, now, own);
         MutexGuard::unlock(guard);
         made
@@ -142,9 +149,27 @@ impl<D: Dirs, J: Naming> Store<D, J> {
         pass.second(alloc, first)
     }
 
+    /// The world, as `close` gives it, and whether a pass holds all effects of it. Where it does, what was listed with the pass when it held
+    /// as many is what the folder shows at the end.
+    #[tactic(auto, using(crate::proofs::Last::shows_last))]
+    pub fn close_with<R: Wait>(self, rt: &R, pass: &Pass<J>) -> (World<D>, bool)
+        ensures since { IsSince J.begun result.0 }
+        ensures image { named_of result.0.image ≡ J.opening }
+        ensures all { IsTrue result.1 → pass.now ≡ effects_of result.0 }
+        ensures shown { IsTrue result.1 → ShowsLast J.opening pass.now result.0 }
+    {
+        let Store { lock } = self;
+        let locked = lock.into_inner();
+        let all = locked.is_held(pass);
+        let world = locked.close(rt);
+        world.interleaves();
+        (world, all)
+    }
+
     /// The world, once the threads that used the store have ended. It waits for listings that are being read.
     pub fn close<R: Wait>(self, rt: &R) -> World<D>
-        ensures { named_of result.image ≡ J.opening }
+        ensures since { IsSince J.begun result }
+        ensures image { named_of result.image ≡ J.opening }
     {
         let Store { lock } = self;
         lock.into_inner().close(rt)

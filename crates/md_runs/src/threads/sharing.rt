@@ -1,13 +1,12 @@
 //! The store that threads share, and what they print of it.
 
-ghost use Rattle.std.specs.Prelude.{◌≡◌, ◌<◌, ◌≤◌, IfErr};
-ghost use Rattle.md_store.specs.Locks.{IsFresh};
+ghost use Rattle.std.specs.Prelude.{◌≡◌, ◌<◌, ◌≤◌, IfOk, IfErr};
+ghost use Rattle.md_store.specs.Locks.{IsFresh, IsSince};
 ghost use Rattle.md_view.specs.Named.{named_of};
 ghost use Rattle.md_runs.specs.Threading.{IsStop};
 
 use crate::fault::RunFault;
-use crate::threads::replay::push_folder_name;
-use crate::threads::setting_up::Made;
+use crate::threads::report::push_folder_name;
 use crate::threads::share::{Done, Share};
 use md_core::{Answer, World};
 use md_dirs::IndexDirs;
@@ -31,15 +30,16 @@ pub(super) fn share<R: Threads + Wait + Sync>(
     rt: &R,
     alloc: Global,
     threads: usize,
-    made: Made,
+    names: &[Vec<u8>],
+    world: World<IndexDirs>,
 ) -> Result<Shared, RunFault>
-    requires { IsFresh made.world }
-    ensures { IfErr result IsStop }
+    requires { IsFresh world }
+    ensures since { IfOk result (λ s. IsSince world s.world) }
+    ensures stop { IfErr result IsStop }
 {
-    let Made { names, world } = made;
     let jobs = world.jobs();
     match prepare(world, threads) {
-        Ok(prepared) => share_opened::<Brand, R>(rt, alloc, prepared, &names, jobs),
+        Ok(prepared) => share_opened::<Brand, R>(rt, alloc, prepared, names, jobs),
         Err(refused) => Err(RunFault::from(refused.error)),
     }
 }
@@ -51,8 +51,10 @@ fn share_opened<J: Naming + Send + Sync, R: Threads + Wait + Sync>(
     names: &[Vec<u8>],
     jobs: u64,
 ) -> Result<Shared, RunFault>
-    requires { (named_of prepared.run.image ≡ J.opening) × (prepared.book ≡ J.book) }
-    ensures { IfErr result IsStop }
+    requires begun { prepared.run ≡ J.begun }
+    requires named { (named_of prepared.run.image ≡ J.opening) × (prepared.book ≡ J.book) }
+    ensures since { IfOk result (λ s. IsSince prepared.run s.world) }
+    ensures stop { IfErr result IsStop }
 {
     let (store, passes) = match prepared.open::<J, R>(rt, alloc) {
         Ok(opened) => opened,

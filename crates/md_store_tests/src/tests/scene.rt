@@ -100,7 +100,8 @@ fn play_in<J: Naming + Send + Sync, R: Threads + Wait + Abort + Sync>(
     gate: &Gate,
     plan: &Plan<'_>,
 ) -> Option<OpenError>
-    requires { (named_of prepared.run.image ≡ J.opening) × (prepared.book ≡ J.book) }
+    requires begun { prepared.run ≡ J.begun }
+    requires named { (named_of prepared.run.image ≡ J.opening) × (prepared.book ≡ J.book) }
 {
     match prepared.open::<J, R>(rt, alloc) {
         Ok((store, passes)) => {

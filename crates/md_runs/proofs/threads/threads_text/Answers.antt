@@ -1,14 +1,15 @@
 use Rattle.std.proofs.Common.{◌∙◌, ap}
+use Rattle.md_script.specs.Folders.{names_of}
 use Rattle.md_runs.specs.Threading.{report_of}
 use Rattle.md_runs.proofs.threads.threads_text.Goals as goal
 
 pub returns : goal.returns
 returns g c =
-    let report = c.in_ok-replayed.ensures in
+    let run = c.in_ok-shared.shared.world in
     record {
-      begun = c.in_ok-again.again.world;
-      is = c.in_ok-again.ensures.made.run;
-      run = report.0;
-      interleaves = report.1;
-      text_is = report.2 ∙ ap (λ names. report_of names report.0) c.in_ok-again.ensures.made.names;
+      begun = c.in_ok-made.made.world;
+      is = c.in_ok-made.ensures.made.run;
+      run = run;
+      interleaves = c.in_ok-text.ensures.run c.in_ok-made.made.world c.in_ok-made.ensures.fresh c.in_ok-shared.ensures.since c.jobs-jobs.ensures;
+      text_is = c.in_ok-text.ensures.text ∙ ap (λ names. report_of (names_of names) run) c.deref-2.ensures.value ∙ ap (λ names. report_of names run) c.in_ok-made.ensures.made.names;
     }

@@ -20,9 +20,9 @@ invariant_of-self-2 g c =
     let o : (view c.self.inside.writer.desk.place).opening ≡ opening = ap (λ (v : View). v.opening) k.seat_is in
     let n = c.in_ok-post.ensures.pending in (
       c.self.invariant.0,
-      (catches opening g.J.Naming.book r c.post.new.front c.post.new.writer.desk.shown.value c.publish.new.writer.desk.shown.value
+      (catches g.J.Naming.begun opening g.J.Naming.book r c.post.new.front c.post.new.writer.desk.shown.value c.publish.new.writer.desk.shown.value
           (view c.post.new.writer.desk.place) _ _ _ c.publish.result
-          k.image (ap (λ (x : Page). x.front.book) p ∙ k.book_is) (s ∙ (k.seat_is ∙ ap (knower opening) (sym p)))
+          k.since k.image (ap (λ (x : Page). x.front.book) p ∙ k.book_is) (s ∙ (k.seat_is ∙ ap (knower opening) (sym p)))
           (subst (λ (x : Page). Lags (effects_of r) x.front.log) (sym p) k.lag)
           (c.in_ok-post.ensures.book ∙ k.front_book) (c.in_ok-post.ensures.known ∙ c.effects-2.ensures)
           (n.0, n.1, subst (λ (x : Named × Page). CanFollow x.0 x.1 n.0) (λ i. (o i, sym p i)) n.2, n.3 ∙ c.effects-2.ensures)

@@ -1,8 +1,17 @@
-use Rattle.std.proofs.Common.{◌≡◌, ap, ◌∙◌, rules}
+use Rattle.std.proofs.Common.{◌≡◌, ap, ◌∙◌, sym, subst, rules}
+use Rattle.md_core.specs.Stepping.{IsRun}
 use Rattle.md_view.specs.Named.{Named}
-use Rattle.md_store.specs.Locks.{Both}
+use Rattle.md_store.specs.Locks.{Both, IsSince}
+use Rattle.md_store.proofs.Since.{submits-since}
 use Rattle.md_store.proofs.Submits.{submits}
 use Rattle.md_store.proofs.store.Store.submit.Goals as goal
+
+pub returns-clause-job : goal.returns-clause-job
+returns-clause-job g c =
+    let same : c.deref_mut.result.now ≡ c.deref.result.now = search rules in
+    submits-since g.J.Naming.begun c.deref_mut.result.now.run _ (subst (λ (b : Both). IsSince g.J.Naming.begun b.run) (sym same) c.lags.ensures.since)
+    (subst (λ (b : Both). IsRun b.run) (sym same) c.lags.ensures.run) c.args.call c.submit-made.result _ c.submit-made.ensures.refused
+    c.submit-made.ensures.ok
 
 pub returns-clause-refused : goal.returns-clause-refused
 returns-clause-refused g c =

@@ -3,7 +3,7 @@ use Rattle.md_core.specs.Mailbox.{mailbox_of}
 use Rattle.md_core.specs.Runs.{dirs_of}
 use Rattle.md_script.specs.Folders.{names_of}
 use Rattle.md_runs.specs.Threading.{folders_text}
-use Rattle.md_runs.proofs.threads.replay.push_folders.Given as goal
+use Rattle.md_runs.proofs.threads.report.push_folders.Given as goal
 
 abbrev pub invariant-loop-left : goal.invariant-loop-left
 invariant-loop-left g l =

@@ -2,7 +2,7 @@ use Rattle.std.proofs.Common.{◌≡◌, ℕ, ◌+◌, ◌<◌, ◌++◌, true, 
 use Rattle.md_core.specs.Machine.{job_at}
 use Rattle.md_core.specs.Runs.{jobs_of, answer_of}
 use Rattle.md_runs.specs.Threading.{answers_text}
-use Rattle.md_runs.proofs.threads.replay.push_answers.Given as goal
+use Rattle.md_runs.proofs.threads.report.push_answers.Given as goal
 
 abbrev pub invariant-loop-before : goal.invariant-loop-before
 invariant-loop-before g l = record {

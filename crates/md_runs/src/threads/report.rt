@@ -1,43 +1,50 @@
-//! What the steps of threads print where one world takes them again.
+//! What is written of a store whose threads have ended.
 
 ghost use Rattle.std.specs.Prelude.{◌≡◌, ◌++◌, length, codes, IfOk, OnOk};
+ghost use Rattle.std.specs.List.{list_all};
 ghost use Rattle.md_core.specs.Mailbox.{mailbox_of};
-ghost use Rattle.md_core.specs.Runs.{dirs_of, jobs_of};
+ghost use Rattle.md_core.specs.Runs.{Run, dirs_of, jobs_of};
+ghost use Rattle.md_store.specs.Locks.{IsFresh, IsSince};
 ghost use Rattle.md_script.specs.Folders.{names_of};
 ghost use Rattle.md_script.specs.Texts.{line_end};
-ghost use Rattle.md_runs.specs.Threading.{answers_text, folder_text, folders_text, report_of, AllAnswered, GoesOn, Interleaving};
+ghost use Rattle.md_runs.specs.Threading.{answers_text, folder_text, folders_text, report_of, is_at_zero, AllAnswered, Interleaving};
 
 use crate::indexing::listing;
-use crate::threads::setting_up::Made;
 use md_core::{Event, World};
-use md_dirs::Dirs;
+use md_dirs::{Dirs, IndexDirs};
 use md_script::{push_answer_line, push_entries};
 use std::alloc::{AllocError, Global};
 
-/// Takes the steps of a store's jobs in their order, each at moment 0, and makes the lines of the answers and of the folders. Each job has
-/// its answer then.
-pub(super) fn replay(alloc: Global, made: Made, steps: &[Event]) -> Result<Vec<u8>, AllocError>
-    ensures { IfOk result (λ text. (r : _) × Interleaving made.world r × (text.items ≡ report_of (names_of made.names.items) r)) }
+/// What is written of a store whose threads have ended, in which so many jobs began. Its run is then an interleaving of these: each has its
+/// answer, each step was at moment 0, no other call was submitted, and these directories never fail.
+pub(super) fn ended(
+    alloc: Global,
+    world: &World<IndexDirs>,
+    names: &[Vec<u8>],
+    jobs: u64,
+) -> Result<Vec<u8>, AllocError>
+    ensures run { OnOk result ((begun : Run) → IsFresh begun → IsSince begun world.now → jobs ≡ length begun.calls → Interleaving begun world.now) }
+    ensures text { IfOk result (λ text. text.items ≡ report_of (names_of names.now) world.now) }
 {
-    let Made { names, mut world } = made;
-    take_all(&mut world, steps)?;
-    // That they are a run, and that these directories never fail.
+    // That is a run, and that its directories never fail.
     world.interleaves();
     let _dirs = world.dirs();
-    report(alloc, &world, &names)
+    if world.jobs() != jobs {
+        return Err(AllocError);
+    }
+    if !are_at_zero(world.log()) {
+        return Err(AllocError);
+    }
+    report(alloc, world, names)
 }
 
-/// Takes a step of each of these jobs, at moment 0 whatever the moment was before. They were all taken before, so that memory alone can be
-/// wanting.
-fn take_all<D: Dirs>(world: &mut World<D>, steps: &[Event]) -> Result<(), AllocError>
-    ensures { OnOk result (GoesOn world.old world.new) }
+/// Whether all steps were at moment 0, and no job had a moment of its own.
+fn are_at_zero(steps: &[Event]) -> bool
+    ensures { result ≡ list_all is_at_zero steps.now }
 {
-    for event in steps {
-        let Ok(_) = world.step(event.job, 0, None) else {
-            return Err(AllocError);
-        };
-    }
-    Ok(())
+    steps
+        .iter()
+        .all(|event| event.now == 0 && event.own.is_none())
 }
 
 /// The lines of the answers of all jobs, and those of the folders. Each job has its answer.

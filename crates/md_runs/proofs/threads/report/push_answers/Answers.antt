@@ -1,6 +1,6 @@
 use Rattle.std.proofs.Common.{◌∙◌, sym, arith}
 use Rattle.md_runs.proofs.Reporting.{answers-none, more-answers, more-answered}
-use Rattle.md_runs.proofs.threads.replay.push_answers.Goals as goal
+use Rattle.md_runs.proofs.threads.report.push_answers.Goals as goal
 
 pub loop-before-init : goal.loop-before-init
 loop-before-init g c = record { text = answers-none _ _; answered = λ n none. absurd (omega arith) }

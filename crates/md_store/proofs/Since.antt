@@ -1,0 +1,85 @@
+-- Runs that go on from the one that a store was opened with.
+use Rattle.std.proofs.Common.{◌≡◌, ℕ, zero, suc, ◌+◌, ◌<◌, ◌≤◌, ◌⊎◌, ⊎_elim, inl, inr, arith, ◌++◌, List, [], ◌∷◌, Option, Some, None, Result, Ok, Err, refl, sym, ap, ◌∙◌, subst, length, length-append, slice_get, get_or, append-nil, append_assoc, MatchResult, IfOk, IfErr}
+use Rattle.std.proofs.lemmas.Option.{slice_get_cases}
+use Rattle.md_core.specs.declared.error.CoreError.{CoreError}
+use Rattle.md_core.specs.declared.error.CoreError.TheVariants as core
+use Rattle.md_core.specs.declared.jobs.call.Call.{Call}
+use Rattle.md_core.specs.declared.world.submit.SubmitRefused.{SubmitRefused}
+use Rattle.md_core.specs.Stepping.{IsRun, ShowsStep}
+use Rattle.md_core.specs.Machine.{Standing, working, answered, Marked, marked, job_at}
+use Rattle.md_core.specs.Runs.{Run, jobs_of, and_call, and_event, step_refusal, IsRefusal}
+use Rattle.md_core.specs.Submitting.{submit_refusal}
+use Rattle.md_core.specs.Asked.{is_fault}
+use Rattle.md_store.specs.declared.step.StoreStep.{StoreStep}
+use Rattle.md_store.specs.Locks.{IsSince, SubmitsSince, StepsSince}
+
+pub since_itself : (begun run : Run) → run ≡ begun → IsSince begun run
+since_itself begun run is = record {
+  calls = [];
+  events = [];
+  is = is ∙ (λ i. record begun { calls = sym (append-nil begun.calls) i; events = sym (append-nil begun.events) i });
+}
+
+pub since-event : (begun r s : Run) (e : Marked) → IsSince begun r → s ≡ and_event r e → IsSince begun s
+since-event begun r s e k is = record {
+  calls = k.calls;
+  events = k.events ++ e ∷ [];
+  is = is
+      ∙ ap (λ (x : Run). and_event x e) k.is
+      ∙ ap (λ (es : List Marked). record begun { calls = begun.calls ++ k.calls; events = es }) (append_assoc begun.events k.events (e ∷ []));
+}
+
+pub since-call : (begun r s : Run) (call : Call) → IsSince begun r → s ≡ and_call r call → IsSince begun s
+since-call begun r s call k is = record {
+  calls = k.calls ++ call ∷ [];
+  events = k.events;
+  is = is
+      ∙ ap (λ (x : Run). and_call x call) k.is
+      ∙ ap (λ (cs : List Call). record begun { calls = cs; events = begun.events ++ k.events }) (append_assoc begun.calls k.calls (call ∷ []));
+}
+
+module _ (begun r s : Run) (since : IsSince begun r) (run : IsRun r) where
+  pub submits-since : (call : Call) (res : Result ℕ SubmitRefused) (Why : SubmitRefused → Type 0)
+      → MatchResult res (λ _. submit_refusal r call ≡ None) Why
+      → IfOk res (λ job. (s ≡ and_call r call) × (job ≡ length r.calls + 1)) → IfOk res (λ job. SubmitsSince begun call job)
+  submits-since call (Ok job) Why accepted is = record { run = r; since = since; is_run = run; accepted = accepted; number = is.1 }
+  submits-since call (Err e) Why accepted is = tt
+
+  pub steps-since : (job now : ℕ) (own : Option ℕ) (res : Result StoreStep CoreError) (Why : CoreError → Type 0)
+      → MatchResult res (λ _. step_refusal (job_at (jobs_of r) job) ≡ None) Why
+      → IfOk res (λ x. s ≡ and_event r (marked job now own (is_fault x.out.reply)))
+      → IfOk res (λ x. ShowsStep r s (marked job now own (is_fault x.out.reply)) x.out) → IfOk res (λ x. StepsSince begun job now own x.out)
+  steps-since job now own (Ok x) Why taken is shows =
+      let e : Marked = marked job now own (is_fault x.out.reply) in
+      record { run = r; since = since; is_run = run; taken = taken; shows = subst (λ (t : Run). ShowsStep r t e x.out) is shows }
+  steps-since job now own (Err e) Why taken is shows = tt
+
+-- a job that is there stands somehow
+stands-somehow : (x : Standing) → step_refusal (Some x) ≡ Some core.NoJob → {A : Type 0} → A
+stands-somehow (working task) is = cc
+stands-somehow (answered a) is = cc
+
+-- each call of a run has its job
+abbrev pub EachHasItsJob : Type 0
+EachHasItsJob = (r : Run) → IsRun r → length (jobs_of r) ≡ length r.calls
+
+-- the jobs that the store was opened with are there
+no-job : EachHasItsJob → (begun r : Run) → IsSince begun r → IsRun r → (job : ℕ) → step_refusal (job_at (jobs_of r) job) ≡ Some core.NoJob
+    → (job ≡ 0) ⊎ (length begun.calls < job)
+no-job each begun r since run zero is = inl refl
+no-job each begun r since run (suc i) is = ⊎_elim
+    (λ (there : (x : Standing) × (i < length (jobs_of r)) × (slice_get (jobs_of r) i ≡ Some x) × (get_or (jobs_of r) i x ≡ x)).
+    stands-somehow there.0 (ap step_refusal (sym there.2) ∙ is))
+    (λ (past : (length (jobs_of r) ≤ i) × (slice_get (jobs_of r) i ≡ None)).
+    inr (omega (arith, past.0, each r run, ap (λ (x : Run). length x.calls) since.is, length-append begun.calls since.calls)))
+    (slice_get_cases (jobs_of r) i).1
+
+pub no-job-since : EachHasItsJob → {A : Type 0} (begun r : Run) → IsSince begun r → IsRun r → (job : ℕ) (res : Result A CoreError) (Taken : A → Type 0)
+    → MatchResult res Taken (IsRefusal (step_refusal (job_at (jobs_of r) job)))
+    → IfErr res (λ e. e ≡ core.NoJob → (job ≡ 0) ⊎ (length begun.calls < job))
+no-job-since each begun r since run job (Ok x) Taken why = tt
+no-job-since each begun r since run job (Err e) Taken why = λ none. no-job each begun r since run job (by (step_refusal (job_at (jobs_of r) job)) why none)
+  where
+    by : (o : Option CoreError) → IsRefusal o e → e ≡ core.NoJob → o ≡ Some core.NoJob
+    by None memory none = let never : core.NoMemory ≡ core.NoJob = sym memory ∙ none in cc
+    by (Some x) is none = ap Some (sym is ∙ none)
