@@ -11,11 +11,11 @@ use Rattle.md_core.specs.declared.jobs.call.Call.{Call}
 use Rattle.md_core.specs.declared.jobs.answer.Answer.{Answer}
 use Rattle.md_core.specs.declared.jobs.step.Event.{Event}
 use Rattle.md_core.specs.Stepping.{IsRun}
-use Rattle.md_core.specs.Machine.{Standing, Marked, job_at}
+use Rattle.md_core.specs.Machine.{Standing, Occurrence, job_at}
 use Rattle.md_core.specs.Runs.{Run, answer_of, and_events, failures_of, log_of}
 use Rattle.md_store.specs.Locks.{IsFresh, IsSince}
 use Rattle.md_script.specs.declared.error.PlayError.{PlayError}
-use Rattle.md_script.specs.Reading.{IsWhole}
+use Rattle.md_script.specs.Reading.{IsReadWhole}
 use Rattle.md_script.specs.Sinks.{Sink, Untouched}
 use Rattle.md_script.specs.Sources.{Source}
 use Rattle.md_script.specs.Texts.{answer_line}
@@ -89,7 +89,7 @@ interleaved begun r fresh since many at_zero run faultless answered =
         events = since.events;
         is = is;
         at_zero = subst (All (λ e. (e.event.now ≡ 0) × (e.event.own ≡ None))) events
-            (all-unmap (λ (e : Event). (e.now ≡ 0) × (e.own ≡ None)) (λ (e : Marked). e.event) r.events (all-at_zero (log_of r) at_zero));
+            (all-unmap (λ (e : Event). (e.now ≡ 0) × (e.own ≡ None)) (λ (e : Occurrence). e.event) r.events (all-at_zero (log_of r) at_zero));
       };
       is_run = run;
       faultless = faultless;
@@ -115,7 +115,7 @@ stopped script NoReader is = tt
 stopped script Closed is = tt
 
 -- a script of which there is no report
-pub unreported : (old new : Source) (before after : Sink) (script : List ℕ) (fault : RunFault) → IsUnreported script fault → IsWhole old new script →
+pub unreported : (old new : Source) (before after : Sink) (script : List ℕ) (fault : RunFault) → IsUnreported script fault → IsReadWhole old new script →
     Untouched before after
     → RunsThreads old new before after (Err fault)
 unreported old new before after script (Play e) (inl memory) whole unwritten =

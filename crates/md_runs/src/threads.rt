@@ -44,7 +44,7 @@ pub fn run_threads<R: Threads + Wait + Sync, S: Source, T: Sink>(
 /// What the threads print of a script.
 ///
 /// The type of the store's lock keeps the jobs and the files that the store was opened with. So the world that it leaves is known to be
-/// theirs, and what it prints is compared. The two differ only where a last effect couldn't be published for want of memory.
+/// theirs, and what it prints is compared. The two differ only where a last effect couldn't be published when out of memory.
 fn threads_text<R: Threads + Wait + Sync>(
     rt: &R,
     alloc: Global,

@@ -6,7 +6,7 @@ use Rattle.md_core.specs.declared.error.CoreError.TheVariants as core
 use Rattle.md_core.specs.declared.jobs.call.Call.{Call}
 use Rattle.md_core.specs.declared.world.submit.SubmitRefused.{SubmitRefused}
 use Rattle.md_core.specs.Stepping.{IsRun, ShowsStep}
-use Rattle.md_core.specs.Machine.{Standing, working, answered, Marked, marked, job_at}
+use Rattle.md_core.specs.Machine.{Standing, working, answered, Occurrence, occurrence, job_at}
 use Rattle.md_core.specs.Runs.{Run, jobs_of, and_call, and_event, step_refusal, IsRefusal}
 use Rattle.md_core.specs.Submitting.{submit_refusal}
 use Rattle.md_core.specs.Asked.{is_fault}
@@ -20,13 +20,13 @@ since_itself begun run is = record {
   is = is ∙ (λ i. record begun { calls = sym (append-nil begun.calls) i; events = sym (append-nil begun.events) i });
 }
 
-pub since-event : (begun r s : Run) (e : Marked) → IsSince begun r → s ≡ and_event r e → IsSince begun s
+pub since-event : (begun r s : Run) (e : Occurrence) → IsSince begun r → s ≡ and_event r e → IsSince begun s
 since-event begun r s e k is = record {
   calls = k.calls;
   events = k.events ++ e ∷ [];
   is = is
       ∙ ap (λ (x : Run). and_event x e) k.is
-      ∙ ap (λ (es : List Marked). record begun { calls = begun.calls ++ k.calls; events = es }) (append_assoc begun.events k.events (e ∷ []));
+      ∙ ap (λ (es : List Occurrence). record begun { calls = begun.calls ++ k.calls; events = es }) (append_assoc begun.events k.events (e ∷ []));
 }
 
 pub since-call : (begun r s : Run) (call : Call) → IsSince begun r → s ≡ and_call r call → IsSince begun s
@@ -47,10 +47,10 @@ module _ (begun r s : Run) (since : IsSince begun r) (run : IsRun r) where
 
   pub steps-since : (job now : ℕ) (own : Option ℕ) (res : Result StoreStep CoreError) (Why : CoreError → Type 0)
       → MatchResult res (λ _. step_refusal (job_at (jobs_of r) job) ≡ None) Why
-      → IfOk res (λ x. s ≡ and_event r (marked job now own (is_fault x.out.reply)))
-      → IfOk res (λ x. ShowsStep r s (marked job now own (is_fault x.out.reply)) x.out) → IfOk res (λ x. StepsSince begun job now own x.out)
+      → IfOk res (λ x. s ≡ and_event r (occurrence job now own (is_fault x.out.reply)))
+      → IfOk res (λ x. ShowsStep r s (occurrence job now own (is_fault x.out.reply)) x.out) → IfOk res (λ x. StepsSince begun job now own x.out)
   steps-since job now own (Ok x) Why taken is shows =
-      let e : Marked = marked job now own (is_fault x.out.reply) in
+      let e : Occurrence = occurrence job now own (is_fault x.out.reply) in
       record { run = r; since = since; is_run = run; taken = taken; shows = subst (λ (t : Run). ShowsStep r t e x.out) is shows }
   steps-since job now own (Err e) Why taken is shows = tt
 

@@ -1,11 +1,11 @@
--- What is kept behind the lock.
+-- What is kept inside the lock.
 use Rattle.std.specs.Prelude.{◌≡◌, ◌≤◌, ◌+◌, ◌⊎◌, ℕ, length, List, [], ◌∷◌, ◌++◌, Option, None}
 use Rattle.logbook.specs.Pages.{Book}
 use Rattle.md_core.specs.declared.jobs.call.Call.{Call}
 use Rattle.md_core.specs.declared.jobs.effect.Effect.{Effect}
 use Rattle.md_core.specs.declared.jobs.step.StepOut.{StepOut}
 use Rattle.md_core.specs.Stepping.{IsRun, ShowsStep}
-use Rattle.md_core.specs.Machine.{Marked, marked, job_at}
+use Rattle.md_core.specs.Machine.{Occurrence, occurrence, job_at}
 use Rattle.md_core.specs.Runs.{Run, jobs_of, effects_of, and_event, step_refusal}
 use Rattle.md_core.specs.Submitting.{submit_refusal}
 use Rattle.md_core.specs.Asked.{is_fault}
@@ -26,7 +26,7 @@ pub record Both : Type 0 where
 -- the run goes on from the one that the store was opened with: calls may have been submitted since, and steps taken
 pub record IsSince (begun run : Run) : Type 0 where
   pub calls : List Call
-  pub events : List Marked
+  pub events : List Occurrence
   pub is : run ≡ record begun { calls = begun.calls ++ calls; events = begun.events ++ events }
 
 -- The run goes on from the one that the store was opened with, which had the opening names. Its effects are published, or all but the
@@ -66,4 +66,4 @@ pub record StepsSince (begun : Run) (job now : ℕ) (own : Option ℕ) (out : St
   pub since : IsSince begun run
   pub is_run : IsRun run
   pub taken : step_refusal (job_at (jobs_of run) job) ≡ None
-  pub shows : ShowsStep run (and_event run (marked job now own (is_fault out.reply))) (marked job now own (is_fault out.reply)) out
+  pub shows : ShowsStep run (and_event run (occurrence job now own (is_fault out.reply))) (occurrence job now own (is_fault out.reply)) out

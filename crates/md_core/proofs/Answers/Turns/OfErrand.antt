@@ -31,7 +31,7 @@ use Rattle.md_core.specs.declared.jobs.step.DirReply.{DirReply}
 use Rattle.md_core.specs.declared.jobs.step.DirReply.TheVariants as reply
 use Rattle.md_core.specs.declared.jobs.task.Task.TheVariants.{Errand}
 use Rattle.md_core.specs.Mailbox.{Entry, Mailbox, mailbox_of, entry_of, HasOnePath}
-use Rattle.md_core.specs.Alone.{Outcome, alone, seen, seen_by, flag, flag_by, copied, copy_by, expunged, expunge_by, refused, such, is_in_place, is_in_folder, flags_in}
+use Rattle.md_core.specs.Alone.{Outcome, alone, seen_alone, seen_by, flag_alone, flag_by, copy_alone, copy_by, expunge_alone, expunge_by, refuse, entry_if, is_in_place, is_in_folder, flags_in}
 use Rattle.md_core.specs.Turn.{Turn, After, goes_on, rows_for, reply_of}
 use Rattle.md_core.specs.Asked.{ask_of, state_by}
 use Rattle.md_core.specs.Machine.{as_task}
@@ -90,15 +90,15 @@ refused-flag p (Some had) a is = by _ is
     by false h = cc
 
 -- an entry of a folder is such a one
-such-inside : (folder : ℕ) (o : Option Entry) (e : Entry) → o ≡ Some e → e.folder ≡ folder → such (is_in_folder folder) o ≡ Some e
-such-inside folder o e is inside = ap (such (is_in_folder folder)) is ∙ ap (λ b. cond b (Some e) None) (eq-eqb _ _ inside)
+such-inside : (folder : ℕ) (o : Option Entry) (e : Entry) → o ≡ Some e → e.folder ≡ folder → entry_if (is_in_folder folder) o ≡ Some e
+such-inside folder o e is inside = ap (entry_if (is_in_folder folder)) is ∙ ap (λ b. cond b (Some e) None) (eq-eqb _ _ inside)
 
 -- a message without the flag T is not expunged
 not_trashed : (box : Mailbox) (u : List ℕ) (o : Option Set) → has_trashed o ≡ false → (expunge_by box u o).answer ≡ answer.NotTrashed
 not_trashed box u None is = refl
 not_trashed box u (Some had) is =
     ap (λ b. (cond {A = Outcome} b (record { answer = answer.Expunged; after = finmap.remove box u })
-    (refused answer.NotTrashed box)).answer) is
+    (refuse answer.NotTrashed box)).answer) is
 
 -- ---- the turns
 
@@ -120,7 +120,7 @@ module _ (s : State) (number : ℕ) (asked : Call) (clock : ℕ) (one : HasOnePa
           let new = one-place (Seen given) place refl fits.stage in
           subst (λ (x : Refusal). Tells s asked (Errand (on folder u (Seen given) (Look place tries))) reply.Ok (refused_by x)) r.1
           (subst (λ (c : Call). IsAlone s c answer.OtherInfo) (sym fits.of)
-          (ap (λ (o : Option Entry). (seen (mailbox_of s) u given o).answer) (such-there New folder (get (mailbox_of s) u) entry there refl new)
+          (ap (λ (o : Option Entry). (seen_alone (mailbox_of s) u given o).answer) (such-there New folder (get (mailbox_of s) u) entry there refl new)
           ∙ ap (λ (o : Option Set). (seen_by (mailbox_of s) u given entry o).answer) (shown ∙ no-flags (flags_of (info_in row.name)) r.0)))
       refuse-says (Flag add remove) fits a is =
           let r = refused-flag (Flag add remove) (flags_of (info_in row.name)) a is in
@@ -128,7 +128,7 @@ module _ (s : State) (number : ℕ) (asked : Call) (clock : ℕ) (one : HasOnePa
           let cur = one-place (Flag add remove) place refl fits.stage in
           subst (λ (x : Refusal). Tells s asked (Errand (on folder u (Flag add remove) (Look place tries))) reply.Ok (refused_by x)) r.1
           (subst (λ (c : Call). IsAlone s c answer.OtherInfo) (sym fits.of)
-          (ap (λ (o : Option Entry). (flag (mailbox_of s) u add remove o).answer) (such-there Cur folder (get (mailbox_of s) u) entry there refl cur)
+          (ap (λ (o : Option Entry). (flag_alone (mailbox_of s) u add remove o).answer) (such-there Cur folder (get (mailbox_of s) u) entry there refl cur)
           ∙ ap (λ (o : Option Set). (flag_by (mailbox_of s) u add remove entry o).answer) (shown ∙ r.0)))
       refuse-says (Move to) fits a is = cc
       refuse-says (Copy to fresh) fits a is =
@@ -136,7 +136,7 @@ module _ (s : State) (number : ℕ) (asked : Call) (clock : ℕ) (one : HasOnePa
           let there = row-entry s folder place u row (not-tmp (Copy to fresh) place fits.stage) one h in
           subst (λ (x : Refusal). Tells s asked (Errand (on folder u (Copy to fresh) (Look place tries))) reply.Ok (refused_by x)) r.1
           (subst (λ (c : Call). IsAlone s c answer.OtherInfo) (sym fits.of)
-          (ap (λ (o : Option Entry). (copied (mailbox_of s) to fresh o).answer) (such-inside folder (get (mailbox_of s) u) entry there refl)
+          (ap (λ (o : Option Entry). (copy_alone (mailbox_of s) to fresh o).answer) (such-inside folder (get (mailbox_of s) u) entry there refl)
           ∙ ap (λ (o : Option Set). (copy_by (mailbox_of s) to fresh entry o (get (mailbox_of s) fresh)).answer)
           (shown ∙ no-flags (flags_of (info_in row.name)) r.0)))
       refuse-says Expunge fits a is =
@@ -145,7 +145,7 @@ module _ (s : State) (number : ℕ) (asked : Call) (clock : ℕ) (one : HasOnePa
           let cur = one-place Expunge place refl fits.stage in
           subst (λ (x : Refusal). Tells s asked (Errand (on folder u Expunge (Look place tries))) reply.Ok (refused_by x)) r.1
           (subst (λ (c : Call). IsAlone s c answer.NotTrashed) (sym fits.of)
-          (ap (λ (o : Option Entry). (expunged (mailbox_of s) u o).answer) (such-there Cur folder (get (mailbox_of s) u) entry there refl cur)
+          (ap (λ (o : Option Entry). (expunge_alone (mailbox_of s) u o).answer) (such-there Cur folder (get (mailbox_of s) u) entry there refl cur)
           ∙ not_trashed (mailbox_of s) u (flags_in entry) (ap has_trashed shown ∙ r.0)))
 
     module _ (p : Purpose) (fits : ErrandFits s asked (on folder u p (Look place tries))) where
@@ -163,7 +163,7 @@ module _ (s : State) (number : ℕ) (asked : Call) (clock : ℕ) (one : HasOnePa
           record {
             tries = refl;
             looked = λ both cur.
-                subst (λ (q : Place). such (is_in_place q folder) (get (mailbox_of s) u) ≡ None) h.3
+                subst (λ (q : Place). entry_if (is_in_place q folder) (get (mailbox_of s) u) ≡ None) h.3
                 (no-entry s folder place u none);
           }
 

@@ -18,7 +18,7 @@ use Rattle.md_core.specs.declared.jobs.step.DirReply.TheVariants as reply
 use Rattle.md_core.specs.declared.jobs.task.Task.{Task}
 use Rattle.md_core.specs.declared.jobs.task.Task.TheVariants.{Deliver, Errand, Clean}
 use Rattle.md_core.specs.Mailbox.{mailbox_of, is_message}
-use Rattle.md_core.specs.Alone.{alone, such, is_in_place}
+use Rattle.md_core.specs.Alone.{alone, entry_if, is_in_place}
 use Rattle.md_core.specs.Turn.{After}
 
 -- How far a job is with its tries: it looks for its message, or it acts on a path of it. Deliveries and cleans have none.
@@ -72,11 +72,11 @@ IsOver s (acting p tries) = (tries ≤ 1) × (file_at s p ≡ None)
 
 -- what an errand has seen that goes on to cur, and what it sees where it ends after its last place
 abbrev pub IsPastNew : State → ℕ → List ℕ → Bool → Stage → Type 0
-IsPastNew s folder u both (Look place tries) = both ≡ true → place ≡ Cur → such (is_in_place New folder) (get (mailbox_of s) u) ≡ None
+IsPastNew s folder u both (Look place tries) = both ≡ true → place ≡ Cur → entry_if (is_in_place New folder) (get (mailbox_of s) u) ≡ None
 IsPastNew s folder u both (Act place row tries) = Unit {0}
 
 abbrev pub IsPastLast : State → ℕ → List ℕ → Bool → Stage → Type 0
-IsPastLast s folder u both (Look place tries) = (such (is_in_place place folder) (get (mailbox_of s) u) ≡ None) × (place_after both place ≡ None)
+IsPastLast s folder u both (Look place tries) = (entry_if (is_in_place place folder) (get (mailbox_of s) u) ≡ None) × (place_after both place ≡ None)
 IsPastLast s folder u both (Act place row tries) = ⊥
 
 abbrev pub HasLooked : State → Task → Type 0

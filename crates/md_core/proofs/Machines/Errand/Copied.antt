@@ -22,8 +22,8 @@ use Rattle.md_core.specs.declared.jobs.purpose.Purpose.TheVariants as purpose
 use Rattle.md_core.specs.declared.jobs.step.DirReply.TheVariants as reply
 use Rattle.md_core.specs.declared.jobs.task.Task.TheVariants.{Errand}
 use Rattle.md_core.specs.Mailbox.{Entry, Mailbox, mailbox_of, entry_of, is_message, is_tmp, HasOnePath}
-use Rattle.md_core.specs.Alone.{alone, copied, copy_by, such, is_in_folder, info_copied}
-use Rattle.md_core.specs.History.{names_of, changed}
+use Rattle.md_core.specs.Alone.{alone, copy_alone, copy_by, entry_if, is_in_folder, info_copied}
+use Rattle.md_core.specs.History.{names_of, names_after_change}
 use Rattle.md_core.specs.Asked.{link}
 use Rattle.md_core.specs.Machines.Purposes.{info_in, name_copied}
 use Rattle.md_core.specs.Machines.Errand.{done_by}
@@ -76,7 +76,7 @@ module _ (s : State) (number : ℕ) (asked : Call) (folder : ℕ) (v : List ℕ)
   n = path_of to place (name_copied fresh (info_in row.name))
 
   abbrev s' : State
-  s' = dirs.named n s (Some k)
+  s' = dirs.with_path n s (Some k)
 
   abbrev m : Mailbox
   m = mailbox_of s
@@ -110,8 +110,8 @@ module _ (s : State) (number : ℕ) (asked : Call) (folder : ℕ) (v : List ℕ)
   no_copy None is = is
   no_copy (Some e) is = let h = mailbox-shows s fresh e is in let gone = none h.path h.message h.unique in let there = h.there in cc
 
-  in_folder : such (is_in_folder folder) (get m v) ≡ Some (entry_of s o k)
-  in_folder = ap (such (is_in_folder folder)) before ∙ ap (λ b. cond b (Some (entry_of s o k)) None) (eq-eqb folder folder refl)
+  in_folder : entry_if (is_in_folder folder) (get m v) ≡ Some (entry_of s o k)
+  in_folder = ap (entry_if (is_in_folder folder)) before ∙ ap (λ b. cond b (Some (entry_of s o k)) None) (eq-eqb folder folder refl)
 
   -- the message of the copy
   abbrev copy : Entry
@@ -124,11 +124,11 @@ module _ (s : State) (number : ℕ) (asked : Call) (folder : ℕ) (v : List ℕ)
   effect-alone : AsAlone asked (Some effect) m (mailbox_of s')
   effect-alone =
       ap (λ (a : Call). alone a m) fits.of
-      ∙ ap (copied m to fresh) in_folder
+      ∙ ap (copy_alone m to fresh) in_folder
       ∙ (λ i. copy_by m to fresh (entry_of s o k) (name.had i) (no_copy (get m fresh) refl i))
       ∙ sym (λ i. record { answer = answer.Copied; after = after i })
 
-  changes : names_of (mailbox_of s') ≡ changed (names_of m) effect.change
+  changes : names_of (mailbox_of s') ≡ names_after_change (names_of m) effect.change
   changes =
       ap names_of (mailbox-puts s s' n k one lands.puts) ∙ names-insert m (unique_of n.name) (entry_of s' n k)
       ∙ ap (finmap.insert (names_of m) (unique_of n.name)) (listed-entry s' n k)
@@ -165,7 +165,7 @@ module _ (s : State) (number : ℕ) (asked : Call) (folder : ℕ) (v : List ℕ)
     fixed = λ is a b. refl;
   }
 
-  pub link-does : Does s (dirs.named n s (file_at s o)) number asked (Errand x) (link o n) reply.Ok
+  pub link-does : Does s (dirs.with_path n s (file_at s o)) number asked (Errand x) (link o n) reply.Ok
       (record { task = Errand x; answer = Some answer.Copied; effect = Some effect })
-  link-does = subst (λ (f : Option ℕ). Does s (dirs.named n s f) number asked (Errand x) (link o n) reply.Ok
+  link-does = subst (λ (f : Option ℕ). Does s (dirs.with_path n s f) number asked (Errand x) (link o n) reply.Ok
       (record { task = Errand x; answer = Some answer.Copied; effect = Some effect })) (sym at) named-does

@@ -6,7 +6,7 @@ use Rattle.std.specs.FinMap.{get}
 use Rattle.std.specs.FinSet as set
 use Rattle.md_dirs.specs.Path.{path_of}
 use Rattle.md_dirs.specs.State.{State, IsSound, file_at}
-use Rattle.md_dirs.specs.Calls.{without}
+use Rattle.md_dirs.specs.Calls.{after_unlink}
 use Rattle.md_dirs.specs.declared.paths.Path.{Path}
 use Rattle.md_dirs.specs.declared.paths.Place.{Place}
 use Rattle.md_dirs.specs.declared.paths.Place.TheVariants.{Cur}
@@ -24,8 +24,8 @@ use Rattle.md_core.specs.declared.jobs.purpose.Purpose.TheVariants as purpose
 use Rattle.md_core.specs.declared.jobs.step.DirReply.TheVariants as reply
 use Rattle.md_core.specs.declared.jobs.task.Task.TheVariants.{Errand}
 use Rattle.md_core.specs.Mailbox.{mailbox_of, entry_of, is_message, HasOnePath}
-use Rattle.md_core.specs.Alone.{alone, expunged, expunge_by, refused, such, is_in_place}
-use Rattle.md_core.specs.History.{names_of, changed}
+use Rattle.md_core.specs.Alone.{alone, expunge_alone, expunge_by, refuse, entry_if, is_in_place}
+use Rattle.md_core.specs.History.{names_of, names_after_change}
 use Rattle.md_core.specs.Asked.{unlink}
 use Rattle.md_core.specs.Machines.Purposes.{info_in}
 use Rattle.md_core.specs.Machines.Errand.{done_by}
@@ -55,7 +55,7 @@ module _ (s : State) (number : ℕ) (asked : Call) (folder : ℕ) (v : List ℕ)
   u = unique_of row.name
 
   abbrev s' : State
-  s' = without o s
+  s' = after_unlink o s
 
   abbrev effect : Effect
   effect = done_by number (deed.Unlink o) answer.Expunged row.size
@@ -81,19 +81,19 @@ module _ (s : State) (number : ℕ) (asked : Call) (folder : ℕ) (v : List ℕ)
   after : mailbox_of s' ≡ finmap.remove (mailbox_of s) u
   after = mailbox-drops s s' u one (remove-drops s o k one message at)
 
-  in_cur : such (is_in_place Cur folder) (get (mailbox_of s) u) ≡ Some (entry_of s o k)
+  in_cur : entry_if (is_in_place Cur folder) (get (mailbox_of s) u) ≡ Some (entry_of s o k)
   in_cur = such-there Cur folder (get (mailbox_of s) u) (entry_of s o k) before refl cur
 
   effect-alone : AsAlone asked (Some effect) (mailbox_of s) (mailbox_of s')
   effect-alone =
       ap (λ (c : Call). alone c (mailbox_of s)) fits.of
-      ∙ (λ i. expunged (mailbox_of s) (sym fits.stage.unique i) (such (is_in_place Cur folder) (get (mailbox_of s) (sym fits.stage.unique i))))
-      ∙ ap (expunged (mailbox_of s) u) in_cur
+      ∙ (λ i. expunge_alone (mailbox_of s) (sym fits.stage.unique i) (entry_if (is_in_place Cur folder) (get (mailbox_of s) (sym fits.stage.unique i))))
+      ∙ ap (expunge_alone (mailbox_of s) u) in_cur
       ∙ ap (expunge_by (mailbox_of s) u) shown.1
-      ∙ ap (λ b. cond b (record { answer = answer.Expunged; after = finmap.remove (mailbox_of s) u }) (refused answer.NotTrashed (mailbox_of s))) shown.2
+      ∙ ap (λ b. cond b (record { answer = answer.Expunged; after = finmap.remove (mailbox_of s) u }) (refuse answer.NotTrashed (mailbox_of s))) shown.2
       ∙ sym (λ i. record { answer = answer.Expunged; after = after i })
 
-  changes : names_of (mailbox_of s') ≡ changed (names_of (mailbox_of s)) effect.change
+  changes : names_of (mailbox_of s') ≡ names_after_change (names_of (mailbox_of s)) effect.change
   changes = ap names_of after ∙ names-remove (mailbox_of s) u
 
   pub unlink-does : Does s s' number asked (Errand x) (unlink o) reply.Ok

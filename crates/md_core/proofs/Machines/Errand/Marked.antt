@@ -5,7 +5,7 @@ use Rattle.std.specs.FinMap as finmap
 use Rattle.std.specs.FinSet as set
 use Rattle.std.proofs.lemmas.Bool.{and_from, eq-eqb}
 use Rattle.md_dirs.specs.State.{State, IsSound, file_at}
-use Rattle.md_dirs.specs.Calls.{moved}
+use Rattle.md_dirs.specs.Calls.{after_rename}
 use Rattle.md_dirs.specs.Path.{place_index, path_of}
 use Rattle.md_dirs.specs.declared.paths.Path.{Path}
 use Rattle.md_dirs.specs.declared.paths.Place.{Place}
@@ -22,8 +22,8 @@ use Rattle.md_core.specs.declared.jobs.purpose.Deed.TheVariants as deed
 use Rattle.md_core.specs.declared.jobs.step.DirReply.TheVariants as reply
 use Rattle.md_core.specs.declared.jobs.task.Task.TheVariants.{Errand}
 use Rattle.md_core.specs.Mailbox.{Entry, Mailbox, mailbox_of, entry_of, is_message, is_tmp, HasOnePath}
-use Rattle.md_core.specs.Alone.{Outcome, alone, seen, seen_by, flag, flag_by, such, is_in_place, flags_in, is_same_set, info_with, refused}
-use Rattle.md_core.specs.History.{Listed, listed, names_of, name_of, changed, size_in, IsThere, ShowsFlags, MayGetFlags}
+use Rattle.md_core.specs.Alone.{Outcome, alone, seen_alone, seen_by, flag_alone, flag_by, entry_if, is_in_place, flags_in, is_same_set, info_with, refuse}
+use Rattle.md_core.specs.History.{Listed, as_listed, names_of, name_of, names_after_change, size_in, IsThere, ShowsFlags, MayGetFlags}
 use Rattle.md_core.specs.Asked.{list, rename}
 use Rattle.md_core.specs.Machines.Errand.{kept, done_by}
 use Rattle.md_core.specs.Stepping.{AsAlone}
@@ -42,9 +42,9 @@ use Rattle.md_core.proofs.Machines.Errand.Table.{left-some}
 
 -- an entry of a place is such a one
 pub such-there : (place : Place) (folder : ℕ) (o : Option Entry) (e : Entry) → o ≡ Some e → e.folder ≡ folder → e.place ≡ place →
-    such (is_in_place place folder) o ≡ Some e
+    entry_if (is_in_place place folder) o ≡ Some e
 such-there place folder o e is inside at =
-    ap (such (is_in_place place folder)) is
+    ap (entry_if (is_in_place place folder)) is
     ∙ ap (λ b. cond b (Some e) None) (and_from _ _ (eq-eqb _ _ (ap place_index at)) (eq-eqb _ _ inside))
 
 module _ (box : Mailbox) (folder : ℕ) (u : List ℕ) (e : Entry) (had : Set) (at : finmap.get box u ≡ Some e) (inside : e.folder ≡ folder)
@@ -57,7 +57,7 @@ module _ (box : Mailbox) (folder : ℕ) (u : List ℕ) (e : Entry) (had : Set) (
 
   pub alone-seen : (given : Set) (tries : ℕ) → e.place ≡ New → alone (call.Seen folder u given tries) box ≡ marked Cur (set.union had given)
   alone-seen given tries place =
-      ap (λ (o : Option Entry). seen box u given o) (such-there New folder (finmap.get box u) e at inside place)
+      ap (λ (o : Option Entry). seen_alone box u given o) (such-there New folder (finmap.get box u) e at inside place)
       ∙ ap (seen_by box u given e) shows
 
   module _ (add remove : Set) (tries : ℕ) (place : e.place ≡ Cur) where
@@ -65,16 +65,16 @@ module _ (box : Mailbox) (folder : ℕ) (u : List ℕ) (e : Entry) (had : Set) (
     flags = set.difference (set.union had add) remove
 
     flags-alone : (b : _) → is_same_set had flags ≡ b →
-        alone (call.Flag folder u add remove tries) box ≡ cond {A = Outcome} b (refused (answer.Flags flags) box) (marked e.place flags)
+        alone (call.Flag folder u add remove tries) box ≡ cond {A = Outcome} b (refuse (answer.Flags flags) box) (marked e.place flags)
     flags-alone b same =
-        ap (λ (o : Option Entry). flag box u add remove o) (such-there Cur folder (finmap.get box u) e at inside place)
+        ap (λ (o : Option Entry). flag_alone box u add remove o) (such-there Cur folder (finmap.get box u) e at inside place)
         ∙ ap (flag_by box u add remove e) shows
-        ∙ ap (λ x. cond {A = Outcome} x (refused (answer.Flags flags) box) (marked e.place flags)) same
+        ∙ ap (λ x. cond {A = Outcome} x (refuse (answer.Flags flags) box) (marked e.place flags)) same
 
     pub alone-flags : is_same_set had flags ≡ false → alone (call.Flag folder u add remove tries) box ≡ marked Cur flags
     alone-flags changes = flags-alone false changes ∙ ap (λ (p : Place). marked p flags) place
 
-    pub alone-keeps : is_same_set had flags ≡ true → alone (call.Flag folder u add remove tries) box ≡ refused (answer.Flags flags) box
+    pub alone-keeps : is_same_set had flags ≡ true → alone (call.Flag folder u add remove tries) box ≡ refuse (answer.Flags flags) box
     alone-keeps same = flags-alone true same
 
 -- ---- a message of the name is there, with these flags
@@ -96,7 +96,7 @@ module _ (s : State) (number : ℕ) (asked : Call) (e : ErrandOf) (sound : IsSou
 
   is_listed : finmap.get (names_of (mailbox_of s)) (unique_of name) ≡ Some
       (record { folder = e.folder; place = place; name = name; size = length entry.bytes })
-  is_listed = get-names (mailbox_of s) (unique_of name) ∙ ap (λ (o : Option Entry). option_map (listed (unique_of name)) o) (in_mailbox (unique_of name) refl)
+  is_listed = get-names (mailbox_of s) (unique_of name) ∙ ap (λ (o : Option Entry). option_map (as_listed (unique_of name)) o) (in_mailbox (unique_of name) refl)
       ∙ ap (λ (x : List ℕ). Some (record { folder = e.folder; place = place; name = x; size = length entry.bytes })) (whole-name name)
 
   is_there : IsThere (names_of (mailbox_of s)) e.folder place name
@@ -107,7 +107,7 @@ module _ (s : State) (number : ℕ) (asked : Call) (e : ErrandOf) (sound : IsSou
   occupied none = let gone = none source message refl in cc
 
   -- it has the flags already
-  pub keeps-it : (flags : Set) → place ≡ Cur → had ≡ flags → alone asked (mailbox_of s) ≡ refused (answer.Flags flags) (mailbox_of s) →
+  pub keeps-it : (flags : Set) → place ≡ Cur → had ≡ flags → alone asked (mailbox_of s) ≡ refuse (answer.Flags flags) (mailbox_of s) →
       is_effect_at asked (list e.folder place) reply.Ok (Some (answer.Flags flags)) ≡ true →
       Does s s number asked (Errand e) (list e.folder place) reply.Ok
       (record { task = Errand e; answer = Some (answer.Flags flags); effect = Some (kept number (answer.Flags flags)) })
@@ -145,7 +145,7 @@ module _ (s : State) (number : ℕ) (asked : Call) (e : ErrandOf) (sound : IsSou
     target = path_of e.folder Cur (flagged e.unique flags)
 
     abbrev pub s' : State
-    s' = moved source target s
+    s' = after_rename source target s
 
     abbrev pub effect : Effect
     effect = done_by number (deed.Rename source target) (answer.Flags flags) size
@@ -179,7 +179,7 @@ module _ (s : State) (number : ℕ) (asked : Call) (e : ErrandOf) (sound : IsSou
     sized : length entry.bytes ≡ size_in (names_of (mailbox_of s)) (unique_of name)
     sized = sym (ap (λ (o : Option Listed). option_map_or (λ (x : Listed). x.size) o 0) is_listed)
 
-    renames : names_of (mailbox_of s') ≡ changed (names_of (mailbox_of s)) effect.change
+    renames : names_of (mailbox_of s') ≡ names_after_change (names_of (mailbox_of s)) effect.change
     renames = ap names_of boxed ∙ names-insert (mailbox_of s) e.unique after_entry
         ∙ (λ i. finmap.insert (names_of (mailbox_of s)) (sym new_unique i) (record { folder = e.folder; place = Cur; name = spelled i; size = sized i }))
         ∙ sym (put_again (names_of (mailbox_of s)) (unique_of name) (unique_of (flagged e.unique flags)) _ (unique ∙ sym new_unique))

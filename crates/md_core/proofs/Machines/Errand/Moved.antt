@@ -20,8 +20,8 @@ use Rattle.md_core.specs.declared.jobs.purpose.Purpose.TheVariants as purpose
 use Rattle.md_core.specs.declared.jobs.step.DirReply.TheVariants as reply
 use Rattle.md_core.specs.declared.jobs.task.Task.TheVariants.{Errand}
 use Rattle.md_core.specs.Mailbox.{mailbox_of, entry_of, is_message, HasOnePath}
-use Rattle.md_core.specs.Alone.{alone, moved, such, is_in_folder}
-use Rattle.md_core.specs.History.{names_of, changed, listed}
+use Rattle.md_core.specs.Alone.{alone, move_alone, entry_if, is_in_folder}
+use Rattle.md_core.specs.History.{names_of, names_after_change, as_listed}
 use Rattle.md_core.specs.Asked.{rename}
 use Rattle.md_core.specs.Machines.Purposes.{info_in}
 use Rattle.md_core.specs.Machines.Errand.{done_by}
@@ -78,21 +78,21 @@ module _ (s : State) (number : ℕ) (asked : Call) (folder : ℕ) (v : List ℕ)
   after : mailbox_of s' ≡ finmap.insert (mailbox_of s) u (entry_of s' n k)
   after = mailbox-puts s s' n k one puts
 
-  in_folder : such (is_in_folder folder) (get (mailbox_of s) u) ≡ Some (entry_of s o k)
+  in_folder : entry_if (is_in_folder folder) (get (mailbox_of s) u) ≡ Some (entry_of s o k)
   in_folder =
-      ap (such (is_in_folder folder)) before
+      ap (entry_if (is_in_folder folder)) before
       ∙ ap (λ b. cond b (Some (entry_of s o k)) None) (eq-eqb folder folder refl)
 
   effect-alone : AsAlone asked (Some effect) (mailbox_of s) (mailbox_of s')
   effect-alone =
       ap (λ (c : Call). alone c (mailbox_of s)) fits.of
-      ∙ (λ i. moved (mailbox_of s) (sym fits.stage.unique i) to (such (is_in_folder folder) (get (mailbox_of s) (sym fits.stage.unique i))))
-      ∙ ap (moved (mailbox_of s) u to) in_folder
+      ∙ (λ i. move_alone (mailbox_of s) (sym fits.stage.unique i) to (entry_if (is_in_folder folder) (get (mailbox_of s) (sym fits.stage.unique i))))
+      ∙ ap (move_alone (mailbox_of s) u to) in_folder
       ∙ sym (λ i. record { answer = answer.Moved; after = after i })
 
-  changes : names_of (mailbox_of s') ≡ changed (names_of (mailbox_of s)) effect.change
+  changes : names_of (mailbox_of s') ≡ names_after_change (names_of (mailbox_of s)) effect.change
   changes =
-      ap names_of after ∙ names-insert (mailbox_of s) u (entry_of s' n k) ∙ put-again (names_of (mailbox_of s)) u (listed u (entry_of s' n k))
+      ap names_of after ∙ names-insert (mailbox_of s) u (entry_of s' n k) ∙ put-again (names_of (mailbox_of s)) u (as_listed u (entry_of s' n k))
       ∙ ap (finmap.insert (finmap.remove (names_of (mailbox_of s)) u) u) (listed-entry s' n k)
       ∙ ap (λ size. finmap.insert (finmap.remove (names_of (mailbox_of s)) u) u (record { folder = to; place = place; name = row.name; size = size }))
       (sym (size-there (mailbox_of s) s o k before))
@@ -121,7 +121,7 @@ module _ (s : State) (number : ℕ) (asked : Call) (folder : ℕ) (v : List ℕ)
     fixed = λ is a b. refl;
   }
 
-  pub rename-does : Does s (dirs.moved o n s) number asked (Errand x) (rename o n) reply.Ok
+  pub rename-does : Does s (dirs.after_rename o n s) number asked (Errand x) (rename o n) reply.Ok
       (record { task = Errand x; answer = Some answer.Moved; effect = Some effect })
   rename-does = subst (λ (t : State). Does s t number asked (Errand x) (rename o n) reply.Ok
       (record { task = Errand x; answer = Some answer.Moved; effect = Some effect }))
