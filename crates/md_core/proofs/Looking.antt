@@ -1,3 +1,3 @@
 pub mod LookUps
 pub mod Search
-pub mod Searching
+pub mod Reading
