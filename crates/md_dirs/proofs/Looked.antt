@@ -1,5 +1,6 @@
 -- What looks at the rows of a directory tell of its names.
 use Rattle.std.proofs.Common.{ℕ, zero, suc, ◌≡◌, ◌+◌, ◌<◌, ◌≤◌, List, [], ◌∷◌, Option, Some, None, Bool, true, false, cond, T, refl, sym, ap, ◌∙◌, arith, length, map, filter, nat_lt, slice_get}
+use Rattle.std.proofs.lemmas.List.{length-map}
 use Rattle.std.specs.Option.{option_map, option_and_then}
 use Rattle.std.specs.FinMap.{is_sorted, entries, entries_sorted}
 use Rattle.md_dirs.specs.State.{State, file_by}
@@ -11,17 +12,13 @@ use Rattle.md_dirs.specs.declared.paths.File.{File}
 use Rattle.md_dirs.specs.declared.paths.Path.{Path}
 use Rattle.md_dirs.specs.declared.paths.Place.{Place}
 use Rattle.md_dirs.specs.declared.rows.Row.{Row}
-use Rattle.md_dirs.proofs.Rowed.{get-map, get-past}
+use Rattle.md_dirs.proofs.Rowed.{get-map}
 use Rattle.md_dirs.proofs.Sliced.{names-sorted}
 use Rattle.md_dirs.proofs.Zones.{row_named-map, name-by, name-point, name-missing, first-is-info, halved-low, halved-high}
 
 named-rows : (files : List (Option File)) (es : List (Path × ℕ)) → map (row_of files) es ≡ map (name_row files) (map named_row es)
 named-rows files [] = refl
 named-rows files (e ∷ es) = ap (λ rows. row_by e.0.name (file_by files e.1) ∷ rows) (named-rows files es)
-
-length-mapped : {X Y : Type 0} (f : X → Y) (xs : List X) → length (map f xs) ≡ length xs
-length-mapped f [] = refl
-length-mapped f (x ∷ xs) = let rest = length-mapped f xs in omega arith
 
 there : {X : Type 0} (xs : List X) (i : ℕ) (x : X) → slice_get xs i ≡ Some x → i < length xs
 there [] i x is = cc
@@ -50,7 +47,7 @@ module _ (s : State) (folder : ℕ) (place : Place) where
   in-order = names-sorted folder place (entries s.names) (entries_sorted s.names)
 
   pub count-named : length (rows_of s folder place) ≡ length names
-  count-named = ap length rows-named ∙ length-mapped (name_row s.files) names
+  count-named = ap length rows-named ∙ length-map names (name_row s.files)
 
   pub within-named : (i : ℕ) (r : Row) → slice_get (rows_of s folder place) i ≡ Some r → i < length names
   within-named i r is = let inside = there (rows_of s folder place) i r is in omega (arith, count-named)

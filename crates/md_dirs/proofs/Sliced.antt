@@ -8,8 +8,7 @@ use Rattle.std.specs.Ordering.{is_lt, ordering_reverse}
 use Rattle.std.specs.FinMap.{is_sorted, from_sorted, entries-from_sorted}
 use Rattle.std.specs.FinMap.Entries.{below_all}
 use Rattle.md_dirs.specs.Path.{path_cmp}
-use Rattle.md_dirs.specs.Rows.{is_in, is_named}
-use Rattle.md_dirs.specs.Find.{zone, name_at, IsFirstPlace}
+use Rattle.md_dirs.specs.Rows.{is_in}
 use Rattle.md_dirs.specs.Index.{name_cmp, named_row, directory_number, path_at, rows_in}
 use Rattle.md_dirs.specs.declared.paths.Path.{Path}
 use Rattle.md_dirs.specs.declared.paths.Place.{Place}
@@ -139,11 +138,6 @@ names-sorted folder place (e ∷ es) h = by (names-sorted folder place es (secon
 pub length-named : (es : List (Path × ℕ)) → length (map named_row es) ≡ length es
 length-named [] = refl
 length-named (e ∷ es) = ap suc (length-named es)
-
-pub name-of-row : (es : List (Path × ℕ)) (k : ℕ) (d : Path × ℕ) → k < length es → name_at (map named_row es) k ≡ (get_or es k d).0.name
-name-of-row [] k d within = absurd (omega arith)
-name-of-row (e ∷ es) zero d within = refl
-name-of-row (e ∷ es) (suc k) d within = name-of-row es k d (omega arith)
 
 -- what a list in order shows of a directory
 pub rows-listed : (rows : List (Path × ℕ)) (folder : ℕ) (place : Place) → T (is_sorted path_cmp rows) →

@@ -1,12 +1,12 @@
 -- What looks for a message in each directory tell of the mailbox.
-use Rattle.std.proofs.Common.{ℕ, ◌≡◌, ◌≢◌, ◌+◌, ◌<◌, ◌≤◌, inl, inr, List, Option, Some, None, Bool, true, false, cond, not, ◌&&◌, ◌==◌, IsSome, refl, sym, ap, subst, ◌∙◌, arith}
+use Rattle.std.proofs.Common.{ℕ, ◌≡◌, ◌+◌, ◌≤◌, inl, inr, List, Option, Some, None, Bool, true, false, cond, not, ◌&&◌, ◌==◌, IsSome, refl, sym, ap, subst, ◌∙◌, arith}
 use Rattle.std.specs.Option.{option_map, option_and_then}
 use Rattle.std.specs.FinMap.{get}
 use Rattle.std.specs.Str.{bytes_eq}
 use Rattle.std.proofs.lemmas.Bool.{cases_lt, eq-eqb, and_from}
 use Rattle.std.proofs.lemmas.Slice.Eq.{bytes_eq-Decides}
 use Rattle.md_dirs.specs.Path.{path_of, place_index}
-use Rattle.md_dirs.specs.State.{State, IsSound, file_at, file_by, bytes_at_path}
+use Rattle.md_dirs.specs.State.{State, IsSound, file_by, bytes_at_path}
 use Rattle.md_dirs.specs.Rows.{rows_of, row_named}
 use Rattle.md_dirs.specs.declared.paths.File.{File}
 use Rattle.md_dirs.specs.declared.paths.Place.{Place}
