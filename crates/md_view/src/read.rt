@@ -50,7 +50,7 @@ fn is_tmp(place: Place) -> bool
 }
 
 // The messages of a directory in order of their whole names, and whether that is the order of their unique names. It nearly always is:
-// only a unique name that goes on with a byte below the colon, behind another one, comes out otherwise.
+// only a unique name that goes on with a byte below the colon, after another one, comes out otherwise.
 fn gather<D: Dirs>(
     alloc: Global,
     world: &World<D>,
@@ -75,7 +75,7 @@ fn gather<D: Dirs>(
     Err(AllocError)
 }
 
-// Whether an entry goes behind the last of others in order of unique name.
+// Whether an entry goes after the last of others in order of unique name.
 fn is_behind(all: &[Entry], entry: &Entry) -> bool
     ensures { IsTrue result → IsBehind all.now entry.now }
 {

@@ -16,7 +16,7 @@ use Rattle.md_name.specs.Names.{unique_of, is_message_name}
 use Rattle.md_name.specs.declared.info.Info.{Info}
 use Rattle.md_name.proofs.Digits.{and_first, and_second}
 use Rattle.md_name.proofs.Flagged.{IsUniquePart, IsUniquePart-unique_of, split_of-bare}
-use Rattle.md_core.specs.Alone.{such, is_in_place}
+use Rattle.md_core.specs.Alone.{entry_if, is_in_place}
 use Rattle.md_core.specs.Looking.{is_of}
 use Rattle.md_core.specs.Mailbox.{Entry, mailbox_of, entry_of, bytes_of, is_tmp, HasOnePath}
 use Rattle.md_core.proofs.Mailbox.Shown.{mailbox-shows}
@@ -70,7 +70,7 @@ module _ (s : State) (u : List ℕ) where
   -- a row can be read
   pub row-bytes : (folder : ℕ) (place : Place) (row : Row) → IsSound s → HasOnePath s → is_tmp place ≡ false → is_of u u ≡ true →
       row_named u (rows_of s folder place) ≡ Some row
-      → bytes_at_path s (path_of folder place row.name) ≡ bytes (such (is_in_place place folder) (get (mailbox_of s) u))
+      → bytes_at_path s (path_of folder place row.name) ≡ bytes (entry_if (is_in_place place folder) (get (mailbox_of s) u))
   row-bytes folder place row sound one no_tmp part is =
       let h = row-of_part s folder place u row (part-of u part) is in
       let e = entry_of s (path_of folder place row.name) h.file in
@@ -78,23 +78,23 @@ module _ (s : State) (u : List ℕ) where
       and_from (place_index place == place_index place) (folder == folder) (eq-eqb (place_index place) (place_index place) refl) (eq-eqb folder folder refl) in
       ap (λ o. option_map (λ (f : File). f.bytes) (option_and_then (file_by s.files) o)) h.there
       ∙ held (file_by s.files h.file) (sound.filed (path_of folder place row.name) h.file h.there)
-      ∙ sym (ap (λ o. bytes (such (is_in_place place folder) o)) (row-entry s folder place u row no_tmp one h) ∙ ap (λ b. bytes (cond b (Some e) None)) inside)
+      ∙ sym (ap (λ o. bytes (entry_if (is_in_place place folder) o)) (row-entry s folder place u row no_tmp one h) ∙ ap (λ b. bytes (cond b (Some e) None)) inside)
     where
       held : (o : Option File) → IsSome o → option_map (λ (f : File). f.bytes) o ≡ Some (bytes_of o)
       held None some = cc
       held (Some f) some = refl
 
   pub none-bytes : (folder : ℕ) (place : Place) → row_named u (rows_of s folder place) ≡ None →
-      None ≡ bytes (such (is_in_place place folder) (get (mailbox_of s) u))
+      None ≡ bytes (entry_if (is_in_place place folder) (get (mailbox_of s) u))
   none-bytes folder place none = ap bytes (sym (no-entry s folder place u none))
 
   -- ---- all directories
 
   -- what one directory has, the mailbox has
-  pub such-bytes : (test : Entry → Bool) (b : List ℕ) → Some b ≡ bytes (such test (get (mailbox_of s) u)) → Some b ≡ bytes (get (mailbox_of s) u)
+  pub such-bytes : (test : Entry → Bool) (b : List ℕ) → Some b ≡ bytes (entry_if test (get (mailbox_of s) u)) → Some b ≡ bytes (get (mailbox_of s) u)
   such-bytes test b = by (get (mailbox_of s) u)
     where
-      by : (o : Option Entry) → Some b ≡ bytes (such test o) → Some b ≡ bytes o
+      by : (o : Option Entry) → Some b ≡ bytes (entry_if test o) → Some b ≡ bytes o
       by None is = is
       by (Some e) is = at (test e) is
         where
@@ -107,8 +107,8 @@ module _ (s : State) (u : List ℕ) where
   IsPast folder = (e : Entry) → get (mailbox_of s) u ≡ Some e → folder ≤ e.folder
 
   -- one folder more
-  pub one-past : (folder : ℕ) → IsPast folder → None ≡ bytes (such (is_in_place New folder) (get (mailbox_of s) u)) →
-      None ≡ bytes (such (is_in_place Cur folder) (get (mailbox_of s) u)) → IsPast (folder + 1)
+  pub one-past : (folder : ℕ) → IsPast folder → None ≡ bytes (entry_if (is_in_place New folder) (get (mailbox_of s) u)) →
+      None ≡ bytes (entry_if (is_in_place Cur folder) (get (mailbox_of s) u)) → IsPast (folder + 1)
   one-past folder past in_new in_cur e is = elim (cases_lt folder e.folder) [
     | inl later ↦ omega arith
     | inr here ↦
@@ -119,11 +119,11 @@ module _ (s : State) (u : List ℕ) where
         absurd (by same e.place refl place)
   ]
     where
-      there : (place : Place) → e.place ≡ place → e.folder ≡ folder → None ≡ bytes (such (is_in_place place folder) (get (mailbox_of s) u)) → ⊥
+      there : (place : Place) → e.place ≡ place → e.folder ≡ folder → None ≡ bytes (entry_if (is_in_place place folder) (get (mailbox_of s) u)) → ⊥
       there place at same none =
           let inside : is_in_place place folder e ≡ true =
           and_from (place_index e.place == place_index place) (e.folder == folder) (eq-eqb _ _ (ap place_index at)) (eq-eqb _ _ same) in
-          let some : None ≡ Some e.bytes = none ∙ ap (λ o. bytes (such (is_in_place place folder) o)) is ∙ ap (λ b. bytes (cond b (Some e) None)) inside in
+          let some : None ≡ Some e.bytes = none ∙ ap (λ o. bytes (entry_if (is_in_place place folder) o)) is ∙ ap (λ b. bytes (cond b (Some e) None)) inside in
           cc
 
       by : e.folder ≡ folder → (place : Place) → e.place ≡ place → not (is_tmp e.place) ≡ true → ⊥

@@ -3,7 +3,7 @@ ghost use Rattle.std.specs.Prelude.{◌≡◌, true, false};
 ghost use Rattle.std.specs.Option.{option_map};
 ghost use Rattle.std.specs.FinMap as finmap;
 ghost use Rattle.md_dirs.specs.State.{IsSound};
-ghost use Rattle.md_core.specs.Alone.{such, is_in_place};
+ghost use Rattle.md_core.specs.Alone.{entry_if, is_in_place};
 ghost use Rattle.md_core.specs.Looking.{is_of};
 ghost use Rattle.md_core.specs.Mailbox.{Entry, mailbox_of, is_tmp, HasOnePath};
 
@@ -48,7 +48,7 @@ fn bytes_in<'a, D: Dirs>(dirs: &'a D, folder: u32, place: Place, unique: &[u8]) 
     requires place { is_tmp place ≡ false }
     requires name { is_of unique.now unique.now ≡ true }
     ensures { option_map (λ b. b.now) result
-        ≡ option_map (λ (e : Entry). e.bytes) (such (is_in_place place folder) (finmap.get (mailbox_of (D.state dirs.now)) unique.now)) }
+        ≡ option_map (λ (e : Entry). e.bytes) (entry_if (is_in_place place folder) (finmap.get (mailbox_of (D.state dirs.now)) unique.now)) }
 {
     let row = dirs.look(folder, place, unique)?;
     dirs.read(folder, place, row.name)
