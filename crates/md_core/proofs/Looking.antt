@@ -1,2 +1,2 @@
 pub mod LookUps
-pub mod Searching
+pub mod Reading

@@ -16,7 +16,6 @@ pub mod Interleaving
 pub mod Stepping
 pub mod Worlds
 pub mod Looking
-pub mod Reading
 pub mod Accepting
 pub mod Trace
 pub mod Bounds

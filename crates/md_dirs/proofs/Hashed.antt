@@ -9,7 +9,7 @@ use Rattle.std.specs.FinMap.{entries, same_map, from_sorted, entries-from_sorted
 use Rattle.md_dirs.specs.Path.{path_cmp}
 use Rattle.md_dirs.specs.State.{State, IsSound, file_by, file_at, bare, bytes_at_path}
 use Rattle.md_dirs.specs.Calls.{Obeys, with_new_file, append, link, rename, unlink, after_append, file_with_more, with_path, without_path, after_rename, is_one_file, with_files_still_named, files_still_named, after_unlink as dirs_without}
-use Rattle.md_dirs.specs.Rows.{is_in, rows_of, row_of, row_by}
+use Rattle.md_dirs.specs.Rows.{is_in, rows_of}
 use Rattle.md_dirs.specs.Index.{PathMap, rows_in, named_row}
 use Rattle.md_dirs.specs.Files.{files_of, slot_at, names_held, paths_of, IsCounted, kept_state, grown_slot, named_again, let_go, name_row}
 use Rattle.md_dirs.specs.declared.paths.Path.{Path}
@@ -21,6 +21,7 @@ use Rattle.md_dirs.proofs.PathOrder.{path_total, path_exact}
 use Rattle.lists.proofs.Maps as maps
 use Rattle.lists.proofs.Members.{Has, has-get}
 use Rattle.md_dirs.proofs.Rowed.{get-map}
+use Rattle.md_dirs.proofs.Looked.{rows-named}
 use Rattle.md_dirs.proofs.Kept.{made, refused}
 use Rattle.md_dirs.proofs.Sound.{by_path, by_number, file-within, sound-bare, sound-placed, sound-appended, sound-named, sound-without, sound-moved}
 use Rattle.md_dirs.proofs.Steps.{lt_true, link-refusal, rename-refusal}
@@ -287,12 +288,8 @@ module _ (folders : ℕ) (names : PathMap) (slots : List (Option Kept)) (whole :
       })
 
   -- what directories show of their rows
-  shown-rows : (rows : List (Path × ℕ)) → map (row_of (files_of slots)) rows ≡ map (name_row (files_of slots)) (map named_row rows)
-  shown-rows [] = refl
-  shown-rows (e ∷ es) = ap (λ xs. row_by e.0.name (file_by (files_of slots) e.1) ∷ xs) (shown-rows es)
-
   pub rows-shown : (folder : ℕ) (place : Place) → rows_of start folder place ≡ map (name_row (files_of slots)) (rows_in names folder place)
-  rows-shown folder place = shown-rows (filter (λ e. is_in folder place e.0) (entries names))
+  rows-shown = rows-named start
 
   filed-in : (p : Path × ℕ → Bool) (es : List (Path × ℕ)) → ((x : Path × ℕ) → Has es x → IsSome (file_by (files_of slots) x.1)) →
       (i : ℕ) (r : List ℕ × ℕ) → slice_get (map named_row (filter p es)) i ≡ Some r → IsSome (file_by (files_of slots) r.1)

@@ -15,3 +15,4 @@ pub mod Ordered
 pub mod Zones
 pub mod Directories
 pub mod Sliced
+pub mod Looked

@@ -8,8 +8,7 @@ use Rattle.std.specs.Ordering.{is_lt, ordering_reverse}
 use Rattle.std.specs.FinMap.{is_sorted, from_sorted, entries-from_sorted}
 use Rattle.std.specs.FinMap.Entries.{below_all}
 use Rattle.md_dirs.specs.Path.{path_cmp}
-use Rattle.md_dirs.specs.Rows.{is_in, is_named}
-use Rattle.md_dirs.specs.Find.{zone, name_at, IsFirstPlace}
+use Rattle.md_dirs.specs.Rows.{is_in}
 use Rattle.md_dirs.specs.Index.{name_cmp, named_row, directory_number, path_at, rows_in}
 use Rattle.md_dirs.specs.declared.paths.Path.{Path}
 use Rattle.md_dirs.specs.declared.paths.Place.{Place}
@@ -18,7 +17,6 @@ use Rattle.md_dirs.proofs.PathOrder.{path_total}
 use Rattle.md_dirs.proofs.Sound.{by_number}
 use Rattle.md_dirs.proofs.Rowed.{get-map}
 use Rattle.md_dirs.proofs.Directories.{path-number, same-directory, lower-directory, is-here, is-elsewhere}
-use Rattle.md_dirs.proofs.Zones.{zone-sorted, name-point, name-missing, first-is-info}
 use Rattle.md_dirs.proofs.Sorted.{first, second, both, less}
 
 -- the number of a row's directory
@@ -141,58 +139,10 @@ pub length-named : (es : List (Path × ℕ)) → length (map named_row es) ≡ l
 length-named [] = refl
 length-named (e ∷ es) = ap suc (length-named es)
 
-pub name-of-row : (es : List (Path × ℕ)) (k : ℕ) (d : Path × ℕ) → k < length es → name_at (map named_row es) k ≡ (get_or es k d).0.name
-name-of-row [] k d within = absurd (omega arith)
-name-of-row (e ∷ es) zero d within = refl
-name-of-row (e ∷ es) (suc k) d within = name-of-row es k d (omega arith)
-
-pub zones-rise : (u : List ℕ) (es : List (Path × ℕ)) → T (is_sorted name_cmp (map named_row es)) → IsNonDecreasingBy (λ (e : Path × ℕ). zone u e.0.name) es
-zones-rise u es h i j d le within =
-    let up = zone-sorted u (map named_row es) i j h le (omega (arith, length-named es)) in
-    let low : zone u (name_at (map named_row es) i) ≡ zone u (get_or es i d).0.name = ap (zone u) (name-of-row es i d (omega arith)) in
-    let high : zone u (name_at (map named_row es) j) ≡ zone u (get_or es j d).0.name = ap (zone u) (name-of-row es j d within) in
-    omega arith
-
 -- what a list in order shows of a directory
 pub rows-listed : (rows : List (Path × ℕ)) (folder : ℕ) (place : Place) → T (is_sorted path_cmp rows) →
     rows_in (from_sorted rows) folder place ≡ map named_row (filter (λ e. is_in folder place e.0) rows)
 rows-listed rows folder place h = ap (λ es. map named_row (filter (λ e. is_in folder place e.0) es)) (entries-from_sorted path_cmp rows h)
-
--- where the rows begin that are not below a unique name, and those that are not below it with a colon
-module _ (u : List ℕ) (rows : List (Path × ℕ)) (i : ℕ)
-    (point : IsPartitionPoint (λ e. ltb (zone u e.0.name) 1 ≡ true) (λ e. ltb (zone u e.0.name) 1 ≡ false) rows i) where
-  row : Path × ℕ
-  row = (record { folder = 0; place = Tmp; name = [] }, 0)
-
-  zone-at : (k : ℕ) → k < length (map named_row rows) → zone u (name_at (map named_row rows) k) ≡ zone u (get_or rows k row).0.name
-  zone-at k within = ap (zone u) (name-of-row rows k row (omega (arith, length-named rows)))
-
-  below-point : i ≤ length rows → (k : ℕ) → k < i → zone u (name_at (map named_row rows) k) < 1
-  below-point within k h =
-      let low = ltb-true _ 1 (point.0 k row (omega arith) h) in
-      let same = zone-at k (omega (arith, length-named rows)) in
-      omega arith
-
-  named-at : (b : Bool) (e : Path × ℕ) → i < length rows → e ≡ get_or rows i e → is_named u e.0.name ≡ b → is_named u (name_at (map named_row rows) i) ≡ b
-  named-at b e within is named = ap (is_named u) (name-of-row rows i e within ∙ ap (λ (x : Path × ℕ). x.0.name) (sym is)) ∙ named
-
-  pub place-named : (e : Path × ℕ) → i < length rows → e ≡ get_or rows i e → is_named u e.0.name ≡ true → IsFirstPlace (map named_row rows) u i
-  place-named e within is named =
-      name-point u (map named_row rows) i (omega (arith, length-named rows)) (below-point (omega arith)) (named-at true e within is named)
-
-  pub place-info : (j : ℕ) → IsPartitionPoint (λ e. ltb (zone u e.0.name) 3 ≡ true) (λ e. ltb (zone u e.0.name) 3 ≡ false) rows j → i ≤ length rows →
-      j ≤ length rows → T (is_sorted name_cmp (map named_row rows))
-      → (i < length rows → (e : Path × ℕ) × (e ≡ get_or rows i e) × (is_named u e.0.name ≡ false)) → IsFirstPlace (map named_row rows) u j
-  place-info j info within within' sorted unnamed =
-      first-is-info u (map named_row rows) j sorted
-      (name-missing u (map named_row rows) i sorted (below-point within)
-      (λ k from here. let high = ltb-false _ 1 (point.1 k row from (omega (arith, length-named rows))) in let same = zone-at k here in omega arith)
-      (λ inside. let some = unnamed (omega (arith, length-named rows)) in named-at false some.0 (omega (arith, length-named rows)) some.1 some.2))
-      (record {
-        within = omega (arith, length-named rows);
-        before = λ k h. let low = ltb-true _ 3 (info.0 k row (omega arith) h) in let same = zone-at k (omega (arith, length-named rows)) in omega arith;
-        behind = λ k from here. let high = ltb-false _ 3 (info.1 k row from (omega (arith, length-named rows))) in let same = zone-at k here in omega arith;
-      })
 
 pub row-listed : (rows : List (Path × ℕ)) (folder : ℕ) (place : Place) (i : ℕ) (o : Option (Path × ℕ)) → T (is_sorted path_cmp rows) →
     slice_get (filter (λ e. is_in folder place e.0) rows) i ≡ o

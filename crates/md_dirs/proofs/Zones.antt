@@ -1,5 +1,5 @@
 -- The first name of a message among names in order.
-use Rattle.std.proofs.Common.{ℕ, zero, suc, ◌≡◌, ◌≢◌, ◌<◌, ◌≤◌, ◌==◌, ◌&&◌, List, [], ◌∷◌, Option, Some, None, Bool, true, false, cond, T, length, nat_eq, nat_lt, refl, sym, ap, subst, ◌∙◌, arith, slice_get, drop, take, map, find as first_with}
+use Rattle.std.proofs.Common.{ℕ, zero, suc, ◌≡◌, ◌≢◌, ◌+◌, ◌<◌, ◌≤◌, ◌==◌, ◌&&◌, List, [], ◌∷◌, Option, Some, None, Bool, true, false, cond, T, length, nat_eq, nat_lt, refl, sym, ap, subst, ◌∙◌, arith, slice_get, drop, take, map, find as first_with}
 use Rattle.std.proofs.lemmas.Bool.Decides.{nat_tests}
 use Rattle.std.specs.List.{starts_with}
 use Rattle.std.specs.Cmp.Lexicographic.{pointwise}
@@ -15,7 +15,7 @@ use Rattle.md_dirs.specs.State.{file_by}
 use Rattle.md_dirs.specs.Files.{name_row}
 use Rattle.md_dirs.specs.declared.paths.File.{File}
 use Rattle.md_dirs.specs.Index.{name_cmp}
-use Rattle.md_dirs.specs.Find.{zone, name_at, before_colon, IsInfoPoint, IsFirstPlace}
+use Rattle.md_dirs.specs.Find.{zone, name_at, before_colon, IsHalved, IsEdge, IsFirstPlace}
 use Rattle.md_dirs.proofs.Renamed.{below-at}
 use Rattle.md_dirs.proofs.NameRows.{name_total, name_exact}
 
@@ -220,7 +220,7 @@ first-is-name u n (e ∷ es) h is = by (first-is-name u n es (second _ _ h)) (lo
         ap (λ b. cond b (Some e) (first_with (λ r. is_named u r.0) es)) not ∙ rest g
 
 -- else the row at the point is, or none
-pub first-is-info : (u : List ℕ) (es : List (List ℕ × ℕ)) (i : ℕ) → T (is_sorted name_cmp es) → find name_cmp u es ≡ None → IsInfoPoint es u i
+pub first-is-info : (u : List ℕ) (es : List (List ℕ × ℕ)) (i : ℕ) → T (is_sorted name_cmp es) → find name_cmp u es ≡ None → IsEdge es u 3 i
     → first_with (λ e. is_named u e.0) es ≡ option_and_then (λ e. cond (is_named u e.0) (Some e) None) (slice_get es i)
 first-is-info u [] i h none point = refl
 first-is-info u (e ∷ es) zero h none point = by (is_named u e.0) refl
@@ -228,7 +228,7 @@ first-is-info u (e ∷ es) zero h none point = by (is_named u e.0) refl
     by : (b : Bool) → is_named u e.0 ≡ b → cond b (Some e) (first_with (λ r. is_named u r.0) es) ≡ cond b (Some e) None
     by true t = refl
     by false t =
-        let high : 3 ≤ zone u e.0 = point.behind 0 (omega arith) (omega arith) in
+        let high : 3 ≤ zone u e.0 = point.after 0 (omega arith) (omega arith) in
         let most = zone-most u e.0 in
         let differ : zone u e.0 ≢ 3 = (λ z. let named : is_named u e.0 ≡ true = named-zone u e.0 ∙ ap is_zone z in cc) in
         above-all u e.0 es (first _ _ h) (omega arith)
@@ -240,9 +240,10 @@ first-is-info u (e ∷ es) (suc i) h none point =
     let not : is_named u e.0 ≡ false = named-zone u e.0 ∙ unnamed (zone u e.0) low differ in
     ap (λ b. cond b (Some e) (first_with (λ r. is_named u r.0) es)) not
     ∙ first-is-info u es i (second _ _ h) (later (eq_by_cmp name_cmp u e.0) none) (record {
+      ordered = omega arith;
       within = omega (arith, point.within);
       before = λ k below. point.before (suc k) (omega arith);
-      behind = λ k from within. point.behind (suc k) (omega arith) (omega arith);
+      after = λ k from within. point.after (suc k) (omega arith) (omega arith);
     })
   where
     missing : (b : Bool) → b ≡ true → cond b (Some e.1) (find name_cmp u es) ≡ None → ⊥
@@ -268,6 +269,38 @@ zone-sorted u (e ∷ es) zero (suc m) h km within = zone-order u e.0 (name_at es
 zone-sorted u (e ∷ es) (suc k) zero h km within = absurd (omega arith)
 zone-sorted u (e ∷ es) (suc k) (suc m) h km within = zone-sorted u es k m (second _ _ h) (omega arith) (omega arith)
 
+-- halving begins with all rows
+pub halved-all : (rows : List (List ℕ × ℕ)) (u : List ℕ) (edge : ℕ) → IsHalved rows u edge 0 (length rows)
+halved-all rows u edge = record { ordered = omega arith; within = omega arith; before = λ k h. absurd (omega arith); after = λ k h h'. absurd (omega arith) }
+
+-- and ends where the positions meet
+pub halved-edge : (rows : List (List ℕ × ℕ)) (u : List ℕ) (edge low high : ℕ) → IsHalved rows u edge low high → high ≤ low → IsEdge rows u edge low
+halved-edge rows u edge low high halved met = let same : high ≡ low = omega (arith, halved.ordered) in subst (IsHalved rows u edge low) same halved
+
+module _ (rows : List (List ℕ × ℕ)) (u : List ℕ) (edge low high : ℕ) (sorted : T (is_sorted name_cmp rows)) (halved : IsHalved rows u edge low high)
+    (m : ℕ) (from : low ≤ m) (to : m < high) where
+  -- it goes on after a row that is below
+  pub halved-low : nat_lt (zone u (name_at rows m)) edge ≡ true → IsHalved rows u edge (m + 1) high
+  halved-low test =
+      let below : zone u (name_at rows m) < edge = grind (arith, nat_tests) in
+      record {
+        ordered = omega arith;
+        within = halved.within;
+        before = λ k h. let up = zone-sorted u rows k m sorted (omega arith) (omega (arith, halved.within)) in omega arith;
+        after = halved.after;
+      }
+
+  -- and before one that is not
+  pub halved-high : nat_lt (zone u (name_at rows m)) edge ≡ false → IsHalved rows u edge low m
+  halved-high test =
+      let above : edge ≤ zone u (name_at rows m) = grind (arith, nat_tests) in
+      record {
+        ordered = from;
+        within = omega (arith, halved.within);
+        before = halved.before;
+        after = λ k h h'. let up = zone-sorted u rows m k sorted h h' in omega arith;
+      }
+
 -- whether a name is below the unique name with a colon, by its first bytes
 pub below-info : (u a : List ℕ) → nat_lt (zone u a) 3 ≡ cond (starts_with nat_eq a u) (before_colon (drop (length u) a)) (is_lt (name_cmp a u))
 below-info [] [] = refl
@@ -292,7 +325,7 @@ below-info (x ∷ xs) (b ∷ bs) = by (below-info xs bs) (nat_lt b x) refl (b ==
     by rest false e false f false f' = refl
 
 -- what is kept of rows keeps the first that has the unique name
-name-by : (a : List ℕ) (o : Option File) → (row_by a o).name ≡ a
+pub name-by : (a : List ℕ) (o : Option File) → (row_by a o).name ≡ a
 name-by a None = refl
 name-by a (Some file) = refl
 

@@ -1,5 +1,5 @@
 // The directory calls and looks.
-ghost use Rattle.std.specs.Prelude.{◌≡◌, ◌+◌, ◌^◌, ◌<◌, ℕ, IsErrOf, IfOk, IfSome, slice_get};
+ghost use Rattle.std.specs.Prelude.{◌≡◌, ◌+◌, ◌^◌, ◌<◌, ℕ, IsErrOf, IfOk, IfSome, length, slice_get};
 ghost use Rattle.std.specs.Option.{option_map};
 ghost use Rattle.md_dirs.specs.Path.{path_of};
 ghost use Rattle.md_dirs.specs.State.{State, IsSound, bytes_at_path};
@@ -8,7 +8,7 @@ ghost use Rattle.md_dirs.specs.Rows.{rows_of, row_named, row_shown};
 ghost use Rattle.md_dirs.specs.declared.calls.DirError.TheVariants.{NoMemory};
 
 use crate::paths::{Path, Place};
-use crate::rows::{Row, RowRef, first_named};
+use crate::rows::{Row, RowRef, first_named, is_below, is_below_info, is_named};
 use std::alloc::{AllocError, AllocFailed};
 use thiserror::Error;
 
@@ -51,7 +51,7 @@ impl<T: Drop> From<AllocFailed<T>> for DirError {
 ///
 /// Each of the calls is one atomic step, after POSIX's link, rename and unlink. `now` is the moment of the call in
 /// seconds. A call may answer `Fault`, where the number of failures has risen by one, and `NoMemory`, after all its other
-/// checks; neither changes anything. The three looks are no steps: they take no memory and never fail.
+/// checks; neither changes anything. The looks, which take `&self`, are no steps: they take no memory and never fail.
 pub trait Dirs {
     /// The folders, the names and the files.
     ghost state: { Self → State };
@@ -121,6 +121,65 @@ pub trait Dirs {
     fn row_at(&self, folder: u32, place: Place, at: usize) -> Option<RowRef<'_>>
         ensures row { option_map row_shown result ≡ slice_get (rows_of (state self.now) folder place) at }
         ensures few { IfSome result (λ _. at + 1 < 2 ^ 64) };
+
+    /// How many rows a directory has, and 0 where the folder is not there. By itself it looks at 65 rows, by halving.
+    fn count(&self, folder: u32, place: Place) -> usize
+        ensures { result ≡ length (rows_of (state self.now) folder place) }
+    {
+        let mut low = 0;
+        let mut high = usize::MAX;
+        if self.row_at(folder, place, high).is_some() {
+            unreachable!();
+        }
+        while low < high {
+            let middle = low + (high - low) / 2;
+            if self.row_at(folder, place, middle).is_some() {
+                low = middle + 1;
+            } else {
+                high = middle;
+            }
+        }
+        low
+    }
+
+    /// Looks for one message of a directory, as `find` does, and lends its row. None where the directory has no such name, and
+    /// where the folder is not there. By itself it looks at some rows, twice by halving.
+    fn look(&self, folder: u32, place: Place, unique: &[u8]) -> Option<RowRef<'_>>
+        ensures { option_map row_shown result ≡ row_named unique.now (rows_of (state self.now) folder place) }
+    {
+        let count = self.count(folder, place);
+        let mut low = 0;
+        let mut high = count;
+        while low < high {
+            let middle = low + (high - low) / 2;
+            if is_below(self.row_at(folder, place, middle)?.name, unique) {
+                low = middle + 1;
+            } else {
+                high = middle;
+            }
+        }
+        if let Some(row) = self.row_at(folder, place, low) {
+            if is_named(row.name, unique) {
+                return Some(row);
+            }
+        }
+        let mut from = 0;
+        let mut end = count;
+        while from < end {
+            let middle = from + (end - from) / 2;
+            if is_below_info(self.row_at(folder, place, middle)?.name, unique) {
+                from = middle + 1;
+            } else {
+                end = middle;
+            }
+        }
+        let row = self.row_at(folder, place, from)?;
+        if is_named(row.name, unique) {
+            Some(row)
+        } else {
+            None
+        }
+    }
 
     /// The bytes of the file of a name. None where the name is not there.
     fn read(&self, folder: u32, place: Place, name: &[u8]) -> Option<&[u8]>

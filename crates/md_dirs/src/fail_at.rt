@@ -162,6 +162,14 @@ impl<D: Dirs> Dirs for FailAt<D> {
         self.dirs.row_at(folder, place, at)
     }
 
+    fn count(&self, folder: u32, place: Place) -> usize {
+        self.dirs.count(folder, place)
+    }
+
+    fn look(&self, folder: u32, place: Place, unique: &[u8]) -> Option<RowRef<'_>> {
+        self.dirs.look(folder, place, unique)
+    }
+
     fn read(&self, folder: u32, place: Place, name: &[u8]) -> Option<&[u8]> {
         self.dirs.read(folder, place, name)
     }

@@ -1,14 +1,13 @@
 // Files by their numbers, each with the number of its names.
-ghost use Rattle.std.specs.Prelude.{◌≡◌, ◌<◌, Some, OnOk, OnErr, IfOk, IfSome, MatchOption, IsSome, length};
-ghost use Rattle.std.specs.Option.{option_map};
+ghost use Rattle.std.specs.Prelude.{◌≡◌, ◌<◌, Some, OnOk, OnErr, MatchOption, IsSome, length};
 ghost use Rattle.md_dirs.specs.State.{file_by};
 ghost use Rattle.md_dirs.specs.Calls.{is_one_file};
 ghost use Rattle.md_dirs.specs.Rows.{row_shown, row_by};
-ghost use Rattle.md_dirs.specs.Files.{files_of, grown_slot, named_less, let_go, name_row};
+ghost use Rattle.md_dirs.specs.Files.{files_of, grown_slot, named_less, let_go};
 
 use crate::paths::File;
-use crate::rows::{Row, RowRef};
-use std::alloc::{AllocError, Global};
+use crate::rows::RowRef;
+use std::alloc::AllocError;
 
 /// A file, and how many names it has.
 #[derive(Drop)]
@@ -75,19 +74,4 @@ pub fn shown_row<'a>(slots: &'a [Option<Kept>], name: &'a [u8], file: usize) -> 
         stamp: kept.file.stamp,
         size: kept.file.bytes.len() as u64,
     }
-}
-
-// What a directory shows of a name that was found, copied.
-pub fn found_row(
-    alloc: Global,
-    slots: &[Option<Kept>],
-    found: Option<(&[u8], usize)>,
-) -> Result<Option<Row>, AllocError>
-    requires { IfSome found (λ r. IsSome (file_by (files_of slots.now) r.1)) }
-    ensures { IfOk result (λ row. row ≡ option_map (λ r. name_row (files_of slots.now) (r.0.now, r.1)) found.entry) }
-{
-    let Some((name, file)) = found else {
-        return Ok(None);
-    };
-    Ok(Some(shown_row(slots, name, file).copied(alloc)?))
 }

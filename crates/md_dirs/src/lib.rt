@@ -7,6 +7,7 @@ mod changes;
 mod count;
 mod fail_at;
 mod files;
+mod finding;
 mod image;
 mod index;
 pub mod laws;

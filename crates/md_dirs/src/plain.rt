@@ -6,10 +6,10 @@ mod search;
 use crate::calls::{DirError, Dirs};
 use crate::changes::{Paths, add_file, add_name};
 use crate::count::Count;
-use crate::files::{Kept, found_row, grow_slot, is_same, release_one, shown_row};
+use crate::files::{Kept, grow_slot, is_same, release_one, shown_row};
 use crate::image::ImageFile;
 use crate::paths::{File, Path, Place};
-use crate::rows::{Row, RowRef};
+use crate::rows::{Row, RowRef, copied_row};
 use list::PathList;
 use md_name::Bytes;
 use std::alloc::Global;
@@ -208,8 +208,7 @@ impl Dirs for PlainDirs {
             self.calls.raise();
             return Err(DirError::NotFound);
         }
-        let found = self.names.find(folder, place, unique);
-        let row = found_row(self.alloc, &self.slots, found)?;
+        let row = copied_row(self.alloc, self.look(folder, place, unique))?;
         self.calls.raise();
         Ok(row)
     }
@@ -220,6 +219,15 @@ impl Dirs for PlainDirs {
 
     fn row_at(&self, folder: u32, place: Place, at: usize) -> Option<RowRef<'_>> {
         let (name, file) = self.names.row_at(folder, place, at)?;
+        Some(shown_row(&self.slots, name, file))
+    }
+
+    fn count(&self, folder: u32, place: Place) -> usize {
+        self.names.count(folder, place)
+    }
+
+    fn look(&self, folder: u32, place: Place, unique: &[u8]) -> Option<RowRef<'_>> {
+        let (name, file) = self.names.find(folder, place, unique)?;
         Some(shown_row(&self.slots, name, file))
     }
 

@@ -1,5 +1,6 @@
 // What a directory shows of a name.
 ghost use Rattle.std.specs.Prelude.{◌≡◌, IfOk, nat_lt};
+ghost use Rattle.std.specs.Option.{option_map};
 ghost use Rattle.md_dirs.specs.Find.{zone, before_colon};
 ghost use Rattle.md_dirs.specs.Rows.{row_shown, row_named, ends_unique, is_named as is_named_by};
 
@@ -46,6 +47,16 @@ impl RowRef<'_> {
             size: self.size,
         })
     }
+}
+
+// A copy of a row, if there is one. It is refused only when out of memory.
+pub fn copied_row(alloc: Global, row: Option<RowRef<'_>>) -> Result<Option<Row>, AllocError>
+    ensures { IfOk result (λ copy. copy ≡ option_map row_shown row.entry) }
+{
+    let Some(row) = row else {
+        return Ok(None);
+    };
+    Ok(Some(row.copied(alloc)?))
 }
 
 // Whether a unique name ends where this begins.

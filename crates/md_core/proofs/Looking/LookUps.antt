@@ -170,10 +170,9 @@ pub record IsRow (s : State) (folder : ℕ) (place : Place) (u : List ℕ) (row 
   pub named : is_message_name row.name ≡ true
   pub shows : row_of s.files (path_of folder place row.name, file) ≡ row
 
-pub found-row : (s : State) (folder : ℕ) (place : Place) (u : List ℕ) (row : Row) → is_unique_name u ≡ true →
+pub row-of_part : (s : State) (folder : ℕ) (place : Place) (u : List ℕ) (row : Row) → IsUniquePart u →
     row_named u (rows_of s folder place) ≡ Some row → IsRow s folder place u row
-found-row s folder place u row is_unique is =
-    let part = unique-part u is_unique in
+row-of_part s folder place u row part is =
     let f = found s folder place u row (entries s.names) is in
     let name : f.0.0.name ≡ row.name = sym (name-row f.0.0.name _) ∙ ap (λ (r : Row). r.name) f.3 in
     let path : f.0.0 ≡ path_of folder place row.name = path-in folder place f.0.0 f.2 ∙ ap (path_of folder place) name in
@@ -185,6 +184,10 @@ found-row s folder place u row is_unique is =
       named = message-name u row.name part unique;
       shows = ap (λ (p : Path). row_of s.files (p, f.0.1)) (sym path) ∙ f.3;
     }
+
+pub found-row : (s : State) (folder : ℕ) (place : Place) (u : List ℕ) (row : Row) → is_unique_name u ≡ true →
+    row_named u (rows_of s folder place) ≡ Some row → IsRow s folder place u row
+found-row s folder place u row is_unique = row-of_part s folder place u row (unique-part u is_unique)
 
 -- a row in new or cur is of a message
 pub row-message : (s : State) (folder : ℕ) (place : Place) (u : List ℕ) (row : Row) → is_tmp place ≡ false → IsRow s folder place u row →

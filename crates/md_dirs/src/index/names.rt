@@ -1,16 +1,16 @@
 // The names of one directory, hashed, and their order.
-ghost use Rattle.std.specs.Prelude.{◌≡◌, ◌<◌, ◌+◌, ◌^◌, [], None, OnOk, OnErr, IfOk, IfErr, IfSome, IsSome, IsTrue, All, length, map, nat_lt, slice_get, slice_index_or, slice_set, find as first_with};
+ghost use Rattle.std.specs.Prelude.{◌≡◌, ◌<◌, ◌+◌, ◌^◌, [], None, OnOk, OnErr, IfOk, IfErr, IfSome, IsSome, IsTrue, All, length, map, slice_get, slice_index_or, slice_set, find as first_with};
 ghost use Rattle.std.specs.Option.{option_map};
 ghost use Rattle.std.specs.FinMap as finmap;
 ghost use Rattle.md_dirs.specs.State.{file_by};
 ghost use Rattle.md_dirs.specs.Files.{files_of, name_row};
 ghost use Rattle.md_dirs.specs.Rows.{is_named as is_named_by};
-ghost use Rattle.md_dirs.specs.Find.{zone, name_at, IsInfoPoint};
 ghost use Rattle.md_dirs.specs.Plain.{IsAt, IsGap};
 ghost use Rattle.md_dirs.specs.Index.{name_cmp, order_at, FitsAt, get_name, Renames};
 
 use crate::files::{Kept, shown_row};
-use crate::rows::{Row, is_below_info, is_named};
+use crate::finding::{Edge, InOrder, edge_place};
+use crate::rows::{Row, is_named};
 use indexmap::IndexMap;
 use std::alloc::{AllocError, Global};
 use std::cmp::Ordering;
@@ -66,13 +66,6 @@ impl Names {
             rows: IndexMap::new(alloc),
             order: Vec::new(alloc),
         }
-    }
-
-    // How many names there are.
-    fn count(&self) -> usize
-        ensures { result ≡ length (finmap.entries self.now) }
-    {
-        self.order.len()
     }
 
     // The row at a position in order of the names.
@@ -135,31 +128,6 @@ impl Names {
             return Some(row);
         }
         self.search(name).ok()
-    }
-
-    // Whether the row at a position is below a unique name with a colon.
-    fn is_below(&self, at: usize, unique: &[u8]) -> bool
-        requires { at < length (finmap.entries self.now) }
-        ensures { result ≡ nat_lt (zone unique.now (name_at (finmap.entries self.now) at)) 3 }
-    {
-        is_below_info(self.row(at).0, unique)
-    }
-
-    // Where the rows begin that are not below a unique name with a colon, by halving.
-    fn info_point(&self, unique: &[u8]) -> usize
-        ensures { IsInfoPoint (finmap.entries self.now) unique.now result }
-    {
-        let mut low = 0;
-        let mut high = self.count();
-        while low < high {
-            let middle = low + (high - low) / 2;
-            if self.is_below(middle, unique) {
-                low = middle + 1;
-            } else {
-                high = middle;
-            }
-        }
-        low
     }
 
     // Whether a name may take the place of the row at a position: it is above the row before and below the row after.
@@ -242,7 +210,7 @@ impl Names {
         if let Some((name, file)) = self.rows.get_key_value(unique) {
             return Some((name.as_slice(), *file));
         }
-        let (name, file) = self.row_at(self.info_point(unique))?;
+        let (name, file) = self.row_at(edge_place(self, unique, Edge::Info))?;
         if is_named(name, unique) {
             Some((name, file))
         } else {
@@ -274,5 +242,17 @@ impl Names {
             shown.push(shown_row(slots, name, file).copied(alloc)?)?;
         }
         Ok(shown)
+    }
+}
+
+impl InOrder for Names {
+    ghost rows = { λ n. finmap.entries n };
+
+    fn count(&self) -> usize {
+        self.order.len()
+    }
+
+    fn name(&self, at: usize) -> &[u8] {
+        self.row(at).0
     }
 }

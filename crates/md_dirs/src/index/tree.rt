@@ -1,5 +1,5 @@
 // The directories of all folders, side by side.
-ghost use Rattle.std.specs.Prelude.{◌≡◌, ◌<◌, ◌+◌, ◌^◌, ℕ, OnOk, OnErr, None, IfOk, IfSome, IsSome, IsTrue, All, map, slice_get, vec_len, find as first_with};
+ghost use Rattle.std.specs.Prelude.{◌≡◌, ◌<◌, ◌+◌, ◌^◌, ℕ, OnOk, OnErr, None, IfOk, IfSome, IsSome, IsTrue, All, length, map, slice_get, vec_len, find as first_with};
 ghost use Rattle.std.specs.Option.{option_map};
 ghost use Rattle.std.specs.FinMap as finmap;
 ghost use Rattle.md_dirs.specs.Path.{path_of};
@@ -10,6 +10,7 @@ ghost use Rattle.md_dirs.specs.Files.{files_of, name_row};
 
 use crate::changes::Paths;
 use crate::files::Kept;
+use crate::finding::InOrder;
 use crate::index::names::Names;
 use crate::paths::{Path, Place, number_of};
 use crate::rows::Row;
@@ -113,6 +114,17 @@ impl Tree {
             return None;
         }
         self.directories[number].find(unique)
+    }
+
+    /// How many names a directory has.
+    pub fn count(&self, folder: u32, place: Place) -> usize
+        ensures { result ≡ length (rows_in self.now folder place) }
+    {
+        let number = number_of(folder, place);
+        if number >= self.directories.len() {
+            return 0;
+        }
+        self.directories[number].count()
     }
 
     /// The rows of a directory, copied. It is refused only when out of memory.

@@ -1,5 +1,5 @@
 // All paths in one list.
-ghost use Rattle.std.specs.Prelude.{◌≡◌, ◌<◌, ◌+◌, ◌^◌, OnOk, OnErr, IfOk, IfSome, IsSome, All, map, slice_get, find as first_with};
+ghost use Rattle.std.specs.Prelude.{◌≡◌, ◌<◌, ◌+◌, ◌^◌, OnOk, OnErr, IfOk, IfSome, IsSome, All, length, map, slice_get, find as first_with};
 ghost use Rattle.std.specs.Option.{option_map};
 ghost use Rattle.std.specs.FinMap as finmap;
 ghost use Rattle.md_dirs.specs.Path.{path_of};
@@ -10,8 +10,9 @@ ghost use Rattle.md_dirs.specs.Files.{files_of, name_row};
 
 use crate::changes::Paths;
 use crate::files::{Kept, shown_row};
+use crate::finding::first_place;
 use crate::paths::{Path, Place};
-use crate::plain::search::{directory, find_name, find_row, first_place};
+use crate::plain::search::{directory, find_name, find_row};
 use crate::rows::{Row, is_named};
 use std::alloc::{AllocError, Global};
 use std::marker::Model;
@@ -105,12 +106,19 @@ impl PathList {
         ensures { option_map (λ r. (r.0.now, r.1)) result ≡ first_with (λ e. is_named_by unique.now e.0) (rows_in self.now folder place) }
     {
         let rows = directory(&self.rows, folder, place);
-        let (path, file) = rows.get(first_place(rows, unique))?;
+        let (path, file) = rows.get(first_place(&rows, unique))?;
         if is_named(path.name.as_slice(), unique) {
             Some((path.name.as_slice(), *file))
         } else {
             None
         }
+    }
+
+    /// How many names a directory has.
+    pub fn count(&self, folder: u32, place: Place) -> usize
+        ensures { result ≡ length (rows_in self.now folder place) }
+    {
+        directory(&self.rows, folder, place).len()
     }
 
     /// The rows of a directory, copied. It is refused only when out of memory.

@@ -4,11 +4,10 @@ ghost use Rattle.std.specs.FinMap.{is_sorted};
 ghost use Rattle.md_dirs.specs.Path.{path_cmp, path_of};
 ghost use Rattle.md_dirs.specs.Plain.{IsAt, IsGap};
 ghost use Rattle.md_dirs.specs.Rows.{is_in};
-ghost use Rattle.md_dirs.specs.Find.{IsFirstPlace};
-ghost use Rattle.md_dirs.specs.Index.{name_cmp, named_row, directory_number};
+ghost use Rattle.md_dirs.specs.Index.{named_row, directory_number};
 
+use crate::finding::InOrder;
 use crate::paths::{Path, Place, compare, number_of};
-use crate::rows::{is_below, is_below_info, is_named};
 use std::cmp::Ordering;
 
 // Where the row of a name in a directory is, or where it would go.
@@ -62,14 +61,14 @@ pub fn directory(rows: &[(Path, usize)], folder: u32, place: Place) -> &[(Path, 
     &rows[first..end]
 }
 
-// Where the first name of a directory's rows is that has a unique name.
-pub fn first_place(rows: &[(Path, usize)], unique: &[u8]) -> usize
-    requires { IsTrue (is_sorted name_cmp (map named_row rows.now)) }
-    ensures { IsFirstPlace (map named_row rows.now) unique.now result }
-{
-    let at = rows.partition_point(|row| is_below(row.0.name.as_slice(), unique));
-    if at < rows.len() && is_named(rows[at].0.name.as_slice(), unique) {
-        return at;
+impl InOrder for &[(Path, usize)] {
+    ghost rows = { λ rows. map named_row rows.now };
+
+    fn count(&self) -> usize {
+        self.len()
     }
-    rows.partition_point(|row| is_below_info(row.0.name.as_slice(), unique))
+
+    fn name(&self, at: usize) -> &[u8] {
+        self[at].0.name.as_slice()
+    }
 }

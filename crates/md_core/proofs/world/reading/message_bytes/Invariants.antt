@@ -1,5 +1,5 @@
-use Rattle.md_core.specs.Reading.{IsNotBelow}
+use Rattle.md_core.proofs.Looking.Reading.{IsPast}
 use Rattle.md_core.proofs.world.reading.message_bytes.Given as goal
 
 abbrev pub invariant-loop-folder : goal.invariant-loop-folder
-invariant-loop-folder g l = IsNotBelow (g.D.Dirs.state l.dirs) l.unique l.folder
+invariant-loop-folder g l = IsPast (g.D.Dirs.state l.dirs) l.unique l.folder
