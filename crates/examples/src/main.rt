@@ -1,6 +1,6 @@
 //! Plays each script of the folder that it runs in, over hashed and over plain directories, and compares what it prints, and the refusal that
 //! it ends with, with the text beside it: `NAME.script` with `NAME.out`. Then it does the same with the rows of `NAME.rows`: a script, a
-//! line `>`, and what it prints. Between rows stands a line `%`.
+//! line `>`, and what it prints. Between rows is a line `%`.
 #![tactic(auto)]
 
 use md_dirs::{IndexDirs, PlainDirs};

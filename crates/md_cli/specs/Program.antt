@@ -6,7 +6,7 @@ use Rattle.md_script.specs.declared.error.PlayKind.{PlayKind}
 use Rattle.md_script.specs.declared.error.PlayKind.TheVariants.{NoMemory}
 use Rattle.md_script.specs.declared.error.PlayError.{PlayError}
 use Rattle.md_script.specs.declared.sink.Put.{Put}
-use Rattle.md_script.specs.Kinds.{unnumbered}
+use Rattle.md_script.specs.Kinds.{at_no_line}
 use Rattle.md_script.specs.Play.{Plays, Writes}
 use Rattle.md_script.specs.Sinks.{Sink, Puts}
 use Rattle.md_script.specs.Sources.{Source}
@@ -17,7 +17,7 @@ use Rattle.md_runs.specs.declared.words.Run.{Run}
 use Rattle.md_runs.specs.declared.words.Run.TheVariants.{Play, Threads, Index}
 use Rattle.md_runs.specs.Faults.{refused_line, refusal_text}
 use Rattle.md_runs.specs.Indexing.{Indexes}
-use Rattle.md_runs.specs.Runs.{Names, NamesNone}
+use Rattle.md_runs.specs.Runs.{WordsName, WordsNameNone}
 use Rattle.md_runs.specs.Threading.{RunsThreads}
 
 -- standard input, standard output and standard error
@@ -58,24 +58,24 @@ Performs Play old new before after = OfScript (Plays old new before after)
 Performs (Threads n) old new before after = RunsThreads old new before after
 Performs (Index n) old new before after = OfScript (Indexes old new before after)
 
--- of a text that is written, where want of memory or a fault is no line's
+-- of a text that is written, where out of memory or a fault is no line's
 abbrev pub Shows : Sink → Sink → List ℕ → Result (Unit {0}) RunFault → Type 0
 Shows before after text (Ok done) = Writes before after text (Ok done)
-Shows before after text (Err (fault.Play e)) = (e ≡ unnumbered e.kind) × Writes before after text (Err e.kind)
+Shows before after text (Err (fault.Play e)) = (e ≡ at_no_line e.kind) × Writes before after text (Err e.kind)
 Shows before after text (Err fault.NoReader) = ⊥
 Shows before after text (Err fault.Closed) = ⊥
 
 -- The words name a run, it was made, and its answer reported.
 pub record Ran (words : List (List ℕ)) (old new : Streams) (status : ℕ) : Type 0 where
   pub run : Run
-  pub named : Names words run
+  pub named : WordsName words run
   pub answer : Result (Unit {0}) RunFault
   pub performed : Performs run old.input new.input old.output new.output answer
   pub reported : Reported old.errors new.errors answer status
 
 -- The words name no run, and ask for help or for the version. It was printed, or why not is reported; nothing was read.
 pub record Helped (words : List (List ℕ)) (old new : Streams) (status : ℕ) : Type 0 where
-  pub unnamed : NamesNone words
+  pub unnamed : WordsNameNone words
   pub unread : new.input ≡ old.input
   pub text : List ℕ
   pub answer : Result (Unit {0}) RunFault
@@ -96,7 +96,7 @@ pub record IsComplaint (lines : List ℕ) : Type 0 where
 
 -- The words name no run. Standard error is told why, and the status is 2.
 pub record Misspelled (words : List (List ℕ)) (old new : Streams) (status : ℕ) : Type 0 where
-  pub unnamed : NamesNone words
+  pub unnamed : WordsNameNone words
   pub idle : Idle old new
   pub lines : List ℕ
   pub complain : IsComplaint lines
@@ -105,9 +105,9 @@ pub record Misspelled (words : List (List ℕ)) (old new : Streams) (status : �
 
 -- The words name no run, and memory for saying so was refused.
 pub record Starved (words : List (List ℕ)) (old new : Streams) (status : ℕ) : Type 0 where
-  pub unnamed : NamesNone words
+  pub unnamed : WordsNameNone words
   pub idle : Idle old new
-  pub reported : Reported old.errors new.errors (Err (fault.Play (unnumbered NoMemory))) status
+  pub reported : Reported old.errors new.errors (Err (fault.Play (at_no_line NoMemory))) status
 
 -- How the program ends. Words that name a run are never refused, and only these read standard input.
 abbrev pub Ends : List (List ℕ) → Streams → Streams → ℕ → Type 0

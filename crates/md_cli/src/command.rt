@@ -1,7 +1,7 @@
 //! What the words of a command line ask for.
 ghost use Rattle.std.specs.Prelude.{map, MatchResult, IfOk};
 ghost use Rattle.md_cli.specs.Program.{IsComplaint};
-ghost use Rattle.md_runs.specs.Runs.{Names, NamesNone};
+ghost use Rattle.md_runs.specs.Runs.{WordsName, WordsNameNone};
 ghost use Rattle.md_cli.specs.Answers.{IsAnswer};
 
 use crate::complaint::complaint;
@@ -26,8 +26,8 @@ pub(crate) enum Answer {
 /// name none are read by the options, which say what is wrong with them, or have help shown.
 pub(crate) fn command<'a>(alloc: Global, words: &'a [&'a str]) -> Result<Run, Answer>
     ensures { MatchResult result
-        (Names (map (λ word. word.now) words.entry.now))
-        (λ answer. NamesNone (map (λ word. word.now) words.entry.now) × IsAnswer answer) }
+        (WordsName (map (λ word. word.now) words.entry.now))
+        (λ answer. WordsNameNone (map (λ word. word.now) words.entry.now) × IsAnswer answer) }
 {
     match run_named(words) {
         Some(run) => Ok(run),

@@ -17,7 +17,7 @@ use Rattle.md_core.specs.declared.jobs.effect.Effect.{Effect}
 use Rattle.md_core.specs.declared.jobs.step.DirReply.{DirReply}
 use Rattle.md_core.specs.declared.jobs.step.DirReply.TheVariants as reply
 use Rattle.md_core.specs.Alone.{alone}
-use Rattle.md_core.specs.History.{after}
+use Rattle.md_core.specs.History.{names_after}
 use Rattle.md_core.specs.Asked.{create, unlink, list}
 use Rattle.md_core.specs.Trace.{Trace, Step, IsStepOf, call_at, step_at, state, box, effects}
 

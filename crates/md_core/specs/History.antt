@@ -30,31 +30,31 @@ abbrev pub name_of : List ℕ → Option (List ℕ) → List ℕ
 name_of u None = u
 name_of u (Some info) = u ++ 58 ∷ info
 
-abbrev pub listed : List ℕ → Entry → Listed
-listed u e = record { folder = e.folder; place = e.place; name = name_of u e.info; size = length e.bytes }
+abbrev pub as_listed : List ℕ → Entry → Listed
+as_listed u e = record { folder = e.folder; place = e.place; name = name_of u e.info; size = length e.bytes }
 
 -- the names of a mailbox
 abbrev pub names_of : Mailbox → Names
-names_of m = finmap.from_entries (map (λ x. (x.0, listed x.0 x.1)) (finmap.entries m))
+names_of m = finmap.from_entries (map (λ x. (x.0, as_listed x.0 x.1)) (finmap.entries m))
 
 -- the size of the message of a unique name, in bytes
 abbrev pub size_in : Names → List ℕ → ℕ
 size_in m u = option_map_or (λ (x : Listed). x.size) (finmap.get m u) 0
 
 -- the names after a change
-abbrev pub changed : Names → Change → Names
-changed m (change.Add folder place name size) =
+abbrev pub names_after_change : Names → Change → Names
+names_after_change m (change.Add folder place name size) =
     finmap.insert m (unique_of name) (record { folder = folder; place = place; name = name; size = size })
-changed m (change.Rename folder place name to_folder to_place to_name) =
+names_after_change m (change.Rename folder place name to_folder to_place to_name) =
     finmap.insert (finmap.remove m (unique_of name)) (unique_of to_name)
     (record { folder = to_folder; place = to_place; name = to_name; size = size_in m (unique_of name) })
-changed m (change.Remove folder place name) = finmap.remove m (unique_of name)
-changed m change.Same = m
+names_after_change m (change.Remove folder place name) = finmap.remove m (unique_of name)
+names_after_change m change.Same = m
 
 -- the names at the end of a history
-abbrev pub after : Names → List Effect → Names
-after m [] = m
-after m (e ∷ es) = after (changed m e.change) es
+abbrev pub names_after : Names → List Effect → Names
+names_after m [] = m
+names_after m (e ∷ es) = names_after (names_after_change m e.change) es
 
 -- a message has this name in this directory
 pub record IsThere (m : Names) (folder : ℕ) (place : Place) (name : List ℕ) : Type 0 where
@@ -67,7 +67,7 @@ IsNowhere m u = finmap.get m u ≡ None
 
 -- the unique name is nowhere after any prefix of the history
 abbrev pub WasNowhere : Names → List Effect → List ℕ → Type 0
-WasNowhere opening history u = (k : ℕ) → IsNowhere (after opening (take k history)) u
+WasNowhere opening history u = (k : ℕ) → IsNowhere (names_after opening (take k history)) u
 
 -- the name shows these flags
 abbrev pub ShowsFlags : List ℕ → Set → Type 0
@@ -102,7 +102,7 @@ IsAllowed folders m IsFresh a c = ⊥
 
 -- an effect is allowed after a history from the opening names
 abbrev pub IsAllowedAfter : ℕ → Names → List Effect → Effect → Type 0
-IsAllowedAfter folders opening history e = IsAllowed folders (after opening history) (WasNowhere opening history) e.answer e.change
+IsAllowedAfter folders opening history e = IsAllowed folders (names_after opening history) (WasNowhere opening history) e.answer e.change
 
 -- no job has two effects, and each effect is allowed after those before it
 pub record IsLegal (folders : ℕ) (opening : Names) (history : List Effect) : Type 0 where

@@ -16,7 +16,7 @@ use Rattle.md_core.specs.declared.jobs.step.DirReply.{DirReply}
 use Rattle.md_core.specs.declared.jobs.step.DirReply.TheVariants as reply
 use Rattle.md_core.specs.Mailbox.{Entry, mailbox_of, is_tmp, is_message, HasOnePath}
 use Rattle.md_core.specs.Alone.{alone}
-use Rattle.md_core.specs.History.{names_of, after, IsLegal}
+use Rattle.md_core.specs.History.{names_of, names_after, IsLegal}
 use Rattle.md_core.specs.Asked.{Asked, link, rename, unlink, list}
 use Rattle.md_core.specs.Trace.{Trace, Step, IsStepOf, IsAnswered, call_at, step_at, state, box, effects, file_in, steps_of}
 use Rattle.md_core.specs.Answering.{Says}
@@ -151,7 +151,7 @@ pub record Interleaves (t : Trace) : Type 0 where
   pub quiet : (k : ℕ) (x : Step) → step_at t k ≡ Some x → x.effect ≡ None → box t (k + 1) ≡ box t k
   -- the effects are a legal history, and at every moment they give the names of the mailbox
   pub legal : IsLegal t.image.folders (names_of (mailbox_of t.image)) (effects t (length t.steps))
-  pub names : (k : ℕ) → after (names_of (mailbox_of t.image)) (effects t k) ≡ names_of (box t k)
+  pub names : (k : ℕ) → names_after (names_of (mailbox_of t.image)) (effects t k) ≡ names_of (box t k)
   -- no path names another file than before
   pub none_overwritten : (k : ℕ) → NoneOverwritten (state t k) (state t (k + 1))
   -- the directories are sound, and each unique name has one path in all new and cur

@@ -7,7 +7,7 @@ use Rattle.md_dirs.specs.declared.paths.Place.{Place}
 use Rattle.md_dirs.specs.declared.paths.Place.TheVariants.{Tmp, Cur}
 use Rattle.md_name.specs.Names.{unique_of}
 use Rattle.md_core.specs.declared.jobs.effect.Effect.{Effect}
-use Rattle.md_core.specs.History.{Listed, Names, after}
+use Rattle.md_core.specs.History.{Listed, Names, names_after}
 use Rattle.md_core.specs.Mailbox.{bytes_of, is_message}
 use Rattle.md_core.specs.Runs.{Run, jobs_of}
 
@@ -39,9 +39,9 @@ IsNotInTmp = IsPlaced (λ p. p ≢ Tmp)
 
 -- along a history no name comes to tmp, and a message that is in cur at a moment is in cur at each later one, or gone
 pub record KeepsPlaces (opening : Names) (history : List Effect) : Type 0 where
-  pub never_in_tmp : (u : List ℕ) → IsNotInTmp (finmap.get opening u) → (k : ℕ) → IsNotInTmp (finmap.get (after opening (take k history)) u)
-  pub stays_in_cur : (i j : ℕ) → i ≤ j → (u : List ℕ) (x : Listed) → finmap.get (after opening (take i history)) u ≡ Some x → x.place ≡ Cur
-      → IsInCur (finmap.get (after opening (take j history)) u)
+  pub never_in_tmp : (u : List ℕ) → IsNotInTmp (finmap.get opening u) → (k : ℕ) → IsNotInTmp (finmap.get (names_after opening (take k history)) u)
+  pub stays_in_cur : (i j : ℕ) → i ≤ j → (u : List ℕ) (x : Listed) → finmap.get (names_after opening (take i history)) u ≡ Some x → x.place ≡ Cur
+      → IsInCur (finmap.get (names_after opening (take j history)) u)
 
 -- a run has a job of this number
 pub record HasJob (r : Run) (job : ℕ) : Type 0 where

@@ -49,7 +49,7 @@ task_left s (Expunge x) = expunging_left x
 task_left s (Copy c) = copying_left c
 task_left s (Clean c) = cleaning_left s c
 
--- How a job stands: at work, or answered. One that is answered holds nothing but its answer.
+-- How far a job is: at work, or answered. One that is answered holds nothing but its answer.
 pub data Standing : Type 0 where
   working : (task : Task) → Standing
   answered : (answer : Answer) → Standing
@@ -91,29 +91,29 @@ task_of (Some (working task)) = Some task
 task_of (Some (answered a)) = None
 
 -- an event, and whether its directory call faulted
-pub record Marked : Type 0 where
+pub record Occurrence : Type 0 where
   pub event : Event
   pub faulted : Bool
 
-abbrev pub marked : ℕ → ℕ → Option ℕ → Bool → Marked
-marked job now own faulted = record { event = record { job = job; now = now; own = own }; faulted = faulted }
+abbrev pub occurrence : ℕ → ℕ → Option ℕ → Bool → Occurrence
+occurrence job now own faulted = record { event = record { job = job; now = now; own = own }; faulted = faulted }
 
 -- The moment of an event: the clock is the greater of itself and the event's moment. A job that has no own moment goes by the clock.
 abbrev pub moment_of : ℕ → Event → Moment
 moment_of clock e = record { clock = max clock e.now; own = unwrap_or e.own (max clock e.now) }
 
--- how a job stands once it may have an answer
-abbrev pub settled : Standing → Option Answer → Standing
-settled job None = job
-settled job (Some a) = answered a
+-- how far a job is once it may have an answer
+abbrev pub with_answer : Standing → Option Answer → Standing
+with_answer job None = job
+with_answer job (Some a) = answered a
 
--- how a job stands after a turn
+-- how far a job is after a turn
 abbrev pub standing_of : Task → Option Answer → Standing
-standing_of task a = settled (working task) a
+standing_of task a = with_answer (working task) a
 
 -- the machine after a turn of the job of a number, and this reply
-abbrev pub taken : Machine → ℕ → Moment → Turn Task → DirReply → Machine
-taken m number at turn r =
+abbrev pub after_turn : Machine → ℕ → Moment → Turn Task → DirReply → Machine
+after_turn m number at turn r =
     let after = turn.follows r (rows_for turn.asked m.dirs) in
     record {
       dirs = state_by (ask_of turn.asked at.clock) m.dirs r;
@@ -123,32 +123,32 @@ taken m number at turn r =
     }
 
 -- what the directories reply to a turn, by whether the call faults
-abbrev pub replied : Machine → Moment → Turn Task → Bool → DirReply
-replied m at turn faulted = reply_of (ask_of turn.asked at.clock) m.dirs faulted
+abbrev pub reply_to : Machine → Moment → Turn Task → Bool → DirReply
+reply_to m at turn faulted = reply_of (ask_of turn.asked at.clock) m.dirs faulted
 
 -- nothing happens without such a job, nor where it has its answer
-abbrev pub met : Machine → Marked → Option Task → Machine
-met m e None = m
-met m e (Some task) =
+abbrev pub after_turn_of : Machine → Occurrence → Option Task → Machine
+after_turn_of m e None = m
+after_turn_of m e (Some task) =
     let at = moment_of m.clock e.event in
     let turn = turn_of e.event.job task at in
-    taken m e.event.job at turn (replied m at turn e.faulted)
+    after_turn m e.event.job at turn (reply_to m at turn e.faulted)
 
 -- One event: the job takes its turn at the event's moment.
-abbrev pub happens : Machine → Marked → Machine
-happens m e = met m e (task_of (job_at m.jobs e.event.job))
+abbrev pub after_event : Machine → Occurrence → Machine
+after_event m e = after_turn_of m e (task_of (job_at m.jobs e.event.job))
 
-abbrev pub done_by : Machine → Marked → Task → Step
-done_by m e task =
+abbrev pub step_by : Machine → Occurrence → Task → Step
+step_by m e task =
     let at = moment_of m.clock e.event in
     let turn = turn_of e.event.job task at in
-    let reply = replied m at turn e.faulted in
+    let reply = reply_to m at turn e.faulted in
     let after = turn.follows reply (rows_for turn.asked m.dirs) in
     record { job = e.event.job; asked = turn.asked; reply = reply; at = at; answer = after.answer; effect = after.effect }
 
 -- What an event does, where its job is there and has no answer.
-abbrev pub done : Machine → Marked → Option Step
-done m e = option_map (done_by m e) (task_of (job_at m.jobs e.event.job))
+abbrev pub step_of : Machine → Occurrence → Option Step
+step_of m e = option_map (step_by m e) (task_of (job_at m.jobs e.event.job))
 
 -- what a step shows of what it did
 abbrev pub step_out : Step → StepOut

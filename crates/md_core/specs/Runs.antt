@@ -13,7 +13,7 @@ use Rattle.md_core.specs.declared.jobs.answer.Answer.{Answer}
 use Rattle.md_core.specs.declared.jobs.call.Call.{Call}
 use Rattle.md_core.specs.declared.jobs.effect.Effect.{Effect}
 use Rattle.md_core.specs.declared.jobs.step.Event.{Event}
-use Rattle.md_core.specs.Machine.{Machine, Standing, working, answered, Marked, happens, done, new_job, job_at, job_left}
+use Rattle.md_core.specs.Machine.{Machine, Standing, working, answered, Occurrence, after_event, step_of, new_job, job_at, job_left}
 use Rattle.md_core.specs.Trace.{Step}
 
 pub record Run : Type 0 where
@@ -24,7 +24,7 @@ pub record Run : Type 0 where
   pub calls_made : ℕ
   -- the calls of the jobs
   pub calls : List Call
-  pub events : List Marked
+  pub events : List Occurrence
 
 -- a run of no call and no event
 abbrev pub new_run : State → ℕ → ℕ → Run
@@ -47,13 +47,13 @@ abbrev pub beginning : State → List Call → Machine
 beginning image calls = record { dirs = image; clock = first_clock image; jobs = map new_job calls; effects = [] }
 
 -- one event after another
-unfoldable pub run_from : Machine → List Marked → Machine
+unfoldable pub run_from : Machine → List Occurrence → Machine
 run_from m [] = m
-run_from m (e ∷ es) = run_from (happens m e) es
+run_from m (e ∷ es) = run_from (after_event m e) es
 
 -- moment k of a run: the machine after the first k events
-abbrev pub moment : Run → ℕ → Machine
-moment r k = run_from (beginning r.image r.calls) (take k r.events)
+abbrev pub machine_at : Run → ℕ → Machine
+machine_at r k = run_from (beginning r.image r.calls) (take k r.events)
 
 -- the machine after all events
 abbrev pub machine_of : Run → Machine
@@ -61,7 +61,7 @@ machine_of r = run_from (beginning r.image r.calls) r.events
 
 -- what event k did
 abbrev pub done_at : Run → ℕ → Option Step
-done_at r k = option_and_then (done (moment r k)) (slice_get r.events k)
+done_at r k = option_and_then (step_of (machine_at r k)) (slice_get r.events k)
 
 -- the number of the first event of a job, or of all events where it has none
 abbrev pub first_step : Run → ℕ → ℕ
@@ -69,11 +69,11 @@ first_step r job = position_or_len (λ e. e.event.job == job) r.events
 
 -- the directories before the first step of a job, or as they are where it has taken none
 abbrev pub dirs_at_first : Run → ℕ → State
-dirs_at_first r job = (moment r (first_step r job)).dirs
+dirs_at_first r job = (machine_at r (first_step r job)).dirs
 
 -- the mailbox at a moment
-abbrev pub box : Machine → Mailbox
-box m = mailbox_of m.dirs
+abbrev pub box_in : Machine → Mailbox
+box_in m = mailbox_of m.dirs
 
 abbrev pub dirs_of : Run → State
 dirs_of r = (machine_of r).dirs
@@ -96,10 +96,10 @@ abbrev pub log_of : Run → List Event
 log_of r = map (λ e. e.event) r.events
 
 -- a run with one more event, and with more events
-abbrev pub and_event : Run → Marked → Run
+abbrev pub and_event : Run → Occurrence → Run
 and_event r e = record r { events = r.events ++ e ∷ [] }
 
-abbrev pub and_events : Run → List Marked → Run
+abbrev pub and_events : Run → List Occurrence → Run
 and_events r es = record r { events = r.events ++ es }
 
 -- a run with one more call

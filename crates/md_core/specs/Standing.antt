@@ -1,4 +1,4 @@
--- What contracts see of a job: its call, and how it stands.
+-- What contracts see of a job: its call, and how far it is.
 use Rattle.std.specs.Prelude.{ℕ, ◌≡◌, List, Option, map}
 use Rattle.md_core.specs.declared.jobs.call.Call.{Call}
 use Rattle.md_core.specs.declared.jobs.effect.Effect.{Effect}
@@ -18,7 +18,7 @@ abbrev pub standing_by : Progress → Standing
 standing_by (Working room) = working room.value
 standing_by (Answered a) = answered a
 
--- how jobs stand
+-- how far jobs are
 abbrev pub standings : List JobView → List Standing
 standings jobs = map (λ job. job.standing) jobs
 

@@ -8,10 +8,10 @@ use Rattle.md_core.specs.declared.jobs.effect.Effect.{Effect}
 use Rattle.md_core.specs.declared.jobs.step.StepOut.{StepOut}
 use Rattle.md_core.specs.Mailbox.{Mailbox}
 use Rattle.md_core.specs.Alone.{alone}
-use Rattle.md_core.specs.History.{after}
+use Rattle.md_core.specs.History.{names_after}
 use Rattle.md_core.specs.Trace.{Step, call_at}
-use Rattle.md_core.specs.Machine.{Machine, Marked, step_out, job_at, done as done_of}
-use Rattle.md_core.specs.Runs.{Run, moment, machine_of, effects_of, step_refusal, box}
+use Rattle.md_core.specs.Machine.{Machine, Occurrence, step_out, job_at, step_of as done_of}
+use Rattle.md_core.specs.Runs.{Run, machine_at, machine_of, effects_of, step_refusal, box_in}
 use Rattle.md_core.specs.Loading.{load_refusal}
 use Rattle.md_core.specs.Submitting.{submit_refusal}
 use Rattle.md_core.specs.Interleaving.{is_effect_at, is_success}
@@ -22,7 +22,7 @@ pub record IsRun (r : Run) : Type 0 where
   pub sound : IsSound r.image
   pub loaded : load_refusal r.image ≡ None
   pub accepted : (i : ℕ) (call : Call) → slice_get r.calls i ≡ Some call → submit_refusal (record r { calls = take i r.calls }) call ≡ None
-  pub taken : (k : ℕ) (e : Marked) → slice_get r.events k ≡ Some e → step_refusal (job_at (moment r k).jobs e.event.job) ≡ None
+  pub taken : (k : ℕ) (e : Occurrence) → slice_get r.events k ≡ Some e → step_refusal (job_at (machine_at r k).jobs e.event.job) ≡ None
 
 -- At an effect the call answers as it would alone on the mailbox, and leaves it so. At no other step does the mailbox change.
 abbrev pub AsAlone : Call → Option Effect → Mailbox → Mailbox → Type 0
@@ -35,10 +35,10 @@ pub record Simulates (call : Call) (d : Step) (m m' : Machine) : Type 0 where
   pub history : m'.effects ≡ m.effects ++ option_to_list d.effect
   pub own : IfSome d.effect (λ x. x.job ≡ d.job)
   pub is_effect : is_some d.effect ≡ is_effect_at call d.asked d.reply d.answer
-  pub as_alone : AsAlone call d.effect (box m) (box m')
+  pub as_alone : AsAlone call d.effect (box_in m) (box_in m')
 
 -- A step of a world shows what its event did, and that simulates the call of its job.
-pub record ShowsStep (r r' : Run) (e : Marked) (out : StepOut) : Type 0 where
+pub record ShowsStep (r r' : Run) (e : Occurrence) (out : StepOut) : Type 0 where
   pub what : Step
   pub at : done_of (machine_of r) e ≡ Some what
   pub shown : out ≡ step_out what

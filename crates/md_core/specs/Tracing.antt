@@ -4,21 +4,21 @@ use Rattle.std.specs.Option.{option_to_list}
 use Rattle.md_core.specs.declared.jobs.answer.Answer.{Answer}
 use Rattle.md_core.specs.declared.jobs.step.StepOut.{StepOut}
 use Rattle.md_core.specs.Asked.{shown_call}
-use Rattle.md_core.specs.Machine.{Machine, Marked, done, happens, job_at}
+use Rattle.md_core.specs.Machine.{Machine, Occurrence, step_of, after_event, job_at}
 use Rattle.md_core.specs.Runs.{Run, beginning, dirs_of, jobs_of, effects_of, answer_of}
 use Rattle.md_core.specs.Trace.{Step, Trace, IsAnswered, state, effects}
 
 -- what events did, one after another, from a machine
-unfoldable pub deeds_from : Machine → List Marked → List Step
+unfoldable pub deeds_from : Machine → List Occurrence → List Step
 deeds_from m [] = []
-deeds_from m (e ∷ es) = option_to_list (done m e) ++ deeds_from (happens m e) es
+deeds_from m (e ∷ es) = option_to_list (step_of m e) ++ deeds_from (after_event m e) es
 
 abbrev pub trace_of : Run → Trace
 trace_of r = record { image = r.image; calls = r.calls; steps = deeds_from (beginning r.image r.calls) r.events }
 
 -- no event of a run has a moment of its own: all jobs go by the clock of the store
 abbrev pub HasOneClock : Run → Type 0
-HasOneClock r = (k : ℕ) (e : Marked) → slice_get r.events k ≡ Some e → e.event.own ≡ None
+HasOneClock r = (k : ℕ) (e : Occurrence) → slice_get r.events k ≡ Some e → e.event.own ≡ None
 
 -- a step shows its directory call, the reply, its answer and whether it is an effect
 pub record IsShownBy (step : Step) (out : StepOut) : Type 0 where
@@ -46,5 +46,5 @@ pub record IsShown (r : Run) : Type 0 where
   pub answered : (job : ℕ) (a : Answer) → IsAnswered (trace_of r) job a → answer_of (job_at (jobs_of r) job) ≡ Some a
 
 -- a run and a later one show the same directories at each moment that the first has come to
-abbrev pub KeepsMoments : Run → Run → Type 0
-KeepsMoments r r' = (k : ℕ) → k ≤ length r.events → state (trace_of r') k ≡ state (trace_of r) k
+abbrev pub KeepsStates : Run → Run → Type 0
+KeepsStates r r' = (k : ℕ) → k ≤ length r.events → state (trace_of r') k ≡ state (trace_of r) k

@@ -25,13 +25,13 @@ rows_for (link old new) s = []
 rows_for (rename old new) s = []
 rows_for (unlink p) s = []
 
--- How a job of the kind T stands after a reply: its task, its answer, where it has one now, and its effect, where this step is one.
+-- How far a job of the kind T is after a reply: its task, its answer, where it has one now, and its effect, where this step is one.
 pub record After (T : Type 0) : Type 0 where
   pub task : T
   pub answer : Option Answer
   pub effect : Option Effect
 
--- the directory call that a job makes next, and how it stands after each reply
+-- the directory call that a job makes next, and how far it is after each reply
 pub record Turn (T : Type 0) : Type 0 where
   pub asked : Asked
   pub follows : DirReply → List Row → After T
@@ -88,7 +88,7 @@ pub record IsUntouched (old new : Device) : Type 0 where
   pub failures : new.failures ≡ old.failures
   pub calls : new.calls ≡ old.calls
 
--- A turn was taken: its one directory call was made and no other, and the job stands as the turn says. The failures of the directories
+-- A turn was taken: its one directory call was made and no other, and the job is as far as the turn says. The failures of the directories
 -- rose by one where that call faulted, and at no other call.
 pub record Takes {T : Type 0} (turn : Turn T) (at : Moment) (old : Device)
     (out : StepOut) (effect : Option Effect) (task : T) (new : Device) : Type 0 where

@@ -5,7 +5,7 @@ use Rattle.md_core.specs.declared.jobs.step.Event.{Event}
 use Rattle.md_core.specs.declared.jobs.effect.Effect.{Effect}
 use Rattle.md_core.specs.declared.world.log.Log.{Log}
 use Rattle.md_core.specs.Turn.{Device}
-use Rattle.md_core.specs.Machine.{Machine, Marked, job_at}
+use Rattle.md_core.specs.Machine.{Machine, Occurrence, job_at}
 use Rattle.md_core.specs.Standing.{JobView, standings}
 use Rattle.md_core.specs.Runs.{Run, machine_of, jobs_of, failures_of, calls_made_of, and_events, step_refusal, IsRefusal}
 use Rattle.md_core.specs.Submitting.{is_used}
@@ -13,10 +13,10 @@ use Rattle.md_core.specs.Used.{is_among}
 use Rattle.md_core.specs.Stepping.{IsRun}
 
 -- events and their marks
-abbrev pub marked_events : List Event → List Bool → List Marked
-marked_events [] marks = []
-marked_events (e ∷ es) [] = []
-marked_events (e ∷ es) (b ∷ bs) = record { event = e; faulted = b } ∷ marked_events es bs
+abbrev pub occurrences : List Event → List Bool → List Occurrence
+occurrences [] marks = []
+occurrences (e ∷ es) [] = []
+occurrences (e ∷ es) (b ∷ bs) = record { event = e; faulted = b } ∷ occurrences es bs
 
 -- there is room for one more step
 pub record HasRoom (log : Log) : Type 0 where
@@ -31,7 +31,7 @@ run_of first jobs events marks = record {
   failures = first.failures;
   calls_made = first.calls;
   calls = map (λ job. job.call) jobs;
-  events = marked_events events marks;
+  events = occurrences events marks;
 }
 
 -- the machine that directories, a clock, jobs and effects are
@@ -51,7 +51,7 @@ pub record IsWorld (r : Run) (kept : Machine) (held : Device) (used : List (List
 
 -- the run goes on by these events, each with some mark
 abbrev pub TakesAll : List Event → Run → Run → Type 0
-TakesAll events r r' = (marks : List Bool) × (length marks ≡ length events) × (r' ≡ and_events r (marked_events events marks))
+TakesAll events r r' = (marks : List Bool) × (length marks ≡ length events) × (r' ≡ and_events r (occurrences events marks))
 
 -- the events before a place were taken, and the one at that place is refused
 abbrev pub StopsAt : List Event → ℕ → CoreError → Run → Run → Type 0

@@ -1,4 +1,4 @@
-// What callers ask, how their jobs stand, and what a step shows.
+// What callers ask, how far their jobs are, and what a step shows.
 pub mod answer;
 pub mod call;
 pub mod cleaning;

@@ -10,7 +10,7 @@ use Rattle.std.specs.FinMap.{find, is_sorted, entries, entries_sorted, get-entri
 use Rattle.std.specs.FinMap.Entries.{put, where_key, below_all, by_order}
 use Rattle.md_dirs.specs.Path.{path_cmp}
 use Rattle.md_dirs.specs.State.{file_by}
-use Rattle.md_dirs.specs.Calls.{has_path_to, released}
+use Rattle.md_dirs.specs.Calls.{has_path_to, files_still_named}
 use Rattle.md_dirs.specs.Index.{PathMap}
 use Rattle.md_dirs.specs.Files.{files_of, slot_at, names_held, paths_of, named_less, let_go}
 use Rattle.md_dirs.specs.declared.paths.Path.{Path}
@@ -195,7 +195,7 @@ let_go-counted names slots (Some m) is n = by_number n m
 
 -- and the file is given back where that was its last
 pub let_go-files : (names : PathMap) (slots : List (Option Kept)) (o : Option ℕ) →
-    ((n : ℕ) → paths_of names n + hits n o ≡ names_held (slot_at slots n)) → files_of (let_go o slots) ≡ released (entries names) o (files_of slots)
+    ((n : ℕ) → paths_of names n + hits n o ≡ names_held (slot_at slots n)) → files_of (let_go o slots) ≡ files_still_named (entries names) o (files_of slots)
 let_go-files names slots None is = refl
 let_go-files names slots (Some n) is = by (slot_at slots n) refl (has_path_to (entries names) n) refl
   where

@@ -8,7 +8,7 @@ use Rattle.std.specs.FinMap as finmap
 use Rattle.std.specs.FinMap.{entries, same_map, from_sorted, entries-from_sorted, empty_of_len, len-entries}
 use Rattle.md_dirs.specs.Path.{path_cmp}
 use Rattle.md_dirs.specs.State.{State, IsSound, file_by, file_at, bare, bytes_at_path}
-use Rattle.md_dirs.specs.Calls.{Obeys, placed, append, link, rename, unlink, appended, grown, named, unnamed, moved, is_one_file, swept, released, without as dirs_without}
+use Rattle.md_dirs.specs.Calls.{Obeys, with_new_file, append, link, rename, unlink, after_append, file_with_more, with_path, without_path, after_rename, is_one_file, with_files_still_named, files_still_named, after_unlink as dirs_without}
 use Rattle.md_dirs.specs.Rows.{is_in, rows_of, row_of, row_by}
 use Rattle.md_dirs.specs.Index.{PathMap, rows_in, named_row}
 use Rattle.md_dirs.specs.Files.{files_of, slot_at, names_held, paths_of, IsCounted, kept_state, grown_slot, named_again, let_go, name_row}
@@ -97,7 +97,7 @@ module _ (folders : ℕ) (names : PathMap) (slots : List (Option Kept)) (whole :
 
   -- a new file
   made-is : (p : Path) (file : File) →
-      kept_state folders (finmap.insert names p (length slots)) (slots ++ Some (record { file = file; names = 1 }) ∷ []) ≡ placed p file start
+      kept_state folders (finmap.insert names p (length slots)) (slots ++ Some (record { file = file; names = 1 }) ∷ []) ≡ with_new_file p file start
   made-is p file = λ i. record {
     folders = folders;
     names = finmap.insert names p (sym (length-files slots) i);
@@ -130,7 +130,7 @@ module _ (folders : ℕ) (names : PathMap) (slots : List (Option Kept)) (whole :
 
   -- more bytes
   grown-file : (more : List ℕ) (now : ℕ) (s : Option Kept) →
-      option_map (λ (k : Kept). k.file) (grown_slot more now s) ≡ grown more now (option_map (λ (k : Kept). k.file) s)
+      option_map (λ (k : Kept). k.file) (grown_slot more now s) ≡ file_with_more more now (option_map (λ (k : Kept). k.file) s)
   grown-file more now None = refl
   grown-file more now (Some k) = refl
 
@@ -139,15 +139,15 @@ module _ (folders : ℕ) (names : PathMap) (slots : List (Option Kept)) (whole :
   grown-names more now (Some k) = refl
 
   grown-is : (p : Path) (more : List ℕ) (now n : ℕ) (slot : Option Kept) → finmap.get names p ≡ Some n → slot ≡ get_or slots n slot →
-      kept_state folders names (slice_set slots n (grown_slot more now slot)) ≡ appended more now start (file_at start p)
+      kept_state folders names (slice_set slots n (grown_slot more now slot)) ≡ after_append more now start (file_at start p)
   grown-is p more now n slot at read =
       let is = slot-read slots n slot (slot-number p n at) read in
       (λ i. record start {
         files = (map-set (option_map (λ (k : Kept). k.file)) slots n (grown_slot more now slot)
             ∙ ap (slice_set (files_of slots) n) (grown-file more now slot ∙
-            ap (grown more now) (ap (option_map (λ (k : Kept). k.file)) (sym is) ∙ sym (file-slot slots n)))) i;
+            ap (file_with_more more now) (ap (option_map (λ (k : Kept). k.file)) (sym is) ∙ sym (file-slot slots n)))) i;
       })
-      ∙ ap (appended more now start) (sym at)
+      ∙ ap (after_append more now start) (sym at)
 
   pub append-done : (p : Path) (more : List ℕ) (now n : ℕ) (slot : Option Kept) → finmap.get names p ≡ Some n → slot ≡ get_or slots n slot →
       Obeys {T = Unit {0}} (append p more now) start 0 (Ok tt) (kept_state folders names (slice_set slots n (grown_slot more now slot))) 0
@@ -168,7 +168,7 @@ module _ (folders : ℕ) (names : PathMap) (slots : List (Option Kept)) (whole :
 
   -- one more name
   linked-is : (o p : Path) (n : ℕ) → finmap.get names o ≡ Some n →
-      kept_state folders (finmap.insert names p n) (slice_set slots n (named_again (slot_at slots n))) ≡ named p start (Some n)
+      kept_state folders (finmap.insert names p n) (slice_set slots n (named_again (slot_at slots n))) ≡ with_path p start (Some n)
   linked-is o p n at =
       let filed = slot-filed o n at in
       (λ i. record {
@@ -188,7 +188,7 @@ module _ (folders : ℕ) (names : PathMap) (slots : List (Option Kept)) (whole :
       Obeys {T = Unit {0}} (link o p) start 0 (Ok tt)
       (kept_state folders (finmap.insert names p n) (slice_set slots n (named_again (slot_at slots n)))) 0
   link-done o p n at within none =
-      made _ _ _ _ _ (link-refusal o p start (Some n) true None at (lt_true _ _ within) none) (linked-is o p n at ∙ ap (named p start) (sym at))
+      made _ _ _ _ _ (link-refusal o p start (Some n) true None at (lt_true _ _ within) none) (linked-is o p n at ∙ ap (with_path p start) (sym at))
 
   pub counted-linked : (o p : Path) (n : ℕ) → finmap.get names o ≡ Some n → p.folder < folders → finmap.get names p ≡ None →
       IsCounted folders (finmap.insert names p n) (slice_set slots n (named_again (slot_at slots n)))
@@ -220,7 +220,7 @@ module _ (folders : ℕ) (names : PathMap) (slots : List (Option Kept)) (whole :
     folders = folders;
     names = finmap.remove names p;
     files = (let_go-files (finmap.remove names p) slots (Some n) (left p n at) ∙
-        ap (λ o. released (entries (finmap.remove names p)) o (files_of slots)) (sym at)) i;
+        ap (λ o. files_still_named (entries (finmap.remove names p)) o (files_of slots)) (sym at)) i;
   }
 
   pub unlink-done : (p : Path) (n : ℕ) → finmap.get names p ≡ Some n →
@@ -256,7 +256,7 @@ module _ (folders : ℕ) (names : PathMap) (slots : List (Option Kept)) (whole :
       ∙ ap (λ x. paths_of (finmap.remove names o) m + hits m x) (sym at) ∙ paths-remove m names o ∙ whole.counted m
 
   moved-is : (o n : Path) (k : ℕ) (there : Option ℕ) → finmap.get names o ≡ Some k → finmap.get names n ≡ there → is_one_file (Some k) there ≡ false →
-      kept_state folders (finmap.insert (finmap.remove names o) n k) (let_go there slots) ≡ moved o n start
+      kept_state folders (finmap.insert (finmap.remove names o) n k) (let_go there slots) ≡ after_rename o n start
   moved-is o n k there at is differ =
       let not = apart o n k at (ap (is_one_file (Some k)) is ∙ differ) in
       (λ i. record {
@@ -264,7 +264,7 @@ module _ (folders : ℕ) (names : PathMap) (slots : List (Option Kept)) (whole :
         names = finmap.insert (finmap.remove names o) n k;
         files = let_go-files (finmap.insert (finmap.remove names o) n k) slots there (shifted o n k there at is not) i;
       })
-      ∙ sym (λ i. cond (by i) start (swept (is i) (named n (unnamed o start) (at i))))
+      ∙ sym (λ i. cond (by i) start (with_files_still_named (is i) (with_path n (without_path o start) (at i))))
     where
       by : is_one_file (finmap.get names o) (finmap.get names n) ≡ false
       by = (λ i. is_one_file (at i) (is i)) ∙ differ

@@ -2,7 +2,7 @@
 use Rattle.std.proofs.Common.{ℕ, ◌≡◌, ◌++◌, List, [], ◌∷◌, Option, Some, None, Bool, true, false, cond, is_some, refl, sym, ap, subst, ◌∙◌, length, slice_set, ◌<◌, nat_lt, arith}
 use Rattle.std.proofs.lemmas.Bool.Decides.{nat_tests}
 use Rattle.md_dirs.specs.State.{State, IsSound, file_at, has_folder}
-use Rattle.md_dirs.specs.Calls.{create, append, link, rename, named, make, created, appended, grown, empty_file}
+use Rattle.md_dirs.specs.Calls.{create, append, link, rename, with_path, create_as, after_create, after_append, file_with_more, empty_file}
 use Rattle.md_dirs.specs.Image.{put, state_with, refusal_with}
 use Rattle.md_dirs.specs.Laws.{KeepsSound}
 use Rattle.md_dirs.specs.declared.paths.Path.{Path}
@@ -35,7 +35,7 @@ rest-of : (o : Option ℕ) (other : Option DirError) → cond (is_some o) other 
 rest-of None other is = cc
 rest-of (Some n) other is = is
 
-pub make-sound : (p : Path) (file : File) → KeepsSound (make p file)
+pub make-sound : (p : Path) (file : File) → KeepsSound (create_as p file)
 make-sound p file s sound accepted = sound-placed s sound p file (within-of p.folder s.folders _ accepted) (free-of (has_folder s p) (file_at s p) accepted)
 
 pub link-sound : (o n : Path) → KeepsSound (link o n)
@@ -43,7 +43,7 @@ link-sound o n s sound accepted =
     let old = there-of (file_at s o) _ accepted in
     let rest = rest-of (file_at s o) _ accepted in
     let free = free-of (has_folder s n) (file_at s n) rest in
-    subst (λ (x : Option ℕ). IsSound (named n s x)) (sym old.1) (sound-named s sound n o old.0 (within-of n.folder s.folders _ rest) free old.1)
+    subst (λ (x : Option ℕ). IsSound (with_path n s x)) (sym old.1) (sound-named s sound n o old.0 (within-of n.folder s.folders _ rest) free old.1)
 
 pub rename-sound : (o n : Path) → KeepsSound (rename o n)
 rename-sound o n s sound accepted =
@@ -65,8 +65,8 @@ pub put-is : (file : ImageFile) (s : State) → (put file).after s ≡ (append f
 put-is file s =
     let n = length s.files in
     let empty = empty_file file.stamp in
-    let t = created file.path file.stamp s in
+    let t = after_create file.path file.stamp s in
     let at : file_at t file.path ≡ Some n = maps.at_put path_total path_exact s.names file.path file.path n refl in
-    sym (ap (appended file.bytes file.stamp t) at
-    ∙ ap (λ (o : Option File). record t { files = slice_set t.files n (grown file.bytes file.stamp o) }) (file_by-last s.files (Some empty))
+    sym (ap (after_append file.bytes file.stamp t) at
+    ∙ ap (λ (o : Option File). record t { files = slice_set t.files n (file_with_more file.bytes file.stamp o) }) (file_by-last s.files (Some empty))
     ∙ ap (λ (fs : List (Option File)). record t { files = fs }) (set-last s.files (Some empty) (Some (record { bytes = file.bytes; stamp = file.stamp }))))

@@ -7,7 +7,7 @@ use Rattle.std.specs.FinMap as finmap
 use Rattle.std.specs.FinMap.{get-empty, entries}
 use Rattle.md_dirs.specs.Path.{path_cmp}
 use Rattle.md_dirs.specs.State.{State, IsSound, bare, file_at, file_by}
-use Rattle.md_dirs.specs.Calls.{placed, created, empty_file, appended, grown, named, unnamed, without, moved, swept, has_path_to, is_one_file}
+use Rattle.md_dirs.specs.Calls.{with_new_file, after_create, empty_file, after_append, file_with_more, with_path, without_path, after_unlink, after_rename, with_files_still_named, has_path_to, is_one_file}
 use Rattle.md_dirs.specs.declared.paths.Path.{Path}
 use Rattle.md_dirs.specs.declared.paths.File.{File}
 use Rattle.md_dirs.proofs.PathOrder.{path_total, path_exact}
@@ -115,7 +115,7 @@ named-path s n is =
     (some.0, has-get path_total path_exact s.names (some.0, n) some.1)
 
 -- what is named is not given back
-pub swept-kept : (o : Option ℕ) (s : State) (q : Path) (m : ℕ) → file_at s q ≡ Some m → file_by (swept o s).files m ≡ file_by s.files m
+pub swept-kept : (o : Option ℕ) (s : State) (q : Path) (m : ℕ) → file_at s q ≡ Some m → file_by (with_files_still_named o s).files m ≡ file_by s.files m
 swept-kept None s q m at = refl
 swept-kept (Some n) s q m at = by (has_path_to (entries s.names) n) refl
   where
@@ -133,7 +133,7 @@ set-none files i j same = ap (file_by (slice_set files i None)) same ∙ none fi
     none (f ∷ fs) (suc k) = none fs k
 
 -- a file that is there was there before, and its number was not to be given back or has a path
-pub swept-there : (o : Option ℕ) (s : State) (m : ℕ) → IsSome (file_by (swept o s).files m) →
+pub swept-there : (o : Option ℕ) (s : State) (m : ℕ) → IsSome (file_by (with_files_still_named o s).files m) →
     IsSome (file_by s.files m) × ((o ≡ Some m) → (q : Path) × (file_at s q ≡ Some m))
 swept-there None s m is = (is, λ h. cc)
 swept-there (Some n) s m is = by (has_path_to (entries s.names) n) refl is
@@ -151,7 +151,7 @@ swept-there (Some n) s m is = by (has_path_to (entries s.names) n) refl is
 -- where all is sound but for one number without a path, giving that back makes it sound
 pub sound-swept : (o : Option ℕ) (s : State) → ((p : Path) (m : ℕ) → file_at s p ≡ Some m → IsSome (file_by s.files m)) →
     ((m : ℕ) → o ≢ Some m → IsSome (file_by s.files m) → (q : Path) × (file_at s q ≡ Some m))
-    → ((p : Path) (m : ℕ) → file_at s p ≡ Some m → p.folder < s.folders) → IsSound (swept o s)
+    → ((p : Path) (m : ℕ) → file_at s p ≡ Some m → p.folder < s.folders) → IsSound (with_files_still_named o s)
 sound-swept o s filed has_path housed = record {
   housed = housed;
   filed = λ p m at. subst (λ (f : Option File). IsSome f) (sym (swept-kept o s p m at)) (filed p m at);
@@ -184,7 +184,7 @@ module _ (s : State) (sound : IsSound s) where
       (λ is. subst (λ (x : Path). x.folder < s.folders) (sym is) within)
       (λ not. sound.housed q m (sym (maps.beside_put path_total path_exact s.names p q k not) ∙ at))
 
-  pub sound-placed : (p : Path) (file : File) → p.folder < s.folders → file_at s p ≡ None → IsSound (placed p file s)
+  pub sound-placed : (p : Path) (file : File) → p.folder < s.folders → file_at s p ≡ None → IsSound (with_new_file p file s)
   sound-placed p file within none = record {
     housed = housed-put p (length s.files) within;
     filed = λ q m at. by_path q p
@@ -206,14 +206,14 @@ module _ (s : State) (sound : IsSound s) where
         ));
   }
 
-  pub sound-created : (p : Path) (now : ℕ) → p.folder < s.folders → file_at s p ≡ None → IsSound (created p now s)
+  pub sound-created : (p : Path) (now : ℕ) → p.folder < s.folders → file_at s p ≡ None → IsSound (after_create p now s)
   sound-created p now = sound-placed p (empty_file now)
 
-  pub sound-appended : (more : List ℕ) (now : ℕ) (o : Option ℕ) → IsSound (appended more now s o)
+  pub sound-appended : (more : List ℕ) (now : ℕ) (o : Option ℕ) → IsSound (after_append more now s o)
   sound-appended more now None = sound
   sound-appended more now (Some n) = by (file_by s.files n) refl
     where
-      by : (o : Option File) → file_by s.files n ≡ o → IsSound (record s { files = slice_set s.files n (grown more now o) })
+      by : (o : Option File) → file_by s.files n ≡ o → IsSound (record s { files = slice_set s.files n (file_with_more more now o) })
       by None is = record {
         housed = sound.housed;
         filed = λ q m at. by_number m n
@@ -238,7 +238,7 @@ module _ (s : State) (sound : IsSound s) where
           longer : File
           longer = record { bytes = file.bytes ++ more; stamp = now }
 
-  pub sound-named : (p q : Path) (n : ℕ) → p.folder < s.folders → file_at s p ≡ None → file_at s q ≡ Some n → IsSound (named p s (Some n))
+  pub sound-named : (p q : Path) (n : ℕ) → p.folder < s.folders → file_at s p ≡ None → file_at s q ≡ Some n → IsSound (with_path p s (Some n))
   sound-named p q n within none at = record {
     housed = housed-put p n within;
     filed = λ r m there. by_path r p
@@ -253,21 +253,21 @@ module _ (s : State) (sound : IsSound s) where
   }
 
   -- a path that is another's stays as one is taken away
-  other-stays : (p q : Path) (m : ℕ) → file_at s p ≢ Some m → file_at s q ≡ Some m → file_at (unnamed p s) q ≡ Some m
+  other-stays : (p q : Path) (m : ℕ) → file_at s p ≢ Some m → file_at s q ≡ Some m → file_at (without_path p s) q ≡ Some m
   other-stays p q m not at = maps.beside_drop path_total path_exact s.names p q (λ same. not (ap (file_at s) (sym same) ∙ at)) ∙ at
 
-  pub before-unnamed : (p q : Path) (m : ℕ) → file_at (unnamed p s) q ≡ Some m → file_at s q ≡ Some m
+  pub before-unnamed : (p q : Path) (m : ℕ) → file_at (without_path p s) q ≡ Some m → file_at s q ≡ Some m
   before-unnamed p q m at = by_path q p
       (λ is. let h = maps.at_drop path_total path_exact s.names p q is in cc)
       (λ not. sym (maps.beside_drop path_total path_exact s.names p q not) ∙ at)
 
-  pub sound-without : (p : Path) → IsSound (without p s)
-  sound-without p = sound-swept (file_at s p) (unnamed p s)
+  pub sound-without : (p : Path) → IsSound (after_unlink p s)
+  sound-without p = sound-swept (file_at s p) (without_path p s)
       (λ q m at. sound.filed q m (before-unnamed p q m at))
       (λ m not is. let had = sound.has_path m is in (had.0, other-stays p had.0 m not had.1))
       (λ q m at. sound.housed q m (before-unnamed p q m at))
 
-  pub sound-moved : (o n : Path) (k : ℕ) → n.folder < s.folders → file_at s o ≡ Some k → IsSound (moved o n s)
+  pub sound-moved : (o n : Path) (k : ℕ) → n.folder < s.folders → file_at s o ≡ Some k → IsSound (after_rename o n s)
   sound-moved o n k within at = by (is_one_file (file_at s o) (file_at s n))
     where
       shifted : State
@@ -276,10 +276,10 @@ module _ (s : State) (sound : IsSound s) where
       here : (q : Path) → q ≡ n → file_at shifted q ≡ Some k
       here q is = maps.at_put path_total path_exact (finmap.remove s.names o) n q k is
 
-      beside : (q : Path) → q ≢ n → file_at shifted q ≡ file_at (unnamed o s) q
+      beside : (q : Path) → q ≢ n → file_at shifted q ≡ file_at (without_path o s) q
       beside q not = maps.beside_put path_total path_exact (finmap.remove s.names o) n q k not
 
-      swept-sound : IsSound (swept (file_at s n) shifted)
+      swept-sound : IsSound (with_files_still_named (file_at s n) shifted)
       swept-sound = sound-swept (file_at s n) shifted
           (λ q m there. by_path q n
           (λ is. let number : k ≡ m = (let h = here q is in cc) in sound.filed o m (at ∙ ap Some number))
@@ -296,6 +296,6 @@ module _ (s : State) (sound : IsSound s) where
           (λ is. subst (λ (x : Path). x.folder < s.folders) (sym is) within)
           (λ not. sound.housed q m (before-unnamed o q m (sym (beside q not) ∙ there))))
 
-      by : (b : Bool) → IsSound (cond b s (swept (file_at s n) (named n (unnamed o s) (file_at s o))))
+      by : (b : Bool) → IsSound (cond b s (with_files_still_named (file_at s n) (with_path n (without_path o s) (file_at s o))))
       by true = sound
-      by false = subst (λ (x : Option ℕ). IsSound (swept (file_at s n) (named n (unnamed o s) x))) (sym at) swept-sound
+      by false = subst (λ (x : Option ℕ). IsSound (with_files_still_named (file_at s n) (with_path n (without_path o s) x))) (sym at) swept-sound

@@ -15,21 +15,21 @@ pub record Ask : Type 0 where
   pub refusal : State → Option DirError
   pub after : State → State
 
--- What a call may answer, and what it then leaves. A failure of the directories and a want of memory may stand in place of its answer.
+-- What a call may answer, and what it then leaves. A failure of the directories, and being out of memory, may take the place of its answer.
 pub record Obeys {T : Type 0} (ask : Ask) (old : State) (failures : ℕ)
     (answer : Result T DirError) (new : State) (failures' : ℕ) : Type 0 where
   pub accepted : OnOk answer (ask.refusal old ≡ None)
   pub done : OnOk answer (new ≡ ask.after old)
   pub exists : IsErrOf answer Exists → ask.refusal old ≡ Some Exists
   pub not_found : IsErrOf answer NotFound → ask.refusal old ≡ Some NotFound
-  -- want of memory comes after the other checks
+  -- out of memory comes after the other checks
   pub no_memory : IsErrOf answer NoMemory → ask.refusal old ≡ None
   pub unchanged : OnErr answer (new ≡ old)
   -- a fault is a new failure, and nothing else is
   pub failed : IsErrOf answer Fault → failures' ≡ failures + 1
   pub not_failed : (IsErrOf answer Fault → ⊥) → failures' ≡ failures
 
--- how many calls there were after a call with this answer: one more, but for a want of memory, which is no call
+-- how many calls there were after a call with this answer: one more, but for one that is out of memory, which is no call
 abbrev pub calls_after : {T : Type 0} → Result T DirError → ℕ → ℕ
 calls_after (Ok x) calls = calls + 1
 calls_after (Err Exists) calls = calls + 1
@@ -38,48 +38,48 @@ calls_after (Err Fault) calls = calls + 1
 calls_after (Err NoMemory) calls = calls
 
 -- the state with a new file, under its first name
-abbrev pub placed : Path → File → State → State
-placed p file s = record s { names = finmap.insert s.names p (length s.files); files = s.files ++ Some file ∷ [] }
+abbrev pub with_new_file : Path → File → State → State
+with_new_file p file s = record s { names = finmap.insert s.names p (length s.files); files = s.files ++ Some file ∷ [] }
 
 -- a new file: NotFound without the folder, Exists at a name that is there
-abbrev pub make : Path → File → Ask
-make p file = record {
+abbrev pub create_as : Path → File → Ask
+create_as p file = record {
   refusal = λ s. if has_folder s p then (if is_some (file_at s p) then Some Exists else None) else Some NotFound;
-  after = placed p file;
+  after = with_new_file p file;
 }
 
 -- a file with no bytes
 abbrev pub empty_file : ℕ → File
 empty_file now = record { bytes = []; stamp = now }
 
-abbrev pub created : Path → ℕ → State → State
-created p now = placed p (empty_file now)
+abbrev pub after_create : Path → ℕ → State → State
+after_create p now = with_new_file p (empty_file now)
 
 -- POSIX open with O_CREAT and O_EXCL: ENOENT without the folder, EEXIST at a name that is there; else a new empty file
 abbrev pub create : Path → ℕ → Ask
-create p now = make p (empty_file now)
+create p now = create_as p (empty_file now)
 
 -- a file with more bytes at its end
-abbrev pub grown : List ℕ → ℕ → Option File → Option File
-grown more now None = None
-grown more now (Some file) = Some (record { bytes = file.bytes ++ more; stamp = now })
+abbrev pub file_with_more : List ℕ → ℕ → Option File → Option File
+file_with_more more now None = None
+file_with_more more now (Some file) = Some (record { bytes = file.bytes ++ more; stamp = now })
 
 -- the state with more bytes in the file of a number
-abbrev pub appended : List ℕ → ℕ → State → Option ℕ → State
-appended more now s None = s
-appended more now s (Some n) = record s { files = slice_set s.files n (grown more now (file_by s.files n)) }
+abbrev pub after_append : List ℕ → ℕ → State → Option ℕ → State
+after_append more now s None = s
+after_append more now s (Some n) = record s { files = slice_set s.files n (file_with_more more now (file_by s.files n)) }
 
--- POSIX open with O_APPEND and write, by name: ENOENT without the name; else the bytes stand at the file's end
+-- POSIX open with O_APPEND and write, by name: ENOENT without the name; else the bytes are at the file's end
 abbrev pub append : Path → List ℕ → ℕ → Ask
 append p more now = record {
   refusal = λ s. if is_some (file_at s p) then None else Some NotFound;
-  after = λ s. appended more now s (file_at s p);
+  after = λ s. after_append more now s (file_at s p);
 }
 
 -- the state with a path for the file of a number
-abbrev pub named : Path → State → Option ℕ → State
-named p s None = s
-named p s (Some n) = record s { names = finmap.insert s.names p n }
+abbrev pub with_path : Path → State → Option ℕ → State
+with_path p s None = s
+with_path p s (Some n) = record s { names = finmap.insert s.names p n }
 
 -- POSIX link: ENOENT without the old name or the new folder, EEXIST at a new name that is there; else both name one file
 abbrev pub link : Path → Path → Ask
@@ -87,7 +87,7 @@ link o n = record {
   refusal = λ s.
       if is_some (file_at s o) then (if has_folder s n then (if is_some (file_at s n) then Some Exists else None) else Some NotFound)
       else Some NotFound;
-  after = λ s. named n s (file_at s o);
+  after = λ s. with_path n s (file_at s o);
 }
 
 -- whether one of the paths names the file of a number
@@ -95,17 +95,17 @@ abbrev pub has_path_to : List (Path × ℕ) → ℕ → Bool
 has_path_to names n = list_any (λ e. e.1 == n) names
 
 -- the files, without that of a number where no path names it
-abbrev pub released : List (Path × ℕ) → Option ℕ → List (Option File) → List (Option File)
-released names None files = files
-released names (Some n) files = if has_path_to names n then files else slice_set files n None
+abbrev pub files_still_named : List (Path × ℕ) → Option ℕ → List (Option File) → List (Option File)
+files_still_named names None files = files
+files_still_named names (Some n) files = if has_path_to names n then files else slice_set files n None
 
 -- the state, with the file of a number given back where no path names it
-abbrev pub swept : Option ℕ → State → State
-swept number s = record s { files = released (finmap.entries s.names) number s.files }
+abbrev pub with_files_still_named : Option ℕ → State → State
+with_files_still_named number s = record s { files = files_still_named (finmap.entries s.names) number s.files }
 
 -- the state without a path, and with all files
-abbrev pub unnamed : Path → State → State
-unnamed p s = record s { names = finmap.remove s.names p }
+abbrev pub without_path : Path → State → State
+without_path p s = record s { names = finmap.remove s.names p }
 
 -- whether both are the number of one file
 abbrev pub is_one_file : Option ℕ → Option ℕ → Bool
@@ -113,25 +113,25 @@ is_one_file (Some a) (Some b) = a == b
 is_one_file a b = false
 
 -- o is gone and n names its file, and no longer the file that it named. Where both named one file, nothing changes
-abbrev pub moved : Path → Path → State → State
-moved o n s = if is_one_file (file_at s o) (file_at s n) then s else swept (file_at s n) (named n (unnamed o s) (file_at s o))
+abbrev pub after_rename : Path → Path → State → State
+after_rename o n s = if is_one_file (file_at s o) (file_at s n) then s else with_files_still_named (file_at s n) (with_path n (without_path o s) (file_at s o))
 
 -- POSIX rename: ENOENT without the old name or the new folder. It replaces its target
 abbrev pub rename : Path → Path → Ask
 rename o n = record {
   refusal = λ s. if is_some (file_at s o) then (if has_folder s n then None else Some NotFound) else Some NotFound;
-  after = moved o n;
+  after = after_rename o n;
 }
 
 -- the state without a path, and without its file where that was the last
-abbrev pub without : Path → State → State
-without p s = swept (file_at s p) (unnamed p s)
+abbrev pub after_unlink : Path → State → State
+after_unlink p s = with_files_still_named (file_at s p) (without_path p s)
 
 -- POSIX unlink: ENOENT without the name; else the name is gone, and with its last name the file
 abbrev pub unlink : Path → Ask
 unlink p = record {
   refusal = λ s. if is_some (file_at s p) then None else Some NotFound;
-  after = without p;
+  after = after_unlink p;
 }
 
 -- POSIX opendir and readdir, at one moment: ENOENT without the folder. It changes nothing

@@ -18,7 +18,7 @@ pub record Answers {T : Type 0} (ask : Ask) (old : Seen) (answer : Result T DirE
   pub counted : new.calls ≡ calls_after answer old.calls
 
 -- Directories of which one call fails: the number of calls up to and with that one, where it is still to come, and else 0;
--- how many have failed so; and what is seen of the directories behind.
+-- how many have failed so; and what is seen of the directories inside.
 pub record Failing : Type 0 where
   pub at : ℕ
   pub failed : ℕ
@@ -31,7 +31,7 @@ failing state failures calls f = record {
   behind = record { state = state f.dirs; failures = failures f.dirs; calls = calls f.dirs };
 }
 
--- a number of the directories behind, and with it the failures of their own
+-- a number of the directories inside, and with it the failures of their own
 abbrev pub and_own : {D : Type 0} → (D → ℕ) → FailAt D → ℕ
 and_own number f = number f.dirs + f.failed.value
 
@@ -39,7 +39,7 @@ and_own number f = number f.dirs + f.failed.value
 pub record IsTurn {T : Type 0} (ask : Ask) (old : Failing) (answer : Result T DirError) (new : Failing) : Type 0 where
   -- each call counts, whatever it answers
   pub counts : new.at ≡ old.at - 1
-  -- the one at the count fails, and the directories behind it are not called
+  -- the one at the count fails, and the directories inside it are not called
   pub fails : old.at ≡ 1 → IsErrOf answer Fault × (new.failed ≡ old.failed + 1) × (new.behind ≡ old.behind)
   -- any other is theirs
   pub passes : old.at ≢ 1 → Answers ask old.behind answer new.behind × (new.failed ≡ old.failed)

@@ -1,10 +1,10 @@
--- Where the names of one message stand in a directory.
+-- Where the names of one message are in a directory.
 use Rattle.std.specs.Prelude.{ℕ, ◌≡◌, ◌<◌, ◌≤◌, ◌==◌, Bool, true, List, [], ◌∷◌}
 use Rattle.std.specs.Prelude.{if◌then◌else◌, nat_lt, length, slice_index_or, slice_get, Option, Some, None, find as first_with}
 use Rattle.std.specs.Option.{option_and_then}
 use Rattle.md_dirs.specs.Rows.{is_named}
 
--- where a name stands beside a unique name: 0 below it, 1 at it, 2 behind it and before a colon, 3 at it with a colon, 4 above
+-- where a name is beside a unique name: 0 below it, 1 at it, 2 after it and before a colon, 3 at it with a colon, 4 above
 abbrev pub zone : List ℕ → List ℕ → ℕ
 zone [] [] = 1
 zone [] (b ∷ bs) = if nat_lt b 58 then 2 else (if b == 58 then 3 else 4)
@@ -21,7 +21,7 @@ pub record IsInfoPoint (rows : List (List ℕ × ℕ)) (unique : List ℕ) (i : 
   pub before : (k : ℕ) → k < i → zone unique (name_at rows k) < 3
   pub behind : (k : ℕ) → i ≤ k → k < length rows → 3 ≤ zone unique (name_at rows k)
 
--- what stands behind a unique name ends, or goes on before a colon
+-- what follows a unique name ends, or goes on before a colon
 abbrev pub before_colon : List ℕ → Bool
 before_colon [] = true
 before_colon (b ∷ bs) = nat_lt b 58

@@ -2,13 +2,13 @@
 use Rattle.std.specs.Prelude.{ℕ, List, [], ◌∷◌, Option, None, fold}
 use Rattle.std.specs.Option.{option_or}
 use Rattle.md_dirs.specs.State.{State, bare}
-use Rattle.md_dirs.specs.Calls.{Ask, make}
+use Rattle.md_dirs.specs.Calls.{Ask, create_as}
 use Rattle.md_dirs.specs.declared.image.ImageFile.{ImageFile}
 use Rattle.md_dirs.specs.declared.calls.DirError.{DirError}
 
 -- A file is made with its bytes and its stamp, and refused where create would be refused. Its number is its place in the list.
 abbrev pub put : ImageFile → Ask
-put file = make file.path (record { bytes = file.bytes; stamp = file.stamp })
+put file = create_as file.path (record { bytes = file.bytes; stamp = file.stamp })
 
 -- the state with the files, made in their order
 abbrev pub state_with : State → List ImageFile → State

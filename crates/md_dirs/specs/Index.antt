@@ -54,7 +54,7 @@ pub record Renames {Z : Type 0} (old : List (Vec ℕ Z × ℕ)) (i : ℕ) (name 
 abbrev pub order_at : List (List ℕ × ℕ) → ℕ → List ℕ → Ordering
 order_at rows i name = name_cmp (slice_index_or rows i ([], 0)).0 name
 
--- a name is above the row before a position and below the row behind it
+-- a name is above the row before a position and below the row after it
 pub record FitsAt (rows : List (List ℕ × ℕ)) (i : ℕ) (name : List ℕ) : Type 0 where
   pub after : 0 < i → order_at rows (i - 1) name ≡ Less
   pub before : i + 1 < length rows → order_at rows (i + 1) name ≡ Greater
@@ -66,7 +66,7 @@ PathMap = finmap.FinMap path_cmp ℕ
 abbrev pub map_code : Coded PathMap
 map_code = finmap.code path_code coded_ℕ
 
--- the number of a directory: those of a folder stand side by side, in their order
+-- the number of a directory: those of a folder are side by side, in their order
 abbrev pub directory_number : ℕ → Place → ℕ
 directory_number folder place = 3 * folder + place_index place
 

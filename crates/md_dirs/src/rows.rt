@@ -72,7 +72,7 @@ pub fn is_below(name: &[u8], unique: &[u8]) -> bool
     name.cmp(unique).is_lt()
 }
 
-// Whether what stands behind a unique name ends, or goes on before a colon.
+// Whether what follows a unique name ends, or goes on before a colon.
 fn goes_before_colon(rest: &[u8]) -> bool
     ensures { result ≡ before_colon rest.now }
 {

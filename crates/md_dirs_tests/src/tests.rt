@@ -193,7 +193,7 @@ fn make_again<D: Dirs>(
     make_call(alloc, dirs, call, now)
 }
 
-// Makes a call. Where it finds no memory it has changed nothing, as directories show that are one call behind, and is made
+// Makes a call. Where it finds no memory it has changed nothing, as directories show that are one call late, and is made
 // once more.
 fn perform<D: Dirs, E: Dirs>(
     rt: &impl Abort,

@@ -1,4 +1,4 @@
--- The body of a field as it stands in a message, line ends among it, and the value that it gives.
+-- The body of a field as it is in a message, line ends among it, and the value that it gives.
 use Rattle.std.specs.Prelude.{◌≡◌, ℕ, ◌<◌, Bool, false, true, List, ◌++◌}
 use Rattle.std.specs.Prelude.{length, slice_index, Option, Some, None, IfSome, option_map, if◌then◌else◌}
 use Rattle.std.specs.List.{AllPass, concat}
@@ -15,8 +15,8 @@ unfolded folded = trimmed (concat (lines_of folded))
 abbrev pub body_value : FieldBody → List ℕ
 body_value body = unfolded body.folded.now
 
--- These bytes are the body of a text's first field of that name, as it stands there: all behind the colon up to the end of the
--- last continuation. In front of the field stand whole lines of the header section, with no field of that name among them.
+-- These bytes are the body of a text's first field of that name, as it is there: all after the colon up to the end of the
+-- last continuation. In front of the field are whole lines of the header section, with no field of that name among them.
 pub record IsFirstBody (text name folded : List ℕ) : Type 0 where
   pub before : List ℕ
   pub field : List ℕ

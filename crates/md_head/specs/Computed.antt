@@ -30,7 +30,7 @@ unfoldable pub trimmed_front : List ℕ → List ℕ
 trimmed_front [] = []
 trimmed_front (b ∷ bytes) = if is_blank b then trimmed_front bytes else b ∷ bytes
 
--- a byte before what is left of the bytes behind it
+-- a byte before what is left of the bytes after it
 abbrev pub onto_trimmed : ℕ → List ℕ → List ℕ
 onto_trimmed b [] = if is_blank b then [] else b ∷ []
 onto_trimmed b (c ∷ bytes) = b ∷ c ∷ bytes

@@ -17,7 +17,7 @@ abbrev pub is_line_feed : ℕ → Bool
 is_line_feed b = b == 10
 
 -- The lines of a text, as std cuts one: a line ends at LF, and one CR right before it belongs to the line's end
--- (RFC 5322, 2.1; LF alone is own). What stands behind the last LF is a line unless it is empty, and a CR in it is
+-- (RFC 5322, 2.1; LF alone is own). What follows the last LF is a line unless it is empty, and a CR in it is
 -- a byte like any other (own).
 unfoldable pub lines_of : List ℕ → List (List ℕ)
 lines_of text = lines text

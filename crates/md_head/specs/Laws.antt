@@ -11,7 +11,7 @@ use Rattle.md_head.specs.declared.shown.Summary.{Summary}
 abbrev pub OneSummary : Type 0
 OneSummary = (text : List ℕ) (s : Summary) → IsSummary text s ↔ (s ≡ summary_of text)
 
--- The body isn't read: what stands behind lines of which one is empty changes nothing.
+-- The body isn't read: what follows lines of which one is empty changes nothing.
 abbrev pub BodyIsNotRead : Type 0
 BodyIsNotRead = (header body : List ℕ) → IsWholeLines header → Contains (lines_of header) []
     → summary_of (header ++ body) ≡ summary_of header
@@ -52,6 +52,6 @@ crlf_byte b = if b == 10 then 13 ∷ 10 ∷ [] else b ∷ []
 abbrev pub with_crlf : List ℕ → List ℕ
 with_crlf text = flat_map crlf_byte text
 
--- LF and CRLF say the same, where no other CR stands.
+-- LF and CRLF say the same, where there is no other CR.
 abbrev pub LineEndsAgree : Type 0
 LineEndsAgree = (text : List ℕ) → All (λ b. b ≢ 13) text → summary_of (with_crlf text) ≡ summary_of text

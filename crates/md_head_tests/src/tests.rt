@@ -23,7 +23,7 @@ const OBSOLETE_SHOWS: &[u8] =
     b"subject=Saying Hello;from=John Doe <jdoe@machine(comment).  example>;\
 id=<1234   @   local(blah)  .machine .example>;";
 
-/// Messages, and what their summaries show. They are: the first of a repeated field, with the body behind and without; lines that are no
+/// Messages, and what their summaries show. They are: the first of a repeated field, with the body after them and without; lines that are no
 /// fields; a second before 1970; a date that is no text; then subjects, senders, and messages of which nothing is shown.
 static ROWS: &[u8] = b"\
 SUBJECT : one\r\n two\nSubject: x\nDate: Fri, 21 Nov 1997 09:55:06 -0600\n\nSubject: y\n\

@@ -56,7 +56,7 @@ fn shows(made: &Indexed, mail: &Mail) -> bool {
         && made.summary.seconds.is_none()
 }
 
-/// Makes an index of so many messages, which is the plain list. It is refused only for want of memory.
+/// Makes an index of so many messages, which is the plain list. It is refused only when out of memory.
 fn make<G: Gate, R: Abort + Threads + Wait + Sync>(
     rt: &R,
     alloc: Global,

@@ -42,7 +42,7 @@ make_refusal micro host =
 abbrev pub refusal_of : UniqueParts → Option NameError
 refusal_of parts = make_refusal parts.micro parts.host.now
 
--- the error that is given: that refusal, or where there is none, want of memory
+-- the error that is given: that refusal, or where there is none, out of memory
 abbrev pub IsRefusal : Option NameError → NameError → Type 0
 IsRefusal None e = e ≡ NoMemory
 IsRefusal (Some refusal) e = e ≡ refusal

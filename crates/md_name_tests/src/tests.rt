@@ -8,7 +8,7 @@ use std::test::Fail;
 
 static ALL_FLAGS: &[u8] = b"=ABCDEFGHIJKLMNOPQRSTUVWXYZabcdefghijklmnopqrstuvwxyz";
 
-/// Names of messages, each with its unique part and what stands behind that: nothing (`-`), flags (`=`), or other info (`?`). The last eight
+/// Names of messages, each with its unique part and what follows that: nothing (`-`), flags (`=`), or other info (`?`). The last eight
 /// are the fronts of one name.
 static NAMES: &[u8] =
     b"u|u|- s,S=5|s,S=5|- u:2,|u|= u:2,S|u|=S u:2,TSSa|u|=STa s,S=5:2,S|s,S=5|=S u:2,S1|u|? v:1,x|v|? u:|u|? u:2|u|? \
@@ -55,7 +55,7 @@ static ERRORS: [NameError; 4] = [
 
 fn wants_send<T: Send + Drop>(_value: T) {}
 
-/// Whether letters spell these flags, behind a `=`.
+/// Whether letters spell these flags, after a `=`.
 fn are_flags(flags: Flags, said: &[u8]) -> bool {
     match said {
         [b'=', letters @ ..] => Flags::parse(letters) == Ok(flags),
@@ -72,7 +72,7 @@ fn is_said(info: Info, said: &[u8]) -> bool {
     }
 }
 
-/// Whether a name is split into this unique part and what is said behind it.
+/// Whether a name is split into this unique part and what is said after it.
 fn is_split(name: &[u8], unique: &[u8], said: &[u8]) -> bool {
     match split(name) {
         Some((part, info)) => part == unique && is_said(info, said),

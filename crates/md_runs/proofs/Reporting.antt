@@ -4,16 +4,16 @@ use Rattle.std.proofs.lemmas.List.Elements.{All-push}
 use Rattle.std.specs.Global.{Vec}
 use Rattle.std.specs.declared.alloc.AllocError.{AllocError}
 use Rattle.md_core.specs.declared.jobs.answer.Answer.{Answer}
-use Rattle.md_core.specs.Machine.{Standing, Marked, marked, job_at}
+use Rattle.md_core.specs.Machine.{Standing, Occurrence, occurrence, job_at}
 use Rattle.md_core.specs.Runs.{Run, answer_of, and_event, and_events}
 use Rattle.md_script.specs.declared.error.PlayError.{PlayError}
-use Rattle.md_script.specs.Reading.{IsWhole}
+use Rattle.md_script.specs.Reading.{IsReadWhole}
 use Rattle.md_script.specs.Sinks.{Sink, Untouched}
 use Rattle.md_script.specs.Sources.{Source}
 use Rattle.md_script.specs.Texts.{answer_line}
 use Rattle.md_runs.specs.declared.fault.RunFault.{RunFault}
 use Rattle.md_runs.specs.declared.fault.RunFault.TheVariants.{Play, NoReader, Closed}
-use Rattle.md_runs.specs.Threading.{answers_text, report_of, AllAnswered, GoesOn, Interleaving, IsStop, IsUnreported, RunsThreads}
+use Rattle.md_runs.specs.Threading.{answers_text, report_of, AllAnswered, RunsOn, Interleaving, IsStop, IsUnreported, RunsThreads}
 
 -- one more answer
 pub answers-next : (jobs : List Standing) (n : ℕ) → answers_text jobs (n + 1) ≡ answers_text jobs n ++ answer_line (n + 1) (answer_of (job_at jobs (n + 1)))
@@ -50,19 +50,19 @@ pub more-answered : (jobs : List Standing) (n : ℕ) (a : Answer) → ((k : ℕ)
 more-answered jobs n a below has = below-next (λ k. is_some (answer_of (job_at jobs (k + 1))) ≡ true) n below (ap is_some has)
 
 -- a run goes on by no event
-pub none-more : (r : Run) → GoesOn r r
+pub none-more : (r : Run) → RunsOn r r
 none-more r = record { events = []; is = ap (λ es. record r { events = es }) (sym (append-nil r.events)); at_zero = λ k d within. absurd (omega arith) }
 
 -- a run that goes on at moment 0, and then by one more event at moment 0
-pub one-more : (begun r s : Run) (job : ℕ) (faulted : Bool) → GoesOn begun r → s ≡ and_event r (marked job 0 None faulted) → GoesOn begun s
+pub one-more : (begun r s : Run) (job : ℕ) (faulted : Bool) → RunsOn begun r → s ≡ and_event r (occurrence job 0 None faulted) → RunsOn begun s
 one-more begun r s job faulted before is =
-    let e : Marked = marked job 0 None faulted in
+    let e : Occurrence = occurrence job 0 None faulted in
     record {
       events = before.events ++ e ∷ [];
       is = is
           ∙ ap (λ (x : Run). and_event x e) before.is
-          ∙ ap (λ (es : List Marked). record begun { events = es }) (append_assoc begun.events before.events (e ∷ []));
-      at_zero = All-push (λ (m : Marked). (m.event.now ≡ 0) × (m.event.own ≡ None)) before.events e before.at_zero (refl, refl);
+          ∙ ap (λ (es : List Occurrence). record begun { events = es }) (append_assoc begun.events before.events (e ∷ []));
+      at_zero = All-push (λ (m : Occurrence). (m.event.now ≡ 0) × (m.event.own ≡ None)) before.events e before.at_zero (refl, refl);
     }
 
 -- the report of an interleaving, where it is one once each job has its answer
@@ -79,7 +79,7 @@ stopped script NoReader is = tt
 stopped script Closed is = tt
 
 -- a script of which there is no report
-pub unreported : (old new : Source) (before after : Sink) (script : List ℕ) (fault : RunFault) → IsUnreported script fault → IsWhole old new script →
+pub unreported : (old new : Source) (before after : Sink) (script : List ℕ) (fault : RunFault) → IsUnreported script fault → IsReadWhole old new script →
     Untouched before after
     → RunsThreads old new before after (Err fault)
 unreported old new before after script (Play e) (inl memory) whole unwritten =

@@ -14,7 +14,7 @@ use Rattle.md_script.specs.declared.error.PlayKind.{PlayKind}
 use Rattle.md_script.specs.declared.error.PlayKind.TheVariants.{Core, NoMemory}
 use Rattle.md_script.specs.Bind.{◌>>=◌}
 use Rattle.md_script.specs.Kinds.{core_kind}
-use Rattle.md_script.specs.Sessions.{unless_refused, image_of, opened}
+use Rattle.md_script.specs.Sessions.{unless_refused, image_of, run_over}
 use Rattle.md_runs.specs.Begun.{submitted_all}
 
 -- what is done unless it is refused, and then goes on well, goes on in another way too
@@ -75,8 +75,8 @@ unfolding submitted_all
 none-submitted r = refl
 
 -- a store that was just opened has no event
-pub opened_fresh : (folders : ℕ) (files : List ImageFile) (r : Run) → opened folders files ≡ Ok r → r.events ≡ []
-unfolding opened
+pub opened_fresh : (folders : ℕ) (files : List ImageFile) (r : Run) → run_over folders files ≡ Ok r → r.events ≡ []
+unfolding run_over
 opened_fresh folders files r is = by (image_of folders files) is
   where
     loaded : (o : Option CoreError) (image : State) → unless_refused o (new_run image 0 0) ≡ Ok r → r.events ≡ []

@@ -4,7 +4,7 @@ use Rattle.std.specs.Str.{bytes_eq}
 use Rattle.std.proofs.lemmas.Slice.Eq.{bytes_eq-Decides}
 use Rattle.std.proofs.lemmas.List.{take_all}
 use denote.Ref.{Bor}
-use Rattle.md_runs.specs.Runs.{Calls, operands_of}
+use Rattle.md_runs.specs.Runs.{IsCommand, operands_of}
 
 abbrev Word : Type 0
 Word = Bor (List ℕ)
@@ -15,7 +15,7 @@ texts words = map (λ word. word.now) words
 -- a first word that is equal, and the operands of those after it
 pub called : (words : List Word) (none : Word) (name : List ℕ) (operands : List (List ℕ)) → 1 ≤ length words →
     false ≡ not (bytes_eq (get_or words 0 none).now name) →
-    operands ≡ operands_of (texts (take (length words - 1) (drop 1 words))) → Calls (texts words) name operands
+    operands ≡ operands_of (texts (take (length words - 1) (drop 1 words))) → IsCommand (texts words) name operands
 called [] none name operands long same is = absurd (omega arith)
 called (w ∷ ws) none name operands long same is = record {
   others = texts ws;

@@ -9,7 +9,7 @@ use Rattle.md_script.specs.declared.error.PlayError.{PlayError}
 use Rattle.md_script.specs.Bind.{◌>>=◌}
 use Rattle.md_script.specs.Folders.{names_of}
 use Rattle.md_head.specs.Header.{lines_of}
-use Rattle.md_script.specs.Sessions.{opened, unless_refused}
+use Rattle.md_script.specs.Sessions.{run_over, unless_refused}
 use Rattle.md_script.specs.Setups.{Setting, setting_of}
 use Rattle.md_script.specs.Transcript.{Transcript}
 use Rattle.md_runs.specs.declared.threads.setting_up.Made.{Made}
@@ -22,7 +22,7 @@ submitted_all r (call ∷ calls) = unless_refused (submit_refusal r call) (and_c
 
 -- the run of a store over folders and files, with its jobs; or why it can't be opened, or one of these not be submitted
 unfoldable pub begun_over : List (List ℕ) → List ImageFile → List Call → Result Run PlayKind
-begun_over names files calls = opened (length names) files >>= (λ r. submitted_all r calls)
+begun_over names files calls = run_over (length names) files >>= (λ r. submitted_all r calls)
 
 -- what was set up, begun where no line was refused
 abbrev pub begun_by : ℕ → Transcript Setting → Option PlayError → Result Run PlayError

@@ -17,8 +17,8 @@ use Rattle.md_script.specs.declared.error.PlayError.{PlayError}
 use Rattle.md_script.specs.Bind.{◌>>=◌}
 use Rattle.md_head.specs.Header.{lines_of}
 use Rattle.md_script.specs.Play.{Stops}
-use Rattle.md_script.specs.Reading.{IsWhole}
-use Rattle.md_script.specs.Sessions.{opened}
+use Rattle.md_script.specs.Reading.{IsReadWhole}
+use Rattle.md_script.specs.Sessions.{run_over}
 use Rattle.md_script.specs.Setups.{Setting, setting_of}
 use Rattle.md_script.specs.Sinks.{Sink, Took, Untouched}
 use Rattle.md_script.specs.Sources.{Source}
@@ -56,7 +56,7 @@ index_of_run names r = index_from (mailbox_of (dirs_of r)) 0 names
 
 -- the index over a store of folders and files, or why it can't be opened
 unfoldable pub index_over : List (List ℕ) → List ImageFile → Result (List ℕ) PlayKind
-index_over names files = opened (length names) files >>= (λ r. Ok (index_of_run names r))
+index_over names files = run_over (length names) files >>= (λ r. Ok (index_of_run names r))
 
 -- a refusal of a line
 abbrev pub at_line : {X : Type 0} → ℕ → Result X PlayKind → Result X PlayError
@@ -76,14 +76,14 @@ index_of_script script = index_by (length (lines_of script)) (setting_of false s
 pub record Ran (old new : Source) (before after : Sink) : Type 0 where
   pub script : List ℕ
   pub text : List ℕ
-  pub whole : IsWhole old new script
+  pub whole : IsReadWhole old new script
   pub is : index_of_script script ≡ Ok text
   pub written : Took before after text
 
 -- A whole script was read; it is refused, and nothing was written.
 pub record Refuses (old new : Source) (before after : Sink) (e : PlayError) : Type 0 where
   pub script : List ℕ
-  pub whole : IsWhole old new script
+  pub whole : IsReadWhole old new script
   pub is : index_of_script script ≡ Err e
   pub unwritten : Untouched before after
 

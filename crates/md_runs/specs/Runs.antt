@@ -11,7 +11,7 @@ operands_of [] = []
 operands_of (word ∷ words) = if bytes_eq word (codes "--") then words else word ∷ words
 
 -- a subcommand and its operands
-pub record Calls (words : List (List ℕ)) (name : List ℕ) (operands : List (List ℕ)) : Type 0 where
+pub record IsCommand (words : List (List ℕ)) (name : List ℕ) (operands : List (List ℕ)) : Type 0 where
   pub others : List (List ℕ)
   pub words_are : words ≡ name ∷ others
   pub operands_are : operands_of others ≡ operands
@@ -26,14 +26,14 @@ pub record IsNumber (word : List ℕ) (n most : ℕ) : Type 0 where
 -- a subcommand and a number
 pub record IsCounted (words : List (List ℕ)) (name : List ℕ) (n most : ℕ) : Type 0 where
   pub word : List ℕ
-  pub called : Calls words name (word ∷ [])
+  pub called : IsCommand words name (word ∷ [])
   pub number : IsNumber word n most
 
-abbrev pub Names : List (List ℕ) → Run → Type 0
-Names words Play = Calls words (codes "play") []
-Names words (Threads n) = IsCounted words (codes "threads") n 16
-Names words (Index n) = IsCounted words (codes "index") n 64
+abbrev pub WordsName : List (List ℕ) → Run → Type 0
+WordsName words Play = IsCommand words (codes "play") []
+WordsName words (Threads n) = IsCounted words (codes "threads") n 16
+WordsName words (Index n) = IsCounted words (codes "index") n 64
 
 -- no run is named
-abbrev pub NamesNone : List (List ℕ) → Type 0
-NamesNone words = (run : Run) → ¬ Names words run
+abbrev pub WordsNameNone : List (List ℕ) → Type 0
+WordsNameNone words = (run : Run) → ¬ WordsName words run

@@ -1,14 +1,14 @@
 -- What a run on threads writes of a script, and where it is refused.
 use Rattle.std.specs.Prelude.{◌≡◌, ℕ, zero, suc, ◌+◌, ◌<◌, ◌⊎◌, true, List, [], ◌∷◌, ◌++◌, None, Result, Ok, Err, All, length, is_some, codes}
-use Rattle.md_core.specs.Machine.{Standing, Marked, job_at}
+use Rattle.md_core.specs.Machine.{Standing, Occurrence, job_at}
 use Rattle.md_core.specs.Mailbox.{Mailbox, mailbox_of}
 use Rattle.md_core.specs.Runs.{Run, dirs_of, jobs_of, failures_of, answer_of, and_events}
 use Rattle.md_core.specs.Stepping.{IsRun}
 use Rattle.md_script.specs.declared.error.PlayKind.TheVariants.{NoMemory}
 use Rattle.md_script.specs.declared.error.PlayError.{PlayError}
-use Rattle.md_script.specs.Kinds.{unnumbered}
+use Rattle.md_script.specs.Kinds.{at_no_line}
 use Rattle.md_script.specs.Play.{Stops}
-use Rattle.md_script.specs.Reading.{IsWhole}
+use Rattle.md_script.specs.Reading.{IsReadWhole}
 use Rattle.md_script.specs.Sinks.{Sink, Took, Untouched}
 use Rattle.md_script.specs.Sources.{Source}
 use Rattle.md_script.specs.Texts.{line_end, answer_line, entries_text}
@@ -40,15 +40,15 @@ abbrev pub AllAnswered : Run → Type 0
 AllAnswered r = (n : ℕ) → n < length r.calls → is_some (answer_of (job_at (jobs_of r) (n + 1))) ≡ true
 
 -- the run goes on from there by events at moment 0, at which no job has a moment of its own
-pub record GoesOn (begun r : Run) : Type 0 where
-  pub events : List Marked
+pub record RunsOn (begun r : Run) : Type 0 where
+  pub events : List Occurrence
   pub is : r ≡ and_events begun events
   pub at_zero : All (λ e. (e.event.now ≡ 0) × (e.event.own ≡ None)) events
 
 -- An interleaving of the jobs of a run to their answers, at moment 0 and without a fault: its steps come in some order, each of a job
 -- that had no answer yet. Of any such run the interleaving theorem holds.
 pub record Interleaving (begun : Run) (r : Run) : Type 0 where
-  pub goes_on : GoesOn begun r
+  pub goes_on : RunsOn begun r
   pub is_run : IsRun r
   pub faultless : failures_of r ≡ 0
   pub answered : AllAnswered r
@@ -65,32 +65,32 @@ pub record Reports (script text : List ℕ) : Type 0 where
 pub record Ran (old new : Source) (before after : Sink) : Type 0 where
   pub script : List ℕ
   pub text : List ℕ
-  pub whole : IsWhole old new script
+  pub whole : IsReadWhole old new script
   pub reports : Reports script text
   pub written : Took before after text
 
 -- A whole script was read; it is refused, and nothing was written.
 pub record Refuses (old new : Source) (before after : Sink) (e : PlayError) : Type 0 where
   pub script : List ℕ
-  pub whole : IsWhole old new script
+  pub whole : IsReadWhole old new script
   pub is : begun_of script ≡ Err e
   pub unwritten : Untouched before after
 
 -- A whole script was read. No thread took part, or what is published could not be entered, and nothing was written.
 pub record Unrun (old new : Source) (before after : Sink) : Type 0 where
   pub script : List ℕ
-  pub whole : IsWhole old new script
+  pub whole : IsReadWhole old new script
   pub unwritten : Untouched before after
 
 -- Why the threads made no report: it rests on memory, or on what `left_right` gave.
 abbrev pub IsStop : RunFault → Type 0
-IsStop (Play e) = e ≡ unnumbered NoMemory
+IsStop (Play e) = e ≡ at_no_line NoMemory
 IsStop NoReader = Unit {0}
 IsStop Closed = Unit {0}
 
 -- why there is no report of a script
 abbrev pub IsUnreported : List ℕ → RunFault → Type 0
-IsUnreported script (Play e) = (e ≡ unnumbered NoMemory) ⊎ (begun_of script ≡ Err e)
+IsUnreported script (Play e) = (e ≡ at_no_line NoMemory) ⊎ (begun_of script ≡ Err e)
 IsUnreported script NoReader = Unit {0}
 IsUnreported script Closed = Unit {0}
 

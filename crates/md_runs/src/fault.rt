@@ -1,6 +1,6 @@
 //! Why a run on threads ended without its text.
 ghost use Rattle.std.specs.Prelude.{◌≡◌, ◌≤◌, length};
-ghost use Rattle.md_script.specs.Kinds.{unnumbered};
+ghost use Rattle.md_script.specs.Kinds.{at_no_line};
 ghost use Rattle.md_script.specs.declared.error.PlayKind.TheVariants.{NoMemory};
 ghost use Rattle.md_runs.specs.declared.fault.RunFault.TheVariants as fault;
 ghost use Rattle.md_runs.specs.Faults.{refused_line, refusal_text};
@@ -63,7 +63,7 @@ impl From<PlayError> for RunFault {
 }
 
 impl From<PlayKind> for RunFault {
-    ghost from_gives = { λ kind result. result ≡ fault.Play (unnumbered kind) };
+    ghost from_gives = { λ kind result. result ≡ fault.Play (at_no_line kind) };
 
     fn from(kind: PlayKind) -> RunFault {
         RunFault::Play(PlayError::from(kind))
@@ -71,7 +71,7 @@ impl From<PlayKind> for RunFault {
 }
 
 impl From<AllocError> for RunFault {
-    ghost from_gives = { λ _ result. result ≡ fault.Play (unnumbered NoMemory) };
+    ghost from_gives = { λ _ result. result ≡ fault.Play (at_no_line NoMemory) };
 
     fn from(_refused: AllocError) -> RunFault {
         RunFault::from(PlayKind::NoMemory)
@@ -79,7 +79,7 @@ impl From<AllocError> for RunFault {
 }
 
 impl<T: Drop> From<AllocFailed<T>> for RunFault {
-    ghost from_gives = { λ _ result. result ≡ fault.Play (unnumbered NoMemory) };
+    ghost from_gives = { λ _ result. result ≡ fault.Play (at_no_line NoMemory) };
 
     fn from(_refused: AllocFailed<T>) -> RunFault {
         RunFault::from(PlayKind::NoMemory)

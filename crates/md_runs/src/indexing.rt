@@ -3,7 +3,7 @@ ghost use Rattle.std.specs.Prelude.{◌≡◌, ◌≢◌, ◌≤◌, ◌⊎◌, 
 ghost use Rattle.md_core.specs.Mailbox.{mailbox_of};
 ghost use Rattle.md_core.specs.Runs.{dirs_of};
 ghost use Rattle.md_script.specs.Folders.{names_of};
-ghost use Rattle.md_script.specs.Kinds.{unnumbered};
+ghost use Rattle.md_script.specs.Kinds.{at_no_line};
 ghost use Rattle.md_script.specs.declared.error.PlayKind.TheVariants.{NoMemory};
 ghost use Rattle.md_runs.specs.Indexing.{Indexes, index_from, index_of_script, index_over};
 
@@ -51,7 +51,7 @@ fn index_text<R: Threads + Wait + Sync>(
 ) -> Result<Vec<u8>, PlayError>
     ensures { MatchResult result
         (λ text. index_of_script script.now ≡ Ok text.items)
-        (λ e. (e ≡ unnumbered NoMemory) ⊎ (index_of_script script.now ≡ Err e)) }
+        (λ e. (e ≡ at_no_line NoMemory) ⊎ (index_of_script script.now ≡ Err e)) }
 {
     let Setup {
         folders,

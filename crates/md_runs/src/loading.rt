@@ -1,9 +1,9 @@
 //! The store that a script sets up, and the line that it is refused at.
 ghost use Rattle.std.specs.Prelude.{◌≡◌, ◌≢◌, ◌⊎◌, length};
 ghost use Rattle.md_script.specs.Folders.{names_of};
-ghost use Rattle.md_script.specs.Kinds.{unnumbered};
+ghost use Rattle.md_script.specs.Kinds.{at_no_line};
 ghost use Rattle.md_head.specs.Header.{lines_of};
-ghost use Rattle.md_script.specs.Sessions.{opened};
+ghost use Rattle.md_script.specs.Sessions.{run_over};
 ghost use Rattle.md_script.specs.Words.{Gives};
 ghost use Rattle.md_script.specs.declared.error.PlayKind.TheVariants.{NoMemory};
 
@@ -18,7 +18,7 @@ pub(crate) fn load(
     names: &[Vec<u8>],
     files: Vec<ImageFile>,
 ) -> Result<World<IndexDirs>, PlayKind>
-    ensures { Gives (λ world. world) result (opened (length (names_of names.now)) files.items) }
+    ensures { Gives (λ world. world) result (run_over (length (names_of names.now)) files.items) }
 {
     // No memory holds so many folders.
     let Ok(count) = u32::try_from(names.len()) else {
@@ -27,9 +27,9 @@ pub(crate) fn load(
     open_store(alloc, count, files)
 }
 
-/// What no single line is to blame for is refused at the script's last line, and want of memory at none.
+/// What no single line is to blame for is refused at the script's last line, and out of memory at none.
 pub(crate) fn refused(script: &[u8], kind: PlayKind) -> PlayError
-    ensures { ((kind ≡ NoMemory) × (result ≡ unnumbered NoMemory))
+    ensures { ((kind ≡ NoMemory) × (result ≡ at_no_line NoMemory))
         ⊎ ((kind ≢ NoMemory) × (result ≡ record { line = length (lines_of script.now); kind = kind })) }
 {
     match kind {

@@ -44,7 +44,7 @@ pub fn run_threads<R: Threads + Wait + Sync, S: Source, T: Sink>(
 /// What the threads print of a script, which a replay of their steps prints too.
 ///
 /// A lock tells what holds of whatever it keeps, and not that it keeps these jobs. So the steps are taken once more over a world of the
-/// same script, and what that prints is compared. The two differ only where a last effect couldn't be published for want of memory.
+/// same script, and what that prints is compared. The two differ only where a last effect couldn't be published when out of memory.
 fn threads_text<R: Threads + Wait + Sync>(
     rt: &R,
     alloc: Global,

@@ -1,6 +1,6 @@
 //! The run that the words of a command line name.
 ghost use Rattle.std.specs.Prelude.{◌≡◌, ℕ, List, map, MatchOption};
-ghost use Rattle.md_runs.specs.Runs.{Calls, Names, NamesNone, IsCounted, IsNumber, operands_of};
+ghost use Rattle.md_runs.specs.Runs.{IsCommand, WordsName, WordsNameNone, IsCounted, IsNumber, operands_of};
 
 /// The most threads of a run.
 pub const MOST_THREADS: u64 = 16;
@@ -22,7 +22,7 @@ pub enum Run {
 /// The run that words name: a subcommand, and for `threads` and `index` a number in its range, in decimal digits, with or without a plus
 /// sign. A `--` may come right after the subcommand. All other words name none.
 pub fn run_named(words: &[&str]) -> Option<Run>
-    ensures { MatchOption result (NamesNone (map (λ word. word.now) words.now)) (Names (map (λ word. word.now) words.now)) }
+    ensures { MatchOption result (WordsNameNone (map (λ word. word.now) words.now)) (WordsName (map (λ word. word.now) words.now)) }
 {
     if let Some([]) = operands(words, "play") {
         return Some(Run::Play);
@@ -51,8 +51,8 @@ fn counted(words: &[&str], name: &str, most: u64) -> Option<u64>
 /// The operands of a subcommand of this name.
 fn operands<'a, 'b>(words: &'b [&'a str], name: &str) -> Option<&'b [&'a str]>
     ensures { MatchOption result
-        ((operands : List (List ℕ)) → ¬ Calls (map (λ word. word.now) words.now) name.now operands)
-        (λ operands. Calls (map (λ word. word.now) words.now) name.now (map (λ word. word.now) operands.now)) }
+        ((operands : List (List ℕ)) → ¬ IsCommand (map (λ word. word.now) words.now) name.now operands)
+        (λ operands. IsCommand (map (λ word. word.now) words.now) name.now (map (λ word. word.now) operands.now)) }
 {
     let [first, others @ ..] = words else {
         return None;

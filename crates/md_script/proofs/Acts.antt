@@ -9,7 +9,7 @@ use Rattle.md_core.specs.declared.error.CoreError.TheVariants as core
 use Rattle.md_core.specs.declared.jobs.call.Call.{Call}
 use Rattle.md_core.specs.declared.jobs.step.Event.{Event}
 use Rattle.md_core.specs.declared.jobs.step.StepOut.{StepOut}
-use Rattle.md_core.specs.Machine.{Marked, done, step_out}
+use Rattle.md_core.specs.Machine.{Occurrence, step_of, step_out}
 use Rattle.md_core.specs.Runs.{Run, machine_of, failures_of, and_call, and_event, IsRefusal}
 use Rattle.md_core.specs.Stepping.{ShowsStep}
 use Rattle.md_core.specs.Submitting.{submit_refusal}
@@ -23,44 +23,44 @@ use Rattle.md_script.specs.Commands.{Command, command_at}
 use Rattle.md_script.specs.Words.{Gives}
 use Rattle.md_script.specs.Step.{Steps}
 use Rattle.md_script.specs.Kinds.{core_kind}
-use Rattle.md_script.specs.Sessions.{unless_refused, submitted, stepped, unfaulted, event_refusal, step_text, Session, Store, on_run, obey, session_line}
+use Rattle.md_script.specs.Sessions.{unless_refused, submit_in, step_in, without_fault, event_refusal, step_text, Session, ScriptStore, on_run, obey, session_line}
 use Rattle.md_script.specs.Texts.{job_text, shown_text, out_text}
 
 -- a refusal by the store is the line's, and want of memory is none
-pub store_refuses : {S : Type 0} (o : Option CoreError) (done : S × List ℕ) (s : S) (text : List ℕ) (e : CoreError) → IsRefusal o e →
-    Steps (unless_refused o done) s text text (Err (core_kind e))
-store_refuses None done s text e is = λ some. absurd (some (ap core_kind is))
-store_refuses {S = S} (Some refusal) done s text e is =
+pub store_refuses : {S : Type 0} (o : Option CoreError) (step_of : S × List ℕ) (s : S) (text : List ℕ) (e : CoreError) → IsRefusal o e →
+    Steps (unless_refused o step_of) s text text (Err (core_kind e))
+store_refuses None step_of s text e is = λ some. absurd (some (ap core_kind is))
+store_refuses {S = S} (Some refusal) step_of s text e is =
     subst (λ (x : CoreError). Steps {S = S} (Err (Core refusal)) s text text (Err (core_kind x))) (sym is) (by refusal)
   where
     by : (x : CoreError) → Steps {S = S} (Err (Core x)) s text text (Err (core_kind x))
     by core.NoMemory = λ some. absurd (some refl)
     by other = λ some. (refl, refl)
 
-pub refuses : {S : Type 0} (o : Option CoreError) (done : S × List ℕ) (s : S) (text : List ℕ) (e : CoreError) (result : Result (Unit {0}) PlayKind) →
-    IsRefusal o e → IsErrAnd result (λ kind. kind ≡ core_kind e) → Steps (unless_refused o done) s text text result
-refuses o done s text e (Ok x) is from = absurd from
-refuses o done s text e (Err kind) is from =
-    subst (λ (x : PlayKind). Steps (unless_refused o done) s text text (Err x)) (sym from) (store_refuses o done s text e is)
+pub refuses : {S : Type 0} (o : Option CoreError) (step_of : S × List ℕ) (s : S) (text : List ℕ) (e : CoreError) (result : Result (Unit {0}) PlayKind) →
+    IsRefusal o e → IsErrAnd result (λ kind. kind ≡ core_kind e) → Steps (unless_refused o step_of) s text text result
+refuses o step_of s text e (Ok x) is from = absurd from
+refuses o step_of s text e (Err kind) is from =
+    subst (λ (x : PlayKind). Steps (unless_refused o step_of) s text text (Err x)) (sym from) (store_refuses o step_of s text e is)
 
 -- what is not refused is done
-pub is_done : {S : Type 0} (o : Option CoreError) (done : S × List ℕ) → o ≡ None → unless_refused o done ≡ Ok done
-is_done o done is = ap (λ x. unless_refused x done) is
+pub is_done : {S : Type 0} (o : Option CoreError) (step_of : S × List ℕ) → o ≡ None → unless_refused o step_of ≡ Ok step_of
+is_done o step_of is = ap (λ x. unless_refused x step_of) is
 
-pub was_done : {S : Type 0} (o : Option CoreError) (done after : S × List ℕ) → unless_refused o done ≡ Ok after → (o ≡ None) × (done ≡ after)
-was_done None done after is = (refl, cc)
-was_done (Some e) done after is = cc
+pub was_done : {S : Type 0} (o : Option CoreError) (step_of after : S × List ℕ) → unless_refused o step_of ≡ Ok after → (o ≡ None) × (step_of ≡ after)
+was_done None step_of after is = (refl, cc)
+was_done (Some e) step_of after is = cc
 
 pub submitted-ok : (r r' : Run) (c : Call) (job : ℕ) → submit_refusal r c ≡ None → r' ≡ and_call r c → job ≡ length r.calls + 1 →
-    submitted r c ≡ Ok (r', job_text job)
-unfolding submitted
+    submit_in r c ≡ Ok (r', job_text job)
+unfolding submit_in
 submitted-ok r r' c job accepted run number = is_done (submit_refusal r c) _ accepted ∙
     (let e : ◌≡◌ {A = Run × List ℕ} (and_call r c, job_text (length r.calls + 1)) (r', job_text job) = λ i.
     (sym run i, job_text (sym number i)) in ap Ok e)
 
 -- directories that never fail leave no mark on the last event
-pub unmarked : (earlier : ℕ) (es : List Marked) (e : Marked) → 0 ≡ earlier + count_by (λ (x : Marked). x.faulted) (es ++ e ∷ []) → e.faulted ≡ false
-unmarked earlier es e none = by e.faulted (let split = sum_by-append (λ (x : Marked). cond {A = ℕ} x.faulted 1 0) es (e ∷ []) in omega (arith, split))
+pub unmarked : (earlier : ℕ) (es : List Occurrence) (e : Occurrence) → 0 ≡ earlier + count_by (λ (x : Occurrence). x.faulted) (es ++ e ∷ []) → e.faulted ≡ false
+unmarked earlier es e none = by e.faulted (let split = sum_by-append (λ (x : Occurrence). cond {A = ℕ} x.faulted 1 0) es (e ∷ []) in omega (arith, split))
   where
     by : (b : Bool) → cond {A = ℕ} b 1 0 ≡ 0 → b ≡ false
     by true h = absurd (omega arith)
@@ -68,24 +68,24 @@ unmarked earlier es e none = by e.faulted (let split = sum_by-append (λ (x : Ma
 
 pub stepped-ok : (r r' : Run) (event : Event) (faulted : Bool) (out : StepOut) → event_refusal r event ≡ None →
     r' ≡ and_event r (record { event = event; faulted = faulted })
-    → ShowsStep r r' (record { event = event; faulted = faulted }) out → 0 ≡ failures_of r' → stepped r event ≡ Ok (r', out_text event.job out)
-unfolding stepped
+    → ShowsStep r r' (record { event = event; faulted = faulted }) out → 0 ≡ failures_of r' → step_in r event ≡ Ok (r', out_text event.job out)
+unfolding step_in
 stepped-ok r r' event faulted out goes_on run shows none =
-    let e : Marked = record { event = event; faulted = faulted } in
+    let e : Occurrence = record { event = event; faulted = faulted } in
     let unmarked_is : faulted ≡ false = unmarked r.failures r.events e (none ∙ ap failures_of run) in
-    let same : e ≡ unfaulted event = λ i. record { event = event; faulted = unmarked_is i } in
-    let out_is : option_map step_out (done (machine_of r) (unfaulted event)) ≡ Some out =
-    ap (λ (e : Marked). option_map step_out (done (machine_of r) e)) (sym same) ∙ ap (option_map step_out) shows.at ∙ ap Some (sym shows.shown) in
+    let same : e ≡ without_fault event = λ i. record { event = event; faulted = unmarked_is i } in
+    let out_is : option_map step_out (step_of (machine_of r) (without_fault event)) ≡ Some out =
+    ap (λ (e : Occurrence). option_map step_out (step_of (machine_of r) e)) (sym same) ∙ ap (option_map step_out) shows.at ∙ ap Some (sym shows.shown) in
     let text : step_text r event ≡ out_text event.job out = ap (shown_text event.job) out_is in
-    let after : and_event r (unfaulted event) ≡ r' = ap (and_event r) (sym same) ∙ sym run in
+    let after : and_event r (without_fault event) ≡ r' = ap (and_event r) (sym same) ∙ sym run in
     is_done (event_refusal r event) _ goes_on ∙
-    (let e : ◌≡◌ {A = Run × List ℕ} (and_event r (unfaulted event), step_text r event) (r', out_text event.job out) = λ i.
+    (let e : ◌≡◌ {A = Run × List ℕ} (and_event r (without_fault event), step_text r event) (r', out_text event.job out) = λ i.
     (after i, text i) in ap Ok e)
 
 pub stepped-refused : (r : Run) (event : Event) (s : Run) (text : List ℕ) (e : CoreError) (kind : PlayKind) → IsRefusal (event_refusal r event) e →
-    kind ≡ core_kind e → Steps (stepped r event) s text text (Err kind)
-unfolding stepped
-stepped-refused r event s text e kind is from = refuses (event_refusal r event) (and_event r (unfaulted event), step_text r event) s text e (Err kind) is from
+    kind ≡ core_kind e → Steps (step_in r event) s text text (Err kind)
+unfolding step_in
+stepped-refused r event s text e kind is from = refuses (event_refusal r event) (and_event r (without_fault event), step_text r event) s text e (Err kind) is from
 
 -- what a `?` passes on
 pub passes : {S : Type 0} (step : Result (S × List ℕ) PlayKind) (s : S) (text text' : List ℕ) (kind : PlayKind)
@@ -95,16 +95,16 @@ passes step s text text' kind (Ok x) from is = absurd from
 passes step s text text' kind (Err other) from is = subst (λ (x : PlayKind). Steps step s text text' (Err x)) (sym from) is
 
 -- of two things, each done unless the store refuses it, the second is refused as the first
-pub refused_too : {S T : Type 0} (o : Option CoreError) (done : S × List ℕ) (other : T × List ℕ) (s : S) (t : T) (text text' : List ℕ)
-    (kind : PlayKind) → Steps (unless_refused o done) s text text' (Err kind) → Steps (unless_refused o other) t text text' (Err kind)
-refused_too None done other s t text text' kind is = λ some. absurd (let no = (is some).0 in cc)
-refused_too (Some refusal) done other s t text text' kind is =
+pub refused_too : {S T : Type 0} (o : Option CoreError) (step_of : S × List ℕ) (other : T × List ℕ) (s : S) (t : T) (text text' : List ℕ)
+    (kind : PlayKind) → Steps (unless_refused o step_of) s text text' (Err kind) → Steps (unless_refused o other) t text text' (Err kind)
+refused_too None step_of other s t text text' kind is = λ some. absurd (let no = (is some).0 in cc)
+refused_too (Some refusal) step_of other s t text text' kind is =
     λ some. (let same : Core refusal ≡ kind = (let given = (is some).0 in cc) in ap Err same, (is some).1)
 
 -- what is done to the run of a store
-pub on-run : (t u : Store) (r : Run) (answer : Result (Run × List ℕ) PlayKind) (before after : List ℕ) (result : Result (Unit {0}) PlayKind)
-    → (let after : Store = record t { run = r } in after) ≡ u → Steps answer r before after result → Steps (on_run t answer) u before after result
-on-run t u r answer before after (Ok done) same is =
+pub on-run : (t u : ScriptStore) (r : Run) (answer : Result (Run × List ℕ) PlayKind) (before after : List ℕ) (result : Result (Unit {0}) PlayKind)
+    → (let after : ScriptStore = record t { run = r } in after) ≡ u → Steps answer r before after result → Steps (on_run t answer) u before after result
+on-run t u r answer before after (Ok step_of) same is =
     (is.0, ap (λ (x : Result (Run × List ℕ) PlayKind). on_run t x) is.1 ∙ (λ i. Ok (same i, is.0)), is.2)
 on-run t u r answer before after (Err kind) same is = λ some. (ap (λ (x : Result (Run × List ℕ) PlayKind). on_run t x) (is some).0, (is some).1)
 
@@ -112,9 +112,9 @@ on-run t u r answer before after (Err kind) same is = λ some. (ap (λ (x : Resu
 pub obeyed : {S : Type 0} (step : Result (S × List ℕ) PlayKind) (read : Result Command PlayKind) (act : Command → Result (S × List ℕ) PlayKind)
     (command : Command) (s' : S) (text text' : List ℕ) (result : Result (Unit {0}) PlayKind)
     → step ≡ read >>= act → read ≡ Ok command → Steps (act command) s' text text' result → Steps step s' text text' result
-obeyed {S = S} step read act command s' text text' result by is done =
+obeyed {S = S} step read act command s' text text' result by is step_of =
     let same : step ≡ act command = by ∙ ap (λ (x : Result Command PlayKind). x >>= act) is in
-    subst (λ (x : Result (S × List ℕ) PlayKind). Steps x s' text text' result) (sym same) done
+    subst (λ (x : Result (S × List ℕ) PlayKind). Steps x s' text text' result) (sym same) step_of
 
 -- a line that spells no command
 pub unread : {S X : Type 0} (view : X → Command) (step : Result (S × List ℕ) PlayKind) (read : Result Command PlayKind) (act : Command →
@@ -126,7 +126,7 @@ unread view step read act s' text kind by is = λ some. (by ∙ ap (λ (x : Resu
 abbrev pub Reads : Session → List (List ℕ) → Bool → Type 0
 Reads s folders is_open = (s.folders ≡ folders) × (is_some s.store ≡ is_open)
 
-pub reads_by : (s : Session) (folders : List (List ℕ)) (files : List ImageFile) (store : Option Store) (is_open : Bool) →
+pub reads_by : (s : Session) (folders : List (List ℕ)) (files : List ImageFile) (store : Option ScriptStore) (is_open : Bool) →
     (let view : Session = record { folders = folders; files = files; store = store } in view) ≡ s → is_open ≡ is_some store → Reads s folders is_open
 reads_by s folders files store is_open view_is open_is =
     (ap (λ (t : Session). t.folders) (sym view_is), ap (λ (t : Session). is_some t.store) (sym view_is) ∙ sym open_is)

@@ -10,20 +10,20 @@ use Rattle.std.specs.List.{All}
 use Rattle.md_script.specs.declared.error.PlayKind.{PlayKind}
 use Rattle.md_script.specs.declared.error.PlayKind.TheVariants.{BadEscape}
 use Rattle.md_script.specs.Bind.{◌>>=◌}
-use Rattle.md_script.specs.Escapes.{escape, escaped, meant_by, onto, behind, unescaped}
+use Rattle.md_script.specs.Escapes.{escape, escape_all, meant_by, onto, byte_by_letter, unescaped}
 use Rattle.memchr.specs.Find.{Nowhere, NoneBefore, Passes, is_byte}
 use Rattle.md_script.proofs.Firsts.{refuted, absent, rest_whole}
 
-pub front_none : (read : Result (List ℕ) PlayKind) → behind [] read ≡ read
+pub front_none : (read : Result (List ℕ) PlayKind) → byte_by_letter [] read ≡ read
 front_none (Ok xs) = refl
 front_none (Err e) = refl
 
-front_onto : (b : ℕ) (front : List ℕ) (read : Result (List ℕ) PlayKind) → onto b (behind front read) ≡ behind (b ∷ front) read
+front_onto : (b : ℕ) (front : List ℕ) (read : Result (List ℕ) PlayKind) → onto b (byte_by_letter front read) ≡ byte_by_letter (b ∷ front) read
 front_onto b front (Ok xs) = refl
 front_onto b front (Err e) = refl
 
 -- bytes, and then others, before those that are read
-pub front_front : (out more : List ℕ) (read : Result (List ℕ) PlayKind) → behind (out ++ more) read ≡ behind out (behind more read)
+pub front_front : (out more : List ℕ) (read : Result (List ℕ) PlayKind) → byte_by_letter (out ++ more) read ≡ byte_by_letter out (byte_by_letter more read)
 front_front out more (Ok xs) = simp append_assoc
 front_front out more (Err e) = refl
 
@@ -40,7 +40,7 @@ no_mark : (b : ℕ) → is_byte 92 b ≡ false → b ≢ 92
 no_mark b plain is = let marked = eq-eqb b 92 is in cc
 
 -- bytes without a backslash stand for themselves
-pub plain : (front rest : List ℕ) → All (λ x. is_byte 92 x ≡ false) front → unescaped (front ++ rest) ≡ behind front (unescaped rest)
+pub plain : (front rest : List ℕ) → All (λ x. is_byte 92 x ≡ false) front → unescaped (front ++ rest) ≡ byte_by_letter front (unescaped rest)
 plain [] rest all = sym (front_none (unescaped rest))
 plain (b ∷ front) rest all =
     read_plain b (front ++ rest) (no_mark b (All-head (λ x. is_byte 92 x ≡ false) b front all))
@@ -68,13 +68,13 @@ module _ (text : List ℕ) (at : ℕ) (found : NoneBefore (Passes (is_byte 92) t
   parts = rw add-one (ap (λ b. take at text ++ b ∷ drop (suc at) text) (sym mark) ∙ ap (λ xs. take at text ++ xs) (sym (drop-cons text at 0 high)) ∙
       take-append-drop at text)
 
-  read_from : unescaped text ≡ behind (take at text) (unescaped (92 ∷ drop (at + 1) text))
+  read_from : unescaped text ≡ byte_by_letter (take at text) (unescaped (92 ∷ drop (at + 1) text))
   read_from = ap unescaped (sym parts) ∙ plain (take at text) (92 ∷ drop (at + 1) text) before_mark
 
   -- a backslash at its end
   pub read_last : length text ≤ at + 1 → unescaped text ≡ Err BadEscape
   unfolding unescaped
-  read_last last = read_from ∙ ap (λ xs. behind (take at text) (unescaped (92 ∷ xs))) (drop_of_length-le text last)
+  read_last last = read_from ∙ ap (λ xs. byte_by_letter (take at text) (unescaped (92 ∷ xs))) (drop_of_length-le text last)
 
   -- an escape in the text
   module _ (letter : ℕ) (next : letter ≡ at + 1) (more : letter < length text) where
@@ -82,21 +82,21 @@ module _ (text : List ℕ) (at : ℕ) (found : NoneBefore (Passes (is_byte 92) t
     rest = take (length text - (letter + 1)) (drop (letter + 1) text)
 
     meaning : Result ℕ PlayKind → Result (List ℕ) PlayKind
-    meaning byte = behind (take at text) (byte >>= (λ x. onto x (unescaped rest)))
+    meaning byte = byte_by_letter (take at text) (byte >>= (λ x. onto x (unescaped rest)))
 
     read_escape : unescaped text ≡ meaning (meant_by (get_or text letter 0))
     unfolding rest meaning
     read_escape =
         let cut : drop (at + 1) text ≡ get_or text letter 0 ∷ drop (letter + 1) text = rw (← next, add-one) (drop-cons text letter 0 more) in
-        read_from ∙ ap (λ xs. behind (take at text) (unescaped (92 ∷ xs))) (cut ∙ ap (λ xs. get_or text letter 0 ∷ xs) (sym (rest_whole text (letter + 1))))
-        ∙ ap (behind (take at text)) (read_mark (get_or text letter 0) rest)
+        read_from ∙ ap (λ xs. byte_by_letter (take at text) (unescaped (92 ∷ xs))) (cut ∙ ap (λ xs. get_or text letter 0 ∷ xs) (sym (rest_whole text (letter + 1))))
+        ∙ ap (byte_by_letter (take at text)) (read_mark (get_or text letter 0) rest)
 
     pub read_refused : (kind : PlayKind) → meant_by (get_or text letter 0) ≡ Err kind → unescaped text ≡ Err kind
     unfolding meaning
     read_refused kind is = read_escape ∙ ap meaning is
 
     pub read_meant : (b : ℕ) → meant_by (get_or text letter 0) ≡ Ok b →
-        unescaped text ≡ behind (take at text) (onto b (unescaped (take (length text - (letter + 1)) (drop (letter + 1) text))))
+        unescaped text ≡ byte_by_letter (take at text) (onto b (unescaped (take (length text - (letter + 1)) (drop (letter + 1) text))))
     unfolding meaning rest
     read_meant b is = read_escape ∙ ap meaning is
 
@@ -137,7 +137,7 @@ module _ (rest : List ℕ) where
       reads_plain b mark feed return)))
 
 -- what is written with escapes reads back
-pub unescaped-escaped : (bytes : List ℕ) → unescaped (escaped bytes) ≡ Ok bytes
+pub unescaped-escaped : (bytes : List ℕ) → unescaped (escape_all bytes) ≡ Ok bytes
 unfolding unescaped ReadsBack
 unescaped-escaped [] = refl
-unescaped-escaped (b ∷ bytes) = reads_back (escaped bytes) b ∙ ap (onto b) (unescaped-escaped bytes)
+unescaped-escaped (b ∷ bytes) = reads_back (escape_all bytes) b ∙ ap (onto b) (unescaped-escaped bytes)

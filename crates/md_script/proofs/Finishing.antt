@@ -5,12 +5,12 @@ use Rattle.md_core.specs.declared.error.CoreError.{CoreError}
 use Rattle.md_core.specs.declared.error.CoreError.TheVariants.{Answered}
 use Rattle.md_core.specs.declared.jobs.answer.Answer.{Answer}
 use Rattle.md_core.specs.declared.jobs.step.Event.{Event}
-use Rattle.md_core.specs.Machine.{Marked, Standing, working, answered, job_at}
+use Rattle.md_core.specs.Machine.{Occurrence, Standing, working, answered, job_at}
 use Rattle.md_core.specs.Laws.{HasJob}
 use Rattle.md_core.specs.Runs.{Run, jobs_of, and_event, answer_of, step_refusal, steps_left}
 use Rattle.md_script.specs.declared.error.PlayKind.{PlayKind}
 use Rattle.md_script.specs.Step.{Steps}
-use Rattle.md_script.specs.Sessions.{stepped, finished, steps_of, before, unfaulted, step_text, event_refusal}
+use Rattle.md_script.specs.Sessions.{step_in, finish_in, steps_of, with_text, without_fault, step_text, event_refusal}
 use Rattle.md_script.proofs.Acts.{is_done, was_done, refused_too}
 
 abbrev job_in : Run → ℕ → Option Standing
@@ -21,7 +21,7 @@ abbrev IsLeft : Type 0
 IsLeft = (r : Run) (job : ℕ) → step_refusal (job_in r job) ≡ None → 0 < steps_left r job
 
 abbrev Stays : Type 0
-Stays = (r : Run) (e : Marked) → step_refusal (job_in r e.event.job) ≡ None → HasJob (and_event r e) e.event.job
+Stays = (r : Run) (e : Occurrence) → step_refusal (job_in r e.event.job) ≡ None → HasJob (and_event r e) e.event.job
 
 job_of : (jobs : List Standing) (number : ℕ) → 0 < number → number ≤ length jobs → (job : Standing) × (job_at jobs number ≡ Some job)
 job_of jobs zero from within = absurd (omega arith)
@@ -44,22 +44,22 @@ ends-by (Some (answered b)) a is = refl
 -- what a step that was taken says
 pub record Stepped (r : Run) (event : Event) (r' : Run) (text : List ℕ) : Type 0 where
   pub goes_on : event_refusal r event ≡ None
-  pub run : and_event r (unfaulted event) ≡ r'
+  pub run : and_event r (without_fault event) ≡ r'
   pub text_is : step_text r event ≡ text
 
-pub stepped-is : (r : Run) (event : Event) (r' : Run) (text : List ℕ) → stepped r event ≡ Ok (r', text) → Stepped r event r' text
-unfolding stepped
+pub stepped-is : (r : Run) (event : Event) (r' : Run) (text : List ℕ) → step_in r event ≡ Ok (r', text) → Stepped r event r' text
+unfolding step_in
 stepped-is r event r' text is =
     let done = was_done (event_refusal r event) _ (r', text) is in
     record { goes_on = done.0; run = ap (λ (x : Run × List ℕ). x.0) done.1; text_is = ap (λ (x : Run × List ℕ). x.1) done.1 }
 
 -- one step, and then the others
 step-more : (more : ℕ) (r : Run) (event : Event) (r' : Run) (text : List ℕ) → Stepped r event r' text →
-    steps_of (suc more) r event ≡ before text (steps_of more r' event)
+    steps_of (suc more) r event ≡ with_text text (steps_of more r' event)
 unfolding steps_of
 step-more more r event r' text s =
     let goes_on : is_some (event_refusal r event) ≡ false = ap is_some s.goes_on in
-    rw goes_on (λ i. before (s.text_is i) (steps_of more (s.run i) event))
+    rw goes_on (λ i. with_text (s.text_is i) (steps_of more (s.run i) event))
 
 -- no step
 step-none : (more : ℕ) (r : Run) (event : Event) (e : CoreError) → event_refusal r event ≡ Some e → steps_of more r event ≡ (r, [])
@@ -73,18 +73,18 @@ pub record Finishes (r : Run) (event : Event) (r' : Run) (text : List ℕ) : Typ
   pub there : HasJob r' event.job
   pub more : ℕ
   pub enough : steps_left r' event.job ≤ more
-  pub rest : steps_of (steps_left r event.job) r event ≡ before text (steps_of more r' event)
+  pub rest : steps_of (steps_left r event.job) r event ≡ with_text text (steps_of more r' event)
 
 there-stepped : Stays → (r : Run) (event : Event) (r' : Run) (text : List ℕ) → Stepped r event r' text → HasJob r' event.job
-there-stepped stays r event r' text s = subst (λ (x : Run). HasJob x event.job) s.run (stays r (unfaulted event) s.goes_on)
+there-stepped stays r event r' text s = subst (λ (x : Run). HasJob x event.job) s.run (stays r (without_fault event) s.goes_on)
 
 -- so many steps, of which the first is this
 first-of : (n : ℕ) (r : Run) (event : Event) (r' : Run) (text : List ℕ) → Stepped r event r' text → 0 < n → steps_left r' event.job < n
-    → (more : ℕ) × (steps_left r' event.job ≤ more) × (steps_of n r event ≡ before text (steps_of more r' event))
+    → (more : ℕ) × (steps_left r' event.job ≤ more) × (steps_of n r event ≡ with_text text (steps_of more r' event))
 first-of zero r event r' text s some less = absurd (omega arith)
 first-of (suc more) r event r' text s some less = (more, omega arith, step-more more r event r' text s)
 
-pub finishes-start : IsLeft → Stays → (r : Run) (event : Event) (r' : Run) (text : List ℕ) → stepped r event ≡ Ok (r', text) →
+pub finishes-start : IsLeft → Stays → (r : Run) (event : Event) (r' : Run) (text : List ℕ) → step_in r event ≡ Ok (r', text) →
     steps_left r' event.job < steps_left r event.job → Finishes r event r' text
 finishes-start is_left stays r event r' text is less =
     let s = stepped-is r event r' text is in
@@ -92,7 +92,7 @@ finishes-start is_left stays r event r' text is less =
     record { goes_on = s.goes_on; there = there-stepped stays r event r' text s; more = first.0; enough = first.1; rest = first.2 }
 
 pub finishes-more : IsLeft → Stays → (r : Run) (event : Event) (r' : Run) (text : List ℕ) (r'' : Run) (next : List ℕ) → Finishes r event r' text →
-    stepped r' event ≡ Ok (r'', next) → steps_left r'' event.job < steps_left r' event.job → Finishes r event r'' (text ++ next)
+    step_in r' event ≡ Ok (r'', next) → steps_left r'' event.job < steps_left r' event.job → Finishes r event r'' (text ++ next)
 finishes-more is_left stays r event r' text r'' next f is less =
     let s = stepped-is r' event r'' next is in
     let some = is_left r' event.job s.goes_on in
@@ -102,16 +102,16 @@ finishes-more is_left stays r event r' text r'' next f is less =
       there = there-stepped stays r' event r'' next s;
       more = first.0;
       enough = first.1;
-      rest = f.rest ∙ ap (before text) first.2 ∙ (let last = steps_of first.0 r'' event in λ i. (last.0, sym (append_assoc text next last.1) i));
+      rest = f.rest ∙ ap (with_text text) first.2 ∙ (let last = steps_of first.0 r'' event in λ i. (last.0, sym (append_assoc text next last.1) i));
     }
 
 pub finishes-end : (r : Run) (event : Event) (r' : Run) (text : List ℕ) → Finishes r event r' text →
-    is_some (answer_of (job_in r' event.job)) ≡ true → finished r event ≡ Ok (r', text)
-unfolding finished
+    is_some (answer_of (job_in r' event.job)) ≡ true → finish_in r event ≡ Ok (r', text)
+unfolding finish_in
 finishes-end r event r' text f is_answered =
     let a = answer_by (answer_of (job_in r' event.job)) is_answered in
     let last = step-none f.more r' event Answered (ends-by (job_in r' event.job) a.0 a.1) in
-    is_done (event_refusal r event) _ f.goes_on ∙ ap Ok (f.rest ∙ ap (before text) last ∙ λ i. (r', append-nil text i))
+    is_done (event_refusal r event) _ f.goes_on ∙ ap Ok (f.rest ∙ ap (with_text text) last ∙ λ i. (r', append-nil text i))
   where
     answer_by : (o : Option Answer) → is_some o ≡ true → (a : Answer) × (o ≡ Some a)
     answer_by None is = cc
@@ -120,12 +120,12 @@ finishes-end r event r' text f is_answered =
 -- a job that has no answer after some steps is not refused: memory ran out
 pub finishes-unrefused : {S : Type 0} (r : Run) (event : Event) (r' : Run) (text : List ℕ) → Finishes r event r' text →
     is_some (answer_of (job_in r' event.job)) ≡ false
-    → (step : Result (S × List ℕ) PlayKind) (s : S) (t : Run) (more before after : List ℕ) (kind : PlayKind) →
-    Steps (stepped r' event) t more after (Err kind) → Steps step s before after (Err kind)
-unfolding stepped
-finishes-unrefused r event r' text f unanswered step s t more before after kind is = λ some.
+    → (step : Result (S × List ℕ) PlayKind) (s : S) (t : Run) (more with_text after : List ℕ) (kind : PlayKind) →
+    Steps (step_in r' event) t more after (Err kind) → Steps step s with_text after (Err kind)
+unfolding step_in
+finishes-unrefused r event r' text f unanswered step s t more with_text after kind is = λ some.
     let goes_on = waits r' event f.there (none_by (answer_of (job_in r' event.job)) unanswered) in
-    let done = is_done (event_refusal r' event) (and_event r' (unfaulted event), step_text r' event) goes_on in
+    let done = is_done (event_refusal r' event) (and_event r' (without_fault event), step_text r' event) goes_on in
     absurd (let no = (is some).0 in cc)
   where
     none_by : (o : Option Answer) → is_some o ≡ false → o ≡ None
@@ -133,8 +133,8 @@ finishes-unrefused r event r' text f unanswered step s t more before after kind 
     none_by (Some a) is = cc
 
 pub finishes-refused : (r : Run) (event : Event) (s t : Run) (text text' : List ℕ) (kind : PlayKind) →
-    Steps (stepped r event) s text text' (Err kind) → Steps (finished r event) t text text' (Err kind)
-unfolding stepped finished
+    Steps (step_in r event) s text text' (Err kind) → Steps (finish_in r event) t text text' (Err kind)
+unfolding step_in finish_in
 finishes-refused r event s t text text' kind is =
-    refused_too (event_refusal r event) (and_event r (unfaulted event), step_text r event)
+    refused_too (event_refusal r event) (and_event r (without_fault event), step_text r event)
     (steps_of (steps_left r event.job) r event) s t text text' kind is

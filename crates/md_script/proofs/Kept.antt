@@ -13,7 +13,7 @@ use Rattle.md_script.specs.declared.error.PlayKind.{PlayKind}
 use Rattle.md_script.specs.declared.error.PlayKind.TheVariants.{NoFirst}
 use Rattle.md_script.specs.Bind.{◌>>=◌}
 use Rattle.md_script.specs.Held.{first_by}
-use Rattle.md_script.specs.Sessions.{Store, First, first_of, others, read_first, read_second}
+use Rattle.md_script.specs.Sessions.{ScriptStore, First, first_of, others, read_first, read_second}
 use Rattle.md_script.specs.Texts.{entries_text}
 
 module _ {A B : Type 0} (f : A → B) (p : B → Bool) where
@@ -61,10 +61,10 @@ module _ (r : Run) (folder : ℕ) (kept new : List Listing) (all : All (HasBegun
       (All-append (HasBegun r) (filter (λ l. not (l.folder == folder)) kept) (l ∷ []) (All-filter (λ l. not (l.folder == folder)) (HasBegun r) kept all)
       (All-cons (HasBegun r) l [] begun (All-nil (HasBegun r))))
 
-abbrev held : Run → List Listing → Store
+abbrev held : Run → List Listing → ScriptStore
 held r kept = record { run = r; firsts = map first_by kept }
 
-abbrev second_by : Store → ℕ → Option First → Result (Store × List ℕ) PlayKind
+abbrev second_by : ScriptStore → ℕ → Option First → Result (ScriptStore × List ℕ) PlayKind
 second_by t folder kept =
     ok_or kept NoFirst >>=
     (λ kept. Ok (
@@ -73,7 +73,7 @@ second_by t folder kept =
           (listing_of (names_at t.run) folder kept.moment (length t.run.events)),
     ))
 
-module _ (t : Store) (folder : ℕ) (r : Run) (kept : List Listing) (view_is : held r kept ≡ t) where
+module _ (t : ScriptStore) (folder : ℕ) (r : Run) (kept : List Listing) (view_is : held r kept ≡ t) where
   pub first-read : (new : List Listing) (l : Listing) → l.folder ≡ folder → l.begun ≡ length r.events →
       new ≡ filter (λ x. not (x.folder == l.folder)) kept ++ l ∷ []
       → read_first t folder ≡ Ok (held r new, [])
@@ -85,13 +85,13 @@ module _ (t : Store) (folder : ℕ) (r : Run) (kept : List Listing) (view_is : h
       let now : others l.folder (map first_by kept) ++ first_by l ∷ [] ≡ (let f : First =
       record { folder = folder; moment = length r.events } in others folder (map first_by kept) ++ f ∷ []) =
       λ i. (let f : First = record { folder = of i; moment = at i } in others (of i) (map first_by kept) ++ f ∷ []) in
-      subst (λ (u : Store). read_first u folder ≡ Ok (held r new, [])) view_is
-      (λ i. (let u : Store = record { run = r; firsts = sym (firsts ∙ now) i } in Ok (u, [])))
+      subst (λ (u : ScriptStore). read_first u folder ≡ Ok (held r new, [])) view_is
+      (λ i. (let u : ScriptStore = record { run = r; firsts = sym (firsts ∙ now) i } in Ok (u, [])))
 
   pub not-kept : find (λ l. l.folder == folder) kept ≡ None → read_second t folder ≡ Err NoFirst
   unfolding read_second
   not-kept none =
-      subst (λ (u : Store). read_second u folder ≡ Err NoFirst) view_is
+      subst (λ (u : ScriptStore). read_second u folder ≡ Err NoFirst) view_is
       (ap (second_by (held r kept) folder) (sym (first-kept folder kept) ∙ ap (option_map first_by) none))
 
   pub second-read : (new : List Listing) (l : Listing) (entries : List Entry) → find (λ l. l.folder == folder) kept ≡ Some l → All (HasBegun r) kept →
@@ -103,6 +103,6 @@ module _ (t : Store) (folder : ℕ) (r : Run) (kept : List Listing) (view_is : h
       let shown : entries ≡ listing_of (names_at r) folder l.begun (length r.events) =
       listed ∙ ap (λ f. listing_of (names_at r) f l.begun (length r.events)) of in
       let firsts : map first_by new ≡ others folder (map first_by kept) = ap (map first_by) others_are ∙ others-kept folder kept in
-      subst (λ (u : Store). read_second u folder ≡ Ok (held r new, entries_text entries)) view_is
+      subst (λ (u : ScriptStore). read_second u folder ≡ Ok (held r new, entries_text entries)) view_is
       (ap (second_by (held r kept) folder) (sym (first-kept folder kept) ∙ ap (option_map first_by) is)
-      ∙ (λ i. (let u : Store = record { run = r; firsts = sym firsts i } in Ok (u, entries_text (sym shown i)))))
+      ∙ (λ i. (let u : ScriptStore = record { run = r; firsts = sym firsts i } in Ok (u, entries_text (sym shown i)))))

@@ -7,30 +7,30 @@ use Rattle.md_script.specs.declared.verb.Mode.TheVariants.{Playing, SettingUp}
 use Rattle.md_script.specs.declared.verb.Verb.{Verb}
 use Rattle.md_script.specs.declared.verb.Verb.TheVariants.{File}
 use Rattle.md_script.specs.Verb.{admitted}
-use Rattle.md_script.specs.Held.{unopened, TakesFiles}
-use Rattle.md_script.specs.Sessions.{Session, Store, new_store, store_of, come_to, opened}
+use Rattle.md_script.specs.Held.{files_beside, TakesFiles}
+use Rattle.md_script.specs.Sessions.{Session, ScriptStore, new_store, store_of, with_store, run_over}
 use Rattle.md_script.specs.Bind.{◌>>=◌}
 use Rattle.md_script.specs.declared.error.PlayKind.{PlayKind}
 
 -- the session that the parts of a store are
-abbrev pub held : List (List ℕ) → List ImageFile → Option Store → Session
-held folders files store = record { folders = folders; files = unopened store files; store = store }
+abbrev pub held : List (List ℕ) → List ImageFile → Option ScriptStore → Session
+held folders files store = record { folders = folders; files = files_beside store files; store = store }
 
 -- what opening leaves
 abbrev pub Opened : Session → Session → Type 0
-Opened s t = (u : Store) × (store_of s ≡ Ok u) × (t ≡ come_to s u)
+Opened s t = (u : ScriptStore) × (store_of s ≡ Ok u) × (t ≡ with_store s u)
 
-pub was_open : (s : Session) (folders : List (List ℕ)) (files : List ImageFile) (store : Option Store) → held folders files store ≡ s →
+pub was_open : (s : Session) (folders : List (List ℕ)) (files : List ImageFile) (store : Option ScriptStore) → held folders files store ≡ s →
     is_some store ≡ true → Opened s s
 was_open s folders files None is some = cc
 was_open s folders files (Some u) is some = subst (λ (t : Session). Opened t t) is (u, refl, refl)
 
-pub is_opened : (s t : Session) (folders : List (List ℕ)) (files : List ImageFile) (store : Option Store) (r : Run) → held folders files store ≡ s →
+pub is_opened : (s t : Session) (folders : List (List ℕ)) (files : List ImageFile) (store : Option ScriptStore) (r : Run) → held folders files store ≡ s →
     is_some store ≡ false
-    → (count : ℕ) (taken : List ImageFile) → count ≡ length folders → taken ≡ files → opened count taken ≡ Ok r →
+    → (count : ℕ) (taken : List ImageFile) → count ≡ length folders → taken ≡ files → run_over count taken ≡ Ok r →
     t ≡ held folders files (Some (new_store r)) → Opened s t
 is_opened s t folders files None r is none count taken all same made after =
-    let opens : opened (length folders) files ≡ Ok r = sym (λ i. opened (all i) (same i)) ∙ made in
+    let opens : run_over (length folders) files ≡ Ok r = sym (λ i. run_over (all i) (same i)) ∙ made in
     subst (λ (u : Session). Opened u t) is (new_store r, ap (λ (x : Result Run PlayKind). x >>= (λ r. Ok (new_store r))) opens, after)
 is_opened s t folders files (Some other) r is none count taken all same made after = cc
 

@@ -6,11 +6,11 @@ use Rattle.md_script.specs.declared.error.PlayError.{PlayError}
 use Rattle.md_script.specs.Printed.{Tells}
 use Rattle.md_head.specs.Header.{lines_of}
 use Rattle.md_script.specs.Step.{line_step}
-use Rattle.md_script.specs.Transcript.{Transcript, run_from, printed, go_on}
+use Rattle.md_script.specs.Transcript.{Transcript, run_from, with_text_before, go_on}
 
 module _ {S : Type 0} (step : S → List ℕ → Result (S × List ℕ) PlayKind) (text : List ℕ) (line : ℕ) (s : S) (left : List ℕ) where
   pub run_done : lines_of left ≡ [] →
-      (let t : Transcript S = record { text = text; refusal = None; session = s } in t) ≡ printed text (run_from step line s (lines_of left))
+      (let t : Transcript S = record { text = text; refusal = None; session = s } in t) ≡ with_text_before text (run_from step line s (lines_of left))
   unfolding run_from
   run_done done = rw done (simp append-nil)
 
@@ -20,11 +20,11 @@ module _ {S : Type 0} (step : S → List ℕ → Result (S × List ℕ) PlayKind
     here = ap (run_from step line s) cut
 
     pub run_more : (t : S) (more : List ℕ) → line_step step s first ≡ Ok (t, more)
-        → printed (text ++ more) (run_from step (line + 1) t (lines_of others)) ≡ printed text (run_from step line s (lines_of left))
+        → with_text_before (text ++ more) (run_from step (line + 1) t (lines_of others)) ≡ with_text_before text (run_from step line s (lines_of left))
     run_more t more e = rw (here, e) (simp append_assoc)
 
     pub run_refused : (kind : PlayKind) → line_step step s first ≡ Err kind
-        → (let t : Transcript S = record { text = text; refusal = Some (record { line = line; kind = kind }); session = s } in t) ≡ printed text
+        → (let t : Transcript S = record { text = text; refusal = Some (record { line = line; kind = kind }); session = s } in t) ≡ with_text_before text
         (run_from step line s (lines_of left))
     run_refused kind e = rw (here, e) (simp append-nil)
 

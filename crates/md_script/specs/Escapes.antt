@@ -12,8 +12,8 @@ escape b =
     else (if b == 10 then 92 ∷ 110 ∷ []
     else (if b == 13 then 92 ∷ 114 ∷ [] else b ∷ []))
 
-abbrev pub escaped : List ℕ → List ℕ
-escaped bytes = flat_map escape bytes
+abbrev pub escape_all : List ℕ → List ℕ
+escape_all bytes = flat_map escape bytes
 
 -- the byte that a backslash and a letter stand for: `\n` a line feed, `\r` a carriage return, `\\` a backslash
 unfoldable pub meant_by : ℕ → Result ℕ PlayKind
@@ -25,12 +25,12 @@ meant_by letter =
 abbrev pub onto : ℕ → Result (List ℕ) PlayKind → Result (List ℕ) PlayKind
 onto b read = read >>= (λ bytes. Ok (b ∷ bytes))
 
--- the bytes that a text stands for: a backslash and the letter behind it are one byte, and any other byte is itself
+-- the bytes that a text stands for: a backslash and the letter after it are one byte, and any other byte is itself
 unfoldable pub unescaped : List ℕ → Result (List ℕ) PlayKind
 unescaped [] = Ok []
 unescaped (b ∷ []) = if b == 92 then Err BadEscape else Ok (b ∷ [])
 unescaped (b ∷ c ∷ text) = if b == 92 then (meant_by c >>= (λ x. onto x (unescaped text))) else onto b (unescaped (c ∷ text))
 
 -- bytes before those that a text stands for
-abbrev pub behind : List ℕ → Result (List ℕ) PlayKind → Result (List ℕ) PlayKind
-behind front read = read >>= (λ bytes. Ok (front ++ bytes))
+abbrev pub byte_by_letter : List ℕ → Result (List ℕ) PlayKind → Result (List ℕ) PlayKind
+byte_by_letter front read = read >>= (λ bytes. Ok (front ++ bytes))

@@ -12,25 +12,25 @@ use Rattle.md_script.specs.declared.verb.Mode.{Mode}
 use Rattle.md_script.specs.declared.verb.Mode.TheVariants.{Playing, SettingUp}
 use Rattle.md_script.specs.Folders.{most_folders}
 use Rattle.md_name.specs.declared.unique.UniqueParts.{UniqueParts}
-use Rattle.md_script.specs.Sessions.{Session, Store, First, store_of, come_to, named}
+use Rattle.md_script.specs.Sessions.{Session, ScriptStore, First, store_of, with_store, made_name}
 use Rattle.md_script.specs.Commands.{Command, make_folder, make_file, submit, step, finish, list, first, second, read, make_name, summarize}
 
-abbrev pub seen : Held → Command
-seen (held.Folder name) = make_folder name.now
-seen (held.File file) = make_file file
-seen (held.Submit call) = submit call
-seen (held.Step event) = step event
-seen (held.Finish event) = finish event
-seen (held.List folder) = list folder
-seen (held.First folder) = first folder
-seen (held.Second folder) = second folder
-seen (held.Read unique) = read unique.now
-seen (held.Unique parts) = make_name parts.sec parts.micro parts.pid parts.count parts.host.now
-seen (held.Summary message) = summarize message.items
+abbrev pub command_of : Held → Command
+command_of (held.Folder name) = make_folder name.now
+command_of (held.File file) = make_file file
+command_of (held.Submit call) = submit call
+command_of (held.Step event) = step event
+command_of (held.Finish event) = finish event
+command_of (held.List folder) = list folder
+command_of (held.First folder) = first folder
+command_of (held.Second folder) = second folder
+command_of (held.Read unique) = read unique.now
+command_of (held.Unique parts) = make_name parts.sec parts.micro parts.pid parts.count parts.host.now
+command_of (held.Summary message) = summarize message.items
 
 -- what `unique` with these parts prints
 abbrev pub named_of : UniqueParts → Result (List ℕ) PlayKind
-named_of parts = named parts.sec parts.micro parts.pid parts.count parts.host.now
+named_of parts = made_name parts.sec parts.micro parts.pid parts.count parts.host.now
 
 -- files can be added to the store
 abbrev pub TakesFiles : Mode → Type 0
@@ -44,9 +44,9 @@ IsFit folders mode (held.File file) = TakesFiles mode
 IsFit folders mode command = Unit {0}
 
 -- The files of a session, as it holds them: an open store has none beside it.
-abbrev pub unopened : Option Store → List ImageFile → List ImageFile
-unopened None files = files
-unopened (Some t) files = []
+abbrev pub files_beside : Option ScriptStore → List ImageFile → List ImageFile
+files_beside None files = files
+files_beside (Some t) files = []
 
 -- a listing that has begun, as a kept reading
 abbrev pub first_by : Listing → First
@@ -58,10 +58,10 @@ MayWait r r' = (l : Listing) → HasBegun r l → HasBegun r' l
 
 -- The store of a session was opened, or it is refused, unless memory ran out.
 abbrev pub Opens : Session → Session → Result (Unit {0}) PlayKind → Type 0
-Opens old new (Ok done) = (t : Store) × (store_of old ≡ Ok t) × (new ≡ come_to old t)
+Opens old new (Ok done) = (t : ScriptStore) × (store_of old ≡ Ok t) × (new ≡ with_store old t)
 Opens old new (Err kind) = kind ≢ NoMemory → store_of old ≡ Err kind
 
 -- A reader that takes no memory returned this command, or this refusal.
 abbrev pub Spells : Result Held PlayKind → Result Command PlayKind → Type 0
-Spells (Ok command) answer = answer ≡ Ok (seen command)
+Spells (Ok command) answer = answer ≡ Ok (command_of command)
 Spells (Err kind) answer = answer ≡ Err kind

@@ -107,7 +107,7 @@ job_verb_of word =
     else (if bytes_eq word (codes "copy") then Some Copy
     else (if bytes_eq word (codes "clean") then Some Clean else None))))))
 
--- the words behind `job` and the word after it
+-- the words after `job` and the word after it
 abbrev pub call_line : List (List ℕ) → JobVerb → Rest → Result Call PlayKind
 call_line folders Deliver rest = deliver_line folders rest
 call_line folders Seen rest = seen_line folders rest

@@ -16,5 +16,5 @@ name_kind name.NoMemory = NoMemory
 name_kind refusal = Name refusal
 
 -- a refusal that no line is to blame for
-abbrev pub unnumbered : PlayKind → PlayError
-unnumbered kind = record { line = 0; kind = kind }
+abbrev pub at_no_line : PlayKind → PlayError
+at_no_line kind = record { line = 0; kind = kind }

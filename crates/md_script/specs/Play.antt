@@ -5,20 +5,20 @@ use Rattle.md_script.specs.declared.error.PlayKind.TheVariants.{WriteFault, NoMe
 use Rattle.md_script.specs.declared.error.PlayError.{PlayError}
 use Rattle.md_script.specs.Sources.{Source}
 use Rattle.md_script.specs.Sinks.{Sink, Took, Untouched}
-use Rattle.md_script.specs.Reading.{IsWhole, Unread}
+use Rattle.md_script.specs.Reading.{IsReadWhole, Unread}
 use Rattle.md_script.specs.Sessions.{transcript}
 
 -- A whole script was read, what it prints was written, and this is its refusal.
 pub record Ran (old new : Source) (before after : Sink) (refusal : Option PlayError) : Type 0 where
   pub script : List ℕ
-  pub whole : IsWhole old new script
+  pub whole : IsReadWhole old new script
   pub written : Took before after (transcript script).text
   pub refused : (transcript script).refusal ≡ refusal
 
 -- A whole script was read, and then a write failed.
 pub record Unwritten (old new : Source) (after : Sink) : Type 0 where
   pub script : List ℕ
-  pub whole : IsWhole old new script
+  pub whole : IsReadWhole old new script
   pub failed : after.has_failed ≡ true
 
 -- No line is to blame: a write failed; or the script was not read whole, or memory was refused, and nothing was written.

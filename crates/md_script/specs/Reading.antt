@@ -19,7 +19,7 @@ abbrev pub Sound : Source → Source → Type 0
 Sound old new = new.has_failed ≡ old.has_failed
 
 -- the source gave a script to its end, within the limit
-pub record IsWhole (old new : Source) (script : List ℕ) : Type 0 where
+pub record IsReadWhole (old new : Source) (script : List ℕ) : Type 0 where
   pub given : Consumes old.remaining new.remaining script
   pub ended : IsAtEnd new.remaining
   pub within : length script ≤ most_bytes
@@ -33,7 +33,7 @@ pub record GivesTooMuch (old new : Source) : Type 0 where
   pub sound : Sound old new
 
 -- So many reads were made without coming to an end, interrupted ones counted.
-pub record GoesOn (old new : Source) : Type 0 where
+pub record ReadsOn (old new : Source) : Type 0 where
   pub bytes : List ℕ
   pub given : Consumes old.remaining new.remaining bytes
   pub within : length bytes ≤ most_bytes
@@ -44,10 +44,10 @@ pub record GoesOn (old new : Source) : Type 0 where
 abbrev pub Unread : Source → Source → PlayKind → Type 0
 Unread old new ReadFault = new.has_failed ≡ true
 Unread old new TooLong = GivesTooMuch old new
-Unread old new TooManyReads = GoesOn old new
+Unread old new TooManyReads = ReadsOn old new
 Unread old new NoMemory = Sound old new
 Unread old new other = ⊥
 
 abbrev pub ReadsWhole : Source → Source → Result (Vec ℕ) PlayKind → Type 0
-ReadsWhole old new (Ok script) = IsWhole old new script.items
+ReadsWhole old new (Ok script) = IsReadWhole old new script.items
 ReadsWhole old new (Err kind) = Unread old new kind

@@ -16,7 +16,7 @@ use Rattle.md_core.specs.declared.jobs.call.Call.{Call}
 use Rattle.md_core.specs.declared.jobs.step.Event.{Event}
 use Rattle.md_core.specs.Loading.{load_refusal}
 use Rattle.md_core.specs.Mailbox.{Entry, mailbox_of}
-use Rattle.md_core.specs.Machine.{Marked, job_at, done, step_out}
+use Rattle.md_core.specs.Machine.{Occurrence, job_at, step_of, step_out}
 use Rattle.md_core.specs.Runs.{Run, new_run, machine_of, dirs_of, jobs_of, and_event, and_call, step_refusal, steps_left}
 use Rattle.md_core.specs.Submitting.{submit_refusal}
 use Rattle.md_view.specs.Law.{names_at, listing_of}
@@ -35,7 +35,7 @@ pub record First : Type 0 where
   pub moment : ℕ
 
 -- An open store: its run, and the first readings that are kept, of each folder one at most.
-pub record Store : Type 0 where
+pub record ScriptStore : Type 0 where
   pub run : Run
   pub firsts : List First
 
@@ -44,12 +44,12 @@ pub record Store : Type 0 where
 pub record Session : Type 0 where
   pub folders : List (List ℕ)
   pub files : List ImageFile
-  pub store : Option Store
+  pub store : Option ScriptStore
 
 -- refused by the store, or done
 abbrev pub unless_refused : {X : Type 0} → Option CoreError → X → Result X PlayKind
-unless_refused None done = Ok done
-unless_refused (Some e) done = Err (Core e)
+unless_refused None step_of = Ok step_of
+unless_refused (Some e) step_of = Err (Core e)
 
 -- The directories that files are. The folder of each is there, so that the only refusal is that two have one path.
 unfoldable pub image_of : ℕ → List ImageFile → Result State PlayKind
@@ -58,40 +58,40 @@ image_of folders files = do
   Ok (image_state folders files)
 
 -- a store over folders and files
-unfoldable pub opened : ℕ → List ImageFile → Result Run PlayKind
-opened folders files = do
+unfoldable pub run_over : ℕ → List ImageFile → Result Run PlayKind
+run_over folders files = do
   image ← image_of folders files
   unless_refused (load_refusal image) (new_run image 0 0)
 
 -- a store that was just opened
-abbrev pub new_store : Run → Store
+abbrev pub new_store : Run → ScriptStore
 new_store r = record { run = r; firsts = [] }
 
 -- a store, which is opened where it is first needed
-abbrev pub store_over : ℕ → List ImageFile → Option Store → Result Store PlayKind
-store_over folders files None = opened folders files >>= (λ r. Ok (new_store r))
+abbrev pub store_over : ℕ → List ImageFile → Option ScriptStore → Result ScriptStore PlayKind
+store_over folders files None = run_over folders files >>= (λ r. Ok (new_store r))
 store_over folders files (Some t) = Ok t
 
 -- the store of a session, which is opened where it was not
-abbrev pub store_of : Session → Result Store PlayKind
+abbrev pub store_of : Session → Result ScriptStore PlayKind
 store_of s = store_over (length s.folders) s.files s.store
 
 -- a session whose store has come to this
-abbrev pub come_to : Session → Store → Session
-come_to s t = record { folders = s.folders; files = []; store = Some t }
+abbrev pub with_store : Session → ScriptStore → Session
+with_store s t = record { folders = s.folders; files = []; store = Some t }
 
 -- an event without a fault: the directories of a script never fault
-abbrev pub unfaulted : Event → Marked
-unfaulted event = record { event = event; faulted = false }
+abbrev pub without_fault : Event → Occurrence
+without_fault event = record { event = event; faulted = false }
 
 abbrev pub step_text : Run → Event → List ℕ
-step_text r event = shown_text event.job (option_map step_out (done (machine_of r) (unfaulted event)))
+step_text r event = shown_text event.job (option_map step_out (step_of (machine_of r) (without_fault event)))
 
 -- a text, and then what follows it
-abbrev pub before : List ℕ → Run × List ℕ → Run × List ℕ
-before text rest = (rest.0, text ++ rest.1)
+abbrev pub with_text : List ℕ → Run × List ℕ → Run × List ℕ
+with_text text rest = (rest.0, text ++ rest.1)
 
--- where one more event is refused, want of memory aside
+-- where one more event is refused, out of memory aside
 abbrev pub event_refusal : Run → Event → Option CoreError
 event_refusal r event = step_refusal (job_at (jobs_of r) event.job)
 
@@ -100,31 +100,31 @@ unfoldable pub steps_of : ℕ → Run → Event → Run × List ℕ
 steps_of zero r event = (r, [])
 steps_of (suc more) r event =
     if is_some (event_refusal r event) then (r, [])
-    else before (step_text r event) (steps_of more (and_event r (unfaulted event)) event)
+    else with_text (step_text r event) (steps_of more (and_event r (without_fault event)) event)
 
 -- a call, submitted to the store
-unfoldable pub submitted : Run → Call → Result (Run × List ℕ) PlayKind
-submitted r c = unless_refused (submit_refusal r c) (and_call r c, job_text (length r.calls + 1))
+unfoldable pub submit_in : Run → Call → Result (Run × List ℕ) PlayKind
+submit_in r c = unless_refused (submit_refusal r c) (and_call r c, job_text (length r.calls + 1))
 
 -- one step of a job
-unfoldable pub stepped : Run → Event → Result (Run × List ℕ) PlayKind
-stepped r event = unless_refused (event_refusal r event) (and_event r (unfaulted event), step_text r event)
+unfoldable pub step_in : Run → Event → Result (Run × List ℕ) PlayKind
+step_in r event = unless_refused (event_refusal r event) (and_event r (without_fault event), step_text r event)
 
 -- a step of a job, and then more until it is answered
-unfoldable pub finished : Run → Event → Result (Run × List ℕ) PlayKind
-finished r event = unless_refused (event_refusal r event) (steps_of (steps_left r event.job) r event)
+unfoldable pub finish_in : Run → Event → Result (Run × List ℕ) PlayKind
+finish_in r event = unless_refused (event_refusal r event) (steps_of (steps_left r event.job) r event)
 
 -- the messages of a folder: its new and its cur, both read now
-unfoldable pub listed : Run → ℕ → Result (Run × List ℕ) PlayKind
-listed r folder = Ok (r, entries_text (listing_of (names_at r) folder (length r.events) (length r.events)))
+unfoldable pub list_in : Run → ℕ → Result (Run × List ℕ) PlayKind
+list_in r folder = Ok (r, entries_text (listing_of (names_at r) folder (length r.events) (length r.events)))
 
 -- the bytes of the message of a unique name
-unfoldable pub shown : Run → List ℕ → Result (Run × List ℕ) PlayKind
-shown r unique = Ok (r, bytes_text (option_map (λ (e : Entry). e.bytes) (finmap.get (mailbox_of (dirs_of r)) unique)))
+unfoldable pub read_in : Run → List ℕ → Result (Run × List ℕ) PlayKind
+read_in r unique = Ok (r, bytes_text (option_map (λ (e : Entry). e.bytes) (finmap.get (mailbox_of (dirs_of r)) unique)))
 
 -- what is done to the run of a store: the readings that it keeps stay
-abbrev pub on_run : Store → Result (Run × List ℕ) PlayKind → Result (Store × List ℕ) PlayKind
-on_run t answer = answer >>= (λ done. Ok (record t { run = done.0 }, done.1))
+abbrev pub on_run : ScriptStore → Result (Run × List ℕ) PlayKind → Result (ScriptStore × List ℕ) PlayKind
+on_run t answer = answer >>= (λ step_of. Ok (record t { run = step_of.0 }, step_of.1))
 
 -- the kept reading of a folder
 abbrev pub first_of : ℕ → List First → Option First
@@ -135,46 +135,46 @@ abbrev pub others : ℕ → List First → List First
 others folder firsts = filter (λ f. not (f.folder == folder)) firsts
 
 -- reads new of a folder, and keeps the reading in place of an older one
-unfoldable pub read_first : Store → ℕ → Result (Store × List ℕ) PlayKind
+unfoldable pub read_first : ScriptStore → ℕ → Result (ScriptStore × List ℕ) PlayKind
 read_first t folder =
     let now : First = record { folder = folder; moment = length t.run.events } in
     Ok (record t { firsts = others folder t.firsts ++ now ∷ [] }, [])
 
 -- Reads cur of a folder: the messages of the new that was read first, and of the cur that is read now. The kept reading is used up.
-unfoldable pub read_second : Store → ℕ → Result (Store × List ℕ) PlayKind
+unfoldable pub read_second : ScriptStore → ℕ → Result (ScriptStore × List ℕ) PlayKind
 read_second t folder = do
   kept ← ok_or (first_of folder t.firsts) NoFirst
   Ok (record t { firsts = others folder t.firsts }, entries_text (listing_of (names_at t.run) folder kept.moment (length t.run.events)))
 
 -- What is done to the store of a session. It is opened where it was not, and nothing is done where it can't be.
-abbrev pub in_store : Session → (Store → Result (Store × List ℕ) PlayKind) → Result (Session × List ℕ) PlayKind
-in_store s act = store_of s >>= (λ t. act t >>= (λ done. Ok (come_to s done.0, done.1)))
+abbrev pub in_store : Session → (ScriptStore → Result (ScriptStore × List ℕ) PlayKind) → Result (Session × List ℕ) PlayKind
+in_store s act = store_of s >>= (λ t. act t >>= (λ step_of. Ok (with_store s step_of.0, step_of.1)))
 
 -- a name that is made, unless it is refused
 abbrev pub unless_bad : Option NameError → List ℕ → Result (List ℕ) PlayKind
 unless_bad None text = Ok text
 unless_bad (Some e) text = Err (Name e)
 
-unfoldable pub named : ℕ → ℕ → ℕ → ℕ → List ℕ → Result (List ℕ) PlayKind
-named sec micro pid count host = unless_bad (make_refusal micro host) (unique_text sec micro pid count host)
+unfoldable pub made_name : ℕ → ℕ → ℕ → ℕ → List ℕ → Result (List ℕ) PlayKind
+made_name sec micro pid count host = unless_bad (make_refusal micro host) (unique_text sec micro pid count host)
 
 -- what prints a text and needs no store
-abbrev pub says : Session → Result (List ℕ) PlayKind → Result (Session × List ℕ) PlayKind
-says s answer = answer >>= (λ text. Ok (s, text))
+abbrev pub printing : Session → Result (List ℕ) PlayKind → Result (Session × List ℕ) PlayKind
+printing s answer = answer >>= (λ text. Ok (s, text))
 
 -- What a command makes of a session, and what it prints; or why it is refused. A later command adds its clause.
 abbrev pub obey : Session → Command → Result (Session × List ℕ) PlayKind
 obey s (make_folder name) = Ok (record s { folders = s.folders ++ name ∷ [] }, [])
 obey s (make_file file) = Ok (record s { files = s.files ++ file ∷ [] }, [])
-obey s (submit call) = in_store s (λ t. on_run t (submitted t.run call))
-obey s (step event) = in_store s (λ t. on_run t (stepped t.run event))
-obey s (finish event) = in_store s (λ t. on_run t (finished t.run event))
-obey s (list folder) = in_store s (λ t. on_run t (listed t.run folder))
+obey s (submit call) = in_store s (λ t. on_run t (submit_in t.run call))
+obey s (step event) = in_store s (λ t. on_run t (step_in t.run event))
+obey s (finish event) = in_store s (λ t. on_run t (finish_in t.run event))
+obey s (list folder) = in_store s (λ t. on_run t (list_in t.run folder))
 obey s (first folder) = in_store s (λ t. read_first t folder)
 obey s (second folder) = in_store s (λ t. read_second t folder)
-obey s (read unique) = in_store s (λ t. on_run t (shown t.run unique))
-obey s (make_name sec micro pid count host) = says s (named sec micro pid count host)
-obey s (summarize message) = says s (Ok (summary_text (summary_of message)))
+obey s (read unique) = in_store s (λ t. on_run t (read_in t.run unique))
+obey s (make_name sec micro pid count host) = printing s (made_name sec micro pid count host)
+obey s (summarize message) = printing s (Ok (summary_text (summary_of message)))
 
 -- a line of a session: the command that it spells, and what that does
 unfoldable pub session_line : Session → List ℕ → Result (Session × List ℕ) PlayKind

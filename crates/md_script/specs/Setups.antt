@@ -19,14 +19,14 @@ pub record Setting : Type 0 where
   pub calls : List Call
 
 -- a command that is done prints nothing
-abbrev pub quiet : Setting → Result (Setting × List ℕ) PlayKind
-quiet s = Ok (s, [])
+abbrev pub printing_nothing : Setting → Result (Setting × List ℕ) PlayKind
+printing_nothing s = Ok (s, [])
 
 -- No other command is read.
 abbrev pub set_up : Setting → Command → Result (Setting × List ℕ) PlayKind
-set_up s (make_folder name) = quiet (record s { folders = s.folders ++ name ∷ [] })
-set_up s (make_file file) = quiet (record s { files = s.files ++ file ∷ [] })
-set_up s (submit call) = quiet (record s { calls = s.calls ++ call ∷ [] })
+set_up s (make_folder name) = printing_nothing (record s { folders = s.folders ++ name ∷ [] })
+set_up s (make_file file) = printing_nothing (record s { files = s.files ++ file ∷ [] })
+set_up s (submit call) = printing_nothing (record s { calls = s.calls ++ call ∷ [] })
 set_up s other = Err NotInThisRun
 
 unfoldable pub setting_line : Setting → List ℕ → Result (Setting × List ℕ) PlayKind

@@ -16,7 +16,7 @@ use Rattle.md_core.specs.declared.jobs.step.DirReply.{DirReply}
 use Rattle.md_core.specs.declared.jobs.step.DirReply.TheVariants as reply
 use Rattle.md_core.specs.declared.jobs.step.StepOut.{StepOut}
 use Rattle.md_view.specs.declared.entry.Entry.{Entry}
-use Rattle.md_script.specs.Escapes.{escaped}
+use Rattle.md_script.specs.Escapes.{escape_all}
 
 abbrev pub line_end : List ℕ
 line_end = 10 ∷ []
@@ -102,7 +102,7 @@ entries_text entries = flat_map entry_line entries
 -- `bytes=` and the bytes of a message, or `none`
 abbrev pub bytes_text : Option (List ℕ) → List ℕ
 bytes_text None = codes "none" ++ line_end
-bytes_text (Some bytes) = codes "bytes=" ++ escaped bytes ++ line_end
+bytes_text (Some bytes) = codes "bytes=" ++ escape_all bytes ++ line_end
 
 -- `unique` and a made unique name
 abbrev pub unique_text : ℕ → ℕ → ℕ → ℕ → List ℕ → List ℕ
@@ -111,7 +111,7 @@ unique_text sec micro pid count host = codes "unique " ++ made_unique sec micro 
 -- the name of a field, `=`, and its value, where there is one
 abbrev pub value_line : List ℕ → Option (List ℕ) → List ℕ
 value_line name None = []
-value_line name (Some value) = name ++ codes "=" ++ escaped value ++ line_end
+value_line name (Some value) = name ++ codes "=" ++ escape_all value ++ line_end
 
 abbrev pub seconds_line : Option ℤ → List ℕ
 seconds_line None = []

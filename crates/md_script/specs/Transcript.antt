@@ -12,12 +12,12 @@ pub record Transcript (S : Type 0) : Type 0 where
   pub session : S
 
 -- a text before a transcript
-abbrev pub printed : {S : Type 0} → List ℕ → Transcript S → Transcript S
-printed text t = record { text = text ++ t.text; refusal = t.refusal; session = t.session }
+abbrev pub with_text_before : {S : Type 0} → List ℕ → Transcript S → Transcript S
+with_text_before text t = record { text = text ++ t.text; refusal = t.refusal; session = t.session }
 
 -- what one line comes to: its text and then what its session goes on with, or its refusal
 abbrev pub go_on : {S : Type 0} → ℕ → S → (S → Transcript S) → Result (S × List ℕ) PlayKind → Transcript S
-go_on line s others (Ok (t, text)) = printed text (others t)
+go_on line s others (Ok (t, text)) = with_text_before text (others t)
 go_on line s others (Err kind) = record { text = []; refusal = Some (record { line = line; kind = kind }); session = s }
 
 -- the transcript of lines, of which the first has this number

@@ -1,4 +1,4 @@
--- The first word of a command, what a line is read for, and whether the command can stand there.
+-- The first word of a command, what a line is read for, and whether the command may come there.
 use Rattle.std.specs.Prelude.{ℕ, not, List, Option, Some, None, Result, Ok, Err, if◌then◌else◌, codes}
 use Rattle.std.specs.Str.{bytes_eq}
 use Rattle.md_script.specs.declared.error.PlayKind.{PlayKind}
@@ -23,7 +23,7 @@ verb_of word =
     else (if bytes_eq word (codes "unique") then Some verb.Unique
     else (if bytes_eq word (codes "summary") then Some verb.Summary else None))))))))))
 
--- A command that can't stand here is refused before its other words are read: folders and files are added before the store is loaded
+-- A command that may not come here is refused before its other words are read: folders and files are added before the store is loaded
 -- alone, and what only sets a store up has folders, files and, where they are allowed, jobs.
 unfoldable pub admitted : Mode → Verb → Result (Unit {0}) PlayKind
 admitted (Playing is_loaded) verb.Folder = require (not is_loaded) TooLate

@@ -16,14 +16,14 @@ abbrev pub require : Bool → PlayKind → Result (Unit {0}) PlayKind
 require true kind = Ok tt
 require false kind = Err kind
 
--- what is left of a line: None at its end, and else what stands after a space
+-- what is left of a line: None at its end, and else what follows a space
 abbrev pub Rest : Type 0
 Rest = Option (List ℕ)
 
 abbrev pub is_space : ℕ → Bool
 is_space b = b == 32
 
--- what stands before the first space, and what is left after it
+-- what is before the first space, and what is left after it
 unfoldable pub cut_at_space : List ℕ → List ℕ × Rest
 cut_at_space text =
     (before_first is_space text, if list_any is_space text then Some (after_first is_space text) else None)

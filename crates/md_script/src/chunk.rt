@@ -1,4 +1,4 @@
-//! One read of a script, right behind the bytes that are there.
+//! One read of a script, right after the bytes that are there.
 ghost use Rattle.std.specs.Prelude.{◌≡◌, ◌+◌, ◌≤◌, length, vec_len, take, drop, OnOk};
 ghost use Rattle.md_script.specs.Sources.{Reads};
 
@@ -9,7 +9,7 @@ use std::alloc::AllocError;
 /// The room that is made at the start, in bytes; later the room grows by a quarter.
 const FIRST_ROOM: usize = 65_536;
 
-/// Makes room for a read behind the first `filled` bytes.
+/// Makes room for a read after the first `filled` bytes.
 pub(crate) fn make_room(script: &mut Vec<u8>, filled: usize) -> Result<(), AllocError>
     requires within { filled ≤ MOST_BYTES }
     requires there { filled ≤ vec_len script.old }
@@ -22,7 +22,7 @@ pub(crate) fn make_room(script: &mut Vec<u8>, filled: usize) -> Result<(), Alloc
     Ok(())
 }
 
-/// Reads into the room behind the first `filled` bytes.
+/// Reads into the room after the first `filled` bytes.
 pub(crate) fn read_behind<S: Source>(source: &mut S, script: &mut Vec<u8>, filled: usize) -> Got
     requires { filled + LEAST_ROOM ≤ vec_len script.old }
     ensures len { vec_len script.new ≡ vec_len script.old }

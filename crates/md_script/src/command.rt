@@ -1,7 +1,7 @@
 //! The commands of a script, as its lines spell them.
 ghost use Rattle.std.specs.Prelude.{◌≡◌, IfOk};
 ghost use Rattle.md_script.specs.Words.{Gives};
-ghost use Rattle.md_script.specs.Held.{seen, IsFit};
+ghost use Rattle.md_script.specs.Held.{command_of, IsFit};
 ghost use Rattle.md_script.specs.Commands.{command_at};
 
 mod image;
@@ -50,8 +50,8 @@ pub(crate) enum Command<'a> {
 
 /// The command that a line spells, from the folders that were named before it and what it is read for.
 ///
-/// The words are read from left to right, and the first that fails names the refusal: a command that can't stand here is refused right
-/// behind its first word, a folder is looked up as its word is read, a missing word is met at its place, and words too many come last.
+/// The words are read from left to right, and the first that fails names the refusal: a command that may not come here is refused right
+/// after its first word, a folder is looked up as its word is read, a missing word is met at its place, and words too many come last.
 #[tactic(auto, unfolding(crate::specs::Commands::command_at))]
 pub(crate) fn read_command<'a>(
     alloc: Global,
@@ -59,7 +59,7 @@ pub(crate) fn read_command<'a>(
     mode: Mode,
     line: &'a [u8],
 ) -> Result<Command<'a>, PlayKind>
-    ensures command { Gives seen result (command_at folders.now mode line.now) }
+    ensures command { Gives command_of result (command_at folders.now mode line.now) }
     ensures fit { IfOk result (IsFit folders.now mode) }
 {
     let (first, rest) = word(Some(line))?;

@@ -1,7 +1,7 @@
 //! Why a script, or one of its lines, is refused.
 ghost use Rattle.std.specs.Prelude.{◌≡◌, ◌≤◌, length};
 ghost use Rattle.md_script.specs.declared.error.PlayKind.TheVariants.{NoMemory};
-ghost use Rattle.md_script.specs.Kinds.{core_kind, name_kind, unnumbered};
+ghost use Rattle.md_script.specs.Kinds.{core_kind, name_kind, at_no_line};
 ghost use Rattle.md_script.specs.Refusals.{core_text, name_text, kind_text};
 
 use md_core::{CoreError, SubmitRefused};
@@ -12,7 +12,7 @@ use std::alloc::{AllocError, AllocFailed};
 use std::fmt::{self, Display, Formatter};
 use thiserror::Error;
 
-/// Why a script, or one of its lines, is refused. A line is refused for what it says alone: at a line, want of memory is no refusal of
+/// Why a script, or one of its lines, is refused. A line is refused for what it says alone: at a line, out of memory is no refusal of
 /// it, and the faults of a reader and a writer and the limits on a script don't occur.
 #[derive(Clone, Copy, Debug, PartialEq, Eq)]
 pub enum PlayKind {
@@ -34,9 +34,9 @@ pub enum PlayKind {
     NoFirst,
     /// Two files of the image have one path.
     SamePath,
-    /// The store refuses the line; want of memory is never among these.
+    /// The store refuses the line; out of memory is never among these.
     Core(CoreError),
-    /// Flags are none, or no unique name is made of the words; want of memory is never among these.
+    /// Flags are none, or no unique name is made of the words; out of memory is never among these.
     Name(NameError),
     /// The reader failed.
     ReadFault,
@@ -80,7 +80,7 @@ impl PlayKind {
     }
 }
 
-/// What the store's error says: a derived `Display` has no contract, so its texts stand here too, and a test compares them.
+/// What the store's error says: a derived `Display` has no contract, so its texts are here too, and a test compares them.
 fn core_text(error: CoreError) -> &'static str
     ensures text { result.now ≡ core_text error }
     ensures short { length result.now ≤ 16 }
@@ -196,7 +196,7 @@ impl From<SubmitRefused> for PlayKind {
 }
 
 impl From<PlayKind> for PlayError {
-    ghost from_gives = { λ kind error. error ≡ unnumbered kind };
+    ghost from_gives = { λ kind error. error ≡ at_no_line kind };
 
     fn from(kind: PlayKind) -> PlayError {
         PlayError { line: 0, kind }
@@ -204,7 +204,7 @@ impl From<PlayKind> for PlayError {
 }
 
 impl From<AllocError> for PlayError {
-    ghost from_gives = { λ _ error. error ≡ unnumbered NoMemory };
+    ghost from_gives = { λ _ error. error ≡ at_no_line NoMemory };
 
     fn from(_refused: AllocError) -> PlayError {
         PlayError::from(PlayKind::NoMemory)

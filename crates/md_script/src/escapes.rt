@@ -1,7 +1,7 @@
-//! The escapes of bytes that stand in one line.
+//! The escapes of bytes that are in one line.
 ghost use Rattle.std.specs.Prelude.{◌≡◌, ◌<◌, ◌++◌, true, length, Ok, Err, OnOk, IfOk, IfSome, MatchResult, MatchOption};
 ghost use Rattle.md_script.specs.Words.{Gives};
-ghost use Rattle.md_script.specs.Escapes.{escape, escaped, meant_by, onto, behind, unescaped};
+ghost use Rattle.md_script.specs.Escapes.{escape, escape_all, meant_by, onto, byte_by_letter, unescaped};
 ghost use Rattle.memchr.specs.Find.{is_byte3};
 
 use crate::error::PlayKind;
@@ -11,7 +11,7 @@ use std::alloc::{AllocError, Global};
 /// Appends bytes in one line: a backslash, a line feed and a carriage return as `\\`, `\n` and `\r`, and any other
 /// byte as it is. Where memory runs out, some of it may have been appended.
 pub(crate) fn push_escaped(out: &mut Vec<u8>, bytes: &[u8]) -> Result<(), AllocError>
-    ensures { OnOk result (out.new.items ≡ out.old.items ++ escaped bytes.now) }
+    ensures { OnOk result (out.new.items ≡ out.old.items ++ escape_all bytes.now) }
 {
     let mut left = bytes;
     while let Some(at) = memchr3(b'\\', b'\n', b'\r', left) {
@@ -49,10 +49,10 @@ pub(crate) fn unescape(alloc: Global, text: &[u8]) -> Result<Vec<u8>, PlayKind>
     Ok(bytes)
 }
 
-/// The bytes before the first escape of a text, the byte that it stands for, and what is left behind it; `None` where there is none.
+/// The bytes before the first escape of a text, the byte that it stands for, and what is left after it; `None` where there is none.
 fn cut_escape(text: &[u8]) -> Result<Option<(&[u8], u8, &[u8])>, PlayKind>
     ensures value { MatchResult result
-        (λ cut. MatchOption cut (unescaped text.now ≡ Ok text.now) (λ c. unescaped text.now ≡ behind c.0.now (onto c.1 (unescaped c.2.now))))
+        (λ cut. MatchOption cut (unescaped text.now ≡ Ok text.now) (λ c. unescaped text.now ≡ byte_by_letter c.0.now (onto c.1 (unescaped c.2.now))))
         (λ kind. unescaped text.now ≡ Err kind) }
     ensures shorter { IfOk result (λ cut. IfSome cut (λ c. length c.2.now < length text.now)) }
 {

@@ -78,7 +78,7 @@ impl Folders {
         names
     }
 
-    /// Adds a folder behind the others.
+    /// Adds a folder after the others.
     pub(crate) fn add(&mut self, name: &[u8]) -> Result<(), AllocError>
         requires { length self.old < MOST_FOLDERS }
         ensures ok { OnOk result (self.new ≡ self.old ++ name.now ∷ []) }

@@ -7,11 +7,11 @@ ghost use Rattle.md_core.specs.Stepping.{IsRun};
 ghost use Rattle.md_core.specs.Tracing.{HasOneClock};
 ghost use Rattle.md_script.specs.Sessions.{event_refusal};
 ghost use Rattle.md_script.specs.OneClock.{KeepsOneClock};
-ghost use Rattle.md_script.specs.Escapes.{escaped, unescaped};
+ghost use Rattle.md_script.specs.Escapes.{escape_all, unescaped};
 
 /// Bytes that are written with escapes read back as they were.
 pub fn escapes_read_back(bytes: &[u8])
-    ensures { unescaped (escaped bytes.now) ≡ Ok bytes.now }
+    ensures { unescaped (escape_all bytes.now) ≡ Ok bytes.now }
 {}
 
 /// The cleaner's theorem, for scripts whose `step` and `finish` lines give no moment of the job's own: no step of theirs prints `tmpgone`,

@@ -39,14 +39,14 @@ pub fn play<S: Source, T: Sink>(
 }
 
 /// The transcript of a script: what its lines print over a new store up to the first that is refused, and that line's refusal. The only
-/// error is want of memory.
+/// error is out of memory.
 pub fn transcript(alloc: Global, script: &[u8]) -> Result<Printed, AllocError>
     ensures { IfOk result (Shows (transcript script.now)) }
 {
     transcript_over::<IndexDirs>(alloc, script)
 }
 
-/// The transcript of a script whose store stands on such directories. It is the same over all.
+/// The transcript of a script whose store is on such directories. It is the same over all.
 pub fn transcript_over<D: Storage>(alloc: Global, script: &[u8]) -> Result<Printed, AllocError>
     ensures { IfOk result (Shows (transcript script.now)) }
 {

@@ -19,7 +19,7 @@ pub struct Printed {
     pub refusal: Option<PlayError>,
 }
 
-/// Runs the lines of a script up to the first that is refused. The only error is want of memory.
+/// Runs the lines of a script up to the first that is refused. The only error is out of memory.
 pub(crate) fn run<S: Session>(
     alloc: Global,
     session: &mut S,

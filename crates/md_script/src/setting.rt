@@ -2,7 +2,7 @@
 ghost use Rattle.std.specs.Prelude.{◌≡◌};
 ghost use Rattle.md_script.specs.declared.verb.Mode.TheVariants.{SettingUp};
 ghost use Rattle.md_script.specs.Step.{Steps};
-ghost use Rattle.md_script.specs.Held.{seen, IsFit};
+ghost use Rattle.md_script.specs.Held.{command_of, IsFit};
 ghost use Rattle.md_script.specs.Setups.{IsSetup, set_up, setting_line, new_setting};
 
 use crate::command::{Command, read_command};
@@ -73,7 +73,7 @@ impl Setting {
     // Does what a command says.
     fn obey(&mut self, command: Command<'_>, out: &mut Vec<u8>) -> Result<(), PlayKind>
         requires { IsFit self.old.folders (SettingUp self.old.with_jobs) command }
-        ensures { Steps (set_up self.old (seen command.entry)) self.new out.old.items out.new.items result }
+        ensures { Steps (set_up self.old (command_of command.entry)) self.new out.old.items out.new.items result }
     {
         match command {
             Command::Folder { name } => Ok(self.folders.add(name)?),

@@ -1,7 +1,7 @@
 //! What a script sets up, for another to run.
 ghost use Rattle.std.specs.Prelude.{◌≡◌, ◌⊎◌, None, Some, MatchResult};
 ghost use Rattle.md_script.specs.declared.error.PlayKind.TheVariants.{NoMemory};
-ghost use Rattle.md_script.specs.Kinds.{unnumbered};
+ghost use Rattle.md_script.specs.Kinds.{at_no_line};
 ghost use Rattle.md_script.specs.Setups.{setting_of, IsSetup};
 
 use crate::error::PlayError;
@@ -26,7 +26,7 @@ pub struct Setup {
 pub fn image(alloc: Global, script: &[u8], jobs_allowed: bool) -> Result<Setup, PlayError>
     ensures { MatchResult result
         (λ setup. ((setting_of jobs_allowed script.now).refusal ≡ None) × IsSetup (setting_of jobs_allowed script.now).session setup)
-        (λ e. (e ≡ unnumbered NoMemory) ⊎ ((setting_of jobs_allowed script.now).refusal ≡ Some e)) }
+        (λ e. (e ≡ at_no_line NoMemory) ⊎ ((setting_of jobs_allowed script.now).refusal ≡ Some e)) }
 {
     let mut setting = Setting::new(alloc, jobs_allowed);
     let printed = run(alloc, &mut setting, script)?;

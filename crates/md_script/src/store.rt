@@ -3,8 +3,8 @@ ghost use Rattle.std.specs.Prelude.{◌≡◌, ◌++◌, ◌∷◌, [], true, fa
 ghost use Rattle.md_head.specs.Summaries.{summary_of};
 ghost use Rattle.md_script.specs.declared.verb.Mode.TheVariants.{Playing};
 ghost use Rattle.md_script.specs.Step.{Steps};
-ghost use Rattle.md_script.specs.Held.{seen, named_of, IsFit, Opens};
-ghost use Rattle.md_script.specs.Sessions.{obey, session_line, new_session, in_store, on_run, submitted, stepped, finished, listed, shown, read_first, read_second, says};
+ghost use Rattle.md_script.specs.Held.{command_of, named_of, IsFit, Opens};
+ghost use Rattle.md_script.specs.Sessions.{obey, session_line, new_session, in_store, on_run, submit_in, step_in, finish_in, list_in, read_in, read_first, read_second, printing};
 ghost use Rattle.md_script.specs.Texts.{summary_text};
 
 mod acts;
@@ -45,14 +45,14 @@ impl<D: Storage> Model for StoreSession<D> {
     ghost use Rattle.std.specs.Coded.{codes};
     ghost use Rattle.md_dirs.specs.State.{state_code};
     ghost use Rattle.md_name.specs.contracts.flags.Flags as flags;
-    ghost use Rattle.md_script.specs.Held.{unopened};
+    ghost use Rattle.md_script.specs.Held.{files_beside};
     ghost use Rattle.md_script.specs.Sessions.{Session};
 
     ghost Value = { Session };
 
     ghost coded = { Prim.hlevel (codes, state_code, flags.the_row.coded) };
 
-    ghost view = { λ s. record { folders = s.folders; files = unopened s.store s.files.items; store = s.store } };
+    ghost view = { λ s. record { folders = s.folders; files = files_beside s.store s.files.items; store = s.store } };
 }
 
 impl<D: Storage> StoreSession<D> {
@@ -71,7 +71,7 @@ impl<D: Storage> StoreSession<D> {
     // Does what a command says.
     fn obey(&mut self, command: Command<'_>, out: &mut Vec<u8>) -> Result<(), PlayKind>
         requires { IsFit self.old.folders (Playing (is_some self.old.store)) command }
-        ensures { Steps (obey self.old (seen command.entry)) self.new out.old.items out.new.items result }
+        ensures { Steps (obey self.old (command_of command.entry)) self.new out.old.items out.new.items result }
     {
         match command {
             Command::Folder { name } => Ok(self.folders.add(name)?),
@@ -111,7 +111,7 @@ impl<D: Storage> StoreSession<D> {
     }
 
     fn submit(&mut self, call: Call, out: &mut Vec<u8>) -> Result<(), PlayKind>
-        ensures { Steps (in_store self.old (λ t. on_run t (submitted t.run call))) self.new out.old.items out.new.items result }
+        ensures { Steps (in_store self.old (λ t. on_run t (submit_in t.run call))) self.new out.old.items out.new.items result }
     {
         self.open()?;
         let Some(store) = &mut self.store else {
@@ -121,7 +121,7 @@ impl<D: Storage> StoreSession<D> {
     }
 
     fn step(&mut self, event: Event, out: &mut Vec<u8>) -> Result<(), PlayKind>
-        ensures { Steps (in_store self.old (λ t. on_run t (stepped t.run event))) self.new out.old.items out.new.items result }
+        ensures { Steps (in_store self.old (λ t. on_run t (step_in t.run event))) self.new out.old.items out.new.items result }
     {
         self.open()?;
         let Some(store) = &mut self.store else {
@@ -131,7 +131,7 @@ impl<D: Storage> StoreSession<D> {
     }
 
     fn finish(&mut self, event: Event, out: &mut Vec<u8>) -> Result<(), PlayKind>
-        ensures { Steps (in_store self.old (λ t. on_run t (finished t.run event))) self.new out.old.items out.new.items result }
+        ensures { Steps (in_store self.old (λ t. on_run t (finish_in t.run event))) self.new out.old.items out.new.items result }
     {
         self.open()?;
         let Some(store) = &mut self.store else {
@@ -141,7 +141,7 @@ impl<D: Storage> StoreSession<D> {
     }
 
     fn list(&mut self, folder: u32, out: &mut Vec<u8>) -> Result<(), PlayKind>
-        ensures { Steps (in_store self.old (λ t. on_run t (listed t.run folder))) self.new out.old.items out.new.items result }
+        ensures { Steps (in_store self.old (λ t. on_run t (list_in t.run folder))) self.new out.old.items out.new.items result }
     {
         self.open()?;
         let Some(store) = &self.store else {
@@ -171,7 +171,7 @@ impl<D: Storage> StoreSession<D> {
     }
 
     fn read(&mut self, unique: &[u8], out: &mut Vec<u8>) -> Result<(), PlayKind>
-        ensures { Steps (in_store self.old (λ t. on_run t (shown t.run unique.now))) self.new out.old.items out.new.items result }
+        ensures { Steps (in_store self.old (λ t. on_run t (read_in t.run unique.now))) self.new out.old.items out.new.items result }
     {
         self.open()?;
         let Some(store) = &self.store else {
@@ -183,7 +183,7 @@ impl<D: Storage> StoreSession<D> {
 
 impl<D: Storage> StoreSession<D> {
     fn unique(&mut self, parts: UniqueParts<'_>, out: &mut Vec<u8>) -> Result<(), PlayKind>
-        ensures { Steps (says self.old (named_of parts.entry)) self.new out.old.items out.new.items result }
+        ensures { Steps (printing self.old (named_of parts.entry)) self.new out.old.items out.new.items result }
     {
         let name = make_unique(self.alloc, parts)?;
         push_unique(out, &name)?;
@@ -191,7 +191,7 @@ impl<D: Storage> StoreSession<D> {
     }
 
     fn summary(&mut self, message: &[u8], out: &mut Vec<u8>) -> Result<(), PlayKind>
-        ensures { Steps (says self.old (Ok (summary_text (summary_of message.now)))) self.new out.old.items out.new.items result }
+        ensures { Steps (printing self.old (Ok (summary_text (summary_of message.now)))) self.new out.old.items out.new.items result }
     {
         let summary = summary(self.alloc, message)?;
         push_summary(out, &summary)?;

@@ -96,7 +96,7 @@ pub(crate) fn job_verb_from(word: &[u8]) -> Option<JobVerb>
     }
 }
 
-/// Refuses a command that can't stand here, before its other words are read.
+/// Refuses a command that may not come here, before its other words are read.
 #[tactic(auto, unfolding(crate::specs::Verb::admitted))]
 pub(crate) fn admit(mode: Mode, verb: Verb) -> Result<(), PlayKind>
     ensures { result ≡ admitted mode verb }

@@ -9,7 +9,7 @@ use crate::number::number;
 use memchr::memchr;
 use std::alloc::Global;
 
-/// What is left of a line: `None` at its end, and else what stands after a space.
+/// What is left of a line: `None` at its end, and else what follows a space.
 pub(crate) type Rest<'a> = Option<&'a [u8]>;
 
 /// The next word, which isn't empty. Exactly one space parts two words.

@@ -5,7 +5,7 @@ use Rattle.md_core.specs.Runs.{Run, beginning, run_from, machine_of, dirs_of, ef
 use Rattle.md_view.specs.Named.{Named}
 use Rattle.md_store.specs.declared.rule.View.{View}
 use Rattle.md_store.specs.Pages.{Page}
-use Rattle.md_store.specs.Histories.{led}
+use Rattle.md_store.specs.Histories.{named_after}
 use Rattle.md_store.specs.Locks.{IsFresh}
 use Rattle.md_store.specs.Publishing.{Shows, knower}
 
@@ -23,5 +23,5 @@ module _ (r : Run) (fresh : IsFresh r) where
 -- a writer that published a page with no history knows its names
 pub first-known : (v : View) (p : Page) (w : View) (opening : Named) → Shows v p w → p.front.log ≡ [] → p.names ≡ opening → w ≡ knower opening p
 first-known v p w opening s none is =
-    let same : s.0 ≡ opening = ap (led s.0) (sym none) ∙ s.3.names ∙ is in
+    let same : s.0 ≡ opening = ap (named_after s.0) (sym none) ∙ s.3.names ∙ is in
     s.1 ∙ ap (λ (o : Named). knower o p) same

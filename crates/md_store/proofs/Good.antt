@@ -9,7 +9,7 @@ use Rattle.md_core.specs.Laws.{IsNotInTmp, KeepsPlaces}
 use Rattle.md_core.specs.Mailbox.{is_tmp}
 use Rattle.md_core.specs.declared.jobs.effect.Effect.{Effect}
 use Rattle.md_view.specs.declared.entry.Entry.{Entry}
-use Rattle.md_view.specs.Law.{names_after}
+use Rattle.md_view.specs.Law.{names_after_first}
 use Rattle.md_view.specs.Named.{Named, AreMessages}
 use Rattle.md_view.specs.Readings.{reading_of, join_of, IsInOrder}
 use Rattle.md_view.proofs.Keyed.{in-order}
@@ -25,7 +25,7 @@ pub reading-in_order : (names : Names) (folder : ℕ) (place : Place) → IsInOr
 reading-in_order names folder place = in-order _ (reading-sorted folder place names)
 
 module _ (opening : Named) (now : List Effect) (keeps : KeepsPlaces opening.names now) (messages : AreMessages opening) where
-  never-tmp : (u : List ℕ) (k : ℕ) (x : Listed) → get (names_after opening.names now k) u ≡ Some x → x.place ≢ Tmp
+  never-tmp : (u : List ℕ) (k : ℕ) (x : Listed) → get (names_after_first opening.names now k) u ≡ Some x → x.place ≢ Tmp
   never-tmp u k x is = subst IsNotInTmp is (keeps.never_in_tmp u (first (get opening.names u) refl) k)
     where
       first : (o : Option Listed) → get opening.names u ≡ o → IsNotInTmp (get opening.names u)
@@ -36,7 +36,7 @@ module _ (opening : Named) (now : List Effect) (keeps : KeepsPlaces opening.name
   pub good-from : (folder : ℕ) (h1 : List Effect) → IsPrefix h1 now → IsGoodFrom folder opening h1 now
   good-from folder h1 begun =
       let order : length h1 ≤ length now = no_longer h1 now begun in
-      good-listing (names_after opening.names now) folder (length h1) (length now) order never-tmp
+      good-listing (names_after_first opening.names now) folder (length h1) (length now) order never-tmp
       (λ u x is at. keeps.stays_in_cur (length h1) (length now) order u x is at)
 
 -- what a second reading gives

@@ -6,11 +6,11 @@ use mathlib.Core.List.{IsPrefix}
 use lib.ListN.{get_elem?}
 use Rattle.crossbeam_utils.specs.Register.{Admits, Turns, TurnsAt, Forks, Merges}
 use Rattle.atomic_table.proofs.Lists.{at_set, at_snoc}
-use Rattle.md_view.specs.Named.{Named, AreMessages, applied}
-use Rattle.md_store.specs.Histories.{led, IsLegalFrom}
+use Rattle.md_view.specs.Named.{Named, AreMessages, after_change}
+use Rattle.md_store.specs.Histories.{named_after, IsLegalFrom}
 use Rattle.md_store.specs.declared.rule.View.{View}
 use Rattle.md_store.specs.Pages.{Page, Note}
-use Rattle.md_store.specs.Publishing.{newcomer, knower, Fits, Leads, Kept, Seen, turned, CanFollow, MayPublish, Shows}
+use Rattle.md_store.specs.Publishing.{newcomer, knower, Fits, Leads, Kept, Seen, page_after, CanFollow, MayPublish, Shows}
 use Rattle.md_store.proofs.Beginnings.{begins_itself, begins_later}
 use Rattle.md_store.proofs.Legal.{GrowByOne, led-push, applied-messages}
 
@@ -33,7 +33,7 @@ begins p none messages = (
   p.names,
   record {
     legal = subst (IsLegalFrom p.names) (sym none) (legal-none p.names);
-    names = ap (led p.names) none;
+    names = ap (named_after p.names) none;
     opening_messages = messages;
     messages = messages;
   },
@@ -85,29 +85,29 @@ merges seat v other w x views h at apart there =
 
 -- a note that follows legally leads on
 leads-on : GrowByOne → (o : Named) (x : Page) (n : Note) → Leads o x → n.front.log ≡ x.front.log ++ n.effect ∷ [] → IsLegalFrom o n.front.log
-    → Leads o (turned x n)
+    → Leads o (page_after x n)
 leads-on grow o x n leads more legal = record {
   legal = legal;
   names =
-      ap (led o) more
+      ap (named_after o) more
       ∙ led-push grow o x.front.log n.effect (subst (IsLegalFrom o) more legal) (subst AreMessages (sym leads.names) leads.messages)
-      ∙ ap (λ (names : Named). applied names n.effect.change) leads.names;
+      ∙ ap (λ (names : Named). after_change names n.effect.change) leads.names;
   opening_messages = leads.opening_messages;
   messages = applied-messages x.names n.effect.change leads.messages;
 }
 
 -- what is pending may be published
-pub publishes : GrowByOne → (seat : ℕ) (v : View) (x : Page) (pend : List Note) → MayPublish v x pend → (next : Page) → next ≡ fold turned x pend →
+pub publishes : GrowByOne → (seat : ℕ) (v : View) (x : Page) (pend : List Note) → MayPublish v x pend → (next : Page) → next ≡ fold page_after x pend →
     TurnsAt Kept seat v x next Seen
 publishes grow seat v x pend may next is =
     ⊎_elim
-    (λ (none : pend ≡ []). let same : next ≡ x = is ∙ ap (fold turned x) none in
+    (λ (none : pend ≡ []). let same : next ≡ x = is ∙ ap (fold page_after x) none in
     subst (λ (y : Page). TurnsAt Kept seat v x y Seen) (sym same) (enters seat v x))
     (λ (one : (n : Note) × (pend ≡ n ∷ []) × (v.opened ≡ true) × CanFollow v.opening x n).
     let n = one.0 in
-    let same : next ≡ turned x n = is ∙ ap (fold turned x) one.1 in
+    let same : next ≡ page_after x n = is ∙ ap (fold page_after x) one.1 in
     subst (λ (y : Page). TurnsAt Kept seat v x y Seen) (sym same)
-    (shows seat v x (turned x n) one.3.0 (n.effect ∷ [], sym one.3.1)
+    (shows seat v x (page_after x n) one.3.0 (n.effect ∷ [], sym one.3.1)
     (λ o fits leads. leads-on grow o x n leads one.3.1 (subst (λ (p : Named). IsLegalFrom p n.front.log) (fits.0 one.2).0 one.3.2))))
     may
 

@@ -9,15 +9,15 @@ use Rattle.std.specs.FinMap as finmap
 use Rattle.md_dirs.specs.declared.paths.Place.{Place}
 use Rattle.lists.proofs.Maps.{by_key, at_put, beside_put, at_drop, beside_drop}
 use Rattle.md_name.specs.Names.{unique_of}
-use Rattle.md_core.specs.History.{Listed, Names, IsAllowedAfter, WasNowhere, after, changed}
+use Rattle.md_core.specs.History.{Listed, Names, IsAllowedAfter, WasNowhere, names_after, names_after_change}
 use Rattle.md_core.specs.Mailbox.{is_tmp}
 use Rattle.md_core.specs.declared.jobs.effect.Change.{Change}
 use Rattle.md_core.specs.declared.jobs.effect.Change.TheVariants as change
 use Rattle.md_core.specs.declared.jobs.effect.Effect.{Effect}
-use Rattle.md_view.specs.Named.{Named, IsMessage, AreMessages, is_listed, is_free, fits, applied}
+use Rattle.md_view.specs.Named.{Named, IsMessage, AreMessages, is_listed, is_free, fits, after_change}
 use Rattle.md_view.proofs.Fitting.{allowed-applied, nowhere}
 use Rattle.md_view.proofs.Rows.{and-first, and-second}
-use Rattle.md_store.specs.Histories.{led, IsLegalFrom}
+use Rattle.md_store.specs.Histories.{named_after, IsLegalFrom}
 
 module _ (folders : ℕ) where
   abbrev Are : Names → Type 0
@@ -56,7 +56,7 @@ new-message n names folder place name size listed free = record {
   unique = refl;
 }
 
-changed-messages : (n : Named) (c : Change) → AreMessages n → fits n c ≡ true → AreMessages (record n { names = changed n.names c })
+changed-messages : (n : Named) (c : Change) → AreMessages n → fits n c ≡ true → AreMessages (record n { names = names_after_change n.names c })
 changed-messages n (change.Add folder place name size) are fit =
     put-message n.folders n.names name _ are (new-message n n.names folder place name size (and-first _ _ fit) (and-second _ _ fit))
 changed-messages n (change.Rename folder place name to_folder to_place to_name) are fit =
@@ -67,19 +67,19 @@ changed-messages n (change.Rename folder place name to_folder to_place to_name) 
 changed-messages n (change.Remove folder place name) are fit = drop-message n.folders n.names (unique_of name) are
 changed-messages n change.Same are fit = are
 
-pub applied-messages : (n : Named) (c : Change) → AreMessages n → AreMessages (applied n c)
+pub applied-messages : (n : Named) (c : Change) → AreMessages n → AreMessages (after_change n c)
 applied-messages n c are = by (fits n c) refl
   where
-    by : (b : Bool) → fits n c ≡ b → AreMessages (cond b (record n { names = changed n.names c }) n)
+    by : (b : Bool) → fits n c ≡ b → AreMessages (cond b (record n { names = names_after_change n.names c }) n)
     by true fit = changed-messages n c are fit
     by false other = are
 
 -- the law of histories
 abbrev pub GrowByOne : Type 0
-GrowByOne = (opening : Names) (history : List Effect) (next : Effect) → after opening (history ++ next ∷ []) ≡ changed (after opening history) next.change
+GrowByOne = (opening : Names) (history : List Effect) (next : Effect) → names_after opening (history ++ next ∷ []) ≡ names_after_change (names_after opening history) next.change
 
 module _ (grow : GrowByOne) (opening : Named) (history : List Effect) (e : Effect) (legal : IsLegalFrom opening (history ++ e ∷ []))
-    (are : AreMessages (led opening history)) where
+    (are : AreMessages (named_after opening history)) where
   before-is : take (length history) (history ++ e ∷ []) ≡ history
   before-is = take-append-le (length history) history (e ∷ []) (omega arith) ∙ take_all (length history) history (omega arith)
 
@@ -92,7 +92,7 @@ module _ (grow : GrowByOne) (opening : Named) (history : List Effect) (e : Effec
   allowed = subst (λ h. IsAllowedAfter opening.folders opening.names h e) before-is (legal.each (length history) e last)
 
   -- the names after one more effect
-  pub led-push : led opening (history ++ e ∷ []) ≡ applied (led opening history) e.change
+  pub led-push : named_after opening (history ++ e ∷ []) ≡ after_change (named_after opening history) e.change
   led-push =
       (λ i. record { folders = opening.folders; names = grow opening.names history e i })
-      ∙ sym (allowed-applied (led opening history) are (WasNowhere opening.names history) (nowhere opening.names history) e.answer e.change allowed)
+      ∙ sym (allowed-applied (named_after opening history) are (WasNowhere opening.names history) (nowhere opening.names history) e.answer e.change allowed)

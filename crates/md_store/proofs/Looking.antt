@@ -6,7 +6,7 @@ use Rattle.md_view.specs.declared.entry.Entry.{Entry}
 use Rattle.md_view.specs.Named.{Named, AreMessages}
 use Rattle.md_store.specs.declared.error.ListError.{ListError}
 use Rattle.md_store.specs.declared.rule.View.{View}
-use Rattle.md_store.specs.Histories.{led, IsLegalFrom}
+use Rattle.md_store.specs.Histories.{named_after, IsLegalFrom}
 use Rattle.md_store.specs.Listing.{seen_in, IsLooked, Looks}
 use Rattle.md_store.specs.Pages.{Log, Page}
 use Rattle.md_store.specs.Publishing.{Seen}
@@ -19,7 +19,7 @@ module _ (v w : View) (p : Page) (s : Seen v p p w) (opened : v.opened ≡ true)
       IsLooked p held folder new entries front → Looks v held folder new entries front
   looks held folder new entries front k =
       let log : p.front.log ≡ front.log = ap (λ (f : Log). f.log) (sym k.front_is) in
-      let names : p.names ≡ led v.opening front.log = sym s.3.names ∙ (λ i. led (opening-is i) (log i)) in
+      let names : p.names ≡ named_after v.opening front.log = sym s.3.names ∙ (λ i. named_after (opening-is i) (log i)) in
       record {
         book_is = ap (λ (f : Log). f.book) k.front_is ∙ sym (s.2.0 opened).1;
         held_begins = subst (IsPrefix held) log k.held_begins;

@@ -10,7 +10,7 @@ use Rattle.md_core.specs.declared.jobs.effect.Effect.{Effect}
 use Rattle.md_core.specs.declared.jobs.step.StepOut.{StepOut}
 use Rattle.md_core.specs.Asked.{is_fault}
 use Rattle.md_core.specs.declared.jobs.task.Task.{Task}
-use Rattle.md_core.specs.Machine.{Machine, Marked, marked, done_by, task_of, job_at, done as done_of}
+use Rattle.md_core.specs.Machine.{Machine, Occurrence, occurrence, step_by, task_of, job_at, step_of as done_of}
 use Rattle.md_core.specs.Trace.{Step}
 use Rattle.md_core.specs.Runs.{Run, machine_of, and_event, effects_of}
 use Rattle.md_core.specs.Stepping.{ShowsStep}
@@ -18,7 +18,7 @@ use Rattle.md_view.specs.Named.{Named, named_of}
 use Rattle.md_store.specs.declared.rule.View.{View}
 use Rattle.md_store.specs.Pages.{Log, Page, Note}
 use Rattle.md_store.specs.Locks.{IsLocked, Lags}
-use Rattle.md_store.specs.Publishing.{CanFollow, Shows, turned, knower}
+use Rattle.md_store.specs.Publishing.{CanFollow, Shows, page_after, knower}
 
 -- the effects after a step, by whether it was one
 abbrev Grows : Run → Run → ℕ → Bool → Type 0
@@ -26,15 +26,15 @@ Grows r s job true = (e : Effect) × (effects_of s ≡ effects_of r ++ e ∷ [])
 Grows r s job false = effects_of s ≡ effects_of r
 
 -- what an event did, its own job did
-done-job : (m : Machine) (e : Marked) (d : Step) → done_of m e ≡ Some d → d.job ≡ e.event.job
+done-job : (m : Machine) (e : Occurrence) (d : Step) → done_of m e ≡ Some d → d.job ≡ e.event.job
 done-job m e d is = by (task_of (job_at m.jobs e.event.job)) is
   where
-    by : (o : Option Task) → option_map (done_by m e) o ≡ Some d → d.job ≡ e.event.job
+    by : (o : Option Task) → option_map (step_by m e) o ≡ Some d → d.job ≡ e.event.job
     by None none = cc
-    by (Some task) some = let same : done_by m e task ≡ d = cc in ap (λ (x : Step). x.job) (sym same)
+    by (Some task) some = let same : step_by m e task ≡ d = cc in ap (λ (x : Step). x.job) (sym same)
 
 -- a step that is no effect leaves the effects, and one that is adds one of its job
-pub grows : (r s : Run) (e : Marked) (out : StepOut) → ShowsStep r s e out → Grows r s e.event.job out.effect
+pub grows : (r s : Run) (e : Occurrence) (out : StepOut) → ShowsStep r s e out → Grows r s e.event.job out.effect
 grows r s e out h = subst (Grows r s e.event.job) (sym (ap (λ (o : StepOut). o.effect) h.shown)) (by h.what.effect h.simulates.history h.simulates.own)
   where
     by : (o : Option Effect) → effects_of s ≡ effects_of r ++ option_to_list o → IfSome o (λ x. x.job ≡ h.what.job) → Grows r s e.event.job (is_some o)
@@ -45,10 +45,10 @@ lags_by : (r s : Run) (job : ℕ) (b : Bool) → Grows r s job b → Lags (effec
 lags_by r s job true g = (g.0 ∷ [], g.1, omega arith)
 lags_by r s job false g = ([], g ∙ sym (append-nil (effects_of r)), omega arith)
 
-pub no_effect : (r s : Run) (e : Marked) (out : StepOut) → ShowsStep r s e out → out.effect ≡ false → effects_of s ≡ effects_of r
+pub no_effect : (r s : Run) (e : Occurrence) (out : StepOut) → ShowsStep r s e out → out.effect ≡ false → effects_of s ≡ effects_of r
 no_effect r s e out h off = subst (Grows r s e.event.job) off (grows r s e out h)
 
-pub one_effect : (r s : Run) (e : Marked) (out : StepOut) → ShowsStep r s e out → out.effect ≡ true →
+pub one_effect : (r s : Run) (e : Occurrence) (out : StepOut) → ShowsStep r s e out → out.effect ≡ true →
     (x : Effect) × (effects_of s ≡ effects_of r ++ x ∷ []) × (x.job ≡ e.event.job)
 one_effect r s e out h on = subst (Grows r s e.event.job) on (grows r s e out h)
 
@@ -75,11 +75,11 @@ module _ (opening : Named) (book : Book) (shown : Page) (seat : View) (front : L
   }
 
   pub stepped : (r s : Run) (job now : ℕ) (own : Option ℕ) (res : Result StepOut CoreError) →
-      IfOk res (λ out. s ≡ and_event r (marked job now own (is_fault out.reply)))
-      → IfOk res (λ out. ShowsStep r s (marked job now own (is_fault out.reply)) out) → OnErr res (s ≡ r)
+      IfOk res (λ out. s ≡ and_event r (occurrence job now own (is_fault out.reply)))
+      → IfOk res (λ out. ShowsStep r s (occurrence job now own (is_fault out.reply)) out) → OnErr res (s ≡ r)
       → IsLocked opening book r shown seat front pending → shown.front.log ≡ effects_of r → IsLocked opening book s shown seat front pending
   stepped r s job now own (Ok out) event shows same k all =
-      advances r s job out.effect k all (ap (λ (x : Run). named_of x.image) event) (grows r s (marked job now own (is_fault out.reply)) out shows)
+      advances r s job out.effect k all (ap (λ (x : Run). named_of x.image) event) (grows r s (occurrence job now own (is_fault out.reply)) out shows)
   stepped r s job now own (Err e) event shows same k all = subst (λ (x : Run). IsLocked opening book x shown seat front pending) (sym same) k
 
   -- where image and effects stay
@@ -122,12 +122,12 @@ pub catches : (opening : Named) (book : Book) (r : Run) (front : Log) (shown sho
     → named_of r.image ≡ opening → shown.front.book ≡ book → seat ≡ knower opening shown → Lags (effects_of r) shown.front.log → front.book ≡ book →
     front.log ≡ effects_of r
     → ((n : Note) × (pend ≡ n ∷ []) × CanFollow opening shown n × (n.front.log ≡ effects_of r))
-    → MatchResult res (λ _. (shown' ≡ fold turned shown pend) × (pend' ≡ []) × Shows seat shown' seat')
+    → MatchResult res (λ _. (shown' ≡ fold page_after shown pend) × (pend' ≡ []) × Shows seat shown' seat')
     (λ _. (shown' ≡ shown) × (pend' ≡ pend) × (seat' ≡ seat))
     → IsLocked opening book r shown' seat' front pend' × MatchResult res (λ _. shown'.front.log ≡ effects_of r) (λ _. shown'.front.log ≡ shown.front.log)
 catches opening book r front shown shown' seat seat' pend pend' (Ok u) image b s lag fb f w t =
     let n = w.0 in
-    let now : shown' ≡ turned shown n = t.0 ∙ ap (fold turned shown) w.1 in
+    let now : shown' ≡ page_after shown n = t.0 ∙ ap (fold page_after shown) w.1 in
     let all : shown'.front.log ≡ effects_of r = ap (λ (p : Page). p.front.log) now ∙ w.3 in (
       record {
         image = image;

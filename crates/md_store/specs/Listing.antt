@@ -5,10 +5,10 @@ use Rattle.md_dirs.specs.declared.paths.Place.TheVariants.{New, Cur}
 use Rattle.md_core.specs.declared.jobs.effect.Effect.{Effect}
 use Rattle.md_core.specs.History.{Names}
 use Rattle.md_view.specs.declared.entry.Entry.{Entry}
-use Rattle.md_view.specs.Law.{names_after, IsGoodListing}
+use Rattle.md_view.specs.Law.{names_after_first, IsGoodListing}
 use Rattle.md_view.specs.Named.{Named, AreMessages}
 use Rattle.md_view.specs.Readings.{reading_of, join_of}
-use Rattle.md_store.specs.Histories.{led, IsLegalFrom, read_at, listing}
+use Rattle.md_store.specs.Histories.{named_after, IsLegalFrom, read_at, listing}
 use Rattle.md_store.specs.Pages.{Log, Page}
 use Rattle.md_store.specs.declared.rule.View.{View}
 
@@ -38,11 +38,11 @@ pub record Looks (v : View) (held : List Effect) (folder : ℕ) (new : Option (L
   pub legal : IsLegalFrom v.opening front.log
   pub messages : AreMessages v.opening
   pub folder_is_there : folder < v.opening.folders
-  pub entries_are : entries ≡ seen_in new folder (led v.opening front.log).names
+  pub entries_are : entries ≡ seen_in new folder (named_after v.opening front.log).names
 
 -- The listing law, for a listing whose new is that of a beginning of the history that is held, and whose cur is that of its end.
 abbrev pub IsGoodFrom : ℕ → Named → List Effect → List Effect → Type 0
-IsGoodFrom folder opening h1 now = IsGoodListing (names_after opening.names now) folder (length h1) (length now)
+IsGoodFrom folder opening h1 now = IsGoodListing (names_after_first opening.names now) folder (length h1) (length now)
 
 -- What a second reading gives: the join of the first one with cur at the end of what is held. Where the first is that of a history which
 -- begins what is held, the join is a good listing between the two.

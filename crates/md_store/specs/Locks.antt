@@ -1,4 +1,4 @@
--- What is kept behind the lock.
+-- What is kept inside the lock.
 use Rattle.std.specs.Prelude.{◌≡◌, ◌≤◌, ◌⊎◌, ℕ, length, List, [], ◌∷◌, ◌++◌}
 use Rattle.logbook.specs.Pages.{Book}
 use Rattle.md_core.specs.declared.jobs.effect.Effect.{Effect}

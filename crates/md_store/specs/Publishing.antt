@@ -6,8 +6,8 @@ use mathlib.Core.List.{IsPrefix}
 use lib.ListN.{get_elem?}
 use Rattle.logbook.specs.Pages.{Book}
 use Rattle.md_core.specs.declared.jobs.effect.Effect.{Effect}
-use Rattle.md_view.specs.Named.{Named, AreMessages, applied}
-use Rattle.md_store.specs.Histories.{led, IsLegalFrom}
+use Rattle.md_view.specs.Named.{Named, AreMessages, after_change}
+use Rattle.md_store.specs.Histories.{named_after, IsLegalFrom}
 use Rattle.md_store.specs.Pages.{Log, Page, Note}
 use Rattle.md_store.specs.declared.rule.View.{View}
 
@@ -33,7 +33,7 @@ Fits opening p v = (v.opened ≡ true → (v.opening ≡ opening) × (v.held.boo
 -- the published history is legal, and leads from the opening names to the published ones; both are names of messages
 pub record Leads (opening : Named) (p : Page) : Type 0 where
   pub legal : IsLegalFrom opening p.front.log
-  pub names : led opening p.front.log ≡ p.names
+  pub names : named_after opening p.front.log ≡ p.names
   pub opening_messages : AreMessages opening
   pub messages : AreMessages p.names
 
@@ -46,8 +46,8 @@ abbrev pub Seen : View → Page → Page → View → Type 0
 Seen v x y w = (opening : Named) × (w ≡ knower opening y) × Fits opening y v × Leads opening y
 
 -- the page after a note
-abbrev pub turned : Page → Note → Page
-turned p n = record { front = n.front; names = applied p.names n.effect.change }
+abbrev pub page_after : Page → Note → Page
+page_after p n = record { front = n.front; names = after_change p.names n.effect.change }
 
 -- the note adds one effect to the page, and the history stays legal
 abbrev pub CanFollow : Named → Page → Note → Type 0

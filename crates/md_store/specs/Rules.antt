@@ -14,8 +14,8 @@ abbrev pub head_of : Book → Named
 head_of book = record { tracked = true; key = 0; book = book }
 
 -- the later history begins with the earlier one and has more effects
-abbrev pub GoesOn : List Effect → List Effect → Type 0
-GoesOn earlier later = IsPrefix earlier later × (length earlier < length later)
+abbrev pub IsLonger : List Effect → List Effect → Type 0
+IsLonger earlier later = IsPrefix earlier later × (length earlier < length later)
 
 -- What an exchange at the head tells, by what it found there. Where it found the number that it expected, the history is what was seen and
 -- the new effect; otherwise as many effects were seen as it found.

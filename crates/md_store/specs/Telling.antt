@@ -22,7 +22,7 @@ Tells Told effect s job before now =
 Tells Later effect s job before now =
     (effect ≡ true) × EndsWith (effects_of s.run) job × ((e : Effect) × (effects_of s.run ≡ s.published ++ e ∷ [])) × (now ≡ before)
 
--- where an answer of a job says that its call took effect, that effect stands in the history
+-- where an answer of a job says that its call took effect, that effect is in the history
 abbrev pub Stands : Option Answer → ℕ → List Effect → Type 0
 Stands None job history = Unit {0}
 Stands (Some a) job history = is_success a ≡ true → (e : Effect) × (k : ℕ) × (slice_get history k ≡ Some e) × (e.job ≡ job) × (e.answer ≡ a)

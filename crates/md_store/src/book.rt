@@ -4,7 +4,7 @@
 //! beginnings of one list, so the shorter begins the longer.
 ghost use Rattle.std.specs.Prelude.{◌≡◌, ◌+◌, ◌==◌, ◌<◌, ◌≤◌, ◌^◌, ◌++◌, ◌∷◌, ◌⊎◌, false, [], length, MatchBool, IsTrue};
 ghost use mathlib.Core.List.{IsPrefix};
-ghost use Rattle.md_store.specs.Rules.{head_of, GoesOn};
+ghost use Rattle.md_store.specs.Rules.{head_of, IsLonger};
 
 use logbook::{Gain, Offer, Plain, Play, Rule, Seen, Start, Word};
 use md_core::Effect;
@@ -145,7 +145,7 @@ impl Front {
         requires head { head.now ≡ head_of self.old.book }
         requires room { length self.old.log < 2 ^ 62 }
         ensures book { self.new.book ≡ self.old.book }
-        ensures log { MatchBool result (self.new.log ≡ self.old.log ++ effect.now ∷ []) (GoesOn self.old.log self.new.log) }
+        ensures log { MatchBool result (self.new.log ≡ self.old.log ++ effect.now ∷ []) (IsLonger self.old.log self.new.log) }
     {
         let mut offer: Offer<Effect, u64, Counted, NoTrade> = self
             .seen

@@ -1,11 +1,11 @@
-// What lies behind the lock: the world, and the writer of what is published.
+// What is inside the lock: the world, and the writer of what is published.
 ghost use Rattle.std.specs.Prelude.{◌≡◌, ◌≢◌, ◌+◌, ◌<◌, ◌≤◌, ◌⊎◌, ◌++◌, ◌∷◌, [], length, drop, Some, None, IsSome, IfOk, IfErr, OnOk, OnErr, MatchResult, option_map};
 ghost use Rattle.std.specs.FinMap as finmap;
 ghost use mathlib.Core.List.{IsPrefix};
 ghost use Rattle.left_right.specs.Sides.{view};
 ghost use Rattle.md_core.specs.Asked.{is_fault};
 ghost use Rattle.md_core.specs.Mailbox.{Entry, mailbox_of};
-ghost use Rattle.md_core.specs.Machine.{marked, job_at};
+ghost use Rattle.md_core.specs.Machine.{occurrence, job_at};
 ghost use Rattle.md_core.specs.Runs.{dirs_of, jobs_of, effects_of, and_event, and_call, step_refusal, steps_left, IsRefusal};
 ghost use Rattle.md_core.specs.Submitting.{submit_refusal};
 ghost use Rattle.md_core.specs.Interleaving.{Interleaves};
@@ -130,9 +130,9 @@ impl<D: Dirs, J: Naming> Locked<D, J> {
     fn advance(&mut self, job: JobId, now: u64, own: Option<u64>) -> Result<StepOut, CoreError>
         requires { self.old.published ≡ effects_of self.old.run }
         ensures published { self.new.published ≡ self.old.published }
-        ensures event { IfOk result (λ out. self.new.run ≡ and_event self.old.run (marked job now own (is_fault out.reply))) }
+        ensures event { IfOk result (λ out. self.new.run ≡ and_event self.old.run (occurrence job now own (is_fault out.reply))) }
         ensures trace { IfOk result (GrowsByStep (trace_of self.old.run) (trace_of self.new.run) job) }
-        ensures shows { IfOk result (λ out. ShowsStep self.old.run self.new.run (marked job now own (is_fault out.reply)) out) }
+        ensures shows { IfOk result (λ out. ShowsStep self.old.run self.new.run (occurrence job now own (is_fault out.reply)) out) }
         ensures success { IfOk result (λ out. Succeeds self.new.run job out.answer) }
         ensures refused { MatchResult result (λ _. step_refusal (job_at (jobs_of self.old.run) job) ≡ None)
             (IsRefusal (step_refusal (job_at (jobs_of self.old.run) job))) }
@@ -204,9 +204,9 @@ impl<D: Dirs, J: Naming> Locked<D, J> {
         ensures left { OnErr result ((self.new.published ≡ self.old.published) ⊎ (self.new.published ≡ effects_of self.old.run)) }
         // Where the job isn't there, or has its answer, nothing is published either.
         ensures unchanged { OnErr result (IsSome (step_refusal (job_at (jobs_of self.old.run) job)) → self.new ≡ self.old) }
-        ensures event { IfOk result (λ s. self.new.run ≡ and_event self.old.run (marked job now own (is_fault s.out.reply))) }
+        ensures event { IfOk result (λ s. self.new.run ≡ and_event self.old.run (occurrence job now own (is_fault s.out.reply))) }
         ensures trace { IfOk result (λ s. GrowsByStep (trace_of self.old.run) (trace_of self.new.run) job s.out) }
-        ensures shows { IfOk result (λ s. ShowsStep self.old.run self.new.run (marked job now own (is_fault s.out.reply)) s.out) }
+        ensures shows { IfOk result (λ s. ShowsStep self.old.run self.new.run (occurrence job now own (is_fault s.out.reply)) s.out) }
         ensures success { IfOk result (λ s. Succeeds self.new.run job s.out.answer) }
         ensures nearer { OnOk result (steps_left self.new.run job < steps_left self.old.run job) }
         ensures others { OnOk result ((n : _) → n ≢ job → job_at (jobs_of self.new.run) n ≡ job_at (jobs_of self.old.run) n) }

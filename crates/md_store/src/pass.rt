@@ -6,7 +6,7 @@ ghost use Rattle.md_dirs.specs.declared.paths.Place.TheVariants.{New};
 ghost use Rattle.md_view.specs.Named.{AreMessages};
 ghost use Rattle.md_view.specs.Readings.{IsInOrder};
 ghost use Rattle.md_store.specs.declared.error.ListError.TheVariants as refusal;
-ghost use Rattle.md_store.specs.Histories.{led, IsLegalFrom, read_at};
+ghost use Rattle.md_store.specs.Histories.{named_after, IsLegalFrom, read_at};
 ghost use Rattle.md_store.specs.Listing.{seen_in, IsLooked, Looks, Finishes};
 ghost use Rattle.md_store.specs.Publishing.{IsOf};
 
@@ -82,7 +82,7 @@ impl<J: Naming> Pass<J> {
         ensures folder { OnOk result (folder < J.opening.folders) }
         ensures no_folder { IfErr result (λ e. e ≡ refusal.NoFolder → J.opening.folders ≤ folder) }
         ensures no_memory { IfErr result (λ e. e ≡ refusal.NoMemory → folder < J.opening.folders) }
-        ensures entries { IfOk result (λ v. v.items ≡ seen_in (option_map (λ entries. entries.now) first.entry) folder (led J.opening self.new).names) }
+        ensures entries { IfOk result (λ v. v.items ≡ seen_in (option_map (λ entries. entries.now) first.entry) folder (named_after J.opening self.new).names) }
         ensures err { OnErr result (self.new ≡ self.old) }
     {
         let Pass {

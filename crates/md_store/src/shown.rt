@@ -1,6 +1,6 @@
 // What is published: the names, with the history that led to them.
 ghost use Rattle.std.specs.Prelude.{◌≡◌, ◌++◌, ◌∷◌, [], IfOk, MatchResult};
-ghost use Rattle.md_store.specs.Publishing.{turned};
+ghost use Rattle.md_store.specs.Publishing.{page_after};
 
 use crate::book::Front;
 use left_right::Absorb;
@@ -77,7 +77,7 @@ impl Shown {
 
     // Takes in the next effect.
     fn take(&mut self, post: &Post) -> Result<(), AllocError>
-        ensures { MatchResult result (λ _. self.new ≡ turned self.old post.now) (λ _. self.new ≡ self.old) }
+        ensures { MatchResult result (λ _. self.new ≡ page_after self.old post.now) (λ _. self.new ≡ self.old) }
     {
         if self.names.apply(&post.effect.change).is_err() {
             return Err(AllocError);
@@ -88,13 +88,13 @@ impl Shown {
 }
 
 impl Absorb<Post> for Shown {
-    ghost use Rattle.md_store.specs.Publishing.{turned};
+    ghost use Rattle.md_store.specs.Publishing.{page_after};
 
     type State = Shown;
 
     ghost state = { λ s. s };
 
-    ghost applied = { turned };
+    ghost applied = { page_after };
 
     fn absorb_first(&mut self, operation: &Post, _other: &Shown) -> Result<(), AllocError> {
         self.take(operation)

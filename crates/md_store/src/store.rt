@@ -22,7 +22,7 @@ use md_view::Entry;
 use std::alloc::Global;
 use std::sync::{Mutex, MutexGuard, Wait};
 
-/// A store that threads share: a world behind a lock, and what of it is published. Each caller has a pass of the same naming type.
+/// A store that threads share: a world inside a lock, and what of it is published. Each caller has a pass of the same naming type.
 pub struct Store<D: Dirs, J: Naming> {
     lock: Mutex<Locked<D, J>>,
 }

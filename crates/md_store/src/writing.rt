@@ -1,7 +1,7 @@
 // Publishing.
 ghost use Rattle.std.specs.Prelude.{◌≡◌, [], drop, fold, MatchResult};
 ghost use Rattle.left_right.specs.Sides.{view};
-ghost use Rattle.md_store.specs.Publishing.{MayPublish, Shows, turned};
+ghost use Rattle.md_store.specs.Publishing.{MayPublish, Shows, page_after};
 
 use crate::rule::{Sees, StoreWriter};
 use core::mem::replace_with;
@@ -11,7 +11,7 @@ use std::sync::Wait;
 fn published<R: Wait>(writer: StoreWriter, rt: &R) -> (StoreWriter, Result<(), AllocError>)
     requires { MayPublish (view writer.desk.place) writer.desk.shown.value (drop writer.behind writer.log.items) }
     ensures { MatchResult result.1
-        (λ _. (result.0.desk.shown.value ≡ fold turned writer.desk.shown.value (drop writer.behind writer.log.items))
+        (λ _. (result.0.desk.shown.value ≡ fold page_after writer.desk.shown.value (drop writer.behind writer.log.items))
         × (drop result.0.behind result.0.log.items ≡ [])
         × Shows (view writer.desk.place) result.0.desk.shown.value (view result.0.desk.place))
         (λ _. (result.0.desk.shown.value ≡ writer.desk.shown.value)
@@ -26,7 +26,7 @@ fn published<R: Wait>(writer: StoreWriter, rt: &R) -> (StoreWriter, Result<(), A
 pub fn publish<R: Wait>(writer: &mut StoreWriter, rt: &R) -> Result<(), AllocError>
     requires { MayPublish (view writer.old.desk.place) writer.old.desk.shown.value (drop writer.old.behind writer.old.log.items) }
     ensures { MatchResult result
-        (λ _. (writer.new.desk.shown.value ≡ fold turned writer.old.desk.shown.value (drop writer.old.behind writer.old.log.items))
+        (λ _. (writer.new.desk.shown.value ≡ fold page_after writer.old.desk.shown.value (drop writer.old.behind writer.old.log.items))
         × (drop writer.new.behind writer.new.log.items ≡ [])
         × Shows (view writer.old.desk.place) writer.new.desk.shown.value (view writer.new.desk.place))
         (λ _. (writer.new.desk.shown.value ≡ writer.old.desk.shown.value)

@@ -18,9 +18,9 @@ use Rattle.md_core.specs.Mailbox.{is_tmp}
 use Rattle.md_core.specs.History.{Listed, Names, IsThere, size_in}
 use Rattle.md_core.specs.declared.jobs.effect.Change.TheVariants as change
 use Rattle.md_view.specs.declared.entry.Entry.{Entry}
-use Rattle.md_view.specs.Readings.{shown, is_at}
-use Rattle.md_view.specs.Named.{Named, IsMessage, AreMessages, is_listed, has_name, is_there, is_free, fits, applied}
-use Rattle.md_view.specs.Held.{FolderLists, list_of, listed_in, AreHeld, found, has_unique, ShowsAt}
+use Rattle.md_view.specs.Readings.{as_entry, is_at}
+use Rattle.md_view.specs.Named.{Named, IsMessage, AreMessages, is_listed, has_name, is_there, is_free, fits, after_change}
+use Rattle.md_view.specs.Held.{FolderLists, list_of, listed_in, AreHeld, entry_with, has_unique, ShowsAt}
 use Rattle.md_view.proofs.Readings.{entry_at}
 use Rattle.md_view.proofs.Rows.{same_place, and-first, and-second, if-some, not-true}
 use Rattle.md_view.proofs.Holding.{shown_at, AreLists, held-lists, lists-held, taken, found-in}
@@ -78,12 +78,12 @@ new_names folders names = record { folders = folders; names = names }
 
 module _ (n : Named) (fs : List FolderLists) (held : AreHeld n fs) where
   pub there-shown : (folder : ℕ) (place : Place) (name : List ℕ) (h : IsThere n.names folder place name)
-      → shown_at n.names folder place (unique_of name) ≡ Some (shown (unique_of name, record { folder = folder; place = place; name = name; size = h.size }))
+      → shown_at n.names folder place (unique_of name) ≡ Some (as_entry (unique_of name, record { folder = folder; place = place; name = name; size = h.size }))
   there-shown folder place name h =
       let u = unique_of name in
       let m : Listed = record { folder = folder; place = place; name = name; size = h.size } in
       ap (option_and_then (entry_at folder place u)) h.at
-      ∙ (λ i. cond (nat_eq_equiv.refl folder i && nat_eq_equiv.refl (place_index place) i) (Some (shown (u, m))) None)
+      ∙ (λ i. cond (nat_eq_equiv.refl folder i && nat_eq_equiv.refl (place_index place) i) (Some (as_entry (u, m))) None)
 
   -- a message that is there, by its entry
   pub there-past : (folder : ℕ) (place : Place) (name : List ℕ) → length fs ≤ folder → is_there n folder place name ≡ false
@@ -101,20 +101,20 @@ module _ (n : Named) (fs : List FolderLists) (held : AreHeld n fs) where
       cc)
 
   module _ (folder : ℕ) (f : FolderLists) (at : slice_get fs folder ≡ Some f) (place : Place) (name : List ℕ) where
-    pub there-none : found (unique_of name) (list_of place f) ≡ None → is_there n folder place name ≡ false
+    pub there-none : entry_with (unique_of name) (list_of place f) ≡ None → is_there n folder place name ≡ false
     there-none none = is-false _ (λ is.
         let h = there-facts n folder place name is in
         let never : None ≡ Some _ = sym none ∙ found-in n fs held folder f at place (unique_of name) ∙ there-shown folder place name h in
         cc)
 
-    pub there-found : (e : Entry) → found (unique_of name) (list_of place f) ≡ Some e → is_there n folder place name ≡ pointwise nat_eq e.name name
+    pub there-found : (e : Entry) → entry_with (unique_of name) (list_of place f) ≡ Some e → is_there n folder place name ≡ pointwise nat_eq e.name name
     there-found e is = by (get n.names (unique_of name)) refl (sym (found-in n fs held folder f at place (unique_of name)) ∙ is)
       where
         by : (o : Option Listed) → get n.names (unique_of name) ≡ o → shown_at n.names folder place (unique_of name) ≡ Some e
             → is_there n folder place name ≡ pointwise nat_eq e.name name
         by None got is = let never : None ≡ Some e = sym (ap (option_and_then (entry_at folder place (unique_of name))) got) ∙ is in cc
         by (Some m) got is =
-            let says = if-some (is_at folder place (unique_of name, m)) (shown (unique_of name, m)) e
+            let says = if-some (is_at folder place (unique_of name, m)) (as_entry (unique_of name, m)) e
             (sym (ap (option_and_then (entry_at folder place (unique_of name))) got) ∙ is) in
             ap (λ (o : Option Listed). option_map_or (has_name folder place name) o false) got
             ∙ ap (λ b. b && pointwise nat_eq m.name name) says.0
@@ -155,8 +155,8 @@ module _ (n : Named) (fs : List FolderLists) (held : AreHeld n fs) where
     abbrev listed_new : Listed
     listed_new = record { folder = folder; place = place; name = name; size = size }
 
-    pub add-held : ShowsAt place (unique_of name) (Some (shown (unique_of name, listed_new))) f f'
-        → AreHeld (applied n (change.Add folder place name size)) (slice_set fs folder f')
+    pub add-held : ShowsAt place (unique_of name) (Some (as_entry (unique_of name, listed_new))) f f'
+        → AreHeld (after_change n (change.Add folder place name size)) (slice_set fs folder f')
     add-held shows =
         let where_to = and-first _ _ fit in
         let free = free-facts n n.names name (and-second _ _ fit) in
@@ -165,14 +165,14 @@ module _ (n : Named) (fs : List FolderLists) (held : AreHeld n fs) where
         subst (λ (m : Named). AreHeld m (slice_set fs folder f')) (sym (ap (λ b. cond b (new_names n.folders after) n) fit))
         (held-after after (slice_set fs folder f') (length-set fs folder f')
         (insert-messages n held.messages (unique_of name) listed_new (record { folder = spot.0; place = spot.1; name = free.0; unique = refl }))
-        (but folder place (unique_of name) (Some (shown (unique_of name, listed_new))) (shown_at n.names))
-        (set-lists fs (shown_at n.names) (held-lists n fs held) folder place (unique_of name) (Some (shown (unique_of name, listed_new))) f f' at
+        (but folder place (unique_of name) (Some (as_entry (unique_of name, listed_new))) (shown_at n.names))
+        (set-lists fs (shown_at n.names) (held-lists n fs held) folder place (unique_of name) (Some (as_entry (unique_of name, listed_new))) f f' at
         (within-listed folder place where_to) shows)
         (added n.names (unique_of name) listed_new free.1))
 
   module _ (folder : ℕ) (place : Place) (name : List ℕ) (fit : fits n (change.Remove folder place name) ≡ true)
       (f f' : FolderLists) (at : slice_get fs folder ≡ Some f) where
-    pub remove-held : ShowsAt place (unique_of name) None f f' → AreHeld (applied n (change.Remove folder place name)) (slice_set fs folder f')
+    pub remove-held : ShowsAt place (unique_of name) None f f' → AreHeld (after_change n (change.Remove folder place name)) (slice_set fs folder f')
     remove-held shows =
         let where_from = and-first _ _ fit in
         let there = there-facts n folder place name (and-second _ _ fit) in
@@ -204,25 +204,25 @@ module _ (n : Named) (fs : List FolderLists) (held : AreHeld n fs) where
     rename-messages = ((held.messages (unique_of name) _ rename-there.at).name, rename-free.0)
 
     -- the entry of the old name, with its size
-    pub rename-found : (e : Entry) × (found (unique_of name) (listed_in fs folder place) ≡ Some e) × (e.size ≡ size_in n.names (unique_of name))
+    pub rename-found : (e : Entry) × (entry_with (unique_of name) (listed_in fs folder place) ≡ Some e) × (e.size ≡ size_in n.names (unique_of name))
     rename-found =
         let m : Listed = record { folder = folder; place = place; name = name; size = rename-there.size } in (
-          shown (unique_of name, m),
+          as_entry (unique_of name, m),
           (held-lists n fs held).at folder place (unique_of name) ∙ there-shown folder place name rename-there,
           sym (ap (λ (o : Option Listed). option_map_or (λ (x : Listed). x.size) o 0) rename-there.at),
         )
 
-    found-old : (u : List ℕ) (gs : List FolderLists) → gs ≡ fs → u ≡ unique_of name → found u (listed_in gs folder place) ≡ Some rename-found.0
-    found-old u gs same is = (λ i. found (is i) (listed_in (same i) folder place)) ∙ rename-found.1
+    found-old : (u : List ℕ) (gs : List FolderLists) → gs ≡ fs → u ≡ unique_of name → entry_with u (listed_in gs folder place) ≡ Some rename-found.0
+    found-old u gs same is = (λ i. entry_with (is i) (listed_in (same i) folder place)) ∙ rename-found.1
 
-    pub rename-old : (u : List ℕ) (gs : List FolderLists) → gs ≡ fs → u ≡ unique_of name → IsSome (found u (listed_in gs folder place))
+    pub rename-old : (u : List ℕ) (gs : List FolderLists) → gs ≡ fs → u ≡ unique_of name → IsSome (entry_with u (listed_in gs folder place))
     rename-old u gs same is = subst IsSome (sym (found-old u gs same is)) refl
 
     -- the entry that is put in is that of the new message, if its size is the old one's
     pub rename-put : (u : List ℕ) (gs : List FolderLists) → gs ≡ fs → u ≡ unique_of name → (size : ℕ)
-        → IfSome (found u (listed_in gs folder place)) (λ e. size ≡ e.size)
+        → IfSome (entry_with u (listed_in gs folder place)) (λ e. size ≡ e.size)
         → (entry : Entry) → entry ≡ record { unique = unique_of to_name; place = to_place; name = to_name; size = size } → (f f' : FolderLists)
-        → ShowsAt to_place entry.unique (Some entry) f f' → ShowsAt to_place (unique_of to_name) (Some (shown (unique_of to_name, new_message))) f f'
+        → ShowsAt to_place entry.unique (Some entry) f f' → ShowsAt to_place (unique_of to_name) (Some (as_entry (unique_of to_name, new_message))) f f'
     rename-put u gs same is size sized entry made f f' shows =
         let old : size ≡ rename-found.0.size = subst (λ (o : Option Entry). IfSome o (λ e. size ≡ e.size)) (found-old u gs same is) sized in
         subst (λ (e : Entry). ShowsAt to_place e.unique (Some e) f f')
@@ -239,15 +239,15 @@ module _ (n : Named) (fs : List FolderLists) (held : AreHeld n fs) where
         (record { folder = spot.0; place = spot.1; name = rename-free.0; unique = refl })
 
     module _ (f f' : FolderLists) (at : slice_get fs to_folder ≡ Some f)
-        (put : ShowsAt to_place (unique_of to_name) (Some (shown (unique_of to_name, new_message))) f f') where
+        (put : ShowsAt to_place (unique_of to_name) (Some (as_entry (unique_of to_name, new_message))) f f') where
       put-lists : AreLists (slice_set fs to_folder f')
-          (but to_folder to_place (unique_of to_name) (Some (shown (unique_of to_name, new_message))) (shown_at n.names))
+          (but to_folder to_place (unique_of to_name) (Some (as_entry (unique_of to_name, new_message))) (shown_at n.names))
       put-lists = set-lists fs (shown_at n.names) (held-lists n fs held) to_folder to_place (unique_of to_name)
-          (Some (shown (unique_of to_name, new_message))) f f' at (within-listed to_folder to_place rename-to) put
+          (Some (as_entry (unique_of to_name, new_message))) f f' at (within-listed to_folder to_place rename-to) put
 
       -- the new entry took the place of the old one
       pub rename-held : folder ≡ to_folder → place ≡ to_place → unique_of to_name ≡ unique_of name
-          → AreHeld (applied n (change.Rename folder place name to_folder to_place to_name)) (slice_set fs to_folder f')
+          → AreHeld (after_change n (change.Rename folder place name to_folder to_place to_name)) (slice_set fs to_folder f')
       rename-held in_folder in_place same =
           subst (λ (m : Named). AreHeld m (slice_set fs to_folder f')) (sym (ap (λ b. cond b (new_names n.folders names_then) n) fit))
           (held-after names_then (slice_set fs to_folder f') (length-set fs to_folder f') messages-then _ put-lists
@@ -262,7 +262,7 @@ module _ (n : Named) (fs : List FolderLists) (held : AreHeld n fs) where
             differs (eqb-true folder j (and-first _ _ from) ∙ sym (eqb-true to_folder j (and-first _ _ to)))
             (same_place place p (eqb-true _ _ (and-second _ _ from)) ∙ sym (same_place to_place p (eqb-true _ _ (and-second _ _ to)))) same
 
-        pub rename-moved : AreHeld (applied n (change.Rename folder place name to_folder to_place to_name)) (slice_set (slice_set fs to_folder f') folder g')
+        pub rename-moved : AreHeld (after_change n (change.Rename folder place name to_folder to_place to_name)) (slice_set (slice_set fs to_folder f') folder g')
         rename-moved =
             let long = length-set fs to_folder f' in
             let low = within-listed folder place rename-from in

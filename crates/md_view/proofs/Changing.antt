@@ -13,9 +13,9 @@ use Rattle.md_dirs.proofs.Sound.{get-set_same, get-set_other}
 use Rattle.md_core.specs.Mailbox.{name_cmp}
 use Rattle.md_core.specs.History.{Listed, Names}
 use Rattle.md_view.specs.declared.entry.Entry.{Entry}
-use Rattle.md_view.specs.Readings.{shown, IsInOrder}
+use Rattle.md_view.specs.Readings.{as_entry, IsInOrder}
 use Rattle.md_view.specs.Named.{is_there}
-use Rattle.md_view.specs.Held.{FolderLists, list_of, listed_in, found, ShowsAt}
+use Rattle.md_view.specs.Held.{FolderLists, list_of, listed_in, entry_with, ShowsAt}
 use Rattle.md_view.proofs.Keyed.{tie-itself, tie-same}
 use Rattle.md_view.proofs.Readings.{entry_at}
 use Rattle.md_view.proofs.Rows.{same_place, and-true, and-false, and-first, and-second}
@@ -74,13 +74,13 @@ module _ (fs : List FolderLists) (g : ℕ → Place → List ℕ → Option Entr
     order = by-spot (λ j p. IsInOrder (listed_in set j p))
         (subst (λ (es : List Entry). IsInOrder es) (sym (new-list place)) shows.here.order)
         (λ j p _ left. subst (λ (es : List Entry). IsInOrder es) (sym left) (lists.order j p));
-    at = by-spot (λ j p. (v : List ℕ) → found v (listed_in set j p) ≡ but folder place u what g j p v)
+    at = by-spot (λ j p. (v : List ℕ) → entry_with v (listed_in set j p) ≡ but folder place u what g j p v)
         (λ v.
-        ap (found v) (new-list place) ∙ shows.here.at v
-        ∙ ap (cond (eq_by_cmp name_cmp v u) what) (ap (found v) (sym (old-list place)) ∙ lists.at folder place v)
+        ap (entry_with v) (new-list place) ∙ shows.here.at v
+        ∙ ap (cond (eq_by_cmp name_cmp v u) what) (ap (entry_with v) (sym (old-list place)) ∙ lists.at folder place v)
         ∙ sym (ap (λ b. cond (b && eq_by_cmp name_cmp v u) what (g folder place v)) here-is))
         (λ j p other left v.
-        ap (found v) left ∙ lists.at j p v ∙ sym (ap (λ b. cond (b && eq_by_cmp name_cmp v u) what (g j p v)) other));
+        ap (entry_with v) left ∙ lists.at j p v ∙ sym (ap (λ b. cond (b && eq_by_cmp name_cmp v u) what (g j p v)) other));
   }
 
 -- what lists show where one directory shows of one unique name what it did
@@ -120,13 +120,13 @@ at-other a u v not what other = ap (λ b. cond (a && b) what other) (apart v u n
 
 -- a new message
 pub added : (names : Names) (u : List ℕ) (m : Listed) → get names u ≡ None → (j : ℕ) (p : Place) (v : List ℕ)
-    → but m.folder m.place u (Some (shown (u, m))) (shown_at names) j p v ≡ shown_at (finmap.insert names u m) j p v
+    → but m.folder m.place u (Some (as_entry (u, m))) (shown_at names) j p v ≡ shown_at (finmap.insert names u m) j p v
 added names u m none j p v = by_key nat_list_cmp_total exact_bytes v u
-    (λ is. subst (λ (w : List ℕ). but m.folder m.place u (Some (shown (u, m))) (shown_at names) j p w ≡ shown_at (finmap.insert names u m) j p w) (sym is)
-    (at-own (is_spot m.folder m.place j p) u (Some (shown (u, m))) (shown_at names j p u)
-    ∙ ap (λ (o : Option Listed). cond (is_spot m.folder m.place j p) (Some (shown (u, m))) (option_and_then (entry_at j p u) o)) none
+    (λ is. subst (λ (w : List ℕ). but m.folder m.place u (Some (as_entry (u, m))) (shown_at names) j p w ≡ shown_at (finmap.insert names u m) j p w) (sym is)
+    (at-own (is_spot m.folder m.place j p) u (Some (as_entry (u, m))) (shown_at names j p u)
+    ∙ ap (λ (o : Option Listed). cond (is_spot m.folder m.place j p) (Some (as_entry (u, m))) (option_and_then (entry_at j p u) o)) none
     ∙ sym (put-here names u m j p)))
-    (λ is. at-other (is_spot m.folder m.place j p) u v is (Some (shown (u, m))) (shown_at names j p v) ∙ sym (put-beside names u m j p v is))
+    (λ is. at-other (is_spot m.folder m.place j p) u v is (Some (as_entry (u, m))) (shown_at names j p v) ∙ sym (put-beside names u m j p v is))
 
 twice : {X : Type 0} (a : Bool) (x : Option X) → cond a None (cond a x None) ≡ None
 twice true x = refl
@@ -139,7 +139,7 @@ removed names u m is_there j p v = by_key nat_list_cmp_total exact_bytes v u
     (λ is. subst (λ (w : List ℕ). but m.folder m.place u None (shown_at names) j p w ≡ shown_at (finmap.remove names u) j p w) (sym is)
     (at-own (is_spot m.folder m.place j p) u None (shown_at names j p u)
     ∙ ap (λ (o : Option Listed). cond (is_spot m.folder m.place j p) None (option_and_then (entry_at j p u) o)) is_there
-    ∙ twice (is_spot m.folder m.place j p) (Some (shown (u, m))) ∙ sym (gone-here names u j p)))
+    ∙ twice (is_spot m.folder m.place j p) (Some (as_entry (u, m))) ∙ sym (gone-here names u j p)))
     (λ is. at-other (is_spot m.folder m.place j p) u v is None (shown_at names j p v) ∙ sym (gone-beside names u j p v is))
 
 -- a message that has another name: the new entry was put in before the old one went
@@ -149,9 +149,9 @@ module _ (names : Names) (u : List ℕ) (m : Listed) (is_there : get names u ≡
   after_both = finmap.insert (finmap.remove names u) v m'
 
   abbrev put_in : ℕ → Place → List ℕ → Option Entry
-  put_in = but m'.folder m'.place v (Some (shown (v, m'))) (shown_at names)
+  put_in = but m'.folder m'.place v (Some (as_entry (v, m'))) (shown_at names)
 
-  was-here : (j : ℕ) (p : Place) → shown_at names j p u ≡ cond (is_spot m.folder m.place j p) (Some (shown (u, m))) None
+  was-here : (j : ℕ) (p : Place) → shown_at names j p u ≡ cond (is_spot m.folder m.place j p) (Some (as_entry (u, m))) None
   was-here j p = ap (option_and_then (entry_at j p u)) is_there
 
   was-none : v ≢ u → (j : ℕ) (p : Place) → shown_at names j p v ≡ None
@@ -164,24 +164,24 @@ module _ (names : Names) (u : List ℕ) (m : Listed) (is_there : get names u ≡
 
   -- at the new name, where the old entry stood elsewhere or under another name
   same-name : (not : (j : ℕ) (p : Place) → v ≡ u → is_spot m.folder m.place j p ≡ true → is_spot m'.folder m'.place j p ≡ true → ⊥) (j : ℕ) (p : Place)
-      → but m.folder m.place u None put_in j p v ≡ cond (is_spot m'.folder m'.place j p) (Some (shown (v, m'))) None
+      → but m.folder m.place u None put_in j p v ≡ cond (is_spot m'.folder m'.place j p) (Some (as_entry (v, m'))) None
   same-name not j p = by_key nat_list_cmp_total exact_bytes v u
       (λ is.
       subst (λ (w : List ℕ). cond (is_spot m.folder m.place j p && eq_by_cmp name_cmp v w) None (put_in j p v)
-      ≡ cond (is_spot m'.folder m'.place j p) (Some (shown (v, m'))) None) is
+      ≡ cond (is_spot m'.folder m'.place j p) (Some (as_entry (v, m'))) None) is
       (at-own (is_spot m.folder m.place j p) v None (put_in j p v)
-      ∙ ap (cond (is_spot m.folder m.place j p) None) (at-own (is_spot m'.folder m'.place j p) v (Some (shown (v, m'))) (shown_at names j p v)
-      ∙ ap (cond (is_spot m'.folder m'.place j p) (Some (shown (v, m')))) (ap (shown_at names j p) is ∙ was-here j p))
-      ∙ both-apart (is_spot m.folder m.place j p) (is_spot m'.folder m'.place j p) (not j p is) (Some (shown (v, m'))) (Some (shown (u, m)))))
+      ∙ ap (cond (is_spot m.folder m.place j p) None) (at-own (is_spot m'.folder m'.place j p) v (Some (as_entry (v, m'))) (shown_at names j p v)
+      ∙ ap (cond (is_spot m'.folder m'.place j p) (Some (as_entry (v, m')))) (ap (shown_at names j p) is ∙ was-here j p))
+      ∙ both-apart (is_spot m.folder m.place j p) (is_spot m'.folder m'.place j p) (not j p is) (Some (as_entry (v, m'))) (Some (as_entry (u, m)))))
       (λ is.
       at-other (is_spot m.folder m.place j p) u v is None (put_in j p v)
-      ∙ at-own (is_spot m'.folder m'.place j p) v (Some (shown (v, m'))) (shown_at names j p v)
-      ∙ ap (cond (is_spot m'.folder m'.place j p) (Some (shown (v, m')))) (was-none is j p))
+      ∙ at-own (is_spot m'.folder m'.place j p) v (Some (as_entry (v, m'))) (shown_at names j p v)
+      ∙ ap (cond (is_spot m'.folder m'.place j p) (Some (as_entry (v, m')))) (was-none is j p))
 
   other-name : (j : ℕ) (p : Place) (w : List ℕ) → w ≢ v → but m.folder m.place u None put_in j p w ≡ shown_at (finmap.remove names u) j p w
   other-name j p w not =
       ap (cond (is_spot m.folder m.place j p && eq_by_cmp name_cmp w u) None)
-      (at-other (is_spot m'.folder m'.place j p) v w not (Some (shown (v, m'))) (shown_at names j p w))
+      (at-other (is_spot m'.folder m'.place j p) v w not (Some (as_entry (v, m'))) (shown_at names j p w))
       ∙ removed names u m is_there j p w
 
   pub renamed : (not : (j : ℕ) (p : Place) → v ≡ u → is_spot m.folder m.place j p ≡ true → is_spot m'.folder m'.place j p ≡ true → ⊥) (j : ℕ)
@@ -200,11 +200,11 @@ module _ (names : Names) (u : List ℕ) (m : Listed) (is_there : get names u ≡
   pub replaced : v ≡ u → m.folder ≡ m'.folder → m.place ≡ m'.place → (j : ℕ) (p : Place) (w : List ℕ) → put_in j p w ≡ shown_at after_both j p w
   replaced is folder place j p w = by_key nat_list_cmp_total exact_bytes w v
       (λ same. subst (λ (x : List ℕ). put_in j p x ≡ shown_at after_both j p x) (sym same)
-      (at-own (is_spot m'.folder m'.place j p) v (Some (shown (v, m'))) (shown_at names j p v)
-      ∙ ap (cond (is_spot m'.folder m'.place j p) (Some (shown (v, m'))))
-      (ap (shown_at names j p) is ∙ was-here j p ∙ (λ i. cond (is_spot (folder i) (place i) j p) (Some (shown (u, m))) None))
-      ∙ at-place (is_spot m'.folder m'.place j p) (Some (shown (v, m'))) (Some (shown (u, m)))
+      (at-own (is_spot m'.folder m'.place j p) v (Some (as_entry (v, m'))) (shown_at names j p v)
+      ∙ ap (cond (is_spot m'.folder m'.place j p) (Some (as_entry (v, m'))))
+      (ap (shown_at names j p) is ∙ was-here j p ∙ (λ i. cond (is_spot (folder i) (place i) j p) (Some (as_entry (u, m))) None))
+      ∙ at-place (is_spot m'.folder m'.place j p) (Some (as_entry (v, m'))) (Some (as_entry (u, m)))
       ∙ sym (put-here (finmap.remove names u) v m' j p)))
       (λ not.
-      at-other (is_spot m'.folder m'.place j p) v w not (Some (shown (v, m'))) (shown_at names j p w)
+      at-other (is_spot m'.folder m'.place j p) v w not (Some (as_entry (v, m'))) (shown_at names j p w)
       ∙ sym (put-beside (finmap.remove names u) v m' j p w not ∙ gone-beside names u j p w (λ same. not (same ∙ sym is))))

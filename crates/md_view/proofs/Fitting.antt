@@ -14,13 +14,13 @@ use Rattle.md_dirs.specs.declared.paths.Place.{Place}
 use Rattle.md_dirs.specs.declared.paths.Place.TheVariants.{Tmp, New, Cur}
 use Rattle.lists.proofs.Maps.{at_drop}
 use Rattle.md_core.specs.Mailbox.{is_tmp}
-use Rattle.md_core.specs.History.{Listed, Names, IsThere, IsNowhere, WasNowhere, IsAllowed, after, changed}
+use Rattle.md_core.specs.History.{Listed, Names, IsThere, IsNowhere, WasNowhere, IsAllowed, names_after, names_after_change}
 use Rattle.md_core.specs.declared.jobs.answer.Answer.{Answer}
 use Rattle.md_core.specs.declared.jobs.answer.Answer.TheVariants as answer
 use Rattle.md_core.specs.declared.jobs.effect.Change.{Change}
 use Rattle.md_core.specs.declared.jobs.effect.Change.TheVariants as change
 use Rattle.md_core.specs.declared.jobs.effect.Effect.{Effect}
-use Rattle.md_view.specs.Named.{Named, IsMessage, AreMessages, is_listed, has_name, is_there, is_free, fits, applied}
+use Rattle.md_view.specs.Named.{Named, IsMessage, AreMessages, is_listed, has_name, is_there, is_free, fits, after_change}
 use Rattle.md_view.proofs.Rows.{and-both}
 
 not_tmp : (place : Place) → place ≢ Tmp → is_tmp place ≡ false
@@ -96,9 +96,9 @@ module _ (n : Named) where
 
       -- so it is made
       pub allowed-applied : (a : Answer) (c : Change) → IsAllowed n.folders n.names IsFresh a c
-          → applied n c ≡ record { folders = n.folders; names = changed n.names c }
-      allowed-applied a c h = ap (λ b. cond b (record { folders = n.folders; names = changed n.names c }) n) (allowed-fits a c h)
+          → after_change n c ≡ record { folders = n.folders; names = names_after_change n.names c }
+      allowed-applied a c h = ap (λ b. cond b (record { folders = n.folders; names = names_after_change n.names c }) n) (allowed-fits a c h)
 
 -- a name that was nowhere is nowhere now
-pub nowhere : (opening : Names) (history : List Effect) (u : List ℕ) → WasNowhere opening history u → IsNowhere (after opening history) u
-nowhere opening history u was = subst (λ h. IsNowhere (after opening h) u) (take_all (length history) history (omega arith)) (was (length history))
+pub nowhere : (opening : Names) (history : List Effect) (u : List ℕ) → WasNowhere opening history u → IsNowhere (names_after opening history) u
+nowhere opening history u was = subst (λ h. IsNowhere (names_after opening h) u) (take_all (length history) history (omega arith)) (was (length history))

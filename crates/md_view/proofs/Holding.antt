@@ -13,9 +13,9 @@ use Rattle.md_dirs.specs.declared.paths.Place.TheVariants.{Tmp, New, Cur}
 use Rattle.md_core.specs.Mailbox.{name_cmp, is_tmp}
 use Rattle.md_core.specs.History.{Listed, Names}
 use Rattle.md_view.specs.declared.entry.Entry.{Entry}
-use Rattle.md_view.specs.Readings.{shown, reading_of, IsInOrder}
+use Rattle.md_view.specs.Readings.{as_entry, reading_of, IsInOrder}
 use Rattle.md_view.specs.Named.{Named, AreMessages}
-use Rattle.md_view.specs.Held.{FolderLists, list_of, listed_in, by_folder, listed_from, held_names, AreHeld, HoldNames, found, has_unique}
+use Rattle.md_view.specs.Held.{FolderLists, list_of, listed_in, by_folder, listed_from, held_names, AreHeld, HoldNames, entry_with, has_unique}
 use Rattle.md_view.proofs.Keyed.{IsSorted, lookup-append, sorted-values, in-order, ordered}
 use Rattle.md_view.proofs.Readings.{entry_at, reading-sorted, lookup-reading}
 
@@ -24,7 +24,7 @@ abbrev pub shown_at : Names → ℕ → Place → List ℕ → Option Entry
 shown_at names folder place u = option_and_then (entry_at folder place u) (get names u)
 
 -- a list in order that shows what the names show is their reading
-pub reading-is : (names : Names) (folder : ℕ) (place : Place) (es : List Entry) → IsSorted es → ((u : List ℕ) → found u es ≡ shown_at names folder place u)
+pub reading-is : (names : Names) (folder : ℕ) (place : Place) (es : List Entry) → IsSorted es → ((u : List ℕ) → entry_with u es ≡ shown_at names folder place u)
     → es ≡ reading_of names folder place
 reading-is names folder place es sorted same =
     sorted-values es (reading_of names folder place) sorted (λ u. same u ∙ sym (lookup-reading folder place names u))
@@ -33,12 +33,12 @@ reading-is names folder place es sorted same =
 -- lists in order, by what they show
 pub record AreLists (fs : List FolderLists) (g : ℕ → Place → List ℕ → Option Entry) : Type 0 where
   pub order : (folder : ℕ) (place : Place) → IsInOrder (listed_in fs folder place)
-  pub at : (folder : ℕ) (place : Place) (u : List ℕ) → found u (listed_in fs folder place) ≡ g folder place u
+  pub at : (folder : ℕ) (place : Place) (u : List ℕ) → entry_with u (listed_in fs folder place) ≡ g folder place u
 
 pub held-lists : (n : Named) (fs : List FolderLists) → AreHeld n fs → AreLists fs (shown_at n.names)
 held-lists n fs held = record {
   order = λ folder place. subst (λ (es : List Entry). IsInOrder es) (sym (held.lists folder place)) (in-order _ (reading-sorted folder place n.names));
-  at = λ folder place u. ap (found u) (held.lists folder place) ∙ lookup-reading folder place n.names u;
+  at = λ folder place u. ap (entry_with u) (held.lists folder place) ∙ lookup-reading folder place n.names u;
 }
 
 pub lists-held : (n : Named) (fs : List FolderLists) → length fs < 2 ^ 32 → length fs ≡ n.folders → AreMessages n
@@ -63,11 +63,11 @@ find-both u (x ∷ xs) ys =
 abbrev says : ℕ → Entry → Listed
 says folder e = (by_folder folder e).1
 
-find-by_folder : (u : List ℕ) (folder : ℕ) (es : List Entry) → find name_cmp u (map (by_folder folder) es) ≡ option_map (says folder) (found u es)
+find-by_folder : (u : List ℕ) (folder : ℕ) (es : List Entry) → find name_cmp u (map (by_folder folder) es) ≡ option_map (says folder) (entry_with u es)
 find-by_folder u folder [] = refl
 find-by_folder u folder (e ∷ es) =
     elim (eq_by_cmp name_cmp u e.unique)
-    as (λ b. cond b (Some (says folder e)) (find name_cmp u (map (by_folder folder) es)) ≡ option_map (says folder) (cond b (Some e) (found u es))) [
+    as (λ b. cond b (Some (says folder e)) (find name_cmp u (map (by_folder folder) es)) ≡ option_map (says folder) (cond b (Some e) (entry_with u es))) [
       | true ↦ refl
       | false ↦ find-by_folder u folder es
     ]
@@ -89,7 +89,7 @@ module _ (u : List ℕ) (o : Option Listed) where
   shares folder (suc count) = option_or (share folder) (shares (suc folder) count)
 
   find-from : (folder : ℕ) (fs : List FolderLists)
-      → ((k : ℕ) (f : FolderLists) → slice_get fs k ≡ Some f → option_map (says (folder + k)) (found u (f.in_new ++ f.in_cur)) ≡ share (folder + k))
+      → ((k : ℕ) (f : FolderLists) → slice_get fs k ≡ Some f → option_map (says (folder + k)) (entry_with u (f.in_new ++ f.in_cur)) ≡ share (folder + k))
       → find name_cmp u (listed_from folder fs) ≡ shares folder (length fs)
   find-from folder [] each = refl
   find-from folder (f ∷ fs) each =
@@ -97,9 +97,9 @@ module _ (u : List ℕ) (o : Option Listed) where
       let rest : find name_cmp u (listed_from (suc folder) fs) ≡ shares (suc folder) (length fs) =
       find-from (suc folder) fs (λ k g at.
       let next : folder + suc k ≡ suc folder + k = omega arith in
-      subst (λ j. option_map (says j) (found u (g.in_new ++ g.in_cur)) ≡ share j) next (each (suc k) g at)) in
-      let here : option_map (says folder) (found u (f.in_new ++ f.in_cur)) ≡ share folder =
-      subst (λ j. option_map (says j) (found u (f.in_new ++ f.in_cur)) ≡ share j) same (each 0 f refl) in
+      subst (λ j. option_map (says j) (entry_with u (g.in_new ++ g.in_cur)) ≡ share j) next (each (suc k) g at)) in
+      let here : option_map (says folder) (entry_with u (f.in_new ++ f.in_cur)) ≡ share folder =
+      subst (λ j. option_map (says j) (entry_with u (f.in_new ++ f.in_cur)) ≡ share j) same (each 0 f refl) in
       find-both u (map (by_folder folder) (f.in_new ++ f.in_cur)) (listed_from (suc folder) fs)
       ∙ (λ i. option_or (find-by_folder u folder (f.in_new ++ f.in_cur) i) (rest i)) ∙ ap (λ p. option_or p (shares (suc folder) (length fs))) here
 
@@ -154,24 +154,24 @@ other-places x b true c p q = cc
 other-places x b false false p q = cc
 
 in-either : (u : List ℕ) (m : Listed) (folder : ℕ) → is_tmp m.place ≡ false
-    → option_or (entry_at folder New u m) (entry_at folder Cur u m) ≡ cond (m.folder == folder) (Some (shown (u, m))) None
+    → option_or (entry_at folder New u m) (entry_at folder Cur u m) ≡ cond (m.folder == folder) (Some (as_entry (u, m))) None
 in-either u m folder placed = by m.place refl
   where
     at : (q p : Place) → m.place ≡ p → (b : Bool) → (place_index p == place_index q) ≡ b → (place_index m.place == place_index q) ≡ b
     at q p is b same = ap (λ (r : Place). place_index r == place_index q) is ∙ same
 
-    by : (p : Place) → m.place ≡ p → option_or (entry_at folder New u m) (entry_at folder Cur u m) ≡ cond (m.folder == folder) (Some (shown (u, m))) None
+    by : (p : Place) → m.place ≡ p → option_or (entry_at folder New u m) (entry_at folder Cur u m) ≡ cond (m.folder == folder) (Some (as_entry (u, m))) None
     by Tmp is = let never : true ≡ false = sym (ap is_tmp is) ∙ placed in cc
-    by New is = two-places (shown (u, m)) (m.folder == folder) (place_index m.place == place_index New) (place_index m.place == place_index Cur)
+    by New is = two-places (as_entry (u, m)) (m.folder == folder) (place_index m.place == place_index New) (place_index m.place == place_index Cur)
         (at New New is true refl) (at Cur New is false refl)
-    by Cur is = other-places (shown (u, m)) (m.folder == folder) (place_index m.place == place_index New) (place_index m.place == place_index Cur)
+    by Cur is = other-places (as_entry (u, m)) (m.folder == folder) (place_index m.place == place_index New) (place_index m.place == place_index Cur)
         (at New Cur is false refl) (at Cur Cur is true refl)
 
 shares-said : (u : List ℕ) (m : Listed) (folder : ℕ)
-    → option_map (says folder) (cond (m.folder == folder) (Some (shown (u, m))) None) ≡ cond (m.folder == folder) (Some m) None
+    → option_map (says folder) (cond (m.folder == folder) (Some (as_entry (u, m))) None) ≡ cond (m.folder == folder) (Some m) None
 shares-said u m folder = by (m.folder == folder) refl
   where
-    by : (b : Bool) → (m.folder == folder) ≡ b → option_map (says folder) (cond b (Some (shown (u, m))) None) ≡ cond b (Some m) None
+    by : (b : Bool) → (m.folder == folder) ≡ b → option_map (says folder) (cond b (Some (as_entry (u, m))) None) ≡ cond b (Some m) None
     by false is = refl
     by true is =
         let same : m.folder ≡ folder = eqb-true m.folder folder is in
@@ -183,25 +183,25 @@ module _ (n : Named) (fs : List FolderLists) (held : AreHeld n fs) where
   lists-of folder f at place = sym (ap (λ (o : Option FolderLists). option_map_or (list_of place) o []) at)
 
   pub found-in : (folder : ℕ) (f : FolderLists) → slice_get fs folder ≡ Some f → (place : Place) (u : List ℕ)
-      → found u (list_of place f) ≡ shown_at n.names folder place u
-  found-in folder f at place u = ap (found u) (lists-of folder f at place) ∙ (held-lists n fs held).at folder place u
+      → entry_with u (list_of place f) ≡ shown_at n.names folder place u
+  found-in folder f at place u = ap (entry_with u) (lists-of folder f at place) ∙ (held-lists n fs held).at folder place u
 
   either : (u : List ℕ) (folder : ℕ) (o : Option Listed) → get n.names u ≡ o
       → option_or (shown_at n.names folder New u) (shown_at n.names folder Cur u)
-      ≡ option_and_then (λ m. cond (m.folder == folder) (Some (shown (u, m))) None) o
+      ≡ option_and_then (λ m. cond (m.folder == folder) (Some (as_entry (u, m))) None) o
   either u folder None is = λ i. option_or (option_and_then (entry_at folder New u) (is i)) (option_and_then (entry_at folder Cur u) (is i))
   either u folder (Some m) is =
       (λ i. option_or (option_and_then (entry_at folder New u) (is i)) (option_and_then (entry_at folder Cur u) (is i)))
       ∙ in-either u m folder (held.messages u m is).place
 
   both-lists : (u : List ℕ) (folder : ℕ) (f : FolderLists) → slice_get fs folder ≡ Some f
-      → option_map (says folder) (found u (f.in_new ++ f.in_cur)) ≡ share u (get n.names u) folder
+      → option_map (says folder) (entry_with u (f.in_new ++ f.in_cur)) ≡ share u (get n.names u) folder
   both-lists u folder f at =
       ap (option_map (says folder)) (lookup-append u f.in_new f.in_cur
       ∙ (λ i. option_or (found-in folder f at New u i) (found-in folder f at Cur u i)) ∙ either u folder (get n.names u) refl)
       ∙ by (get n.names u)
     where
-      by : (o : Option Listed) → option_map (says folder) (option_and_then (λ m. cond (m.folder == folder) (Some (shown (u, m))) None) o) ≡ share u o folder
+      by : (o : Option Listed) → option_map (says folder) (option_and_then (λ m. cond (m.folder == folder) (Some (as_entry (u, m))) None) o) ≡ share u o folder
       by None = refl
       by (Some m) = shares-said u m folder
 
@@ -215,7 +215,7 @@ module _ (n : Named) (fs : List FolderLists) (held : AreHeld n fs) where
       get-from_entries nat_list_cmp_total (listed_from 0 fs) u
       ∙ find-from u (get n.names u) 0 fs (λ k f at.
       let plus : k ≡ 0 + k = omega arith in
-      subst (λ j. option_map (says j) (found u (f.in_new ++ f.in_cur)) ≡ share u (get n.names u) j) plus (both-lists u k f at))
+      subst (λ j. option_map (says j) (entry_with u (f.in_new ++ f.in_cur)) ≡ share u (get n.names u) j) plus (both-lists u k f at))
       ∙ all-shares u (get n.names u) (length fs) (within u)) in
       (λ i. record { folders = held.count i; names = names i })
 
@@ -225,14 +225,14 @@ module _ (n : Named) (fs : List FolderLists) (held : AreHeld n fs) where
 
   has-share : (u : List ℕ) (folder : ℕ) (f : FolderLists) → slice_get fs folder ≡ Some f → has_unique u f ≡ is_some (share u (get n.names u) folder)
   has-share u folder f at =
-      sym (or-some (found u f.in_new) (found u f.in_cur))
+      sym (or-some (entry_with u f.in_new) (entry_with u f.in_cur))
       ∙ ap is_some (λ i. option_or (found-in folder f at New u i) (found-in folder f at Cur u i))
       ∙ ap is_some (either u folder (get n.names u) refl) ∙ by (get n.names u)
     where
-      by : (o : Option Listed) → is_some (option_and_then (λ m. cond (m.folder == folder) (Some (shown (u, m))) None) o) ≡ is_some (share u o folder)
+      by : (o : Option Listed) → is_some (option_and_then (λ m. cond (m.folder == folder) (Some (as_entry (u, m))) None) o) ≡ is_some (share u o folder)
       by None = refl
       by (Some m) =
-          elim (m.folder == folder) as (λ b. is_some (cond b (Some (shown (u, m))) None) ≡ is_some (cond b (Some m) None)) [ true ↦ refl | false ↦ refl ]
+          elim (m.folder == folder) as (λ b. is_some (cond b (Some (as_entry (u, m))) None) ≡ is_some (cond b (Some m) None)) [ true ↦ refl | false ↦ refl ]
 
   -- whether a message has a unique name, folder by folder
   pub taken : (u : List ℕ) → list_any (has_unique u) fs ≡ is_some (get n.names u)

@@ -11,18 +11,18 @@ use Rattle.std.proofs.lemmas.Cmp.{nat_list_cmp_total, tied_itself}
 use Rattle.std.proofs.lemmas.Map.Lookups.{exact_bytes}
 use Rattle.md_core.specs.Mailbox.{name_cmp}
 use Rattle.md_view.specs.declared.entry.Entry.{Entry}
-use Rattle.md_view.specs.Readings.{keyed, by_unique}
+use Rattle.md_view.specs.Readings.{with_unique, by_unique}
 
 -- the entry of a unique name in a list
 abbrev pub lookup : List ℕ → List Entry → Option Entry
-lookup u es = find name_cmp u (map keyed es)
+lookup u es = find name_cmp u (map with_unique es)
 
 -- a unique name is below those of all entries
 abbrev pub IsBelow : List ℕ → List Entry → Type 0
-IsBelow u es = T (below_all name_cmp u (map keyed es))
+IsBelow u es = T (below_all name_cmp u (map with_unique es))
 
 abbrev pub IsSorted : List Entry → Type 0
-IsSorted es = T (is_sorted name_cmp (map keyed es))
+IsSorted es = T (is_sorted name_cmp (map with_unique es))
 
 pub in-order : (b : Bool) → T b → b ≡ true
 in-order true h = refl
@@ -81,9 +81,9 @@ lookup-append u (x ∷ xs) ys =
     ]
 
 pub get-by_unique : (u : List ℕ) (es : List Entry) → get (by_unique es) u ≡ lookup u es
-get-by_unique u es = get-from_entries nat_list_cmp_total (map keyed es) u
+get-by_unique u es = get-from_entries nat_list_cmp_total (map with_unique es) u
 
-values-keyed : (es : List Entry) → map (λ (x : List ℕ × Entry). x.1) (map keyed es) ≡ es
+values-keyed : (es : List Entry) → map (λ (x : List ℕ × Entry). x.1) (map with_unique es) ≡ es
 values-keyed [] = refl
 values-keyed (e ∷ es) = ap (λ (rest : List Entry). e ∷ rest) (values-keyed es)
 
@@ -92,5 +92,5 @@ pub sorted-values : (es fs : List Entry) → IsSorted es → ((u : List ℕ) →
 sorted-values es fs sorted same =
     sym (values-keyed es)
     ∙ ap (λ (xs : List (List ℕ × Entry)). map (λ x. x.1) xs)
-    (same_entries name_cmp nat_list_cmp_total exact_bytes (map keyed es) (entries (by_unique fs)) sorted (entries_sorted (by_unique fs))
+    (same_entries name_cmp nat_list_cmp_total exact_bytes (map with_unique es) (entries (by_unique fs)) sorted (entries_sorted (by_unique fs))
     (λ u. same u ∙ sym (get-by_unique u fs) ∙ get-entries (by_unique fs) u))

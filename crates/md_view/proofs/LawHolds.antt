@@ -15,8 +15,8 @@ use Rattle.md_core.specs.Trace.{Trace, state}
 use Rattle.md_core.specs.Tracing.{trace_of}
 use Rattle.md_core.specs.Laws.{IsInCur, IsNotInTmp, KeepsPlaces}
 use Rattle.md_view.specs.declared.entry.Entry.{Entry}
-use Rattle.md_view.specs.Readings.{shown, reading_of, join_of}
-use Rattle.md_view.specs.Law.{names_at, names_after, shown_in, entry_in, entry_among, listing_of, IsOfSomeMoment, IsGoodListing}
+use Rattle.md_view.specs.Readings.{as_entry, reading_of, join_of}
+use Rattle.md_view.specs.Law.{names_at, names_after_first, shown_in, entry_in, entry_among, listing_of, IsOfSomeMoment, IsGoodListing}
 use Rattle.md_view.proofs.Keyed.{lookup, get-by_unique, in-order, first}
 use Rattle.md_view.proofs.Merged.{join-sorted, merged-join, lookup-merged}
 use Rattle.md_view.proofs.Readings.{entry_at, reading-sorted, lookup-reading}
@@ -44,8 +44,8 @@ module _ (names : ℕ → Names) (folder i j : ℕ) (order : i ≤ j) (u : List 
 
   -- what a place says of a message that is in it, and of one that isn't
   at-place : (place : Place) (x : Listed) (p : Place) → x.place ≡ p
-      → entry_at folder place u x ≡ cond ((x.folder == folder) && (place_index p == place_index place)) (Some (shown (u, x))) None
-  at-place place x p is = ap (λ (q : Place). cond ((x.folder == folder) && (place_index q == place_index place)) (Some (shown (u, x))) None) is
+      → entry_at folder place u x ≡ cond ((x.folder == folder) && (place_index p == place_index place)) (Some (as_entry (u, x))) None
+  at-place place x p is = ap (λ (q : Place). cond ((x.folder == folder) && (place_index q == place_index place)) (Some (as_entry (u, x))) None) is
 
   and-false : (b : Bool) → (b && false) ≡ false
   and-false true = refl
@@ -57,11 +57,11 @@ module _ (names : ℕ → Names) (folder i j : ℕ) (order : i ≤ j) (u : List 
 
   at-own : (place : Place) (x : Listed) → x.place ≡ place → (place_index place == place_index place) ≡ true → entry_at folder place u x ≡ shown_in folder u x
   at-own place x is own = at-place place x place is
-      ∙ ap (λ b. cond {A = Option Entry} b (Some (shown (u, x))) None) (ap (λ b. (x.folder == folder) && b) own ∙ and-true (x.folder == folder))
+      ∙ ap (λ b. cond {A = Option Entry} b (Some (as_entry (u, x))) None) (ap (λ b. (x.folder == folder) && b) own ∙ and-true (x.folder == folder))
 
   at-other : (place p : Place) (x : Listed) → x.place ≡ p → (place_index p == place_index place) ≡ false → entry_at folder place u x ≡ None
   at-other place p x is other = at-place place x p is
-      ∙ ap (λ b. cond {A = Option Entry} b (Some (shown (u, x))) None) (ap (λ b. (x.folder == folder) && b) other ∙ and-false (x.folder == folder))
+      ∙ ap (λ b. cond {A = Option Entry} b (Some (as_entry (u, x))) None) (ap (λ b. (x.folder == folder) && b) other ∙ and-false (x.folder == folder))
 
   -- how a unique name stands among the names of a moment
   data Stands (m : Names) : Type 0 where
@@ -169,8 +169,8 @@ good-listing names folder i j order no_tmp stays = record {
 }
 
 pub good-history : (s : State) (history : List Effect) → AreOfPaths s → KeepsPlaces (names_of (mailbox_of s)) history → (folder i j : ℕ) → i ≤ j
-    → IsGoodListing (names_after (names_of (mailbox_of s)) history) folder i j
-good-history s history of_paths keeps folder i j order = good-listing (names_after (names_of (mailbox_of s)) history) folder i j order
+    → IsGoodListing (names_after_first (names_of (mailbox_of s)) history) folder i j
+good-history s history of_paths keeps folder i j order = good-listing (names_after_first (names_of (mailbox_of s)) history) folder i j order
     (λ u k x is. subst IsNotInTmp is (keeps.never_in_tmp u (at_first u (get (names_of (mailbox_of s)) u) refl) k))
     (λ u x is at. keeps.stays_in_cur i j order u x is at)
   where
@@ -187,7 +187,7 @@ module _ (of_paths : (s : State) → AreOfPaths s) (keeps : LegalKeepPlaces) whe
   good-run r all folder i j order = good-listing (names_at r) folder i j order
       (λ u k x is. not_in_tmp (state t k) u x (of_paths (state t k) u x is))
       (λ u x is at.
-      let counted : (k : ℕ) → get (names_at r k) u ≡ get (names_after (opening_of t all) (history_of t all) (count_at t all k)) u =
+      let counted : (k : ℕ) → get (names_at r k) u ≡ get (names_after_first (opening_of t all) (history_of t all) (count_at t all k)) u =
       λ k. ap (λ (m : Names). get m u) (names-counted t all k) in
       subst IsInCur (sym (counted j))
       ((keeps t.image.folders (opening_of t all) (history_of t all) all.legal).stays_in_cur (count_at t all i) (count_at t all j)

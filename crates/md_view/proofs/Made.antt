@@ -11,7 +11,7 @@ use Rattle.md_core.specs.Mailbox.{mailbox_of, is_tmp, HasOnePath}
 use Rattle.md_core.specs.History.{Listed, names_of}
 use Rattle.lists.proofs.Members.{Has}
 use Rattle.md_view.specs.declared.entry.Entry.{Entry}
-use Rattle.md_view.specs.Readings.{shown, reading_of}
+use Rattle.md_view.specs.Readings.{as_entry, reading_of}
 use Rattle.md_view.proofs.Keyed.{IsSorted}
 use Rattle.md_view.proofs.Paths.{AreOfPaths, AreListed, not_in_tmp}
 use Rattle.md_view.proofs.Readings.{entry_at}
@@ -34,9 +34,9 @@ reading-tmp s of_paths folder = reading-by s folder Tmp [] tt (λ u. by u (get (
       where
         elsewhere : (p : Place) → x.place ≡ p → (place_index p == place_index Tmp) ≡ false → entry_at folder Tmp u x ≡ None
         elsewhere p at other =
-            (λ i. cond {A = Option Entry} ((x.folder == folder) && (place_index (at i) == place_index Tmp)) (Some (shown (u, x))) None)
-            ∙ ap (λ b. cond {A = Option Entry} ((x.folder == folder) && b) (Some (shown (u, x))) None) other
-            ∙ ap (λ b. cond {A = Option Entry} b (Some (shown (u, x))) None) (and-false (x.folder == folder))
+            (λ i. cond {A = Option Entry} ((x.folder == folder) && (place_index (at i) == place_index Tmp)) (Some (as_entry (u, x))) None)
+            ∙ ap (λ b. cond {A = Option Entry} ((x.folder == folder) && b) (Some (as_entry (u, x))) None) other
+            ∙ ap (λ b. cond {A = Option Entry} b (Some (as_entry (u, x))) None) (and-false (x.folder == folder))
 
         placed : (p : Place) → x.place ≡ p → entry_at folder Tmp u x ≡ None
         placed Tmp at = absurd (not_in_tmp s u x (of_paths u x is) at)

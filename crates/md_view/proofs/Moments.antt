@@ -5,10 +5,10 @@ use Rattle.std.proofs.lemmas.List.Elements.{filter_map-append}
 use Rattle.std.specs.List.{filter_map}
 use Rattle.md_core.specs.declared.jobs.effect.Effect.{Effect}
 use Rattle.md_core.specs.Mailbox.{mailbox_of}
-use Rattle.md_core.specs.History.{Names, names_of, after}
+use Rattle.md_core.specs.History.{Names, names_of, names_after}
 use Rattle.md_core.specs.Trace.{Trace, Step, box, effects}
 use Rattle.md_core.specs.Interleaving.{Interleaves}
-use Rattle.md_view.specs.Law.{names_after}
+use Rattle.md_view.specs.Law.{names_after_first}
 
 module _ (t : Trace) (all : Interleaves t) where
   abbrev pub opening_of : Names
@@ -44,9 +44,9 @@ module _ (t : Trace) (all : Interleaves t) where
   past-all : (k : ℕ) → length t.steps ≤ k → effects t k ≡ history_of
   past-all k past = ap (filter_map own_of) (take_all k t.steps past ∙ sym (take_all (length t.steps) t.steps (omega arith)))
 
-  pub names-counted : (k : ℕ) → names_of (box t k) ≡ names_after opening_of history_of (count_at k)
+  pub names-counted : (k : ℕ) → names_of (box t k) ≡ names_after_first opening_of history_of (count_at k)
   names-counted k =
       let later = grown k (k + length t.steps) (omega arith) in
       let whole : history_of ≡ effects t k ++ later.0 = sym (past-all (k + length t.steps) (omega arith)) ∙ later.1 in
       let front : take (count_at k) history_of ≡ effects t k = ap (take (count_at k)) whole ∙ take_at (effects t k) later.0 (count_at k) refl in
-      sym (all.names k) ∙ ap (after opening_of) (sym front)
+      sym (all.names k) ∙ ap (names_after opening_of) (sym front)

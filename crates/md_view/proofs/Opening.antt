@@ -11,7 +11,7 @@ use Rattle.md_dirs.specs.declared.paths.Place.TheVariants.{Tmp, New, Cur}
 use Rattle.md_core.specs.Mailbox.{is_tmp}
 use Rattle.md_core.specs.History.{Listed}
 use Rattle.md_view.specs.declared.entry.Entry.{Entry}
-use Rattle.md_view.specs.Readings.{shown, is_at, reading_of}
+use Rattle.md_view.specs.Readings.{as_entry, is_at, reading_of}
 use Rattle.md_view.specs.Named.{Named, named_of, AreMessages}
 use Rattle.md_view.specs.Held.{FolderLists, list_of, AreHeld}
 use Rattle.md_view.proofs.Paths.{AreOfPaths}
@@ -39,7 +39,7 @@ module _ (n : Named) (are : AreMessages n) where
       by : (u : List ℕ) (o : Option Listed) → get n.names u ≡ o → None ≡ shown_at n.names folder place u
       by u None is = sym (ap (option_and_then (entry_at folder place u)) is)
       by u (Some m) is =
-          ap {B = Option Entry} (λ (b : Bool). cond b (Some (shown (u, m))) None) (sym (never (is_at folder place (u, m)) refl))
+          ap {B = Option Entry} (λ (b : Bool). cond b (Some (as_entry (u, m))) None) (sym (never (is_at folder place (u, m)) refl))
           ∙ sym (ap (option_and_then (entry_at folder place u)) is)
         where
           never : (b : Bool) → is_at folder place (u, m) ≡ b → is_at folder place (u, m) ≡ false

@@ -15,8 +15,8 @@ use Rattle.lists.proofs.Maps.{by_key}
 use Rattle.md_dirs.specs.declared.paths.Place.TheVariants.{New}
 use Rattle.md_core.specs.Mailbox.{name_cmp}
 use Rattle.md_view.specs.declared.entry.Entry.{Entry}
-use Rattle.md_view.specs.Readings.{keyed, IsInOrder}
-use Rattle.md_view.specs.Held.{found, place_for, renamed, HasAt, Shows}
+use Rattle.md_view.specs.Readings.{with_unique, IsInOrder}
+use Rattle.md_view.specs.Held.{entry_with, place_for, renamed, HasAt, Shows}
 use Rattle.md_view.proofs.Keyed.{IsBelow, IsSorted, both, first, second, less, is_less, turned, tie-itself, tie-same, below-less, lookup-below, in-order, ordered}
 
 -- two names that aren't one don't tie
@@ -129,31 +129,31 @@ abbrev pub picked : List ℕ → Option Entry → Option Entry
 picked u None = None
 picked u (Some e) = cond (eq_by_cmp name_cmp u e.unique) (Some e) None
 
-pub found-at : (u : List ℕ) (es : List Entry) → IsSorted es → found u es ≡ picked u (slice_get es (place_for u es))
+pub found-at : (u : List ℕ) (es : List Entry) → IsSorted es → entry_with u es ≡ picked u (slice_get es (place_for u es))
 found-at u [] sorted = refl
 found-at u (e ∷ es) sorted = by (found-at u es (second _ _ sorted)) (name_cmp u e.unique) refl
   where
-    by : found u es ≡ picked u (slice_get es (place_for u es)) → (o : Ordering) → name_cmp u e.unique ≡ o
-        → found u (e ∷ es) ≡ picked u (slice_get (e ∷ es) (place_for u (e ∷ es)))
+    by : entry_with u es ≡ picked u (slice_get es (place_for u es)) → (o : Ordering) → name_cmp u e.unique ≡ o
+        → entry_with u (e ∷ es) ≡ picked u (slice_get (e ∷ es) (place_for u (e ∷ es)))
     by rest Less is =
         lookup-below u (e ∷ es) (both _ _ (is_less _ is) (below-less u e.unique es is (first _ _ sorted)))
         ∙ sym (ap (λ b. picked u (slice_get (e ∷ es) (cond b (suc (place_for u es)) 0))) (turned-is u e.unique Less is)
         ∙ ap (λ r. cond {A = Option Entry} (is_eq r) (Some e) None) is)
     by rest Equal is =
-        ap (λ r. cond (is_eq r) (Some e) (found u es)) is
+        ap (λ r. cond (is_eq r) (Some e) (entry_with u es)) is
         ∙ sym (ap (λ b. picked u (slice_get (e ∷ es) (cond b (suc (place_for u es)) 0))) (turned-is u e.unique Equal is)
         ∙ ap (λ r. cond {A = Option Entry} (is_eq r) (Some e) None) is)
     by rest Greater is =
-        ap (λ r. cond (is_eq r) (Some e) (found u es)) is ∙ rest
+        ap (λ r. cond (is_eq r) (Some e) (entry_with u es)) is ∙ rest
         ∙ sym (ap (λ b. picked u (slice_get (e ∷ es) (cond b (suc (place_for u es)) 0))) (turned-is u e.unique Greater is))
 
 module _ (u : List ℕ) (es : List Entry) (sorted : IsSorted es) (at : ℕ) (is : at ≡ place_for u es) where
-  pub found-has : (h : HasAt es at u) → found u es ≡ Some h.entry
+  pub found-has : (h : HasAt es at u) → entry_with u es ≡ Some h.entry
   found-has h =
       found-at u es sorted ∙ ap (λ k. picked u (slice_get es k)) (sym is) ∙ ap (picked u) h.is
       ∙ ap (λ (v : List ℕ). cond (eq_by_cmp name_cmp u v) (Some h.entry) None) h.unique ∙ ap (λ b. cond b (Some h.entry) None) (tie-itself u)
 
-  pub found-not : (HasAt es at u → ⊥) → found u es ≡ None
+  pub found-not : (HasAt es at u → ⊥) → entry_with u es ≡ None
   found-not not = found-at u es sorted ∙ ap (λ k. picked u (slice_get es k)) (sym is) ∙ by (slice_get es at) refl
     where
       by : (o : Option Entry) → slice_get es at ≡ o → picked u o ≡ None
@@ -164,50 +164,50 @@ module _ (u : List ℕ) (es : List Entry) (sorted : IsSorted es) (at : ℕ) (is 
       ] refl
 
 -- a new entry goes to its place
-keyed-insert : (e : Entry) (es : List Entry) → found e.unique es ≡ None
-    → map keyed (insert es (place_for e.unique es) e) ≡ put name_cmp e.unique e (map keyed es)
+keyed-insert : (e : Entry) (es : List Entry) → entry_with e.unique es ≡ None
+    → map with_unique (insert es (place_for e.unique es) e) ≡ put name_cmp e.unique e (map with_unique es)
 keyed-insert e [] none = refl
 keyed-insert e (x ∷ es) none = by (keyed-insert e es) (name_cmp e.unique x.unique) refl
   where
-    placed : (o : Ordering) → name_cmp e.unique x.unique ≡ o → map keyed (insert (x ∷ es) (place_for e.unique (x ∷ es)) e)
-        ≡ map keyed (insert (x ∷ es) (cond (is_lt (ordering_reverse o)) (suc (place_for e.unique es)) 0) e)
-    placed o is = ap (λ b. map keyed (insert (x ∷ es) (cond b (suc (place_for e.unique es)) 0) e)) (turned-is e.unique x.unique o is)
+    placed : (o : Ordering) → name_cmp e.unique x.unique ≡ o → map with_unique (insert (x ∷ es) (place_for e.unique (x ∷ es)) e)
+        ≡ map with_unique (insert (x ∷ es) (cond (is_lt (ordering_reverse o)) (suc (place_for e.unique es)) 0) e)
+    placed o is = ap (λ b. map with_unique (insert (x ∷ es) (cond b (suc (place_for e.unique es)) 0) e)) (turned-is e.unique x.unique o is)
 
-    into : (o : Ordering) → name_cmp e.unique x.unique ≡ o → by_order o ((e.unique, e) ∷ keyed x ∷ map keyed es) ((x.unique, e) ∷ map keyed es)
-        (keyed x ∷ put name_cmp e.unique e (map keyed es)) ≡ put name_cmp e.unique e (map keyed (x ∷ es))
+    into : (o : Ordering) → name_cmp e.unique x.unique ≡ o → by_order o ((e.unique, e) ∷ with_unique x ∷ map with_unique es) ((x.unique, e) ∷ map with_unique es)
+        (with_unique x ∷ put name_cmp e.unique e (map with_unique es)) ≡ put name_cmp e.unique e (map with_unique (x ∷ es))
     into o is =
-        ap (λ r. by_order r ((e.unique, e) ∷ keyed x ∷ map keyed es) ((x.unique, e) ∷ map keyed es) (keyed x ∷ put name_cmp e.unique e (map keyed es))) (sym is)
+        ap (λ r. by_order r ((e.unique, e) ∷ with_unique x ∷ map with_unique es) ((x.unique, e) ∷ map with_unique es) (with_unique x ∷ put name_cmp e.unique e (map with_unique es))) (sym is)
 
-    by : (found e.unique es ≡ None → map keyed (insert es (place_for e.unique es) e) ≡ put name_cmp e.unique e (map keyed es)) → (o : Ordering)
-        → name_cmp e.unique x.unique ≡ o → map keyed (insert (x ∷ es) (place_for e.unique (x ∷ es)) e) ≡ put name_cmp e.unique e (map keyed (x ∷ es))
+    by : (entry_with e.unique es ≡ None → map with_unique (insert es (place_for e.unique es) e) ≡ put name_cmp e.unique e (map with_unique es)) → (o : Ordering)
+        → name_cmp e.unique x.unique ≡ o → map with_unique (insert (x ∷ es) (place_for e.unique (x ∷ es)) e) ≡ put name_cmp e.unique e (map with_unique (x ∷ es))
     by rest Less is = placed Less is ∙ into Less is
-    by rest Equal is = let never : Some x ≡ None = ap (λ r. cond (is_eq r) (Some x) (found e.unique es)) (sym is) ∙ none in cc
+    by rest Equal is = let never : Some x ≡ None = ap (λ r. cond (is_eq r) (Some x) (entry_with e.unique es)) (sym is) ∙ none in cc
     by rest Greater is =
         placed Greater is
-        ∙ ap (λ (l : List (List ℕ × Entry)). keyed x ∷ l) (rest (ap (λ r. cond (is_eq r) (Some x) (found e.unique es)) (sym is) ∙ none))
+        ∙ ap (λ (l : List (List ℕ × Entry)). with_unique x ∷ l) (rest (ap (λ r. cond (is_eq r) (Some x) (entry_with e.unique es)) (sym is) ∙ none))
         ∙ into Greater is
 
 -- an entry takes the place of the one of its unique name
 keyed-set : (e old : Entry) (es : List Entry) → slice_get es (place_for e.unique es) ≡ Some old → old.unique ≡ e.unique
-    → map keyed (slice_set es (place_for e.unique es) e) ≡ put name_cmp e.unique e (map keyed es)
+    → map with_unique (slice_set es (place_for e.unique es) e) ≡ put name_cmp e.unique e (map with_unique es)
 keyed-set e old [] at same = cc
 keyed-set e old (x ∷ es) at same = by (λ there. keyed-set e old es there same) (name_cmp e.unique x.unique) refl
   where
-    placed : (o : Ordering) → name_cmp e.unique x.unique ≡ o → map keyed (slice_set (x ∷ es) (place_for e.unique (x ∷ es)) e)
-        ≡ map keyed (slice_set (x ∷ es) (cond (is_lt (ordering_reverse o)) (suc (place_for e.unique es)) 0) e)
-    placed o is = ap (λ b. map keyed (slice_set (x ∷ es) (cond b (suc (place_for e.unique es)) 0) e)) (turned-is e.unique x.unique o is)
+    placed : (o : Ordering) → name_cmp e.unique x.unique ≡ o → map with_unique (slice_set (x ∷ es) (place_for e.unique (x ∷ es)) e)
+        ≡ map with_unique (slice_set (x ∷ es) (cond (is_lt (ordering_reverse o)) (suc (place_for e.unique es)) 0) e)
+    placed o is = ap (λ b. map with_unique (slice_set (x ∷ es) (cond b (suc (place_for e.unique es)) 0) e)) (turned-is e.unique x.unique o is)
 
     there : (o : Ordering) → name_cmp e.unique x.unique ≡ o → slice_get (x ∷ es) (cond (is_lt (ordering_reverse o)) (suc (place_for e.unique es)) 0) ≡ Some old
     there o is = ap (λ b. slice_get (x ∷ es) (cond b (suc (place_for e.unique es)) 0)) (sym (turned-is e.unique x.unique o is)) ∙ at
 
-    into : (o : Ordering) → name_cmp e.unique x.unique ≡ o → by_order o ((e.unique, e) ∷ keyed x ∷ map keyed es) ((x.unique, e) ∷ map keyed es)
-        (keyed x ∷ put name_cmp e.unique e (map keyed es)) ≡ put name_cmp e.unique e (map keyed (x ∷ es))
+    into : (o : Ordering) → name_cmp e.unique x.unique ≡ o → by_order o ((e.unique, e) ∷ with_unique x ∷ map with_unique es) ((x.unique, e) ∷ map with_unique es)
+        (with_unique x ∷ put name_cmp e.unique e (map with_unique es)) ≡ put name_cmp e.unique e (map with_unique (x ∷ es))
     into o is =
-        ap (λ r. by_order r ((e.unique, e) ∷ keyed x ∷ map keyed es) ((x.unique, e) ∷ map keyed es) (keyed x ∷ put name_cmp e.unique e (map keyed es))) (sym is)
+        ap (λ r. by_order r ((e.unique, e) ∷ with_unique x ∷ map with_unique es) ((x.unique, e) ∷ map with_unique es) (with_unique x ∷ put name_cmp e.unique e (map with_unique es))) (sym is)
 
-    by : (slice_get es (place_for e.unique es) ≡ Some old → map keyed (slice_set es (place_for e.unique es) e) ≡ put name_cmp e.unique e (map keyed es))
+    by : (slice_get es (place_for e.unique es) ≡ Some old → map with_unique (slice_set es (place_for e.unique es) e) ≡ put name_cmp e.unique e (map with_unique es))
         → (o : Ordering) → name_cmp e.unique x.unique ≡ o
-        → map keyed (slice_set (x ∷ es) (place_for e.unique (x ∷ es)) e) ≡ put name_cmp e.unique e (map keyed (x ∷ es))
+        → map with_unique (slice_set (x ∷ es) (place_for e.unique (x ∷ es)) e) ≡ put name_cmp e.unique e (map with_unique (x ∷ es))
     by rest Less is =
         let first : Some x ≡ Some old = there Less is in
         let this : x ≡ old = cc in
@@ -215,39 +215,39 @@ keyed-set e old (x ∷ es) at same = by (λ there. keyed-set e old es there same
         let both : name_cmp e.unique e.unique ≡ Less = ap (name_cmp e.unique) (sym same ∙ ap (λ (y : Entry). y.unique) (sym this)) ∙ is in
         let never : is_eq Less ≡ true = ap is_eq (sym both) ∙ tie in
         cc
-    by rest Equal is = placed Equal is ∙ ap (λ (v : List ℕ). (v, e) ∷ map keyed es) (exact_bytes e.unique x.unique is) ∙ into Equal is
-    by rest Greater is = placed Greater is ∙ ap (λ (l : List (List ℕ × Entry)). keyed x ∷ l) (rest (there Greater is)) ∙ into Greater is
+    by rest Equal is = placed Equal is ∙ ap (λ (v : List ℕ). (v, e) ∷ map with_unique es) (exact_bytes e.unique x.unique is) ∙ into Equal is
+    by rest Greater is = placed Greater is ∙ ap (λ (l : List (List ℕ × Entry)). with_unique x ∷ l) (rest (there Greater is)) ∙ into Greater is
 
 abbrev other : List ℕ → List ℕ → Bool
 other u v = not (eq_by_cmp name_cmp u v)
 
-keyed-above : (u : List ℕ) (es : List Entry) → IsBelow u es → where_key name_cmp (other u) (map keyed es) ≡ map keyed es
+keyed-above : (u : List ℕ) (es : List Entry) → IsBelow u es → where_key name_cmp (other u) (map with_unique es) ≡ map with_unique es
 keyed-above u [] below = refl
 keyed-above u (e ∷ es) below =
-    ap (λ r. cond (not (is_eq r)) (keyed e ∷ where_key name_cmp (other u) (map keyed es)) (where_key name_cmp (other u) (map keyed es)))
+    ap (λ r. cond (not (is_eq r)) (with_unique e ∷ where_key name_cmp (other u) (map with_unique es)) (where_key name_cmp (other u) (map with_unique es)))
     (less _ (first _ _ below))
-    ∙ ap (λ (l : List (List ℕ × Entry)). keyed e ∷ l) (keyed-above u es (second _ _ below))
+    ∙ ap (λ (l : List (List ℕ × Entry)). with_unique e ∷ l) (keyed-above u es (second _ _ below))
 
 -- the entry of a unique name goes
 keyed-remove : (u : List ℕ) (old : Entry) (es : List Entry) → IsSorted es → slice_get es (place_for u es) ≡ Some old → old.unique ≡ u
-    → map keyed (remove es (place_for u es)) ≡ where_key name_cmp (other u) (map keyed es)
+    → map with_unique (remove es (place_for u es)) ≡ where_key name_cmp (other u) (map with_unique es)
 keyed-remove u old [] sorted at same = cc
 keyed-remove u old (x ∷ es) sorted at same = by (λ there. keyed-remove u old es (second _ _ sorted) there same) (name_cmp u x.unique) refl
   where
     placed : (o : Ordering) → name_cmp u x.unique ≡ o
-        → map keyed (remove (x ∷ es) (place_for u (x ∷ es))) ≡ map keyed (remove (x ∷ es) (cond (is_lt (ordering_reverse o)) (suc (place_for u es)) 0))
-    placed o is = ap (λ b. map keyed (remove (x ∷ es) (cond b (suc (place_for u es)) 0))) (turned-is u x.unique o is)
+        → map with_unique (remove (x ∷ es) (place_for u (x ∷ es))) ≡ map with_unique (remove (x ∷ es) (cond (is_lt (ordering_reverse o)) (suc (place_for u es)) 0))
+    placed o is = ap (λ b. map with_unique (remove (x ∷ es) (cond b (suc (place_for u es)) 0))) (turned-is u x.unique o is)
 
     there : (o : Ordering) → name_cmp u x.unique ≡ o → slice_get (x ∷ es) (cond (is_lt (ordering_reverse o)) (suc (place_for u es)) 0) ≡ Some old
     there o is = ap (λ b. slice_get (x ∷ es) (cond b (suc (place_for u es)) 0)) (sym (turned-is u x.unique o is)) ∙ at
 
     left : (o : Ordering) → name_cmp u x.unique ≡ o
-        → cond (not (is_eq o)) (keyed x ∷ where_key name_cmp (other u) (map keyed es)) (where_key name_cmp (other u) (map keyed es))
-        ≡ where_key name_cmp (other u) (map keyed (x ∷ es))
-    left o is = ap (λ r. cond (not (is_eq r)) (keyed x ∷ where_key name_cmp (other u) (map keyed es)) (where_key name_cmp (other u) (map keyed es))) (sym is)
+        → cond (not (is_eq o)) (with_unique x ∷ where_key name_cmp (other u) (map with_unique es)) (where_key name_cmp (other u) (map with_unique es))
+        ≡ where_key name_cmp (other u) (map with_unique (x ∷ es))
+    left o is = ap (λ r. cond (not (is_eq r)) (with_unique x ∷ where_key name_cmp (other u) (map with_unique es)) (where_key name_cmp (other u) (map with_unique es))) (sym is)
 
-    by : (slice_get es (place_for u es) ≡ Some old → map keyed (remove es (place_for u es)) ≡ where_key name_cmp (other u) (map keyed es)) → (o : Ordering)
-        → name_cmp u x.unique ≡ o → map keyed (remove (x ∷ es) (place_for u (x ∷ es))) ≡ where_key name_cmp (other u) (map keyed (x ∷ es))
+    by : (slice_get es (place_for u es) ≡ Some old → map with_unique (remove es (place_for u es)) ≡ where_key name_cmp (other u) (map with_unique es)) → (o : Ordering)
+        → name_cmp u x.unique ≡ o → map with_unique (remove (x ∷ es) (place_for u (x ∷ es))) ≡ where_key name_cmp (other u) (map with_unique (x ∷ es))
     by rest Less is =
         let first : Some x ≡ Some old = there Less is in
         let this : x ≡ old = cc in
@@ -258,17 +258,17 @@ keyed-remove u old (x ∷ es) sorted at same = by (λ there. keyed-remove u old 
     by rest Equal is =
         let below : IsBelow u es = subst (λ (v : List ℕ). IsBelow v es) (sym (exact_bytes u x.unique is)) (first _ _ sorted) in
         placed Equal is ∙ sym (keyed-above u es below) ∙ left Equal is
-    by rest Greater is = placed Greater is ∙ ap (λ (l : List (List ℕ × Entry)). keyed x ∷ l) (rest (there Greater is)) ∙ left Greater is
+    by rest Greater is = placed Greater is ∙ ap (λ (l : List (List ℕ × Entry)). with_unique x ∷ l) (rest (there Greater is)) ∙ left Greater is
 
-shows-put : (e : Entry) (es fs : List Entry) → IsSorted es → map keyed fs ≡ put name_cmp e.unique e (map keyed es) → Shows e.unique (Some e) es fs
+shows-put : (e : Entry) (es fs : List Entry) → IsSorted es → map with_unique fs ≡ put name_cmp e.unique e (map with_unique es) → Shows e.unique (Some e) es fs
 shows-put e es fs sorted is = record {
   order = in-order _
-      (subst (λ (l : List (List ℕ × Entry)). T (is_sorted name_cmp l)) (sym is) (is_sorted-put name_cmp nat_list_cmp_total e.unique e (map keyed es) sorted));
-  at = λ v. ap (find name_cmp v) is ∙ find-put name_cmp nat_list_cmp_total v e.unique e (map keyed es);
+      (subst (λ (l : List (List ℕ × Entry)). T (is_sorted name_cmp l)) (sym is) (is_sorted-put name_cmp nat_list_cmp_total e.unique e (map with_unique es) sorted));
+  at = λ v. ap (find name_cmp v) is ∙ find-put name_cmp nat_list_cmp_total v e.unique e (map with_unique es);
 }
 
 module _ (e : Entry) (es : List Entry) (order : IsInOrder es) where
-  pub shows-insert : found e.unique es ≡ None → Shows e.unique (Some e) es (insert es (place_for e.unique es) e)
+  pub shows-insert : entry_with e.unique es ≡ None → Shows e.unique (Some e) es (insert es (place_for e.unique es) e)
   shows-insert none = shows-put e es _ (ordered _ order) (keyed-insert e es none)
 
   pub shows-set : (old : Entry) → slice_get es (place_for e.unique es) ≡ Some old → old.unique ≡ e.unique
@@ -287,19 +287,19 @@ module _ (u : List ℕ) (es : List Entry) (order : IsInOrder es) where
       let is = keyed-remove u old es (ordered _ order) at same in record {
         order =
             in-order _ (subst (λ (l : List (List ℕ × Entry)). T (is_sorted name_cmp l)) (sym is)
-            (is_sorted-where_key name_cmp (other u) (map keyed es) (ordered _ order)));
+            (is_sorted-where_key name_cmp (other u) (map with_unique es) (ordered _ order)));
         at = λ v.
             ap (find name_cmp v) is
-            ∙ find-where_key name_cmp (other u) v (λ x tie. ap (other u) (sym (exact_bytes v x tie))) (map keyed es)
-            ∙ swap-cond v (found v es);
+            ∙ find-where_key name_cmp (other u) v (λ x tie. ap (other u) (sym (exact_bytes v x tie))) (map with_unique es)
+            ∙ swap-cond v (entry_with v es);
       }
 
   -- entries that stay show what they did
-  pub shows-same : (what : Option Entry) → what ≡ found u es → Shows u what es es
+  pub shows-same : (what : Option Entry) → what ≡ entry_with u es → Shows u what es es
   shows-same what is = record {
     order = order;
-    at = λ v. elim (eq_by_cmp name_cmp v u) as (λ t. eq_by_cmp name_cmp v u ≡ t → found v es ≡ cond t what (found v es)) [
-      | true ↦ λ t. ap (λ (w : List ℕ). found w es) (tie-same v u t) ∙ sym is
+    at = λ v. elim (eq_by_cmp name_cmp v u) as (λ t. eq_by_cmp name_cmp v u ≡ t → entry_with v es ≡ cond t what (entry_with v es)) [
+      | true ↦ λ t. ap (λ (w : List ℕ). entry_with w es) (tie-same v u t) ∙ sym is
       | false ↦ λ t. refl
     ] refl;
   }
@@ -324,7 +324,7 @@ module _ (e : Entry) (es : List Entry) (order : IsInOrder es) (at : ℕ) (is : a
 
 -- an entry gets another name where it stands, if it has the old one
 module _ (u : List ℕ) (es : List Entry) (order : IsInOrder es) (at : ℕ) (is : at ≡ place_for u es) (name to_name : List ℕ) where
-  pub rename-none : (HasAt es at u → ⊥) → Shows u (option_map (renamed name to_name) (found u es)) es es
+  pub rename-none : (HasAt es at u → ⊥) → Shows u (option_map (renamed name to_name) (entry_with u es)) es es
   rename-none not =
       let none = found-not u es (ordered _ order) at is not in
       shows-same u es order _ (ap (option_map (renamed name to_name)) none ∙ sym none)
@@ -333,16 +333,16 @@ module _ (u : List ℕ) (es : List Entry) (order : IsInOrder es) (at : ℕ) (is 
   named e = record e { name = to_name }
 
   module _ (h : HasAt es at u) where
-    this : found u es ≡ Some h.entry
+    this : entry_with u es ≡ Some h.entry
     this = found-has u es (ordered _ order) at is h
 
-    becomes : (b : Bool) → pointwise nat_eq h.entry.name name ≡ b → option_map (renamed name to_name) (found u es) ≡ Some (cond b (named h.entry) h.entry)
+    becomes : (b : Bool) → pointwise nat_eq h.entry.name name ≡ b → option_map (renamed name to_name) (entry_with u es) ≡ Some (cond b (named h.entry) h.entry)
     becomes b it = ap (option_map (renamed name to_name)) this ∙ ap (λ t. Some (cond t (named h.entry) h.entry)) it
 
-    pub rename-other : pointwise nat_eq h.entry.name name ≡ false → Shows u (option_map (renamed name to_name) (found u es)) es es
+    pub rename-other : pointwise nat_eq h.entry.name name ≡ false → Shows u (option_map (renamed name to_name) (entry_with u es)) es es
     rename-other other = shows-same u es order _ (becomes false other ∙ sym this)
 
-    pub rename-there : pointwise nat_eq h.entry.name name ≡ true → Shows u (option_map (renamed name to_name) (found u es)) es (slice_set es at (named h.entry))
+    pub rename-there : pointwise nat_eq h.entry.name name ≡ true → Shows u (option_map (renamed name to_name) (entry_with u es)) es (slice_set es at (named h.entry))
     rename-there same =
         let own : at ≡ place_for h.entry.unique es = is ∙ ap (λ (v : List ℕ). place_for v es) (sym h.unique) in
         let put = put-there (named h.entry) es order at own (record { entry = h.entry; is = h.is; unique = refl }) in

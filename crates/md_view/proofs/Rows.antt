@@ -19,7 +19,7 @@ use Rattle.md_core.specs.History.{Listed, Names, names_of}
 use Rattle.lists.proofs.Members.{Has, get-has, has-get}
 use Rattle.md_core.specs.Laws.{listed_at}
 use Rattle.md_view.specs.declared.entry.Entry.{Entry}
-use Rattle.md_view.specs.Readings.{shown, is_at, keyed, reading_of}
+use Rattle.md_view.specs.Readings.{as_entry, is_at, with_unique, reading_of}
 use Rattle.md_view.specs.Rows.{entry_of_row, entries_of}
 use Rattle.md_view.proofs.Keyed.{lookup, IsSorted, sorted-values}
 use Rattle.md_view.proofs.MadeOf.{filter_map-map, came, goes}
@@ -85,11 +85,11 @@ same_option (Some x) b there back = sym (there x refl)
 
 -- what is found in a list in order is one of its entries, and the other way round
 module _ (es : List Entry) (sorted : IsSorted es) where
-  has-keyed : (fs : List Entry) (e : Entry) → Has fs e → Has (map keyed fs) (e.unique, e)
+  has-keyed : (fs : List Entry) (e : Entry) → Has fs e → Has (map with_unique fs) (e.unique, e)
   has-keyed [] e has = absurd has
-  has-keyed (f ∷ fs) e has = elim has [ inl is ↦ inl (ap keyed is) | inr rest ↦ inr (has-keyed fs e rest) ]
+  has-keyed (f ∷ fs) e has = elim has [ inl is ↦ inl (ap with_unique is) | inr rest ↦ inr (has-keyed fs e rest) ]
 
-  keyed-has : (fs : List Entry) (u : List ℕ) (e : Entry) → Has (map keyed fs) (u, e) → Has fs e × (u ≡ e.unique)
+  keyed-has : (fs : List Entry) (u : List ℕ) (e : Entry) → Has (map with_unique fs) (u, e) → Has fs e × (u ≡ e.unique)
   keyed-has [] u e has = absurd has
   keyed-has (f ∷ fs) u e has = elim has [
     | inl is ↦
@@ -100,14 +100,14 @@ module _ (es : List Entry) (sorted : IsSorted es) where
 
   pub found-has : (u : List ℕ) (e : Entry) → lookup u es ≡ Some e → Has es e × (u ≡ e.unique)
   found-has u e is = keyed-has es u e
-      (subst (λ (l : List (List ℕ × Entry)). Has l (u, e)) (entries-from_sorted name_cmp (map keyed es) sorted)
-      (get-has nat_list_cmp_total exact_bytes (from_sorted (map keyed es)) u e (get-from_sorted name_cmp (map keyed es) u sorted ∙ is)))
+      (subst (λ (l : List (List ℕ × Entry)). Has l (u, e)) (entries-from_sorted name_cmp (map with_unique es) sorted)
+      (get-has nat_list_cmp_total exact_bytes (from_sorted (map with_unique es)) u e (get-from_sorted name_cmp (map with_unique es) u sorted ∙ is)))
 
   pub has-found : (e : Entry) → Has es e → lookup e.unique es ≡ Some e
   has-found e has =
-      sym (get-from_sorted name_cmp (map keyed es) e.unique sorted)
-      ∙ has-get nat_list_cmp_total exact_bytes (from_sorted (map keyed es)) (e.unique, e)
-      (subst (λ (l : List (List ℕ × Entry)). Has l (e.unique, e)) (sym (entries-from_sorted name_cmp (map keyed es) sorted)) (has-keyed es e has))
+      sym (get-from_sorted name_cmp (map with_unique es) e.unique sorted)
+      ∙ has-get nat_list_cmp_total exact_bytes (from_sorted (map with_unique es)) (e.unique, e)
+      (subst (λ (l : List (List ℕ × Entry)). Has l (e.unique, e)) (sym (entries-from_sorted name_cmp (map with_unique es) sorted)) (has-keyed es e has))
 
 module _ (s : State) (folder : ℕ) (place : Place) where
   abbrev names : Names
@@ -151,10 +151,10 @@ module _ (s : State) (folder : ℕ) (place : Place) where
             unique = u_is;
             shown = refl;
           }) in
-          let same : shown (e.unique, x) ≡ row_says place p.name file =
+          let same : as_entry (e.unique, x) ≡ row_says place p.name file =
           (λ i. record { unique = sym u_is i; place = place_is i; name = p.name; size = length (bytes_of file) }) in
           ap (option_and_then (entry_at folder place e.unique)) got
-          ∙ ap (λ b. cond {A = Option Entry} b (Some (shown (e.unique, x))) None) inside ∙ ap Some (same ∙ says.1)
+          ∙ ap (λ b. cond {A = Option Entry} b (Some (as_entry (e.unique, x))) None) inside ∙ ap Some (same ∙ says.1)
 
   -- a message that is shown has its row
   shown-row : AreOfPaths s → (u : List ℕ) (e : Entry) → shown_at u ≡ Some e → Has in_rows e × (u ≡ e.unique)
@@ -164,14 +164,14 @@ module _ (s : State) (folder : ℕ) (place : Place) where
       by None none = let h : None ≡ Some e = sym (ap (option_and_then (entry_at folder place u)) none) ∙ is in cc
       by (Some x) some =
           let h : entry_at folder place u x ≡ Some e = sym (ap (option_and_then (entry_at folder place u)) some) ∙ is in
-          let says = if-some (is_at folder place (u, x)) (shown (u, x)) e h in
+          let says = if-some (is_at folder place (u, x)) (as_entry (u, x)) e h in
           let at = of_paths u x some in
           let p : Path = at.path in
           let file : Option File = file_by s.files at.file in
           let inside : is_in folder place p ≡ true =
           (λ i. ((at.shown i).folder == folder) && (place_index (at.shown i).place == place_index place)) ∙ says.0 in
           let place_is : place ≡ x.place = sym (same_place x.place place (eqb-true (place_index x.place) (place_index place) (and-second _ _ says.0))) in
-          let row : row_says place p.name file ≡ shown (u, x) =
+          let row : row_says place p.name file ≡ as_entry (u, x) =
           (λ i. record { unique = at.unique i; place = place_is i; name = (at.shown i).name; size = (at.shown i).size }) in
           let made : row_entry (p, at.file) ≡ Some e =
           entry-row place p.name file

@@ -10,7 +10,7 @@ use Rattle.md_dirs.specs.declared.paths.Place.TheVariants.{Tmp, New, Cur}
 use Rattle.md_core.specs.Mailbox.{name_cmp}
 use Rattle.md_core.specs.History.{Listed}
 use Rattle.md_view.specs.declared.entry.Entry.{Entry}
-use Rattle.md_view.specs.Readings.{keyed, reading_of, IsInOrder}
+use Rattle.md_view.specs.Readings.{with_unique, reading_of, IsInOrder}
 use Rattle.md_view.specs.Named.{Named, AreMessages}
 
 -- the messages of new and of cur of a folder
@@ -52,12 +52,12 @@ abbrev pub HoldNames : List FolderLists → Type 0
 HoldNames fs = AreHeld (held_names fs) fs
 
 -- the entry of a unique name among entries
-abbrev pub found : List ℕ → List Entry → Option Entry
-found u es = finmap.find name_cmp u (map keyed es)
+abbrev pub entry_with : List ℕ → List Entry → Option Entry
+entry_with u es = finmap.find name_cmp u (map with_unique es)
 
 -- whether a folder has a message of a unique name
 abbrev pub has_unique : List ℕ → FolderLists → Bool
-has_unique u f = is_some (found u f.in_new) || is_some (found u f.in_cur)
+has_unique u f = is_some (entry_with u f.in_new) || is_some (entry_with u f.in_cur)
 
 -- how many entries in front are below a unique name
 abbrev pub place_for : List ℕ → List Entry → ℕ
@@ -77,7 +77,7 @@ renamed name to_name e = if pointwise nat_eq e.name name then record e { name = 
 -- entries in order that show of one unique name what is said, and of each other what they showed
 pub record Shows (u : List ℕ) (what : Option Entry) (old new : List Entry) : Type 0 where
   pub order : IsInOrder new
-  pub at : (v : List ℕ) → found v new ≡ (if eq_by_cmp name_cmp v u then what else found v old)
+  pub at : (v : List ℕ) → entry_with v new ≡ (if eq_by_cmp name_cmp v u then what else entry_with v old)
 
 -- a folder shows so in one directory, and in the others what it showed
 pub record ShowsAt (place : Place) (u : List ℕ) (what : Option Entry) (old new : FolderLists) : Type 0 where

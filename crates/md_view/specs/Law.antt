@@ -4,27 +4,27 @@ use Rattle.std.specs.Prelude.{ℕ, ◌≡◌, ◌≤◌, ◌==◌, ◌⊎◌, Li
 use Rattle.std.specs.Option.{option_and_then}
 use Rattle.std.specs.FinMap as finmap
 use Rattle.md_dirs.specs.declared.paths.Place.TheVariants.{New, Cur}
-use Rattle.md_core.specs.History.{Listed, Names, names_of, after}
+use Rattle.md_core.specs.History.{Listed, Names, names_of, names_after}
 use Rattle.md_core.specs.declared.jobs.call.Call.{Call}
 use Rattle.md_core.specs.declared.jobs.effect.Effect.{Effect}
-use Rattle.md_core.specs.Machine.{Marked}
+use Rattle.md_core.specs.Machine.{Occurrence}
 use Rattle.md_core.specs.Trace.{box}
 use Rattle.md_core.specs.Tracing.{trace_of}
 use Rattle.md_core.specs.Runs.{Run, and_events, and_call}
 use Rattle.md_view.specs.declared.entry.Entry.{Entry}
 use Rattle.md_view.specs.declared.listing.Listing.{Listing}
-use Rattle.md_view.specs.Readings.{shown, reading_of, by_unique, join_of, IsInOrder}
+use Rattle.md_view.specs.Readings.{as_entry, reading_of, by_unique, join_of, IsInOrder}
 
 -- the names of the mailbox at a moment of a run
 abbrev pub names_at : Run → ℕ → Names
 names_at r k = names_of (box (trace_of r) k)
 
 -- the names after the first k effects of a history
-abbrev pub names_after : Names → List Effect → ℕ → Names
-names_after opening history k = after opening (take k history)
+abbrev pub names_after_first : Names → List Effect → ℕ → Names
+names_after_first opening history k = names_after opening (take k history)
 
 abbrev pub shown_in : ℕ → List ℕ → Listed → Option Entry
-shown_in folder u message = if message.folder == folder then Some (shown (u, message)) else None
+shown_in folder u message = if message.folder == folder then Some (as_entry (u, message)) else None
 
 -- the entry of a unique name in a folder, or none where it isn't there
 abbrev pub entry_in : Names → ℕ → List ℕ → Option Entry
@@ -59,5 +59,5 @@ pub record HasBegun (r : Run) (l : Listing) : Type 0 where
   pub new : l.new.items ≡ reading_of (names_at r l.begun) l.folder New
 
 -- a run goes on: by events, or by a call that is submitted
-abbrev pub GoesOn : Run → Run → Type 0
-GoesOn r r' = ((es : List Marked) × (r' ≡ and_events r es)) ⊎ ((call : Call) × (r' ≡ and_call r call))
+abbrev pub Continues : Run → Run → Type 0
+Continues r r' = ((es : List Occurrence) × (r' ≡ and_events r es)) ⊎ ((call : Call) × (r' ≡ and_call r call))

@@ -10,7 +10,7 @@ use Rattle.md_dirs.specs.declared.paths.Place.{Place}
 use Rattle.md_dirs.specs.declared.paths.Place.TheVariants.{Tmp, New, Cur}
 use Rattle.md_name.specs.Names.{unique_of, is_message_name}
 use Rattle.md_core.specs.Mailbox.{mailbox_of, is_tmp}
-use Rattle.md_core.specs.History.{Listed, Names, names_of, changed}
+use Rattle.md_core.specs.History.{Listed, Names, names_of, names_after_change}
 use Rattle.md_core.specs.declared.jobs.effect.Change.{Change}
 use Rattle.md_core.specs.declared.jobs.effect.Change.TheVariants.{Add, Rename, Remove, Same}
 
@@ -78,5 +78,5 @@ fits n (Remove folder place name) = is_listed n folder place && is_there n folde
 fits n Same = true
 
 -- the names after a change, or the same names where it doesn't fit
-abbrev pub applied : Named → Change → Named
-applied n change = if fits n change then record n { names = changed n.names change } else n
+abbrev pub after_change : Named → Change → Named
+after_change n change = if fits n change then record n { names = names_after_change n.names change } else n

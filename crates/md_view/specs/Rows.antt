@@ -18,6 +18,6 @@ entry_of_row place row =
 abbrev pub entries_of : Place → List Row → List Entry
 entries_of place rows = filter_map (entry_of_row place) rows
 
--- an entry goes behind the last of others
+-- an entry goes after the last of others
 abbrev pub IsBehind : List Entry → Entry → Type 0
 IsBehind all entry = (front : List Entry) (last : Entry) → all ≡ front ++ last ∷ [] → name_cmp last.unique entry.unique ≡ Less

@@ -1,13 +1,13 @@
 //! What a listing is good for. The law is a function that does nothing: its contract is the law, and a caller that calls it may rely on it.
 ghost use Rattle.std.specs.Prelude.{◌≡◌, ◌≤◌, List, true};
-ghost use Rattle.md_core.specs.History.{names_of, after, IsAllowedAfter, IsLegal};
+ghost use Rattle.md_core.specs.History.{names_of, names_after, IsAllowedAfter, IsLegal};
 ghost use Rattle.md_core.specs.Mailbox.{mailbox_of};
 ghost use Rattle.md_core.specs.Runs.{Run, dirs_of};
 ghost use Rattle.md_core.specs.Stepping.{IsRun};
 ghost use Rattle.md_core.specs.declared.jobs.effect.Effect.{Effect as EffectSeen};
 ghost use Rattle.md_view.specs.declared.listing.Listing.{Listing as BegunListing};
 ghost use Rattle.md_view.specs.Named.{Named, AreMessages, fits};
-ghost use Rattle.md_view.specs.Law.{names_at, names_after, IsGoodListing, HasBegun, GoesOn};
+ghost use Rattle.md_view.specs.Law.{names_at, names_after_first, IsGoodListing, HasBegun, Continues};
 
 use md_core::{Effect, World};
 use md_dirs::Dirs;
@@ -34,7 +34,7 @@ pub fn a_listing_of_histories_is_good<D: Dirs>(
 )
     requires legal { IsLegal (dirs_of opening.now).folders (names_of (mailbox_of (dirs_of opening.now))) history.now }
     requires order { read_new ≤ read_cur }
-    ensures { IsGoodListing (names_after (names_of (mailbox_of (dirs_of opening.now))) history.now) folder read_new read_cur }
+    ensures { IsGoodListing (names_after_first (names_of (mailbox_of (dirs_of opening.now))) history.now) folder read_new read_cur }
 {
     md_core::laws::names_show_their_directories();
     md_core::laws::legal_histories_keep_messages_out_of_new();
@@ -42,8 +42,8 @@ pub fn a_listing_of_histories_is_good<D: Dirs>(
 
 /// A listing that has begun may be finished after any steps of the world's jobs, and after calls that were submitted.
 pub fn a_listing_may_wait()
-    ensures { (before after : Run) → IsRun before → IsRun after → GoesOn before after
-        → (listing : BegunListing) → HasBegun before listing → HasBegun after listing }
+    ensures { (before names_after : Run) → IsRun before → IsRun names_after → Continues before names_after
+        → (listing : BegunListing) → HasBegun before listing → HasBegun names_after listing }
 {
     md_core::laws::steps_keep_moments();
     md_core::laws::calls_keep_moments();
@@ -52,6 +52,6 @@ pub fn a_listing_may_wait()
 /// What a legal history allows fits: where a history led to names of messages, the change of every effect that is allowed next fits
 /// them, so `Names::apply` makes it.
 pub fn what_is_allowed_fits()
-    ensures { (opening : Named) (history : List EffectSeen) (next : EffectSeen) → AreMessages (record opening { names = after opening.names history })
-        → IsAllowedAfter opening.folders opening.names history next → fits (record opening { names = after opening.names history }) next.change ≡ true }
+    ensures { (opening : Named) (history : List EffectSeen) (next : EffectSeen) → AreMessages (record opening { names = names_after opening.names history })
+        → IsAllowedAfter opening.folders opening.names history next → fits (record opening { names = names_after opening.names history }) next.change ≡ true }
 {}

@@ -1,7 +1,7 @@
 //! The names of a store, kept up to date change by change.
 ghost use Rattle.std.specs.Prelude.{◌≡◌, IfOk, IfErr, OnOk, OnErr};
 ghost use Rattle.md_core.specs.Runs.{dirs_of};
-ghost use Rattle.md_view.specs.Named.{named_of, applied, AreMessages};
+ghost use Rattle.md_view.specs.Named.{named_of, after_change, AreMessages};
 ghost use Rattle.md_view.specs.Readings.{reading_of};
 ghost use Rattle.md_view.specs.declared.error.ViewError.TheVariants.{NoMemory};
 
@@ -55,7 +55,7 @@ impl Names {
     /// message's, or another message has its unique name. A rename that keeps its place in the order moves no other name, and a name at the
     /// end of the order none either. It is refused only when out of memory, and then nothing has changed.
     pub fn apply(&mut self, change: &Change) -> Result<(), ViewError>
-        ensures names { OnOk result (self.new ≡ applied self.old change.now) }
+        ensures names { OnOk result (self.new ≡ after_change self.old change.now) }
         ensures unchanged { OnErr result (self.new ≡ self.old) }
         ensures refusal { IfErr result (λ error. error ≡ NoMemory) }
     {

@@ -66,7 +66,7 @@ fn is_tmp(place: Place) -> bool
 }
 
 // The messages of a directory in order of their whole names, and whether that is the order of their unique names. It nearly always is:
-// only a unique name that goes on with a byte below the colon, behind another one, comes out otherwise.
+// only a unique name that goes on with a byte below the colon, after another one, comes out otherwise.
 fn gather<'a, D: Dirs>(
     alloc: Global,
     world: &'a World<D>,
@@ -91,7 +91,7 @@ fn gather<'a, D: Dirs>(
     Err(AllocError)
 }
 
-// Whether an entry goes behind the last of others in order of unique name.
+// Whether an entry goes after the last of others in order of unique name.
 fn is_behind(all: &[EntryRef<'_>], entry: &EntryRef<'_>) -> bool
     ensures { IsTrue result → IsBehind all.now entry.now }
 {

@@ -12,9 +12,9 @@ use Rattle.md_core.specs.declared.jobs.step.Moment.{Moment}
 use Rattle.md_core.specs.declared.jobs.task.Task.{Task}
 use Rattle.md_core.specs.Asked.{Asked, ask_of, state_by}
 use Rattle.md_core.specs.Turn.{After, rows_for}
-use Rattle.md_core.specs.Machine.{Machine, Standing, working, Marked, done, job_at, moment_of, turn_of, taken}
+use Rattle.md_core.specs.Machine.{Machine, Standing, working, Occurrence, step_of, job_at, moment_of, turn_of, after_turn}
 use Rattle.md_core.specs.Trace.{Step, call_at}
-use Rattle.md_core.specs.Runs.{Run, moment, done_at, first_step}
+use Rattle.md_core.specs.Runs.{Run, machine_at, done_at, first_step}
 use Rattle.md_core.specs.Stepping.{IsRun}
 use Rattle.md_core.proofs.Answers.OfRun.{IsStep}
 use Rattle.md_core.proofs.Induction.Good.{IsGood, TaskFits, Makes}
@@ -40,43 +40,43 @@ fits-there calls m zero asked task good of is = cc
 fits-there calls m (suc i) asked task good of is = good.fits i asked task of is
 
 module _ (r : Run) (run : IsRun r) (k : ℕ) where
-  good-now : IsGood r.calls (moment r k)
+  good-now : IsGood r.calls (machine_at r k)
   good-now = good-moment r run each-turn k
 
-  pub its-call : (n : ℕ) (job : Standing) → job_at (moment r k).jobs n ≡ Some job → (asked : Call) × (call_at r.calls n ≡ Some asked)
-  its-call n job is = call-there r.calls (moment r k) n job good-now is
+  pub its-call : (n : ℕ) (job : Standing) → job_at (machine_at r k).jobs n ≡ Some job → (asked : Call) × (call_at r.calls n ≡ Some asked)
+  its-call n job is = call-there r.calls (machine_at r k) n job good-now is
 
   pub its-fits : (n : ℕ) (asked : Call) (task : Task) → call_at r.calls n ≡ Some asked →
-      job_at (moment r k).jobs n ≡ Some (working task) → TaskFits (moment r k).dirs asked task
-  its-fits n asked task of is = fits-there r.calls (moment r k) n asked task good-now of is
+      job_at (machine_at r k).jobs n ≡ Some (working task) → TaskFits (machine_at r k).dirs asked task
+  its-fits n asked task of is = fits-there r.calls (machine_at r k) n asked task good-now of is
 
-  pub sound-now : IsSound (moment r k).dirs
+  pub sound-now : IsSound (machine_at r k).dirs
   sound-now = good-now.sound
 
 -- what a turn leaves
 module _ (r : Run) (k n : ℕ) (t : IsTurn r k n) where
   abbrev pub at : Moment
-  at = moment_of (moment r k).clock t.event.event
+  at = moment_of (machine_at r k).clock t.event.event
 
   -- what a task would ask at this event, and how it would stand after a reply
   abbrev pub asked_by : Task → Asked
   asked_by task = (turn_of t.event.event.job task at).asked
 
   abbrev pub after_task : Task → DirReply → After Task
-  after_task task rep = (turn_of t.event.event.job task at).follows rep (rows_for (asked_by task) (moment r k).dirs)
+  after_task task rep = (turn_of t.event.event.job task at).follows rep (rows_for (asked_by task) (machine_at r k).dirs)
 
-  next-machine : moment r (k + 1) ≡ taken (moment r k) t.event.event.job at (turn_by (moment r k) t.event t.task)
-      (reply_in (moment r k) t.event t.task)
-  next-machine = moment-more r k t.event t.at ∙ happens-turned (moment r k) t.event t.task (ap (job_at (moment r k).jobs) t.own ∙ t.there)
+  next-machine : machine_at r (k + 1) ≡ after_turn (machine_at r k) t.event.event.job at (turn_by (machine_at r k) t.event t.task)
+      (reply_in (machine_at r k) t.event t.task)
+  next-machine = moment-more r k t.event t.at ∙ happens-turned (machine_at r k) t.event t.task (ap (job_at (machine_at r k).jobs) t.own ∙ t.there)
 
-  pub next-dirs : (moment r (k + 1)).dirs ≡ state_by (ask_of (turn_by (moment r k) t.event t.task).asked at.clock) (moment r k).dirs
-      (reply_in (moment r k) t.event t.task)
+  pub next-dirs : (machine_at r (k + 1)).dirs ≡ state_by (ask_of (turn_by (machine_at r k) t.event t.task).asked at.clock) (machine_at r k).dirs
+      (reply_in (machine_at r k) t.event t.task)
   next-dirs = ap (λ (m : Machine). m.dirs) next-machine
 
-  pub next-clock : (moment r (k + 1)).clock ≡ at.clock
+  pub next-clock : (machine_at r (k + 1)).clock ≡ at.clock
   next-clock = ap (λ (m : Machine). m.clock) next-machine
 
-  pub clock-grows : (moment r k).clock ≤ at.clock
+  pub clock-grows : (machine_at r k).clock ≤ at.clock
   clock-grows = omega arith
 
 -- what an event did is what the turn of its job did
@@ -86,10 +86,10 @@ turn-done r run k what is = at_place r.events k
     (λ e at.
     let t = turn-at r run k e at in
     (e.event.job, t, (let same : Some what ≡ Some (done_in r k e.event.job t) = sym is ∙ done-in r k e.event.job t in cc)))
-    (λ past. let none : done_at r k ≡ None = ap (option_and_then (done (moment r k))) (slice_get_past r.events k past) in cc)
+    (λ past. let none : done_at r k ≡ None = ap (option_and_then (step_of (machine_at r k))) (slice_get_past r.events k past) in cc)
 
 -- the clock never goes back
-clock-next : (r : Run) → IsRun r → (k : ℕ) → (moment r k).clock ≤ (moment r (k + 1)).clock
+clock-next : (r : Run) → IsRun r → (k : ℕ) → (machine_at r k).clock ≤ (machine_at r (k + 1)).clock
 clock-next r run k = at_place r.events k
     (λ e at.
     let t = turn-at r run k e at in
@@ -98,18 +98,18 @@ clock-next r run k = at_place r.events k
     omega (arith, now, grows))
     (λ past. let same = ap (λ (m : Machine). m.clock) (moment-over r k past) in omega (arith, same))
 
-clock-behind : (r : Run) → IsRun r → (i d : ℕ) → (moment r i).clock ≤ (moment r (i + d)).clock
-clock-behind r run i zero = let e : i ≡ i + 0 = omega arith in subst (λ (n : ℕ). (moment r i).clock ≤ (moment r n).clock) e (omega arith)
+clock-behind : (r : Run) → IsRun r → (i d : ℕ) → (machine_at r i).clock ≤ (machine_at r (i + d)).clock
+clock-behind r run i zero = let e : i ≡ i + 0 = omega arith in subst (λ (n : ℕ). (machine_at r i).clock ≤ (machine_at r n).clock) e (omega arith)
 clock-behind r run i (suc d) =
     let e : (i + d) + 1 ≡ i + suc d = omega arith in
     let before = clock-behind r run i d in
     let next = clock-next r run (i + d) in
-    subst (λ (n : ℕ). (moment r i).clock ≤ (moment r n).clock) e (omega (arith, before, next))
+    subst (λ (n : ℕ). (machine_at r i).clock ≤ (machine_at r n).clock) e (omega (arith, before, next))
 
-pub clock-later : (r : Run) → IsRun r → (i k : ℕ) → i ≤ k → (moment r i).clock ≤ (moment r k).clock
+pub clock-later : (r : Run) → IsRun r → (i k : ℕ) → i ≤ k → (machine_at r i).clock ≤ (machine_at r k).clock
 clock-later r run i k before =
     let e : i + (k - i) ≡ k = omega (arith, before) in
-    subst (λ (n : ℕ). (moment r i).clock ≤ (moment r n).clock) e (clock-behind r run i (k - i))
+    subst (λ (n : ℕ). (machine_at r i).clock ≤ (machine_at r n).clock) e (clock-behind r run i (k - i))
 
 -- What holds at the beginning, and is kept by each turn, holds at each moment.
 module _ (r : Run) (run : IsRun r) (P : ℕ → Type 0) (start : P 0) (step : (k n : ℕ) → IsTurn r k n → P k → P (k + 1)) where
@@ -163,13 +163,13 @@ module _ (r : Run) (k n j : ℕ) (t : IsTurn r k n) (none : k ≤ first_step r j
   not-yet differ =
       let its = t.own in
       let not_this : (t.event.event.job == j) ≡ false = grind (arith, nat_tests) in
-      first-later (λ (e : Marked). e.event.job == j) r.events k t.event t.at not_this none
+      first-later (λ (e : Occurrence). e.event.job == j) r.events k t.event t.at not_this none
 
   pub is-first : j ≡ n → first_step r j ≡ k
   is-first same =
       let its = t.own in
       let this : (t.event.event.job == j) ≡ true = grind (arith, nat_tests) in
-      first-now (λ (e : Marked). e.event.job == j) r.events k t.event t.at this none
+      first-now (λ (e : Occurrence). e.event.job == j) r.events k t.event t.at this none
 
   abbrev pub first-is : j ≡ n → IsStep r j (first_step r j)
   first-is same = record { what = done_in r k n t; at = ap (done_at r) (is-first same) ∙ done-in r k n t; own = t.own ∙ sym same }

@@ -20,7 +20,7 @@ use Rattle.md_core.specs.declared.jobs.task.Task.{Task}
 use Rattle.md_core.specs.declared.jobs.task.Task.TheVariants.{Deliver, Mark, Move, Expunge, Copy, Clean}
 use Rattle.md_core.specs.Turn.{After}
 use Rattle.md_core.specs.Machine.{Standing, working, answered, job_at, new_job}
-use Rattle.md_core.specs.Runs.{Run, moment}
+use Rattle.md_core.specs.Runs.{Run, machine_at}
 use Rattle.md_core.specs.Trace.{call_at}
 use Rattle.md_core.specs.Stepping.{IsRun}
 use Rattle.md_core.proofs.Answers.OfRun.{IsFaulted}
@@ -131,13 +131,13 @@ module _ (r : Run) (job : ℕ) where
       by (call.Clean folder) = tt
 
 module _ (r : Run) (run : IsRun r) where
-  faulted-at : (k job : ℕ) (t : IsTurn r k job) → reply_in (moment r k) t.event t.task ≡ reply.Fault → IsFaulted r job
+  faulted-at : (k job : ℕ) (t : IsTurn r k job) → reply_in (machine_at r k) t.event t.task ≡ reply.Fault → IsFaulted r job
   faulted-at k job t is = record { k = k; step = is-step r k job t; faulted = is }
 
-  pending-at : (k job : ℕ) (task : Task) → k ≤ length r.events → job_at (moment r k).jobs job ≡ Some (working task) → IsPending r k job task
+  pending-at : (k job : ℕ) (task : Task) → k ≤ length r.events → job_at (machine_at r k).jobs job ≡ Some (working task) → IsPending r k job task
   pending-at = holds r run (IsPending r)
       (λ job c task of new c' of'. pending-new r job c task new)
-      (λ k job t none was c of. pending-on r job (moment r k).dirs (moment r (k + 1)).dirs c t.task (reply_in (moment r k) t.event t.task)
+      (λ k job t none was c of. pending-on r job (machine_at r k).dirs (machine_at r (k + 1)).dirs c t.task (reply_in (machine_at r k) t.event t.task)
       (left_by r k job t) (turn-says r run k job c of t) none (faulted-at k job t))
       (λ k job task e at differ there was. was)
 
@@ -211,11 +211,11 @@ module _ (r : Run) (run : IsRun r) where
   -- what the last turn of an answered job tells
   module _ (job : ℕ) (asked : Call) (of : call_at r.calls job ≡ Some asked) (a : Answer) (last : LastStep r job a) where
     abbrev reply-then : DirReply
-    reply-then = reply_in (moment r last.k) last.turn.event last.turn.task
+    reply-then = reply_in (machine_at r last.k) last.turn.event last.turn.task
 
-    pub last-tells : Told (moment r last.k).dirs asked last.turn.task reply-then a
+    pub last-tells : Told (machine_at r last.k).dirs asked last.turn.task reply-then a
     last-tells =
-        told (moment r last.k).dirs (moment r (last.k + 1)).dirs asked last.turn.task reply-then (left_by r last.k job last.turn) a
+        told (machine_at r last.k).dirs (machine_at r (last.k + 1)).dirs asked last.turn.task reply-then (left_by r last.k job last.turn) a
         (turn-says r run last.k job asked of last.turn) last.answer
 
     pending-last : Pending r job last.turn.task
@@ -225,13 +225,13 @@ module _ (r : Run) (run : IsRun r) where
 
     pub says-fault : a ≡ answer.Fault → IsFaulted r job
     says-fault is =
-        told-fault (moment r last.k).dirs asked last.turn.task job reply-then (faulted-at last.k job last.turn) pending-last
-        (subst (Told (moment r last.k).dirs asked last.turn.task reply-then) is last-tells)
+        told-fault (machine_at r last.k).dirs asked last.turn.task job reply-then (faulted-at last.k job last.turn) pending-last
+        (subst (Told (machine_at r last.k).dirs asked last.turn.task reply-then) is last-tells)
 
     pub says-taken : a ≡ answer.NameTaken → ⊥
     says-taken is =
-        told-taken (moment r last.k).dirs asked last.turn.task job reply-then pending-last
-        (subst (Told (moment r last.k).dirs asked last.turn.task reply-then) is last-tells)
+        told-taken (machine_at r last.k).dirs asked last.turn.task job reply-then pending-last
+        (subst (Told (machine_at r last.k).dirs asked last.turn.task reply-then) is last-tells)
 
-    pub last-look : IsOfLook a → Tells (moment r last.k).dirs asked last.turn.task reply-then a
-    last-look look = told-look (moment r last.k).dirs asked last.turn.task job reply-then a look pending-last last-tells
+    pub last-look : IsOfLook a → Tells (machine_at r last.k).dirs asked last.turn.task reply-then a
+    last-look look = told-look (machine_at r last.k).dirs asked last.turn.task job reply-then a look pending-last last-tells

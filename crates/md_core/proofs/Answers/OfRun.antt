@@ -12,10 +12,10 @@ use Rattle.md_core.specs.declared.jobs.call.Call.TheVariants as call
 use Rattle.md_core.specs.declared.jobs.effect.Effect.{Effect}
 use Rattle.md_core.specs.declared.jobs.step.DirReply.TheVariants as reply
 use Rattle.md_core.specs.Alone.{alone}
-use Rattle.md_core.specs.History.{after}
+use Rattle.md_core.specs.History.{names_after}
 use Rattle.md_core.specs.Asked.{create, unlink, list}
 use Rattle.md_core.specs.Trace.{Step, call_at}
-use Rattle.md_core.specs.Runs.{Run, beginning, moment, done_at, box, first_step, dirs_at_first}
+use Rattle.md_core.specs.Runs.{Run, beginning, machine_at, done_at, box_in, first_step, dirs_at_first}
 use Rattle.md_core.specs.Answering.{is_touch, is_ok, is_unused}
 use Rattle.md_core.specs.Tracing.{deeds_from}
 
@@ -39,11 +39,11 @@ pub record IsInSpan (r : Run) (job k : ℕ) : Type 0 where
 pub record IsOfSpan (r : Run) (job : ℕ) (c : Call) (a : Answer) : Type 0 where
   pub k : ℕ
   pub in_span : IsInSpan r job k
-  pub is : (alone c (box (moment r k))).answer ≡ a
+  pub is : (alone c (box_in (machine_at r k))).answer ≡ a
 
 -- the effects between two moments
 abbrev pub effects_between : Run → ℕ → ℕ → List Effect
-effects_between r i j = drop (length (moment r i).effects) (moment r j).effects
+effects_between r i j = drop (length (machine_at r i).effects) (machine_at r j).effects
 
 -- in the span of a job, effects of other jobs touched a unique name at least so often
 pub record IsTouched (r : Run) (job : ℕ) (u : List ℕ) (times : ℕ) : Type 0 where

@@ -1,7 +1,7 @@
 -- A call that changes no message: all that it does to directories, by the name whose paths it acts on.
 use Rattle.std.proofs.Common.{ℕ, ◌≡◌, ◌<◌, inl, inr, List, Some, refl}
 use Rattle.md_dirs.specs.State.{State, IsSound, file_at}
-use Rattle.md_dirs.specs.Calls.{created, appended, without}
+use Rattle.md_dirs.specs.Calls.{after_create, after_append, after_unlink}
 use Rattle.md_dirs.specs.declared.paths.Path.{Path}
 use Rattle.md_dirs.specs.declared.paths.Place.TheVariants.{Tmp}
 use Rattle.md_core.proofs.Induction.Good.{IsUnused, IsAlone}
@@ -28,7 +28,7 @@ quiet-stays s u sound = record {
 }
 
 module _ (s : State) (tmp : Path) (in_tmp : tmp.place ≡ Tmp) (sound : IsSound s) where
-  pub quiet-create : (now : ℕ) → tmp.folder < s.folders → IsUnused s tmp.name → Quiet s (created tmp now s) tmp.name
+  pub quiet-create : (now : ℕ) → tmp.folder < s.folders → IsUnused s tmp.name → Quiet s (after_create tmp now s) tmp.name
   quiet-create now within unused = record {
     frame = create-frame s tmp now in_tmp sound unused;
     sound = create-sound s tmp now in_tmp sound unused within;
@@ -36,7 +36,7 @@ module _ (s : State) (tmp : Path) (in_tmp : tmp.place ≡ Tmp) (sound : IsSound 
     keeps = create-keeps s tmp now in_tmp sound unused;
   }
 
-  pub quiet-append : (now : ℕ) (more bytes : List ℕ) (n : ℕ) → file_at s tmp ≡ Some n → IsAlone s tmp bytes → Quiet s (appended more now s (Some n)) tmp.name
+  pub quiet-append : (now : ℕ) (more bytes : List ℕ) (n : ℕ) → file_at s tmp ≡ Some n → IsAlone s tmp bytes → Quiet s (after_append more now s (Some n)) tmp.name
   quiet-append now more bytes n there alone = record {
     frame = append-frame s tmp now more bytes n in_tmp sound there alone;
     sound = append-sound s tmp now more bytes n in_tmp sound there alone;
@@ -44,7 +44,7 @@ module _ (s : State) (tmp : Path) (in_tmp : tmp.place ≡ Tmp) (sound : IsSound 
     keeps = append-keeps s tmp now more bytes n in_tmp sound there alone;
   }
 
-  pub quiet-unlink : Quiet s (without tmp s) tmp.name
+  pub quiet-unlink : Quiet s (after_unlink tmp s) tmp.name
   quiet-unlink = record {
     frame = unlink-frame s tmp in_tmp sound;
     sound = unlink-sound s tmp in_tmp sound;

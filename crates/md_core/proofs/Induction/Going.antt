@@ -7,7 +7,7 @@ use Rattle.md_core.specs.declared.jobs.answer.Answer.{Answer}
 use Rattle.md_core.specs.declared.jobs.call.Call.{Call}
 use Rattle.md_core.specs.declared.jobs.task.Task.{Task}
 use Rattle.md_core.specs.Turn.{rows_for}
-use Rattle.md_core.specs.Machine.{Machine, Standing, working, Marked, job_at, standing_of, happens, done_by, replied}
+use Rattle.md_core.specs.Machine.{Machine, Standing, working, Occurrence, job_at, standing_of, after_event, step_by, reply_to}
 use Rattle.md_core.specs.Trace.{Step}
 use Rattle.md_core.proofs.Induction.Good.{IsGood, IsApart, Does, EachTurn}
 use Rattle.md_core.proofs.Lists.Places.{at_place, length-changed}
@@ -33,17 +33,17 @@ call-there calls jobs i job same is = at_place calls i
     (λ asked of. (asked, of))
     (λ past. absurd (let within = slice_get_within jobs i job is in omega arith))
 
-pub goes : EachTurn → (calls : List Call) (m : Machine) (e : Marked) (task : Task) → IsGood calls m →
-    job_at m.jobs e.event.job ≡ Some (working task) → Goes calls m (happens m e) (done_by m e task)
+pub goes : EachTurn → (calls : List Call) (m : Machine) (e : Occurrence) (task : Task) → IsGood calls m →
+    job_at m.jobs e.event.job ≡ Some (working task) → Goes calls m (after_event m e) (step_by m e task)
 goes turns calls m e task good is =
     let n = e.event.job in
     let moment = at m e task is in
     let next = turn m e task is in
-    let r = replied m moment next e.faulted in
+    let r = reply_to m moment next e.faulted in
     let within = job_at-within m.jobs n (working task) is in
     let there : slice_get m.jobs (n - 1) ≡ Some (working task) = sym (job_at-place m.jobs n within.0) ∙ is in
     let from = call-there calls m.jobs (n - 1) (working task) good.as_many there in
-    subst (λ (x : Machine). Goes calls m x (done_by m e task)) (sym (happens-turned m e task is)) (record {
+    subst (λ (x : Machine). Goes calls m x (step_by m e task)) (sym (happens-turned m e task is)) (record {
       place = n - 1;
       number_is = omega (arith, within.0);
       asked = from.0;

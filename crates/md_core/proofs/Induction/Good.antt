@@ -32,7 +32,7 @@ use Rattle.md_core.specs.declared.jobs.task.Task.{Task}
 use Rattle.md_core.specs.declared.jobs.task.Task.TheVariants.{Deliver, Mark, Move, Expunge, Copy, Clean}
 use Rattle.std.specs.FinMap as finmap
 use Rattle.md_core.specs.Mailbox.{Entry, Mailbox, mailbox_of, bytes_of, is_tmp, is_message, HasOnePath}
-use Rattle.md_core.specs.History.{names_of, changed, IsAllowed}
+use Rattle.md_core.specs.History.{names_of, names_after_change, IsAllowed}
 use Rattle.md_core.specs.Asked.{Asked, ask_of, state_by}
 use Rattle.md_core.specs.Turn.{After, rows_for, reply_of}
 use Rattle.md_core.specs.Machines.Deliver.{delivery_effect}
@@ -223,7 +223,7 @@ pub record IsGood (calls : List Call) (m : Machine) : Type 0 where
 -- an effect of a job between two mailboxes
 pub record Affects (number : ℕ) (asked : Call) (folders : ℕ) (m m' : Mailbox) (e : Effect) : Type 0 where
   pub of : e.job ≡ number
-  pub changes : names_of m' ≡ changed (names_of m) e.change
+  pub changes : names_of m' ≡ names_after_change (names_of m) e.change
   pub allowed : IsAllowed folders (names_of m) (Makes asked) e.answer e.change
 
 -- how many turns a task takes at most is for it alone to say, whatever others do to the directories

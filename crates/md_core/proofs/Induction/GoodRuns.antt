@@ -15,9 +15,9 @@ use Rattle.md_core.specs.Machines.Move.{new_moving}
 use Rattle.md_core.specs.Machines.Expunge.{new_expunging}
 use Rattle.md_core.specs.Machines.Copy.{new_copying}
 use Rattle.md_core.specs.Machines.Clean.{new_cleaning}
-use Rattle.md_core.specs.Machine.{Machine, Standing, working, Marked, job_at, new_job, happens, done, done_by}
+use Rattle.md_core.specs.Machine.{Machine, Standing, working, Occurrence, job_at, new_job, after_event, step_of, step_by}
 use Rattle.md_core.specs.Trace.{Step}
-use Rattle.md_core.specs.Runs.{Run, beginning, moment, machine_of, done_at}
+use Rattle.md_core.specs.Runs.{Run, beginning, machine_at, machine_of, done_at}
 use Rattle.std.specs.Option.{option_and_then}
 use Rattle.md_core.specs.Submitting.{submit_refusal}
 use Rattle.md_core.specs.Stepping.{IsRun}
@@ -156,42 +156,42 @@ module _ (r : Run) (run : IsRun r) where
   }
 
   module _ (turns : EachTurn) where
-    pub good-moment : (k : ℕ) → IsGood r.calls (moment r k)
+    pub good-moment : (k : ℕ) → IsGood r.calls (machine_at r k)
     good-moment = at_moment r run (λ es m. IsGood r.calls m) good-beginning
-        (λ es m e t at good. good-kept r.calls all-apart m (happens m e) (done_by m e t) (goes turns r.calls m e t good at) good)
+        (λ es m e t at good. good-kept r.calls all-apart m (after_event m e) (step_by m e t) (goes turns r.calls m e t good at) good)
 
     pub good-machine : IsGood r.calls (machine_of r)
     good-machine = subst (IsGood r.calls) (moment-end r) (good-moment (length r.events))
 
     -- event k, as it goes
-    module _ (k : ℕ) (e : Marked) (at : slice_get r.events k ≡ Some e) where
-      pub waits : (task : Task) × (job_at (moment r k).jobs e.event.job ≡ Some (working task))
-      waits = (goes_on-exact (job_at (moment r k).jobs e.event.job)).0 (run.taken k e at)
+    module _ (k : ℕ) (e : Occurrence) (at : slice_get r.events k ≡ Some e) where
+      pub waits : (task : Task) × (job_at (machine_at r k).jobs e.event.job ≡ Some (working task))
+      waits = (goes_on-exact (job_at (machine_at r k).jobs e.event.job)).0 (run.taken k e at)
 
       abbrev pub what-at : Step
-      what-at = done_by (moment r k) e waits.0
+      what-at = step_by (machine_at r k) e waits.0
 
-      pub going-at : Goes r.calls (moment r k) (moment r (k + 1)) what-at
-      going-at = subst (λ (m : Machine). Goes r.calls (moment r k) m what-at) (sym (moment-more r k e at))
-          (goes turns r.calls (moment r k) e waits.0 (good-moment k) waits.1)
+      pub going-at : Goes r.calls (machine_at r k) (machine_at r (k + 1)) what-at
+      going-at = subst (λ (m : Machine). Goes r.calls (machine_at r k) m what-at) (sym (moment-more r k e at))
+          (goes turns r.calls (machine_at r k) e waits.0 (good-moment k) waits.1)
 
       pub done-what : done_at r k ≡ Some what-at
-      done-what = ap (option_and_then (done (moment r k))) at ∙ done-turned (moment r k) e waits.0 waits.1
+      done-what = ap (option_and_then (step_of (machine_at r k))) at ∙ done-turned (machine_at r k) e waits.0 waits.1
 
     -- What holds at the beginning, and is kept by each turn where all is good, holds at each moment.
-    module _ (P : List Marked → Machine → Type 0) (start : P [] (beginning r.image r.calls))
-        (step : (es : List Marked) (m m' : Machine) (e : Marked) (what : Step) → what.job ≡ e.event.job → IsGood r.calls m → Goes r.calls m m' what →
+    module _ (P : List Occurrence → Machine → Type 0) (start : P [] (beginning r.image r.calls))
+        (step : (es : List Occurrence) (m m' : Machine) (e : Occurrence) (what : Step) → what.job ≡ e.event.job → IsGood r.calls m → Goes r.calls m m' what →
         P es m → P (es ++ e ∷ []) m') where
-      abbrev Both : List Marked → Machine → Type 0
+      abbrev Both : List Occurrence → Machine → Type 0
       Both es m = IsGood r.calls m × P es m
 
-      both-more : (es : List Marked) (m : Machine) (e : Marked) (job : Task) → job_at m.jobs e.event.job ≡ Some (working job) → Both es m →
-          Both (es ++ e ∷ []) (happens m e)
+      both-more : (es : List Occurrence) (m : Machine) (e : Occurrence) (job : Task) → job_at m.jobs e.event.job ≡ Some (working job) → Both es m →
+          Both (es ++ e ∷ []) (after_event m e)
       both-more es m e job at both =
           let g = goes turns r.calls m e job both.0 at in
-          (good-kept r.calls all-apart m (happens m e) (done_by m e job) g both.0, step es m (happens m e) e (done_by m e job) refl both.0 g both.1)
+          (good-kept r.calls all-apart m (after_event m e) (step_by m e job) g both.0, step es m (after_event m e) e (step_by m e job) refl both.0 g both.1)
 
-      pub kept-moment : (k : ℕ) → P (take k r.events) (moment r k)
+      pub kept-moment : (k : ℕ) → P (take k r.events) (machine_at r k)
       kept-moment k = (at_moment r run Both (good-beginning, start) both-more k).1
 
       pub kept-machine : P r.events (machine_of r)

@@ -24,7 +24,7 @@ use Rattle.md_core.specs.declared.jobs.step.DirCall.TheVariants as call
 use Rattle.md_core.specs.declared.jobs.step.Moment.{Moment}
 use Rattle.md_core.specs.declared.jobs.step.StepOut.{StepOut}
 use Rattle.md_core.specs.Mailbox.{Entry, mailbox_of, entry_of, is_message, is_tmp, HasOnePath}
-use Rattle.md_core.specs.Alone.{such, is_in_place}
+use Rattle.md_core.specs.Alone.{entry_if, is_in_place}
 use Rattle.md_core.specs.Machines.Search.{info_in, info_in_parts}
 use Rattle.md_core.specs.Turn.{After, Device, Looks, Takes, reply_of}
 use Rattle.md_core.specs.Asked.{list, state_by, is_fault}
@@ -216,10 +216,10 @@ no-row s folder place u none name n there is =
 
 -- so the mailbox has nothing under it in that directory
 pub no-entry : (s : State) (folder : ℕ) (place : Place) (u : List ℕ) → row_named u (rows_of s folder place) ≡ None →
-    such (is_in_place place folder) (get (mailbox_of s) u) ≡ None
+    entry_if (is_in_place place folder) (get (mailbox_of s) u) ≡ None
 no-entry s folder place u none = by (get (mailbox_of s) u) refl
   where
-    by : (o : Option Entry) → get (mailbox_of s) u ≡ o → such (is_in_place place folder) o ≡ None
+    by : (o : Option Entry) → get (mailbox_of s) u ≡ o → entry_if (is_in_place place folder) o ≡ None
     by None is = refl
     by (Some e) is = at (is_in_place place folder e) refl
       where

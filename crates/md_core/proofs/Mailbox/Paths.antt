@@ -4,7 +4,7 @@ use Rattle.std.specs.Option.{option_map}
 use Rattle.std.specs.FinMap.{get}
 use Rattle.md_dirs.specs.State.{State}
 use Rattle.md_core.specs.Mailbox.{Entry, mailbox_of, entry_of, HasOnePath}
-use Rattle.md_core.specs.History.{Listed, listed, names_of}
+use Rattle.md_core.specs.History.{Listed, as_listed, names_of}
 use Rattle.md_core.specs.Laws.{HasPath}
 use Rattle.md_core.proofs.Mailbox.Naming.{get-names}
 use Rattle.md_core.proofs.Mailbox.Renamed.{listed-entry}
@@ -14,10 +14,10 @@ pub names-shown : (s : State) (u : List ℕ) (x : Listed) → get (names_of (mai
 names-shown s u x is = by (get (mailbox_of s) u) refl
   where
     by : (o : Option Entry) → get (mailbox_of s) u ≡ o → HasPath s u x
-    by None none = let never : None ≡ Some x = sym (get-names (mailbox_of s) u ∙ ap (option_map (listed u)) none) ∙ is in cc
+    by None none = let never : None ≡ Some x = sym (get-names (mailbox_of s) u ∙ ap (option_map (as_listed u)) none) ∙ is in cc
     by (Some m) some =
-        let here : Some (listed u m) ≡ Some x = sym (get-names (mailbox_of s) u ∙ ap (option_map (listed u)) some) ∙ is in
-        let same : listed u m ≡ x = cc in
+        let here : Some (as_listed u m) ≡ Some x = sym (get-names (mailbox_of s) u ∙ ap (option_map (as_listed u)) some) ∙ is in
+        let same : as_listed u m ≡ x = cc in
         let h = mailbox-shows s u m some in
         record {
           path = h.path;
@@ -25,13 +25,13 @@ names-shown s u x is = by (get (mailbox_of s) u) refl
           there = h.there;
           message = h.message;
           unique = h.unique;
-          shown = sym (listed-entry s h.path h.file) ∙ (λ i. listed (h.unique i) (h.entry i)) ∙ same;
+          shown = sym (listed-entry s h.path h.file) ∙ (λ i. as_listed (h.unique i) (h.entry i)) ∙ same;
         }
 
 pub names-listed : (s : State) → HasOnePath s → (u : List ℕ) (x : Listed) → HasPath s u x → get (names_of (mailbox_of s)) u ≡ Some x
 names-listed s one u x h =
     let message : Entry = entry_of s h.path h.file in
     get-names (mailbox_of s) u
-    ∙ ap (option_map (listed u)) (shows-mailbox s u message one
+    ∙ ap (option_map (as_listed u)) (shows-mailbox s u message one
     (record { path = h.path; file = h.file; there = h.there; message = h.message; unique = h.unique; entry = refl }))
-    ∙ ap Some (ap (λ v. listed v message) (sym h.unique) ∙ listed-entry s h.path h.file ∙ h.shown)
+    ∙ ap Some (ap (λ v. as_listed v message) (sym h.unique) ∙ listed-entry s h.path h.file ∙ h.shown)

@@ -10,7 +10,7 @@ use Rattle.md_dirs.specs.State.{State}
 use Rattle.lists.proofs.Maps as maps
 use Rattle.md_name.specs.Names.{unique_of}
 use Rattle.md_core.specs.Mailbox.{Mailbox, entry_of}
-use Rattle.md_core.specs.History.{Listed, Names, listed, names_of, size_in, IsThere}
+use Rattle.md_core.specs.History.{Listed, Names, as_listed, names_of, size_in, IsThere}
 use Rattle.md_core.proofs.Mailbox.Changes.{by_name}
 use Rattle.md_core.proofs.Mailbox.Naming.{get-names, same_names}
 use Rattle.md_core.proofs.Mailbox.WholeName.{whole-name}
@@ -24,13 +24,13 @@ put-again m u x = same_names _ _ (λ v. by_name v u
 
 -- what is listed of a message is of its path and its bytes
 pub listed-entry : (s : State) (p : Path) (n : ℕ) →
-    listed (unique_of p.name) (entry_of s p n) ≡ record { folder = p.folder; place = p.place; name = p.name; size = length (entry_of s p n).bytes }
+    as_listed (unique_of p.name) (entry_of s p n) ≡ record { folder = p.folder; place = p.place; name = p.name; size = length (entry_of s p n).bytes }
 listed-entry s p n = λ i. record { folder = p.folder; place = p.place; name = whole-name p.name i; size = length (entry_of s p n).bytes }
 
 -- a message that the mailbox has is listed
 module _ (m : Mailbox) (s : State) (p : Path) (n : ℕ) (at : get m (unique_of p.name) ≡ Some (entry_of s p n)) where
   is_listed : get (names_of m) (unique_of p.name) ≡ Some (record { folder = p.folder; place = p.place; name = p.name; size = length (entry_of s p n).bytes })
-  is_listed = get-names m (unique_of p.name) ∙ ap (option_map (listed (unique_of p.name))) at ∙ ap Some (listed-entry s p n)
+  is_listed = get-names m (unique_of p.name) ∙ ap (option_map (as_listed (unique_of p.name))) at ∙ ap Some (listed-entry s p n)
 
   pub listed-there : IsThere (names_of m) p.folder p.place p.name
   listed-there = record { size = length (entry_of s p n).bytes; at = is_listed }

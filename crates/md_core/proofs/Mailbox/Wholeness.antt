@@ -11,7 +11,7 @@ use Rattle.md_core.specs.declared.jobs.answer.Answer.{Answer}
 use Rattle.md_core.specs.declared.jobs.call.Call.{Call}
 use Rattle.md_core.specs.declared.jobs.call.Call.TheVariants.{Deliver, Seen, Flag, Move, Expunge, Copy, Clean}
 use Rattle.md_core.specs.Mailbox.{Entry, Mailbox}
-use Rattle.md_core.specs.Alone.{Outcome, alone, such, is_in_place, is_in_folder, is_same_set, info_with, flags_in, delivered, seen, seen_by, flag, flag_by, moved, expunged, expunge_by, copied, copy_by}
+use Rattle.md_core.specs.Alone.{Outcome, alone, entry_if, is_in_place, is_in_folder, is_same_set, info_with, flags_in, deliver_alone, seen_alone, seen_by, flag_alone, flag_by, move_alone, expunge_alone, expunge_by, copy_alone, copy_by}
 use Rattle.md_core.specs.declared.jobs.effect.Effect.{Effect}
 use Rattle.md_core.specs.Stepping.{AsAlone}
 use Rattle.md_core.specs.Interleaving.{IsDeliveryOf}
@@ -46,7 +46,7 @@ whole-drop call m k u e at = by_key nat_list_cmp_total exact_bytes u k
     (λ other. inr (e, sym (beside_drop nat_list_cmp_total exact_bytes m k u other) ∙ at, refl))
 
 -- an entry that passes a test is there
-such-there : (test : Entry → Bool) (o : Option Entry) (e : Entry) → such test o ≡ Some e → o ≡ Some e
+such-there : (test : Entry → Bool) (o : Option Entry) (e : Entry) → entry_if test o ≡ Some e → o ≡ Some e
 such-there test None e is = cc
 such-there test (Some x) e is = by (test x) is
   where
@@ -55,7 +55,7 @@ such-there test (Some x) e is = by (test x) is
     by false h = cc
 
 module _ (call : Call) (m : Mailbox) (k : List ℕ) where
-  whole-seen : (given : Set) (o : Option Entry) → ((e : Entry) → o ≡ Some e → finmap.get m k ≡ Some e) → IsWholeAfter call m (seen m k given o).after
+  whole-seen : (given : Set) (o : Option Entry) → ((e : Entry) → o ≡ Some e → finmap.get m k ≡ Some e) → IsWholeAfter call m (seen_alone m k given o).after
   whole-seen given None there = whole-same call m
   whole-seen given (Some e) there = by (flags_in e)
     where
@@ -63,7 +63,7 @@ module _ (call : Call) (m : Mailbox) (k : List ℕ) where
       by None = whole-same call m
       by (Some had) = whole-put call m k _ (inr (e, there e refl, refl))
 
-  whole-flag : (add remove : Set) (o : Option Entry) → ((e : Entry) → o ≡ Some e → finmap.get m k ≡ Some e) → IsWholeAfter call m (flag m k add remove o).after
+  whole-flag : (add remove : Set) (o : Option Entry) → ((e : Entry) → o ≡ Some e → finmap.get m k ≡ Some e) → IsWholeAfter call m (flag_alone m k add remove o).after
   whole-flag add remove None there = whole-same call m
   whole-flag add remove (Some e) there = by (flags_in e)
     where
@@ -77,11 +77,11 @@ module _ (call : Call) (m : Mailbox) (k : List ℕ) where
       by None = whole-same call m
       by (Some had) = same_or (is_same_set had (set.difference (set.union had add) remove)) had _ _
 
-  whole-moved : (to : ℕ) (o : Option Entry) → ((e : Entry) → o ≡ Some e → finmap.get m k ≡ Some e) → IsWholeAfter call m (moved m k to o).after
+  whole-moved : (to : ℕ) (o : Option Entry) → ((e : Entry) → o ≡ Some e → finmap.get m k ≡ Some e) → IsWholeAfter call m (move_alone m k to o).after
   whole-moved to None there = whole-same call m
   whole-moved to (Some e) there = whole-put call m k _ (inr (e, there e refl, refl))
 
-  whole-expunged : (o : Option Entry) → IsWholeAfter call m (expunged m k o).after
+  whole-expunged : (o : Option Entry) → IsWholeAfter call m (expunge_alone m k o).after
   whole-expunged None = whole-same call m
   whole-expunged (Some e) = by (flags_in e)
     where
@@ -95,12 +95,12 @@ module _ (call : Call) (m : Mailbox) (k : List ℕ) where
       by (Some had) = if_trashed (set.contains had 84) _ _
 
 whole-delivered : (m : Mailbox) (folder : ℕ) (k body : List ℕ) (chunk : ℕ) (o : Option Entry) →
-    IsWholeAfter (Deliver folder k body chunk) m (delivered m folder k body o).after
+    IsWholeAfter (Deliver folder k body chunk) m (deliver_alone m folder k body o).after
 whole-delivered m folder k body chunk None = whole-put (Deliver folder k body chunk) m k _ (inl (refl, refl))
 whole-delivered m folder k body chunk (Some e) = whole-same (Deliver folder k body chunk) m
 
 whole-copied : (m : Mailbox) (folder to tries : ℕ) (k fresh : List ℕ) (o : Option Entry) → ((e : Entry) → o ≡ Some e → finmap.get m k ≡ Some e) →
-    IsWholeAfter (Copy folder k to fresh tries) m (copied m to fresh o).after
+    IsWholeAfter (Copy folder k to fresh tries) m (copy_alone m to fresh o).after
 whole-copied m folder to tries k fresh None there = whole-same (Copy folder k to fresh tries) m
 whole-copied m folder to tries k fresh (Some e) there = by (flags_in e) (finmap.get m fresh)
   where
@@ -112,16 +112,16 @@ whole-copied m folder to tries k fresh (Some e) there = by (flags_in e) (finmap.
 pub whole-alone : (call : Call) (m : Mailbox) → IsWholeAfter call m (alone call m).after
 whole-alone (Deliver folder u body chunk) m = whole-delivered m folder u body chunk (finmap.get m u)
 whole-alone (Seen folder u flags tries) m =
-    whole-seen (Seen folder u flags tries) m u flags (such (is_in_place New folder) (finmap.get m u))
+    whole-seen (Seen folder u flags tries) m u flags (entry_if (is_in_place New folder) (finmap.get m u))
     (such-there (is_in_place New folder) (finmap.get m u))
 whole-alone (Flag folder u add remove tries) m =
-    whole-flag (Flag folder u add remove tries) m u add remove (such (is_in_place Cur folder) (finmap.get m u))
+    whole-flag (Flag folder u add remove tries) m u add remove (entry_if (is_in_place Cur folder) (finmap.get m u))
     (such-there (is_in_place Cur folder) (finmap.get m u))
 whole-alone (Move folder u to tries) m =
-    whole-moved (Move folder u to tries) m u to (such (is_in_folder folder) (finmap.get m u)) (such-there (is_in_folder folder) (finmap.get m u))
-whole-alone (Expunge folder u tries) m = whole-expunged (Expunge folder u tries) m u (such (is_in_place Cur folder) (finmap.get m u))
+    whole-moved (Move folder u to tries) m u to (entry_if (is_in_folder folder) (finmap.get m u)) (such-there (is_in_folder folder) (finmap.get m u))
+whole-alone (Expunge folder u tries) m = whole-expunged (Expunge folder u tries) m u (entry_if (is_in_place Cur folder) (finmap.get m u))
 whole-alone (Copy folder u to fresh tries) m =
-    whole-copied m folder to tries u fresh (such (is_in_folder folder) (finmap.get m u)) (such-there (is_in_folder folder) (finmap.get m u))
+    whole-copied m folder to tries u fresh (entry_if (is_in_folder folder) (finmap.get m u)) (such-there (is_in_folder folder) (finmap.get m u))
 whole-alone (Clean folder) m = whole-same (Clean folder) m
 
 -- an effect leaves the mailbox as the call does alone

@@ -6,7 +6,7 @@ use Rattle.md_core.specs.declared.jobs.step.DirReply.{DirReply}
 use Rattle.md_core.specs.declared.jobs.step.Moment.{Moment}
 use Rattle.md_core.specs.declared.jobs.task.Task.{Task}
 use Rattle.md_core.specs.Turn.{Turn, rows_for}
-use Rattle.md_core.specs.Machine.{Machine, Standing, working, answered, Marked, job_at, task_of, turn_of, moment_of, standing_of, taken, replied, met, happens, done, done_by}
+use Rattle.md_core.specs.Machine.{Machine, Standing, working, answered, Occurrence, job_at, task_of, turn_of, moment_of, standing_of, after_turn, reply_to, after_turn_of, after_event, step_of, step_by}
 use Rattle.md_core.specs.Runs.{step_refusal}
 use Rattle.md_core.proofs.Lists.Places.{get-more, set-more}
 
@@ -31,18 +31,18 @@ goes_on-exact (Some (working task)) = (λ h. (task, refl), λ h. refl)
 goes_on-exact (Some (answered a)) = (λ h. cc, λ h. cc)
 
 -- of a job that is there and has no answer, an event is its turn
-module _ (m : Machine) (e : Marked) (task : Task) (is : job_at m.jobs e.event.job ≡ Some (working task)) where
+module _ (m : Machine) (e : Occurrence) (task : Task) (is : job_at m.jobs e.event.job ≡ Some (working task)) where
   abbrev pub at : Moment
   at = moment_of m.clock e.event
 
   abbrev pub turn : Turn Task
   turn = turn_of e.event.job task at
 
-  pub happens-turned : happens m e ≡ taken m e.event.job at turn (replied m at turn e.faulted)
-  happens-turned = ap (λ o. met m e (task_of o)) is
+  pub happens-turned : after_event m e ≡ after_turn m e.event.job at turn (reply_to m at turn e.faulted)
+  happens-turned = ap (λ o. after_turn_of m e (task_of o)) is
 
-  pub done-turned : done m e ≡ Some (done_by m e task)
-  done-turned = ap (λ o. option_map (done_by m e) (task_of o)) is
+  pub done-turned : step_of m e ≡ Some (step_by m e task)
+  done-turned = ap (λ o. option_map (step_by m e) (task_of o)) is
 
 -- a machine with one more job
 abbrev pub with_job : Machine → Standing → Machine
@@ -53,35 +53,35 @@ job_at-more jobs more zero job is = cc
 job_at-more jobs more (suc i) job is = get-more jobs more i job is
 
 -- what happens to a job that was there would happen with one more job too
-module _ (m : Machine) (new job : Standing) (e : Marked) (at : job_at m.jobs e.event.job ≡ Some job) where
+module _ (m : Machine) (new job : Standing) (e : Occurrence) (at : job_at m.jobs e.event.job ≡ Some job) where
   abbrev n : ℕ
   n = e.event.job
 
   within : n - 1 < length m.jobs
   within = let h = job_at-within m.jobs n job at in omega (arith, h.0, h.1)
 
-  taken-with_job : (moment : Moment) (turn : Turn Task) (r : DirReply) → taken (with_job m new) n moment turn r ≡ with_job (taken m n moment turn r) new
+  taken-with_job : (moment : Moment) (turn : Turn Task) (r : DirReply) → after_turn (with_job m new) n moment turn r ≡ with_job (after_turn m n moment turn r) new
   taken-with_job moment turn r =
       let after = turn.follows r (rows_for turn.asked m.dirs) in
       λ i. record {
-        dirs = (taken m n moment turn r).dirs;
+        dirs = (after_turn m n moment turn r).dirs;
         clock = moment.clock;
         jobs = set-more m.jobs new (n - 1) (standing_of after.task after.answer) within i;
-        effects = (taken m n moment turn r).effects;
+        effects = (after_turn m n moment turn r).effects;
       }
 
-  met-with_job : (o : Option Task) → met (with_job m new) e o ≡ with_job (met m e o) new
+  met-with_job : (o : Option Task) → after_turn_of (with_job m new) e o ≡ with_job (after_turn_of m e o) new
   met-with_job None = refl
   met-with_job (Some task) = let moment = moment_of m.clock e.event in let turn =
-      turn_of n task moment in taken-with_job moment turn (replied m moment turn e.faulted)
+      turn_of n task moment in taken-with_job moment turn (reply_to m moment turn e.faulted)
 
-  pub happens-with_job : happens (with_job m new) e ≡ with_job (happens m e) new
+  pub happens-with_job : after_event (with_job m new) e ≡ with_job (after_event m e) new
   happens-with_job =
-      ap (λ o. met (with_job m new) e (task_of o)) (job_at-more m.jobs (new ∷ []) n job at)
+      ap (λ o. after_turn_of (with_job m new) e (task_of o)) (job_at-more m.jobs (new ∷ []) n job at)
       ∙ met-with_job (task_of (Some job))
-      ∙ ap (λ (x : Machine). with_job x new) (sym (ap (λ o. met m e (task_of o)) at))
+      ∙ ap (λ (x : Machine). with_job x new) (sym (ap (λ o. after_turn_of m e (task_of o)) at))
 
   -- and it does the same
-  pub done-with_job : done (with_job m new) e ≡ done m e
-  done-with_job = ap (λ o. option_map (done_by m e) (task_of o)) (job_at-more m.jobs (new ∷ []) n job at) ∙
-      sym (ap (λ o. option_map (done_by m e) (task_of o)) at)
+  pub done-with_job : step_of (with_job m new) e ≡ step_of m e
+  done-with_job = ap (λ o. option_map (step_by m e) (task_of o)) (job_at-more m.jobs (new ∷ []) n job at) ∙
+      sym (ap (λ o. option_map (step_by m e) (task_of o)) at)

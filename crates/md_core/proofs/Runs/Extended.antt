@@ -4,9 +4,9 @@ use Rattle.std.proofs.lemmas.List.{take_at, take-take, take-append-le}
 use Rattle.std.proofs.lemmas.Option.{slice_get_within}
 use Rattle.md_dirs.specs.State.{State, IsSound}
 use Rattle.md_core.specs.declared.jobs.call.Call.{Call}
-use Rattle.md_core.specs.Machine.{Machine, working, Marked, job_at, new_job}
+use Rattle.md_core.specs.Machine.{Machine, working, Occurrence, job_at, new_job}
 use Rattle.md_core.specs.Loading.{load_refusal}
-use Rattle.md_core.specs.Runs.{Run, new_run, beginning, run_from, moment, machine_of, jobs_of, and_event, and_call, step_refusal}
+use Rattle.md_core.specs.Runs.{Run, new_run, beginning, run_from, machine_at, machine_of, jobs_of, and_event, and_call, step_refusal}
 use Rattle.md_core.specs.Submitting.{submit_refusal}
 use Rattle.md_core.specs.Stepping.{IsRun}
 use Rattle.md_core.proofs.Lists.Places.{at_end, get-from_take}
@@ -21,7 +21,7 @@ is_run-new image failures made sound loaded = record {
   taken = λ k e at. cc;
 }
 
-pub is_run-and_event : (r : Run) (e : Marked) → IsRun r → step_refusal (job_at (jobs_of r) e.event.job) ≡ None → IsRun (and_event r e)
+pub is_run-and_event : (r : Run) (e : Occurrence) → IsRun r → step_refusal (job_at (jobs_of r) e.event.job) ≡ None → IsRun (and_event r e)
 is_run-and_event r e run goes = record {
   sound = run.sound;
   loaded = run.loaded;
@@ -30,9 +30,9 @@ is_run-and_event r e run goes = record {
       (λ early. ap (λ (m : Machine). step_refusal (job_at m.jobs f.event.job))
       (moment-and_event r e k (let h = slice_get_within r.events k f early in omega arith)) ∙ run.taken k f early)
       (λ last is.
-      let now : moment (and_event r e) k ≡ machine_of r = ap (moment (and_event r e)) last ∙ moment-and_event r e (length r.events) (omega arith) ∙
+      let now : machine_at (and_event r e) k ≡ machine_of r = ap (machine_at (and_event r e)) last ∙ moment-and_event r e (length r.events) (omega arith) ∙
       moment-end r in
-      ap (λ (m : Machine). step_refusal (job_at m.jobs f.event.job)) now ∙ ap (λ (x : Marked). step_refusal (job_at (jobs_of r) x.event.job)) is ∙ goes);
+      ap (λ (m : Machine). step_refusal (job_at m.jobs f.event.job)) now ∙ ap (λ (x : Occurrence). step_refusal (job_at (jobs_of r) x.event.job)) is ∙ goes);
 }
 
 -- the first events of a run are a run
@@ -43,7 +43,7 @@ is_run-first r run k = record {
   accepted = run.accepted;
   taken = λ i e at.
       let early = get-from_take k r.events i e at in
-      let same : moment (record r { events = take k r.events }) i ≡ moment r i =
+      let same : machine_at (record r { events = take k r.events }) i ≡ machine_at r i =
       ap (run_from (beginning r.image r.calls)) (take-take i k r.events (omega (arith, early.0))) in
       ap (λ (m : Machine). step_refusal (job_at m.jobs e.event.job)) same ∙ run.taken i e early.1;
 }
@@ -58,9 +58,9 @@ is_run-and_call r call run accepted = record {
       (λ last is. ap (λ (cs : List Call). submit_refusal (record r { calls = cs }) c) (take_at r.calls (call ∷ []) i (sym last)) ∙
       ap (submit_refusal r) is ∙ accepted);
   taken = λ k e at.
-      let goes = (goes_on-exact (job_at (moment r k).jobs e.event.job)).0 (run.taken k e at) in
-      let there : job_at (moment (and_call r call) k).jobs e.event.job ≡ Some (working goes.0) =
+      let goes = (goes_on-exact (job_at (machine_at r k).jobs e.event.job)).0 (run.taken k e at) in
+      let there : job_at (machine_at (and_call r call) k).jobs e.event.job ≡ Some (working goes.0) =
       ap (λ (m : Machine). job_at m.jobs e.event.job) (moment-and_call r run call k) ∙
-      job_at-more (moment r k).jobs (new_job call ∷ []) e.event.job (working goes.0) goes.1 in
-      (goes_on-exact (job_at (moment (and_call r call) k).jobs e.event.job)).1 (goes.0, there);
+      job_at-more (machine_at r k).jobs (new_job call ∷ []) e.event.job (working goes.0) goes.1 in
+      (goes_on-exact (job_at (machine_at (and_call r call) k).jobs e.event.job)).1 (goes.0, there);
 }

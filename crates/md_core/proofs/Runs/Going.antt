@@ -1,7 +1,7 @@
 -- A job that goes on is there, and stays there.
 use Rattle.std.proofs.Common.{ℕ, ◌≡◌, None, sym, subst, ◌≤◌, ap, ◌∙◌, length}
 use Rattle.md_core.specs.Laws.{HasJob}
-use Rattle.md_core.specs.Machine.{Machine, Marked, job_at}
+use Rattle.md_core.specs.Machine.{Machine, Occurrence, job_at}
 use Rattle.md_core.specs.Runs.{Run, machine_of, jobs_of, and_event, step_refusal}
 use Rattle.md_core.proofs.Runs.ByEvent.{machine-and_event, length-met}
 use Rattle.md_core.proofs.Runs.Events.{goes_on-exact, job_at-within}
@@ -12,7 +12,7 @@ there-now r job goes_on =
     let at = job_at-within (jobs_of r) job _ task.1 in
     record { from = at.0; within = at.1 }
 
-pub there-after : (r : Run) (e : Marked) → step_refusal (job_at (jobs_of r) e.event.job) ≡ None → HasJob (and_event r e) e.event.job
+pub there-after : (r : Run) (e : Occurrence) → step_refusal (job_at (jobs_of r) e.event.job) ≡ None → HasJob (and_event r e) e.event.job
 there-after r e goes_on =
     let task = (goes_on-exact (job_at (jobs_of r) e.event.job)).0 goes_on in
     let here = there-now r e.event.job goes_on in

@@ -22,7 +22,7 @@ use Rattle.md_core.specs.Machines.Deliver.{stage_left}
 use Rattle.md_core.specs.Machines.Mark as marked_by
 use Rattle.md_core.specs.Machines.Expunge as expunged_by
 use Rattle.md_core.specs.Machines.Clean as cleaned_by
-use Rattle.md_core.specs.Machine.{Machine, Standing, working, answered, Marked, job_at, job_left, task_left, standing_of, new_job, happens, done_by}
+use Rattle.md_core.specs.Machine.{Machine, Standing, working, answered, Occurrence, job_at, job_left, task_left, standing_of, new_job, after_event, step_by}
 use Rattle.md_core.specs.Trace.{Step, call_at}
 use Rattle.md_core.specs.Runs.{Run, beginning, run_from, machine_of, dirs_of, jobs_of, and_event, step_refusal, steps_left, left_of, dirs_at_first}
 use Rattle.md_core.specs.Stepping.{IsRun}
@@ -92,21 +92,21 @@ left-exact s (Some (working task)) = (λ h. left-some s task, λ h. refl)
 left-exact s (Some (answered a)) = (λ h. cc, λ h. absurd (omega arith))
 
 -- how many events are of a job, with one more
-abbrev of_job : ℕ → List Marked → ℕ
-of_job number es = count_by (λ (e : Marked). e.event.job == number) es
+abbrev of_job : ℕ → List Occurrence → ℕ
+of_job number es = count_by (λ (e : Occurrence). e.event.job == number) es
 
-of_job-same : (number : ℕ) (es : List Marked) (e : Marked) → e.event.job ≡ number → of_job number (es ++ e ∷ []) ≡ of_job number es + 1
+of_job-same : (number : ℕ) (es : List Occurrence) (e : Occurrence) → e.event.job ≡ number → of_job number (es ++ e ∷ []) ≡ of_job number es + 1
 of_job-same number es e is =
     let yes : (e.event.job == number) ≡ true = grind (arith, nat_tests) in
     let one : cond {A = ℕ} (e.event.job == number) 1 0 ≡ 1 = ap (λ b. cond b 1 0) yes in
-    let split = sum_by-append (λ (x : Marked). cond (x.event.job == number) 1 0) es (e ∷ []) in
+    let split = sum_by-append (λ (x : Occurrence). cond (x.event.job == number) 1 0) es (e ∷ []) in
     omega (arith, one, split)
 
-of_job-other : (number : ℕ) (es : List Marked) (e : Marked) → e.event.job ≢ number → of_job number (es ++ e ∷ []) ≡ of_job number es
+of_job-other : (number : ℕ) (es : List Occurrence) (e : Occurrence) → e.event.job ≢ number → of_job number (es ++ e ∷ []) ≡ of_job number es
 of_job-other number es e differ =
     let no : (e.event.job == number) ≡ false = grind (arith, nat_tests) in
     let none : cond {A = ℕ} (e.event.job == number) 1 0 ≡ 0 = ap (λ b. cond b 1 0) no in
-    let split = sum_by-append (λ (x : Marked). cond (x.event.job == number) 1 0) es (e ∷ []) in
+    let split = sum_by-append (λ (x : Occurrence). cond (x.event.job == number) 1 0) es (e ∷ []) in
     omega (arith, none, split)
 
 -- the directories before the first of these events that is of a job, or behind all of them
@@ -114,38 +114,38 @@ module _ (r : Run) where
   abbrev from : Machine
   from = beginning r.image r.calls
 
-  abbrev at_first : ℕ → List Marked → State
+  abbrev at_first : ℕ → List Occurrence → State
   at_first number es = dirs_at_first (record r { events = es }) number
 
-  first-none : (number : ℕ) (es : List Marked) → of_job number es ≡ 0 → at_first number es ≡ (run_from from es).dirs
-  first-none number es none = ap (λ (fs : List Marked). (run_from from fs).dirs)
-      (ap (λ n. take n es) (none-of_kind (λ (e : Marked). e.event.job == number) es none) ∙ take_all (length es) es (omega arith))
+  first-none : (number : ℕ) (es : List Occurrence) → of_job number es ≡ 0 → at_first number es ≡ (run_from from es).dirs
+  first-none number es none = ap (λ (fs : List Occurrence). (run_from from fs).dirs)
+      (ap (λ n. take n es) (none-of_kind (λ (e : Occurrence). e.event.job == number) es none) ∙ take_all (length es) es (omega arith))
 
-  first-own : (number : ℕ) (es : List Marked) (e : Marked) → of_job number es ≡ 0 → e.event.job ≡ number →
+  first-own : (number : ℕ) (es : List Occurrence) (e : Occurrence) → of_job number es ≡ 0 → e.event.job ≡ number →
       at_first number (es ++ e ∷ []) ≡ (run_from from es).dirs
   first-own number es e none is =
       let yes : (e.event.job == number) ≡ true = grind (arith, nat_tests) in
-      ap (λ (fs : List Marked). (run_from from fs).dirs)
-      (ap (λ n. take n (es ++ e ∷ [])) (first-of_kind (λ (e : Marked). e.event.job == number) es e none yes)
+      ap (λ (fs : List Occurrence). (run_from from fs).dirs)
+      (ap (λ n. take n (es ++ e ∷ [])) (first-of_kind (λ (e : Occurrence). e.event.job == number) es e none yes)
       ∙ take-append-le (length es) es (e ∷ []) (omega arith) ∙ take_all (length es) es (omega arith))
 
-  first-kept : (number : ℕ) (es : List Marked) (e : Marked) → 0 < of_job number es → at_first number (es ++ e ∷ []) ≡ at_first number es
+  first-kept : (number : ℕ) (es : List Occurrence) (e : Occurrence) → 0 < of_job number es → at_first number (es ++ e ∷ []) ≡ at_first number es
   first-kept number es e some =
-      let k = some-of_kind (λ (e : Marked). e.event.job == number) es e some in
-      ap (λ (fs : List Marked). (run_from from fs).dirs)
-      (ap (λ n. take n (es ++ e ∷ [])) k.0 ∙ take-append-le (position_or_len (λ (e : Marked). e.event.job == number) es) es (e ∷ []) k.1)
+      let k = some-of_kind (λ (e : Occurrence). e.event.job == number) es e some in
+      ap (λ (fs : List Occurrence). (run_from from fs).dirs)
+      (ap (λ n. take n (es ++ e ∷ [])) k.0 ∙ take-append-le (position_or_len (λ (e : Occurrence). e.event.job == number) es) es (e ∷ []) k.1)
 
   -- a job that has taken no step is new
-  abbrev IsNew : List Marked → ℕ → Standing → Call → Type 0
+  abbrev IsNew : List Occurrence → ℕ → Standing → Call → Type 0
   IsNew es number job asked = (of_job number es ≡ 0) × (job ≡ new_job asked)
 
   -- and one that has is bound by the directories before its first, and is fixed
-  record IsBegun (es : List Marked) (m : Machine) (number : ℕ) (job : Standing) (asked : Call) : Type 0 where
+  record IsBegun (es : List Occurrence) (m : Machine) (number : ℕ) (job : Standing) (asked : Call) : Type 0 where
     some : 0 < of_job number es
     fixed : StaysFixed job
     bounded : of_job number es + job_left m.dirs job ≤ job_left (at_first number es) (new_job asked)
 
-  abbrev Bounded : List Marked → Machine → Type 0
+  abbrev Bounded : List Occurrence → Machine → Type 0
   Bounded es m = (j : ℕ) (job : Standing) (asked : Call) → slice_get m.jobs j ≡ Some job → slice_get r.calls j ≡ Some asked →
       IsNew es (suc j) job asked ⊎ IsBegun es m (suc j) job asked
 
@@ -155,7 +155,7 @@ module _ (r : Run) where
       let is : new.0 ≡ asked = (let e : Some new.0 ≡ Some asked = sym new.1 ∙ of in cc) in
       inl (refl, new.2 ∙ ap new_job is)
 
-  module _ (es : List Marked) (m m' : Machine) (e : Marked) (what : Step) (is_job : what.job ≡ e.event.job) (now : m ≡ run_from from es)
+  module _ (es : List Occurrence) (m m' : Machine) (e : Occurrence) (what : Step) (is_job : what.job ≡ e.event.job) (now : m ≡ run_from from es)
       (g : Goes r.calls m m' what) where
     -- the job that took its turn
     own-more : (j : ℕ) (job : Standing) (asked : Call) → suc j ≡ e.event.job → job ≡ standing_of g.task' what.answer →
@@ -208,19 +208,19 @@ module _ (r : Run) where
 
 module _ (r : Run) (run : IsRun r) (turns : EachTurn) where
   -- all is good and bounded behind these events
-  record IsThere (es : List Marked) (m : Machine) : Type 0 where
+  record IsThere (es : List Occurrence) (m : Machine) : Type 0 where
     now : m ≡ run_from (beginning r.image r.calls) es
     good : IsGood r.calls m
     bounded : Bounded r es m
 
-  there-more : (es : List Marked) (m : Machine) (e : Marked) (task : Task) → job_at m.jobs e.event.job ≡ Some (working task) → IsThere es m →
-      IsThere (es ++ e ∷ []) (happens m e)
+  there-more : (es : List Occurrence) (m : Machine) (e : Occurrence) (task : Task) → job_at m.jobs e.event.job ≡ Some (working task) → IsThere es m →
+      IsThere (es ++ e ∷ []) (after_event m e)
   there-more es m e task at was =
       let g = goes turns r.calls m e task was.good at in
       record {
-        now = ap (λ (x : Machine). happens x e) was.now ∙ sym (run_from-more_event (beginning r.image r.calls) es e);
-        good = good-kept r.calls (all-apart r run) m (happens m e) (done_by m e task) g was.good;
-        bounded = bounded-more r es m (happens m e) e (done_by m e task) refl was.now g was.bounded;
+        now = ap (λ (x : Machine). after_event x e) was.now ∙ sym (run_from-more_event (beginning r.image r.calls) es e);
+        good = good-kept r.calls (all-apart r run) m (after_event m e) (step_by m e task) g was.good;
+        bounded = bounded-more r es m (after_event m e) e (step_by m e task) refl was.now g was.bounded;
       }
 
   there : IsThere r.events (machine_of r)
@@ -244,22 +244,22 @@ module _ (r : Run) (run : IsRun r) (turns : EachTurn) where
   ]
 
   -- one more event of a job leaves less to it, and each other job as it was
-  module _ (e : Marked) (goes_on : step_refusal (job_at (jobs_of r) e.event.job) ≡ None) where
+  module _ (e : Occurrence) (goes_on : step_refusal (job_at (jobs_of r) e.event.job) ≡ None) where
     waits : (task : Task) × (job_at (jobs_of r) e.event.job ≡ Some (working task))
     waits = (goes_on-exact (job_at (jobs_of r) e.event.job)).0 goes_on
 
     abbrev what : Step
-    what = done_by (machine_of r) e waits.0
+    what = step_by (machine_of r) e waits.0
 
-    going : Goes r.calls (machine_of r) (happens (machine_of r) e) what
+    going : Goes r.calls (machine_of r) (after_event (machine_of r) e) what
     going = goes turns r.calls (machine_of r) e waits.0 (good-machine r run turns) waits.1
 
-    after-is : (number : ℕ) → steps_left (and_event r e) number ≡ left_of (happens (machine_of r) e).dirs (job_at (happens (machine_of r) e).jobs number)
+    after-is : (number : ℕ) → steps_left (and_event r e) number ≡ left_of (after_event (machine_of r) e).dirs (job_at (after_event (machine_of r) e).jobs number)
     after-is number = ap (λ (m : Machine). left_of m.dirs (job_at m.jobs number)) (machine-and_event r e)
 
     pub steps_left-less : steps_left (and_event r e) e.event.job < steps_left r e.event.job
     steps_left-less =
-        let m' = happens (machine_of r) e in
+        let m' = after_event (machine_of r) e in
         let after = after-is e.event.job ∙ ap (λ n. left_of m'.dirs (job_at m'.jobs n)) going.number_is ∙
         ap (left_of m'.dirs) (goes-here r.calls (machine_of r) m' what going) in
         let before : steps_left r e.event.job ≡ task_left (dirs_of r) going.task =
@@ -270,6 +270,6 @@ module _ (r : Run) (run : IsRun r) (turns : EachTurn) where
     pub jobs-same : (number : ℕ) → number ≢ e.event.job → job_at (jobs_of (and_event r e)) number ≡ job_at (jobs_of r) number
     jobs-same number differ = ap (λ (m : Machine). job_at m.jobs number) (machine-and_event r e) ∙ by number differ
       where
-        by : (n : ℕ) → n ≢ e.event.job → job_at (happens (machine_of r) e).jobs n ≡ job_at (jobs_of r) n
+        by : (n : ℕ) → n ≢ e.event.job → job_at (after_event (machine_of r) e).jobs n ≡ job_at (jobs_of r) n
         by zero differ = refl
-        by (suc j) differ = goes-others r.calls (machine_of r) (happens (machine_of r) e) what going j (λ same. differ (ap suc same ∙ sym going.number_is))
+        by (suc j) differ = goes-others r.calls (machine_of r) (after_event (machine_of r) e) what going j (λ same. differ (ap suc same ∙ sym going.number_is))

@@ -5,9 +5,9 @@ use Rattle.md_core.specs.declared.jobs.call.Call.{Call}
 use Rattle.md_core.specs.declared.jobs.call.Call.TheVariants.{Deliver, Seen, Flag, Move, Expunge, Copy, Clean}
 use Rattle.md_core.specs.declared.jobs.effect.Effect.{Effect}
 use Rattle.md_core.specs.Mailbox.{Entry, Mailbox}
-use Rattle.md_core.specs.Machine.{Machine, Marked}
+use Rattle.md_core.specs.Machine.{Machine, Occurrence}
 use Rattle.md_core.specs.Trace.{Step, call_at}
-use Rattle.md_core.specs.Runs.{Run, moment, box}
+use Rattle.md_core.specs.Runs.{Run, machine_at, box_in}
 use Rattle.md_core.specs.Stepping.{IsRun, AsAlone}
 use Rattle.md_core.proofs.Theorem.RunLaw.{IsWhole}
 use Rattle.md_core.proofs.Induction.Good.{EachTurn}
@@ -25,7 +25,7 @@ given-or-had asked (Some x) m m' is u e at = elim (as_alone-after asked (Some x)
 
 -- each message is whole at moment k
 abbrev Wholes : Run → ℕ → Type 0
-Wholes r k = (u : List ℕ) (e : Entry) → finmap.get (box (moment r k)) u ≡ Some e → IsWhole r k u e.bytes
+Wholes r k = (u : List ℕ) (e : Entry) → finmap.get (box_in (machine_at r k)) u ≡ Some e → IsWhole r k u e.bytes
 
 -- what is whole stays so
 whole-later : (r : Run) (j k : ℕ) (u bytes : List ℕ) → j ≤ k → IsWhole r j u bytes → IsWhole r k u bytes
@@ -47,16 +47,16 @@ whole-later r j k u bytes within (inr (inr c)) = inr (inr (record {
 }))
 
 module _ (r : Run) (run : IsRun r) (turns : EachTurn) where
-  module _ (k : ℕ) (e : Marked) (at : slice_get r.events k ≡ Some e) where
+  module _ (k : ℕ) (e : Occurrence) (at : slice_get r.events k ≡ Some e) where
     abbrev what : Step
     what = what-at r run turns k e at
 
-    going : Goes r.calls (moment r k) (moment r (k + 1)) what
+    going : Goes r.calls (machine_at r k) (machine_at r (k + 1)) what
     going = going-at r run turns k e at
 
     -- what an effect gives is whole
     given-whole : (asked : Call) (u bytes : List ℕ) → slice_get r.calls going.place ≡ Some asked → is_some what.effect ≡ true →
-        Gives asked (box (moment r k)) u bytes → IsWhole r (k + 1) u bytes
+        Gives asked (box_in (machine_at r k)) u bytes → IsWhole r (k + 1) u bytes
     given-whole (Deliver folder v body chunk) u bytes of effect gives = inl (going.place, Deliver folder v body chunk, of, gives)
     given-whole (Copy folder v to fresh tries) u bytes of effect gives = inr (inr (record {
       event = k;
@@ -80,17 +80,17 @@ module _ (r : Run) (run : IsRun r) (turns : EachTurn) where
 
     wholes-more : Wholes r k → Wholes r (k + 1)
     wholes-more wholes u entry there =
-        elim (given-or-had going.asked what.effect (box (moment r k)) (box (moment r (k + 1))) going.does.as_alone u entry there) [
+        elim (given-or-had going.asked what.effect (box_in (machine_at r k)) (box_in (machine_at r (k + 1))) going.does.as_alone u entry there) [
           | inl given ↦ given-whole going.asked u entry.bytes going.of given.0 given.1
           | inr had ↦ whole-later r k (k + 1) u entry.bytes (omega arith) (subst (IsWhole r k u) had.2 (wholes u had.0 had.1))
         ]
 
   pub wholes-moment : (k : ℕ) → Wholes r k
-  wholes-moment zero = λ u e at. inr (inl (e, ap (λ (m : Machine). finmap.get (box m) u) (sym (moment-start r)) ∙ at, refl))
+  wholes-moment zero = λ u e at. inr (inl (e, ap (λ (m : Machine). finmap.get (box_in m) u) (sym (moment-start r)) ∙ at, refl))
   wholes-moment (suc k) =
       let next : k + 1 ≡ suc k = omega arith in
       let before : Wholes r k = wholes-moment k in
       subst (Wholes r) next (at_place r.events k
       (λ e at. wholes-more k e at before)
       (λ past u entry there.
-      whole-later r k (k + 1) u entry.bytes (omega arith) (before u entry (ap (λ (m : Machine). finmap.get (box m) u) (sym (moment-over r k past)) ∙ there))))
+      whole-later r k (k + 1) u entry.bytes (omega arith) (before u entry (ap (λ (m : Machine). finmap.get (box_in m) u) (sym (moment-over r k past)) ∙ there))))

@@ -14,7 +14,7 @@ use Rattle.md_core.specs.declared.jobs.answer.Answer.TheVariants as answer
 use Rattle.md_core.specs.declared.jobs.effect.Change.{Change}
 use Rattle.md_core.specs.declared.jobs.effect.Change.TheVariants as change
 use Rattle.md_core.specs.declared.jobs.effect.Effect.{Effect}
-use Rattle.md_core.specs.History.{Names, Listed, changed, after, IsThere, IsNowhere, WasNowhere, IsAllowed}
+use Rattle.md_core.specs.History.{Names, Listed, names_after_change, names_after, IsThere, IsNowhere, WasNowhere, IsAllowed}
 use Rattle.md_core.proofs.Mailbox.Changes.{by_name}
 
 -- what may be fresh is told by more
@@ -40,7 +40,7 @@ renamed-other m old new u x is other none =
 
 -- an effect leaves each name nowhere that was so and is none that its job makes
 pub nowhere-kept : (folders : ℕ) (m : Names) (P : List ℕ → Type 0) (a : Answer) (c : Change) (u : List ℕ) → IsAllowed folders m P a c → (P u → ⊥) →
-    IsNowhere m u → IsNowhere (changed m c) u
+    IsNowhere m u → IsNowhere (names_after_change m c) u
 nowhere-kept folders m P answer.Delivered (change.Add folder place name size) u h other none = by_name u (unique_of name)
     (λ is. absurd (other (subst P (sym h.3 ∙ sym is) h.5)))
     (λ not. beside_put nat_list_cmp_total exact_bytes m (unique_of name) u _ not ∙ none)
@@ -59,19 +59,19 @@ nowhere-kept folders m P answer.Expunged (change.Remove folder place name) u h o
 nowhere-kept folders m P a c u h other none = absurd h
 
 -- the names after one more effect, and names that were nowhere before it
-pub after-push : (m : Names) (history : List Effect) (e : Effect) → after m (history ++ e ∷ []) ≡ changed (after m history) e.change
+pub after-push : (m : Names) (history : List Effect) (e : Effect) → names_after m (history ++ e ∷ []) ≡ names_after_change (names_after m history) e.change
 after-push m [] e = refl
-after-push m (x ∷ history) e = after-push (changed m x.change) history e
+after-push m (x ∷ history) e = after-push (names_after_change m x.change) history e
 
-pub now-nowhere : (m : Names) (history : List Effect) (u : List ℕ) → WasNowhere m history u → IsNowhere (after m history) u
+pub now-nowhere : (m : Names) (history : List Effect) (u : List ℕ) → WasNowhere m history u → IsNowhere (names_after m history) u
 now-nowhere m history u nowhere =
-    subst (λ (es : List Effect). IsNowhere (after m es) u) (take_all (length history) history (omega arith)) (nowhere (length history))
+    subst (λ (es : List Effect). IsNowhere (names_after m es) u) (take_all (length history) history (omega arith)) (nowhere (length history))
 
 pub was_nowhere-push : (m : Names) (history : List Effect) (e : Effect) (u : List ℕ) → WasNowhere m history u →
-    IsNowhere (changed (after m history) e.change) u → WasNowhere m (history ++ e ∷ []) u
+    IsNowhere (names_after_change (names_after m history) e.change) u → WasNowhere m (history ++ e ∷ []) u
 was_nowhere-push m history e u nowhere then k = elim (cases_lt (length history) k) [
   | inl past ↦
       let all : take k (history ++ e ∷ []) ≡ history ++ e ∷ [] = take_all k (history ++ e ∷ []) (let h = length_push history e in omega arith) in
-      subst (λ (n : Names). IsNowhere n u) (sym (ap (after m) all ∙ after-push m history e)) then
-  | inr within ↦ subst (λ (es : List Effect). IsNowhere (after m es) u) (sym (take-append-le k history (e ∷ []) within)) (nowhere k)
+      subst (λ (n : Names). IsNowhere n u) (sym (ap (names_after m) all ∙ after-push m history e)) then
+  | inr within ↦ subst (λ (es : List Effect). IsNowhere (names_after m es) u) (sym (take-append-le k history (e ∷ []) within)) (nowhere k)
 ]

@@ -10,7 +10,7 @@ use Rattle.md_core.specs.declared.jobs.call.Call.{Call}
 use Rattle.md_core.specs.declared.jobs.effect.Effect.{Effect}
 use Rattle.md_core.specs.declared.jobs.task.Task.{Task}
 use Rattle.md_core.specs.Mailbox.{mailbox_of}
-use Rattle.md_core.specs.History.{Names, names_of, changed, after, WasNowhere, IsAllowed, IsAllowedAfter, IsLegal}
+use Rattle.md_core.specs.History.{Names, names_of, names_after_change, names_after, WasNowhere, IsAllowed, IsAllowedAfter, IsLegal}
 use Rattle.md_core.specs.Machine.{Machine, Standing, working, answered, standing_of}
 use Rattle.md_core.specs.Trace.{Step}
 use Rattle.md_core.specs.Stepping.{AsAlone}
@@ -29,7 +29,7 @@ Has number (answered a) es = MatchBool (is_success a) ((e : Effect) × (es ≡ e
 pub record Tells (folders : ℕ) (opening : Names) (calls : List Call) (m : Machine) : Type 0 where
   pub folders_stay : m.dirs.folders ≡ folders
   pub legal : IsLegal folders opening m.effects
-  pub names : after opening m.effects ≡ names_of (mailbox_of m.dirs)
+  pub names : names_after opening m.effects ≡ names_of (mailbox_of m.dirs)
   -- a name that a job without an effect makes was nowhere
   pub nowhere : (j : ℕ) (asked : Call) (task : Task) (u : List ℕ) → slice_get calls j ≡ Some asked → slice_get m.jobs j ≡ Some (working task) →
       own_effect (suc j) task ≡ None → Makes asked u → WasNowhere opening m.effects u
@@ -126,7 +126,7 @@ module _ (folders : ℕ) (opening : Names) (calls : List Call) (apart : AllApart
     tells-quiet = record {
       folders_stay = g.does.folders ∙ tells.folders_stay;
       legal = subst (IsLegal folders opening) (sym effects-same) tells.legal;
-      names = ap (after opening) effects-same ∙ tells.names ∙ ap names_of (sym mailbox-same);
+      names = ap (names_after opening) effects-same ∙ tells.names ∙ ap names_of (sym mailbox-same);
       nowhere = λ j asked task u of at without makes. before j asked task of at without
           (λ t was own _. subst (λ (es : List Effect). WasNowhere opening es u) (sym effects-same) (tells.nowhere j asked t u of was own makes));
       own = λ j job at. goes-cases calls m m' what g j job at
@@ -156,7 +156,7 @@ module _ (folders : ℕ) (opening : Names) (calls : List Call) (apart : AllApart
         none_passes (λ (y : Effect). y.job == number) m.effects i x no_earlier at (ap (λ n. n == number) (same ∙ affects.of) ∙ same_number number)
 
     -- it is allowed among the names of the history so far, and its job makes only names that were nowhere
-    allowed-now : IsAllowed folders (after opening m.effects) (Makes g.asked) e.answer e.change
+    allowed-now : IsAllowed folders (names_after opening m.effects) (Makes g.asked) e.answer e.change
     allowed-now = subst (λ (n : Names). IsAllowed folders n (Makes g.asked) e.answer e.change) (sym tells.names)
         (subst (λ (n : ℕ). IsAllowed n (names_of (mailbox_of m.dirs)) (Makes g.asked) e.answer e.change) tells.folders_stay affects.allowed)
 
@@ -164,7 +164,7 @@ module _ (folders : ℕ) (opening : Names) (calls : List Call) (apart : AllApart
     fresh u makes = tells.nowhere g.place g.asked g.task u g.of g.there (ap (λ n. own_effect n g.task) at_number ∙ first) makes
 
     allowed : IsAllowedAfter folders opening m.effects e
-    allowed = allowed-fresh folders (after opening m.effects) (Makes g.asked) (WasNowhere opening m.effects) fresh e.answer e.change allowed-now
+    allowed = allowed-fresh folders (names_after opening m.effects) (Makes g.asked) (WasNowhere opening m.effects) fresh e.answer e.change allowed-now
 
     legal-more : IsLegal folders opening (m.effects ++ e ∷ [])
     legal-more = record {
@@ -183,8 +183,8 @@ module _ (folders : ℕ) (opening : Names) (calls : List Call) (apart : AllApart
           (subst (IsAllowedAfter folders opening m.effects) (sym is) allowed));
     }
 
-    names-more : after opening (m.effects ++ e ∷ []) ≡ names_of (mailbox_of m'.dirs)
-    names-more = after-push opening m.effects e ∙ ap (λ (n : Names). changed n e.change) tells.names ∙ sym affects.changes
+    names-more : names_after opening (m.effects ++ e ∷ []) ≡ names_of (mailbox_of m'.dirs)
+    names-more = after-push opening m.effects e ∙ ap (λ (n : Names). names_after_change n e.change) tells.names ∙ sym affects.changes
 
     own-other : (j : ℕ) → j ≢ g.place → filter (λ (x : Effect). x.job == suc j) (m.effects ++ e ∷ []) ≡ filter (λ (x : Effect). x.job == suc j) m.effects
     own-other j differ =
@@ -203,13 +203,13 @@ module _ (folders : ℕ) (opening : Names) (calls : List Call) (apart : AllApart
     tells-loud = record {
       folders_stay = g.does.folders ∙ tells.folders_stay;
       legal = subst (IsLegal folders opening) (sym effects-more) legal-more;
-      names = ap (after opening) effects-more ∙ names-more;
+      names = ap (names_after opening) effects-more ∙ names-more;
       nowhere = λ j asked task u of at without makes. before j asked task of at without (λ t was own mine.
           let nowhere = tells.nowhere j asked t u of was own makes in
           let other : j ≢ g.place = (λ same. let h = mine same in cc) in
           subst (λ (es : List Effect). WasNowhere opening es u) (sym effects-more)
           (was_nowhere-push opening m.effects e u nowhere
-          (nowhere-kept folders (after opening m.effects) (Makes g.asked) e.answer e.change u allowed-now
+          (nowhere-kept folders (names_after opening m.effects) (Makes g.asked) e.answer e.change u allowed-now
           (λ its. apart g.place j g.asked asked (λ same. other (sym same)) g.of of u its makes) (now-nowhere opening m.effects u nowhere))));
       own = λ j job at. goes-cases calls m m' what g j job at
           (λ same is. own-here m'.effects j job same is (ap (filter (λ (x : Effect). x.job == number)) effects-more ∙ mine-after ∙

@@ -12,11 +12,11 @@ use Rattle.md_core.specs.declared.jobs.effect.Effect.{Effect}
 use Rattle.md_core.specs.declared.jobs.task.Task.{Task}
 use Rattle.md_core.specs.declared.jobs.task.Task.TheVariants.{Deliver, Mark, Move, Expunge, Copy, Clean}
 use Rattle.md_core.specs.Mailbox.{Entry, mailbox_of, is_tmp, is_message}
-use Rattle.md_core.specs.History.{Names, names_of, listed, after, IsNowhere}
-use Rattle.md_core.specs.Machine.{Machine, Standing, working, answered, Marked, job_at, job_left, new_job}
+use Rattle.md_core.specs.History.{Names, names_of, as_listed, names_after, IsNowhere}
+use Rattle.md_core.specs.Machine.{Machine, Standing, working, answered, Occurrence, job_at, job_left, new_job}
 use Rattle.md_core.specs.Trace.{Step, call_at}
 use Rattle.md_core.specs.Machines.Deliver.{delivery_effect}
-use Rattle.md_core.specs.Runs.{Run, beginning, moment, machine_of, jobs_of, dirs_of, dirs_at_first}
+use Rattle.md_core.specs.Runs.{Run, beginning, machine_at, machine_of, jobs_of, dirs_of, dirs_at_first}
 use Rattle.md_core.specs.Submitting.{submit_refusal}
 use Rattle.md_core.specs.Stepping.{IsRun, Simulates, effects_by}
 use Rattle.md_core.proofs.Theorem.RunLaw.{Happened, IsSafe, is_linked, is_past_link, steps_of, most_from, JobLaw, RunLaw}
@@ -105,8 +105,8 @@ module _ (turns : EachTurn) (r : Run) (run : IsRun r) where
   opening = names_of (mailbox_of r.image)
 
   -- event k, as it goes
-  module _ (k : ℕ) (e : Marked) (at : slice_get r.events k ≡ Some e) where
-    going : Goes r.calls (moment r k) (moment r (k + 1)) (what-at r run turns k e at)
+  module _ (k : ℕ) (e : Occurrence) (at : slice_get r.events k ≡ Some e) where
+    going : Goes r.calls (machine_at r k) (machine_at r (k + 1)) (what-at r run turns k e at)
     going = going-at r run turns k e at
 
     happened : Happened r k
@@ -115,21 +115,21 @@ module _ (turns : EachTurn) (r : Run) (run : IsRun r) where
       at = done-what r run turns k e at;
       call = going.asked;
       of = ap (call_at r.calls) going.number_is ∙ going.of;
-      simulates = simulates r.calls (moment r k) (moment r (k + 1)) (what-at r run turns k e at) going;
+      simulates = simulates r.calls (machine_at r k) (machine_at r (k + 1)) (what-at r run turns k e at) going;
     }
 
   happens-at : (k : ℕ) → k < length r.events → Happened r k
   happens-at k within = at_place r.events k (happened k) (λ past. absurd (omega arith))
 
-  none_overwritten : (k : ℕ) → NoneOverwritten (moment r k).dirs (moment r (k + 1)).dirs
+  none_overwritten : (k : ℕ) → NoneOverwritten (machine_at r k).dirs (machine_at r (k + 1)).dirs
   none_overwritten k = at_place r.events k
       (λ e at. (going k e at).does.none_overwritten)
-      (λ past. none_overwritten-same (moment r k).dirs (moment r (k + 1)).dirs (ap (λ (m : Machine). m.dirs) (moment-over r k past)))
+      (λ past. none_overwritten-same (machine_at r k).dirs (machine_at r (k + 1)).dirs (ap (λ (m : Machine). m.dirs) (moment-over r k past)))
 
-  abbrev Others : List Marked → Machine → Type 0
+  abbrev Others : List Occurrence → Machine → Type 0
   Others es m = (p : Path) → is_tmp p.place ≡ false → is_message p ≡ false → file_at m.dirs p ≡ file_at r.image p
 
-  others : (k : ℕ) → Others (take k r.events) (moment r k)
+  others : (k : ℕ) → Others (take k r.events) (machine_at r k)
   others = kept-moment r run turns Others (λ p not_tmp not_message. refl)
       (λ es m m' e what of good g was p not_tmp not_message. g.does.no_messages p not_tmp not_message ∙ was p not_tmp not_message)
 
@@ -153,11 +153,11 @@ module _ (turns : EachTurn) (r : Run) (run : IsRun r) where
       by (call.Deliver folder v body chunk) none its =
           let a = accepted (record r { calls = take i r.calls }) folder v body chunk none in
           let unused = unused-path r.image v a.valid a.unused in
-          get-names (mailbox_of r.image) u ∙ ap (option_map (listed u)) (no_entry (λ p message same. unused p (message-key p message ∙ same ∙ sym its)) _ refl)
+          get-names (mailbox_of r.image) u ∙ ap (option_map (as_listed u)) (no_entry (λ p message same. unused p (message-key p message ∙ same ∙ sym its)) _ refl)
       by (call.Copy folder v to fresh tries) none its =
           let a = accepted-copy (record r { calls = take i r.calls }) folder v to fresh tries none in
           let unused = unused-path r.image fresh a.fresh_valid a.unused in
-          get-names (mailbox_of r.image) u ∙ ap (option_map (listed u)) (no_entry (λ p message same. unused p (message-key p message ∙ same ∙ sym its)) _ refl)
+          get-names (mailbox_of r.image) u ∙ ap (option_map (as_listed u)) (no_entry (λ p message same. unused p (message-key p message ∙ same ∙ sym its)) _ refl)
       by (call.Seen a b c d) none its = absurd its
       by (call.Flag a b c d e) none its = absurd its
       by (call.Move a b c d) none its = absurd its
@@ -169,7 +169,7 @@ module _ (turns : EachTurn) (r : Run) (run : IsRun r) where
     folders_stay = refl;
     legal = record { once = λ i j a b ata atb same. cc; each = λ i e at. cc };
     names = refl;
-    nowhere = λ j asked task u of at without makes k. subst (λ (es : List Effect). IsNowhere (after opening es) u) (sym (take_all k [] (omega arith)))
+    nowhere = λ j asked task u of at without makes k. subst (λ (es : List Effect). IsNowhere (names_after opening es) u) (sym (take_all k [] (omega arith)))
         (fresh-name j asked u of makes);
     own = λ j job at. let new = new_at r.calls j job at in subst (λ (x : Standing). Has (suc j) x []) (sym new.2) (new-has (suc j) new.0);
     there = λ i e at. cc;
@@ -184,14 +184,14 @@ module _ (turns : EachTurn) (r : Run) (run : IsRun r) where
       new-has number (call.Copy a b c d e) = refl
       new-has number (call.Clean a) = refl
 
-  abbrev Told : List Marked → Machine → Type 0
+  abbrev Told : List Occurrence → Machine → Type 0
   Told es m = Tells r.image.folders opening r.calls m
 
-  told-more : (es : List Marked) (m m' : Machine) (e : Marked) (what : Step) → what.job ≡ e.event.job → IsGood r.calls m → Goes r.calls m m' what →
+  told-more : (es : List Occurrence) (m m' : Machine) (e : Occurrence) (what : Step) → what.job ≡ e.event.job → IsGood r.calls m → Goes r.calls m m' what →
       Told es m → Told es m'
   told-more es m m' e what of good g was = tells-more r.image.folders opening r.calls (all-apart r run) m m' what g good was
 
-  tells-moment : (k : ℕ) → Tells r.image.folders opening r.calls (moment r k)
+  tells-moment : (k : ℕ) → Tells r.image.folders opening r.calls (machine_at r k)
   tells-moment = kept-moment r run turns Told tells-start told-more
 
   tells : Tells r.image.folders opening r.calls (machine_of r)

@@ -11,7 +11,7 @@ use Rattle.md_core.specs.declared.jobs.answer.Answer.{Answer}
 use Rattle.md_core.specs.declared.jobs.answer.Answer.TheVariants as answer
 use Rattle.md_core.specs.declared.jobs.effect.Change.{Change}
 use Rattle.md_core.specs.declared.jobs.effect.Change.TheVariants as change
-use Rattle.md_core.specs.History.{Listed, Names, changed, IsAllowed}
+use Rattle.md_core.specs.History.{Listed, Names, names_after_change, IsAllowed}
 use Rattle.md_core.specs.Laws.{IsPlaced}
 use Rattle.md_core.proofs.Mailbox.Changes.{by_name}
 
@@ -37,7 +37,7 @@ module _ (P : Place → Type 0) (cur : P Cur) (folders : ℕ) (m : Names) (IsFre
   new_not_tmp p is tmp = let e : New ≡ Tmp = sym is ∙ tmp in cc
 
   pub placed-kept : (a : Answer) (c : Change) → IsAllowed folders m IsFresh a c → IsPlaced P (finmap.get m u) →
-      IsPlaced P (finmap.get (changed m c) u)
+      IsPlaced P (finmap.get (names_after_change m c) u)
   placed-kept answer.Delivered (change.Add folder place name size) h was =
       put-in m (unique_of name) _ (λ is. fresh place (new_not_tmp place h.1) (subst IsFresh (sym h.3 ∙ sym is) h.5)) was
   placed-kept answer.Copied (change.Add folder place name size) h was =

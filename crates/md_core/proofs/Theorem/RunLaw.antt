@@ -10,10 +10,10 @@ use Rattle.md_core.specs.declared.jobs.call.Call.{Call}
 use Rattle.md_core.specs.declared.jobs.call.Call.TheVariants as call
 use Rattle.md_core.specs.declared.jobs.effect.Effect.{Effect}
 use Rattle.md_core.specs.Mailbox.{Entry, mailbox_of, is_tmp, is_message, HasOnePath}
-use Rattle.md_core.specs.History.{names_of, after, IsLegal}
+use Rattle.md_core.specs.History.{names_of, names_after, IsLegal}
 use Rattle.md_core.specs.Trace.{Step, call_at}
 use Rattle.md_core.specs.Machine.{Standing, working, answered, job_at, job_left}
-use Rattle.md_core.specs.Runs.{Run, moment, dirs_of, done_at, jobs_of, effects_of, box, dirs_at_first}
+use Rattle.md_core.specs.Runs.{Run, machine_at, dirs_of, done_at, jobs_of, effects_of, box_in, dirs_at_first}
 use Rattle.md_core.specs.declared.jobs.deliver.Stage.{Stage}
 use Rattle.md_core.specs.declared.jobs.deliver.Stage.TheVariants.{Linked}
 use Rattle.md_core.specs.declared.jobs.task.Task.{Task}
@@ -29,7 +29,7 @@ pub record Happened (r : Run) (k : ℕ) : Type 0 where
   pub at : done_at r k ≡ Some what
   pub call : Call
   pub of : call_at r.calls what.job ≡ Some call
-  pub simulates : Simulates call what (moment r k) (moment r (k + 1))
+  pub simulates : Simulates call what (machine_at r k) (machine_at r (k + 1))
 
 -- an event before moment k was the effect of a copy to the name, whose message had these bytes then
 pub record IsCopied (r : Run) (k : ℕ) (u bytes : List ℕ) : Type 0 where
@@ -43,7 +43,7 @@ pub record IsCopied (r : Run) (k : ℕ) (u bytes : List ℕ) : Type 0 where
   pub unique : List ℕ
   pub copies : IsCopyTo unique u call
   pub source : Entry
-  pub had : finmap.get (box (moment r event)) unique ≡ Some source
+  pub had : finmap.get (box_in (machine_at r event)) unique ≡ Some source
   pub same : source.bytes ≡ bytes
 
 -- The bytes are whole at moment k: the body of the delivery of the name, or what the message had at the beginning, or what the message
@@ -55,11 +55,11 @@ IsWhole r k u bytes =
 
 -- what is safe at moment k
 pub record IsSafe (r : Run) (k : ℕ) : Type 0 where
-  pub sound : IsSound (moment r k).dirs
-  pub one_path : HasOnePath (moment r k).dirs
-  pub whole : (u : List ℕ) (e : Entry) → finmap.get (box (moment r k)) u ≡ Some e → IsWhole r k u e.bytes
+  pub sound : IsSound (machine_at r k).dirs
+  pub one_path : HasOnePath (machine_at r k).dirs
+  pub whole : (u : List ℕ) (e : Entry) → finmap.get (box_in (machine_at r k)) u ≡ Some e → IsWhole r k u e.bytes
   -- names in new and cur that are no messages stay as they were
-  pub others : (p : Path) → is_tmp p.place ≡ false → is_message p ≡ false → file_at (moment r k).dirs p ≡ file_at r.image p
+  pub others : (p : Path) → is_tmp p.place ≡ false → is_message p ≡ false → file_at (machine_at r k).dirs p ≡ file_at r.image p
 
 abbrev pub is_linked : Stage → Bool
 is_linked Linked = true
@@ -108,10 +108,10 @@ pub record JobLaw (r : Run) (number : ℕ) (call : Call) (job : Standing) : Type
 -- What holds of every run, by the machine at each of its moments.
 pub record RunLaw (r : Run) : Type 0 where
   pub happened : (k : ℕ) → k < length r.events → Happened r k
-  pub none_overwritten : (k : ℕ) → NoneOverwritten (moment r k).dirs (moment r (k + 1)).dirs
+  pub none_overwritten : (k : ℕ) → NoneOverwritten (machine_at r k).dirs (machine_at r (k + 1)).dirs
   pub safe : (k : ℕ) → IsSafe r k
   pub legal : IsLegal r.image.folders (names_of (mailbox_of r.image)) (effects_of r)
   -- the history gives the names of the mailbox at every moment
-  pub names : (k : ℕ) → after (names_of (mailbox_of r.image)) (moment r k).effects ≡ names_of (box (moment r k))
+  pub names : (k : ℕ) → names_after (names_of (mailbox_of r.image)) (machine_at r k).effects ≡ names_of (box_in (machine_at r k))
   pub jobs : (number : ℕ) (call : Call) (job : Standing) → call_at r.calls number ≡ Some call → job_at (jobs_of r) number ≡ Some job
       → JobLaw r number call job

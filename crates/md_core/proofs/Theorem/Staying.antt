@@ -5,7 +5,7 @@ use Rattle.std.specs.FinMap as finmap
 use Rattle.md_dirs.specs.declared.paths.Place.{Place}
 use Rattle.md_dirs.specs.declared.paths.Place.TheVariants.{Tmp, Cur}
 use Rattle.md_core.specs.declared.jobs.effect.Effect.{Effect}
-use Rattle.md_core.specs.History.{Listed, Names, after, IsLegal, WasNowhere}
+use Rattle.md_core.specs.History.{Listed, Names, names_after, IsLegal, WasNowhere}
 use Rattle.md_core.specs.Laws.{IsPlaced, IsInCur, IsNotInTmp, KeepsPlaces}
 use Rattle.md_core.proofs.Lists.Places.{at_place, take-one_more}
 use Rattle.md_core.proofs.Theorem.Effects.{after-push}
@@ -13,16 +13,16 @@ use Rattle.md_core.proofs.Theorem.Placed.{placed-kept}
 
 module _ (folders : ℕ) (opening : Names) (history : List Effect) (legal : IsLegal folders opening history) where
   abbrev names : ℕ → Names
-  names k = after opening (take k history)
+  names k = names_after opening (take k history)
 
   next : (P : Place → Type 0) → P Cur → (u : List ℕ) (k : ℕ) → ((p : Place) → p ≢ Tmp → WasNowhere opening (take k history) u → P p)
       → IsPlaced P (finmap.get (names k) u) → IsPlaced P (finmap.get (names (k + 1)) u)
   next P cur u k fresh was = at_place history k
       (λ e at.
-      subst (λ (m : Names). IsPlaced P (finmap.get m u)) (sym (ap (after opening) (take-one_more history k e at) ∙ after-push opening (take k history) e))
+      subst (λ (m : Names). IsPlaced P (finmap.get m u)) (sym (ap (names_after opening) (take-one_more history k e at) ∙ after-push opening (take k history) e))
       (placed-kept P cur folders (names k) (WasNowhere opening (take k history)) u fresh e.answer e.change (legal.each k e at) was))
       (λ past.
-      subst (λ (es : List Effect). IsPlaced P (finmap.get (after opening es) u)) (take_all k history past ∙ sym (take_all (k + 1) history (omega arith))) was)
+      subst (λ (es : List Effect). IsPlaced P (finmap.get (names_after opening es) u)) (take_all k history past ∙ sym (take_all (k + 1) history (omega arith))) was)
 
   cur_not_tmp : Cur ≢ Tmp
   cur_not_tmp e = cc
@@ -40,7 +40,7 @@ module _ (folders : ℕ) (opening : Names) (history : List Effect) (legal : IsLe
     used-since : (d : ℕ) → WasNowhere opening (take (i + d) history) u → ⊥
     used-since d fresh =
         let none : finmap.get (names i) u ≡ None =
-        ap (λ (es : List Effect). finmap.get (after opening es) u) (sym (take-take i (i + d) history (omega arith))) ∙ fresh i in
+        ap (λ (es : List Effect). finmap.get (names_after opening es) u) (sym (take-take i (i + d) history (omega arith))) ∙ fresh i in
         let is = there in
         cc
 

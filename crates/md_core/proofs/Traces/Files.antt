@@ -4,7 +4,7 @@ use Rattle.std.proofs.Common.{ℕ, zero, suc, ◌≡◌, ◌≤◌, ◌+◌, Lis
 use Rattle.std.specs.Option.{option_and_then}
 use Rattle.std.proofs.lemmas.List.{take_all}
 use Rattle.md_dirs.specs.State.{State, IsSound, file_at, file_by}
-use Rattle.md_dirs.specs.Calls.{appended, grown, named, unnamed, swept, is_one_file}
+use Rattle.md_dirs.specs.Calls.{after_append, file_with_more, with_path, without_path, with_files_still_named, is_one_file}
 use Rattle.md_dirs.specs.declared.paths.File.{File}
 use Rattle.md_dirs.specs.declared.paths.Path.{Path}
 use Rattle.md_dirs.specs.declared.paths.Place.TheVariants.{Tmp}
@@ -38,7 +38,7 @@ use Rattle.md_core.specs.Machines.Move as moved_by
 use Rattle.md_core.specs.Machines.Expunge as expunged_by
 use Rattle.md_core.specs.Machines.Copy as copied_by
 use Rattle.md_core.specs.Machines.Clean as cleaned_by
-use Rattle.md_core.specs.Runs.{Run, moment}
+use Rattle.md_core.specs.Runs.{Run, machine_at}
 use Rattle.md_core.specs.Stepping.{IsRun}
 use Rattle.md_core.specs.Interleaving.{IsTmpOf}
 use Rattle.md_core.specs.Tracing.{trace_of}
@@ -62,28 +62,28 @@ module _ (s : State) (sound : IsSound s) (clock : ℕ) (q : Path) (n : ℕ) (her
   abbrev After : Asked → DirReply → State
   After asked r = state_by (ask_of asked clock) s r
 
-  kept-append : (bytes : List ℕ) (o : Option ℕ) → (o ≡ Some n → ⊥) → file_by (appended bytes clock s o).files n ≡ file_by s.files n
+  kept-append : (bytes : List ℕ) (o : Option ℕ) → (o ≡ Some n → ⊥) → file_by (after_append bytes clock s o).files n ≡ file_by s.files n
   kept-append bytes None away = refl
-  kept-append bytes (Some m) away = file_by-set_other s.files m n (grown bytes clock (file_by s.files m)) (λ same. away (ap Some (sym same)))
+  kept-append bytes (Some m) away = file_by-set_other s.files m n (file_with_more bytes clock (file_by s.files m)) (λ same. away (ap Some (sym same)))
 
-  files-named : (p : Path) (x : State) (o : Option ℕ) → (named p x o).files ≡ x.files
+  files-named : (p : Path) (x : State) (o : Option ℕ) → (with_path p x o).files ≡ x.files
   files-named p x None = refl
   files-named p x (Some m) = refl
 
   kept-rename : (old new : Path) (b : Bool) →
-      let after = cond b s (swept (file_at s new) (named new (unnamed old s) (file_at s old))) in
+      let after = cond b s (with_files_still_named (file_at s new) (with_path new (without_path old s) (file_at s old))) in
       file_at after q ≡ Some n → file_by after.files n ≡ file_by s.files n
   kept-rename old new true there = refl
   kept-rename old new false there =
-      swept-kept (file_at s new) (named new (unnamed old s) (file_at s old)) q n there
-      ∙ ap (λ (fs : List (Option File)). file_by fs n) (files-named new (unnamed old s) (file_at s old))
+      swept-kept (file_at s new) (with_path new (without_path old s) (file_at s old)) q n there
+      ∙ ap (λ (fs : List (Option File)). file_by fs n) (files-named new (without_path old s) (file_at s old))
 
   kept : (asked : Asked) (r : DirReply) → Away s q asked → file_at (After asked r) q ≡ Some n → file_by (After asked r).files n ≡ file_by s.files n
   kept (create p) reply.Ok away there = file_by-push s.files _ n (number-within s sound q n here)
   kept (append p bytes) reply.Ok away there = kept-append bytes (file_at s p) (λ is. away n here is)
   kept (link old new) reply.Ok away there = ap (λ (fs : List (Option File)). file_by fs n) (files-named new s (file_at s old))
   kept (rename old new) reply.Ok away there = kept-rename old new (is_one_file (file_at s old) (file_at s new)) there
-  kept (unlink p) reply.Ok away there = swept-kept (file_at s p) (unnamed p s) q n there
+  kept (unlink p) reply.Ok away there = swept-kept (file_at s p) (without_path p s) q n there
   kept (list folder place) reply.Ok away there = refl
   kept asked reply.Exists away there = refl
   kept asked reply.NotFound away there = refl
@@ -204,7 +204,7 @@ module _ (r : Run) (run : IsRun r) where
         c.0,
         c.1,
         subst (λ (s : State). Writes s c.0 p) (sym (state-same r run k))
-            (appends (moment r k).dirs c.0 u.0.event.event.job (at r k x.job u.0) u.0.task fits p bytes asks),
+            (appends (machine_at r k).dirs c.0 u.0.event.event.job (at r k x.job u.0) u.0.task fits p bytes asks),
       )
 
   -- files in new and cur that are no messages

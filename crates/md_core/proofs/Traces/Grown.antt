@@ -4,21 +4,21 @@ use Rattle.std.specs.Option.{option_to_list, option_map}
 use Rattle.md_core.specs.declared.jobs.step.StepOut.{StepOut}
 use Rattle.md_core.specs.declared.jobs.task.Task.{Task}
 use Rattle.md_core.specs.Trace.{Step}
-use Rattle.md_core.specs.Machine.{Marked, job_at, task_of, done, done_by}
+use Rattle.md_core.specs.Machine.{Occurrence, job_at, task_of, step_of, step_by}
 use Rattle.md_core.specs.Runs.{Run, beginning, machine_of, and_event}
 use Rattle.md_core.specs.Tracing.{deeds_from, trace_of, GrowsByStep}
 use Rattle.md_core.specs.Stepping.{ShowsStep}
 use Rattle.md_core.proofs.Traces.Same.{deeds-more}
 
 -- what an event did is of its job
-own-done : (r : Run) (e : Marked) (d : Step) → done (machine_of r) e ≡ Some d → d.job ≡ e.event.job
+own-done : (r : Run) (e : Occurrence) (d : Step) → step_of (machine_of r) e ≡ Some d → d.job ≡ e.event.job
 own-done r e d is = by (task_of (job_at (machine_of r).jobs e.event.job)) is
   where
-    by : (o : Option Task) → option_map (done_by (machine_of r) e) o ≡ Some d → d.job ≡ e.event.job
+    by : (o : Option Task) → option_map (step_by (machine_of r) e) o ≡ Some d → d.job ≡ e.event.job
     by None h = cc
-    by (Some task) h = let same : done_by (machine_of r) e task ≡ d = cc in ap (λ (x : Step). x.job) (sym same)
+    by (Some task) h = let same : step_by (machine_of r) e task ≡ d = cc in ap (λ (x : Step). x.job) (sym same)
 
-pub grows-by-step : (r : Run) (e : Marked) (out : StepOut) → ShowsStep r (and_event r e) e out →
+pub grows-by-step : (r : Run) (e : Occurrence) (out : StepOut) → ShowsStep r (and_event r e) e out →
     GrowsByStep (trace_of r) (trace_of (and_event r e)) e.event.job out
 grows-by-step r e out shows =
     let m = beginning r.image r.calls in

@@ -15,7 +15,7 @@ use Rattle.md_core.specs.Mailbox.{Mailbox, mailbox_of}
 use Rattle.md_core.specs.Alone.{alone}
 use Rattle.md_core.specs.Machine.{Machine, Standing, answered, job_at}
 use Rattle.md_core.specs.Trace.{Step, call_at, Trace, IsStepOf, IsAnswered, step_at, box}
-use Rattle.md_core.specs.Runs.{Run, moment, jobs_of, effects_of}
+use Rattle.md_core.specs.Runs.{Run, machine_at, jobs_of, effects_of}
 use Rattle.md_core.specs.Stepping.{IsRun, AsAlone}
 use Rattle.md_core.proofs.Theorem.RunLaw.{RunLaw, Happened, JobLaw}
 use Rattle.md_core.specs.Interleaving.{is_effect_at, IsEffectOf, TakesEffect, Acts, IsDelivery, IsOwnEffect}
@@ -53,7 +53,7 @@ module _ (r : Run) (run : IsRun r) where
   given-is : (job : ℕ) → given own_of (is_of job) t.steps ≡ filter (λ (e : Effect). e.job == job) (effects_of r)
   given-is job = ap (filter (is_of job)) all-effects
 
-  pub box-same : (k : ℕ) → box t k ≡ mailbox_of (moment r k).dirs
+  pub box-same : (k : ℕ) → box t k ≡ mailbox_of (machine_at r k).dirs
   box-same k = ap mailbox_of (state-same r run k)
 
   -- what happened at step k
@@ -75,8 +75,8 @@ module _ (r : Run) (run : IsRun r) where
 
     as_alone : AsAlone happened.call x.effect (box t k) (box t (k + 1))
     as_alone = subst (λ (m : Mailbox). AsAlone happened.call x.effect m (box t (k + 1))) (sym (box-same k))
-        (subst (λ (m : Mailbox). AsAlone happened.call x.effect (mailbox_of (moment r k).dirs) m) (sym (box-same (k + 1)))
-        (subst (λ (d : Step). AsAlone happened.call d.effect (mailbox_of (moment r k).dirs) (mailbox_of (moment r (k + 1)).dirs)) same
+        (subst (λ (m : Mailbox). AsAlone happened.call x.effect (mailbox_of (machine_at r k).dirs) m) (sym (box-same (k + 1)))
+        (subst (λ (d : Step). AsAlone happened.call d.effect (mailbox_of (machine_at r k).dirs) (mailbox_of (machine_at r (k + 1)).dirs)) same
         happened.simulates.as_alone))
 
     pub quiet : x.effect ≡ None → box t (k + 1) ≡ box t k
@@ -182,7 +182,7 @@ module _ (r : Run) (run : IsRun r) where
       let has : own_effect what.job g.task' ≡ Some e = kept ∙ ap (λ o. option_or o (own_effect what.job g.task)) effect in
       let called-is : Some g.asked ≡ Some c = sym g.of ∙ ap (call_at r.calls) (sym g.number_is) ∙ ap (λ (d : Step). call_at r.calls d.job) same-what ∙ of in
       let asked-is : g.asked ≡ c = cc in
-      subst IsDelivery asked-is (delivers (moment r (k + 1)).dirs g.asked what.job e g.task' (g.does.fits unanswered) has))
+      subst IsDelivery asked-is (delivers (machine_at r (k + 1)).dirs g.asked what.job e g.task' (g.does.fits unanswered) has))
       (λ past. absurd (let h = within k x at in omega (arith, h, past)))
 
   pub own : (k : ℕ) (x : Step) (e : Effect) → step_at t k ≡ Some x → x.effect ≡ Some e → IsOwnEffect t k x e

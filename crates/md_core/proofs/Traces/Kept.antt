@@ -2,22 +2,22 @@
 use Rattle.std.proofs.Common.{◌≤◌, List, sym, ap, ◌∙◌, length, take, arith}
 use Rattle.std.proofs.lemmas.List.{take-append-le}
 use Rattle.md_core.specs.declared.jobs.call.Call.{Call}
-use Rattle.md_core.specs.Machine.{Machine, Marked}
+use Rattle.md_core.specs.Machine.{Machine, Occurrence}
 use Rattle.md_core.specs.Trace.{state_after}
 use Rattle.md_core.specs.Runs.{Run, beginning, run_from, and_events, and_call}
 use Rattle.md_core.specs.Stepping.{IsRun}
-use Rattle.md_core.specs.Tracing.{deeds_from, trace_of, KeepsMoments}
+use Rattle.md_core.specs.Tracing.{deeds_from, trace_of, KeepsStates}
 use Rattle.md_core.proofs.Runs.ByEvent.{moment-and_call}
 use Rattle.md_core.proofs.Traces.Same.{deeds-append, many-steps, state-same}
 
 module _ (r : Run) (run : IsRun r) where
-  pub steps-keep : (es : List Marked) → KeepsMoments r (and_events r es)
+  pub steps-keep : (es : List Occurrence) → KeepsStates r (and_events r es)
   steps-keep es k within =
       let many = many-steps r run in
       let more = deeds_from (run_from (beginning r.image r.calls) r.events) es in
       let inside : k ≤ length (trace_of r).steps = omega (arith, many, within) in
       ap (state_after r.image) (ap (take k) (deeds-append (beginning r.image r.calls) r.events es) ∙ take-append-le k (trace_of r).steps more inside)
 
-  pub call-keeps : (call : Call) → IsRun (and_call r call) → KeepsMoments r (and_call r call)
+  pub call-keeps : (call : Call) → IsRun (and_call r call) → KeepsStates r (and_call r call)
   call-keeps call later k within =
       state-same (and_call r call) later k ∙ ap (λ (m : Machine). m.dirs) (moment-and_call r run call k) ∙ sym (state-same r run k)

@@ -34,7 +34,7 @@ use Rattle.md_core.specs.Machines.Expunge as expunged_by
 use Rattle.md_core.specs.Machines.Mark as marked_by
 use Rattle.md_core.specs.Machines.Move as moved_by
 use Rattle.md_core.specs.Machines.Copy as copied_by
-use Rattle.md_core.specs.Runs.{Run, moment}
+use Rattle.md_core.specs.Runs.{Run, machine_at}
 use Rattle.md_core.specs.Stepping.{IsRun}
 use Rattle.md_core.specs.Interleaving.{IsTmpOf, HasSeenOld, MayChange, KeepsTmp}
 use Rattle.md_core.specs.Tracing.{trace_of}
@@ -65,7 +65,7 @@ module _ (r : Run) (run : IsRun r) where
     pub look : IsStepOf t job i
     pub listed : look.step.asked ≡ list folder Tmp
     pub ok : look.step.reply ≡ reply.Ok
-    pub all : (row : Row) → Has rows row → Has (old_rows look.step.at.own (rows_of (moment r i).dirs folder Tmp)) row
+    pub all : (row : Row) → Has rows row → Has (old_rows look.step.at.own (rows_of (machine_at r i).dirs folder Tmp)) row
 
   abbrev AtStage : ℕ → ℕ → ℕ → Stage → Type 0
   AtStage k job folder Look = Unit {0}
@@ -96,7 +96,7 @@ module _ (r : Run) (run : IsRun r) where
 
   module _ (k job : ℕ) (u : IsTurn r k job) where
     abbrev s : State
-    s = (moment r k).dirs
+    s = (machine_at r k).dirs
 
     abbrev Leads : Turn Cleaning → DirReply → Type 0
     Leads turn rep =
@@ -130,7 +130,7 @@ module _ (r : Run) (run : IsRun r) where
     stage-leads c (Remove name rest files) before reply.Fault asked replied none = cc
 
     own-turn : (left_by r k job u).answer ≡ None → AtTask k job u.task → AtTask (k + 1) job (left_by r k job u).task
-    own-turn none h = by u.task h (reply_in (moment r k) u.event u.task) refl refl none
+    own-turn none h = by u.task h (reply_in (machine_at r k) u.event u.task) refl refl none
       where
         by : (task : Task) → AtTask k job task → (rep : DirReply) → (done_in r k job u).asked ≡ asked_by r k job u task → (done_in r k job u).reply ≡ rep →
             (after_task r k job u task rep).answer ≡ None → AtTask (k + 1) job (after_task r k job u task rep).task
@@ -170,7 +170,7 @@ module _ (r : Run) (run : IsRun r) where
       looks (call.Copy a b c d e) is = cc
       looks (call.Clean a) is = let same : new_cleaning a ≡ x = cc in ap (λ (y : Cleaning). y.stage) (sym same)
 
-  old-task : (k job : ℕ) (task : Task) → k ≤ length r.events → job_at (moment r k).jobs job ≡ Some (working task) → AtTask k job task
+  old-task : (k job : ℕ) (task : Task) → k ≤ length r.events → job_at (machine_at r k).jobs job ≡ Some (working task) → AtTask k job task
   old-task = holds r run AtTask (λ n c task of-c is. new-at n c task is) own-turn (λ k n task e at-k differ is h. other-turn k n task h)
 
   -- the name that a clean takes away it saw to be old
@@ -187,7 +187,7 @@ module _ (r : Run) (run : IsRun r) where
     its : (c : Call) × (call_at r.calls x.job ≡ Some c)
     its = its-call r run k x.job _ u.there
 
-    fits : TaskFits (moment r k).dirs its.0 u.task
+    fits : TaskFits (machine_at r k).dirs its.0 u.task
     fits = its-fits r run k x.job its.0 u.task its.1 u.there
 
     abbrev MayHere : Call → Type 0
@@ -195,8 +195,8 @@ module _ (r : Run) (run : IsRun r) where
 
     seen-old : (folder : ℕ) (row : Row) (rest : List Row) → row.name ≡ p.name → SawOld k x.job folder (row ∷ rest) → HasSeenOld t x.job k folder p.name
     seen-old folder row rest same h =
-        let old = has-filter (is_old h.look.step.at.own) (rows_of (moment r h.i).dirs folder Tmp) row (h.all row (inl refl)) in
-        let place = has-at (rows_of (moment r h.i).dirs folder Tmp) row old.0 in
+        let old = has-filter (is_old h.look.step.at.own) (rows_of (machine_at r h.i).dirs folder Tmp) row (h.all row (inl refl)) in
+        let place = has-at (rows_of (machine_at r h.i).dirs folder Tmp) row old.0 in
         record {
           i = h.i;
           before = h.before;
@@ -236,9 +236,9 @@ module _ (r : Run) (run : IsRun r) where
     unlinks : p.place ≡ Tmp → x.asked ≡ unlink p → MayHere its.0
     unlinks in_tmp asks = by u.task fits (old-task k x.job u.task within u.there) (sym asks-now ∙ asks)
       where
-        by : (task : Task) → TaskFits (moment r k).dirs its.0 task → AtTask k x.job task → asked_by r k x.job u task ≡ unlink p → MayHere its.0
-        by (Deliver d) f now is = may-own its.0 (tmp-of (moment r k).dirs its.0 d p f
-            (delivery-unlinks (moment r k).dirs u.event.event.job d (at r k x.job u) p d.stage is))
+        by : (task : Task) → TaskFits (machine_at r k).dirs its.0 task → AtTask k x.job task → asked_by r k x.job u task ≡ unlink p → MayHere its.0
+        by (Deliver d) f now is = may-own its.0 (tmp-of (machine_at r k).dirs its.0 d p f
+            (delivery-unlinks (machine_at r k).dirs u.event.event.job d (at r k x.job u) p d.stage is))
         by (Mark m) f now is = marks m.stage is
           where
             marks : (stage : marking.Stage) → (marked_by.stage_turn u.event.event.job m stage).asked ≡ unlink p → MayHere its.0
@@ -269,8 +269,8 @@ module _ (r : Run) (run : IsRun r) where
 
     makes : p.place ≡ Tmp → x.asked ≡ create p → MayHere its.0
     makes in_tmp asks =
-        let by = creates (moment r k).dirs its.0 u.event.event.job (at r k x.job u) p in_tmp u.task fits (sym asks-now ∙ asks) in
-        may-own its.0 (tmp-of (moment r k).dirs its.0 by.1.0 p (subst (TaskFits (moment r k).dirs its.0) by.1.1 fits) by.1.3)
+        let by = creates (machine_at r k).dirs its.0 u.event.event.job (at r k x.job u) p in_tmp u.task fits (sym asks-now ∙ asks) in
+        may-own its.0 (tmp-of (machine_at r k).dirs its.0 by.1.0 p (subst (TaskFits (machine_at r k).dirs its.0) by.1.1 fits) by.1.3)
 
     -- a call that writes to the file of a path of tmp is of its delivery
     away-or : (asked : Asked) → x.asked ≡ asked → Away (state t k) p asked ⊎ MayHere its.0
@@ -293,7 +293,7 @@ module _ (r : Run) (run : IsRun r) where
 
     changes : p.place ≡ Tmp → Touches (state t k) (state_by (ask_of x.asked x.at.clock) (state t k) x.reply) p x.asked x.reply x.at.clock
     changes in_tmp = touches (state t k) p in_tmp (sound-at r run k) x.at.clock x.asked x.reply
-        (subst (λ (a : Asked). LeavesTmp a) (sym asks-now) (asks-fair (moment r k).dirs its.0 u.event.event.job u.task (at r k x.job u) fits))
+        (subst (λ (a : Asked). LeavesTmp a) (sym asks-now) (asks-fair (machine_at r k).dirs its.0 u.event.event.job u.task (at r k x.job u) fits))
 
     pub in_tmp : is_tmp p.place ≡ true → KeepsTmp t k x p
     in_tmp hit =

@@ -1,7 +1,7 @@
 -- With one clock the moments of jobs are those of the store.
 use Rattle.std.proofs.Common.{ℕ, ◌≡◌, Option, None, sym, ap, ◌∙◌, unwrap_or, max, arith}
 use Rattle.md_core.specs.Trace.{Step}
-use Rattle.md_core.specs.Runs.{Run, moment}
+use Rattle.md_core.specs.Runs.{Run, machine_at}
 use Rattle.md_core.specs.Stepping.{IsRun}
 use Rattle.md_core.specs.Sparing.{AreApart}
 use Rattle.md_core.proofs.Answers.RunSparing as sparing
@@ -14,7 +14,7 @@ apart-none r run one k d at =
     let h = turn-done r run k d at in
     let e = h.1.event.event in
     let none : e.own ≡ None = one k h.1.event h.1.at in
-    let now = max (moment r k).clock e.now in
+    let now = max (machine_at r k).clock e.now in
     let clock : d.at.clock ≡ now = ap (λ (x : Step). x.at.clock) h.2 in
     let own : d.at.own ≡ now = ap (λ (x : Step). x.at.own) h.2 ∙ ap (λ (o : Option ℕ). unwrap_or o now) none in
     let same : d.at.own ≡ d.at.clock = own ∙ sym clock in

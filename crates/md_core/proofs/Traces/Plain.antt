@@ -12,12 +12,12 @@ use Rattle.md_core.specs.declared.jobs.call.Call.{Call}
 use Rattle.md_core.specs.declared.jobs.call.Call.TheVariants.{Deliver, Seen, Flag, Move, Expunge, Copy, Clean}
 use Rattle.md_core.specs.declared.jobs.step.DirReply.TheVariants.{Fault}
 use Rattle.md_core.specs.Mailbox.{Entry, Mailbox, mailbox_of, HasOnePath}
-use Rattle.md_core.specs.History.{names_of, after, IsLegal}
+use Rattle.md_core.specs.History.{names_of, names_after, IsLegal}
 use Rattle.md_core.specs.Asked.{ask_of, reply_by}
 use Rattle.md_core.specs.Turn.{reply_of}
-use Rattle.md_core.specs.Machine.{Machine, Marked}
+use Rattle.md_core.specs.Machine.{Machine, Occurrence}
 use Rattle.md_core.specs.Trace.{Step, call_at, Trace, IsAnswered, IsTrace, step_at, state, box, effects, steps_of}
-use Rattle.md_core.specs.Runs.{Run, moment, first_step, dirs_at_first}
+use Rattle.md_core.specs.Runs.{Run, machine_at, first_step, dirs_at_first}
 use Rattle.md_core.specs.Runs as runs
 use Rattle.md_core.specs.Submitting.{submit_refusal}
 use Rattle.md_core.specs.Stepping.{IsRun}
@@ -70,13 +70,13 @@ module _ (r : Run) (run : IsRun r) where
       ap (λ n. effects t n) (many-steps r run) ∙ effects-same r run (length r.events) ∙ ap (λ (m : Machine). m.effects) (moment-end r) in
       subst (IsLegal r.image.folders (names_of (mailbox_of r.image))) (sym end) (theorem r run).legal
 
-  pub names : (k : ℕ) → after (names_of (mailbox_of t.image)) (effects t k) ≡ names_of (box t k)
-  names k = ap (after (names_of (mailbox_of r.image))) (effects-same r run k) ∙ (theorem r run).names k ∙ ap names_of (sym (box-same r run k))
+  pub names : (k : ℕ) → names_after (names_of (mailbox_of t.image)) (effects t k) ≡ names_of (box t k)
+  names k = ap (names_after (names_of (mailbox_of r.image))) (effects-same r run k) ∙ (theorem r run).names k ∙ ap names_of (sym (box-same r run k))
 
   -- safety
   pub none_overwritten : (k : ℕ) → NoneOverwritten (state t k) (state t (k + 1))
   none_overwritten k = subst (λ (s : State). NoneOverwritten s (state t (k + 1))) (sym (state-same r run k))
-      (subst (NoneOverwritten (moment r k).dirs) (sym (state-same r run (k + 1))) ((theorem r run).none_overwritten k))
+      (subst (NoneOverwritten (machine_at r k).dirs) (sym (state-same r run (k + 1))) ((theorem r run).none_overwritten k))
 
   pub sound : (k : ℕ) → IsSound (state t k)
   sound k = subst (λ (s : State). IsSound s) (sym (state-same r run k)) ((theorem r run).safe k).sound
@@ -113,12 +113,12 @@ module _ (r : Run) (run : IsRun r) where
   steps-same : (job : ℕ) → steps_of t job ≡ of_runs.steps_of r job
   steps-same job =
       count-map (λ (x : Step). x.job) job t.steps ∙ ap (count_by (λ m. m == job)) (same-jobs r run)
-      ∙ sym (count-map (λ (e : Marked). e.event.job) job r.events)
+      ∙ sym (count-map (λ (e : Occurrence). e.event.job) job r.events)
 
   pub begins-same : (job : ℕ) → begins_at t job ≡ first_step r job
   begins-same job =
       place-map (λ (x : Step). x.job) job t.steps ∙ ap (position_or_len (λ m. m == job)) (same-jobs r run)
-      ∙ sym (place-map (λ (e : Marked). e.event.job) job r.events)
+      ∙ sym (place-map (λ (e : Occurrence). e.event.job) job r.events)
 
   most-is : (job : ℕ) (c : Call) → most_steps t job c ≡ of_runs.most_steps r job c
   most-is job c = ap (λ (s : State). most_over s c) (ap (state t) (begins-same job) ∙ state-same r run (first_step r job))
@@ -188,8 +188,8 @@ module _ (r : Run) (run : IsRun r) where
       → (x.reply ≡ reply_by ((ask_of x.asked x.at.clock).refusal (state t k))) ⊎ (x.reply ≡ Fault)
   replied k x at =
       let u = turn-of r run x.job k (record { step = x; at = at; own = refl }) in
-      let is : x.reply ≡ reply_of (ask_of x.asked x.at.clock) (moment r k).dirs u.0.event.faulted =
-      ap (λ (d : Step). d.reply) u.1 ∙ ap (λ (d : Step). reply_of (ask_of d.asked d.at.clock) (moment r k).dirs u.0.event.faulted) (sym u.1) in
+      let is : x.reply ≡ reply_of (ask_of x.asked x.at.clock) (machine_at r k).dirs u.0.event.faulted =
+      ap (λ (d : Step). d.reply) u.1 ∙ ap (λ (d : Step). reply_of (ask_of d.asked d.at.clock) (machine_at r k).dirs u.0.event.faulted) (sym u.1) in
       by u.0.event.faulted (is ∙ ap (λ (s : State). reply_of (ask_of x.asked x.at.clock) s u.0.event.faulted) (sym (state-same r run k)))
     where
       by : (b : Bool) → x.reply ≡ reply_of (ask_of x.asked x.at.clock) (state t k) b →

@@ -5,7 +5,7 @@ use Rattle.md_core.specs.declared.jobs.answer.Answer.{Answer}
 use Rattle.md_core.specs.declared.jobs.call.Call.{Call}
 use Rattle.md_core.specs.Machine.{Machine, Standing, working, answered, job_at, standing_of}
 use Rattle.md_core.specs.Trace.{Step, call_at, Trace, IsStepOf, IsAnswered}
-use Rattle.md_core.specs.Runs.{Run, moment, jobs_of}
+use Rattle.md_core.specs.Runs.{Run, machine_at, jobs_of}
 use Rattle.md_core.proofs.Answers.OfRun.{IsStep}
 use Rattle.md_core.specs.Stepping.{IsRun}
 use Rattle.md_core.specs.Tracing.{trace_of}
@@ -47,24 +47,24 @@ module _ (r : Run) (run : IsRun r) where
       }
 
   -- an answer stays
-  stays : (k d job : ℕ) (a : Answer) → job_at (moment r k).jobs job ≡ Some (answered a) → job_at (moment r (k + d)).jobs job ≡ Some (answered a)
-  stays k zero job a is = let e : k ≡ k + 0 = omega arith in subst (λ n. job_at (moment r n).jobs job ≡ Some (answered a)) e is
+  stays : (k d job : ℕ) (a : Answer) → job_at (machine_at r k).jobs job ≡ Some (answered a) → job_at (machine_at r (k + d)).jobs job ≡ Some (answered a)
+  stays k zero job a is = let e : k ≡ k + 0 = omega arith in subst (λ n. job_at (machine_at r n).jobs job ≡ Some (answered a)) e is
   stays k (suc d) job a is =
       let before = stays k d job a is in
       let e : (k + d) + 1 ≡ k + suc d = omega arith in
-      subst (λ n. job_at (moment r n).jobs job ≡ Some (answered a)) e (by_event r run (k + d) job (λ same. same ∙ before)
+      subst (λ n. job_at (machine_at r n).jobs job ≡ Some (answered a)) e (by_event r run (k + d) job (λ same. same ∙ before)
       (λ u. let h : Some (working u.task) ≡ Some (answered a) = sym u.there ∙ before in cc))
 
-  pub answered-by : (job k : ℕ) (x : IsStepOf t job k) (a : Answer) → x.step.answer ≡ Some a → job_at (moment r (k + 1)).jobs job ≡ Some (answered a)
+  pub answered-by : (job k : ℕ) (x : IsStepOf t job k) (a : Answer) → x.step.answer ≡ Some a → job_at (machine_at r (k + 1)).jobs job ≡ Some (answered a)
   answered-by job k x a is =
       let h = turn-of job k x in
       let its : (left_by r k job h.0).answer ≡ Some a = ap (λ (d : Step). d.answer) (sym h.1) ∙ is in
       stands-after r k job h.0 ∙ ap (λ (o : Option Answer). Some (standing_of (left_by r k job h.0).task o)) its
 
-  pub answered-later : (job k i : ℕ) (x : IsStepOf t job k) (a : Answer) → x.step.answer ≡ Some a → k < i → job_at (moment r i).jobs job ≡ Some (answered a)
+  pub answered-later : (job k i : ℕ) (x : IsStepOf t job k) (a : Answer) → x.step.answer ≡ Some a → k < i → job_at (machine_at r i).jobs job ≡ Some (answered a)
   answered-later job k i x a is before =
       let e : (k + 1) + (i - (k + 1)) ≡ i = omega (arith, before) in
-      subst (λ n. job_at (moment r n).jobs job ≡ Some (answered a)) e (stays (k + 1) (i - (k + 1)) job a (answered-by job k x a is))
+      subst (λ n. job_at (machine_at r n).jobs job ≡ Some (answered a)) e (stays (k + 1) (i - (k + 1)) job a (answered-by job k x a is))
 
   pub answered-at : (job : ℕ) (a : Answer) → IsAnswered t job a → job_at (jobs_of r) job ≡ Some (answered a)
   answered-at job a x =

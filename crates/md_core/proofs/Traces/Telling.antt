@@ -15,7 +15,7 @@ use Rattle.md_core.specs.declared.jobs.effect.Effect.{Effect}
 use Rattle.md_core.specs.Mailbox.{Mailbox}
 use Rattle.md_core.specs.Alone.{alone}
 use Rattle.md_core.specs.Asked.{unlink}
-use Rattle.md_core.specs.Runs.{Run, moment, first_step}
+use Rattle.md_core.specs.Runs.{Run, machine_at, first_step}
 use Rattle.md_core.specs.Trace.{call_at, Trace, Step, IsStepOf, IsAnswered, state, effects}
 use Rattle.md_core.specs.Stepping.{IsRun}
 use Rattle.md_core.proofs.Answers.OfRun.{IsStep}
@@ -58,7 +58,7 @@ module _ (r : Run) (run : IsRun r) (job : ℕ) where
     begun = step s.from s.begun;
     goes_on = step s.to s.goes_on;
     touched = subst (λ (es : List Effect). times ≤ count_by (is_touch job u) (drop (length es) (effects t (s.to + 1)))) (sym (effects-same r run s.from))
-        (subst (λ (es : List Effect). times ≤ count_by (is_touch job u) (drop (length (moment r s.from).effects) es))
+        (subst (λ (es : List Effect). times ≤ count_by (is_touch job u) (drop (length (machine_at r s.from).effects) es))
         (sym (effects-same r run (s.to + 1))) s.touched);
   }
 

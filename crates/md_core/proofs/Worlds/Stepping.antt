@@ -13,23 +13,23 @@ use Rattle.md_core.specs.declared.jobs.step.StepOut.{StepOut}
 use Rattle.md_core.specs.declared.jobs.task.Task.{Task}
 use Rattle.md_core.specs.Turn.{Turn, After, Device, rows_for}
 use Rattle.md_core.specs.Asked.{is_fault}
-use Rattle.md_core.specs.Machine.{Machine, Standing, working, answered, is_working, Marked, moment_of, standing_of, happens, taken, turn_of, job_at, done, step_out}
+use Rattle.md_core.specs.Machine.{Machine, Standing, working, answered, is_working, Occurrence, moment_of, standing_of, after_event, after_turn, turn_of, job_at, step_of, step_out}
 use Rattle.md_core.specs.Standing.{JobView, TakesTurn, standings}
 use Rattle.md_core.specs.Runs.{Run, machine_of, jobs_of, failures_of, and_event, step_refusal, answer_of}
-use Rattle.md_core.specs.Worlds.{IsWorld, run_of, machine_by, marked_events}
+use Rattle.md_core.specs.Worlds.{IsWorld, run_of, machine_by, occurrences}
 use Rattle.md_core.proofs.Runs.Events.{goes_on-exact, happens-turned, done-turned, job_at-place}
 use Rattle.md_core.proofs.Runs.ByEvent.{machine-and_event}
 use Rattle.md_core.proofs.Runs.Extended.{is_run-and_event}
 
 pub marked-push : (es : List Event) (bs : List Bool) (e : Event) (b : Bool) → length bs ≡ length es →
-    marked_events (es ++ e ∷ []) (bs ++ b ∷ []) ≡ marked_events es bs ++ record { event = e; faulted = b } ∷ []
+    occurrences (es ++ e ∷ []) (bs ++ b ∷ []) ≡ occurrences es bs ++ record { event = e; faulted = b } ∷ []
 marked-push [] [] e b same = refl
 marked-push [] (c ∷ bs) e b same = absurd (omega arith)
 marked-push (x ∷ es) [] e b same = absurd (omega arith)
 marked-push (x ∷ es) (c ∷ bs) e b same = ap (λ ms. record { event = x; faulted = c } ∷ ms) (marked-push es bs e b (omega arith))
 
 -- the log is the events without their marks
-pub marked-events : (es : List Event) (bs : List Bool) → length bs ≡ length es → map (λ m. m.event) (marked_events es bs) ≡ es
+pub marked-events : (es : List Event) (bs : List Bool) → length bs ≡ length es → map (λ m. m.event) (occurrences es bs) ≡ es
 marked-events [] bs same = refl
 marked-events (x ∷ es) [] same = absurd (omega arith)
 marked-events (x ∷ es) (c ∷ bs) same = ap (λ xs. x ∷ xs) (marked-events es bs (omega arith))
@@ -52,7 +52,7 @@ standing-set [] place new = refl
 standing-set (x ∷ jobs) zero new = refl
 standing-set (x ∷ jobs) (suc place) new = ap (λ ss. x.standing ∷ ss) (standing-set jobs place new)
 
-pub count-push : (es : List Marked) (e : Marked) → count_by (λ m. m.faulted) (es ++ e ∷ []) ≡ count_by (λ m. m.faulted) es + cond e.faulted 1 0
+pub count-push : (es : List Occurrence) (e : Occurrence) → count_by (λ m. m.faulted) (es ++ e ∷ []) ≡ count_by (λ m. m.faulted) es + cond e.faulted 1 0
 count-push es e = sum_by_push (λ m. cond m.faulted 1 0) es e
 
 -- the moment of a step, by the code's names
@@ -70,7 +70,7 @@ module _ (first : Device) (jobs : List JobView) (events : List Event) (marks : L
   abbrev pub kept : Machine
   kept = machine_by held clock jobs effects
 
-  abbrev pub marked_event : Marked
+  abbrev pub marked_event : Occurrence
   marked_event = record { event = event; faulted = is_fault out.reply }
 
   abbrev at : Moment
@@ -99,10 +99,10 @@ module _ (first : Device) (jobs : List JobView) (events : List Event) (marks : L
       events = marked-push events marks event (is_fault out.reply) world.as_many i;
     }
 
-    goes-on : happens kept marked_event ≡ kept'
+    goes-on : after_event kept marked_event ≡ kept'
     goes-on =
         happens-turned kept marked_event turned.task at_number
-        ∙ ap (taken kept event.job at turn) (sym turned.takes.replied)
+        ∙ ap (after_turn kept event.job at turn) (sym turned.takes.replied)
         ∙ (λ i. record {
           dirs = sym turned.takes.state i;
           clock = at.clock;
@@ -132,7 +132,7 @@ module _ (first : Device) (jobs : List JobView) (events : List Event) (marks : L
     stepped : IsWorld (and_event run marked_event) kept' held' used (events ++ event ∷ []) (marks ++ is_fault out.reply ∷ [])
     stepped = record {
       run = is_run-and_event run marked_event world.run refusal;
-      now = sym goes-on ∙ ap (λ (m : Machine). happens m marked_event) world.now ∙ sym (machine-and_event run marked_event);
+      now = sym goes-on ∙ ap (λ (m : Machine). after_event m marked_event) world.now ∙ sym (machine-and_event run marked_event);
       failed = failed (is_fault out.reply) turned.takes.failed world.failed ∙ ap (λ n. first.failures + n) (sym (count-push run.events marked_event));
       called = simp length-append (let one = turned.takes.called in let all = world.called in omega arith);
       names = world.names;
@@ -144,9 +144,9 @@ module _ (first : Device) (jobs : List JobView) (events : List Event) (marks : L
     step-world = subst (λ (r : Run). IsWorld r kept' held' used (events ++ event ∷ []) (marks ++ is_fault out.reply ∷ [])) (sym run-after) stepped
 
     -- what is shown of the step
-    pub step-shown : option_map step_out (done (machine_of run) marked_event) ≡ Some out
+    pub step-shown : option_map step_out (step_of (machine_of run) marked_event) ≡ Some out
     step-shown =
-        ap (λ (m : Machine). option_map step_out (done m marked_event)) (sym world.now)
+        ap (λ (m : Machine). option_map step_out (step_of m marked_event)) (sym world.now)
         ∙ ap (option_map step_out) (done-turned kept marked_event turned.task at_number)
         ∙ ap (λ r. Some (step_out (record {
           job = event.job;

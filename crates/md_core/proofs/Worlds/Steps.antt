@@ -4,7 +4,7 @@ use Rattle.std.specs.Option.{option_map}
 use Rattle.md_core.specs.declared.jobs.answer.Answer.{Answer}
 use Rattle.md_core.specs.declared.jobs.step.StepOut.{StepOut}
 use Rattle.md_core.specs.declared.jobs.task.Task.{Task}
-use Rattle.md_core.specs.Machine.{Machine, working, answered, Marked, job_at, standing_of, done, done_by, step_out}
+use Rattle.md_core.specs.Machine.{Machine, working, answered, Occurrence, job_at, standing_of, step_of, step_by, step_out}
 use Rattle.md_core.specs.Trace.{Step, call_at}
 use Rattle.md_core.specs.Runs.{Run, machine_of, jobs_of, and_event, step_refusal}
 use Rattle.md_core.specs.Stepping.{IsRun, ShowsStep, Succeeds}
@@ -16,12 +16,12 @@ use Rattle.md_core.proofs.Induction.Going.{Goes, goes, goes-here}
 use Rattle.md_core.proofs.Induction.GoodRuns.{good-machine}
 use Rattle.md_core.proofs.Theorem.LawHolds.{simulates}
 
-module _ (turns : EachTurn) (r : Run) (run : IsRun r) (e : Marked) (goes_on : step_refusal (job_at (jobs_of r) e.event.job) ≡ None) where
+module _ (turns : EachTurn) (r : Run) (run : IsRun r) (e : Occurrence) (goes_on : step_refusal (job_at (jobs_of r) e.event.job) ≡ None) where
   waits : (task : Task) × (job_at (jobs_of r) e.event.job ≡ Some (working task))
   waits = (goes_on-exact (job_at (jobs_of r) e.event.job)).0 goes_on
 
   abbrev what : Step
-  what = done_by (machine_of r) e waits.0
+  what = step_by (machine_of r) e waits.0
 
   going : Goes r.calls (machine_of r) (machine_of (and_event r e)) what
   going = subst (λ (m : Machine). Goes r.calls (machine_of r) m what) (sym (machine-and_event r e))
@@ -31,7 +31,7 @@ module _ (turns : EachTurn) (r : Run) (run : IsRun r) (e : Marked) (goes_on : st
   called = ap (call_at r.calls) going.number_is ∙ going.of
 
   -- what is shown of the step
-  module _ (out : StepOut) (shown : option_map step_out (done (machine_of r) e) ≡ Some out) where
+  module _ (out : StepOut) (shown : option_map step_out (step_of (machine_of r) e) ≡ Some out) where
     same : step_out what ≡ out
     same = let h : Some (step_out what) ≡ Some out = ap (option_map step_out) (sym (done-turned (machine_of r) e waits.0 waits.1)) ∙ shown in cc
 

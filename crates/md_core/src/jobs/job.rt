@@ -1,7 +1,7 @@
-//! Jobs: the call of each, for contracts alone, and how it stands.
+//! Jobs: the call of each, for contracts alone, and how far it is.
 ghost use Rattle.std.specs.Prelude.{◌≡◌, true, Some, IfOk, IfErr, OnErr};
 ghost use Rattle.md_core.specs.Turn.{device, IsUntouched};
-ghost use Rattle.md_core.specs.Machine.{is_working, settled};
+ghost use Rattle.md_core.specs.Machine.{is_working, with_answer};
 ghost use Rattle.md_core.specs.Standing.{TakesTurn, job_of};
 ghost use Rattle.md_core.specs.Runs.{answer_of};
 
@@ -99,7 +99,7 @@ impl Job {
 
     // Keeps the answer, if there is one, and lets go what the task held.
     fn settle(&mut self, answer: Option<Answer>)
-        ensures { self.new ≡ record self.old { standing = settled self.old.standing answer } }
+        ensures { self.new ≡ record self.old { standing = with_answer self.old.standing answer } }
     {
         if let Some(answer) = answer {
             self.progress = Progress::Answered(answer);

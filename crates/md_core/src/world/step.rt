@@ -1,7 +1,7 @@
 //! One step of a job.
 ghost use Rattle.std.specs.Prelude.{◌≡◌, ◌≢◌, ◌+◌, ◌<◌, length, MatchResult, Some, None, IfOk, OnOk, OnErr};
 ghost use Rattle.md_core.specs.Asked.{is_fault};
-ghost use Rattle.md_core.specs.Machine.{marked, job_at};
+ghost use Rattle.md_core.specs.Machine.{occurrence, job_at};
 ghost use Rattle.md_core.specs.Standing.{standings};
 ghost use Rattle.md_core.specs.Runs.{jobs_of, and_event, step_refusal, steps_left, IsRefusal};
 ghost use Rattle.md_core.specs.Interleaving.{Interleaves};
@@ -15,7 +15,7 @@ use crate::jobs::step::{Event, Moment, StepOut};
 use crate::world::World;
 use md_dirs::Dirs;
 
-// Where a job stands that is there and has no answer.
+// How far a job is that is there and has no answer.
 fn unanswered(jobs: &[Job], job: JobId) -> Result<usize, CoreError>
     ensures refused { MatchResult result
         (λ _. step_refusal (job_at (standings jobs.now) job) ≡ None)
@@ -51,10 +51,10 @@ impl<D: Dirs> World<D> {
     /// refused, as `NoMemory`. A refusal took no step, and nothing has changed.
     pub fn step(&mut self, job: JobId, now: u64, own: Option<u64>) -> Result<StepOut, CoreError>
         // The run goes on by this one event, and by nothing else.
-        ensures event { IfOk result (λ out. self.new ≡ and_event self.old (marked job now own (is_fault out.reply))) }
+        ensures event { IfOk result (λ out. self.new ≡ and_event self.old (occurrence job now own (is_fault out.reply))) }
         // The trace grows by one step, and that is what is shown.
         ensures trace { IfOk result (GrowsByStep (trace_of self.old) (trace_of self.new) job) }
-        ensures shows { IfOk result (λ out. ShowsStep self.old self.new (marked job now own (is_fault out.reply)) out) }
+        ensures shows { IfOk result (λ out. ShowsStep self.old self.new (occurrence job now own (is_fault out.reply)) out) }
         ensures success { IfOk result (λ out. Succeeds self.new job out.answer) }
         ensures refused { MatchResult result (λ _. step_refusal (job_at (jobs_of self.old) job) ≡ None)
             (IsRefusal (step_refusal (job_at (jobs_of self.old) job))) }

@@ -1,4 +1,4 @@
-// Worlds that cross threads, alone and behind a lock, over directories of md_dirs and over a wrapper of them.
+// Worlds that cross threads, alone and inside a lock, over directories of md_dirs and over a wrapper of them.
 use super::{copied, delivery, has_names, load, submitted};
 use md_core::{Answer, CoreError, JobId, World};
 use md_dirs::{Dirs, FailAt, Place, PlainDirs};

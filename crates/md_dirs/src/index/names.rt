@@ -162,7 +162,7 @@ impl Names {
         low
     }
 
-    // Whether a name may take the place of the row at a position: it is above the row before and below the row behind.
+    // Whether a name may take the place of the row at a position: it is above the row before and below the row after.
     fn keeps_place(&self, at: usize, name: &[u8]) -> bool
         requires { at < length (finmap.entries self.now) }
         ensures { IsTrue result → FitsAt (finmap.entries self.now) at name.now }

@@ -51,7 +51,7 @@ fn directory_of(row: &(Path, usize)) -> usize
     number_of(row.0.folder, row.0.place)
 }
 
-// The rows of a directory, which stand side by side.
+// The rows of a directory, which are side by side.
 pub fn directory(rows: &[(Path, usize)], folder: u32, place: Place) -> &[(Path, usize)]
     requires { IsTrue (is_sorted path_cmp rows.now) }
     ensures { result.now ≡ filter (λ e. is_in folder place e.0) rows.now }

@@ -5,7 +5,7 @@ ghost use Rattle.md_core.specs.Mailbox.{mailbox_of};
 ghost use Rattle.md_core.specs.Runs.{dirs_of, jobs_of};
 ghost use Rattle.md_script.specs.Folders.{names_of};
 ghost use Rattle.md_script.specs.Texts.{line_end};
-ghost use Rattle.md_runs.specs.Threading.{answers_text, folder_text, folders_text, report_of, AllAnswered, GoesOn, Interleaving};
+ghost use Rattle.md_runs.specs.Threading.{answers_text, folder_text, folders_text, report_of, AllAnswered, RunsOn, Interleaving};
 
 use crate::indexing::listing;
 use crate::threads::setting_up::Made;
@@ -30,7 +30,7 @@ pub(super) fn replay(alloc: Global, made: Made, steps: &[Event]) -> Result<Vec<u
 /// Takes a step of each of these jobs, at moment 0 whatever the moment was before. They were all taken before, so that memory alone can be
 /// wanting.
 fn take_all<D: Dirs>(world: &mut World<D>, steps: &[Event]) -> Result<(), AllocError>
-    ensures { OnOk result (GoesOn world.old world.new) }
+    ensures { OnOk result (RunsOn world.old world.new) }
 {
     for event in steps {
         let Ok(_) = world.step(event.job, 0, None) else {

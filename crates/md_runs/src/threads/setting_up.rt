@@ -4,7 +4,7 @@ ghost use Rattle.std.specs.Prelude.{◌≡◌, ◌≢◌, ◌⊎◌, Ok, Err, If
 ghost use Rattle.md_store.specs.Locks.{IsFresh};
 ghost use Rattle.md_script.specs.declared.error.PlayKind.TheVariants.{NoMemory};
 ghost use Rattle.md_script.specs.Folders.{names_of};
-ghost use Rattle.md_script.specs.Kinds.{unnumbered};
+ghost use Rattle.md_script.specs.Kinds.{at_no_line};
 ghost use Rattle.md_runs.specs.Begun.{submitted_all, begun_over, begun_of, IsBegun};
 
 use crate::loading::{load, refused};
@@ -22,7 +22,7 @@ pub(super) struct Made {
 
 /// What a script sets up.
 pub(super) fn set_up(alloc: Global, script: &[u8]) -> Result<Made, PlayError>
-    ensures made { MatchResult result (IsBegun script.now) (λ e. (e ≡ unnumbered NoMemory) ⊎ (begun_of script.now ≡ Err e)) }
+    ensures made { MatchResult result (IsBegun script.now) (λ e. (e ≡ at_no_line NoMemory) ⊎ (begun_of script.now ≡ Err e)) }
     ensures fresh { IfOk result (λ made. IsFresh made.world) }
 {
     let Setup {

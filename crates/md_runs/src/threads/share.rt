@@ -21,7 +21,7 @@ pub(super) struct Done<J: Naming> {
 }
 
 impl<J: Naming> Share<J> {
-    /// Runs those of the jobs 1 to `jobs` that are this thread's, one after another. It is refused only for want of memory.
+    /// Runs those of the jobs 1 to `jobs` that are this thread's, one after another. It is refused only when out of memory.
     pub(super) fn run<R: Wait>(
         self,
         rt: &R,
@@ -41,7 +41,7 @@ impl<J: Naming> Share<J> {
     }
 }
 
-/// Steps a job to its answer. No other thread steps it, so that it is refused only for want of memory.
+/// Steps a job to its answer. No other thread steps it, so that it is refused only when out of memory.
 fn finish<J: Naming, R: Wait>(
     rt: &R,
     store: &Store<IndexDirs, J>,

@@ -4,7 +4,7 @@ ghost use Rattle.md_core.specs.Machine.{job_at};
 ghost use Rattle.md_core.specs.Runs.{steps_left, jobs_of, answer_of};
 ghost use Rattle.md_script.specs.Step.{Steps};
 ghost use Rattle.md_script.specs.Held.{MayWait};
-ghost use Rattle.md_script.specs.Sessions.{submitted, stepped, finished, listed, shown};
+ghost use Rattle.md_script.specs.Sessions.{submit_in, step_in, finish_in, list_in, read_in};
 
 use crate::error::PlayKind;
 use crate::listing::push_lent_entries;
@@ -20,7 +20,7 @@ pub(super) fn submit<D: Storage>(
     call: Call,
     out: &mut Vec<u8>,
 ) -> Result<(), PlayKind>
-    ensures submit { Steps (submitted world.old call) world.new out.old.items out.new.items result }
+    ensures submit { Steps (submit_in world.old call) world.new out.old.items out.new.items result }
     ensures waits { MayWait world.old world.new }
 {
     // Listings that have begun wait for what is done now.
@@ -39,7 +39,7 @@ pub(super) fn step<D: Storage>(
     event: Event,
     out: &mut Vec<u8>,
 ) -> Result<(), PlayKind>
-    ensures step { Steps (stepped world.old event) world.new out.old.items out.new.items result }
+    ensures step { Steps (step_in world.old event) world.new out.old.items out.new.items result }
     ensures waits { MayWait world.old world.new }
     ensures nearer { OnOk result (steps_left world.new event.job < steps_left world.old event.job) }
 {
@@ -66,7 +66,7 @@ pub(super) fn finish<D: Storage>(
     event: Event,
     out: &mut Vec<u8>,
 ) -> Result<(), PlayKind>
-    ensures finish { Steps (finished world.old event) world.new out.old.items out.new.items result }
+    ensures finish { Steps (finish_in world.old event) world.new out.old.items out.new.items result }
     ensures waits { MayWait world.old world.new }
     ensures answered { OnOk result (is_some (answer_of (job_at (jobs_of world.new) event.job)) ≡ true) }
 {
@@ -80,14 +80,14 @@ pub(super) fn finish<D: Storage>(
 }
 
 /// Prints the messages of a folder.
-#[tactic(auto, unfolding(crate::specs::Sessions::listed))]
+#[tactic(auto, unfolding(crate::specs::Sessions::list_in))]
 pub(super) fn list<D: Storage>(
     alloc: Global,
     world: &World<D>,
     folder: u32,
     out: &mut Vec<u8>,
 ) -> Result<(), PlayKind>
-    ensures { Steps (listed world.now folder) world.now out.old.items out.new.items result }
+    ensures { Steps (list_in world.now folder) world.now out.old.items out.new.items result }
 {
     let entries = list_lent(alloc, world, folder)?;
     push_lent_entries(alloc, out, &entries)?;
@@ -95,13 +95,13 @@ pub(super) fn list<D: Storage>(
 }
 
 /// Prints the bytes of the message of a unique name, or that there is none.
-#[tactic(auto, unfolding(crate::specs::Sessions::shown))]
+#[tactic(auto, unfolding(crate::specs::Sessions::read_in))]
 pub(super) fn read<D: Storage>(
     world: &World<D>,
     unique: &[u8],
     out: &mut Vec<u8>,
 ) -> Result<(), PlayKind>
-    ensures { Steps (shown world.now unique.now) world.now out.old.items out.new.items result }
+    ensures { Steps (read_in world.now unique.now) world.now out.old.items out.new.items result }
 {
     push_bytes(out, world.read(unique))?;
     Ok(())

@@ -1,7 +1,7 @@
 //! An open store: its world, and the first readings that are kept.
 ghost use Rattle.std.specs.Prelude.{◌≡◌, []};
 ghost use Rattle.md_script.specs.Step.{Steps};
-ghost use Rattle.md_script.specs.Sessions.{new_store, on_run, submitted, stepped, finished, listed, shown, read_first, read_second};
+ghost use Rattle.md_script.specs.Sessions.{new_store, on_run, submit_in, step_in, finish_in, list_in, read_in, read_first, read_second};
 
 use crate::error::PlayKind;
 use crate::listing::push_lent_entries;
@@ -29,9 +29,9 @@ impl<D: Storage> Model for OpenStore<D> {
     ghost use Rattle.md_name.specs.contracts.flags.Flags as flags;
     ghost use Rattle.md_view.specs.Law.{HasBegun};
     ghost use Rattle.md_script.specs.Held.{first_by};
-    ghost use Rattle.md_script.specs.Sessions.{Store};
+    ghost use Rattle.md_script.specs.Sessions.{ScriptStore};
 
-    ghost Value = { Store };
+    ghost Value = { ScriptStore };
 
     ghost coded = { Prim.hlevel (codes, state_code, flags.the_row.coded) };
 
@@ -54,35 +54,35 @@ impl<D: Storage> OpenStore<D> {
 
     /// Submits a call, and prints the number of its job.
     pub(super) fn submit(&mut self, call: Call, out: &mut Vec<u8>) -> Result<(), PlayKind>
-        ensures { Steps (on_run self.old (submitted self.old.run call)) self.new out.old.items out.new.items result }
+        ensures { Steps (on_run self.old (submit_in self.old.run call)) self.new out.old.items out.new.items result }
     {
         acts::submit(&mut self.world, call, out)
     }
 
     /// Takes one step of a job, and prints it.
     pub(super) fn step(&mut self, event: Event, out: &mut Vec<u8>) -> Result<(), PlayKind>
-        ensures { Steps (on_run self.old (stepped self.old.run event)) self.new out.old.items out.new.items result }
+        ensures { Steps (on_run self.old (step_in self.old.run event)) self.new out.old.items out.new.items result }
     {
         acts::step(self.alloc, &mut self.world, event, out)
     }
 
     /// Takes steps of a job until it is answered, and prints them.
     pub(super) fn finish(&mut self, event: Event, out: &mut Vec<u8>) -> Result<(), PlayKind>
-        ensures { Steps (on_run self.old (finished self.old.run event)) self.new out.old.items out.new.items result }
+        ensures { Steps (on_run self.old (finish_in self.old.run event)) self.new out.old.items out.new.items result }
     {
         acts::finish(self.alloc, &mut self.world, event, out)
     }
 
     /// Prints the messages of a folder.
     pub(super) fn list(&self, folder: u32, out: &mut Vec<u8>) -> Result<(), PlayKind>
-        ensures { Steps (on_run self.now (listed self.now.run folder)) self.now out.old.items out.new.items result }
+        ensures { Steps (on_run self.now (list_in self.now.run folder)) self.now out.old.items out.new.items result }
     {
         acts::list(self.alloc, &self.world, folder, out)
     }
 
     /// Prints the bytes of the message of a unique name, or that there is none.
     pub(super) fn read(&self, unique: &[u8], out: &mut Vec<u8>) -> Result<(), PlayKind>
-        ensures { Steps (on_run self.now (shown self.now.run unique.now)) self.now out.old.items out.new.items result }
+        ensures { Steps (on_run self.now (read_in self.now.run unique.now)) self.now out.old.items out.new.items result }
     {
         acts::read(&self.world, unique, out)
     }

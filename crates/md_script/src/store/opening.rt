@@ -1,7 +1,7 @@
 //! A store at its beginning.
 ghost use Rattle.std.specs.Prelude.{◌≡◌, IfOk};
 ghost use Rattle.md_script.specs.Words.{Gives};
-ghost use Rattle.md_script.specs.Sessions.{image_of, opened};
+ghost use Rattle.md_script.specs.Sessions.{image_of, run_over};
 
 use crate::error::PlayKind;
 use crate::storage::Storage;
@@ -11,13 +11,13 @@ use std::alloc::Global;
 
 /// A store over folders and files. Refused `SamePath` where two files have one path, or where the folder of one isn't there, which no
 /// script can name; else `Core` of `BadName`, `LongUnique` or `DuplicateUnique`. `NoMemory` may come in place of any of these.
-#[tactic(auto, unfolding(crate::specs::Sessions::opened))]
+#[tactic(auto, unfolding(crate::specs::Sessions::run_over))]
 pub fn open_store<D: Storage>(
     alloc: Global,
     folders: u32,
     files: Vec<ImageFile>,
 ) -> Result<World<D>, PlayKind>
-    ensures { Gives (λ world. world) result (opened folders files.items) }
+    ensures { Gives (λ world. world) result (run_over folders files.items) }
 {
     let dirs = directories::<D>(alloc, folders, files)?;
     match World::load(alloc, dirs) {

@@ -7,7 +7,7 @@ use md_script::image;
 use std::alloc::Global;
 use std::test::Fail;
 
-/// What stands behind the words of a file, and the file's bytes.
+/// What follows the words of a file, and the file's bytes.
 static ENDS: &[u8] = b"a|a%a\n|a%a\r\n|a%a\r\r\n|a\r%a\r|a\r%a\rb\n|a\rb%a\\nb|a\nb";
 
 /// Whether a file whose line ends so has these bytes.

@@ -45,7 +45,7 @@ Clean { folder: 1 }]";
     Ok(())
 }
 
-/// Lines behind `folder i`, and why they set nothing up, if they do, whether jobs are allowed or not.
+/// Lines after `folder i`, and why they set nothing up, if they do, whether jobs are allowed or not.
 static LINES: &[u8] = b"\
 folder j|%\
 step 1 1|line 2: not in this run%\

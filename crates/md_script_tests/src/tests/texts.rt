@@ -1,4 +1,4 @@
-//! What refusals print. Those of lines stand in crates/examples/data/.
+//! What refusals print. Those of lines are in crates/examples/data/.
 
 use md_core::CoreError;
 use md_name::NameError;

@@ -119,7 +119,7 @@ pub fn shows(listing: &[Entry], name: &[u8]) -> bool {
         .any(|entry| entry.name.as_slice() == name && entry.size == 1)
 }
 
-// Whether a listing shows messages of these file names, between which stand blanks, and no others.
+// Whether a listing shows messages of these file names, between which are blanks, and no others.
 fn shows_all(listing: &[Entry], names: &[u8]) -> bool {
     let mut count = 0usize;
     for name in names.split(|byte| *byte == b' ') {

@@ -1,4 +1,4 @@
-// Directories with a gate at each link, and a listing while another thread stands there, behind the lock.
+// Directories with a gate at each link, and a listing while another thread waits there, inside the lock.
 use super::fixtures::{deliveries, lists, news};
 use super::scene::{Plan, Scene, stage};
 use md_dirs::{DirError, Dirs, Path, Place, PlainDirs, Row, RowRef};

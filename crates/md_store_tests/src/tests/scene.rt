@@ -1,4 +1,4 @@
-// Opens a store for a test, plays a scene there, and looks at the world behind it. The store and its passes are lent to the scenes, so that
+// Opens a store for a test, plays a scene there, and looks at its world. The store and its passes are lent to the scenes, so that
 // each is let go in one place alone.
 ghost use Rattle.std.specs.Prelude.{◌≡◌, IfOk};
 ghost use Rattle.md_view.specs.Named.{named_of};
@@ -34,7 +34,7 @@ pub enum Scene<'a> {
     Stampede(&'a Stampede),
 }
 
-// A scene, the folders of its world, the passes of its store, and how many jobs, steps and effects the world has behind it.
+// A scene, the folders of its world, the passes of its store, and how many jobs, steps and effects the world has after it.
 #[derive(Clone, Copy)]
 pub struct Plan<'a> {
     pub scene: Scene<'a>,
@@ -167,7 +167,7 @@ fn play_scene<J: Naming + Send + Sync, R: Threads + Wait + Sync>(
     }
 }
 
-// Whether a world behind a scene has the jobs, steps and effects that are wanted, or that of a stampede is as its passes saw it.
+// Whether a world after a scene has the jobs, steps and effects that are wanted, or that of a stampede is as its passes saw it.
 fn is_as_wanted<R: Wait>(rt: &R, alloc: Global, world: &World<Gated>, plan: &Plan<'_>) -> bool {
     match &plan.scene {
         Scene::Stampede(stampede) => are_beginnings(rt, alloc, stampede, world),

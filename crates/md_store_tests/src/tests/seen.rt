@@ -52,7 +52,7 @@ fn is_no_less<J: Naming, R: Wait>(
         && lists(alloc, store, other, 0, b"a b c:2,S n t:2,T")
 }
 
-// A pass whose flag is answered NotThere, behind another's expunge, lists no such message.
+// A pass whose flag is answered NotThere, after another's expunge, lists no such message.
 fn is_gone<J: Naming, R: Wait>(
     rt: &R,
     alloc: Global,

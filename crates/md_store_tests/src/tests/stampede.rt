@@ -17,7 +17,7 @@ pub const THREADS: usize = 16;
 
 const MESSAGES: u64 = 1000;
 
-/// A listing is made behind so many calls.
+/// A listing is made after so many calls.
 const CALLS_A_LISTING: u64 = 8;
 
 // What a listing showed, as sums over the names of new and of cur, and the last job of which its pass was told before it.

@@ -138,7 +138,7 @@ fn threads_deliver(rt: HostRuntime) -> Result<(), Fail> {
     Ok(())
 }
 
-// One thread delivers while a second flags another message. A third pass lists before and behind them: it makes no step, and so it learns
+// One thread delivers while a second flags another message. A third pass lists before and after them: it makes no step, and so it learns
 // of their effects by listing alone.
 pub fn deliver_beside_flags<J: Naming + Send + Sync, R: Threads + Wait + Sync>(
     rt: &R,

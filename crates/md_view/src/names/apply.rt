@@ -2,8 +2,8 @@
 ghost use Rattle.std.specs.Prelude.{◌≡◌, ◌≢◌, ◌↔◌, true, IsTrue, IsSome, IfSome, IfOk, OnOk, OnErr};
 ghost use Rattle.md_name.specs.Names.{unique_of, is_message_name};
 ghost use Rattle.md_core.specs.declared.jobs.effect.Change.TheVariants.{Add, Rename, Remove};
-ghost use Rattle.md_view.specs.Named.{applied, fits as fits_names};
-ghost use Rattle.md_view.specs.Held.{found, listed_in, held_names, AreHeld, HoldNames};
+ghost use Rattle.md_view.specs.Named.{after_change, fits as fits_names};
+ghost use Rattle.md_view.specs.Held.{entry_with, listed_in, held_names, AreHeld, HoldNames};
 
 use crate::entry::Entry;
 use crate::names::fits::{fits_add, fits_remove, fits_rename};
@@ -20,7 +20,7 @@ pub fn apply_to(
     change: &Change,
 ) -> Result<(), AllocError>
     requires { HoldNames folders.old.items }
-    ensures ok { OnOk result (AreHeld (applied (held_names folders.old.items) change.now) folders.new.items) }
+    ensures ok { OnOk result (AreHeld (after_change (held_names folders.old.items) change.now) folders.new.items) }
     ensures err { OnErr result (folders.new.items ≡ folders.old.items) }
 {
     match change {
@@ -93,7 +93,7 @@ fn add(
     size: u64,
 ) -> Result<(), AllocError>
     requires { HoldNames folders.old.items }
-    ensures ok { OnOk result (AreHeld (applied (held_names folders.old.items) (Add folder place name.now size)) folders.new.items) }
+    ensures ok { OnOk result (AreHeld (after_change (held_names folders.old.items) (Add folder place name.now size)) folders.new.items) }
     ensures err { OnErr result (folders.new.items ≡ folders.old.items) }
 {
     if !fits_add(folders, folder, place, name) {
@@ -107,7 +107,7 @@ fn add(
 // Takes a message away, where that fits. It takes no memory.
 fn remove(folders: &mut Vec<FolderNames>, folder: u32, place: Place, name: &[u8])
     requires { HoldNames folders.old.items }
-    ensures { AreHeld (applied (held_names folders.old.items) (Remove folder place name.now)) folders.new.items }
+    ensures { AreHeld (after_change (held_names folders.old.items) (Remove folder place name.now)) folders.new.items }
 {
     if fits_remove(folders, folder, place, name) {
         let lists = &mut folders[folder as usize];
@@ -128,7 +128,7 @@ fn rename(
 ) -> Result<(), AllocError>
     requires { HoldNames folders.old.items }
     ensures ok { let change = Rename folder place name.now to_folder to_place to_name.now in
-        OnOk result (AreHeld (applied (held_names folders.old.items) change) folders.new.items) }
+        OnOk result (AreHeld (after_change (held_names folders.old.items) change) folders.new.items) }
     ensures err { OnErr result (folders.new.items ≡ folders.old.items) }
 {
     let Some((unique, _)) = split(name) else {
@@ -162,7 +162,7 @@ fn rename_here(
     requires message { is_message_name to_name.now ≡ true }
     requires unique { (unique_of name.now ≡ unique.now) × (unique_of to_name.now ≡ unique.now) }
     ensures ok { let change = Rename folder place name.now folder place to_name.now in
-        OnOk result (AreHeld (applied (held_names folders.old.items) change) folders.new.items) }
+        OnOk result (AreHeld (after_change (held_names folders.old.items) change) folders.new.items) }
     ensures err { OnErr result (folders.new.items ≡ folders.old.items) }
 {
     if folder as usize >= folders.len() {
@@ -187,7 +187,7 @@ fn rename_away(
     requires fits { fits_names (held_names folders.old.items) (Rename folder place name.now to_folder to_place to_name.now) ≡ true }
     requires away { folder ≡ to_folder → place ≡ to_place → unique_of to_name.now ≢ unique_of name.now }
     ensures ok { let change = Rename folder place name.now to_folder to_place to_name.now in
-        OnOk result (AreHeld (applied (held_names folders.old.items) change) folders.new.items) }
+        OnOk result (AreHeld (after_change (held_names folders.old.items) change) folders.new.items) }
     ensures err { OnErr result (folders.new.items ≡ folders.old.items) }
 {
     let unique = unique_part(name);
@@ -216,8 +216,8 @@ fn is_one_place(
 
 // The size of the message of a unique name in a directory.
 fn size_of(folders: &[FolderNames], folder: u32, place: Place, unique: &[u8]) -> u64
-    requires { IsSome (found unique.now (listed_in folders.now folder place)) }
-    ensures { IfSome (found unique.now (listed_in folders.now folder place)) (λ entry. result ≡ entry.size) }
+    requires { IsSome (entry_with unique.now (listed_in folders.now folder place)) }
+    ensures { IfSome (entry_with unique.now (listed_in folders.now folder place)) (λ entry. result ≡ entry.size) }
 {
     let lists = &folders[folder as usize];
     lists.find(place, unique).unwrap().size

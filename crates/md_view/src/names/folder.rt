@@ -5,7 +5,7 @@ ghost use Rattle.md_core.specs.History.{names_of};
 ghost use Rattle.md_core.specs.Mailbox.{mailbox_of, is_tmp};
 ghost use Rattle.md_core.specs.Runs.{dirs_of};
 ghost use Rattle.md_view.specs.Named.{named_of};
-ghost use Rattle.md_view.specs.Held.{list_of, found, has_unique, renamed, ShowsAt, AreHeld};
+ghost use Rattle.md_view.specs.Held.{list_of, entry_with, has_unique, renamed, ShowsAt, AreHeld};
 ghost use Rattle.md_view.specs.Readings.{reading_of, reading_refusal};
 ghost use Rattle.md_dirs.specs.declared.paths.Place.TheVariants.{New, Cur};
 ghost use Rattle.md_view.specs.declared.error.ViewError.TheVariants.{NoMemory};
@@ -83,7 +83,7 @@ impl FolderNames {
 
     /// The entry of a unique name in a directory.
     pub fn find(&self, place: Place, unique: &[u8]) -> Option<&Entry>
-        ensures { option_map (λ entry. entry.now) result ≡ found unique.now (list_of place self.now) }
+        ensures { option_map (λ entry. entry.now) result ≡ entry_with unique.now (list_of place self.now) }
     {
         match place {
             Place::Tmp => None,
@@ -114,7 +114,7 @@ impl FolderNames {
         name: &[u8],
         to_name: &[u8],
     ) -> Result<(), AllocError>
-        ensures ok { let entry = option_map (renamed name.now to_name.now) (found unique.now (list_of place self.old)) in
+        ensures ok { let entry = option_map (renamed name.now to_name.now) (entry_with unique.now (list_of place self.old)) in
             OnOk result (ShowsAt place unique.now entry self.old self.new) }
         ensures err { OnErr result (self.new ≡ self.old) }
     {

@@ -1,8 +1,8 @@
-// Entries in order of unique name: where one stands, by halving, and how one comes and goes.
+// Entries in order of unique name: where one is, by halving, and how one comes and goes.
 ghost use Rattle.std.specs.Prelude.{◌≡◌, IsTrue, ◌↔◌, None, Some, OnOk, OnErr, length};
 ghost use Rattle.std.specs.Option.{option_map};
 ghost use Rattle.md_view.specs.Readings.{IsInOrder};
-ghost use Rattle.md_view.specs.Held.{found, place_for, renamed, HasAt, Shows};
+ghost use Rattle.md_view.specs.Held.{entry_with, place_for, renamed, HasAt, Shows};
 
 use crate::entry::Entry;
 use md_name::Bytes;
@@ -40,7 +40,7 @@ fn is_at(entries: &[Entry], at: usize, unique: &[u8]) -> bool
 /// The entry of a unique name.
 pub fn find_entry<'a>(entries: &'a [Entry], unique: &[u8]) -> Option<&'a Entry>
     requires { IsInOrder entries.now }
-    ensures { option_map (λ entry. entry.now) result ≡ found unique.now entries.now }
+    ensures { option_map (λ entry. entry.now) result ≡ entry_with unique.now entries.now }
 {
     let at = place_of(entries, unique);
     if is_at(entries, at, unique) {
@@ -74,7 +74,7 @@ pub fn rename_entry(
     to_name: &[u8],
 ) -> Result<(), AllocError>
     requires { IsInOrder entries.old.items }
-    ensures ok { let entry = option_map (renamed name.now to_name.now) (found unique.now entries.old.items) in
+    ensures ok { let entry = option_map (renamed name.now to_name.now) (entry_with unique.now entries.old.items) in
         OnOk result (Shows unique.now entry entries.old.items entries.new.items) }
     ensures err { OnErr result (entries.new.items ≡ entries.old.items) }
 {

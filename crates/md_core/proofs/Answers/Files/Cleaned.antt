@@ -22,12 +22,12 @@ use Rattle.md_core.specs.declared.jobs.step.DirReply.{DirReply}
 use Rattle.md_core.specs.declared.jobs.step.DirReply.TheVariants as reply
 use Rattle.md_core.specs.declared.jobs.task.Task.{Task}
 use Rattle.md_core.specs.declared.jobs.task.Task.TheVariants.{Deliver, Mark, Move, Expunge, Copy, Clean}
-use Rattle.md_core.specs.Machine.{Machine, Standing, working, answered, Marked, happens, done, job_at, new_job, standing_of}
+use Rattle.md_core.specs.Machine.{Machine, Standing, working, answered, Occurrence, after_event, step_of, job_at, new_job, standing_of}
 use Rattle.md_core.specs.Trace.{Step, call_at}
 use Rattle.md_core.specs.Machines.Clean.{old_rows, after_next, at_stage, tmp, stage_turn}
 use Rattle.md_core.specs.Turn.{Turn, rows_for}
 use Rattle.md_core.specs.Asked.{Asked, list, unlink}
-use Rattle.md_core.specs.Runs.{Run, beginning, run_from, moment, jobs_of, first_step, dirs_at_first}
+use Rattle.md_core.specs.Runs.{Run, beginning, run_from, machine_at, jobs_of, first_step, dirs_at_first}
 use Rattle.md_core.specs.Stepping.{IsRun}
 use Rattle.md_core.specs.Tracing.{deeds_from}
 use Rattle.md_core.specs.Answering.{is_ok}
@@ -41,13 +41,13 @@ use Rattle.md_core.proofs.Answers.Files.Late.{cleans}
 use Rattle.md_core.proofs.Answers.Moments.{its-fits, at, asked_by, after_task, each-moment, not-yet, is-first}
 
 -- what events did, with one more
-deeds-more : (m : Machine) (es : List Marked) (e : Marked) →
-    deeds_from m (es ++ e ∷ []) ≡ deeds_from m es ++ option_to_list (done (run_from m es) e)
+deeds-more : (m : Machine) (es : List Occurrence) (e : Occurrence) →
+    deeds_from m (es ++ e ∷ []) ≡ deeds_from m es ++ option_to_list (step_of (run_from m es) e)
 unfolding deeds_from run_from
-deeds-more m [] e = append-nil (option_to_list (done m e))
+deeds-more m [] e = append-nil (option_to_list (step_of m e))
 deeds-more m (x ∷ es) e =
-    ap (λ ds. option_to_list (done m x) ++ ds) (deeds-more (happens m x) es e)
-    ∙ sym (append_assoc (option_to_list (done m x)) (deeds_from (happens m x) es) (option_to_list (done (run_from (happens m x) es) e)))
+    ap (λ ds. option_to_list (step_of m x) ++ ds) (deeds-more (after_event m x) es e)
+    ∙ sym (append_assoc (option_to_list (step_of m x)) (deeds_from (after_event m x) es) (option_to_list (step_of (run_from (after_event m x) es) e)))
 
 deeds-none : (m : Machine) → deeds_from m [] ≡ []
 unfolding deeds_from
@@ -74,9 +74,9 @@ module _ (r : Run) (job : ℕ) where
     deeds-next =
         let from = beginning r.image r.calls in
         let es = take k r.events in
-        let this : done (moment r k) t.event ≡ Some (done_in r k n t) =
-        sym (ap (option_and_then (done (moment r k))) t.at) ∙ done-in r k n t in
-        ap (λ (xs : List Marked). filter is_own (deeds_from from xs)) (take-one_more r.events k t.event t.at)
+        let this : step_of (machine_at r k) t.event ≡ Some (done_in r k n t) =
+        sym (ap (option_and_then (step_of (machine_at r k))) t.at) ∙ done-in r k n t in
+        ap (λ (xs : List Occurrence). filter is_own (deeds_from from xs)) (take-one_more r.events k t.event t.at)
         ∙ ap (filter is_own) (deeds-more from es t.event ∙ ap (λ (o : Option Step). deeds_from from es ++ option_to_list o) this)
         ∙ filter-append is_own (deeds_from from es) (done_in r k n t ∷ [])
 
@@ -146,7 +146,7 @@ module _ (r : Run) (job : ℕ) where
     -- a turn of the job
     module _ (k : ℕ) (t : IsTurn r k job) where
       abbrev s : State
-      s = (moment r k).dirs
+      s = (machine_at r k).dirs
 
       abbrev this : Step
       this = done_in r k job t
@@ -166,7 +166,7 @@ module _ (r : Run) (job : ℕ) where
             ok = replied;
             names = map-twice (λ (row : Row). row.name) takes old
                 ∙ (λ i. map (λ (row : Row). takes row.name)
-                (old_rows (at r k job t).own (rows_of (moment r (sym same i)).dirs (in_folder i) Tmp)));
+                (old_rows (at r k job t).own (rows_of (machine_at r (sym same i)).dirs (in_folder i) Tmp)));
             replies = All-nil IsFoundOrNot;
             count = omega (arith, size);
           }
@@ -237,11 +237,11 @@ module _ (r : Run) (job : ℕ) where
       own-stands : call_at r.calls job ≡ Some (call.Clean folder) → IsRun r → Stands k (working t.task) →
           Stands (k + 1) (standing_of (left_by r k job t).task (left_by r k job t).answer)
       own-stands of run now =
-          let clean = cleans (moment r k).dirs folder t.task (its-fits r run k job (call.Clean folder) t.task of t.there) in
+          let clean = cleans (machine_at r k).dirs folder t.task (its-fits r run k job (call.Clean folder) t.task of t.there) in
           let fits : CleaningFits (call.Clean folder) clean.0 =
-          subst (TaskFits (moment r k).dirs (call.Clean folder)) clean.1 (its-fits r run k job (call.Clean folder) t.task of t.there) in
+          subst (TaskFits (machine_at r k).dirs (call.Clean folder)) clean.1 (its-fits r run k job (call.Clean folder) t.task of t.there) in
           let in_folder : clean.0.folder ≡ folder = (let same = fits in cc) in
-          by t.task clean.0 clean.1 in_folder now (reply_in (moment r k) t.event t.task) refl refl
+          by t.task clean.0 clean.1 in_folder now (reply_in (machine_at r k) t.event t.task) refl refl
         where
           by : (task : Task) (c : Cleaning) → task ≡ Clean c → c.folder ≡ folder → Stands k (working task) → (rep : DirReply) →
               this.asked ≡ asked_by r k job t task → this.reply ≡ rep →
@@ -299,7 +299,7 @@ module _ (r : Run) (job : ℕ) where
 -- how a clean stands at each moment
 module _ (r : Run) (run : IsRun r) (job folder : ℕ) (of : call_at r.calls job ≡ Some (call.Clean folder)) where
   abbrev StandsAt : ℕ → Type 0
-  StandsAt k = (st : Standing) → job_at (moment r k).jobs job ≡ Some st → Stands r job folder k st
+  StandsAt k = (st : Standing) → job_at (machine_at r k).jobs job ≡ Some st → Stands r job folder k st
 
   stands-start : StandsAt 0
   stands-start st is = by job of (ap (λ (m : Machine). job_at m.jobs job) (sym (moment-start r)) ∙ is)
@@ -331,7 +331,7 @@ module _ (r : Run) (run : IsRun r) (job folder : ℕ) (of : call_at r.calls job 
       record {
         look = h.look;
         unlinks = h.unlinks;
-        deeds = ap (λ (es : List Marked). filter (is_own r job) (deeds_from (beginning r.image r.calls) es))
+        deeds = ap (λ (es : List Occurrence). filter (is_own r job) (deeds_from (beginning r.image r.calls) es))
             (sym (take_all end r.events (omega arith))) ∙ h.deeds_are;
         listed = h.listed;
         ok = h.ok;

@@ -13,7 +13,7 @@ use Rattle.md_core.specs.Trace.{Step, call_at}
 use Rattle.md_core.specs.Machine.{answered, working, job_at}
 use Rattle.md_core.specs.Machines.Clean.{least_seconds}
 use Rattle.md_core.specs.Machines.Deliver.{most_seconds}
-use Rattle.md_core.specs.Runs.{Run, moment, jobs_of, first_step}
+use Rattle.md_core.specs.Runs.{Run, machine_at, jobs_of, first_step}
 use Rattle.md_core.specs.Stepping.{IsRun}
 use Rattle.md_core.proofs.Answers.OfRun.{IsStep, IsCleanedAway}
 use Rattle.md_core.proofs.Answers.RunSparing.{AreApart, CleanersSpare}
@@ -30,9 +30,9 @@ pub record IsDelivering (r : Run) (job : ℕ) (d : Delivery) : Type 0 where
 
 pub delivering : (r : Run) → IsRun r → (k job : ℕ) (t : IsTurn r k job) (d : Delivery) → t.task ≡ task.Deliver d → IsDelivering r job d
 delivering r run k job t d is =
-    let there : job_at (moment r k).jobs job ≡ Some (working (task.Deliver d)) = t.there ∙ ap (λ (x : Task). Some (working x)) is in
+    let there : job_at (machine_at r k).jobs job ≡ Some (working (task.Deliver d)) = t.there ∙ ap (λ (x : Task). Some (working x)) is in
     let asked = its-call r run k job (working (task.Deliver d)) there in
-    let fits : DeliveryFits (moment r k).dirs asked.0 d = its-fits r run k job asked.0 (task.Deliver d) asked.1 there in
+    let fits : DeliveryFits (machine_at r k).dirs asked.0 d = its-fits r run k job asked.0 (task.Deliver d) asked.1 there in
     record {
       of = asked.1 ∙ ap Some fits.of;
       path_is = λ i. record { folder = d.tmp.folder; place = fits.in_tmp i; name = d.tmp.name };

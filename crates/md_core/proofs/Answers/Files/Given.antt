@@ -24,7 +24,7 @@ use Rattle.md_core.specs.Machines.Clean as cleaned_by
 use Rattle.md_core.specs.Machines.Deliver.{at_stage, target, create_turn, append_turn, link_turn, unlink_turn, stage_turn, is_in_time}
 use Rattle.md_core.specs.Turn.{Turn, reply_of, rows_for}
 use Rattle.md_core.specs.Asked.{ask_of, reply_by}
-use Rattle.md_core.specs.Runs.{Run, moment}
+use Rattle.md_core.specs.Runs.{Run, machine_at}
 use Rattle.md_core.specs.Stepping.{IsRun}
 use Rattle.md_core.proofs.Induction.Good.{DeliveryFits, TaskFits}
 use Rattle.md_core.proofs.Answers.LastStep.{IsTurn, is_within, LastStep, reply_in}
@@ -87,7 +87,7 @@ clean-says c own (cleaning_stage.Remove name rest files) reply.Fault rows a is =
 
 module _ (r : Run) (run : IsRun r) (k job : ℕ) (t : IsTurn r k job) where
   abbrev s : State
-  s = (moment r k).dirs
+  s = (machine_at r k).dirs
 
   abbrev own : ℕ
   own = (at r k job t).own
@@ -191,7 +191,7 @@ task-says r run job a last =
     let asked = its-call r run k job (working t.task) t.there in
     let within : k ≤ length r.events = (let less = is_within r k job t in omega (arith, less)) in
     by-task r run k job t asked.0 t.task (its-fits r run k job asked.0 t.task asked.1 t.there) (at-task r run k job t.task within t.there)
-    (reply_in (moment r k) t.event t.task) refl a last.answer
+    (reply_in (machine_at r k) t.event t.task) refl a last.answer
 
 -- TimedOut and TmpGone are answers of deliveries
 abbrev pub OfDelivery : Run → ℕ → ℕ → ℕ → Task → Answer → Type 0

@@ -23,7 +23,7 @@ use Rattle.md_core.specs.Machine.{working, job_at, new_job}
 use Rattle.md_core.specs.Machines.Clean.{least_seconds, new_cleaning, is_old, old_rows, after_next, at_stage, tmp, stage_turn}
 use Rattle.md_core.specs.Turn.{Turn, rows_for}
 use Rattle.md_core.specs.Asked.{unlink}
-use Rattle.md_core.specs.Runs.{Run, moment, first_step}
+use Rattle.md_core.specs.Runs.{Run, machine_at, first_step}
 use Rattle.md_core.specs.Stepping.{IsRun}
 use Rattle.md_core.proofs.Answers.OfRun.{IsStep, IsCleanedAway}
 use Rattle.md_core.proofs.Answers.RunSparing.{AreApart}
@@ -37,7 +37,7 @@ use Rattle.md_core.proofs.Answers.Files.Listed.{has-filter, listed-file}
 -- a job has begun, and its first step was 36 hours less these seconds before the clock of moment k
 pub record IsLate (r : Run) (seconds job k : ℕ) : Type 0 where
   pub begun : IsStep r job (first_step r job)
-  pub late : begun.what.at.clock + least_seconds ≤ (moment r k).clock + seconds
+  pub late : begun.what.at.clock + least_seconds ≤ (machine_at r k).clock + seconds
 
 -- a name is among those that a clean still has to take away
 abbrev pub IsLeftIn : List ℕ → List Row → Type 0
@@ -96,7 +96,7 @@ module _ (r : Run) (run : IsRun r) (seconds : ℕ) (apart : AreApart r seconds) 
         record { begun = h.begun; late = omega (arith, late, now, grows) }
 
     abbrev s : State
-    s = (moment r k).dirs
+    s = (machine_at r k).dirs
 
     -- a clean looks
     late-look : (c : Cleaning) → c.folder ≡ folder → IsLeftIn u (old_rows (at r k n t).own (rows_of s c.folder Tmp)) → IsLateAt (k + 1)
@@ -139,7 +139,7 @@ module _ (r : Run) (run : IsRun r) (seconds : ℕ) (apart : AreApart r seconds) 
     stage-leads c (Remove name rest files) before reply.Fault unanswered in_folder left = cc
 
     own-turn : (left_by r k n t).answer ≡ None → AtTask k n t.task → AtTask (k + 1) n (left_by r k n t).task
-    own-turn unanswered h = by t.task h (reply_in (moment r k) t.event t.task) unanswered
+    own-turn unanswered h = by t.task h (reply_in (machine_at r k) t.event t.task) unanswered
       where
         by : (task : Task) → AtTask k n task → (rep : DirReply) → (after_task r k n t task rep).answer ≡ None →
             AtTask (k + 1) n (after_task r k n t task rep).task
@@ -176,7 +176,7 @@ module _ (r : Run) (run : IsRun r) (seconds : ℕ) (apart : AreApart r seconds) 
       looks (call.Copy a b c d e) is = cc
       looks (call.Clean a) is = let same : new_cleaning a ≡ x = cc in ap (λ (y : Cleaning). y.stage) (sym same)
 
-  late-task : (k n : ℕ) (task : Task) → k ≤ length r.events → job_at (moment r k).jobs n ≡ Some (working task) → AtTask k n task
+  late-task : (k n : ℕ) (task : Task) → k ≤ length r.events → job_at (machine_at r k).jobs n ≡ Some (working task) → AtTask k n task
   late-task = holds r run AtTask (λ n c task of-c is. new-at n c task is) own-turn
       (λ k n task e at-k differ is h. other-turn k e.event.job (turn-at r run k e at-k) task h)
 
@@ -197,7 +197,7 @@ module _ (r : Run) (run : IsRun r) (seconds : ℕ) (apart : AreApart r seconds) 
       let t = done.1 in
       let its : call_at r.calls n ≡ Some (call.Clean cleaned.folder) =
       ap (call_at r.calls) (sym t.own ∙ ap (λ (d : Step). d.job) (sym done.2)) ∙ cleaned.by in
-      let clean = cleans (moment r k).dirs cleaned.folder t.task (its-fits r run k n (call.Clean cleaned.folder) t.task its t.there) in
+      let clean = cleans (machine_at r k).dirs cleaned.folder t.task (its-fits r run k n (call.Clean cleaned.folder) t.task its t.there) in
       let asks = ap (λ (d : Step). d.asked) (sym done.2) ∙ cleaned.asked in
       let left = left-now clean.0 (at r k n t).own clean.0.stage (ap (asked_by r k n t) (sym clean.1) ∙ asks) in
       let within : k ≤ length r.events = (let less = is_within r k n t in omega (arith, less)) in

@@ -11,7 +11,7 @@ use Rattle.md_core.specs.declared.jobs.call.Call.TheVariants as call
 use Rattle.md_core.specs.declared.jobs.deliver.Delivery.{Delivery}
 use Rattle.md_core.specs.Machine.{answered, job_at}
 use Rattle.md_core.specs.Machines.Deliver.{most_seconds}
-use Rattle.md_core.specs.Runs.{Run, moment, jobs_of, first_step}
+use Rattle.md_core.specs.Runs.{Run, machine_at, jobs_of, first_step}
 use Rattle.md_core.specs.Trace.{call_at}
 use Rattle.md_core.specs.Stepping.{IsRun}
 use Rattle.md_core.proofs.Answers.OfRun.{IsStep, IsOutOfTime, IsGone, IsTimedOut, IsTmpGone, IsCleaned, Says}
@@ -99,7 +99,7 @@ module _ (r : Run) (run : IsRun r) (job : ℕ) (c : Call) (of : call_at r.calls 
       let k = last.k in
       let t = last.turn in
       let clean = clean-of r k job (at r k job t).own t.task n (task-says r run job (answer.Cleaned n) last) in
-      let asked : CleaningFits c clean.0 = subst (TaskFits (moment r k).dirs c) clean.1 (its-fits r run k job c t.task of t.there) in
+      let asked : CleaningFits c clean.0 = subst (TaskFits (machine_at r k).dirs c) clean.1 (its-fits r run k job c t.task of t.there) in
       subst (λ (x : Call). IsCleaned r job x n) (sym asked) (has-cleaned r run job clean.0.folder (of ∙ ap Some asked) n is)
 
   is-tmp-gone : job_at (jobs_of r) job ≡ Some (answered answer.TmpGone) → IsTmpGone r job c

@@ -8,7 +8,7 @@ use Rattle.md_core.specs.declared.jobs.call.Call.TheVariants.{Deliver}
 use Rattle.md_core.specs.declared.jobs.deliver.Stage.{Stage}
 use Rattle.md_core.specs.declared.jobs.task.Task.{Task}
 use Rattle.md_core.specs.Machine.{Machine}
-use Rattle.md_core.specs.Runs.{Run, moment, first_step}
+use Rattle.md_core.specs.Runs.{Run, machine_at, first_step}
 use Rattle.md_core.specs.Trace.{call_at}
 use Rattle.md_core.specs.Stepping.{IsRun}
 use Rattle.md_core.proofs.Answers.OfRun.{IsStep}
@@ -25,8 +25,8 @@ use Rattle.md_core.proofs.Answers.Files.Writing.{AtStage, AtTask, at-task}
 -- a job has begun, and the clock and the stamp of a file are at least the clock of its first step
 pub record IsStamped (r : Run) (job k n : ℕ) : Type 0 where
   pub begun : IsStep r job (first_step r job)
-  pub clocked : begun.what.at.clock ≤ (moment r k).clock
-  pub stamped : begun.what.at.clock ≤ stamp_at (moment r k).dirs n
+  pub clocked : begun.what.at.clock ≤ (machine_at r k).clock
+  pub stamped : begun.what.at.clock ≤ stamp_at (machine_at r k).dirs n
 
 -- no path uses the name of a delivery at the beginning
 unused-at : (r : Run) → IsRun r → (job folder : ℕ) (u body : List ℕ) (chunk : ℕ) →
@@ -42,20 +42,20 @@ module _ (r : Run) (run : IsRun r) (job folder : ℕ) (u body : List ℕ) (chunk
   p = path folder Tmp u
 
   abbrev Stamped : ℕ → Type 0
-  Stamped k = (n : ℕ) → file_at (moment r k).dirs p ≡ Some n → IsStamped r job k n
+  Stamped k = (n : ℕ) → file_at (machine_at r k).dirs p ≡ Some n → IsStamped r job k n
 
   stamped-start : Stamped 0
   stamped-start n is =
-      let none : file_at (moment r 0).dirs p ≡ None =
+      let none : file_at (machine_at r 0).dirs p ≡ None =
       ap (λ (m : Machine). file_at m.dirs p) (moment-start r) ∙ unused-at r run job folder u body chunk of p refl in
       cc
 
-  module _ (k n : ℕ) (t : IsTurn r k n) (before : Stamped k) (file : ℕ) (is : file_at (moment r (k + 1)).dirs p ≡ Some file) where
+  module _ (k n : ℕ) (t : IsTurn r k n) (before : Stamped k) (file : ℕ) (is : file_at (machine_at r (k + 1)).dirs p ≡ Some file) where
     abbrev s : State
-    s = (moment r k).dirs
+    s = (machine_at r k).dirs
 
     abbrev s' : State
-    s' = (moment r (k + 1)).dirs
+    s' = (machine_at r (k + 1)).dirs
 
     abbrev clock : ℕ
     clock = (at r k n t).clock

@@ -3,7 +3,7 @@
 use Rattle.std.proofs.Common.{ℕ, ◌≡◌, ◌≢◌, ◌⊎◌, inl, inr, List, Option, Some, None, Bool, true, false, cond, refl, sym, ap, ◌∙◌, slice_set, length, IsSome}
 use Rattle.std.specs.FinMap as finmap
 use Rattle.md_dirs.specs.State.{State, IsSound, file_at, file_by}
-use Rattle.md_dirs.specs.Calls.{created, empty_file, appended, grown, named, unnamed, without, swept, is_one_file}
+use Rattle.md_dirs.specs.Calls.{after_create, empty_file, after_append, file_with_more, with_path, without_path, after_unlink, with_files_still_named, is_one_file}
 use Rattle.md_dirs.specs.declared.paths.Path.{Path}
 use Rattle.md_dirs.specs.declared.paths.File.{File}
 use Rattle.md_dirs.specs.declared.paths.Place.TheVariants.{Tmp}
@@ -58,38 +58,38 @@ module _ (s : State) (p : Path) (in_tmp : p.place ≡ Tmp) (sound : IsSound s) (
       let h : is_tmp q.place ≡ is_tmp p.place =
       ap (λ (x : Path). is_tmp x.place) (sym same) in let t : is_tmp p.place ≡ true = ap is_tmp in_tmp in cc
 
-  touches-create : (q : Path) → Touches s (created q clock s) p (create q) reply.Ok clock
+  touches-create : (q : Path) → Touches s (after_create q clock s) p (create q) reply.Ok clock
   touches-create q = by_path p q
       (λ same. inr (inl (record {
         call = ap create (sym same);
         stamps = λ n is.
-            let here : file_at (created q clock s) p ≡ Some (length s.files) =
+            let here : file_at (after_create q clock s) p ≡ Some (length s.files) =
             maps.at_put path_total path_exact s.names q p (length s.files) same in
             let number : length s.files ≡ n = cc in
-            ap (stamp_at (created q clock s)) (sym number) ∙ ap stamp_of (file_by-last s.files (Some (empty_file clock)));
+            ap (stamp_at (after_create q clock s)) (sym number) ∙ ap stamp_of (file_by-last s.files (Some (empty_file clock)));
       })))
       (λ differ. inl (record {
         names = maps.beside_put path_total path_exact s.names q p (length s.files) differ;
         stamps = λ n is. inl (ap stamp_of (file_by-push s.files (Some (empty_file clock)) n (number-within s sound p n is)));
       }))
 
-  grown-stamp : (more : List ℕ) (o : Option File) → IsSome o → stamp_of (grown more clock o) ≡ clock
+  grown-stamp : (more : List ℕ) (o : Option File) → IsSome o → stamp_of (file_with_more more clock o) ≡ clock
   grown-stamp more None is = cc
   grown-stamp more (Some file) is = refl
 
-  keeps-append : (bytes : List ℕ) (o : Option ℕ) → KeepsPath s (appended bytes clock s o) p clock
+  keeps-append : (bytes : List ℕ) (o : Option ℕ) → KeepsPath s (after_append bytes clock s o) p clock
   keeps-append bytes None = stays
   keeps-append bytes (Some m) = record {
     names = refl;
     stamps = λ n is. by_number n m
         (λ same. inr (
-        ap (λ i. stamp_of (file_by (slice_set s.files i (grown bytes clock (file_by s.files i))) n)) (sym same)
-        ∙ ap stamp_of (file_by-set_same s.files n (grown bytes clock (file_by s.files n)) (number-within s sound p n is))
+        ap (λ i. stamp_of (file_by (slice_set s.files i (file_with_more bytes clock (file_by s.files i))) n)) (sym same)
+        ∙ ap stamp_of (file_by-set_same s.files n (file_with_more bytes clock (file_by s.files n)) (number-within s sound p n is))
         ∙ grown-stamp bytes (file_by s.files n) (sound.filed p n is)))
-        (λ differ. inl (ap stamp_of (file_by-set_other s.files m n (grown bytes clock (file_by s.files m)) differ)));
+        (λ differ. inl (ap stamp_of (file_by-set_other s.files m n (file_with_more bytes clock (file_by s.files m)) differ)));
   }
 
-  keeps-link : (new : Path) (o : Option ℕ) → p ≢ new → KeepsPath s (named new s o) p clock
+  keeps-link : (new : Path) (o : Option ℕ) → p ≢ new → KeepsPath s (with_path new s o) p clock
   keeps-link new None differ = stays
   keeps-link new (Some m) differ = record {
     names = maps.beside_put path_total path_exact s.names new p m differ;
@@ -98,29 +98,29 @@ module _ (s : State) (p : Path) (in_tmp : p.place ≡ Tmp) (sound : IsSound s) (
 
   -- files are given back that no path names
   keeps-swept : (x : State) (o : Option ℕ) → file_at x p ≡ file_at s p → ((n : ℕ) → stamp_at x n ≡ stamp_at s n) →
-      KeepsPath s (swept o x) p clock
+      KeepsPath s (with_files_still_named o x) p clock
   keeps-swept x o names stamps = record {
     names = names;
     stamps = λ n is. inl (ap stamp_of (swept-kept o x p n (names ∙ is)) ∙ stamps n);
   }
 
   keeps-rename : (old new : Path) → p ≢ old → p ≢ new → (b : Bool) →
-      KeepsPath s (cond b s (swept (file_at s new) (named new (unnamed old s) (file_at s old)))) p clock
+      KeepsPath s (cond b s (with_files_still_named (file_at s new) (with_path new (without_path old s) (file_at s old)))) p clock
   keeps-rename old new from to true = stays
   keeps-rename old new from to false = by (file_at s old)
     where
-      beside : file_at (unnamed old s) p ≡ file_at s p
+      beside : file_at (without_path old s) p ≡ file_at s p
       beside = maps.beside_drop path_total path_exact s.names old p from
 
-      by : (o : Option ℕ) → KeepsPath s (swept (file_at s new) (named new (unnamed old s) o)) p clock
-      by None = keeps-swept (unnamed old s) (file_at s new) beside (λ n. refl)
-      by (Some m) = keeps-swept (named new (unnamed old s) (Some m)) (file_at s new)
+      by : (o : Option ℕ) → KeepsPath s (with_files_still_named (file_at s new) (with_path new (without_path old s) o)) p clock
+      by None = keeps-swept (without_path old s) (file_at s new) beside (λ n. refl)
+      by (Some m) = keeps-swept (with_path new (without_path old s) (Some m)) (file_at s new)
           (maps.beside_put path_total path_exact (finmap.remove s.names old) new p m to ∙ beside) (λ n. refl)
 
-  touches-unlink : (q : Path) → Touches s (without q s) p (unlink q) reply.Ok clock
+  touches-unlink : (q : Path) → Touches s (after_unlink q s) p (unlink q) reply.Ok clock
   touches-unlink q = by_path p q
       (λ same. inr (inr (record { call = ap unlink (sym same); ok = refl; gone = maps.at_drop path_total path_exact s.names q p same })))
-      (λ differ. inl (keeps-swept (unnamed q s) (file_at s q) (maps.beside_drop path_total path_exact s.names q p differ) (λ n. refl)))
+      (λ differ. inl (keeps-swept (without_path q s) (file_at s q) (maps.beside_drop path_total path_exact s.names q p differ) (λ n. refl)))
 
   done : (asked : Asked) → LeavesTmp asked → Touches s (state_by (ask_of asked clock) s reply.Ok) p asked reply.Ok clock
   done (create q) leaves = touches-create q

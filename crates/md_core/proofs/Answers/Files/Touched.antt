@@ -9,7 +9,7 @@ use Rattle.md_core.specs.declared.jobs.deliver.Stage.TheVariants.{Start}
 use Rattle.md_core.specs.declared.jobs.step.DirReply.{DirReply}
 use Rattle.md_core.specs.declared.jobs.task.Task.TheVariants.{Deliver}
 use Rattle.md_core.specs.Asked.{Asked}
-use Rattle.md_core.specs.Runs.{Run, moment}
+use Rattle.md_core.specs.Runs.{Run, machine_at}
 use Rattle.md_core.specs.Trace.{call_at}
 use Rattle.md_core.specs.Stepping.{IsRun}
 use Rattle.md_core.proofs.Answers.OfRun.{IsCleanedAway}
@@ -26,51 +26,51 @@ pub record IsMade (r : Run) (k n job : ℕ) (t : IsTurn r k n) (p : Path) : Type
   pub delivery : Delivery
   pub task : t.task ≡ Deliver delivery
   pub starts : delivery.stage ≡ Start
-  pub makes : MakesPath (moment r (k + 1)).dirs p (turn_by (moment r k) t.event t.task).asked (at r k n t).clock
+  pub makes : MakesPath (machine_at r (k + 1)).dirs p (turn_by (machine_at r k) t.event t.task).asked (at r k n t).clock
 
 module _ (r : Run) (run : IsRun r) (k n : ℕ) (t : IsTurn r k n) (job : ℕ) (asked : Call) (of : call_at r.calls job ≡ Some asked)
     (p : Path) (in_tmp : p.place ≡ Tmp) (makes : Makes asked p.name) where
   abbrev s' : State
-  s' = (moment r (k + 1)).dirs
+  s' = (machine_at r (k + 1)).dirs
 
   abbrev Touched : Type 0
   Touched =
-      KeepsPath (moment r k).dirs s' p (at r k n t).clock ⊎
+      KeepsPath (machine_at r k).dirs s' p (at r k n t).clock ⊎
       (IsMade r k n job t p ⊎ ((file_at s' p ≡ None) × ((job ≡ n) ⊎ IsCleanedAway r k p)))
 
   abbrev its : Call
   its = (its-call r run k n _ t.there).0
 
   abbrev made : Asked
-  made = (turn_by (moment r k) t.event t.task).asked
+  made = (turn_by (machine_at r k) t.event t.task).asked
 
   abbrev replied : DirReply
-  replied = reply_in (moment r k) t.event t.task
+  replied = reply_in (machine_at r k) t.event t.task
 
   of-its : call_at r.calls n ≡ Some its
   of-its = (its-call r run k n _ t.there).1
 
-  fits : TaskFits (moment r k).dirs its t.task
+  fits : TaskFits (machine_at r k).dirs its t.task
   fits = its-fits r run k n its t.task of-its t.there
 
   same-job : Makes its p.name → job ≡ n
   same-job also = one-maker r.calls (all-apart r run) job n asked its p.name of of-its makes also
 
-  changed : Touches (moment r k).dirs s' p made replied (at r k n t).clock
-  changed = subst (λ (x : State). Touches (moment r k).dirs x p made replied (at r k n t).clock) (sym (next-dirs r k n t))
-      (touches (moment r k).dirs p in_tmp (sound-now r run k) (at r k n t).clock made replied
-      (asks-fair (moment r k).dirs its t.event.event.job t.task (at r k n t) fits))
+  changed : Touches (machine_at r k).dirs s' p made replied (at r k n t).clock
+  changed = subst (λ (x : State). Touches (machine_at r k).dirs x p made replied (at r k n t).clock) (sym (next-dirs r k n t))
+      (touches (machine_at r k).dirs p in_tmp (sound-now r run k) (at r k n t).clock made replied
+      (asks-fair (machine_at r k).dirs its t.event.event.job t.task (at r k n t) fits))
 
   pub touched : Touched
   touched = elim changed [
     | inl keeps ↦ inl keeps
     | inr other ↦ elim other [
       | inl made-now ↦
-          let by = creates (moment r k).dirs its t.event.event.job (at r k n t) p in_tmp t.task fits made-now.call in
+          let by = creates (machine_at r k).dirs its t.event.event.job (at r k n t) p in_tmp t.task fits made-now.call in
           inr (inl (record { own = same-job by.0; delivery = by.1.0; task = by.1.1; starts = by.1.2; makes = made-now }))
       | inr takes ↦ inr (inr (
         takes.gone,
-        elim (unlinks (moment r k).dirs its t.event.event.job (at r k n t) p in_tmp t.task fits takes.call) [
+        elim (unlinks (machine_at r k).dirs its t.event.event.job (at r k n t) p in_tmp t.task fits takes.call) [
           | inl also ↦ inl (same-job also)
           | inr clean ↦ inr (record {
             what = done_in r k n t;

@@ -24,7 +24,7 @@ use Rattle.md_core.specs.Machine.{Machine, answered, job_at, turn_of}
 use Rattle.md_core.specs.Machines.Deliver.{append_turn, link_turn, unlink_turn, stage_turn, is_in_time}
 use Rattle.md_core.specs.Turn.{Turn}
 use Rattle.md_core.specs.Asked.{create, unlink}
-use Rattle.md_core.specs.Runs.{Run, moment, jobs_of}
+use Rattle.md_core.specs.Runs.{Run, machine_at, jobs_of}
 use Rattle.md_core.specs.Trace.{call_at}
 use Rattle.md_core.specs.Stepping.{IsRun}
 use Rattle.md_core.proofs.Answers.OfRun.{IsFaulted, IsDelivered, IsUndone}
@@ -166,7 +166,7 @@ module _ (r : Run) (run : IsRun r) (job : ℕ) where
 
     module _ (a : Answer) (its : IsOfUnlink a) (of : call_at r.calls job ≡ Some delivery) (last : LastStep r job a) where
       abbrev m : Machine
-      m = moment r last.k
+      m = machine_at r last.k
 
       pub asks-unlink : (turn_by m last.turn.event last.turn.task).asked ≡ unlink (path folder Tmp u)
       asks-unlink =
@@ -178,10 +178,10 @@ module _ (r : Run) (run : IsRun r) (job : ℕ) where
     undone of last =
         let k = last.k in
         let t = last.turn in
-        let fits : TaskFits (moment r k).dirs delivery t.task = its-fits r run k job delivery t.task of t.there in
+        let fits : TaskFits (machine_at r k).dirs delivery t.task = its-fits r run k job delivery t.task of t.there in
         let told = last-tells r run job delivery of answer.Fault last in
-        let rep = reply_in (moment r k) t.event t.task in
-        elim (task-undoes folder u body chunk (moment r k).dirs t.event.event.job (at r k job t) rep _ t.task fits last.answer told) [
+        let rep = reply_in (machine_at r k) t.event t.task in
+        elim (task-undoes folder u body chunk (machine_at r k).dirs t.event.event.job (at r k job t) rep _ t.task fits last.answer told) [
           | inl h ↦ inl (record { k = k; step = is-step r k job t; asked = h.0; faulted = h.1 })
           | inr h ↦ inr (record { k = k; step = is-step r k job t; asked = h; answer = last.answer })
         ]

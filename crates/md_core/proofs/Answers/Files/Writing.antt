@@ -17,7 +17,7 @@ use Rattle.md_core.specs.declared.jobs.step.DirReply.{DirReply}
 use Rattle.md_core.specs.declared.jobs.step.DirReply.TheVariants as reply
 use Rattle.md_core.specs.declared.jobs.task.Task.{Task}
 use Rattle.md_core.specs.declared.jobs.task.Task.TheVariants.{Deliver, Mark, Move, Expunge, Copy, Clean}
-use Rattle.md_core.specs.Machine.{Marked, working, job_at, new_job}
+use Rattle.md_core.specs.Machine.{Occurrence, working, job_at, new_job}
 use Rattle.md_core.specs.Machines.Deliver.{new_delivery, at_stage, piece, append_turn, link_turn, unlink_turn, stage_turn, is_in_time}
 use Rattle.md_core.specs.Machines.Mark.{new_marking}
 use Rattle.md_core.specs.Machines.Move.{new_moving}
@@ -26,7 +26,7 @@ use Rattle.md_core.specs.Machines.Copy.{new_copying}
 use Rattle.md_core.specs.Machines.Clean.{new_cleaning}
 use Rattle.md_core.specs.Turn.{Turn}
 use Rattle.md_core.specs.Asked.{append, ask_of, state_by}
-use Rattle.md_core.specs.Runs.{Run, moment, first_step}
+use Rattle.md_core.specs.Runs.{Run, machine_at, first_step}
 use Rattle.md_core.specs.Trace.{call_at}
 use Rattle.md_core.specs.Stepping.{IsRun}
 use Rattle.md_core.proofs.Answers.OfRun.{IsStep, IsCleanedAway}
@@ -48,7 +48,7 @@ pub record HasBegun (r : Run) (job k start : ℕ) (p : Path) : Type 0 where
   pub begun : IsStep r job (first_step r job)
   pub own : begun.what.at.own ≡ start
   pub before : first_step r job < k
-  pub there : ((n : ℕ) × (file_at (moment r k).dirs p ≡ Some n)) ⊎ IsTaken r job k p
+  pub there : ((n : ℕ) × (file_at (machine_at r k).dirs p ≡ Some n)) ⊎ IsTaken r job k p
 
 -- what is known of a delivery by its stage, at moment k
 abbrev pub AtStage : Run → ℕ → ℕ → Path → Stage → Type 0
@@ -70,10 +70,10 @@ module _ (r : Run) (job k start : ℕ) (p : Path) (h : HasBegun r job k start p)
   taken-more : IsTaken r job k p → IsTaken r job (k + 1) p
   taken-more t = let less = t.before in record { event = t.event; cleaned = t.cleaned; after = t.after; before = omega (arith, less) }
 
-  begun-more : ((n : ℕ) × (file_at (moment r (k + 1)).dirs p ≡ Some n)) ⊎ IsTaken r job (k + 1) p → HasBegun r job (k + 1) start p
+  begun-more : ((n : ℕ) × (file_at (machine_at r (k + 1)).dirs p ≡ Some n)) ⊎ IsTaken r job (k + 1) p → HasBegun r job (k + 1) start p
   begun-more there = let less = h.before in record { begun = h.begun; own = h.own; before = omega (arith, less); there = there }
 
-  begun-kept : (clock : ℕ) → KeepsPath (moment r k).dirs (moment r (k + 1)).dirs p clock → HasBegun r job (k + 1) start p
+  begun-kept : (clock : ℕ) → KeepsPath (machine_at r k).dirs (machine_at r (k + 1)).dirs p clock → HasBegun r job (k + 1) start p
   begun-kept clock keeps = begun-more (elim h.there [
     | inl file ↦ inl (file.0, keeps.names ∙ file.1)
     | inr taken ↦ inr (taken-more taken)
@@ -85,7 +85,7 @@ module _ (r : Run) (job k start : ℕ) (p : Path) (h : HasBegun r job k start p)
 -- the turn of a delivery
 module _ (r : Run) (run : IsRun r) (k job : ℕ) (t : IsTurn r k job) (d : Delivery) (in_tmp : d.tmp.place ≡ Tmp) (rows : List Row) where
   abbrev s : State
-  s = (moment r k).dirs
+  s = (machine_at r k).dirs
 
   abbrev n : ℕ
   n = t.event.event.job
@@ -96,7 +96,7 @@ module _ (r : Run) (run : IsRun r) (k job : ℕ) (t : IsTurn r k job) (d : Deliv
   -- how it stands after a turn with a reply, where it goes on
   abbrev Leads : Turn Delivery → DirReply → Type 0
   Leads turn rep =
-      (moment r (k + 1)).dirs ≡ state_by (ask_of turn.asked clock) s rep → (turn.follows rep rows).answer ≡ None →
+      (machine_at r (k + 1)).dirs ≡ state_by (ask_of turn.asked clock) s rep → (turn.follows rep rows).answer ≡ None →
       AtStage r (k + 1) job (turn.follows rep rows).task.tmp (turn.follows rep rows).task.stage
 
   start-leads : k ≤ first_step r job → (rep : DirReply) → Leads (stage_turn n (at_stage d Start) (at r k job t) Start) rep
@@ -166,11 +166,11 @@ module _ (r : Run) (run : IsRun r) where
       AtTask r (k + 1) job (left_by r k job t).task
   own-turn k job t unanswered h =
       let asked = its-call r run k job _ t.there in
-      by asked.0 t.task (its-fits r run k job asked.0 t.task asked.1 t.there) h (reply_in (moment r k) t.event t.task)
+      by asked.0 t.task (its-fits r run k job asked.0 t.task asked.1 t.there) h (reply_in (machine_at r k) t.event t.task)
       (next-dirs r k job t) unanswered
     where
-      by : (asked : Call) (task : Task) → TaskFits (moment r k).dirs asked task → AtTask r k job task → (rep : DirReply) →
-          (moment r (k + 1)).dirs ≡ state_by (ask_of (asked_by r k job t task) (at r k job t).clock) (moment r k).dirs rep →
+      by : (asked : Call) (task : Task) → TaskFits (machine_at r k).dirs asked task → AtTask r k job task → (rep : DirReply) →
+          (machine_at r (k + 1)).dirs ≡ state_by (ask_of (asked_by r k job t task) (at r k job t).clock) (machine_at r k).dirs rep →
           (after_task r k job t task rep).answer ≡ None → AtTask r (k + 1) job (after_task r k job t task rep).task
       by asked (Deliver d) fits now rep dirs none = stage-leads r run k job t d fits.in_tmp _ d.stage now rep dirs none
       by asked (Mark m) fits now rep dirs none = tt
@@ -180,14 +180,14 @@ module _ (r : Run) (run : IsRun r) where
       by asked (Clean c) fits now rep dirs none = tt
 
   -- the turn of another job
-  module _ (k job : ℕ) (e : Marked) (at-k : slice_get r.events k ≡ Some e) (differ : job ≢ e.event.job) where
+  module _ (k job : ℕ) (e : Occurrence) (at-k : slice_get r.events k ≡ Some e) (differ : job ≢ e.event.job) where
     abbrev t : IsTurn r k e.event.job
     t = turn-at r run k e at-k
 
     still-writing : (d : Delivery) (asked : Call) (start : ℕ) → call_at r.calls job ≡ Some asked →
-        DeliveryFits (moment r k).dirs asked d → HasBegun r job k start d.tmp → HasBegun r job (k + 1) start d.tmp
+        DeliveryFits (machine_at r k).dirs asked d → HasBegun r job k start d.tmp → HasBegun r job (k + 1) start d.tmp
     still-writing d asked start of fits h =
-        elim (touched r run k e.event.job t job asked of d.tmp fits.in_tmp (makes-delivery (moment r k).dirs asked d fits)) [
+        elim (touched r run k e.event.job t job asked of d.tmp fits.in_tmp (makes-delivery (machine_at r k).dirs asked d fits)) [
           | inl keeps ↦ begun-kept r job k start d.tmp h _ keeps
           | inr other ↦ elim other [
             | inl made ↦ absurd (differ made.own)
@@ -195,14 +195,14 @@ module _ (r : Run) (run : IsRun r) where
           ]
         ]
 
-    still-stage : (d : Delivery) (asked : Call) → call_at r.calls job ≡ Some asked → DeliveryFits (moment r k).dirs asked d →
+    still-stage : (d : Delivery) (asked : Call) → call_at r.calls job ≡ Some asked → DeliveryFits (machine_at r k).dirs asked d →
         (stage : Stage) → AtStage r k job d.tmp stage → AtStage r (k + 1) job d.tmp stage
     still-stage d asked of fits Start none = not-yet r k e.event.job job t none differ
     still-stage d asked of fits (Writing start i) h = still-writing d asked start of fits h
     still-stage d asked of fits Linked h = tt
     still-stage d asked of fits (Undo a) h = h
 
-    other-turn : (task : Task) → job_at (moment r k).jobs job ≡ Some (working task) → AtTask r k job task → AtTask r (k + 1) job task
+    other-turn : (task : Task) → job_at (machine_at r k).jobs job ≡ Some (working task) → AtTask r k job task → AtTask r (k + 1) job task
     other-turn (Deliver d) is h =
         let asked = its-call r run k job _ is in
         still-stage d asked.0 asked.1 (its-fits r run k job asked.0 (Deliver d) asked.1 is) d.stage h
@@ -212,5 +212,5 @@ module _ (r : Run) (run : IsRun r) where
     other-turn (Copy c) is h = tt
     other-turn (Clean c) is h = tt
 
-  pub at-task : (k job : ℕ) (task : Task) → k ≤ length r.events → job_at (moment r k).jobs job ≡ Some (working task) → AtTask r k job task
+  pub at-task : (k job : ℕ) (task : Task) → k ≤ length r.events → job_at (machine_at r k).jobs job ≡ Some (working task) → AtTask r k job task
   at-task = holds r run (AtTask r) (new-at r) own-turn (λ k job task e at-k differ is h. other-turn k job e at-k differ task is h)

@@ -19,10 +19,10 @@ use Rattle.md_core.specs.declared.jobs.effect.Change.{Change}
 use Rattle.md_core.specs.declared.jobs.effect.Change.TheVariants as change
 use Rattle.md_core.specs.declared.jobs.effect.Effect.{Effect}
 use Rattle.md_core.specs.Mailbox.{Mailbox}
-use Rattle.md_core.specs.History.{Names, names_of, changed, IsAllowed}
-use Rattle.md_core.specs.Machine.{Machine, Marked}
+use Rattle.md_core.specs.History.{Names, names_of, names_after_change, IsAllowed}
+use Rattle.md_core.specs.Machine.{Machine, Occurrence}
 use Rattle.md_core.specs.Trace.{Step}
-use Rattle.md_core.specs.Runs.{Run, moment, box}
+use Rattle.md_core.specs.Runs.{Run, machine_at, box_in}
 use Rattle.md_core.specs.Stepping.{IsRun, AsAlone}
 use Rattle.md_core.specs.Answering.{is_on, is_touch}
 use Rattle.md_core.proofs.Answers.OfRun.{effects_between}
@@ -43,7 +43,7 @@ not-named u name none is = let yes = unique-named u name (sym is) in cc
 
 -- a change that is not on a unique name leaves it as it is
 pub stays-beside : (folders : ℕ) (n : Names) (P : List ℕ → Type 0) (a : Answer) (c : Change) (u : List ℕ) → IsAllowed folders n P a c →
-    is_on u c ≡ false → get (changed n c) u ≡ get n u
+    is_on u c ≡ false → get (names_after_change n c) u ≡ get n u
 stays-beside folders n P answer.Delivered (change.Add folder place name size) u h none =
     beside_put nat_list_cmp_total exact_bytes n (unique_of name) u _ (not-named u name none)
 stays-beside folders n P answer.Copied (change.Add folder place name size) u h none =
@@ -68,39 +68,39 @@ count-append p xs ys = sum_by-append (λ x. cond {A = ℕ} (p x) 1 0) xs ys
 
 -- how often other jobs touched a unique name by a moment
 abbrev pub touches : Run → ℕ → List ℕ → ℕ → ℕ
-touches r job u k = count_by (is_touch job u) (moment r k).effects
+touches r job u k = count_by (is_touch job u) (machine_at r k).effects
 
 module _ (r : Run) (run : IsRun r) where
-  going : (k : ℕ) (e : Marked) (at : slice_get r.events k ≡ Some e) →
-      Goes r.calls (moment r k) (moment r (k + 1)) (what-at r run each-turn k e at)
+  going : (k : ℕ) (e : Occurrence) (at : slice_get r.events k ≡ Some e) →
+      Goes r.calls (machine_at r k) (machine_at r (k + 1)) (what-at r run each-turn k e at)
   going = going-at r run each-turn
 
   grows-one : (k : ℕ) → Grows r k (k + 1)
   grows-one k = at_place r.events k
       (λ e at. (option_to_list (what-at r run each-turn k e at).effect, (going k e at).effects))
-      (λ past. ([], ap (λ (m : Machine). m.effects) (moment-over r k past) ∙ sym (append-nil (moment r k).effects)))
+      (λ past. ([], ap (λ (m : Machine). m.effects) (moment-over r k past) ∙ sym (append-nil (machine_at r k).effects)))
 
   pub touches-between : (job : ℕ) (u : List ℕ) (i j : ℕ) → i ≤ j →
       touches r job u i + count_by (is_touch job u) (effects_between r i j) ≡ touches r job u j
   touches-between job u i j within =
       let later = grows r grows-one i j within in
       let rest : effects_between r i j ≡ later.0 =
-      ap (drop (length (moment r i).effects)) later.1 ∙ drop-append_seam (moment r i).effects later.0 in
+      ap (drop (length (machine_at r i).effects)) later.1 ∙ drop-append_seam (machine_at r i).effects later.0 in
       ap (λ (es : List Effect). touches r job u i + count_by (is_touch job u) es) rest
-      ∙ sym (count-append (is_touch job u) (moment r i).effects later.0) ∙ ap (count_by (is_touch job u)) (sym later.1)
+      ∙ sym (count-append (is_touch job u) (machine_at r i).effects later.0) ∙ ap (count_by (is_touch job u)) (sym later.1)
 
   pub touches-rise : (job : ℕ) (u : List ℕ) (i j : ℕ) → i ≤ j → touches r job u i ≤ touches r job u j
   touches-rise job u i j within = let h = touches-between job u i j within in omega (arith, h)
 
   -- an event of another job touches a unique name, or leaves it as it is
-  module _ (k : ℕ) (e : Marked) (at : slice_get r.events k ≡ Some e) (job : ℕ) (differ : job ≢ e.event.job) (u : List ℕ) where
+  module _ (k : ℕ) (e : Occurrence) (at : slice_get r.events k ≡ Some e) (job : ℕ) (differ : job ≢ e.event.job) (u : List ℕ) where
     abbrev what : Step
     what = what-at r run each-turn k e at
 
     abbrev TouchesOr : Type 0
     TouchesOr =
         (touches r job u (k + 1) ≡ touches r job u k + 1) ⊎
-        (get (names_of (box (moment r (k + 1)))) u ≡ get (names_of (box (moment r k))) u)
+        (get (names_of (box_in (machine_at r (k + 1)))) u ≡ get (names_of (box_in (machine_at r k))) u)
 
     other-job : (x : Effect) → x.job ≡ e.event.job → not (x.job == job) ≡ true
     other-job x is = let no : x.job ≢ job = (λ same. differ (sym same ∙ is)) in grind (arith, nat_tests)
@@ -108,14 +108,14 @@ module _ (r : Run) (run : IsRun r) where
     one-more : (x : Effect) → what.effect ≡ Some x → is_touch job u x ≡ true → touches r job u (k + 1) ≡ touches r job u k + 1
     one-more x some touch =
         let one : count_by (is_touch job u) (x ∷ []) ≡ 1 = ap (λ b. 0 + cond {A = ℕ} b 1 0) touch in
-        ap (count_by (is_touch job u)) ((going k e at).effects ∙ ap (λ o. (moment r k).effects ++ option_to_list o) some)
-        ∙ count-append (is_touch job u) (moment r k).effects (x ∷ []) ∙ ap (λ n. touches r job u k + n) one
+        ap (count_by (is_touch job u)) ((going k e at).effects ∙ ap (λ o. (machine_at r k).effects ++ option_to_list o) some)
+        ∙ count-append (is_touch job u) (machine_at r k).effects (x ∷ []) ∙ ap (λ n. touches r job u k + n) one
 
     pub touched-or_not : TouchesOr
     touched-or_not = by what.effect refl (going k e at).does.as_alone (going k e at).does.effect
       where
-        by : (o : Option Effect) → what.effect ≡ o → AsAlone (going k e at).asked o (box (moment r k)) (box (moment r (k + 1))) →
-            IfSome o (Affects what.job (going k e at).asked (moment r k).dirs.folders (box (moment r k)) (box (moment r (k + 1)))) →
+        by : (o : Option Effect) → what.effect ≡ o → AsAlone (going k e at).asked o (box_in (machine_at r k)) (box_in (machine_at r (k + 1))) →
+            IfSome o (Affects what.job (going k e at).asked (machine_at r k).dirs.folders (box_in (machine_at r k)) (box_in (machine_at r (k + 1)))) →
             TouchesOr
         by None is same affects = inr (ap (λ (m : Mailbox). get (names_of m) u) same)
         by (Some x) is alone affects = on (is_on u x.change) refl
@@ -123,4 +123,4 @@ module _ (r : Run) (run : IsRun r) where
             on : (b : Bool) → is_on u x.change ≡ b → TouchesOr
             on true touch = inl (one-more x is ((λ i. other-job x affects.of i && touch i)))
             on false none = inr (ap (λ (n : Names). get n u) affects.changes
-                ∙ stays-beside (moment r k).dirs.folders (names_of (box (moment r k))) _ x.answer x.change u affects.allowed none)
+                ∙ stays-beside (machine_at r k).dirs.folders (names_of (box_in (machine_at r k))) _ x.answer x.change u affects.allowed none)

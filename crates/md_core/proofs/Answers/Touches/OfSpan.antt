@@ -16,9 +16,9 @@ use Rattle.md_core.specs.declared.jobs.step.DirReply.{DirReply}
 use Rattle.md_core.specs.declared.jobs.task.Task.{Task}
 use Rattle.md_core.specs.declared.jobs.task.Task.TheVariants.{Deliver, Mark, Move, Expunge, Copy, Clean}
 use Rattle.md_core.specs.Mailbox.{Entry, is_tmp}
-use Rattle.md_core.specs.Alone.{moved, copied, such, is_in_place, is_in_folder}
+use Rattle.md_core.specs.Alone.{move_alone, copy_alone, entry_if, is_in_place, is_in_folder}
 use Rattle.md_core.specs.Machine.{Standing, working, answered, job_at, new_job}
-use Rattle.md_core.specs.Runs.{Run, moment, box}
+use Rattle.md_core.specs.Runs.{Run, machine_at, box_in}
 use Rattle.md_core.specs.Trace.{call_at}
 use Rattle.md_core.specs.Turn.{After}
 use Rattle.md_core.specs.Stepping.{IsRun}
@@ -32,7 +32,7 @@ use Rattle.md_core.proofs.Answers.Turns.Told.{at-none}
 use Rattle.md_core.proofs.Answers.Touches.StaysInCur.{stays-in_cur}
 
 -- what a call would be answered alone at a step of its job
-pub at-step : (r : Run) (job k : ℕ) (c : Call) (a : Answer) → IsStep r job k → IsAlone (moment r k).dirs c a → IsOfSpan r job c a
+pub at-step : (r : Run) (job k : ℕ) (c : Call) (a : Answer) → IsStep r job k → IsAlone (machine_at r k).dirs c a → IsOfSpan r job c a
 at-step r job k c a step is = record {
   k = k;
   in_span = record { from = k; to = k; begun = step; goes_on = step; after = omega arith; before = omega arith };
@@ -46,7 +46,7 @@ record WasPastNew (r : Run) (job : ℕ) (folder : ℕ) (u : List ℕ) (k : ℕ) 
   from : ℕ
   begun : IsStep r job from
   before : from < k
-  none : such (is_in_place New folder) (get (box (moment r from)) u) ≡ None
+  none : entry_if (is_in_place New folder) (get (box_in (machine_at r from)) u) ≡ None
 
 abbrev SearchedAt : Run → ℕ → ℕ → ℕ → List ℕ → Stage → Type 0
 SearchedAt r k job folder u (LookNew tries) = Unit {0}
@@ -79,19 +79,19 @@ new-searched r job (call.Clean folder) = tt
 
 module _ (r : Run) (k job : ℕ) where
   -- the step at which the job looked in new
-  just-searched : (step : IsStep r job k) (task : Task) → HasLooked (moment r k).dirs task → SearchedBy r (k + 1) job task
+  just-searched : (step : IsStep r job k) (task : Task) → HasLooked (machine_at r k).dirs task → SearchedBy r (k + 1) job task
   just-searched step (Deliver d) h = tt
   just-searched step (Mark m) h = tt
   just-searched step (Move m) h = by m.stage h
     where
-      by : (stage : Stage) → IsPastNew (moment r k).dirs m.folder m.unique stage → SearchedAt r (k + 1) job m.folder m.unique stage
+      by : (stage : Stage) → IsPastNew (machine_at r k).dirs m.folder m.unique stage → SearchedAt r (k + 1) job m.folder m.unique stage
       by (LookNew tries) none = tt
       by (LookCur tries) none = record { from = k; begun = step; before = omega arith; none = none }
       by (Act place row tries) none = tt
   just-searched step (Expunge x) h = tt
   just-searched step (Copy c) h = by c.stage h
     where
-      by : (stage : Stage) → IsPastNew (moment r k).dirs c.folder c.unique stage → SearchedAt r (k + 1) job c.folder c.unique stage
+      by : (stage : Stage) → IsPastNew (machine_at r k).dirs c.folder c.unique stage → SearchedAt r (k + 1) job c.folder c.unique stage
       by (LookNew tries) none = tt
       by (LookCur tries) none = record { from = k; begun = step; before = omega arith; none = none }
       by (Act place row tries) none = tt
@@ -106,7 +106,7 @@ module _ (r : Run) (k job : ℕ) where
   clean-searched task h = absurd h
 
   searched-on : (s' : State) (c : Call) (step : IsStep r job k) (task : Task) (given : DirReply) (after : After Task) →
-      TaskSays (moment r k).dirs s' c given task after →
+      TaskSays (machine_at r k).dirs s' c given task after →
       after.answer ≡ None → SearchedBy r (k + 1) job after.task
   searched-on s' c step (Deliver d) given after says none = undoing-searched given after.task (at-none after.answer _ _ none says)
   searched-on s' c step (Mark m) given after says none = just-searched step after.task (at-none after.answer _ _ none says).looked
@@ -130,73 +130,73 @@ module _ (r : Run) (k job : ℕ) where
   still-searched (Clean c) h = tt
 
 module _ (r : Run) (run : IsRun r) where
-  searched-at : (k job : ℕ) (task : Task) → k ≤ length r.events → job_at (moment r k).jobs job ≡ Some (working task) → Searched r k job task
+  searched-at : (k job : ℕ) (task : Task) → k ≤ length r.events → job_at (machine_at r k).jobs job ≡ Some (working task) → Searched r k job task
   searched-at = holds r run (Searched r)
       (λ job c task of new c' of'. subst (AtWork r job) new (new-searched r job c))
       (λ k job t none was c of.
-      searched-on r k job (moment r (k + 1)).dirs c (is-step r k job t) t.task (reply_in (moment r k) t.event t.task) (left_by r k job t)
+      searched-on r k job (machine_at r (k + 1)).dirs c (is-step r k job t) t.task (reply_in (machine_at r k) t.event t.task) (left_by r k job t)
       (turn-says r run k job c of t) none)
       (λ k job task e at differ there was c of. still-searched r k job task (was c of))
 
   -- ---- not in new, and then not in cur
 
-  module _ (i j : ℕ) (within : i ≤ j) (folder : ℕ) (u : List ℕ) (not_new : such (is_in_place New folder) (get (box (moment r i)) u) ≡ None)
-      (not_cur : such (is_in_place Cur folder) (get (box (moment r j)) u) ≡ None) where
+  module _ (i j : ℕ) (within : i ≤ j) (folder : ℕ) (u : List ℕ) (not_new : entry_if (is_in_place New folder) (get (box_in (machine_at r i)) u) ≡ None)
+      (not_cur : entry_if (is_in_place Cur folder) (get (box_in (machine_at r j)) u) ≡ None) where
     abbrev InFolder : ℕ → Option Entry
-    InFolder k = such (is_in_folder folder) (get (box (moment r k)) u)
+    InFolder k = entry_if (is_in_folder folder) (get (box_in (machine_at r k)) u)
 
-    outside : (o : Option Entry) (e : Entry) → o ≡ Some e → is_in_folder folder e ≡ false → such (is_in_folder folder) o ≡ None
-    outside o e is out = ap (such (is_in_folder folder)) is ∙ ap (λ b. cond b (Some e) None) out
+    outside : (o : Option Entry) (e : Entry) → o ≡ Some e → is_in_folder folder e ≡ false → entry_if (is_in_folder folder) o ≡ None
+    outside o e is out = ap (entry_if (is_in_folder folder)) is ∙ ap (λ b. cond b (Some e) None) out
 
-    in-place : (place : Place) (o : Option Entry) (e : Entry) → o ≡ Some e → such (is_in_place place folder) o ≡ None →
+    in-place : (place : Place) (o : Option Entry) (e : Entry) → o ≡ Some e → entry_if (is_in_place place folder) o ≡ None →
         is_in_folder folder e ≡ true → e.place ≡ place → ⊥
     in-place place o e is none inside at =
         let yes : is_in_place place folder e ≡ true = and_from _ _ (eq-eqb _ _ (ap place_index at)) inside in
-        let some : such (is_in_place place folder) o ≡ Some e =
-        ap (such (is_in_place place folder)) is ∙ ap (λ b. cond b (Some e) None) yes in
+        let some : entry_if (is_in_place place folder) o ≡ Some e =
+        ap (entry_if (is_in_place place folder)) is ∙ ap (λ b. cond b (Some e) None) yes in
         let both : Some e ≡ None = sym some ∙ none in
         cc
 
     -- it was in cur at the first moment: so it is in cur at the second, or not there
-    gone-by : (x : Entry) → get (box (moment r i)) u ≡ Some x → x.place ≡ Cur → InFolder j ≡ None
-    gone-by x there at = by (get (box (moment r j)) u) refl
+    gone-by : (x : Entry) → get (box_in (machine_at r i)) u ≡ Some x → x.place ≡ Cur → InFolder j ≡ None
+    gone-by x there at = by (get (box_in (machine_at r j)) u) refl
       where
-        by : (o : Option Entry) → get (box (moment r j)) u ≡ o → InFolder j ≡ None
-        by None is = ap (such (is_in_folder folder)) is
+        by : (o : Option Entry) → get (box_in (machine_at r j)) u ≡ o → InFolder j ≡ None
+        by None is = ap (entry_if (is_in_folder folder)) is
         by (Some e) is = on (is_in_folder folder e) refl
           where
             on : (b : Bool) → is_in_folder folder e ≡ b → InFolder j ≡ None
             on true inside =
-                absurd (in-place Cur (get (box (moment r j)) u) e is not_cur inside (stays-in_cur r run i u x there at j within e is))
-            on false out = outside (get (box (moment r j)) u) e is out
+                absurd (in-place Cur (get (box_in (machine_at r j)) u) e is not_cur inside (stays-in_cur r run i u x there at j within e is))
+            on false out = outside (get (box_in (machine_at r j)) u) e is out
 
     -- a message is in new or cur
-    by-place : (x : Entry) → get (box (moment r i)) u ≡ Some x → is_in_folder folder x ≡ true → (p : Place) → x.place ≡ p →
+    by-place : (x : Entry) → get (box_in (machine_at r i)) u ≡ Some x → is_in_folder folder x ≡ true → (p : Place) → x.place ≡ p →
         InFolder j ≡ None
     by-place x there inside Tmp at =
-        let h = mailbox-shows (moment r i).dirs u x there in
+        let h = mailbox-shows (machine_at r i).dirs u x there in
         let no : is_tmp h.path.place ≡ false = not-true (is_tmp h.path.place) (and_parts (not (is_tmp h.path.place)) _ h.message).0 in
         let yes : is_tmp h.path.place ≡ true = ap is_tmp (ap (λ (e : Entry). e.place) h.entry ∙ at) in
         cc
-    by-place x there inside New at = absurd (in-place New (get (box (moment r i)) u) x there not_new inside at)
+    by-place x there inside New at = absurd (in-place New (get (box_in (machine_at r i)) u) x there not_new inside at)
     by-place x there inside Cur at = gone-by x there at
 
     pub not-there : (InFolder i ≡ None) ⊎ (InFolder j ≡ None)
-    not-there = by (get (box (moment r i)) u) refl
+    not-there = by (get (box_in (machine_at r i)) u) refl
       where
-        by : (o : Option Entry) → get (box (moment r i)) u ≡ o → (InFolder i ≡ None) ⊎ (InFolder j ≡ None)
-        by None is = inl (ap (such (is_in_folder folder)) is)
+        by : (o : Option Entry) → get (box_in (machine_at r i)) u ≡ o → (InFolder i ≡ None) ⊎ (InFolder j ≡ None)
+        by None is = inl (ap (entry_if (is_in_folder folder)) is)
         by (Some x) is = on (is_in_folder folder x) refl
           where
             on : (b : Bool) → is_in_folder folder x ≡ b → (InFolder i ≡ None) ⊎ (InFolder j ≡ None)
             on true inside = inr (by-place x is inside x.place refl)
-            on false out = inl (outside (get (box (moment r i)) u) x is out)
+            on false out = inl (outside (get (box_in (machine_at r i)) u) x is out)
 
   -- what a search says that ended behind cur
   module _ (k job : ℕ) (c : Call) (step : IsStep r job k) (folder : ℕ) (u : List ℕ)
-      (alone-none : (i : ℕ) → such (is_in_folder folder) (get (box (moment r i)) u) ≡ None →
-      IsAlone (moment r i).dirs c answer.NotThere) where
-    search-none : (stage : Stage) → IsPastCur (moment r k).dirs folder u stage → SearchedAt r k job folder u stage →
+      (alone-none : (i : ℕ) → entry_if (is_in_folder folder) (get (box_in (machine_at r i)) u) ≡ None →
+      IsAlone (machine_at r i).dirs c answer.NotThere) where
+    search-none : (stage : Stage) → IsPastCur (machine_at r k).dirs folder u stage → SearchedAt r k job folder u stage →
         IsOfSpan r job c answer.NotThere
     search-none (LookNew tries) none was = absurd none
     search-none (LookCur tries) none was = let b = was.before in elim (not-there was.from k (omega (arith, b)) folder u was.none none) [
@@ -206,7 +206,7 @@ module _ (r : Run) (run : IsRun r) where
     search-none (Act place row tries) none was = absurd none
 
   -- nothing was found at the last turn of a job
-  pub says-none : (k job : ℕ) (c : Call) → call_at r.calls job ≡ Some c → (t : IsTurn r k job) → FindsNone (moment r k).dirs c t.task →
+  pub says-none : (k job : ℕ) (c : Call) → call_at r.calls job ≡ Some c → (t : IsTurn r k job) → FindsNone (machine_at r k).dirs c t.task →
       IsOfSpan r job c answer.NotThere
   says-none k job c of t finds =
       by t.task finds (searched-at k job t.task (let within = is_within r k job t in omega (arith, within)) t.there c of)
@@ -215,15 +215,15 @@ module _ (r : Run) (run : IsRun r) where
       step : IsStep r job k
       step = is-step r k job t
 
-      by : (task : Task) → FindsNone (moment r k).dirs c task → SearchedBy r k job task → TaskFits (moment r k).dirs c task →
+      by : (task : Task) → FindsNone (machine_at r k).dirs c task → SearchedBy r k job task → TaskFits (machine_at r k).dirs c task →
           IsOfSpan r job c answer.NotThere
       by (Deliver d) h was fits = absurd h
       by (Mark m) h was fits = at-step r job k c answer.NotThere step h
       by (Move m) h was fits = search-none k job c step m.folder m.unique
-          (λ i none. subst (λ (x : Call). IsAlone (moment r i).dirs x answer.NotThere) (sym fits.of)
-          (ap (λ (o : Option Entry). (moved (box (moment r i)) m.unique m.to o).answer) none)) m.stage h was
+          (λ i none. subst (λ (x : Call). IsAlone (machine_at r i).dirs x answer.NotThere) (sym fits.of)
+          (ap (λ (o : Option Entry). (move_alone (box_in (machine_at r i)) m.unique m.to o).answer) none)) m.stage h was
       by (Expunge x) h was fits = at-step r job k c answer.NotThere step h
       by (Copy x) h was fits = search-none k job c step x.folder x.unique
-          (λ i none. subst (λ (y : Call). IsAlone (moment r i).dirs y answer.NotThere) (sym fits.of)
-          (ap (λ (o : Option Entry). (copied (box (moment r i)) x.to x.fresh o).answer) none)) x.stage h was
+          (λ i none. subst (λ (y : Call). IsAlone (machine_at r i).dirs y answer.NotThere) (sym fits.of)
+          (ap (λ (o : Option Entry). (copy_alone (box_in (machine_at r i)) x.to x.fresh o).answer) none)) x.stage h was
       by (Clean x) h was fits = absurd h

@@ -12,8 +12,8 @@ use Rattle.md_core.specs.declared.jobs.step.DirReply.{DirReply}
 use Rattle.md_core.specs.declared.jobs.task.Task.{Task}
 use Rattle.md_core.specs.declared.jobs.task.Task.TheVariants.{Deliver, Mark, Move, Expunge, Copy, Clean}
 use Rattle.md_core.specs.History.{names_of}
-use Rattle.md_core.specs.Machine.{Standing, working, answered, Marked, job_at, new_job}
-use Rattle.md_core.specs.Runs.{Run, moment, box}
+use Rattle.md_core.specs.Machine.{Standing, working, answered, Occurrence, job_at, new_job}
+use Rattle.md_core.specs.Runs.{Run, machine_at, box_in}
 use Rattle.md_core.specs.Trace.{call_at}
 use Rattle.md_core.specs.Turn.{After}
 use Rattle.md_core.specs.Stepping.{IsRun}
@@ -49,7 +49,7 @@ abbrev IsTrying : Run → ℕ → List ℕ → ℕ → ℕ → Trying → Type 0
 IsTrying r job u all k idle = Unit {0}
 IsTrying r job u all k (looking tries) = (tries ≡ all) ⊎ Since r job u all tries k
 IsTrying r job u all k (acting p tries) =
-    (unique_of p.name ≡ u) × ((Since r job u all tries k × IsListed (moment r k).dirs p) ⊎ Since r job u (all + 1) tries k)
+    (unique_of p.name ≡ u) × ((Since r job u all tries k × IsListed (machine_at r k).dirs p) ⊎ Since r job u (all + 1) tries k)
 
 abbrev Tries : Run → ℕ → ℕ → Task → Type 0
 Tries r k job task = (c : Call) → call_at r.calls job ≡ Some c → IsTrying r job (sought c) (tries_in c) k (trying_of task)
@@ -76,7 +76,7 @@ module _ (r : Run) (run : IsRun r) (job : ℕ) (u : List ℕ) (all : ℕ) where
     }
     since-step tries (inr h) = since-later all tries k h
 
-    turn-tries : (before next : Trying) → TriesOn (moment r k).dirs (moment r (k + 1)).dirs u before next →
+    turn-tries : (before next : Trying) → TriesOn (machine_at r k).dirs (machine_at r (k + 1)).dirs u before next →
         IsTrying r job u all k before → IsTrying r job u all (k + 1) next
     turn-tries idle next on was = absurd on
     turn-tries (looking tries) idle on was = absurd on
@@ -86,12 +86,12 @@ module _ (r : Run) (run : IsRun r) (job : ℕ) (u : List ℕ) (all : ℕ) where
       on.1.unique,
       inl (
         subst (λ n. Since r job u all n (k + 1)) (sym on.0) (since-step tries was),
-        path-listed (moment r (k + 1)).dirs u p (is-good r run (k + 1)).one_path on.1,
+        path-listed (machine_at r (k + 1)).dirs u p (is-good r run (k + 1)).one_path on.1,
       ),
     )
     turn-tries (acting p tries) idle on was = absurd on
     turn-tries (acting p tries) (looking left) on was = elim was.1 [
-      | inl there ↦ let at = listed-path (moment r k).dirs p there.1 in let gone = on.1 in let is = at.1 in cc
+      | inl there ↦ let at = listed-path (machine_at r k).dirs p there.1 in let gone = on.1 in let is = at.1 in cc
       | inr touched ↦ inr (record {
         from = touched.from;
         begun = touched.begun;
@@ -106,7 +106,7 @@ module _ (r : Run) (run : IsRun r) (job : ℕ) (u : List ℕ) (all : ℕ) where
     turn-tries (acting p tries) (acting q left) on was = absurd on
 
   -- an event of another job
-  module _ (k : ℕ) (e : Marked) (at : slice_get r.events k ≡ Some e) (differ : job ≢ e.event.job) where
+  module _ (k : ℕ) (e : Occurrence) (at : slice_get r.events k ≡ Some e) (differ : job ≢ e.event.job) where
     since-touched : (tries : ℕ) → Since r job u all tries k → touches r job u (k + 1) ≡ touches r job u k + 1 →
         Since r job u (all + 1) tries (k + 1)
     since-touched tries h one = record {
@@ -116,13 +116,13 @@ module _ (r : Run) (run : IsRun r) (job : ℕ) (u : List ℕ) (all : ℕ) where
       enough = (let e = h.enough in omega (arith, one, e));
     }
 
-    still-listed : (p : Path) → unique_of p.name ≡ u → get (names_of (box (moment r (k + 1)))) u ≡ get (names_of (box (moment r k))) u →
-        IsListed (moment r k).dirs p → IsListed (moment r (k + 1)).dirs p
+    still-listed : (p : Path) → unique_of p.name ≡ u → get (names_of (box_in (machine_at r (k + 1)))) u ≡ get (names_of (box_in (machine_at r k))) u →
+        IsListed (machine_at r k).dirs p → IsListed (machine_at r (k + 1)).dirs p
     still-listed p is same h =
         record {
           size = h.size;
-          at = ap (get (names_of (box (moment r (k + 1))))) is ∙ same
-              ∙ ap (get (names_of (box (moment r k)))) (sym is) ∙ h.at;
+          at = ap (get (names_of (box_in (machine_at r (k + 1))))) is ∙ same
+              ∙ ap (get (names_of (box_in (machine_at r k)))) (sym is) ∙ h.at;
         }
 
     other-tries : (now : Trying) → IsTrying r job u all k now → IsTrying r job u all (k + 1) now
@@ -141,12 +141,12 @@ module _ (r : Run) (run : IsRun r) (job : ℕ) (u : List ℕ) (all : ℕ) where
     )
 
   -- a job whose last try is over
-  over-touched : (k : ℕ) → IsStep r job k → (now : Trying) → IsOver (moment r k).dirs now → IsTrying r job u all k now →
+  over-touched : (k : ℕ) → IsStep r job k → (now : Trying) → IsOver (machine_at r k).dirs now → IsTrying r job u all k now →
       IsTouched r job u all
   over-touched k step idle over was = absurd over
   over-touched k step (looking tries) over was = absurd over
   over-touched k step (acting p tries) over was = elim was.1 [
-    | inl there ↦ let at = listed-path (moment r k).dirs p there.1 in let gone = over.1 in let is = at.1 in cc
+    | inl there ↦ let at = listed-path (machine_at r k).dirs p there.1 in let gone = over.1 in let is = at.1 in cc
     | inr touched ↦ record {
       from = touched.from;
       to = k;
@@ -190,7 +190,7 @@ module _ (r : Run) (run : IsRun r) where
   clean-tries job u all k task h = absurd h
 
   tries-on : (k job : ℕ) (c : Call) (step : IsStep r job k) (task : Task) (given : DirReply) (after : After Task) →
-      TaskSays (moment r k).dirs (moment r (k + 1)).dirs c given task after →
+      TaskSays (machine_at r k).dirs (machine_at r (k + 1)).dirs c given task after →
       after.answer ≡ None → IsTrying r job (sought c) (tries_in c) k (trying_of task) →
       IsTrying r job (sought c) (tries_in c) (k + 1) (trying_of after.task)
   tries-on k job c step (Deliver d) given after says none was =
@@ -210,14 +210,14 @@ module _ (r : Run) (run : IsRun r) where
   tries-on k job c step (Clean x) given after says none was =
       clean-tries job (sought c) (tries_in c) (k + 1) after.task (at-none after.answer _ _ none says)
 
-  tries-at : (k job : ℕ) (task : Task) → k ≤ length r.events → job_at (moment r k).jobs job ≡ Some (working task) → Tries r k job task
+  tries-at : (k job : ℕ) (task : Task) → k ≤ length r.events → job_at (machine_at r k).jobs job ≡ Some (working task) → Tries r k job task
   tries-at = holds r run (Tries r)
       (λ job c task of new c' of'.
       let same : c ≡ c' = (let e : Some c ≡ Some c' = sym of ∙ of' in cc) in
       subst (λ (x : Call). IsTrying r job (sought x) (tries_in x) 0 (trying_of task)) same
       (subst (AtWork r job (sought c) (tries_in c)) new (new-tries r job c)))
       (λ k job t none was c of.
-      tries-on k job c (is-step r k job t) t.task (reply_in (moment r k) t.event t.task) (left_by r k job t)
+      tries-on k job c (is-step r k job t) t.task (reply_in (machine_at r k) t.event t.task) (left_by r k job t)
       (turn-says r run k job c of t) none (was c of))
       (λ k job task e at differ there was c of. other-tries r run job (sought c) (tries_in c) k e at differ (trying_of task) (was c of))
 
@@ -243,9 +243,9 @@ module _ (r : Run) (run : IsRun r) where
 
   -- a job that ends with its last try
   pub says-lost : (k job : ℕ) (c : Call) → call_at r.calls job ≡ Some c → (t : IsTurn r k job) →
-      IsOver (moment r k).dirs (trying_of t.task) → IsLost r job c
+      IsOver (machine_at r k).dirs (trying_of t.task) → IsLost r job c
   says-lost k job c of t over =
       let within = is_within r k job t in
-      lost-call (moment r k).dirs (moment r k).dirs job c t.task (fits-at r run k job c of t.task t.there) over
+      lost-call (machine_at r k).dirs (machine_at r k).dirs job c t.task (fits-at r run k job c of t.task t.there) over
       (over-touched r run job (sought c) (tries_in c) k (is-step r k job t) (trying_of t.task) over
       (tries-at k job t.task (omega (arith, within)) t.there c of))

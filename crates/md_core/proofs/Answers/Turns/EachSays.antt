@@ -10,7 +10,7 @@ use Rattle.md_core.specs.declared.jobs.step.Moment.{Moment}
 use Rattle.md_core.specs.declared.jobs.task.Task.{Task}
 use Rattle.md_core.specs.declared.jobs.task.Task.TheVariants.{Deliver, Mark, Move, Expunge, Copy, Clean}
 use Rattle.md_core.specs.Machine.{Machine, working, job_at, moment_of}
-use Rattle.md_core.specs.Runs.{Run, moment}
+use Rattle.md_core.specs.Runs.{Run, machine_at}
 use Rattle.md_core.specs.Trace.{call_at}
 use Rattle.md_core.specs.Submitting.{submit_refusal, no_folder, too_many}
 use Rattle.md_core.specs.Turn.{After}
@@ -49,11 +49,11 @@ TaskSays s s' asked r (Expunge x) after = TurnSays s s' asked (Expunge x) r afte
 TaskSays s s' asked r (Copy c) after = TurnSays s s' asked (Copy c) r after
 
 module _ (r : Run) (run : IsRun r) where
-  pub is-good : (k : ℕ) → IsGood r.calls (moment r k)
+  pub is-good : (k : ℕ) → IsGood r.calls (machine_at r k)
   is-good k = good-moment r run each-turn k
 
   -- no event makes or takes away a folder
-  pub folders-at : (k : ℕ) → (moment r k).dirs.folders ≡ r.image.folders
+  pub folders-at : (k : ℕ) → (machine_at r k).dirs.folders ≡ r.image.folders
   folders-at =
       kept-moment r run each-turn (λ es m. m.dirs.folders ≡ r.image.folders) refl (λ es m m' e what of good g was. g.does.folders ∙ was)
 
@@ -68,11 +68,11 @@ module _ (r : Run) (run : IsRun r) where
 
   -- a call, and the task of its job at a moment
   module _ (k job : ℕ) (asked : Call) (of : call_at r.calls job ≡ Some asked) (task : Task) where
-    pub fits-at : job_at (moment r k).jobs job ≡ Some (working task) → TaskFits (moment r k).dirs asked task
+    pub fits-at : job_at (machine_at r k).jobs job ≡ Some (working task) → TaskFits (machine_at r k).dirs asked task
     fits-at there = by job of there
       where
-        by : (j : ℕ) → call_at r.calls j ≡ Some asked → job_at (moment r k).jobs j ≡ Some (working task) →
-            TaskFits (moment r k).dirs asked task
+        by : (j : ℕ) → call_at r.calls j ≡ Some asked → job_at (machine_at r k).jobs j ≡ Some (working task) →
+            TaskFits (machine_at r k).dirs asked task
         by zero from at = cc
         by (suc i) from at = (is-good k).fits i asked task from at
 
@@ -83,13 +83,13 @@ module _ (r : Run) (run : IsRun r) where
   -- what event k says, if it is a turn of this job
   module _ (k job : ℕ) (asked : Call) (of : call_at r.calls job ≡ Some asked) (t : IsTurn r k job) where
     abbrev m : Machine
-    m = moment r k
+    m = machine_at r k
 
     abbrev at : Moment
     at = moment_of m.clock t.event.event
 
     -- the directories after it
-    pub dirs-after : (moment r (k + 1)).dirs ≡ state_by (ask_of (turn_by m t.event t.task).asked at.clock) m.dirs
+    pub dirs-after : (machine_at r (k + 1)).dirs ≡ state_by (ask_of (turn_by m t.event t.task).asked at.clock) m.dirs
         (reply_in m t.event t.task)
     dirs-after =
         ap (λ (x : Machine). x.dirs) (moment-more r k t.event t.at ∙ happens-turned m t.event t.task (ap (job_at m.jobs) t.own ∙ t.there))
@@ -108,5 +108,5 @@ module _ (r : Run) (run : IsRun r) where
         cleaning-says m.dirs at t.event.faulted c
         (subst (λ (n : ℕ). c.folder < n) (sym (folders-at k)) (clean-folder job c.folder (of ∙ ap Some fits)))
 
-    pub turn-says : TaskSays m.dirs (moment r (k + 1)).dirs asked (reply_in m t.event t.task) t.task (left_by r k job t)
+    pub turn-says : TaskSays m.dirs (machine_at r (k + 1)).dirs asked (reply_in m t.event t.task) t.task (left_by r k job t)
     turn-says = subst (λ (s' : State). Says s' t.task) (sym dirs-after) (by-task t.task (fits-at k job asked of t.task t.there))

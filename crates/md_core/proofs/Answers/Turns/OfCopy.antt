@@ -21,7 +21,7 @@ use Rattle.md_core.specs.declared.jobs.step.DirReply.TheVariants as reply
 use Rattle.md_core.specs.declared.jobs.step.Moment.{Moment}
 use Rattle.md_core.specs.declared.jobs.task.Task.TheVariants.{Copy}
 use Rattle.md_core.specs.Mailbox.{Entry, mailbox_of, HasOnePath}
-use Rattle.md_core.specs.Alone.{copied, copy_by, such, is_in_folder}
+use Rattle.md_core.specs.Alone.{copy_alone, copy_by, entry_if, is_in_folder}
 use Rattle.md_core.specs.Machine.{as_task}
 use Rattle.md_core.specs.Machines.Search.{after_look, after_lost, leads}
 use Rattle.md_core.specs.Machines.Copy.{at_stage, source, target, look_turn, link_turn, stage_turn, copying_turn}
@@ -40,8 +40,8 @@ SaysBy s number asked c clock turn r =
     TurnSays s (state_by (ask_of turn.asked clock) s r) asked (Copy c) r ((as_task Copy turn).follows r (rows_for turn.asked s))
 
 -- an entry of a folder is such a one
-pub such-inside : (folder : ℕ) (o : Option Entry) (e : Entry) → o ≡ Some e → e.folder ≡ folder → such (is_in_folder folder) o ≡ Some e
-such-inside folder o e is inside = ap (such (is_in_folder folder)) is ∙ ap (λ b. cond b (Some e) None) (eq-eqb _ _ inside)
+pub such-inside : (folder : ℕ) (o : Option Entry) (e : Entry) → o ≡ Some e → e.folder ≡ folder → entry_if (is_in_folder folder) o ≡ Some e
+such-inside folder o e is inside = ap (entry_if (is_in_folder folder)) is ∙ ap (λ b. cond b (Some e) None) (eq-eqb _ _ inside)
 
 module _ (s : State) (number : ℕ) (asked : Call) (at : Moment) (one : HasOnePath s) (faulted : Bool) (c : Copying) where
   abbrev SaysNext : Stage → DirReply → Next → Type 0
@@ -56,7 +56,7 @@ module _ (s : State) (number : ℕ) (asked : Call) (at : Moment) (one : HasOnePa
     -- a message with other info is not copied
     is-other : IsOther s c.folder c.unique → IsAlone s asked answer.OtherInfo
     is-other h = subst (λ (a : Call). IsAlone s a answer.OtherInfo) (sym fits.of)
-        (ap (λ (o : Option Entry). (copied (mailbox_of s) c.to c.fresh o).answer)
+        (ap (λ (o : Option Entry). (copy_alone (mailbox_of s) c.to c.fresh o).answer)
         (such-inside c.folder (finmap.get (mailbox_of s) c.unique) h.entry h.there h.inside)
         ∙ ap (λ (o : Option Set). (copy_by (mailbox_of s) c.to c.fresh h.entry o (finmap.get (mailbox_of s) c.fresh)).answer) h.other)
 

@@ -23,7 +23,7 @@ use Rattle.md_core.specs.declared.jobs.step.DirReply.{DirReply}
 use Rattle.md_core.specs.declared.jobs.step.DirReply.TheVariants as reply
 use Rattle.md_core.specs.declared.jobs.task.Task.TheVariants.{Expunge}
 use Rattle.md_core.specs.Mailbox.{Entry, Mailbox, mailbox_of, entry_of, HasOnePath}
-use Rattle.md_core.specs.Alone.{Outcome, expunged, expunge_by, refused, such, is_in_place, flags_in}
+use Rattle.md_core.specs.Alone.{Outcome, expunge_alone, expunge_by, refuse, entry_if, is_in_place, flags_in}
 use Rattle.md_core.specs.Turn.{Turn, After, ends, goes_on, rows_for, reply_of}
 use Rattle.md_core.specs.Asked.{ask_of, state_by}
 use Rattle.md_core.specs.Machine.{as_task}
@@ -45,7 +45,7 @@ not_trashed : (box : Mailbox) (u : List ℕ) (o : Option Set) → has_trashed o 
 not_trashed box u None is = refl
 not_trashed box u (Some had) is =
     ap (λ b. (cond {A = Outcome} b (record { answer = answer.Expunged; after = finmap.remove box u })
-    (refused answer.NotTrashed box)).answer) is
+    (refuse answer.NotTrashed box)).answer) is
 
 module _ (s : State) (number : ℕ) (asked : Call) (at : Moment) (one : HasOnePath s) (faulted : Bool) (x : Expunging) where
   -- the message is looked for
@@ -63,7 +63,7 @@ module _ (s : State) (number : ℕ) (asked : Call) (at : Moment) (one : HasOnePa
       abbrev entry : Entry
       entry = entry_of s (source x row.name) h.file
 
-      there : such (is_in_place Cur x.folder) (get (mailbox_of s) x.unique) ≡ Some entry
+      there : entry_if (is_in_place Cur x.folder) (get (mailbox_of s) x.unique) ≡ Some entry
       there = such-there Cur x.folder (get (mailbox_of s) x.unique) entry (row-entry s x.folder Cur x.unique row refl one h) refl refl
 
       found-says : (b : Bool) → is_trashed row.name ≡ b →
@@ -85,13 +85,13 @@ module _ (s : State) (number : ℕ) (asked : Call) (at : Moment) (one : HasOnePa
           let shown : has_trashed (flags_in entry) ≡ false =
           ap (λ (i : Info). has_trashed (flags_of i)) (sym (info-in row.name h.named)) ∙ is in
           by-call answer.NotTrashed
-          (ap (λ (o : Option Entry). (expunged (mailbox_of s) x.unique o).answer) there
+          (ap (λ (o : Option Entry). (expunge_alone (mailbox_of s) x.unique o).answer) there
           ∙ not_trashed (mailbox_of s) x.unique (flags_in entry) shown)
 
     row-says : (o : Option Row) → row_named x.unique (rows_of s x.folder Cur) ≡ o → SaysLook (after_row y tries o)
     row-says None is =
         by-call answer.NotThere
-        (ap (λ (o : Option Entry). (expunged (mailbox_of s) x.unique o).answer) (no-entry s x.folder Cur x.unique is))
+        (ap (λ (o : Option Entry). (expunge_alone (mailbox_of s) x.unique o).answer) (no-entry s x.folder Cur x.unique is))
     row-says (Some row) is = found-says row (found-row s x.folder Cur x.unique row fits.valid is) (is_trashed row.name) refl
 
     look-says : (r : DirReply) → r ≡ reply_of (dirs.list x.folder Cur) s faulted → SaysBy s number asked y at.clock (look_turn y tries) r

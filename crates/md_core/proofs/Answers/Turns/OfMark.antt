@@ -26,7 +26,7 @@ use Rattle.md_core.specs.declared.jobs.step.DirReply.TheVariants as reply
 use Rattle.md_core.specs.declared.jobs.task.Task.{Task}
 use Rattle.md_core.specs.declared.jobs.task.Task.TheVariants.{Mark}
 use Rattle.md_core.specs.Mailbox.{Entry, Mailbox, mailbox_of, entry_of, is_tmp, HasOnePath}
-use Rattle.md_core.specs.Alone.{alone, seen, seen_by, flag, flag_by, such, is_in_place, flags_in}
+use Rattle.md_core.specs.Alone.{alone, seen_alone, seen_by, flag_alone, flag_by, entry_if, is_in_place, flags_in}
 use Rattle.md_core.specs.Turn.{Turn, After, rows_for, reply_of}
 use Rattle.md_core.specs.Asked.{ask_of, state_by}
 use Rattle.md_core.specs.Machine.{as_task}
@@ -53,24 +53,24 @@ sought-mark folder u (Seen given) tries = refl
 sought-mark folder u (Flag add remove) tries = refl
 
 -- what the call is answered alone, where nothing is there, and where there is other info
-alone-none : (box : Mailbox) (folder : ℕ) (u : List ℕ) (k : Marks) (tries : ℕ) → such (is_in_place (place_by k) folder) (get box u) ≡ None →
+alone-none : (box : Mailbox) (folder : ℕ) (u : List ℕ) (k : Marks) (tries : ℕ) → entry_if (is_in_place (place_by k) folder) (get box u) ≡ None →
     (alone (call_by folder u k tries) box).answer ≡ answer.NotThere
-alone-none box folder u (Seen given) tries none = ap (λ (o : Option Entry). (seen box u given o).answer) none
-alone-none box folder u (Flag add remove) tries none = ap (λ (o : Option Entry). (flag box u add remove o).answer) none
+alone-none box folder u (Seen given) tries none = ap (λ (o : Option Entry). (seen_alone box u given o).answer) none
+alone-none box folder u (Flag add remove) tries none = ap (λ (o : Option Entry). (flag_alone box u add remove o).answer) none
 
 alone-other : (box : Mailbox) (folder : ℕ) (u : List ℕ) (k : Marks) (tries : ℕ) (e : Entry) →
-    such (is_in_place (place_by k) folder) (get box u) ≡ Some e → flags_in e ≡ None →
+    entry_if (is_in_place (place_by k) folder) (get box u) ≡ Some e → flags_in e ≡ None →
     (alone (call_by folder u k tries) box).answer ≡ answer.OtherInfo
 alone-other box folder u (Seen given) tries e is none =
-    ap (λ (o : Option Entry). (seen box u given o).answer) is ∙ ap (λ (o : Option Set). (seen_by box u given e o).answer) none
+    ap (λ (o : Option Entry). (seen_alone box u given o).answer) is ∙ ap (λ (o : Option Set). (seen_by box u given e o).answer) none
 alone-other box folder u (Flag add remove) tries e is none =
-    ap (λ (o : Option Entry). (flag box u add remove o).answer) is ∙ ap (λ (o : Option Set). (flag_by box u add remove e o).answer) none
+    ap (λ (o : Option Entry). (flag_alone box u add remove o).answer) is ∙ ap (λ (o : Option Set). (flag_by box u add remove e o).answer) none
 
 -- an entry of a place is such a one
 pub such-there : (place : Place) (folder : ℕ) (o : Option Entry) (e : Entry) → o ≡ Some e → e.folder ≡ folder → e.place ≡ place →
-    such (is_in_place place folder) o ≡ Some e
+    entry_if (is_in_place place folder) o ≡ Some e
 such-there place folder o e is inside at =
-    ap (such (is_in_place place folder)) is
+    ap (entry_if (is_in_place place folder)) is
     ∙ ap (λ b. cond b (Some e) None) (and_from _ _ (eq-eqb _ _ (ap place_index at)) (eq-eqb _ _ inside))
 
 module _ (s : State) (number : ℕ) (asked : Call) (at : Moment) (one : HasOnePath s) (faulted : Bool) (m : Marking) where

@@ -19,7 +19,7 @@ use Rattle.md_core.specs.declared.jobs.search.Next.TheVariants.{To, Ends}
 use Rattle.md_core.specs.declared.jobs.step.DirReply.{DirReply}
 use Rattle.md_core.specs.declared.jobs.step.DirReply.TheVariants as reply
 use Rattle.md_core.specs.Mailbox.{Entry, mailbox_of, entry_of, is_tmp, HasOnePath}
-use Rattle.md_core.specs.Alone.{such, is_in_place, flags_in}
+use Rattle.md_core.specs.Alone.{entry_if, is_in_place, flags_in}
 use Rattle.md_core.specs.Turn.{reply_of}
 use Rattle.md_core.specs.Machines.Search.{info_in, acts_on, after_none, after_row, after_look, after_lost}
 use Rattle.md_core.proofs.Looking.LookUps.{found-row, row-entry, row-message, no-entry, info-in}
@@ -36,15 +36,15 @@ pub record IsOther (s : State) (folder : ℕ) (u : List ℕ) : Type 0 where
 -- what is known where a look-up in a place led somewhere
 abbrev pub Knows : State → ℕ → List ℕ → Bool → Place → ℕ → DirReply → Next → Type 0
 Knows s folder u any place tries r (To (LookNew left)) = ⊥
-Knows s folder u any place tries r (To (LookCur left)) = (left ≡ tries) × (such (is_in_place New folder) (get (mailbox_of s) u) ≡ None)
+Knows s folder u any place tries r (To (LookCur left)) = (left ≡ tries) × (entry_if (is_in_place New folder) (get (mailbox_of s) u) ≡ None)
 Knows s folder u any place tries r (To (Act at row left)) = (left ≡ tries) × IsPathOf s u (path_of folder at row.name)
-Knows s folder u any place tries r (Ends answer.NotThere) = (place ≡ Cur) × (such (is_in_place Cur folder) (get (mailbox_of s) u) ≡ None)
+Knows s folder u any place tries r (Ends answer.NotThere) = (place ≡ Cur) × (entry_if (is_in_place Cur folder) (get (mailbox_of s) u) ≡ None)
 Knows s folder u any place tries r (Ends answer.OtherInfo) = (any ≡ false) × IsOther s folder u
 Knows s folder u any place tries r (Ends answer.Fault) = r ≡ reply.Fault
 Knows s folder u any place tries r (Ends a) = ⊥
 
 module _ (s : State) (folder : ℕ) (u : List ℕ) (any : Bool) (valid : is_unique_name u ≡ true) (one : HasOnePath s) (tries : ℕ) where
-  none-knows : (place : Place) → is_tmp place ≡ false → such (is_in_place place folder) (get (mailbox_of s) u) ≡ None →
+  none-knows : (place : Place) → is_tmp place ≡ false → entry_if (is_in_place place folder) (get (mailbox_of s) u) ≡ None →
       Knows s folder u any place tries reply.Ok (after_none place tries)
   none-knows Tmp no_tmp none = cc
   none-knows New no_tmp none = (refl, none)

@@ -22,7 +22,7 @@ use Rattle.md_core.specs.declared.jobs.step.DirReply.TheVariants as reply
 use Rattle.md_core.specs.declared.jobs.task.Task.{Task}
 use Rattle.md_core.specs.declared.jobs.task.Task.TheVariants.{Deliver, Mark, Move, Expunge, Copy, Clean}
 use Rattle.md_core.specs.Mailbox.{mailbox_of, is_message}
-use Rattle.md_core.specs.Alone.{alone, such, is_in_place}
+use Rattle.md_core.specs.Alone.{alone, entry_if, is_in_place}
 use Rattle.md_core.specs.Machines.Mark.{place_by}
 use Rattle.md_core.specs.Turn.{After}
 
@@ -90,12 +90,12 @@ IsOver s (acting p tries) = (tries ≤ 1) × (file_at s p ≡ None)
 -- what a search has seen that goes on to cur, and what it sees that ends there
 abbrev pub IsPastNew : State → ℕ → List ℕ → Stage → Type 0
 IsPastNew s folder u (LookNew tries) = Unit {0}
-IsPastNew s folder u (LookCur tries) = such (is_in_place New folder) (get (mailbox_of s) u) ≡ None
+IsPastNew s folder u (LookCur tries) = entry_if (is_in_place New folder) (get (mailbox_of s) u) ≡ None
 IsPastNew s folder u (Act place row tries) = Unit {0}
 
 abbrev pub IsPastCur : State → ℕ → List ℕ → Stage → Type 0
 IsPastCur s folder u (LookNew tries) = ⊥
-IsPastCur s folder u (LookCur tries) = such (is_in_place Cur folder) (get (mailbox_of s) u) ≡ None
+IsPastCur s folder u (LookCur tries) = entry_if (is_in_place Cur folder) (get (mailbox_of s) u) ≡ None
 IsPastCur s folder u (Act place row tries) = ⊥
 
 abbrev pub HasLooked : State → Task → Type 0

@@ -1,7 +1,7 @@
 -- Bytes added to a file in tmp that has no other name.
 use Rattle.std.proofs.Common.{ℕ, ◌≡◌, ◌≢◌, ◌++◌, inl, inr, List, Option, Some, None, refl, ap, ◌∙◌, IsSome}
 use Rattle.md_dirs.specs.State.{State, file_at, IsSound, file_by}
-use Rattle.md_dirs.specs.Calls.{appended, grown}
+use Rattle.md_dirs.specs.Calls.{after_append, file_with_more}
 use Rattle.md_dirs.specs.declared.paths.Path.{Path}
 use Rattle.md_dirs.specs.declared.paths.File.{File}
 use Rattle.md_dirs.specs.declared.paths.Place.TheVariants.{Tmp}
@@ -12,22 +12,22 @@ use Rattle.md_core.proofs.Mailbox.Changes.{Keeps}
 use Rattle.md_core.proofs.Directories.Frames.{Frame, tmp-key, not_tmp, other_key}
 use Rattle.md_core.proofs.Directories.Spares.{Spares, spares-all}
 
-grown-bytes : (more : List ℕ) (now : ℕ) (o : Option File) → IsSome o → bytes_of (grown more now o) ≡ bytes_of o ++ more
+grown-bytes : (more : List ℕ) (now : ℕ) (o : Option File) → IsSome o → bytes_of (file_with_more more now o) ≡ bytes_of o ++ more
 grown-bytes more now None is = cc
 grown-bytes more now (Some file) is = refl
 
 module _ (s : State) (tmp : Path) (now : ℕ) (more bytes : List ℕ) (n : ℕ) (in_tmp : tmp.place ≡ Tmp) (sound : IsSound s)
     (here : file_at s tmp ≡ Some n) (alone : IsAlone s tmp bytes) where
   abbrev after : State
-  after = appended more now s (Some n)
+  after = after_append more now s (Some n)
 
   bytes_here : bytes_at after n ≡ bytes ++ more
   bytes_here =
-      ap bytes_of (file_by-set_same s.files n (grown more now (file_by s.files n)) (number-within s sound tmp n here))
+      ap bytes_of (file_by-set_same s.files n (file_with_more more now (file_by s.files n)) (number-within s sound tmp n here))
       ∙ grown-bytes more now (file_by s.files n) (sound.filed tmp n here) ∙ ap (λ (b : List ℕ). b ++ more) (alone.holds n here)
 
   bytes_other : (m : ℕ) → m ≢ n → bytes_at after m ≡ bytes_at s m
-  bytes_other m not = ap bytes_of (file_by-set_other s.files n m (grown more now (file_by s.files n)) not)
+  bytes_other m not = ap bytes_of (file_by-set_other s.files n m (file_with_more more now (file_by s.files n)) not)
 
   beside : (q : Path) (m : ℕ) → q ≢ tmp → file_at s q ≡ Some m → m ≢ n
   beside q m not at same = not (alone.only n q here (at ∙ ap Some same))

@@ -1,7 +1,7 @@
 -- A name made in tmp, one that no path uses.
 use Rattle.std.proofs.Common.{ℕ, ◌≡◌, ◌≢◌, ◌<◌, inl, inr, [], Some, None, refl, sym, ap, ◌∙◌, length}
 use Rattle.md_dirs.specs.State.{State, file_at, IsSound}
-use Rattle.md_dirs.specs.Calls.{created}
+use Rattle.md_dirs.specs.Calls.{after_create}
 use Rattle.md_dirs.specs.declared.paths.Path.{Path}
 use Rattle.md_dirs.specs.declared.paths.Place.TheVariants.{Tmp}
 use Rattle.md_dirs.proofs.PathOrder.{path_total, path_exact}
@@ -15,7 +15,7 @@ use Rattle.md_core.proofs.Directories.Spares.{Spares, spares-one}
 
 module _ (s : State) (tmp : Path) (now : ℕ) (in_tmp : tmp.place ≡ Tmp) (sound : IsSound s) (unused : IsUnused s tmp.name) where
   abbrev after : State
-  after = created tmp now s
+  after = after_create tmp now s
 
   beside : (q : Path) → q ≢ tmp → file_at after q ≡ file_at s q
   beside q not = maps.beside_put path_total path_exact s.names tmp q (length s.files) not

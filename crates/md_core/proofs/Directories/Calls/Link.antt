@@ -1,7 +1,7 @@
 -- A file in tmp linked to a message of its name, or a message's to a message of another, where no message has the name.
 use Rattle.std.proofs.Common.{ℕ, ◌≡◌, ◌≢◌, ◌<◌, ◌⊎◌, inl, inr, List, Some, None, true, refl, sym, ap, ◌∙◌}
 use Rattle.md_dirs.specs.State.{State, file_at, IsSound}
-use Rattle.md_dirs.specs.Calls.{named}
+use Rattle.md_dirs.specs.Calls.{with_path}
 use Rattle.md_dirs.specs.declared.paths.Path.{Path}
 use Rattle.md_dirs.proofs.PathOrder.{path_total, path_exact}
 use Rattle.lists.proofs.Maps as maps
@@ -26,7 +26,7 @@ module _ (s : State) (old new : Path) (u bytes : List ℕ) (n : ℕ) (from : (ke
     (within : new.folder < s.folders) (there : file_at s old ≡ Some n) (holds : bytes_at s n ≡ bytes)
     (none : HasNoMessage s u) (message : is_message new ≡ true) (name : unique_of new.name ≡ u) where
   abbrev after : State
-  after = named new s (Some n)
+  after = with_path new s (Some n)
 
   was_not : file_at s new ≡ None
   was_not = none new message name

@@ -1,7 +1,7 @@
 -- A message taken away.
 use Rattle.std.proofs.Common.{ℕ, ◌≡◌, ◌≢◌, inl, inr, Option, Some, None, true, refl, sym, ap, ◌∙◌}
 use Rattle.md_dirs.specs.State.{State, file_at, IsSound}
-use Rattle.md_dirs.specs.Calls.{unnamed, without}
+use Rattle.md_dirs.specs.Calls.{without_path, after_unlink}
 use Rattle.md_dirs.specs.declared.paths.Path.{Path}
 use Rattle.md_dirs.proofs.PathOrder.{path_total, path_exact}
 use Rattle.lists.proofs.Maps as maps
@@ -15,7 +15,7 @@ use Rattle.md_core.proofs.Directories.Spares.{Spares, spares-one}
 
 module _ (s : State) (p : Path) (k : ℕ) (one : HasOnePath s) (message : is_message p ≡ true) (at : file_at s p ≡ Some k) where
   abbrev after : State
-  after = without p s
+  after = after_unlink p s
 
   beside : (q : Path) → q ≢ p → file_at after q ≡ file_at s q
   beside q not = maps.beside_drop path_total path_exact s.names p q not
@@ -28,7 +28,7 @@ module _ (s : State) (p : Path) (k : ℕ) (one : HasOnePath s) (message : is_mes
 
   -- the file of another path is kept
   bytes : (q : Path) (m : ℕ) → q ≢ p → file_at s q ≡ Some m → bytes_at after m ≡ bytes_at s m
-  bytes q m not there = ap bytes_of (swept-kept (file_at s p) (unnamed p s) q m (beside q not ∙ there))
+  bytes q m not there = ap bytes_of (swept-kept (file_at s p) (without_path p s) q m (beside q not ∙ there))
 
   not_by : (q : Path) → unique_of q.name ≢ unique_of p.name → q ≢ p
   not_by q not is = not (ap (λ (x : Path). unique_of x.name) is)

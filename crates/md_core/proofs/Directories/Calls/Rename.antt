@@ -2,7 +2,7 @@
 use Rattle.std.proofs.Common.{ℕ, ◌≡◌, ◌≢◌, ◌<◌, inl, inr, List, Option, Some, None, true, false, cond, refl, sym, ap, subst, ◌∙◌}
 use Rattle.std.specs.FinMap as finmap
 use Rattle.md_dirs.specs.State.{State, file_at, IsSound}
-use Rattle.md_dirs.specs.Calls.{moved, named, unnamed, swept, is_one_file}
+use Rattle.md_dirs.specs.Calls.{after_rename, with_path, without_path, with_files_still_named, is_one_file}
 use Rattle.md_dirs.specs.declared.paths.Path.{Path}
 use Rattle.md_dirs.proofs.PathOrder.{path_total, path_exact}
 use Rattle.lists.proofs.Maps as maps
@@ -16,7 +16,7 @@ use Rattle.md_core.proofs.Directories.Spares.{Spares, spares-by}
 
 -- the state after a rename to a path that is not there, by its parts
 abbrev pub shifted : Path → Path → State → ℕ → State
-shifted o n s k = named n (unnamed o s) (Some k)
+shifted o n s k = with_path n (without_path o s) (Some k)
 
 module _ (s : State) (o n : Path) (k : ℕ) (one : HasOnePath s) (mo : is_message o ≡ true) (mn : is_message n ≡ true)
     (same : unique_of o.name ≡ unique_of n.name) (differ : o ≢ n) (at : file_at s o ≡ Some k) where
@@ -32,10 +32,10 @@ module _ (s : State) (o n : Path) (k : ℕ) (one : HasOnePath s) (mo : is_messag
       by (Some j) is = absurd (differ (one o n k j at is mo mn same))
 
   -- so the call does nothing else
-  pub moved-is : moved o n s ≡ after
+  pub moved-is : after_rename o n s ≡ after
   moved-is =
       let apart : is_one_file (file_at s o) (file_at s n) ≡ false = (λ i. is_one_file (at i) (target-free i)) in
-      ap (λ b. cond b s (swept (file_at s n) (named n (unnamed o s) (file_at s o)))) apart ∙ (λ i. swept (target-free i) (named n (unnamed o s) (at i)))
+      ap (λ b. cond b s (with_files_still_named (file_at s n) (with_path n (without_path o s) (file_at s o)))) apart ∙ (λ i. with_files_still_named (target-free i) (with_path n (without_path o s) (at i)))
 
   here : (q : Path) → q ≡ n → file_at after q ≡ Some k
   here q is = maps.at_put path_total path_exact (finmap.remove s.names o) n q k is

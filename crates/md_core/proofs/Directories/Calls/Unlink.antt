@@ -1,7 +1,7 @@
 -- A name in tmp taken away.
 use Rattle.std.proofs.Common.{ℕ, ◌≡◌, ◌≢◌, inl, inr, Some, None, refl, sym, ap, ◌∙◌}
 use Rattle.md_dirs.specs.State.{State, file_at, IsSound}
-use Rattle.md_dirs.specs.Calls.{unnamed, without}
+use Rattle.md_dirs.specs.Calls.{without_path, after_unlink}
 use Rattle.md_dirs.specs.declared.paths.Path.{Path}
 use Rattle.md_dirs.specs.declared.paths.Place.TheVariants.{Tmp}
 use Rattle.md_dirs.proofs.PathOrder.{path_total, path_exact}
@@ -15,7 +15,7 @@ use Rattle.md_core.proofs.Directories.Spares.{Spares, spares-one}
 
 module _ (s : State) (tmp : Path) (in_tmp : tmp.place ≡ Tmp) (sound : IsSound s) where
   abbrev after : State
-  after = without tmp s
+  after = after_unlink tmp s
 
   beside : (q : Path) → q ≢ tmp → file_at after q ≡ file_at s q
   beside q not = maps.beside_drop path_total path_exact s.names tmp q not
@@ -25,7 +25,7 @@ module _ (s : State) (tmp : Path) (in_tmp : tmp.place ≡ Tmp) (sound : IsSound 
 
   -- the file of another path is kept
   bytes : (q : Path) (m : ℕ) → q ≢ tmp → file_at s q ≡ Some m → bytes_at after m ≡ bytes_at s m
-  bytes q m not at = ap bytes_of (swept-kept (file_at s tmp) (unnamed tmp s) q m (beside q not ∙ at))
+  bytes q m not at = ap bytes_of (swept-kept (file_at s tmp) (without_path tmp s) q m (beside q not ∙ at))
 
   pub unlink-spares : Spares s after
   unlink-spares = spares-one s after tmp refl beside (inr (here tmp refl)) (inl (ap is_tmp in_tmp))

@@ -2,7 +2,7 @@
 use Rattle.std.proofs.Common.{ℕ, ◌≡◌, ◌<◌, ◌-◌, List, [], ◌∷◌, Option, Some, None, Bool, false, not, length, refl, sym, ap, arith}
 use Rattle.std.proofs.lemmas.List.Filters.{length-filter_both}
 use Rattle.md_dirs.specs.Calls as dirs
-use Rattle.md_dirs.specs.Calls.{without}
+use Rattle.md_dirs.specs.Calls.{after_unlink}
 use Rattle.md_dirs.specs.Rows.{rows_of}
 use Rattle.md_dirs.specs.State.{State, IsSound}
 use Rattle.md_dirs.specs.declared.paths.Place.TheVariants.{Tmp}
@@ -116,7 +116,7 @@ module _ (s : State) (number : ℕ) (asked : Call) (clock : ℕ) (sound : IsSoun
     z = at_stage c (Remove name rest files)
 
     unlink-does : (r : DirReply) → DoesBy s number asked z clock (unlink_turn z name rest files) r
-    unlink-does reply.Ok = next-does s (without (tmp c name) s) number asked one z fits (unlink (tmp c name)) reply.Ok name
+    unlink-does reply.Ok = next-does s (after_unlink (tmp c name) s) number asked one z fits (unlink (tmp c name)) reply.Ok name
         (quiet-unlink s (tmp c name) refl sound) (unlink-shrinks s (tmp c name) refl sound) rest files (omega arith)
     unlink-does reply.Exists = still-ends z fits (unlink (tmp c name)) reply.Exists answer.Fault refl (omega arith)
     unlink-does reply.NotFound = still-next z fits (unlink (tmp c name)) reply.NotFound rest (files - 1) (omega arith)

@@ -17,8 +17,8 @@ use Rattle.md_core.specs.declared.jobs.search.Stage.TheVariants.{Act}
 use Rattle.md_core.specs.declared.jobs.step.DirReply.TheVariants as reply
 use Rattle.md_core.specs.declared.jobs.task.Task.TheVariants.{Copy}
 use Rattle.md_core.specs.Mailbox.{Entry, Mailbox, mailbox_of, entry_of, is_message, is_tmp, HasOnePath}
-use Rattle.md_core.specs.Alone.{alone, copied, copy_by, such, is_in_folder, info_copied}
-use Rattle.md_core.specs.History.{names_of, changed}
+use Rattle.md_core.specs.Alone.{alone, copy_alone, copy_by, entry_if, is_in_folder, info_copied}
+use Rattle.md_core.specs.History.{names_of, names_after_change}
 use Rattle.md_core.specs.Asked.{link}
 use Rattle.md_core.specs.Machines.Copy.{at_stage, source, target, copying_effect}
 use Rattle.md_core.specs.Stepping.{AsAlone}
@@ -48,7 +48,7 @@ module _ (s : State) (number : ℕ) (asked : Call) (c : Copying) (place : Place)
   n = target c place row.name
 
   abbrev s' : State
-  s' = dirs.named n s (Some k)
+  s' = dirs.with_path n s (Some k)
 
   abbrev m : Mailbox
   m = mailbox_of s
@@ -70,8 +70,8 @@ module _ (s : State) (number : ℕ) (asked : Call) (c : Copying) (place : Place)
   no_copy None is = is
   no_copy (Some e) is = let h = mailbox-shows s c.fresh e is in let gone = fits.none h.path h.message h.unique in let there = h.there in cc
 
-  in_folder : such (is_in_folder c.folder) (get m c.unique) ≡ Some (entry_of s o k)
-  in_folder = ap (such (is_in_folder c.folder)) before ∙ ap (λ b. cond b (Some (entry_of s o k)) None) (eq-eqb c.folder c.folder refl)
+  in_folder : entry_if (is_in_folder c.folder) (get m c.unique) ≡ Some (entry_of s o k)
+  in_folder = ap (entry_if (is_in_folder c.folder)) before ∙ ap (λ b. cond b (Some (entry_of s o k)) None) (eq-eqb c.folder c.folder refl)
 
   -- the message of the copy
   abbrev copy : Entry
@@ -84,11 +84,11 @@ module _ (s : State) (number : ℕ) (asked : Call) (c : Copying) (place : Place)
   effect-alone : AsAlone asked (Some (copying_effect number n row.size)) m (mailbox_of s')
   effect-alone =
       ap (λ (a : Call). alone a m) fits.of
-      ∙ ap (copied m c.to c.fresh) in_folder
+      ∙ ap (copy_alone m c.to c.fresh) in_folder
       ∙ (λ i. copy_by m c.to c.fresh (entry_of s o k) (name.had i) (no_copy (get m c.fresh) refl i))
       ∙ sym (λ i. record { answer = answer.Copied; after = after i })
 
-  changes : names_of (mailbox_of s') ≡ changed (names_of m) (copying_effect number n row.size).change
+  changes : names_of (mailbox_of s') ≡ names_after_change (names_of m) (copying_effect number n row.size).change
   changes =
       ap names_of (mailbox-puts s s' n k one lands.puts) ∙ names-insert m (unique_of n.name) (entry_of s' n k)
       ∙ ap (finmap.insert (names_of m) (unique_of n.name)) (listed-entry s' n k)

@@ -88,7 +88,7 @@ module _ (s : State) (number : ℕ) (asked : Call) (sound : IsSound s) (one : Ha
       DoesBy s number asked x clock (link_turn number x place row tries) r
   act-does reply.Ok replied =
       let here = there (file_at s (source c place row.name)) _ NotFound (accepted _ faulted (sym replied)) in
-      subst (λ (o : Option ℕ). Does s (dirs.named (target c place row.name) s o) number asked (Copy x)
+      subst (λ (o : Option ℕ). Does s (dirs.with_path (target c place row.name) s o) number asked (Copy x)
       (link (source c place row.name) (target c place row.name)) reply.Ok with_copy) (sym here.1)
       (link-does s number asked c place row tries here.0 sound one fits sized here.1)
   act-does reply.Exists replied = leads-does s number asked sound one x fits _ reply.Exists (λ o. refl) (Ends answer.NameTaken) (refl, some-left x.stage)

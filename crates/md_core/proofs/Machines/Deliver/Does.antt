@@ -14,8 +14,8 @@ use Rattle.md_core.specs.declared.jobs.effect.Effect.{Effect}
 use Rattle.md_core.specs.declared.jobs.step.DirReply.{DirReply}
 use Rattle.md_core.specs.declared.jobs.task.Task.TheVariants.{Deliver}
 use Rattle.md_core.specs.Mailbox.{Entry, mailbox_of, HasOnePath}
-use Rattle.md_core.specs.Alone.{alone, delivered}
-use Rattle.md_core.specs.History.{names_of, changed}
+use Rattle.md_core.specs.Alone.{alone, deliver_alone}
+use Rattle.md_core.specs.History.{names_of, names_after_change}
 use Rattle.md_core.specs.Asked.{Asked}
 use Rattle.md_core.specs.Machines.Deliver.{at_stage, target, delivery_effect, stage_left, delivery_left}
 use Rattle.md_core.specs.Stepping.{AsAlone}
@@ -117,7 +117,7 @@ module _ (s s' : State) (number : ℕ) (asked : Call) (d : Delivery) (one : HasO
       ∙ (λ i. finmap.insert (mailbox_of s) (fits.name.plain i) (record { folder = d.tmp.folder; place = New; info = fits.name.bare i; bytes = bytes i }))
 
   renamed : (n : ℕ) → Puts s s' (target d) n → bytes_at s' n ≡ d.body →
-      names_of (mailbox_of s') ≡ changed (names_of (mailbox_of s)) (delivery_effect number d).change
+      names_of (mailbox_of s') ≡ names_after_change (names_of (mailbox_of s)) (delivery_effect number d).change
   renamed n puts bytes =
       ap names_of (added n puts bytes) ∙ names-insert (mailbox_of s) d.tmp.name message
       ∙ ap (λ (u : List ℕ). finmap.insert (names_of (mailbox_of s)) u
@@ -127,7 +127,7 @@ module _ (s s' : State) (number : ℕ) (asked : Call) (d : Delivery) (one : HasO
       AsAlone asked (Some (delivery_effect number d)) (mailbox_of s) (mailbox_of s')
   as_alone n puts bytes none =
       ap (λ (c : Call). alone c (mailbox_of s)) fits.of
-      ∙ ap (delivered (mailbox_of s) d.tmp.folder d.tmp.name d.body) (no_entry none _ refl)
+      ∙ ap (deliver_alone (mailbox_of s) d.tmp.folder d.tmp.name d.body) (no_entry none _ refl)
       ∙ sym (λ i. record { answer = answer.Delivered; after = added n puts bytes i })
 
   -- it takes effect: the message is in new

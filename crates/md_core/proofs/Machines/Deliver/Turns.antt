@@ -86,9 +86,9 @@ module _ (s : State) (number : ℕ) (asked : Call) (at : Moment) (sound : IsSoun
     fails_now made r a failure none = fails s s number asked x one fits made r a (quiet-stays s d.tmp.name sound) none refl failure (omega arith)
 
     append-done : (n : ℕ) → file_at s d.tmp ≡ Some n → k < length d.body →
-        Does s (dirs.appended (piece d k) at.clock s (Some n)) number asked (Deliver x) (append d.tmp (piece d k)) reply.Ok with_piece
+        Does s (dirs.after_append (piece d k) at.clock s (Some n)) number asked (Deliver x) (append d.tmp (piece d k)) reply.Ok with_piece
     append-done n here more =
-        let s' = dirs.appended (piece d k) at.clock s (Some n) in
+        let s' = dirs.after_append (piece d k) at.clock s (Some n) in
         let longer : IsAlone s' d.tmp (take k d.body ++ piece d k) =
         append-alone s d.tmp at.clock (piece d k) (take k d.body) n fits.in_tmp sound here fits.stage.2 in
         goes-on s s' number asked x one fits _ _ (Writing start (k + piece_len d k))
@@ -100,7 +100,7 @@ module _ (s : State) (number : ℕ) (asked : Call) (at : Moment) (sound : IsSoun
         DoesBy s number asked x at.clock (append_turn x start k) r
     append-does more reply.Ok replied =
         let here = there (file_at s d.tmp) None NotFound (accepted _ faulted (sym replied)) in
-        subst (λ (o : Option ℕ). Does s (dirs.appended (piece d k) at.clock s o) number asked (Deliver x)
+        subst (λ (o : Option ℕ). Does s (dirs.after_append (piece d k) at.clock s o) number asked (Deliver x)
         (append d.tmp (piece d k)) reply.Ok with_piece) (sym here.1)
         (append-done here.0 here.1 more)
     append-does more reply.Exists replied = fails_now _ _ answer.Fault refl refl
@@ -108,7 +108,7 @@ module _ (s : State) (number : ℕ) (asked : Call) (at : Moment) (sound : IsSoun
     append-does more reply.Fault replied = undoes _ _ answer.Fault refl refl
 
     link-done : (n : ℕ) → d.tmp.folder < s.folders → file_at s d.tmp ≡ Some n → take k d.body ≡ d.body →
-        Does s (dirs.named (target d) s (Some n)) number asked (Deliver x) (link d.tmp (target d)) reply.Ok with_message
+        Does s (dirs.with_path (target d) s (Some n)) number asked (Deliver x) (link d.tmp (target d)) reply.Ok with_message
     link-done n within here whole =
         let alone : IsAlone s d.tmp d.body = subst (λ (bytes : List ℕ). IsAlone s d.tmp bytes) whole fits.stage.2 in
         takes-effect s _ number asked x one fits _ _ n
@@ -120,7 +120,7 @@ module _ (s : State) (number : ℕ) (asked : Call) (at : Moment) (sound : IsSoun
         DoesBy s number asked x at.clock (link_turn number x) r
     link-does whole reply.Ok replied =
         let here = there (file_at s d.tmp) _ NotFound (accepted _ faulted (sym replied)) in
-        subst (λ (o : Option ℕ). Does s (dirs.named (target d) s o) number asked (Deliver x) (link d.tmp (target d)) reply.Ok with_message) (sym here.1)
+        subst (λ (o : Option ℕ). Does s (dirs.with_path (target d) s o) number asked (Deliver x) (link d.tmp (target d)) reply.Ok with_message) (sym here.1)
         (link-done here.0 fits.in_folder here.1 whole)
     link-does whole reply.Exists replied = undoes _ _ answer.NameTaken refl refl
     link-does whole reply.NotFound replied = fails_now _ _ answer.TmpGone refl refl

@@ -5,7 +5,7 @@ use Rattle.std.specs.FinMap as finmap
 use Rattle.std.specs.FinMap.{get}
 use Rattle.std.specs.FinSet as set
 use Rattle.md_dirs.specs.State.{State, IsSound, file_at}
-use Rattle.md_dirs.specs.Calls.{without}
+use Rattle.md_dirs.specs.Calls.{after_unlink}
 use Rattle.md_dirs.specs.declared.paths.Path.{Path}
 use Rattle.md_dirs.specs.declared.paths.Place.TheVariants.{Cur}
 use Rattle.md_name.specs.Letters.{Set}
@@ -17,8 +17,8 @@ use Rattle.md_core.specs.declared.jobs.expunging.Stage.TheVariants.{Act}
 use Rattle.md_core.specs.declared.jobs.step.DirReply.TheVariants as reply
 use Rattle.md_core.specs.declared.jobs.task.Task.TheVariants.{Expunge}
 use Rattle.md_core.specs.Mailbox.{mailbox_of, entry_of, is_message, HasOnePath}
-use Rattle.md_core.specs.Alone.{alone, expunged, expunge_by, refused, such, is_in_place}
-use Rattle.md_core.specs.History.{names_of, changed}
+use Rattle.md_core.specs.Alone.{alone, expunge_alone, expunge_by, refuse, entry_if, is_in_place}
+use Rattle.md_core.specs.History.{names_of, names_after_change}
 use Rattle.md_core.specs.Asked.{unlink}
 use Rattle.md_core.specs.Machines.Expunge.{at_stage, source, has_trashed, is_trashed, expunging_effect}
 use Rattle.md_core.specs.Stepping.{AsAlone}
@@ -54,7 +54,7 @@ module _ (s : State) (number : ℕ) (asked : Call) (x : Expunging) (name : List 
   u = unique_of name
 
   abbrev s' : State
-  s' = without o s
+  s' = after_unlink o s
 
   message : is_message o ≡ true
   message = fits.stage.0
@@ -72,21 +72,21 @@ module _ (s : State) (number : ℕ) (asked : Call) (x : Expunging) (name : List 
   after : mailbox_of s' ≡ finmap.remove (mailbox_of s) u
   after = mailbox-drops s s' u one (remove-drops s o k one message at)
 
-  in_cur : such (is_in_place Cur x.folder) (get (mailbox_of s) u) ≡ Some (entry_of s o k)
+  in_cur : entry_if (is_in_place Cur x.folder) (get (mailbox_of s) u) ≡ Some (entry_of s o k)
   in_cur =
-      ap (such (is_in_place Cur x.folder)) before
+      ap (entry_if (is_in_place Cur x.folder)) before
       ∙ ap (λ b. cond b (Some (entry_of s o k)) None) (eq-eqb x.folder x.folder refl)
 
   effect-alone : AsAlone asked (Some (expunging_effect number o)) (mailbox_of s) (mailbox_of s')
   effect-alone =
       ap (λ (c : Call). alone c (mailbox_of s)) fits.of
-      ∙ (λ i. expunged (mailbox_of s) (sym fits.stage.1 i) (such (is_in_place Cur x.folder) (get (mailbox_of s) (sym fits.stage.1 i))))
-      ∙ ap (expunged (mailbox_of s) u) in_cur
+      ∙ (λ i. expunge_alone (mailbox_of s) (sym fits.stage.1 i) (entry_if (is_in_place Cur x.folder) (get (mailbox_of s) (sym fits.stage.1 i))))
+      ∙ ap (expunge_alone (mailbox_of s) u) in_cur
       ∙ ap (expunge_by (mailbox_of s) u) shown.1
-      ∙ ap (λ b. cond b (record { answer = answer.Expunged; after = finmap.remove (mailbox_of s) u }) (refused answer.NotTrashed (mailbox_of s))) shown.2
+      ∙ ap (λ b. cond b (record { answer = answer.Expunged; after = finmap.remove (mailbox_of s) u }) (refuse answer.NotTrashed (mailbox_of s))) shown.2
       ∙ sym (λ i. record { answer = answer.Expunged; after = after i })
 
-  changes : names_of (mailbox_of s') ≡ changed (names_of (mailbox_of s)) (expunging_effect number o).change
+  changes : names_of (mailbox_of s') ≡ names_after_change (names_of (mailbox_of s)) (expunging_effect number o).change
   changes = ap names_of after ∙ names-remove (mailbox_of s) u
 
   pub unlink-does : Does s s' number asked (Expunge y) (unlink o) reply.Ok

@@ -5,7 +5,7 @@ use Rattle.std.specs.FinMap as finmap
 use Rattle.std.specs.FinSet as set
 use Rattle.std.proofs.lemmas.Bool.{and_from, eq-eqb}
 use Rattle.md_dirs.specs.State.{State, IsSound, file_at}
-use Rattle.md_dirs.specs.Calls.{moved}
+use Rattle.md_dirs.specs.Calls.{after_rename}
 use Rattle.md_dirs.specs.Path.{place_index}
 use Rattle.md_dirs.specs.declared.paths.Path.{Path}
 use Rattle.md_dirs.specs.declared.paths.Place.{Place}
@@ -25,8 +25,8 @@ use Rattle.md_core.specs.declared.jobs.step.DirReply.{DirReply}
 use Rattle.md_core.specs.declared.jobs.step.DirReply.TheVariants as reply
 use Rattle.md_core.specs.declared.jobs.task.Task.TheVariants.{Mark}
 use Rattle.md_core.specs.Mailbox.{Entry, Mailbox, mailbox_of, entry_of, is_message, is_tmp, HasOnePath}
-use Rattle.md_core.specs.Alone.{Outcome, alone, seen, seen_by, flag, flag_by, such, is_in_place, flags_in, info_with, refused}
-use Rattle.md_core.specs.History.{Listed, listed, names_of, name_of, changed, size_in, IsThere, ShowsFlags, MayGetFlags}
+use Rattle.md_core.specs.Alone.{Outcome, alone, seen_alone, seen_by, flag_alone, flag_by, entry_if, is_in_place, flags_in, info_with, refuse}
+use Rattle.md_core.specs.History.{Listed, as_listed, names_of, name_of, names_after_change, size_in, IsThere, ShowsFlags, MayGetFlags}
 use Rattle.md_core.specs.Asked.{Asked, list, rename}
 use Rattle.md_core.specs.Machines.Mark.{at_stage, source, target, place_by, wanted, is_kept, renamed, kept, stage_left, marking_left}
 use Rattle.md_core.specs.Stepping.{AsAlone}
@@ -101,15 +101,15 @@ module _ (box : Mailbox) (folder : ℕ) (u : List ℕ) (e : Entry) (had : Set) (
   -- a message that is renamed
   alone-marks : (k : marks.Mark) (tries : ℕ) → e.place ≡ place_by k → is_kept k had ≡ false → alone (call_by folder u k tries) box ≡ marked (wanted k had)
   alone-marks (Seen given) tries place changes =
-      ap (λ (o : Option Entry). seen box u given (such (is_in_place New folder) o)) at
-      ∙ ap (λ b. seen box u given (cond b (Some e) None)) (in_place New folder e inside place)
+      ap (λ (o : Option Entry). seen_alone box u given (entry_if (is_in_place New folder) o)) at
+      ∙ ap (λ b. seen_alone box u given (cond b (Some e) None)) (in_place New folder e inside place)
       ∙ ap (seen_by box u given e) shows
   alone-marks (Flag add remove) tries place changes =
       let flags : Set = wanted (Flag add remove) had in
-      ap (λ (o : Option Entry). flag box u add remove (such (is_in_place Cur folder) o)) at
-      ∙ ap (λ b. flag box u add remove (cond b (Some e) None)) (in_place Cur folder e inside place)
+      ap (λ (o : Option Entry). flag_alone box u add remove (entry_if (is_in_place Cur folder) o)) at
+      ∙ ap (λ b. flag_alone box u add remove (cond b (Some e) None)) (in_place Cur folder e inside place)
       ∙ ap (flag_by box u add remove e) shows
-      ∙ ap (λ b. cond {A = Outcome} b (refused (answer.Flags flags) box)
+      ∙ ap (λ b. cond {A = Outcome} b (refuse (answer.Flags flags) box)
       (record {
         answer = answer.Flags flags;
         after = finmap.insert box u (record { folder = e.folder; place = e.place; info = info_with flags; bytes = e.bytes });
@@ -121,14 +121,14 @@ module _ (box : Mailbox) (folder : ℕ) (u : List ℕ) (e : Entry) (had : Set) (
 
   -- a message that keeps its name
   alone-keeps : (k : marks.Mark) (tries : ℕ) → e.place ≡ place_by k → is_kept k had ≡ true →
-      alone (call_by folder u k tries) box ≡ refused (answer.Flags (wanted k had)) box
+      alone (call_by folder u k tries) box ≡ refuse (answer.Flags (wanted k had)) box
   alone-keeps (Seen given) tries place is = cc
   alone-keeps (Flag add remove) tries place is =
       let flags : Set = wanted (Flag add remove) had in
-      ap (λ (o : Option Entry). flag box u add remove (such (is_in_place Cur folder) o)) at
-      ∙ ap (λ b. flag box u add remove (cond b (Some e) None)) (in_place Cur folder e inside place)
+      ap (λ (o : Option Entry). flag_alone box u add remove (entry_if (is_in_place Cur folder) o)) at
+      ∙ ap (λ b. flag_alone box u add remove (cond b (Some e) None)) (in_place Cur folder e inside place)
       ∙ ap (flag_by box u add remove e) shows
-      ∙ ap (λ b. cond {A = Outcome} b (refused (answer.Flags flags) box)
+      ∙ ap (λ b. cond {A = Outcome} b (refuse (answer.Flags flags) box)
       (record {
         answer = answer.Flags flags;
         after = finmap.insert box u (record { folder = e.folder; place = e.place; info = info_with flags; bytes = e.bytes });
@@ -199,7 +199,7 @@ module _ (s : State) (number : ℕ) (asked : Call) (m : Marking) (sound : IsSoun
 
     is_listed : finmap.get (names_of (mailbox_of s)) (unique_of name) ≡ Some
         (record { folder = m.folder; place = place_by m.mark; name = name; size = length entry.bytes })
-    is_listed = get-names (mailbox_of s) (unique_of name) ∙ ap (λ (o : Option Entry). option_map (listed (unique_of name)) o) (in_mailbox (unique_of name) refl)
+    is_listed = get-names (mailbox_of s) (unique_of name) ∙ ap (λ (o : Option Entry). option_map (as_listed (unique_of name)) o) (in_mailbox (unique_of name) refl)
         ∙ ap (λ (x : List ℕ). Some (record { folder = m.folder; place = place_by m.mark; name = x; size = length entry.bytes })) (whole-name name)
 
     is_there : IsThere (names_of (mailbox_of s)) m.folder (place_by m.mark) name
@@ -245,7 +245,7 @@ module _ (s : State) (number : ℕ) (asked : Call) (m : Marking) (sound : IsSoun
     -- it is renamed, and has the flags then
     module _ (flags : Set) (wants : flags ≡ wanted m.mark had) (changes : is_kept m.mark had ≡ false) where
       abbrev pub s' : State
-      s' = moved (source m name) (target m flags) s
+      s' = after_rename (source m name) (target m flags) s
 
       part : IsUniquePart m.unique
       part = unique-part m.unique fits.valid
@@ -276,7 +276,7 @@ module _ (s : State) (number : ℕ) (asked : Call) (m : Marking) (sound : IsSoun
       sized : length entry.bytes ≡ size_in (names_of (mailbox_of s)) (unique_of name)
       sized = sym (ap (λ (o : Option Listed). option_map_or (λ (x : Listed). x.size) o 0) is_listed)
 
-      renames : names_of (mailbox_of s') ≡ changed (names_of (mailbox_of s)) (renamed number flags (source m name) (target m flags)).change
+      renames : names_of (mailbox_of s') ≡ names_after_change (names_of (mailbox_of s)) (renamed number flags (source m name) (target m flags)).change
       renames = ap names_of boxed ∙ names-insert (mailbox_of s) m.unique after_entry
           ∙ (λ i. finmap.insert (names_of (mailbox_of s)) (sym new_unique i) (record { folder = m.folder; place = Cur; name = spelled i; size = sized i }))
           ∙ sym (put_again (names_of (mailbox_of s)) (unique_of name) (unique_of (flagged m.unique flags)) _ (unique ∙ sym new_unique))

@@ -7,7 +7,7 @@ use Rattle.std.proofs.lemmas.List.Folds.{list_any-append}
 use Rattle.std.proofs.lemmas.Cmp.{nat_list_cmp_total}
 use Rattle.std.proofs.lemmas.Map.Lookups.{exact_bytes}
 use Rattle.md_dirs.specs.State.{State, IsSound, file_at}
-use Rattle.md_dirs.specs.Calls.{moved, named, unnamed, swept, is_one_file}
+use Rattle.md_dirs.specs.Calls.{after_rename, with_path, without_path, with_files_still_named, is_one_file}
 use Rattle.md_dirs.specs.declared.paths.Path.{Path}
 use Rattle.lists.proofs.Maps as maps
 use Rattle.md_dirs.proofs.Sound.{by_path}
@@ -49,12 +49,12 @@ module _ (s : State) (o n : Path) (k : ℕ) (sound : IsSound s) (one : HasOnePat
         };
       }
 
-  moved-itself : o ≡ n → moved o n s ≡ s
+  moved-itself : o ≡ n → after_rename o n s ≡ s
   moved-itself is =
       let one_file : is_one_file (file_at s o) (file_at s n) ≡ true = (λ i. is_one_file (at i) ((ap (file_at s) (sym is) ∙ at) i)) ∙ eq-eqb k k refl in
-      ap (λ b. cond b s (swept (file_at s n) (named n (unnamed o s) (file_at s o)))) one_file
+      ap (λ b. cond b s (with_files_still_named (file_at s n) (with_path n (without_path o s) (file_at s o)))) one_file
 
-  pub moves : Moves s (moved o n s) n k
+  pub moves : Moves s (after_rename o n s) n k
   moves = by_path o n
       (λ is. subst (λ (x : State). Moves s x n k) (sym (moved-itself is)) (stays is))
       (λ differ. subst (λ (x : State). Moves s x n k) (sym (moved-is s o n k one mo mn same differ at)) (record {

@@ -16,8 +16,8 @@ use Rattle.md_core.specs.declared.jobs.search.Stage.TheVariants.{Act}
 use Rattle.md_core.specs.declared.jobs.step.DirReply.TheVariants as reply
 use Rattle.md_core.specs.declared.jobs.task.Task.TheVariants.{Move}
 use Rattle.md_core.specs.Mailbox.{mailbox_of, entry_of, is_message, HasOnePath}
-use Rattle.md_core.specs.Alone.{alone, moved, such, is_in_folder}
-use Rattle.md_core.specs.History.{names_of, changed, listed}
+use Rattle.md_core.specs.Alone.{alone, move_alone, entry_if, is_in_folder}
+use Rattle.md_core.specs.History.{names_of, names_after_change, as_listed}
 use Rattle.md_core.specs.Asked.{rename}
 use Rattle.md_core.specs.Machines.Move.{at_stage, source, target, moving_effect}
 use Rattle.md_core.specs.Stepping.{AsAlone}
@@ -67,21 +67,21 @@ module _ (s : State) (number : ℕ) (asked : Call) (m : Moving) (place : Place) 
   after : mailbox_of s' ≡ finmap.insert (mailbox_of s) u (entry_of s' n k)
   after = mailbox-puts s s' n k one puts
 
-  in_folder : such (is_in_folder m.folder) (get (mailbox_of s) u) ≡ Some (entry_of s o k)
+  in_folder : entry_if (is_in_folder m.folder) (get (mailbox_of s) u) ≡ Some (entry_of s o k)
   in_folder =
-      ap (such (is_in_folder m.folder)) before
+      ap (entry_if (is_in_folder m.folder)) before
       ∙ ap (λ b. cond b (Some (entry_of s o k)) None) (eq-eqb m.folder m.folder refl)
 
   effect-alone : AsAlone asked (Some (moving_effect number o n)) (mailbox_of s) (mailbox_of s')
   effect-alone =
       ap (λ (c : Call). alone c (mailbox_of s)) fits.of
-      ∙ (λ i. moved (mailbox_of s) (sym fits.stage.2 i) m.to (such (is_in_folder m.folder) (get (mailbox_of s) (sym fits.stage.2 i))))
-      ∙ ap (moved (mailbox_of s) u m.to) in_folder
+      ∙ (λ i. move_alone (mailbox_of s) (sym fits.stage.2 i) m.to (entry_if (is_in_folder m.folder) (get (mailbox_of s) (sym fits.stage.2 i))))
+      ∙ ap (move_alone (mailbox_of s) u m.to) in_folder
       ∙ sym (λ i. record { answer = answer.Moved; after = after i })
 
-  changes : names_of (mailbox_of s') ≡ changed (names_of (mailbox_of s)) (moving_effect number o n).change
+  changes : names_of (mailbox_of s') ≡ names_after_change (names_of (mailbox_of s)) (moving_effect number o n).change
   changes =
-      ap names_of after ∙ names-insert (mailbox_of s) u (entry_of s' n k) ∙ put-again (names_of (mailbox_of s)) u (listed u (entry_of s' n k))
+      ap names_of after ∙ names-insert (mailbox_of s) u (entry_of s' n k) ∙ put-again (names_of (mailbox_of s)) u (as_listed u (entry_of s' n k))
       ∙ ap (finmap.insert (finmap.remove (names_of (mailbox_of s)) u) u) (listed-entry s' n k)
       ∙ ap (λ size. finmap.insert (finmap.remove (names_of (mailbox_of s)) u) u (record { folder = m.to; place = place; name = row.name; size = size }))
       (sym (size-there (mailbox_of s) s o k before))
@@ -110,7 +110,7 @@ module _ (s : State) (number : ℕ) (asked : Call) (m : Moving) (place : Place) 
     fixed = λ is a b. refl;
   }
 
-  pub rename-does : Does s (dirs.moved o n s) number asked (Move x) (rename o n) reply.Ok
+  pub rename-does : Does s (dirs.after_rename o n s) number asked (Move x) (rename o n) reply.Ok
       (record { task = Move x; answer = Some answer.Moved; effect = Some (moving_effect number o n) })
   rename-does = subst (λ (t : State). Does s t number asked (Move x) (rename o n) reply.Ok
       (record { task = Move x; answer = Some answer.Moved; effect = Some (moving_effect number o n) }))

@@ -1,5 +1,5 @@
 use Rattle.std.proofs.Common.{◌≡◌, ◌+◌, ◌-◌, ◌++◌, ◌∙◌, length, get_or, take, drop, ap, sym}
-use Rattle.md_script.specs.Escapes.{escape, escaped}
+use Rattle.md_script.specs.Escapes.{escape, escape_all}
 use Rattle.md_script.proofs.Printing.{escaped_none, escaped_at, turned, left_over}
 use Rattle.md_script.proofs.escapes.push_escaped.Goals as goal
 
@@ -12,7 +12,7 @@ loop-at-preserved c =
     let items : c.extend_from_slice-in-Some.new.self.items ≡ (c.loop-at.out.items ++ take c.in-Some.at c.loop-at.left.now) ++ escape
     (get_or c.loop-at.left.now c.in-Some.at 0) =
     second ∙ (λ i. first i ++ here i) in
-    ap (λ t. t ++ escaped (take (length c.loop-at.left.now - (c.in-Some.at + 1)) (drop (c.in-Some.at + 1) c.loop-at.left.now))) items
+    ap (λ t. t ++ escape_all (take (length c.loop-at.left.now - (c.in-Some.at + 1)) (drop (c.in-Some.at + 1) c.loop-at.left.now))) items
     ∙ turned _ _ _ _ _ _ step c.loop-at.invariant
 
 pub returns : goal.returns

@@ -3,17 +3,17 @@ use Rattle.std.specs.Option.{option_map}
 use Rattle.md_core.specs.declared.jobs.answer.Answer.{Answer}
 use Rattle.md_core.specs.declared.jobs.answer.Answer.TheVariants.{TmpGone}
 use Rattle.md_core.specs.declared.jobs.step.StepOut.{StepOut}
-use Rattle.md_core.specs.Machine.{Marked, done, step_out}
+use Rattle.md_core.specs.Machine.{Occurrence, step_of, step_out}
 use Rattle.md_core.specs.Runs.{Run, machine_of, and_event}
 use Rattle.md_core.specs.Trace.{Step, IsAnswered}
 use Rattle.md_core.specs.Tracing.{trace_of, HasOneClock}
-use Rattle.md_script.specs.Sessions.{unfaulted}
+use Rattle.md_script.specs.Sessions.{without_fault}
 use Rattle.md_script.proofs.laws.one_clock_prints_no_tmpgone.Goals as goal
 
 -- events without a moment of their own, and one more
-pushed : (es : List Marked) (e : Marked) → ((k : ℕ) (x : Marked) → slice_get es k ≡ Some x → x.event.own ≡ None) → e.event.own ≡ None
-    → (k : ℕ) (x : Marked) → slice_get (es ++ e ∷ []) k ≡ Some x → x.event.own ≡ None
-pushed [] e all own zero x is = let same : e ≡ x = cc in ap (λ (m : Marked). m.event.own) (sym same) ∙ own
+pushed : (es : List Occurrence) (e : Occurrence) → ((k : ℕ) (x : Occurrence) → slice_get es k ≡ Some x → x.event.own ≡ None) → e.event.own ≡ None
+    → (k : ℕ) (x : Occurrence) → slice_get (es ++ e ∷ []) k ≡ Some x → x.event.own ≡ None
+pushed [] e all own zero x is = let same : e ≡ x = cc in ap (λ (m : Occurrence). m.event.own) (sym same) ∙ own
 pushed [] e all own (suc k) x is = cc
 pushed (y ∷ es) e all own zero x is = all zero x is
 pushed (y ∷ es) e all own (suc k) x is = pushed es e (λ j z at. all (suc j) z at) own k x is
@@ -37,20 +37,20 @@ answered r r' x a grown is = record {
 
 pub returns : goal.returns
 returns c r run one event own goes =
-    let e = unfaulted event in
+    let e = without_fault event in
     let r' = and_event r e in
     let later = c.a_run_goes_on.ensures r run e goes in
     let clocks : HasOneClock r' = pushed r.events e one own in
     let spares = c.cleaners_spare_deliveries.ensures r' later 0 (omega arith) (c.one_clock_is_not_apart.ensures r' later clocks) in
-    let gone = (λ (out : StepOut) (shown : option_map step_out (done (machine_of r) e) ≡ Some out) (is : out.answer ≡ Some TmpGone).
-    never (done (machine_of r) e) (λ x at. c.traces_grow_by_what_happens.ensures r e x at) spares.never_gone out shown is) in
+    let gone = (λ (out : StepOut) (shown : option_map step_out (step_of (machine_of r) e) ≡ Some out) (is : out.answer ≡ Some TmpGone).
+    never (step_of (machine_of r) e) (λ x at. c.traces_grow_by_what_happens.ensures r e x at) spares.never_gone out shown is) in
     record { run = later; one_clock = clocks; never_gone = gone }
   where
     never : (o : Option Step) →
-        ((x : Step) → o ≡ Some x → (trace_of (and_event r (unfaulted event))).steps ≡ (trace_of r).steps ++ x ∷ []) →
-        ((job : ℕ) → IsAnswered (trace_of (and_event r (unfaulted event))) job TmpGone → ⊥) →
+        ((x : Step) → o ≡ Some x → (trace_of (and_event r (without_fault event))).steps ≡ (trace_of r).steps ++ x ∷ []) →
+        ((job : ℕ) → IsAnswered (trace_of (and_event r (without_fault event))) job TmpGone → ⊥) →
         (out : StepOut) → option_map step_out o ≡ Some out → out.answer ≡ Some TmpGone → ⊥
     never None grown spared out shown is = cc
     never (Some x) grown spared out shown is =
         let same : step_out x ≡ out = cc in
-        spared x.job (answered r (and_event r (unfaulted event)) x TmpGone (grown x refl) (ap (λ (s : StepOut). s.answer) same ∙ is))
+        spared x.job (answered r (and_event r (without_fault event)) x TmpGone (grown x refl) (ap (λ (s : StepOut). s.answer) same ∙ is))

@@ -5,7 +5,7 @@ use Rattle.md_core.specs.declared.jobs.step.Event.{Event}
 use Rattle.md_core.specs.declared.jobs.step.Moment.{Moment}
 use Rattle.md_core.specs.Asked.{is_fault}
 use Rattle.md_core.specs.Turn.{device}
-use Rattle.md_core.specs.Machine.{Machine, Marked, marked, job_at}
+use Rattle.md_core.specs.Machine.{Machine, Occurrence, occurrence, job_at}
 use Rattle.md_core.specs.Standing.{TakesTurn}
 use Rattle.md_core.specs.Runs.{Run, jobs_of, and_event, step_refusal, steps_left}
 use Rattle.md_core.specs.Worlds.{run_of}
@@ -74,7 +74,7 @@ returns-clause-event g c =
     ∙ run-after first s.jobs.items s.log.events.items s.log.marks.items held s.clock s.log.effects.items s.used event c.in_ok-at.at place.0
     c.index_mut.result.now there
     out c.in_ok-turned.turned.effect c.turn.new.self held' c.self.invariant turned
-    ∙ ap (λ (r : Run). and_event r (marked c.args.job c.args.now c.args.own (is_fault out.reply))) c.self.view_is
+    ∙ ap (λ (r : Run). and_event r (occurrence c.args.job c.args.now c.args.own (is_fault out.reply))) c.self.view_is
 
 pub returns-clause-theorem : goal.returns-clause-theorem
 returns-clause-theorem g c = interleaves _ (invariant_of-self-2 g c).run
@@ -98,7 +98,7 @@ returns-clause-shows g c =
     let goes : step_refusal (job_at (jobs_of (run_of first s.jobs.items s.log.events.items s.log.marks.items)) c.args.job) ≡ None =
     ap (λ (m : Machine). step_refusal (job_at m.jobs c.args.job)) (sym c.self.invariant.now) ∙
     rw c.deref.ensures.value at c.in_ok-at.ensures.refused in
-    let what : Marked = marked c.args.job c.args.now c.args.own (is_fault out.reply) in
+    let what : Occurrence = occurrence c.args.job c.args.now c.args.own (is_fault out.reply) in
     let shown = shows each-turn (run_of first s.jobs.items s.log.events.items s.log.marks.items) c.self.invariant.run what goes out
     (step-shown first s.jobs.items s.log.events.items s.log.marks.items held s.clock s.log.effects.items s.used event c.in_ok-at.at place.0
     c.index_mut.result.now there
@@ -109,7 +109,7 @@ returns-clause-shows g c =
 -- what is shown is the step by which the trace grows
 pub returns-clause-trace : goal.returns-clause-trace
 returns-clause-trace g c =
-    let what : Marked = marked c.args.job c.args.now c.args.own (is_fault c.in_ok-turned.turned.out.reply) in
+    let what : Occurrence = occurrence c.args.job c.args.now c.args.own (is_fault c.in_ok-turned.turned.out.reply) in
     subst (λ (x : Run). GrowsByStep (trace_of c.args.self.now) (trace_of x) c.args.job c.in_ok-turned.turned.out) (sym (returns-clause-event g c))
     (grows-by-step c.args.self.now what c.in_ok-turned.turned.out
     (subst (λ (x : Run). ShowsStep c.args.self.now x what c.in_ok-turned.turned.out) (returns-clause-event g c) (returns-clause-shows g c)))
@@ -134,7 +134,7 @@ returns-clause-success g c =
     let goes : step_refusal (job_at (jobs_of r) c.args.job) ≡ None =
     ap (λ (m : Machine). step_refusal (job_at m.jobs c.args.job)) (sym c.self.invariant.now) ∙
     rw c.deref.ensures.value at c.in_ok-at.ensures.refused in
-    let what : Marked = marked c.args.job c.args.now c.args.own (is_fault out.reply) in
+    let what : Occurrence = occurrence c.args.job c.args.now c.args.own (is_fault out.reply) in
     let is : _ ≡ and_event r what = returns-clause-event g c ∙ ap (λ (x : Run). and_event x what) (sym c.self.view_is) in
     let later : IsRun (and_event r what) = subst (λ (x : Run). IsRun x) is (invariant_of-self-2 g c).run in
     let theorem = run-law each-turn (and_event r what) later in
@@ -149,7 +149,7 @@ pub returns-clause-nearer : goal.returns-clause-nearer
 returns-clause-nearer g c =
     let s = c.self.inside in
     let n = c.args.job in
-    let what = marked n c.args.now c.args.own (is_fault c.in_ok-turned.turned.out.reply) in
+    let what = occurrence n c.args.now c.args.own (is_fault c.in_ok-turned.turned.out.reply) in
     let r = run_of (device (g.D.Dirs.state s.image.value) (g.D.Dirs.failures s.image.value) (g.D.Dirs.calls s.image.value)) s.jobs.items
     s.log.events.items s.log.marks.items in
     let goes : step_refusal (job_at (jobs_of r) n) ≡ None = ap (λ (m : Machine). step_refusal (job_at m.jobs n)) (sym c.self.invariant.now) ∙
@@ -161,7 +161,7 @@ pub returns-clause-others : goal.returns-clause-others
 returns-clause-others g c =
     let s = c.self.inside in
     let n = c.args.job in
-    let what = marked n c.args.now c.args.own (is_fault c.in_ok-turned.turned.out.reply) in
+    let what = occurrence n c.args.now c.args.own (is_fault c.in_ok-turned.turned.out.reply) in
     let r = run_of (device (g.D.Dirs.state s.image.value) (g.D.Dirs.failures s.image.value) (g.D.Dirs.calls s.image.value)) s.jobs.items
     s.log.events.items s.log.marks.items in
     let goes : step_refusal (job_at (jobs_of r) n) ≡ None = ap (λ (m : Machine). step_refusal (job_at m.jobs n)) (sym c.self.invariant.now) ∙

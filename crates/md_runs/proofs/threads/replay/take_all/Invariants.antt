@@ -1,5 +1,5 @@
-use Rattle.md_runs.specs.Threading.{GoesOn}
+use Rattle.md_runs.specs.Threading.{RunsOn}
 use Rattle.md_runs.proofs.threads.replay.take_all.Given as goal
 
 abbrev pub invariant-loop-event : goal.invariant-loop-event
-invariant-loop-event g l = GoesOn l.fn.world l.world
+invariant-loop-event g l = RunsOn l.fn.world l.world

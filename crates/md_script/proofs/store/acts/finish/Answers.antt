@@ -1,5 +1,5 @@
 use Rattle.std.proofs.Common.{◌++◌, ◌∙◌, ap, sym, is_some, append_assoc}
-use Rattle.md_script.specs.Sessions.{finished}
+use Rattle.md_script.specs.Sessions.{finish_in}
 use Rattle.md_script.proofs.Acts.{passes}
 use Rattle.md_script.proofs.Finishing.{finishes-start, finishes-more, finishes-end, finishes-unrefused, finishes-refused}
 use Rattle.md_script.proofs.store.acts.finish.Goals as goal
@@ -34,12 +34,12 @@ returns-in_err-step-clause-finish g c =
 
 pub returns-in_err-step-2-clause-finish : goal.returns-in_err-step-2-clause-finish
 returns-in_err-step-2-clause-finish g c =
-    passes (finished c.args.world.now c.args.event) c.step-in-loop-alloc.new.world c.args.out.now.items c.step-in-loop-alloc.new.out.items
+    passes (finish_in c.args.world.now c.args.event) c.step-in-loop-alloc.new.world c.args.out.now.items c.step-in-loop-alloc.new.out.items
     c.in_err-step-2.field-0.0 _
     c.from_residual-in_err-step-2.ensures.1
     (finishes-unrefused c.args.world.now c.args.event c.loop-alloc.world c.loop-alloc.invariant.0 c.loop-alloc.invariant.2
     (ap is_some (sym c.answer.ensures) ∙ c.loop-alloc-test.ensures)
-    (finished c.args.world.now c.args.event) c.step-in-loop-alloc.new.world c.step-in-loop-alloc.new.world c.loop-alloc.out.items c.args.out.now.items
+    (finish_in c.args.world.now c.args.event) c.step-in-loop-alloc.new.world c.step-in-loop-alloc.new.world c.loop-alloc.out.items c.args.out.now.items
     c.step-in-loop-alloc.new.out.items
     c.in_err-step-2.field-0.0 c.in_err-step-2.ensures.step)
 

@@ -1,10 +1,10 @@
-use Rattle.md_script.specs.Sessions.{submitted}
+use Rattle.md_script.specs.Sessions.{submit_in}
 use Rattle.md_script.proofs.Acts.{refuses, submitted-ok}
 use Rattle.md_script.proofs.Waits.{waits-unchanged, waits-call}
 use Rattle.md_script.proofs.store.acts.submit.Goals as goal
 
 pub returns-in_err-job : goal.returns-in_err-job
-unfolding submitted
+unfolding submit_in
 returns-in_err-job g c = record {
   submit = refuses _ _ _ _ _ _ c.in_err-job.ensures.refused c.from_residual.ensures.1;
   waits = waits-unchanged _ _ c.in_err-job.ensures.unchanged;

@@ -2,10 +2,10 @@ use Rattle.std.proofs.Common.{List, sym, subst}
 use Rattle.md_dirs.specs.declared.paths.Place.TheVariants.{New}
 use Rattle.md_view.specs.declared.entry.Entry.{Entry}
 use Rattle.md_view.specs.Readings.{IsInOrder}
-use Rattle.md_store.specs.Histories.{led}
+use Rattle.md_store.specs.Histories.{named_after}
 use Rattle.md_store.proofs.Good.{reading-in_order}
 use Rattle.md_store.proofs.pass.Pass.first.Goals as goal
 
 pub new-requires : goal.new-requires
 new-requires g c = subst (λ (es : List Entry). IsInOrder es) (sym c.in_ok-entries.ensures.entries)
-    (reading-in_order (led g.J.Naming.opening c.read.new.self).names c.args.folder New)
+    (reading-in_order (named_after g.J.Naming.opening c.read.new.self).names c.args.folder New)

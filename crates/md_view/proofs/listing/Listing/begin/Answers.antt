@@ -3,7 +3,7 @@ use Rattle.std.proofs.lemmas.List.{length-map}
 use Rattle.md_dirs.specs.declared.paths.Place.TheVariants.{New}
 use Rattle.md_core.specs.declared.jobs.step.Event.{Event}
 use Rattle.md_core.specs.History.{Names}
-use Rattle.md_core.specs.Machine.{Marked}
+use Rattle.md_core.specs.Machine.{Occurrence}
 use Rattle.md_view.specs.Readings.{reading_of}
 use Rattle.md_view.specs.Law.{names_at}
 use Rattle.md_view.proofs.Waiting.{names-now}
@@ -12,7 +12,7 @@ use Rattle.md_view.proofs.listing.Listing.begin.Goals as goal
 pub returns-clause-begun : goal.returns-clause-begun
 returns-clause-begun g c =
     let r = c.args.world.now in
-    let steps : length c.log-begun.result.now ≡ length r.events = ap length c.log-begun.ensures ∙ length-map r.events (λ (e : Marked). e.event) in
+    let steps : length c.log-begun.result.now ≡ length r.events = ap length c.log-begun.ensures ∙ length-map r.events (λ (e : Occurrence). e.event) in
     record {
       past = omega (arith, steps);
       new = c.in_ok-new.ensures.entries ∙ ap (λ (n : Names). reading_of n c.args.folder New) (names-now r c.interleaves.ensures.shown)

@@ -1,5 +1,5 @@
 use Rattle.std.proofs.Common.{ap, ◌∙◌}
-use Rattle.md_view.specs.Named.{Named, applied}
+use Rattle.md_view.specs.Named.{Named, after_change}
 use Rattle.md_view.proofs.Holding.{held-is, holds}
 use Rattle.md_view.proofs.names.Names.apply.Goals as goal
 
@@ -9,4 +9,4 @@ invariant_of-self-2 c = holds _ c.apply_to.new.folders.items c.in_ok-apply_to.en
 pub returns-clause-names : goal.returns-clause-names
 returns-clause-names c =
     held-is _ c.apply_to.new.folders.items c.in_ok-apply_to.ensures.ok
-    ∙ ap (λ (n : Named). applied n c.args.change.now) c.self.view_is
+    ∙ ap (λ (n : Named). after_change n c.args.change.now) c.self.view_is

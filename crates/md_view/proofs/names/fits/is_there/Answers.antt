@@ -6,7 +6,7 @@ use Rattle.std.proofs.lemmas.Bool.{cases_lt}
 use Rattle.std.proofs.lemmas.Option.{slice_get_read}
 use Rattle.md_name.specs.Names.{unique_of, info_of, is_message_name}
 use Rattle.md_name.specs.declared.info.Info.{Info}
-use Rattle.md_view.specs.Held.{FolderLists, held_names, found, list_of}
+use Rattle.md_view.specs.Held.{FolderLists, held_names, entry_with, list_of}
 use Rattle.md_view.proofs.Rows.{if-some}
 use Rattle.md_view.proofs.Applying.{there-past, there-other, there-none, there-found, no-parts}
 use Rattle.md_view.proofs.names.fits.is_there.Goals as goal
@@ -37,7 +37,7 @@ returns-in-Some-find c =
     c.eq.ensures ∙ ap (λ (v : List ℕ). pointwise nat_eq v c.args.name.now) c.as_slice.ensures
     ∙ sym (there-found
     (held_names c.args.folders.now) c.args.folders.now c.requires c.args.folder c.in-Some.lists.now at c.args.place c.args.name.now c.in-Some-find.entry.now
-    (ap (λ (x : List ℕ × Info). found x.0 (list_of c.args.place c.in-Some.lists.now)) says.1 ∙ sym c.in-Some-find.ensures))
+    (ap (λ (x : List ℕ × Info). entry_with x.0 (list_of c.args.place c.in-Some.lists.now)) says.1 ∙ sym c.in-Some-find.ensures))
 
 pub returns-in-None : goal.returns-in-None
 returns-in-None c =
@@ -46,4 +46,4 @@ returns-in-None c =
     let at : slice_get c.args.folders.now c.args.folder ≡ Some c.in-Some.lists.now =
     item-get c.args.folders.now c.args.folder c.in-Some.lists c.in-Some.ensures.lookup in
     sym (there-none (held_names c.args.folders.now) c.args.folders.now c.requires c.args.folder c.in-Some.lists.now at c.args.place c.args.name.now
-    (ap (λ (x : List ℕ × Info). found x.0 (list_of c.args.place c.in-Some.lists.now)) says.1 ∙ sym c.in-None.ensures))
+    (ap (λ (x : List ℕ × Info). entry_with x.0 (list_of c.args.place c.in-Some.lists.now)) says.1 ∙ sym c.in-None.ensures))
