@@ -7,7 +7,7 @@ ghost use Rattle.md_script.specs.Texts.{place_text, letters_text, flags_by, flag
 use crate::digits::push_number;
 use md_dirs::Place;
 use md_name::{Flags, Info, split};
-use md_view::Entry;
+use md_view::{Entry, EntryRef};
 use std::alloc::{AllocError, Global};
 
 /// What flags print as where there are none.
@@ -24,22 +24,36 @@ pub fn push_entries(alloc: Global, out: &mut Vec<u8>, entries: &[Entry]) -> Resu
     ensures { OnOk result (out.new.items ≡ out.old.items ++ entries_text entries.now) }
 {
     for entry in entries {
+        push_entry(alloc, out, &entry.lent())?;
+    }
+    Ok(())
+}
+
+/// The same for entries that are lent.
+pub(crate) fn push_lent_entries(
+    alloc: Global,
+    out: &mut Vec<u8>,
+    entries: &[EntryRef<'_>],
+) -> Result<(), AllocError>
+    ensures { OnOk result (out.new.items ≡ out.old.items ++ entries_text entries.now) }
+{
+    for entry in entries {
         push_entry(alloc, out, entry)?;
     }
     Ok(())
 }
 
 /// Appends the line of an entry.
-fn push_entry(alloc: Global, out: &mut Vec<u8>, entry: &Entry) -> Result<(), AllocError>
+fn push_entry(alloc: Global, out: &mut Vec<u8>, entry: &EntryRef<'_>) -> Result<(), AllocError>
     ensures { OnOk result (out.new.items ≡ out.old.items ++ entry_line entry.now) }
 {
-    out.extend_from_slice(place_text(entry.place))?;
+    out.extend_from_slice(place_text(entry.place()))?;
     out.push(b' ')?;
-    out.extend_from_slice(entry.unique.as_slice())?;
+    out.extend_from_slice(entry.unique())?;
     out.push(b' ')?;
-    push_flags(alloc, out, entry.name.as_slice())?;
+    push_flags(alloc, out, entry.name())?;
     out.push(b' ')?;
-    push_number(out, entry.size)?;
+    push_number(out, entry.size())?;
     out.push(b'\n')?;
     Ok(())
 }

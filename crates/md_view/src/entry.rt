@@ -1,11 +1,12 @@
 // What a listing shows of a message.
-ghost use Rattle.std.specs.Prelude.{◌≡◌, IfOk, option_map};
+ghost use Rattle.std.specs.Prelude.{◌≡◌, IfOk};
 ghost use Rattle.md_dirs.specs.Rows.{row_shown};
 ghost use Rattle.md_view.specs.Rows.{entry_of_row};
 
 use md_dirs::{Place, RowRef};
 use md_name::{Bytes, split};
 use std::alloc::{AllocError, Global};
+use std::marker::Model;
 
 /// What a listing shows of a message: its unique name, whether it is in new or cur, its whole file name, and its size in bytes.
 #[derive(Debug, PartialEq, Drop)]
@@ -29,22 +30,123 @@ impl Entry {
         })
     }
 
+    /// The same entry, its names lent.
+    pub fn lent(&self) -> EntryRef<'_>
+        ensures { result ≡ self.now }
+    {
+        EntryRef {
+            unique: self.unique.as_slice(),
+            place: self.place,
+            name: self.name.as_slice(),
+            size: self.size,
+        }
+    }
+}
+
+/// An entry whose names are lent, by a directory or by another entry. Contracts see it as an entry.
+#[derive(Drop)]
+pub struct EntryRef<'a> {
+    unique: &'a [u8],
+    place: Place,
+    name: &'a [u8],
+    size: u64,
+}
+
+impl<'a> Model for EntryRef<'a> {
+    ghost use Rattle.md_view.specs.declared.entry.Entry.{Entry};
+
+    ghost Value = { Entry };
+
+    ghost view = { λ e. record { unique = e.unique.now; place = e.place; name = e.name.now; size = e.size } };
+}
+
+impl<'a> EntryRef<'a> {
+    /// The unique name of the message.
+    pub fn unique(&self) -> &'a [u8]
+        ensures { result.now ≡ self.now.unique }
+    {
+        self.unique
+    }
+
+    /// Whether the message is in new or cur.
+    pub fn place(&self) -> Place
+        ensures { result ≡ self.now.place }
+    {
+        self.place
+    }
+
+    /// The whole name of the message's file.
+    pub fn name(&self) -> &'a [u8]
+        ensures { result.now ≡ self.now.name }
+    {
+        self.name
+    }
+
+    /// The size of the message in bytes.
+    pub fn size(&self) -> u64
+        ensures { result ≡ self.now.size }
+    {
+        self.size
+    }
+
+    /// The same entry, lent once more.
+    pub(crate) fn again(&self) -> EntryRef<'a>
+        ensures { result ≡ self.now }
+    {
+        EntryRef {
+            unique: self.unique,
+            place: self.place,
+            name: self.name,
+            size: self.size,
+        }
+    }
+
+    /// A copy that owns its names. It is refused only when out of memory.
+    fn copied(&self, alloc: Global) -> Result<Entry, AllocError>
+        ensures { IfOk result (λ entry. entry ≡ self.now) }
+    {
+        Ok(Entry {
+            unique: Bytes::copied(alloc, self.unique)?,
+            place: self.place,
+            name: Bytes::copied(alloc, self.name)?,
+            size: self.size,
+        })
+    }
+
     // The entry of a row of a directory, if it is a message's.
-    pub(crate) fn of_row(
-        alloc: Global,
-        place: Place,
-        row: RowRef<'_>,
-    ) -> Result<Option<Entry>, AllocError>
-        ensures { IfOk result (λ entry. entry ≡ entry_of_row place (row_shown row.entry)) }
+    pub(crate) fn of_row(place: Place, row: RowRef<'a>) -> Option<EntryRef<'a>>
+        ensures { result ≡ entry_of_row place (row_shown row.entry) }
     {
         let Some((unique, _)) = split(row.name) else {
-            return Ok(None);
+            return None;
         };
-        Ok(Some(Entry {
-            unique: Bytes::copied(alloc, unique)?,
+        Some(EntryRef {
+            unique,
             place,
-            name: Bytes::copied(alloc, row.name)?,
+            name: row.name,
             size: row.size,
-        }))
+        })
     }
+}
+
+/// Entries, lent one by one. It is refused only when out of memory.
+pub(crate) fn lend(alloc: Global, entries: &[Entry]) -> Result<Vec<EntryRef<'_>>, AllocError>
+    ensures { IfOk result (λ all. all.items ≡ entries.now) }
+{
+    let mut all = Vec::with_capacity(alloc, entries.len())?;
+    for entry in entries {
+        all.push(entry.lent())?;
+    }
+    Ok(all)
+}
+
+/// Copies of entries that own their names. It is refused only when out of memory.
+pub(crate) fn copied(alloc: Global, entries: &[EntryRef<'_>]) -> Result<Vec<Entry>, AllocError>
+    ensures { IfOk result (λ all. all.items ≡ entries.now) }
+{
+    let mut all = Vec::with_capacity(alloc, entries.len())?;
+    for entry in entries {
+        all.push(entry.copied(alloc)?)?;
+    }
+    Ok(all)
 }

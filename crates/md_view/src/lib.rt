@@ -11,9 +11,9 @@ mod merge;
 mod names;
 mod read;
 
-pub use entry::Entry;
+pub use entry::{Entry, EntryRef};
 pub use error::ViewError;
-pub use listing::{Listing, list};
+pub use listing::{Listing, list, list_lent};
 pub use merge::join;
 pub use names::Names;
 pub use read::reading;

@@ -1,13 +1,13 @@
 // A listing whose two readings are made at two moments.
-ghost use Rattle.std.specs.Prelude.{◌≡◌, length, IfOk, IfErr};
+ghost use Rattle.std.specs.Prelude.{◌≡◌, ◌<◌, length, IfOk, IfErr};
 ghost use Rattle.md_core.specs.Runs.{dirs_of};
 ghost use Rattle.md_view.specs.Readings.{reading_refusal};
 ghost use Rattle.md_view.specs.Law.{names_at, listing_of, HasBegun, IsGoodListing};
 
-use crate::entry::Entry;
+use crate::entry::{Entry, EntryRef, copied, lend};
 use crate::error::ViewError;
-use crate::merge::{join, merge};
-use crate::read::reading;
+use crate::merge::merge;
+use crate::read::{lent_reading, reading};
 use md_core::World;
 use md_dirs::{Dirs, Place};
 use std::alloc::Global;
@@ -51,22 +51,53 @@ impl Listing {
         ensures law { IsGoodListing (names_at world.now) self.now.folder self.now.begun (length world.now.events) }
         ensures refusal { IfErr result (λ error. error ≡ reading_refusal (dirs_of world.now) self.now.folder) }
     {
+        let all = self.finish_lent(alloc, world)?;
+        Ok(copied(alloc, &all)?)
+    }
+
+    /// The same, each entry lent by this listing or by the world: no name is copied.
+    pub fn finish_lent<'a, D: Dirs>(
+        &'a self,
+        alloc: Global,
+        world: &'a World<D>,
+    ) -> Result<Vec<EntryRef<'a>>, ViewError>
+        requires { HasBegun world.now self.now }
+        ensures entries { IfOk result (λ all. all.items ≡ listing_of (names_at world.now) self.now.folder self.now.begun (length world.now.events)) }
+        ensures folder { IfOk result (λ _. self.now.folder < (dirs_of world.now).folders) }
+        ensures law { IsGoodListing (names_at world.now) self.now.folder self.now.begun (length world.now.events) }
+        ensures refusal { IfErr result (λ error. error ≡ reading_refusal (dirs_of world.now) self.now.folder) }
+    {
         world.interleaves();
         md_core::laws::names_show_their_directories();
         md_core::laws::legal_histories_keep_messages_out_of_new();
-        let cur = reading(alloc, world, self.folder, Place::Cur)?;
-        join(alloc, &self.new, &cur)
+        let cur = lent_reading(alloc, world, self.folder, Place::Cur)?;
+        let new = lend(alloc, &self.new)?;
+        Ok(merge(alloc, &new, &cur)?)
     }
 }
 
-/// The listing of a folder whose two readings are made at one moment: its messages now, in order of unique name. No entry is
-/// copied. It is refused as `reading` is.
+/// The listing of a folder whose two readings are made at one moment: its messages now, in order of unique name. It is refused as
+/// `reading` is.
 pub fn list<D: Dirs>(alloc: Global, world: &World<D>, folder: u32) -> Result<Vec<Entry>, ViewError>
     ensures entries { IfOk result (λ all. all.items ≡ listing_of (names_at world.now) folder (length world.now.events) (length world.now.events)) }
     ensures refusal { IfErr result (λ error. error ≡ reading_refusal (dirs_of world.now) folder) }
 {
+    let all = list_lent(alloc, world, folder)?;
+    Ok(copied(alloc, &all)?)
+}
+
+/// The same, each entry lent by the world: no name is copied.
+pub fn list_lent<'a, D: Dirs>(
+    alloc: Global,
+    world: &'a World<D>,
+    folder: u32,
+) -> Result<Vec<EntryRef<'a>>, ViewError>
+    ensures entries { IfOk result (λ all. all.items ≡ listing_of (names_at world.now) folder (length world.now.events) (length world.now.events)) }
+    ensures folder { IfOk result (λ _. folder < (dirs_of world.now).folders) }
+    ensures refusal { IfErr result (λ error. error ≡ reading_refusal (dirs_of world.now) folder) }
+{
     world.interleaves();
-    let new = reading(alloc, world, folder, Place::New)?;
-    let cur = reading(alloc, world, folder, Place::Cur)?;
-    Ok(merge(alloc, new, cur)?)
+    let new = lent_reading(alloc, world, folder, Place::New)?;
+    let cur = lent_reading(alloc, world, folder, Place::Cur)?;
+    Ok(merge(alloc, &new, &cur)?)
 }

@@ -7,7 +7,7 @@ ghost use Rattle.md_core.specs.Runs.{dirs_of};
 ghost use Rattle.md_view.specs.Readings.{reading_of, IsInOrder, reading_refusal};
 ghost use Rattle.md_view.specs.Rows.{entries_of, IsBehind};
 
-use crate::entry::Entry;
+use crate::entry::{Entry, EntryRef, copied};
 use crate::error::ViewError;
 use md_core::World;
 use md_dirs::{Dirs, Place};
@@ -28,6 +28,22 @@ pub fn reading<D: Dirs>(
     ensures order { IfOk result (λ all. IsInOrder all.items) }
     ensures refusal { IfErr result (λ error. error ≡ reading_refusal (dirs_of world.now) folder) }
 {
+    let all = lent_reading(alloc, world, folder, place)?;
+    Ok(copied(alloc, &all)?)
+}
+
+/// The same, each entry lent by its directory: no name is copied.
+pub(crate) fn lent_reading<'a, D: Dirs>(
+    alloc: Global,
+    world: &'a World<D>,
+    folder: u32,
+    place: Place,
+) -> Result<Vec<EntryRef<'a>>, ViewError>
+    ensures entries { IfOk result (λ all. all.items ≡ reading_of (names_of (mailbox_of (dirs_of world.now))) folder place) }
+    ensures folder { IfOk result (λ _. folder < (dirs_of world.now).folders) }
+    ensures order { IfOk result (λ all. IsInOrder all.items) }
+    ensures refusal { IfErr result (λ error. error ≡ reading_refusal (dirs_of world.now) folder) }
+{
     if folder >= world.folders() {
         return Err(ViewError::NoFolder);
     }
@@ -38,7 +54,7 @@ pub fn reading<D: Dirs>(
     }
     let (mut all, is_in_order) = gather(alloc, world, folder, place)?;
     if !is_in_order {
-        all.sort_unstable_by(|first, second| first.unique.as_slice().cmp(second.unique.as_slice()));
+        all.sort_unstable_by(|first, second| first.unique().cmp(second.unique()));
     }
     Ok(all)
 }
@@ -51,12 +67,12 @@ fn is_tmp(place: Place) -> bool
 
 // The messages of a directory in order of their whole names, and whether that is the order of their unique names. It nearly always is:
 // only a unique name that goes on with a byte below the colon, after another one, comes out otherwise.
-fn gather<D: Dirs>(
+fn gather<'a, D: Dirs>(
     alloc: Global,
-    world: &World<D>,
+    world: &'a World<D>,
     folder: u32,
     place: Place,
-) -> Result<(Vec<Entry>, bool), AllocError>
+) -> Result<(Vec<EntryRef<'a>>, bool), AllocError>
     ensures entries { IfOk result (λ all. all.0.items ≡ entries_of place (rows_of (dirs_of world.now) folder place)) }
     ensures order { IfOk result (λ all. IsTrue all.1 → IsInOrder all.0.items) }
 {
@@ -66,7 +82,7 @@ fn gather<D: Dirs>(
         let Some(row) = world.names(folder, place, at) else {
             return Ok((all, is_in_order));
         };
-        if let Some(entry) = Entry::of_row(alloc, place, row)? {
+        if let Some(entry) = EntryRef::of_row(place, row) {
             is_in_order = is_in_order && is_behind(&all, &entry);
             all.push(entry)?;
         }
@@ -76,11 +92,11 @@ fn gather<D: Dirs>(
 }
 
 // Whether an entry goes after the last of others in order of unique name.
-fn is_behind(all: &[Entry], entry: &Entry) -> bool
+fn is_behind(all: &[EntryRef<'_>], entry: &EntryRef<'_>) -> bool
     ensures { IsTrue result → IsBehind all.now entry.now }
 {
     match all.last() {
-        Some(last) => last.unique.as_slice().cmp(entry.unique.as_slice()).is_lt(),
+        Some(last) => last.unique().cmp(entry.unique()).is_lt(),
         None => true,
     }
 }

@@ -7,10 +7,11 @@ ghost use Rattle.md_script.specs.Held.{MayWait};
 ghost use Rattle.md_script.specs.Sessions.{submit_in, step_in, finish_in, list_in, read_in};
 
 use crate::error::PlayKind;
-use crate::listing::push_entries;
+use crate::listing::push_lent_entries;
 use crate::storage::Storage;
 use crate::store::printing::{push_bytes, push_job, push_step};
 use md_core::{Call, Event, World};
+use md_view::list_lent;
 use std::alloc::Global;
 
 /// Submits a call, and prints the number of its job.
@@ -88,8 +89,8 @@ pub(super) fn list<D: Storage>(
 ) -> Result<(), PlayKind>
     ensures { Steps (list_in world.now folder) world.now out.old.items out.new.items result }
 {
-    let entries = md_view::list(alloc, world, folder)?;
-    push_entries(alloc, out, &entries)?;
+    let entries = list_lent(alloc, world, folder)?;
+    push_lent_entries(alloc, out, &entries)?;
     Ok(())
 }
 

@@ -4,7 +4,7 @@ ghost use Rattle.md_script.specs.Step.{Steps};
 ghost use Rattle.md_script.specs.Sessions.{new_store, on_run, submit_in, step_in, finish_in, list_in, read_in, read_first, read_second};
 
 use crate::error::PlayKind;
-use crate::listing::push_entries;
+use crate::listing::push_lent_entries;
 use crate::storage::Storage;
 use crate::store::acts;
 use crate::store::kept::{keep, kept_of, use_up};
@@ -105,8 +105,9 @@ impl<D: Storage> OpenStore<D> {
         let Some(listing) = kept_of(&self.kept, folder) else {
             return Err(PlayKind::NoFirst);
         };
-        let entries = listing.finish(self.alloc, &self.world)?;
-        push_entries(self.alloc, out, &entries)?;
+        let entries = listing.finish_lent(self.alloc, &self.world)?;
+        push_lent_entries(self.alloc, out, &entries)?;
+        drop(entries);
         use_up(&mut self.kept, folder);
         Ok(())
     }

@@ -1,16 +1,24 @@
-use Rattle.std.proofs.Common.{◌≡◌, ◌++◌, ◌⊎◌, inl, inr, [], ◌∙◌, rules}
-use Rattle.md_view.proofs.Keyed.{ordered}
-use Rattle.md_view.proofs.Merged.{none-left, moved-join}
+use Rattle.std.proofs.Common.{ℕ, ◌≡◌, ◌++◌, List, drop, sym, subst, arith}
+use Rattle.md_view.specs.declared.entry.Entry.{Entry}
+use Rattle.md_view.proofs.Keyed.{in-order, ordered}
+use Rattle.md_view.proofs.Merged.{merged, ended-new, ended-cur, whole-join, join-sorted}
 use Rattle.md_view.proofs.merge.merge.Goals as goal
-use Rattle.md_view.proofs.merge.merge.Goals.{in_default, in_default-2}
+use Rattle.md_view.proofs.merge.merge.Goals.{then-loop-from_new-test+else-from_cur-cur, else-loop-from_new-test}
 
-pub returns : goal.returns
-returns c =
-    let ended : (c.loop-entry.new.items ≡ []) ⊎ (c.loop-entry.cur.items ≡ []) = elim c.match-front.branch [
-      | in_default w ↦ inr (none-left c.loop-entry.cur.items (search rules))
-      | in_default-2 w ↦ inl (none-left c.loop-entry.new.items (search rules))
+pub returns-clause-entries : goal.returns-clause-entries
+returns-clause-entries c =
+    let new : List Entry = c.args.new.now in
+    let cur : List Entry = c.args.cur.now in
+    let i : ℕ = c.loop-from_new.from_new in
+    let j : ℕ = c.loop-from_new.from_cur in
+    let ended : merged (drop i new) (drop j cur) ≡ drop i new ++ drop j cur = elim c.loop-from_new-test.branch [
+      | then-loop-from_new-test+else-from_cur-cur w ↦ ended-cur new cur i j (omega (arith, w.if-from_cur-cur.false))
+      | else-loop-from_new-test w ↦ ended-new new cur i j (omega (arith, w.loop-from_new-test.false))
     ] in
-    let join = moved-join c.args.new.items c.args.cur.items c.loop-entry.all.items c.loop-entry.new.items c.loop-entry.cur.items
-    (ordered _ c.requires.new) (ordered _ c.requires.cur) c.loop-entry.invariant ended in
-    let is : c.into.result.items ≡ (c.loop-entry.all.items ++ c.loop-entry.new.items) ++ c.loop-entry.cur.items = search rules in
-    is ∙ join
+    whole-join new cur c.loop-from_new.all.items c.push_all.new.all.items c.push_all-2.new.all.items i j (ordered _ c.requires.new) (ordered _ c.requires.cur)
+    c.loop-from_new.invariant.merges ended c.in_ok-push_all.ensures c.in_ok-push_all-2.ensures
+
+pub returns-clause-order : goal.returns-clause-order
+returns-clause-order c =
+    in-order _ (subst (λ (es : List Entry). Rattle.md_view.proofs.Keyed.IsSorted es) (sym (returns-clause-entries c))
+    (join-sorted c.args.new.now c.args.cur.now (ordered _ c.requires.new) (ordered _ c.requires.cur)))

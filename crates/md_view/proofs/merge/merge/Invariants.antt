@@ -1,9 +1,13 @@
-use Rattle.std.proofs.Common.{length, ◌≡◌, ◌++◌, ◌+◌}
+use Rattle.std.proofs.Common.{length, ◌-◌, ◌≡◌, ◌++◌, ◌+◌, ◌≤◌, drop}
 use Rattle.md_view.proofs.Merged.{merged}
 use Rattle.md_view.proofs.merge.merge.Given as goal
 
-abbrev pub invariant-loop-entry : goal.invariant-loop-entry
-invariant-loop-entry l = l.all.items ++ merged l.new.items l.cur.items ≡ merged l.fn.new.items l.fn.cur.items
+abbrev pub invariant-loop-from_new : goal.invariant-loop-from_new
+invariant-loop-from_new l = record {
+  new : l.from_new ≤ length l.new;
+  cur : l.from_cur ≤ length l.cur;
+  merges : l.all.items ++ merged (drop l.from_new l.new) (drop l.from_cur l.cur) ≡ merged l.new l.cur;
+}
 
-abbrev pub decreases-loop-entry : goal.decreases-loop-entry
-decreases-loop-entry l = length l.new.items + length l.cur.items
+abbrev pub decreases-loop-from_new : goal.decreases-loop-from_new
+decreases-loop-from_new l = (length l.new - l.from_new) + (length l.cur - l.from_cur)

@@ -11,8 +11,8 @@ returns-in_default g c =
       refl,
     )
 
-pub finish-requires : goal.finish-requires
-finish-requires g c =
+pub finish_lent-requires : goal.finish_lent-requires
+finish_lent-requires g c =
     (found (HasBegun c.self.inside.world) (λ l. l.folder == c.args.folder) c.self.inside.kept.items c.in-Some.listing.now c.self.invariant
     (sym (rw c.deref.ensures.value at c.in-Some.ensures))).0
 
@@ -25,5 +25,5 @@ returns g c = (
   second-read c.args.self.now c.args.folder c.self.inside.world c.self.inside.kept.items c.self.view_is _ c.in-Some.listing.now _
       (sym (rw c.deref.ensures.value at c.in-Some.ensures)) c.self.invariant
       c.use_up.ensures c.in_ok-entries.ensures.entries,
-  rw c.deref-2.ensures.value at c.in_ok-push_entries.ensures,
+  rw c.deref-2.ensures.value at c.in_ok-push_lent_entries.ensures,
 )

@@ -15,8 +15,8 @@ use Rattle.md_view.proofs.Keyed.{in-order, ordered}
 use Rattle.md_view.proofs.Readings.{reading-sorted}
 use Rattle.md_view.proofs.Ordered.{is_under}
 use Rattle.md_view.proofs.Made.{reading-tmp, reading-in_order, reading-sorted_by}
-use Rattle.md_view.proofs.read.reading.Goals as goal
-use Rattle.md_view.proofs.read.reading.Goals.{then-not-is_in_order, else-not-is_in_order}
+use Rattle.md_view.proofs.read.lent_reading.Goals as goal
+use Rattle.md_view.proofs.read.lent_reading.Goals.{then-not-is_in_order, else-not-is_in_order}
 
 one_path : (r : Run) → IsShown r → Interleaves (trace_of r) → HasOnePath (dirs_of r)
 one_path r shown all = subst HasOnePath shown.dirs (all.one_path (length r.events))
