@@ -18,7 +18,7 @@ add_crate() {
 list_crates() {
   made_of=
   above=
-  add_crate maildir_cli
+  add_crate "${runs:-maildir_cli}"
 }
 
 count_words() {

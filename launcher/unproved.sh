@@ -46,11 +46,11 @@ play_unproved() {
   why=$1
   shift
   require_rt
-  say "this run is not proved yet, since $why: '$0 build' proves and builds the program"
+  say "this run is not proved yet, since $why: ${remedy:-'$0 build' proves and builds the program}"
   open_work
   take_script
   start_telling
-  start_rt maildir_cli "$work/script" "$work/out" try -- "$@"
+  start_rt "${runs:-maildir_cli}" "$work/script" "$work/out" try -- "$@"
   follow pass_over describe_unproved
   join_job
   end_telling

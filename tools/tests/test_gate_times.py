@@ -90,7 +90,7 @@ class Parts(unittest.TestCase):
         tests = ["/kit/bin/rattle", "build", "--crate-name", "md_low_tests", "src/lib.rt", "--test"]
         program = ["rattle", "build", "--crate-name", "program", "src/main.rt", "--test"]
         self.assertEqual(part_of(check, "/top/crates/md_low"), Part("md_low", Kind.PROOFS))
-        self.assertEqual(part_of(check, "/tmp/rt-edit-ab_12"), Part("md_low", Kind.EDITS))
+        self.assertEqual(part_of(check, "/scratch/rt-edit-ab_12"), Part("md_low", Kind.EDITS))
         self.assertEqual(part_of(tests, "/top/crates/md_low_tests"), Part("md_low", Kind.TESTS))
         self.assertEqual(part_of(tests[:-1], "/top/crates/md_low_tests"), Part("md_low", Kind.TESTS))
         self.assertEqual(part_of(program, "/top/crates/program"), Part("program", Kind.TESTS))

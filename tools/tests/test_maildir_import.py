@@ -399,7 +399,7 @@ class Splits(TreeTest):
         self.put(b".Sent/cur/u:2,RS", b"3")
         self.put(b"cur/other", b"4")
         self.put(b"tmp/u", b"in tmp it is no message")
-        self.put(b".Sent/tmp/u", b"nor there")
+        self.put(os.path.join(b".Sent", b"tmp", b"u"), b"nor there")
         self.put(b"cur/.u", b"nor with a dot")
         self.put(b".Sent/cur/.u", b"nor there")
         self.put(b"cur/:2,S", b"nor without a unique name")

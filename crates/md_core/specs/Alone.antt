@@ -22,9 +22,11 @@ pub record Outcome : Type 0 where
 abbrev pub refuse : Answer → Mailbox → Outcome
 refuse a m = record { answer = a; after = m }
 
+-- whether a message is in a folder
 abbrev pub is_in_folder : ℕ → Entry → Bool
 is_in_folder folder e = e.folder == folder
 
+-- whether a message is in one directory of a folder
 abbrev pub is_in_place : Place → ℕ → Entry → Bool
 is_in_place place folder e = place_index e.place == place_index place && e.folder == folder
 
@@ -59,6 +61,7 @@ seen_by m u given e (Some had) =
     let flags = set.union had given in
     record { answer = answer.Flags flags; after = finmap.insert m u (record e { place = Cur; info = info_with flags }) }
 
+-- Seen of the message that is looked for, or NotThere without one
 abbrev pub seen_alone : Mailbox → List ℕ → Set → Option Entry → Outcome
 seen_alone m u given None = refuse answer.NotThere m
 seen_alone m u given (Some e) = seen_by m u given e (flags_in e)
@@ -71,6 +74,7 @@ flag_by m u add remove e (Some had) =
     if is_same_set had flags then refuse (answer.Flags flags) m
     else record { answer = answer.Flags flags; after = finmap.insert m u (record e { info = info_with flags }) }
 
+-- Flag of the message that is looked for, or NotThere without one
 abbrev pub flag_alone : Mailbox → List ℕ → Set → Set → Option Entry → Outcome
 flag_alone m u add remove None = refuse answer.NotThere m
 flag_alone m u add remove (Some e) = flag_by m u add remove e (flags_in e)
@@ -86,6 +90,7 @@ expunge_by m u None = refuse answer.NotTrashed m
 expunge_by m u (Some had) =
     if set.contains had 84 then record { answer = answer.Expunged; after = finmap.remove m u } else refuse answer.NotTrashed m
 
+-- Expunge of the message that is looked for, or NotThere without one
 abbrev pub expunge_alone : Mailbox → List ℕ → Option Entry → Outcome
 expunge_alone m u None = refuse answer.NotThere m
 expunge_alone m u (Some e) = expunge_by m u (flags_in e)
@@ -95,6 +100,7 @@ abbrev pub info_copied : Option (List ℕ) → Set → Option (List ℕ)
 info_copied None had = None
 info_copied (Some info) had = info_with had
 
+-- a second message with the same bytes, place and flags; OtherInfo comes first, then NameTaken
 abbrev pub copy_by : Mailbox → ℕ → List ℕ → Entry → Option Set → Option Entry → Outcome
 copy_by m to fresh e None there = refuse answer.OtherInfo m
 copy_by m to fresh e (Some had) (Some other) = refuse answer.NameTaken m
@@ -102,6 +108,7 @@ copy_by m to fresh e (Some had) None =
     let copy : Entry = record { folder = to; place = e.place; info = info_copied e.info had; bytes = e.bytes } in
     record { answer = answer.Copied; after = finmap.insert m fresh copy }
 
+-- Copy of the message that is looked for, or NotThere without one
 abbrev pub copy_alone : Mailbox → ℕ → List ℕ → Option Entry → Outcome
 copy_alone m to fresh None = refuse answer.NotThere m
 copy_alone m to fresh (Some e) = copy_by m to fresh e (flags_in e) (finmap.get m fresh)

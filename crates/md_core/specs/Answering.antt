@@ -83,6 +83,7 @@ pub record IsOutOfTime (t : Trace) (job : ℕ) (p : Path) : Type 0 where
   pub end : HasUnlinked t job p answer.TimedOut
   pub seconds : 86400 ≤ end.last.step.at.own - first.begun.step.at.own
 
+-- the call is a delivery, which was out of time when it unlinked its file in tmp
 abbrev pub IsTimedOut : Trace → ℕ → Call → Type 0
 IsTimedOut t job (call.Deliver folder u body chunk) = IsOutOfTime t job (path folder Tmp u)
 IsTimedOut t job c = ⊥
@@ -103,6 +104,7 @@ pub record IsGone (t : Trace) (job : ℕ) (p : Path) : Type 0 where
   pub before : IsInSpan t job k
   pub after : IsInSpan t job (k + 1)
 
+-- the call is a delivery, whose file in tmp a clean took away
 abbrev pub IsTmpGone : Trace → ℕ → Call → Type 0
 IsTmpGone t job (call.Deliver folder u body chunk) = IsGone t job (path folder Tmp u)
 IsTmpGone t job c = ⊥
@@ -131,6 +133,7 @@ abbrev pub IsDelivered : Trace → ℕ → Call → Type 0
 IsDelivered t job (call.Deliver folder u body chunk) = HasUnlinked t job (path folder Tmp u) answer.Delivered
 IsDelivered t job c = Unit {0}
 
+-- whether a reply is Ok
 abbrev pub is_ok : DirReply → Bool
 is_ok reply.Ok = true
 is_ok r = false
@@ -153,6 +156,7 @@ pub record HasCleaned (t : Trace) (job folder n : ℕ) : Type 0 where
   pub replies : All (λ x. (x.reply ≡ reply.Ok) ⊎ (x.reply ≡ reply.NotFound)) unlinks
   pub count : n ≡ count_by (λ x. is_ok x.reply) unlinks
 
+-- the call is a clean, which counted n files so
 abbrev pub IsCleaned : Trace → ℕ → Call → ℕ → Type 0
 IsCleaned t job (call.Clean folder) n = HasCleaned t job folder n
 IsCleaned t job c n = ⊥

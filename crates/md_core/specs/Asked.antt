@@ -39,6 +39,7 @@ shown_call (rename old new) = call.Rename
 shown_call (unlink p) = call.Unlink
 shown_call (list folder place) = call.List place
 
+-- the reply of a call that is refused so, or done
 abbrev pub reply_by : Option DirError → DirReply
 reply_by None = reply.Ok
 reply_by (Some Exists) = reply.Exists
@@ -50,6 +51,7 @@ abbrev pub state_by : Ask → State → DirReply → State
 state_by ask s reply.Ok = ask.after s
 state_by ask s r = s
 
+-- whether a reply is Fault
 abbrev pub is_fault : DirReply → Bool
 is_fault reply.Fault = true
 is_fault r = false

@@ -30,6 +30,7 @@ abbrev pub name_of : List ℕ → Option (List ℕ) → List ℕ
 name_of u None = u
 name_of u (Some info) = u ++ 58 ∷ info
 
+-- what can be seen of the message of a unique name
 abbrev pub as_listed : List ℕ → Entry → Listed
 as_listed u e = record { folder = e.folder; place = e.place; name = name_of u e.info; size = length e.bytes }
 

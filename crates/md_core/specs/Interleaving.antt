@@ -63,6 +63,7 @@ pub record Acts (t : Trace) (job : ℕ) (c : Call) (a : Answer) : Type 0 where
   pub done : is_success a ≡ true → TakesEffect t job c a
   pub undone : is_success a ≡ false → (i : ℕ) (own : IsStepOf t job i) → own.step.effect ≡ None
 
+-- the call is a delivery
 abbrev pub IsDelivery : Call → Type 0
 IsDelivery (call.Deliver folder u body chunk) = Unit {0}
 IsDelivery c = ⊥

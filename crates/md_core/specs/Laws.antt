@@ -39,9 +39,10 @@ IsNotInTmp = IsPlaced (λ p. p ≢ Tmp)
 
 -- along a history no name comes to tmp, and a message that is in cur at a moment is in cur at each later one, or gone
 pub record KeepsPlaces (opening : Names) (history : List Effect) : Type 0 where
-  pub never_in_tmp : (u : List ℕ) → IsNotInTmp (finmap.get opening u) → (k : ℕ) → IsNotInTmp (finmap.get (names_after opening (take k history)) u)
-  pub stays_in_cur : (i j : ℕ) → i ≤ j → (u : List ℕ) (x : Listed) → finmap.get (names_after opening (take i history)) u ≡ Some x → x.place ≡ Cur
-      → IsInCur (finmap.get (names_after opening (take j history)) u)
+  pub never_in_tmp : (u : List ℕ) → IsNotInTmp (finmap.get opening u) → (k : ℕ)
+      → IsNotInTmp (finmap.get (names_after opening (take k history)) u)
+  pub stays_in_cur : (i j : ℕ) → i ≤ j → (u : List ℕ) (x : Listed) → finmap.get (names_after opening (take i history)) u ≡ Some x
+      → x.place ≡ Cur → IsInCur (finmap.get (names_after opening (take j history)) u)
 
 -- a run has a job of this number
 pub record HasJob (r : Run) (job : ℕ) : Type 0 where

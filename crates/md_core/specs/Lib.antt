@@ -3,6 +3,7 @@ pub mod Alone
 pub mod History
 pub mod Asked
 pub mod Turn
+pub mod Tasks
 pub mod Machines
 pub mod Machine
 pub mod Standing

@@ -24,6 +24,7 @@ is_bad_name name = length name == 0 || nat_lt most_name_bytes (length name) || l
 abbrev pub most_unique_bytes : ℕ
 most_unique_bytes = 200
 
+-- whether a path is a message's whose unique part is too long
 abbrev pub is_long_unique : Path → Bool
 is_long_unique p = is_message p && nat_lt most_unique_bytes (length (unique_of p.name))
 

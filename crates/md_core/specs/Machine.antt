@@ -16,9 +16,8 @@ use Rattle.md_core.specs.declared.jobs.step.DirReply.{DirReply}
 use Rattle.md_core.specs.declared.jobs.step.Event.{Event}
 use Rattle.md_core.specs.declared.jobs.step.Moment.{Moment}
 use Rattle.md_core.specs.declared.jobs.step.StepOut.{StepOut}
-use Rattle.md_core.specs.declared.jobs.purpose.Purpose.TheVariants as purpose
-use Rattle.md_core.specs.declared.jobs.task.Task.{Task}
-use Rattle.md_core.specs.declared.jobs.task.Task.TheVariants.{Deliver, Errand, Clean}
+use Rattle.md_core.specs.Tasks.Purpose as purpose
+use Rattle.md_core.specs.Tasks.Task.{Task, Deliver, Errand, Clean}
 
 -- a turn of one kind of task, as a turn of a task
 abbrev pub as_task : {T : Type 0} → (T → Task) → Turn T → Turn Task
@@ -45,6 +44,7 @@ pub data Standing : Type 0 where
   working : (task : Task) → Standing
   answered : (answer : Answer) → Standing
 
+-- whether a job has no answer
 abbrev pub is_working : Standing → Bool
 is_working (working task) = true
 is_working (answered a) = false
@@ -59,10 +59,12 @@ new_job (call.Expunge folder unique tries) = working (Errand (new_errand folder 
 new_job (call.Copy folder unique to fresh tries) = working (Errand (new_errand folder unique (purpose.Copy to fresh) tries))
 new_job (call.Clean folder) = working (Clean (new_cleaning folder))
 
+-- how many turns a job takes at most from here to its answer
 abbrev pub job_left : State → Standing → ℕ
 job_left s (working task) = task_left s task
 job_left s (answered a) = 0
 
+-- the directories, the clock, how far each job is, and the effects so far
 pub record Machine : Type 0 where
   pub dirs : State
   -- in seconds
@@ -86,6 +88,7 @@ pub record Occurrence : Type 0 where
   pub event : Event
   pub faulted : Bool
 
+-- an event of a job at a moment, with its mark
 abbrev pub occurrence : ℕ → ℕ → Option ℕ → Bool → Occurrence
 occurrence job now own faulted = record { event = record { job = job; now = now; own = own }; faulted = faulted }
 
@@ -129,6 +132,7 @@ after_turn_of m e (Some task) =
 abbrev pub after_event : Machine → Occurrence → Machine
 after_event m e = after_turn_of m e (task_of (job_at m.jobs e.event.job))
 
+-- what an event does that finds its job at this task
 abbrev pub step_by : Machine → Occurrence → Task → Step
 step_by m e task =
     let at = moment_of m.clock e.event in

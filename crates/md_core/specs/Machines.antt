@@ -1,5 +1,5 @@
+pub mod Refusals
 pub mod Deliver
 pub mod Clean
-pub mod Refusals
 pub mod Purposes
 pub mod Errand

@@ -22,6 +22,7 @@ pub record Entry : Type 0 where
 abbrev pub name_cmp : List ℕ → List ℕ → Rattle.std.specs.declared.cmp.Ordering.Ordering
 name_cmp = slice_cmp nat_cmp
 
+-- the messages, by their unique names
 abbrev pub Mailbox : Type 0
 Mailbox = finmap.FinMap name_cmp Entry
 
@@ -30,6 +31,7 @@ abbrev pub bytes_of : Option File → List ℕ
 bytes_of None = []
 bytes_of (Some file) = file.bytes
 
+-- whether a directory is tmp
 abbrev pub is_tmp : Place → Bool
 is_tmp Tmp = true
 is_tmp New = false
@@ -39,6 +41,7 @@ is_tmp Cur = false
 abbrev pub is_message : Path → Bool
 is_message p = not (is_tmp p.place) && is_message_name p.name
 
+-- the message of a path and the number of its file, as it is there
 abbrev pub entry_of : State → Path → ℕ → Entry
 entry_of s p n = record { folder = p.folder; place = p.place; info = info_text p.name; bytes = bytes_of (file_by s.files n) }
 

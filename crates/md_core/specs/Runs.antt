@@ -4,6 +4,7 @@ use Rattle.std.specs.List.{position_or_len}
 use Rattle.std.specs.Option.{option_and_then}
 use Rattle.std.specs.FinMap as finmap
 use Rattle.md_dirs.specs.State.{State, file_by}
+use Rattle.md_dirs.specs.Calls.{Device}
 use Rattle.md_dirs.specs.declared.paths.File.{File}
 use Rattle.md_dirs.specs.declared.paths.Path.{Path}
 use Rattle.md_core.specs.Mailbox.{Mailbox, mailbox_of}
@@ -16,6 +17,7 @@ use Rattle.md_core.specs.declared.jobs.step.Event.{Event}
 use Rattle.md_core.specs.Machine.{Machine, Standing, working, answered, Occurrence, after_event, step_of, new_job, job_at, job_left}
 use Rattle.md_core.specs.Trace.{Step}
 
+-- directories, calls and marked events: a world's whole history
 pub record Run : Type 0 where
   -- the directories at the beginning
   pub image : State
@@ -27,9 +29,10 @@ pub record Run : Type 0 where
   pub events : List Occurrence
 
 -- a run of no call and no event
-abbrev pub new_run : State → ℕ → ℕ → Run
-new_run image failures calls_made = record { image = image; failures = failures; calls_made = calls_made; calls = []; events = [] }
+abbrev pub new_run : Device → Run
+new_run first = record { image = first.state; failures = first.failures; calls_made = first.calls; calls = []; events = [] }
 
+-- the stamp of a file
 abbrev pub stamp_of : Option File → ℕ
 stamp_of None = 0
 stamp_of (Some file) = file.stamp
@@ -75,19 +78,23 @@ dirs_at_first r job = (machine_at r (first_step r job)).dirs
 abbrev pub box_in : Machine → Mailbox
 box_in m = mailbox_of m.dirs
 
+-- the directories after all events
 abbrev pub dirs_of : Run → State
 dirs_of r = (machine_of r).dirs
 
+-- the jobs after all events
 abbrev pub jobs_of : Run → List Standing
 jobs_of r = (machine_of r).jobs
 
+-- the history: the effects in their order
 abbrev pub effects_of : Run → List Effect
 effects_of r = (machine_of r).effects
 
--- how often the directories have failed, and how many calls were made of them: one at each event
+-- how often the directories have failed: once at each marked event, and those before
 abbrev pub failures_of : Run → ℕ
 failures_of r = r.failures + count_by (λ e. e.faulted) r.events
 
+-- how many calls were made of the directories: one at each event, and those before
 abbrev pub calls_made_of : Run → ℕ
 calls_made_of r = r.calls_made + length r.events
 
@@ -95,10 +102,11 @@ calls_made_of r = r.calls_made + length r.events
 abbrev pub log_of : Run → List Event
 log_of r = map (λ e. e.event) r.events
 
--- a run with one more event, and with more events
+-- a run with one more event
 abbrev pub and_event : Run → Occurrence → Run
 and_event r e = record r { events = r.events ++ e ∷ [] }
 
+-- a run with more events
 abbrev pub and_events : Run → List Occurrence → Run
 and_events r es = record r { events = r.events ++ es }
 
@@ -106,6 +114,7 @@ and_events r es = record r { events = r.events ++ es }
 abbrev pub and_call : Run → Call → Run
 and_call r call = record r { calls = r.calls ++ call ∷ [] }
 
+-- the answer of a job, if it is there and has one
 abbrev pub answer_of : Option Standing → Option Answer
 answer_of None = None
 answer_of (Some (working task)) = None
@@ -116,6 +125,7 @@ abbrev pub left_of : State → Option Standing → ℕ
 left_of s None = 0
 left_of s (Some job) = job_left s job
 
+-- how many steps the job of a number takes at most from here to its answer, if no other job takes one
 abbrev pub steps_left : Run → ℕ → ℕ
 steps_left r job = left_of (dirs_of r) (job_at (jobs_of r) job)
 

@@ -6,16 +6,20 @@ use Rattle.md_core.specs.declared.jobs.job.Progress.{Progress}
 use Rattle.md_core.specs.declared.jobs.job.Progress.TheVariants.{Working, Answered}
 use Rattle.md_core.specs.declared.jobs.step.Moment.{Moment}
 use Rattle.md_core.specs.declared.jobs.step.StepOut.{StepOut}
-use Rattle.md_core.specs.declared.jobs.task.Task.{Task}
-use Rattle.md_core.specs.Turn.{Device, Takes}
+use Rattle.md_core.specs.Tasks.Task.{Task}
+use Rattle.md_core.specs.Tasks.Views.Tasks.{task_view}
+use Rattle.md_dirs.specs.Calls.{Device}
+use Rattle.md_core.specs.Turn.{Takes}
 use Rattle.md_core.specs.Machine.{Standing, working, answered, new_job, turn_of, standing_of}
 
+-- a job: its call, and how far it is
 pub record JobView : Type 0 where
   pub call : Call
   pub standing : Standing
 
+-- how far a job is, as the program holds it
 abbrev pub standing_by : Progress → Standing
-standing_by (Working room) = working room.value
+standing_by (Working room) = working (task_view room.value)
 standing_by (Answered a) = answered a
 
 -- how far jobs are

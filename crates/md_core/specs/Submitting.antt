@@ -17,9 +17,11 @@ use Rattle.md_core.specs.Runs.{Run}
 abbrev pub most_bytes : ℕ
 most_bytes = 16777216
 
+-- the most jobs of a store
 abbrev pub most_jobs : ℕ
 most_jobs = 10000
 
+-- the most tries of a call
 abbrev pub most_tries : ℕ
 most_tries = 16
 
@@ -42,12 +44,15 @@ abbrev pub first_met : List (Bool × CoreError) → Option CoreError
 first_met [] = None
 first_met (check ∷ checks) = if check.0 then Some check.1 else first_met checks
 
+-- no folder of that number is there
 abbrev pub no_folder : Run → ℕ → Bool
 no_folder r folder = nat_le r.image.folders folder
 
+-- no try, or more than the most
 abbrev pub bad_tries : ℕ → Bool
 bad_tries tries = tries == 0 || nat_lt most_tries tries
 
+-- as many jobs are there as may be
 abbrev pub too_many : Run → Bool
 too_many r = nat_le most_jobs (length r.calls)
 

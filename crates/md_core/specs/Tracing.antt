@@ -13,6 +13,7 @@ unfoldable pub deeds_from : Machine → List Occurrence → List Step
 deeds_from m [] = []
 deeds_from m (e ∷ es) = option_to_list (step_of m e) ++ deeds_from (after_event m e) es
 
+-- the trace of a run
 abbrev pub trace_of : Run → Trace
 trace_of r = record { image = r.image; calls = r.calls; steps = deeds_from (beginning r.image r.calls) r.events }
 

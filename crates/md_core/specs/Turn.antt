@@ -2,7 +2,7 @@
 use Rattle.std.specs.Prelude.{ℕ, ◌≡◌, ◌+◌, List, [], Option, Some, None, Result, Ok, Err, Bool, is_some, if◌then◌else◌}
 use Rattle.md_dirs.specs.State.{State}
 use Rattle.md_dirs.specs.Rows.{rows_of, row_named}
-use Rattle.md_dirs.specs.Calls.{Ask}
+use Rattle.md_dirs.specs.Calls.{Ask, Device}
 use Rattle.md_dirs.specs.Calls as dirs
 use Rattle.md_dirs.specs.declared.paths.Place.{Place}
 use Rattle.md_dirs.specs.declared.rows.Row.{Row}
@@ -63,15 +63,6 @@ reply_from (Err Exists) = Some reply.Exists
 reply_from (Err NotFound) = Some reply.NotFound
 reply_from (Err Fault) = Some reply.Fault
 reply_from (Err NoMemory) = None
-
--- what contracts see of directories: their state, how often they failed, and how many calls were made of them
-pub record Device : Type 0 where
-  pub state : State
-  pub failures : ℕ
-  pub calls : ℕ
-
-abbrev pub device : State → ℕ → ℕ → Device
-device state failures calls = record { state = state; failures = failures; calls = calls }
 
 -- A look-up was made: one directory was listed, and where the listing was done, the row of the unique name was kept.
 pub record Looks (folder : ℕ) (place : Place) (unique : List ℕ) (old : Device)

@@ -35,7 +35,6 @@ pub struct World<D: Dirs> {
 
 impl<D: Dirs> Model for World<D> {
     ghost use Rattle.md_core.specs.Runs.{Run};
-    ghost use Rattle.md_core.specs.Turn.{device};
     ghost use Rattle.md_core.specs.Worlds.{IsWorld, run_of, machine_by};
     ghost use Rattle.std.specs.Coded.{codes};
     ghost use Rattle.md_dirs.specs.State.{state_code};
@@ -46,12 +45,12 @@ impl<D: Dirs> Model for World<D> {
     ghost coded = { Prim.hlevel (codes, state_code, flags.the_row.coded) };
 
     ghost view = { λ w.
-        run_of (device (D.state w.image.value) (D.failures w.image.value) (D.calls w.image.value)) w.jobs.items w.log.events.items
+        run_of (D.device w.image.value) w.jobs.items w.log.events.items
         w.log.marks.items };
 
     ghost invariant = { λ w.
-        let first = device (D.state w.image.value) (D.failures w.image.value) (D.calls w.image.value) in
-        let now = device (D.state w.dirs) (D.failures w.dirs) (D.calls w.dirs) in
+        let first = D.device w.image.value in
+        let now = D.device w.dirs in
         let run = run_of first w.jobs.items w.log.events.items w.log.marks.items in
         IsWorld run (machine_by now w.clock w.jobs.items w.log.effects.items) now w.used w.log.events.items w.log.marks.items };
 }
@@ -80,9 +79,9 @@ impl<D: Dirs> World<D> {
     /// The directories of a world. They are in the state of its run; they have failed as often as the run has marks since the beginning, and
     /// as many calls of them were made as the run has events.
     pub fn dirs(&self) -> &D
-        ensures state { D.state result.now ≡ dirs_of self.now }
-        ensures failures { D.failures result.now ≡ failures_of self.now }
-        ensures calls { D.calls result.now ≡ calls_made_of self.now }
+        ensures state { (D.device result.now).state ≡ dirs_of self.now }
+        ensures failures { (D.device result.now).failures ≡ failures_of self.now }
+        ensures calls { (D.device result.now).calls ≡ calls_made_of self.now }
     {
         &self.dirs
     }

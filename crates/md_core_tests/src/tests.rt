@@ -3,7 +3,9 @@
 // are scripts, in crates/examples/data/.
 mod faults;
 mod loads;
+mod mailbox;
 mod memory;
+mod pairs;
 mod runs;
 mod small;
 mod submits;

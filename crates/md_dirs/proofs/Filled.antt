@@ -3,7 +3,6 @@ use Rattle.std.proofs.Common.{◌≡◌, ◌⊎◌, inl, inr, ◌+◌, ◌<◌, 
 use Rattle.std.specs.Option.{option_or}
 use Rattle.std.proofs.lemmas.List.{take-append-drop, drop_more}
 use Rattle.md_dirs.specs.State.{State}
-use Rattle.md_dirs.specs.Calls.{Ask, Obeys}
 use Rattle.md_dirs.specs.Image.{put, state_with, refusal_with}
 use Rattle.md_dirs.specs.declared.image.ImageFile.{ImageFile}
 use Rattle.md_dirs.specs.declared.calls.DirError.{DirError}
@@ -39,13 +38,6 @@ one-refused s t xs x rest e before none is =
     refusal_with-append s xs (x ∷ rest) none ∙
     ap (λ o. option_or o (refusal_with ((put x).after (state_with s xs)) rest)) (ap ((put x).refusal) (sym before) ∙ is)
 
--- an error of directories that never fault is want of memory or the call's refusal
-pub named-error : (ask : Ask) (old new : State) (e : DirError) → Obeys {T = Unit {0}} ask old 0 (Err e) new 0 → (e ≡ NoMemory) ⊎ (ask.refusal old ≡ Some e)
-named-error ask old new Exists obeys = inr (obeys.exists refl)
-named-error ask old new NotFound obeys = inr (obeys.not_found refl)
-named-error ask old new NoMemory obeys = inl refl
-named-error ask old new Fault obeys = absurd (let h : 0 ≡ 0 + 1 = obeys.failed refl in omega arith)
-
 map-same : {X : Type 0} (xs : List X) → map (λ x. x) xs ≡ xs
 map-same [] = refl
 map-same (x ∷ xs) = ap (λ ys. x ∷ ys) (map-same xs)
@@ -59,10 +51,10 @@ parted all xs x first next =
     ∙ ap (λ ys. xs ++ ys) (drop_more all (length xs) x next.0 ∙ ap (λ y. y ∷ drop (length xs + 1) all) (sym next.1))
 
 -- what an image answers where a file is refused
-pub refused-at : (s t u : State) (xs : List ImageFile) (x : ImageFile) (all : List ImageFile) (e : DirError) → t ≡ state_with s xs → refusal_with s xs ≡ None
-    → map (λ y. y) xs ≡ take (length xs) all → (length xs < length all) × (x ≡ get_or all (length xs) x) → Obeys {T = Unit {0}} (put x) t 0 (Err e) u 0
+pub refused-at : (s t : State) (xs : List ImageFile) (x : ImageFile) (all : List ImageFile) (e : DirError) → t ≡ state_with s xs → refusal_with s xs ≡ None
+    → map (λ y. y) xs ≡ take (length xs) all → (length xs < length all) × (x ≡ get_or all (length xs) x) → (e ≡ NoMemory) ⊎ ((put x).refusal t ≡ Some e)
     → (e ≡ NoMemory) ⊎ (refusal_with s all ≡ Some e)
-refused-at s t u xs x all e before none first next obeys = elim (named-error (put x) t u e obeys) [
+refused-at s t xs x all e before none first next why = elim why [
   | inl memory ↦ inl memory
   | inr refused ↦ inr (ap (refusal_with s) (parted all xs x first next) ∙ one-refused s t xs x (drop (length xs + 1) all) e before none refused)
 ]

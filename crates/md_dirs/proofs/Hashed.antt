@@ -22,7 +22,7 @@ use Rattle.lists.proofs.Maps as maps
 use Rattle.lists.proofs.Members.{Has, has-get}
 use Rattle.md_dirs.proofs.Rowed.{get-map}
 use Rattle.md_dirs.proofs.Looked.{rows-named}
-use Rattle.md_dirs.proofs.Kept.{made, refused}
+use Rattle.md_dirs.proofs.Kept.{sure, made, refused}
 use Rattle.md_dirs.proofs.Sound.{by_path, by_number, file-within, sound-bare, sound-placed, sound-appended, sound-named, sound-without, sound-moved}
 use Rattle.md_dirs.proofs.Steps.{lt_true, link-refusal, rename-refusal}
 use Rattle.md_dirs.proofs.Counted.{hits, paths-insert, paths-remove, map-set, length-files, file-slot, slot-set_same, slot-set_other, slot-last, slot-early, held-none, let_go-counted, let_go-files}
@@ -150,9 +150,11 @@ module _ (folders : ℕ) (names : PathMap) (slots : List (Option Kept)) (whole :
       })
       ∙ ap (after_append more now start) (sym at)
 
-  pub append-done : (p : Path) (more : List ℕ) (now n : ℕ) (slot : Option Kept) → finmap.get names p ≡ Some n → slot ≡ get_or slots n slot →
-      Obeys {T = Unit {0}} (append p more now) start 0 (Ok tt) (kept_state folders names (slice_set slots n (grown_slot more now slot))) 0
-  append-done p more now n slot at read = made _ _ _ _ _ (ap (λ x. cond (is_some x) None (Some NotFound)) at) (grown-is p more now n slot at read)
+  pub append-done : (p : Path) (more : List ℕ) (now n : ℕ) (slot : Option Kept) (k k' : ℕ) → finmap.get names p ≡ Some n → slot ≡ get_or slots n slot →
+      k' ≡ k + 1 →
+      Obeys {T = Unit {0}} (append p more now) (sure start k) (Ok tt) (sure (kept_state folders names (slice_set slots n (grown_slot more now slot))) k')
+  append-done p more now n slot k k' at read counted =
+      made _ _ _ _ k k' (ap (λ x. cond (is_some x) None (Some NotFound)) at) (grown-is p more now n slot at read) counted
 
   pub counted-grown : (p : Path) (more : List ℕ) (now n : ℕ) (slot : Option Kept) → finmap.get names p ≡ Some n → slot ≡ get_or slots n slot →
       IsCounted folders names (slice_set slots n (grown_slot more now slot))
@@ -185,11 +187,12 @@ module _ (folders : ℕ) (names : PathMap) (slots : List (Option Kept)) (whole :
       set-file (f ∷ fs) zero file is = ap (λ g. g ∷ fs) (sym is)
       set-file (f ∷ fs) (suc i) file is = ap (λ gs. f ∷ gs) (set-file fs i file is)
 
-  pub link-done : (o p : Path) (n : ℕ) → finmap.get names o ≡ Some n → p.folder < folders → finmap.get names p ≡ None →
-      Obeys {T = Unit {0}} (link o p) start 0 (Ok tt)
-      (kept_state folders (finmap.insert names p n) (slice_set slots n (named_again (slot_at slots n)))) 0
-  link-done o p n at within none =
-      made _ _ _ _ _ (link-refusal o p start (Some n) true None at (lt_true _ _ within) none) (linked-is o p n at ∙ ap (with_path p start) (sym at))
+  pub link-done : (o p : Path) (n k k' : ℕ) → finmap.get names o ≡ Some n → p.folder < folders → finmap.get names p ≡ None → k' ≡ k + 1 →
+      Obeys {T = Unit {0}} (link o p) (sure start k) (Ok tt)
+      (sure (kept_state folders (finmap.insert names p n) (slice_set slots n (named_again (slot_at slots n)))) k')
+  link-done o p n k k' at within none counted =
+      made _ _ _ _ k k' (link-refusal o p start (Some n) true None at (lt_true _ _ within) none)
+      (linked-is o p n at ∙ ap (with_path p start) (sym at)) counted
 
   pub counted-linked : (o p : Path) (n : ℕ) → finmap.get names o ≡ Some n → p.folder < folders → finmap.get names p ≡ None →
       IsCounted folders (finmap.insert names p n) (slice_set slots n (named_again (slot_at slots n)))
@@ -224,9 +227,9 @@ module _ (folders : ℕ) (names : PathMap) (slots : List (Option Kept)) (whole :
         ap (λ o. files_still_named (entries (finmap.remove names p)) o (files_of slots)) (sym at)) i;
   }
 
-  pub unlink-done : (p : Path) (n : ℕ) → finmap.get names p ≡ Some n →
-      Obeys {T = Unit {0}} (unlink p) start 0 (Ok tt) (kept_state folders (finmap.remove names p) (let_go (Some n) slots)) 0
-  unlink-done p n at = made _ _ _ _ _ (ap (λ x. cond (is_some x) None (Some NotFound)) at) (unlinked-is p n at)
+  pub unlink-done : (p : Path) (n k k' : ℕ) → finmap.get names p ≡ Some n → k' ≡ k + 1 →
+      Obeys {T = Unit {0}} (unlink p) (sure start k) (Ok tt) (sure (kept_state folders (finmap.remove names p) (let_go (Some n) slots)) k')
+  unlink-done p n k k' at counted = made _ _ _ _ k k' (ap (λ x. cond (is_some x) None (Some NotFound)) at) (unlinked-is p n at) counted
 
   pub counted-unlinked : (p : Path) (n : ℕ) → finmap.get names p ≡ Some n → IsCounted folders (finmap.remove names p) (let_go (Some n) slots)
   counted-unlinked p n at = record {
@@ -234,11 +237,11 @@ module _ (folders : ℕ) (names : PathMap) (slots : List (Option Kept)) (whole :
     counted = let_go-counted (finmap.remove names p) slots (Some n) (left p n at);
   }
 
-  pub unlink-nothing : (p : Path) → finmap.get names p ≡ None →
-      Obeys {T = Unit {0}} (unlink p) start 0 (Err NotFound) (kept_state folders (finmap.remove names p) slots) 0
-  unlink-nothing p none =
-      subst (λ (m : PathMap). Obeys {T = Unit {0}} (unlink p) start 0 (Err NotFound) (kept_state folders m slots) 0) (sym (remove-absent names p none))
-      (refused _ _ _ _ (ap (λ x. cond (is_some x) None (Some NotFound)) none) (λ h. cc) (λ h. cc))
+  pub unlink-nothing : (p : Path) (k k' : ℕ) → finmap.get names p ≡ None → k' ≡ k + 1 →
+      Obeys {T = Unit {0}} (unlink p) (sure start k) (Err NotFound) (sure (kept_state folders (finmap.remove names p) slots) k')
+  unlink-nothing p k k' none counted =
+      subst (λ (m : PathMap). Obeys {T = Unit {0}} (unlink p) (sure start k) (Err NotFound) (sure (kept_state folders m slots) k'))
+      (sym (remove-absent names p none)) (refused _ _ k k' (ap (λ x. cond (is_some x) None (Some NotFound)) none) counted)
 
   pub counted-nothing : (p : Path) → finmap.get names p ≡ None → IsCounted folders (finmap.remove names p) slots
   counted-nothing p none = subst (λ (m : PathMap). IsCounted folders m slots) (sym (remove-absent names p none)) whole
@@ -270,12 +273,14 @@ module _ (folders : ℕ) (names : PathMap) (slots : List (Option Kept)) (whole :
       by : is_one_file (finmap.get names o) (finmap.get names n) ≡ false
       by = (λ i. is_one_file (at i) (is i)) ∙ differ
 
-  pub rename-done : (o n : Path) (k : ℕ) (there : Option ℕ) → finmap.get names o ≡ Some k → n.folder < folders → finmap.get names n ≡ there →
-      is_one_file (Some k) there ≡ false →
-      Obeys {T = Unit {0}} (rename o n) start 0 (Ok tt) (kept_state folders (finmap.remove (finmap.insert names n k) o) (let_go there slots)) 0
-  rename-done o n k there at within is differ = made _ _ _ _ _ (rename-refusal o n start (Some k) true at (lt_true _ _ within))
+  pub rename-done : (o n : Path) (k : ℕ) (there : Option ℕ) (calls calls' : ℕ) → finmap.get names o ≡ Some k → n.folder < folders →
+      finmap.get names n ≡ there → is_one_file (Some k) there ≡ false → calls' ≡ calls + 1 →
+      Obeys {T = Unit {0}} (rename o n) (sure start calls) (Ok tt)
+      (sure (kept_state folders (finmap.remove (finmap.insert names n k) o) (let_go there slots)) calls')
+  rename-done o n k there calls calls' at within is differ counted =
+      made _ _ _ _ calls calls' (rename-refusal o n start (Some k) true at (lt_true _ _ within))
       (ap (λ (m : PathMap). kept_state folders m (let_go there slots))
-      (swap-names names o n k (apart o n k at (ap (is_one_file (Some k)) is ∙ differ))) ∙ moved-is o n k there at is differ)
+      (swap-names names o n k (apart o n k at (ap (is_one_file (Some k)) is ∙ differ))) ∙ moved-is o n k there at is differ) counted
 
   pub counted-moved : (o n : Path) (k : ℕ) (there : Option ℕ) → finmap.get names o ≡ Some k → n.folder < folders → finmap.get names n ≡ there →
       is_one_file (Some k) there ≡ false → IsCounted folders (finmap.remove (finmap.insert names n k) o) (let_go there slots)

@@ -1,5 +1,5 @@
 -- What the calls leave of rows in order, and of what they mean.
-use Rattle.std.proofs.Common.{ℕ, ◌≡◌, ◌≢◌, List, [], Some, None, cond, not, IsTrue, Ok, Err, insert, remove, refl, sym, ap, subst, ◌∙◌, length}
+use Rattle.std.proofs.Common.{◌+◌, ℕ, ◌≡◌, ◌≢◌, List, [], Some, None, cond, not, IsTrue, Ok, Err, insert, remove, refl, sym, ap, subst, ◌∙◌, length}
 use Rattle.std.specs.Ordering.{eq_by_cmp}
 use Rattle.std.specs.FinMap as finmap
 use Rattle.std.specs.FinMap.{find, is_sorted, same_map, same_entries_map, get-from_sorted, entries-from_sorted, entries-insert, get-remove, from_sorted, empty_of_len, len-entries}
@@ -7,7 +7,7 @@ use Rattle.std.specs.FinMap.Entries.{put, is_sorted-put, is_sorted-where_key}
 use Rattle.md_dirs.specs.Path.{path_cmp}
 use Rattle.md_dirs.specs.Plain.{IsAt, IsGap}
 use Rattle.md_dirs.specs.State.{State}
-use Rattle.md_dirs.specs.Calls.{Ask, Obeys}
+use Rattle.md_dirs.specs.Calls.{Ask, Device, Obeys}
 use Rattle.md_dirs.specs.declared.paths.Path.{Path}
 use Rattle.md_dirs.specs.declared.calls.DirError.{DirError}
 use Rattle.md_dirs.specs.declared.calls.DirError.TheVariants.{Exists, NotFound, Fault, NoMemory}
@@ -42,23 +42,29 @@ names-remove rows p i sorted at =
     ∙ find-other path_total path_exact p q rows ∙ ap (λ o. cond (eq_by_cmp path_cmp q p) None o) (sym (at-names rows q sorted)) ∙
     sym (get-remove path_total (from_sorted rows) p q))
 
--- a call that is refused
-pub refused : {T : Type 0} (ask : Ask) (old : State) (f : ℕ) (e : DirError) → ask.refusal old ≡ Some e → e ≢ Fault → e ≢ NoMemory →
-    Obeys {T = T} ask old f (Err e) old f
-refused ask old f e is not_fault not_memory = record {
+-- directories that never failed
+abbrev pub sure : State → ℕ → Device
+sure s calls = record { state = s; failures = 0; calls = calls }
+
+-- a call that is refused with NotFound
+pub refused : {T : Type 0} (ask : Ask) (old : State) (k k' : ℕ) → ask.refusal old ≡ Some NotFound → k' ≡ k + 1 →
+    Obeys {T = T} ask (sure old k) (Err NotFound) (sure old k')
+refused ask old k k' is counted = record {
   accepted = tt;
   done = tt;
-  exists = λ h. let g : e ≡ Exists = cc in is ∙ ap Some g;
-  not_found = λ h. let g : e ≡ NotFound = cc in is ∙ ap Some g;
-  no_memory = λ h. let g : e ≡ NoMemory = cc in absurd (not_memory g);
+  exists = λ h. cc;
+  not_found = λ h. is;
+  no_memory = λ h. cc;
   unchanged = refl;
-  failed = λ h. let g : e ≡ Fault = cc in absurd (not_fault g);
+  failed = λ h. cc;
   not_failed = λ _. refl;
+  counted = counted;
 }
 
 -- a call that is made
-pub made : {T : Type 0} (ask : Ask) (old : State) (f : ℕ) (x : T) (new : State) → ask.refusal old ≡ None → new ≡ ask.after old → Obeys ask old f (Ok x) new f
-made ask old f x new is after = record {
+pub made : {T : Type 0} (ask : Ask) (old : State) (x : T) (new : State) (k k' : ℕ) → ask.refusal old ≡ None → new ≡ ask.after old → k' ≡ k + 1 →
+    Obeys ask (sure old k) (Ok x) (sure new k')
+made ask old x new k k' is after counted = record {
   accepted = is;
   done = after;
   exists = λ h. cc;
@@ -67,6 +73,7 @@ made ask old f x new is after = record {
   unchanged = tt;
   failed = λ h. cc;
   not_failed = λ _. refl;
+  counted = counted;
 }
 
 -- no row

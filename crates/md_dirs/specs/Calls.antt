@@ -15,19 +15,15 @@ pub record Ask : Type 0 where
   pub refusal : State → Option DirError
   pub after : State → State
 
--- What a call may answer, and what it then leaves. A failure of the directories, and being out of memory, may take the place of its answer.
-pub record Obeys {T : Type 0} (ask : Ask) (old : State) (failures : ℕ)
-    (answer : Result T DirError) (new : State) (failures' : ℕ) : Type 0 where
-  pub accepted : OnOk answer (ask.refusal old ≡ None)
-  pub done : OnOk answer (new ≡ ask.after old)
-  pub exists : IsErrOf answer Exists → ask.refusal old ≡ Some Exists
-  pub not_found : IsErrOf answer NotFound → ask.refusal old ≡ Some NotFound
-  -- out of memory comes after the other checks
-  pub no_memory : IsErrOf answer NoMemory → ask.refusal old ≡ None
-  pub unchanged : OnErr answer (new ≡ old)
-  -- a fault is a new failure, and nothing else is
-  pub failed : IsErrOf answer Fault → failures' ≡ failures + 1
-  pub not_failed : (IsErrOf answer Fault → ⊥) → failures' ≡ failures
+-- What contracts see of directories: their state, how often they failed by themselves, and how many calls were made of them.
+pub record Device : Type 0 where
+  pub state : State
+  pub failures : ℕ
+  pub calls : ℕ
+
+-- directories that never failed, and of which no call was made
+abbrev pub fresh : State → Device
+fresh s = record { state = s; failures = 0; calls = 0 }
 
 -- how many calls there were after a call with this answer: one more, but for one that is out of memory, which is no call
 abbrev pub calls_after : {T : Type 0} → Result T DirError → ℕ → ℕ
@@ -36,6 +32,20 @@ calls_after (Err Exists) calls = calls + 1
 calls_after (Err NotFound) calls = calls + 1
 calls_after (Err Fault) calls = calls + 1
 calls_after (Err NoMemory) calls = calls
+
+-- What a call may answer, and what it then leaves. A failure of the directories, and being out of memory, may take the place of its answer.
+pub record Obeys {T : Type 0} (ask : Ask) (old : Device) (answer : Result T DirError) (new : Device) : Type 0 where
+  pub accepted : OnOk answer (ask.refusal old.state ≡ None)
+  pub done : OnOk answer (new.state ≡ ask.after old.state)
+  pub exists : IsErrOf answer Exists → ask.refusal old.state ≡ Some Exists
+  pub not_found : IsErrOf answer NotFound → ask.refusal old.state ≡ Some NotFound
+  -- out of memory comes after the other checks
+  pub no_memory : IsErrOf answer NoMemory → ask.refusal old.state ≡ None
+  pub unchanged : OnErr answer (new.state ≡ old.state)
+  -- a fault is a new failure, and nothing else is
+  pub failed : IsErrOf answer Fault → new.failures ≡ old.failures + 1
+  pub not_failed : (IsErrOf answer Fault → ⊥) → new.failures ≡ old.failures
+  pub counted : new.calls ≡ calls_after answer old.calls
 
 -- the state with a new file, under its first name
 abbrev pub with_new_file : Path → File → State → State
@@ -52,6 +62,7 @@ create_as p file = record {
 abbrev pub empty_file : ℕ → File
 empty_file now = record { bytes = []; stamp = now }
 
+-- the state with a new empty file, stamped with the moment
 abbrev pub after_create : Path → ℕ → State → State
 after_create p now = with_new_file p (empty_file now)
 
@@ -114,7 +125,9 @@ is_one_file a b = false
 
 -- o is gone and n names its file, and no longer the file that it named. Where both named one file, nothing changes
 abbrev pub after_rename : Path → Path → State → State
-after_rename o n s = if is_one_file (file_at s o) (file_at s n) then s else with_files_still_named (file_at s n) (with_path n (without_path o s) (file_at s o))
+after_rename o n s =
+    if is_one_file (file_at s o) (file_at s n) then s
+    else with_files_still_named (file_at s n) (with_path n (without_path o s) (file_at s o))
 
 -- POSIX rename: ENOENT without the old name or the new folder. It replaces its target
 abbrev pub rename : Path → Path → Ask

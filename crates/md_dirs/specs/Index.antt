@@ -23,6 +23,7 @@ name_cmp = slice_cmp nat_cmp
 abbrev pub NameMap : Type 0
 NameMap = finmap.FinMap name_cmp ℕ
 
+-- names of a directory as lists of numbers
 abbrev pub name_code : Coded NameMap
 name_code = finmap.code (coded_list coded_ℕ) coded_ℕ
 
@@ -63,6 +64,7 @@ pub record FitsAt (rows : List (List ℕ × ℕ)) (i : ℕ) (name : List ℕ) : 
 abbrev pub PathMap : Type 0
 PathMap = finmap.FinMap path_cmp ℕ
 
+-- paths as lists of numbers
 abbrev pub map_code : Coded PathMap
 map_code = finmap.code path_code coded_ℕ
 

@@ -10,6 +10,7 @@ use Rattle.md_dirs.specs.declared.paths.Place.{Place}
 use Rattle.md_dirs.specs.declared.paths.Place.TheVariants.{Tmp, New, Cur}
 use Rattle.md_dirs.specs.declared.paths.File.{File}
 
+-- what directories hold, as contracts see it
 pub record State : Type 0 where
   -- the folders are numbered from 0
   pub folders : ℕ
@@ -50,6 +51,7 @@ place_by zero = Tmp
 place_by (suc zero) = New
 place_by (suc (suc n)) = Cur
 
+-- a path as a tuple
 abbrev pub path_code : Coded Path
 path_code = code_by (ℕ × (Place × List ℕ)) (coded× coded_ℕ (coded× (code_by ℕ coded_ℕ place_index place_by back) (coded_list coded_ℕ)))
     (λ p. (p.folder, (p.place, p.name))) (λ t. record { folder = t.0; place = t.1.0; name = t.1.1 }) (λ _. refl)
@@ -59,10 +61,12 @@ path_code = code_by (ℕ × (Place × List ℕ)) (coded× coded_ℕ (coded× (co
     back New = refl
     back Cur = refl
 
+-- a file as a tuple
 abbrev pub file_code : Coded File
 file_code = code_by (List ℕ × ℕ) (coded× (coded_list coded_ℕ) coded_ℕ)
     (λ f. (f.bytes, f.stamp)) (λ t. record { bytes = t.0; stamp = t.1 }) (λ _. refl)
 
+-- a state as a tuple
 abbrev pub state_code : Coded State
 state_code = code_by (ℕ × (finmap.FinMap path_cmp ℕ × List (Option File)))
     (coded× coded_ℕ (coded× (finmap.code path_code coded_ℕ) (coded_list (coded_option file_code))))
@@ -73,6 +77,7 @@ pub record Counted : Type 0 where
   pub state : State
   pub calls : ℕ
 
+-- a state and a number as a tuple
 abbrev pub counted_code : Coded Counted
 counted_code = code_by (State × ℕ) (coded× state_code coded_ℕ)
     (λ c. (c.state, c.calls)) (λ t. record { state = t.0; calls = t.1 }) (λ _. refl)

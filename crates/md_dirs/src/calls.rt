@@ -1,9 +1,9 @@
 // The directory calls and looks.
-ghost use Rattle.std.specs.Prelude.{◌≡◌, ◌+◌, ◌^◌, ◌<◌, ℕ, IsErrOf, IfOk, IfSome, length, slice_get};
+ghost use Rattle.std.specs.Prelude.{◌≡◌, ◌+◌, ◌^◌, ◌<◌, IsErrOf, IfOk, IfSome, length, slice_get};
 ghost use Rattle.std.specs.Option.{option_map};
 ghost use Rattle.md_dirs.specs.Path.{path_of};
-ghost use Rattle.md_dirs.specs.State.{State, IsSound, bytes_at_path};
-ghost use Rattle.md_dirs.specs.Calls.{Obeys, calls_after, create, append, link, rename, unlink, list};
+ghost use Rattle.md_dirs.specs.State.{IsSound, bytes_at_path};
+ghost use Rattle.md_dirs.specs.Calls.{Device, Obeys, create, append, link, rename, unlink, list};
 ghost use Rattle.md_dirs.specs.Rows.{rows_of, row_named, row_shown};
 ghost use Rattle.md_dirs.specs.declared.calls.DirError.TheVariants.{NoMemory};
 
@@ -53,57 +53,45 @@ impl<T: Drop> From<AllocFailed<T>> for DirError {
 /// seconds. A call may answer `Fault`, where the number of failures has risen by one, and `NoMemory`, after all its other
 /// checks; neither changes anything. The looks, which take `&self`, are no steps: they take no memory and never fail.
 pub trait Dirs {
-    /// The folders, the names and the files.
-    ghost state: { Self → State };
-
-    /// How often a call has failed by itself.
-    ghost failures: { Self → ℕ };
-
-    /// How many calls were made, a `find` among them. One that is refused when out of memory is none, and neither is a look.
-    ghost calls: { Self → ℕ };
+    /// The folders, the names and the files; how often a call has failed by itself; and how many calls were made, a `find` among
+    /// them. A call that is refused when out of memory is none, and neither is a look.
+    ghost device: { Self → Device };
 
     /// Makes an empty file, as POSIX's open with O_CREAT and O_EXCL. `NotFound` where the folder is not there, `Exists`
     /// where the name is.
     fn create(&mut self, path: &Path, now: u64) -> Result<(), DirError>
-        ensures meets { Obeys (create path.now now) (state self.old) (failures self.old) result (state self.new) (failures self.new) }
-        ensures counted { calls self.new ≡ calls_after result (calls self.old) };
+        ensures meets { Obeys (create path.now now) (device self.old) result (device self.new) };
 
     /// Adds bytes at a file's end and sets its stamp. `NotFound` where the name is not there: it goes by name.
     fn append(&mut self, path: &Path, bytes: &[u8], now: u64) -> Result<(), DirError>
-        ensures meets { Obeys (append path.now bytes.now now) (state self.old) (failures self.old) result (state self.new) (failures self.new) }
-        ensures counted { calls self.new ≡ calls_after result (calls self.old) };
+        ensures meets { Obeys (append path.now bytes.now now) (device self.old) result (device self.new) };
 
     /// Gives a file a second name, as POSIX's link. `NotFound` where the old name or the folder of the new one is not
     /// there, even if the new name is; otherwise `Exists` where the new name is there.
     fn link(&mut self, old: &Path, new: &Path) -> Result<(), DirError>
-        ensures meets { Obeys (link old.now new.now) (state self.old) (failures self.old) result (state self.new) (failures self.new) }
-        ensures counted { calls self.new ≡ calls_after result (calls self.old) };
+        ensures meets { Obeys (link old.now new.now) (device self.old) result (device self.new) };
 
     /// Gives a file another name in place of one, as POSIX's rename: it replaces its target, and changes nothing where
     /// both are names of one file. `NotFound` where the old name or the folder of the new one is not there.
     fn rename(&mut self, old: &Path, new: &Path) -> Result<(), DirError>
-        ensures meets { Obeys (rename old.now new.now) (state self.old) (failures self.old) result (state self.new) (failures self.new) }
-        ensures counted { calls self.new ≡ calls_after result (calls self.old) };
+        ensures meets { Obeys (rename old.now new.now) (device self.old) result (device self.new) };
 
     /// Takes a name away, as POSIX's unlink: the file goes with its last name. `NotFound` where the name is not there.
     /// It takes no memory.
     fn unlink(&mut self, path: &Path) -> Result<(), DirError>
-        ensures meets { Obeys (unlink path.now) (state self.old) (failures self.old) result (state self.new) (failures self.new) }
-        ensures counted { calls self.new ≡ calls_after result (calls self.old) }
+        ensures meets { Obeys (unlink path.now) (device self.old) result (device self.new) }
         ensures no_memory { IsErrOf result DirError.NoMemory → ⊥ };
 
     /// Lists a directory in order of the bytes of its names, as of one moment. `NotFound` where the folder is not there.
     fn list(&mut self, folder: u32, place: Place) -> Result<Vec<Row>, DirError>
-        ensures meets { Obeys (list folder place) (state self.old) (failures self.old) result (state self.new) (failures self.new) }
-        ensures counted { calls self.new ≡ calls_after result (calls self.old) }
-        ensures rows { IfOk result (λ rows. rows.items ≡ rows_of (state self.old) folder place) };
+        ensures meets { Obeys (list folder place) (device self.old) result (device self.new) }
+        ensures rows { IfOk result (λ rows. rows.items ≡ rows_of (device self.old).state folder place) };
 
     /// Looks for one message of a directory: the first name that is this unique name, or this unique name, a colon and more
     /// (maildir(5)). It is the listing of that directory, with its refusals, of which one row is kept.
     fn find(&mut self, folder: u32, place: Place, unique: &[u8]) -> Result<Option<Row>, DirError>
-        ensures meets { Obeys (list folder place) (state self.old) (failures self.old) result (state self.new) (failures self.new) }
-        ensures counted { calls self.new ≡ calls_after result (calls self.old) }
-        ensures row { IfOk result (λ row. row ≡ row_named unique.now (rows_of (state self.old) folder place)) }
+        ensures meets { Obeys (list folder place) (device self.old) result (device self.new) }
+        ensures row { IfOk result (λ row. row ≡ row_named unique.now (rows_of (device self.old).state folder place)) }
     {
         match self.list(folder, place) {
             Ok(rows) => Ok(first_named(rows, unique)),
@@ -113,18 +101,18 @@ pub trait Dirs {
 
     /// The number of folders.
     fn folders(&self) -> u32
-        ensures count { result ≡ (state self.now).folders }
-        ensures sound { IsSound (state self.now) };
+        ensures count { result ≡ (device self.now).state.folders }
+        ensures sound { IsSound (device self.now).state };
 
     /// The row at a position, from 0, of a directory in order of the bytes of its names. None past the last, and where
     /// the folder is not there. There is none at the last position that a `usize` counts.
     fn row_at(&self, folder: u32, place: Place, at: usize) -> Option<RowRef<'_>>
-        ensures row { option_map row_shown result ≡ slice_get (rows_of (state self.now) folder place) at }
+        ensures row { option_map row_shown result ≡ slice_get (rows_of (device self.now).state folder place) at }
         ensures few { IfSome result (λ _. at + 1 < 2 ^ 64) };
 
     /// How many rows a directory has, and 0 where the folder is not there. By itself it looks at 65 rows, by halving.
     fn count(&self, folder: u32, place: Place) -> usize
-        ensures { result ≡ length (rows_of (state self.now) folder place) }
+        ensures { result ≡ length (rows_of (device self.now).state folder place) }
     {
         let mut low = 0;
         let mut high = usize::MAX;
@@ -145,7 +133,7 @@ pub trait Dirs {
     /// Looks for one message of a directory, as `find` does, and lends its row. None where the directory has no such name, and
     /// where the folder is not there. By itself it looks at some rows, twice by halving.
     fn look(&self, folder: u32, place: Place, unique: &[u8]) -> Option<RowRef<'_>>
-        ensures { option_map row_shown result ≡ row_named unique.now (rows_of (state self.now) folder place) }
+        ensures { option_map row_shown result ≡ row_named unique.now (rows_of (device self.now).state folder place) }
     {
         let count = self.count(folder, place);
         let mut low = 0;
@@ -183,5 +171,5 @@ pub trait Dirs {
 
     /// The bytes of the file of a name. None where the name is not there.
     fn read(&self, folder: u32, place: Place, name: &[u8]) -> Option<&[u8]>
-        ensures { option_map (λ b. b.now) result ≡ bytes_at_path (state self.now) (path_of folder place name.now) };
+        ensures { option_map (λ b. b.now) result ≡ bytes_at_path (device self.now).state (path_of folder place name.now) };
 }

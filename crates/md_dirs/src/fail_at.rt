@@ -1,7 +1,6 @@
 // Directories of which one call fails.
 ghost use Rattle.std.specs.Prelude.{◌≡◌, ◌+◌, ◌-◌, IsTrue, ◌↔◌, IsErrOf, IfOk, if◌then◌else◌};
-ghost use Rattle.md_dirs.specs.State.{State};
-ghost use Rattle.md_dirs.specs.Calls.{Obeys, calls_after, create, append, link, rename, unlink, list};
+ghost use Rattle.md_dirs.specs.Calls.{Obeys, create, append, link, rename, unlink, list};
 ghost use Rattle.md_dirs.specs.Rows.{rows_of, row_named};
 
 use crate::calls::{DirError, Dirs};
@@ -25,11 +24,7 @@ impl<D: Dirs> FailAt<D> {
 
     /// Directories whose call number `at`, counted from 1, fails. With 0 none does. It takes no memory.
     pub fn new(dirs: D, at: u64) -> Self
-        ensures { failing D.state D.failures D.calls result ≡ record {
-          at = at;
-          failed = 0;
-          behind = record { state = D.state dirs; failures = D.failures dirs; calls = D.calls dirs };
-        } }
+        ensures { failing D.device result ≡ record { at = at; failed = 0; behind = D.device dirs } }
     {
         FailAt {
             dirs,
@@ -57,18 +52,11 @@ impl<D: Dirs> FailAt<D> {
 impl<D: Dirs> Dirs for FailAt<D> {
     ghost use Rattle.md_dirs.specs.Failing.{failing, and_own, IsTurn};
 
-    ghost state = { λ f. D.state f.dirs };
-
-    ghost failures = { λ f. and_own D.failures f };
-
-    ghost calls = { λ f. and_own D.calls f };
+    ghost device = { λ f. and_own D.device f };
 
     fn create(&mut self, path: &Path, now: u64) -> Result<(), DirError>
-        ensures meets { Obeys (create path.now now) (D.state self.old.dirs) (and_own D.failures self.old) result
-            (D.state self.new.dirs) (and_own D.failures self.new) }
-        ensures counted { and_own D.calls self.new ≡ calls_after result (and_own D.calls self.old) }
-        ensures turn { IsTurn (create path.now now) (failing D.state D.failures D.calls self.old) result
-            (failing D.state D.failures D.calls self.new) }
+        ensures meets { Obeys (create path.now now) (and_own D.device self.old) result (and_own D.device self.new) }
+        ensures turn { IsTurn (create path.now now) (failing D.device self.old) result (failing D.device self.new) }
     {
         if self.is_due() {
             return Err(DirError::Fault);
@@ -77,11 +65,8 @@ impl<D: Dirs> Dirs for FailAt<D> {
     }
 
     fn append(&mut self, path: &Path, bytes: &[u8], now: u64) -> Result<(), DirError>
-        ensures meets { Obeys (append path.now bytes.now now) (D.state self.old.dirs) (and_own D.failures self.old) result
-            (D.state self.new.dirs) (and_own D.failures self.new) }
-        ensures counted { and_own D.calls self.new ≡ calls_after result (and_own D.calls self.old) }
-        ensures turn { IsTurn (append path.now bytes.now now) (failing D.state D.failures D.calls self.old) result
-            (failing D.state D.failures D.calls self.new) }
+        ensures meets { Obeys (append path.now bytes.now now) (and_own D.device self.old) result (and_own D.device self.new) }
+        ensures turn { IsTurn (append path.now bytes.now now) (failing D.device self.old) result (failing D.device self.new) }
     {
         if self.is_due() {
             return Err(DirError::Fault);
@@ -90,11 +75,8 @@ impl<D: Dirs> Dirs for FailAt<D> {
     }
 
     fn link(&mut self, old: &Path, new: &Path) -> Result<(), DirError>
-        ensures meets { Obeys (link old.now new.now) (D.state self.old.dirs) (and_own D.failures self.old) result
-            (D.state self.new.dirs) (and_own D.failures self.new) }
-        ensures counted { and_own D.calls self.new ≡ calls_after result (and_own D.calls self.old) }
-        ensures turn { IsTurn (link old.now new.now) (failing D.state D.failures D.calls self.old) result
-            (failing D.state D.failures D.calls self.new) }
+        ensures meets { Obeys (link old.now new.now) (and_own D.device self.old) result (and_own D.device self.new) }
+        ensures turn { IsTurn (link old.now new.now) (failing D.device self.old) result (failing D.device self.new) }
     {
         if self.is_due() {
             return Err(DirError::Fault);
@@ -103,11 +85,8 @@ impl<D: Dirs> Dirs for FailAt<D> {
     }
 
     fn rename(&mut self, old: &Path, new: &Path) -> Result<(), DirError>
-        ensures meets { Obeys (rename old.now new.now) (D.state self.old.dirs) (and_own D.failures self.old) result
-            (D.state self.new.dirs) (and_own D.failures self.new) }
-        ensures counted { and_own D.calls self.new ≡ calls_after result (and_own D.calls self.old) }
-        ensures turn { IsTurn (rename old.now new.now) (failing D.state D.failures D.calls self.old) result
-            (failing D.state D.failures D.calls self.new) }
+        ensures meets { Obeys (rename old.now new.now) (and_own D.device self.old) result (and_own D.device self.new) }
+        ensures turn { IsTurn (rename old.now new.now) (failing D.device self.old) result (failing D.device self.new) }
     {
         if self.is_due() {
             return Err(DirError::Fault);
@@ -116,10 +95,8 @@ impl<D: Dirs> Dirs for FailAt<D> {
     }
 
     fn unlink(&mut self, path: &Path) -> Result<(), DirError>
-        ensures meets { Obeys (unlink path.now) (D.state self.old.dirs) (and_own D.failures self.old) result
-            (D.state self.new.dirs) (and_own D.failures self.new) }
-        ensures counted { and_own D.calls self.new ≡ calls_after result (and_own D.calls self.old) }
-        ensures turn { IsTurn (unlink path.now) (failing D.state D.failures D.calls self.old) result (failing D.state D.failures D.calls self.new) }
+        ensures meets { Obeys (unlink path.now) (and_own D.device self.old) result (and_own D.device self.new) }
+        ensures turn { IsTurn (unlink path.now) (failing D.device self.old) result (failing D.device self.new) }
         ensures no_memory { IsErrOf result DirError.NoMemory → ⊥ }
     {
         if self.is_due() {
@@ -129,11 +106,9 @@ impl<D: Dirs> Dirs for FailAt<D> {
     }
 
     fn list(&mut self, folder: u32, place: Place) -> Result<Vec<Row>, DirError>
-        ensures meets { Obeys (list folder place) (D.state self.old.dirs) (and_own D.failures self.old) result
-            (D.state self.new.dirs) (and_own D.failures self.new) }
-        ensures counted { and_own D.calls self.new ≡ calls_after result (and_own D.calls self.old) }
-        ensures turn { IsTurn (list folder place) (failing D.state D.failures D.calls self.old) result (failing D.state D.failures D.calls self.new) }
-        ensures rows { IfOk result (λ rows. rows.items ≡ rows_of (D.state self.old.dirs) folder place) }
+        ensures meets { Obeys (list folder place) (and_own D.device self.old) result (and_own D.device self.new) }
+        ensures turn { IsTurn (list folder place) (failing D.device self.old) result (failing D.device self.new) }
+        ensures rows { IfOk result (λ rows. rows.items ≡ rows_of (D.device self.old.dirs).state folder place) }
     {
         if self.is_due() {
             return Err(DirError::Fault);
@@ -142,11 +117,9 @@ impl<D: Dirs> Dirs for FailAt<D> {
     }
 
     fn find(&mut self, folder: u32, place: Place, unique: &[u8]) -> Result<Option<Row>, DirError>
-        ensures meets { Obeys (list folder place) (D.state self.old.dirs) (and_own D.failures self.old) result
-            (D.state self.new.dirs) (and_own D.failures self.new) }
-        ensures counted { and_own D.calls self.new ≡ calls_after result (and_own D.calls self.old) }
-        ensures turn { IsTurn (list folder place) (failing D.state D.failures D.calls self.old) result (failing D.state D.failures D.calls self.new) }
-        ensures row { IfOk result (λ row. row ≡ row_named unique.now (rows_of (D.state self.old.dirs) folder place)) }
+        ensures meets { Obeys (list folder place) (and_own D.device self.old) result (and_own D.device self.new) }
+        ensures turn { IsTurn (list folder place) (failing D.device self.old) result (failing D.device self.new) }
+        ensures row { IfOk result (λ row. row ≡ row_named unique.now (rows_of (D.device self.old.dirs).state folder place)) }
     {
         if self.is_due() {
             return Err(DirError::Fault);

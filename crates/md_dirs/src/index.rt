@@ -97,11 +97,7 @@ impl IndexDirs {
 }
 
 impl Dirs for IndexDirs {
-    ghost state = { λ d. d.state };
-
-    ghost failures = { λ _. 0 };
-
-    ghost calls = { λ d. d.calls };
+    ghost device = { λ d. record { state = d.state; failures = 0; calls = d.calls } };
 
     fn create(&mut self, path: &Path, now: u64) -> Result<(), DirError> {
         if path.folder >= self.folders {

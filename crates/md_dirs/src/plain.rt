@@ -43,9 +43,8 @@ impl Model for PlainDirs {
 }
 
 impl PlainDirs {
-    ghost use Rattle.std.specs.Prelude.{◌≡◌, ◌⊎◌, Some, None, IfOk, IfErr};
+    ghost use Rattle.std.specs.Prelude.{◌≡◌, ◌⊎◌, Some, None, IfOk, IfErr, OnOk};
     ghost use Rattle.md_dirs.specs.State.{bare};
-    ghost use Rattle.md_dirs.specs.Calls.{Obeys};
     ghost use Rattle.md_dirs.specs.Image.{put, image_state, image_refusal};
     ghost use Rattle.md_dirs.specs.declared.calls.DirError.TheVariants.{NoMemory};
 
@@ -82,7 +81,8 @@ impl PlainDirs {
 
     // Makes a file with its bytes.
     fn put_file(&mut self, file: ImageFile) -> Result<(), DirError>
-        ensures made { Obeys (put file) self.old.state 0 result self.new.state 0 }
+        ensures made { OnOk result (((put file).refusal self.old.state ≡ None) × (self.new.state ≡ (put file).after self.old.state)) }
+        ensures refused { IfErr result (λ e. (e ≡ NoMemory) ⊎ ((put file).refusal self.old.state ≡ Some e)) }
         ensures calls { self.new.calls ≡ self.old.calls }
     {
         if file.path.folder >= self.folders {
@@ -107,11 +107,7 @@ impl PlainDirs {
 }
 
 impl Dirs for PlainDirs {
-    ghost state = { λ d. d.state };
-
-    ghost failures = { λ _. 0 };
-
-    ghost calls = { λ d. d.calls };
+    ghost device = { λ d. record { state = d.state; failures = 0; calls = d.calls } };
 
     fn create(&mut self, path: &Path, now: u64) -> Result<(), DirError> {
         if path.folder >= self.folders {

@@ -12,6 +12,7 @@ use Rattle.md_head.specs.declared.body.FieldBody.{FieldBody}
 unfoldable pub unfolded : List ℕ → List ℕ
 unfolded folded = trimmed (concat (lines_of folded))
 
+-- the value that a body and its continuations give
 abbrev pub body_value : FieldBody → List ℕ
 body_value body = unfolded body.folded.now
 

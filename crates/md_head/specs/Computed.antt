@@ -9,11 +9,13 @@ pub record Grouped : Type 0 where
   pub front : List (List ℕ)
   pub groups : List Group
 
+-- a line in front of lines that are grouped: a continuation of nothing yet, or a group with those in front
 abbrev pub with_line : List ℕ → Grouped → Grouped
 with_line line g =
     if is_continuation line then record { front = line ∷ g.front; groups = g.groups }
     else record { front = []; groups = record { first = line; continuations = g.front } ∷ g.groups }
 
+-- the lines as groups
 unfoldable pub grouped : List (List ℕ) → Grouped
 grouped [] = record { front = []; groups = [] }
 grouped (line ∷ lines) = with_line line (grouped lines)
@@ -26,6 +28,7 @@ field_of line =
     let body = drop (prefix_len is_blank rest) rest in
     if nat_lt 0 n && slice_index body 0 == 58 then Some (take n line, drop 1 body) else None
 
+-- without white space in front
 unfoldable pub trimmed_front : List ℕ → List ℕ
 trimmed_front [] = []
 trimmed_front (b ∷ bytes) = if is_blank b then trimmed_front bytes else b ∷ bytes
@@ -35,10 +38,12 @@ abbrev pub onto_trimmed : ℕ → List ℕ → List ℕ
 onto_trimmed b [] = if is_blank b then [] else b ∷ []
 onto_trimmed b (c ∷ bytes) = b ∷ c ∷ bytes
 
+-- without white space at the end
 unfoldable pub trimmed_end : List ℕ → List ℕ
 trimmed_end [] = []
 trimmed_end (b ∷ bytes) = onto_trimmed b (trimmed_end bytes)
 
+-- without white space at both ends
 abbrev pub trimmed : List ℕ → List ℕ
 trimmed bytes = trimmed_end (trimmed_front bytes)
 
@@ -52,14 +57,17 @@ value_if name continuations (Some (found, body)) =
 unfoldable pub value_of : List ℕ → Group → Option (List ℕ)
 value_of name g = value_if name g.continuations (field_of g.first)
 
+-- the earlier value, or else the later one
 abbrev pub or_later : Option (List ℕ) → Option (List ℕ) → Option (List ℕ)
 or_later None later = later
 or_later (Some value) later = Some value
 
+-- the value of the first group that is a field of that name
 unfoldable pub first_value : List ℕ → List Group → Option (List ℕ)
 first_value name [] = None
 first_value name (g ∷ groups) = or_later (value_of name g) (first_value name groups)
 
+-- the groups of a text's header section
 unfoldable pub groups_of : List ℕ → List Group
 groups_of text = (grouped (header_section text)).groups
 

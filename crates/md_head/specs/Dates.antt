@@ -16,5 +16,6 @@ whole_seconds (Err e) = None
 abbrev pub seconds_of_date : List ℕ → Option ℤ
 seconds_of_date text = cond (is_utf8 text) (whole_seconds (timestamp false text)) None
 
+-- the seconds of a date, if there is one
 abbrev pub seconds_of : Option (List ℕ) → Option ℤ
 seconds_of date = option_and_then seconds_of_date date

@@ -13,6 +13,7 @@ is_blank b = b == 32 || b == 9
 abbrev pub is_name_byte : ℕ → Bool
 is_name_byte b = nat_le 33 b && nat_le b 126 && not (b == 58)
 
+-- the byte LF
 abbrev pub is_line_feed : ℕ → Bool
 is_line_feed b = b == 10
 
@@ -26,6 +27,7 @@ lines_of text = lines text
 abbrev pub IsWholeLines : List ℕ → Type 0
 IsWholeLines text = 0 < length text → slice_index text (length text - 1) ≡ 10
 
+-- whether a line isn't empty
 abbrev pub is_some_line : List ℕ → Bool
 is_some_line line = nat_lt 0 (length line)
 
@@ -42,9 +44,11 @@ pub record Group : Type 0 where
   pub first : List ℕ
   pub continuations : List (List ℕ)
 
+-- the lines of a group
 abbrev pub group_lines : Group → List (List ℕ)
 group_lines g = g.first ∷ g.continuations
 
+-- a group's first line is no continuation, and the others are
 pub record IsFolded (g : Group) : Type 0 where
   pub begins : is_continuation g.first ≡ false
   pub goes_on : AllPass is_continuation g.continuations

@@ -49,6 +49,7 @@ NameCaseDoesNotMatter = (front name other spacing rest : List ℕ) → IsWholeLi
 abbrev pub crlf_byte : ℕ → List ℕ
 crlf_byte b = if b == 10 then 13 ∷ 10 ∷ [] else b ∷ []
 
+-- a text with a carriage return before each line feed
 abbrev pub with_crlf : List ℕ → List ℕ
 with_crlf text = flat_map crlf_byte text
 

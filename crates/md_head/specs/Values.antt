@@ -24,6 +24,7 @@ pub record IsField (g : Group) (name value : List ℕ) : Type 0 where
   pub same_name : str_eq_ignore_ascii_case found name ≡ true
   pub trimmed : IsTrimmed (body ++ concat g.continuations) value
 
+-- the group is no field of that name
 abbrev pub IsOther : List ℕ → Group → Type 0
 IsOther name g = (value : List ℕ) → ¬ IsField g name value
 

@@ -5,6 +5,7 @@ use mathlib.Core.Option.{some}
 use lib.ListN.{get_elem?}
 use Rattle.md_index.specs.declared.deal.Hand.{Hand}
 
+-- what one worker pushed and took
 abbrev pub hand : ℕ → List ℕ → Hand
 hand pushed taken = record { pushed = pushed; taken = taken }
 

@@ -4,7 +4,7 @@ use Rattle.std.specs.Char.{is_ascii_alphabetic}
 use Rattle.std.specs.Ordering.{nat_cmp}
 use Rattle.std.specs.FinSet as set
 
--- A to Z and a to z, each of them a flag
+-- a flag is one of the 52 ASCII letters, A to Z and a to z
 abbrev pub is_letter : ℕ → Bool
 is_letter c = is_ascii_alphabetic c
 

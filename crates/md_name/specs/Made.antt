@@ -8,6 +8,7 @@ use Rattle.md_name.specs.declared.error.NameError.TheVariants.{BadHost, BadMicro
 use Rattle.md_name.specs.declared.unique.UniqueParts.{UniqueParts}
 use Rattle.md_name.specs.Names.{is_colon, is_slash, is_terminator}
 
+-- the byte of a backslash
 abbrev pub is_backslash : ℕ → Bool
 is_backslash b = b == 92
 
@@ -17,6 +18,7 @@ escape b =
     if is_slash b then 92 ∷ codes "057"
     else (if is_colon b then 92 ∷ codes "072" else b ∷ [])
 
+-- a host with its slashes and colons written so
 unfoldable pub escaped : List ℕ → List ℕ
 escaped host = flat_map escape host
 
@@ -26,6 +28,7 @@ made_unique sec micro pid count host =
     decimal sec ++ codes ".M" ++ decimal micro ++ codes "P" ++ decimal pid ++ codes "Q" ++ decimal count
     ++ codes "." ++ escaped host
 
+-- the unique name that these parts make
 abbrev pub name_of : UniqueParts → List ℕ
 name_of parts = made_unique parts.sec parts.micro parts.pid parts.count parts.host.now
 
@@ -39,6 +42,7 @@ make_refusal micro host =
     if nat_le 1000000 micro then Some BadMicro
     else (if is_host host then None else Some BadHost)
 
+-- why no name is made of these parts, or none
 abbrev pub refusal_of : UniqueParts → Option NameError
 refusal_of parts = make_refusal parts.micro parts.host.now
 

@@ -7,9 +7,11 @@ use Rattle.md_name.specs.declared.info.Info.{Info}
 use Rattle.md_name.specs.declared.info.Info.TheVariants.{Bare, Two, Opaque}
 use Rattle.md_name.specs.Letters.{is_letter, Set, spelling}
 
+-- the byte of a colon
 abbrev pub is_colon : ℕ → Bool
 is_colon b = b == 58
 
+-- the byte of a slash
 abbrev pub is_slash : ℕ → Bool
 is_slash b = b == 47
 
@@ -17,6 +19,7 @@ is_slash b = b == 47
 abbrev pub is_terminator : ℕ → Bool
 is_terminator b = b == 0 || b == 10 || b == 13
 
+-- whether a name begins with a dot
 abbrev pub begins_with_dot : List ℕ → Bool
 begins_with_dot name = starts_with nat_eq name (codes ".")
 
@@ -35,6 +38,7 @@ info_by (Some text) =
     if starts_with nat_eq text (codes "2,") && list_all is_letter (drop 2 text)
     then Two (set.from_list (drop 2 text)) else Opaque
 
+-- the info of a name, which is bare without a colon
 abbrev pub info_of : List ℕ → Info
 info_of name = info_by (info_text name)
 

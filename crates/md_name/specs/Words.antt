@@ -9,6 +9,7 @@ use Rattle.md_name.specs.Letters.{letters, Set}
 abbrev pub place_of : ℕ → ℕ
 place_of c = if nat_le c 90 then c - 65 else c - 71
 
+-- the letter at a place
 abbrev pub letter_at : ℕ → ℕ
 letter_at i = if nat_lt i 26 then i + 65 else i + 71
 

@@ -2,6 +2,7 @@
 use Rattle.std.proofs.Common.{ℕ, ◌≡◌, ◌≢◌, ◌+◌, ◌<◌, ◌++◌, List, [], ◌∷◌, Option, Some, None, Result, Ok, Err, refl, sym, ap, ◌∙◌, length, take, drop, map, get_or, MatchResult}
 use Rattle.std.specs.Result.{IsErrAnd}
 use Rattle.md_dirs.proofs.Filled.{parted}
+use Rattle.md_dirs.specs.Calls.{fresh}
 use Rattle.md_core.specs.declared.error.CoreError.{CoreError}
 use Rattle.md_core.specs.declared.error.CoreError.TheVariants as core
 use Rattle.md_core.specs.declared.jobs.call.Call.{Call}
@@ -79,10 +80,10 @@ pub opened_fresh : (folders : ℕ) (files : List ImageFile) (r : Run) → run_ov
 unfolding run_over
 opened_fresh folders files r is = by (image_of folders files) is
   where
-    loaded : (o : Option CoreError) (image : State) → unless_refused o (new_run image 0 0) ≡ Ok r → r.events ≡ []
-    loaded None image is = let same : new_run image 0 0 ≡ r = cc in sym (ap (λ (x : Run). x.events) same)
+    loaded : (o : Option CoreError) (image : State) → unless_refused o (new_run (fresh image)) ≡ Ok r → r.events ≡ []
+    loaded None image is = let same : new_run (fresh image) ≡ r = cc in sym (ap (λ (x : Run). x.events) same)
     loaded (Some e) image is = cc
 
-    by : (i : Result State PlayKind) → (i >>= (λ image. unless_refused (load_refusal image) (new_run image 0 0))) ≡ Ok r → r.events ≡ []
+    by : (i : Result State PlayKind) → (i >>= (λ image. unless_refused (load_refusal image) (new_run (fresh image)))) ≡ Ok r → r.events ≡ []
     by (Ok image) is = loaded (load_refusal image) image is
     by (Err kind) is = cc

@@ -29,6 +29,7 @@ pub record IsCounted (words : List (List ℕ)) (name : List ℕ) (n most : ℕ) 
   pub called : IsCommand words name (word ∷ [])
   pub number : IsNumber word n most
 
+-- the words of a command line name this run, with a count in its range
 abbrev pub WordsName : List (List ℕ) → Run → Type 0
 WordsName words Play = IsCommand words (codes "play") []
 WordsName words (Threads n) = IsCounted words (codes "threads") n 16

@@ -17,7 +17,7 @@ use Rattle.md_script.specs.Folders.{can_add}
 use Rattle.md_script.specs.Verb.{verb_of, admitted}
 use Rattle.md_script.specs.Jobs.{folder_at, job_line}
 
--- Folders are numbered from 0 in the order in which they were named, and jobs from 1.
+-- A command. Folders are numbered from 0 in the order in which they were named, and jobs from 1.
 pub data Command : Type 0 where
   make_folder : (name : List ℕ) → Command
   make_file : (file : ImageFile) → Command
@@ -39,6 +39,7 @@ folder_line folders rest = do
   _ ← end_at name.1
   Ok (make_folder name.0)
 
+-- the directory of the words tmp, new and cur
 unfoldable pub place_named : List ℕ → Option Place
 place_named word =
     if bytes_eq word (codes "tmp") then Some Tmp
@@ -103,7 +104,7 @@ unique_line rest = do
   _ ← end_at host.1
   Ok (make_name sec.0 micro.0 pid.0 count.0 host.0)
 
--- the words after the first
+-- the words of a line after its first, by which command that names
 abbrev pub verb_line : List (List ℕ) → Mode → Verb → Rest → Result Command PlayKind
 verb_line folders mode verb.Folder rest = folder_line folders rest
 verb_line folders mode verb.File rest = file_of folders rest >>= (λ file. Ok (make_file file))

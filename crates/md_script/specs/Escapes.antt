@@ -12,6 +12,7 @@ escape b =
     else (if b == 10 then 92 ∷ 110 ∷ []
     else (if b == 13 then 92 ∷ 114 ∷ [] else b ∷ []))
 
+-- bytes with each of them written so
 abbrev pub escape_all : List ℕ → List ℕ
 escape_all bytes = flat_map escape bytes
 
@@ -22,6 +23,7 @@ meant_by letter =
     else (if letter == 114 then Ok 13
     else (if letter == 92 then Ok 92 else Err BadEscape))
 
+-- a byte before bytes that were read
 abbrev pub onto : ℕ → Result (List ℕ) PlayKind → Result (List ℕ) PlayKind
 onto b read = read >>= (λ bytes. Ok (b ∷ bytes))
 

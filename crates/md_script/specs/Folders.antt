@@ -12,6 +12,7 @@ most_folders = 64
 abbrev pub longest_name : ℕ
 longest_name = 100
 
+-- the names of folders, as the program holds them
 abbrev pub names_of : List (Vec ℕ) → List (List ℕ)
 names_of names = map (λ name. name.items) names
 

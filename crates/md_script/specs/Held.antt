@@ -15,6 +15,7 @@ use Rattle.md_name.specs.declared.unique.UniqueParts.{UniqueParts}
 use Rattle.md_script.specs.Sessions.{Session, ScriptStore, First, store_of, with_store, made_name}
 use Rattle.md_script.specs.Commands.{Command, make_folder, make_file, submit, step, finish, list, first, second, read, make_name, summarize}
 
+-- a command, as contracts see it
 abbrev pub command_of : Held → Command
 command_of (held.Folder name) = make_folder name.now
 command_of (held.File file) = make_file file

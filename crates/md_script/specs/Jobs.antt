@@ -42,6 +42,7 @@ tries_at rest = do
   _ ← end_at tries.1
   Ok tries.0
 
+-- the words of `job deliver` after the second
 unfoldable pub deliver_line : List (List ℕ) → Rest → Result Call PlayKind
 deliver_line folders rest = do
   folder ← folder_at folders rest
@@ -50,6 +51,7 @@ deliver_line folders rest = do
   body ← body_at chunk.1
   Ok (call.Deliver folder.0 unique.0 body chunk.0)
 
+-- the words of `job seen` after the second
 unfoldable pub seen_line : List (List ℕ) → Rest → Result Call PlayKind
 seen_line folders rest = do
   folder ← folder_at folders rest
@@ -58,6 +60,7 @@ seen_line folders rest = do
   tries ← tries_at flags.1
   Ok (call.Seen folder.0 unique.0 flags.0 tries)
 
+-- the words of `job flag` after the second
 unfoldable pub flag_line : List (List ℕ) → Rest → Result Call PlayKind
 flag_line folders rest = do
   folder ← folder_at folders rest
@@ -67,6 +70,7 @@ flag_line folders rest = do
   tries ← tries_at remove.1
   Ok (call.Flag folder.0 unique.0 add.0 remove.0 tries)
 
+-- the words of `job move` after the second
 unfoldable pub move_line : List (List ℕ) → Rest → Result Call PlayKind
 move_line folders rest = do
   folder ← folder_at folders rest
@@ -75,6 +79,7 @@ move_line folders rest = do
   tries ← tries_at to.1
   Ok (call.Move folder.0 unique.0 to.0 tries)
 
+-- the words of `job expunge` after the second
 unfoldable pub expunge_line : List (List ℕ) → Rest → Result Call PlayKind
 expunge_line folders rest = do
   folder ← folder_at folders rest
@@ -82,6 +87,7 @@ expunge_line folders rest = do
   tries ← tries_at unique.1
   Ok (call.Expunge folder.0 unique.0 tries)
 
+-- the words of `job copy` after the second
 unfoldable pub copy_line : List (List ℕ) → Rest → Result Call PlayKind
 copy_line folders rest = do
   folder ← folder_at folders rest
@@ -91,12 +97,14 @@ copy_line folders rest = do
   tries ← tries_at fresh.1
   Ok (call.Copy folder.0 unique.0 to.0 fresh.0 tries)
 
+-- the words of `job clean` after the second
 unfoldable pub clean_line : List (List ℕ) → Rest → Result Call PlayKind
 clean_line folders rest = do
   folder ← folder_at folders rest
   _ ← end_at folder.1
   Ok (call.Clean folder.0)
 
+-- the word after `job`, as a call
 unfoldable pub job_verb_of : List ℕ → Option JobVerb
 job_verb_of word =
     if bytes_eq word (codes "deliver") then Some Deliver

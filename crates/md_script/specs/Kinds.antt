@@ -7,10 +7,12 @@ use Rattle.md_script.specs.declared.error.PlayKind.{PlayKind}
 use Rattle.md_script.specs.declared.error.PlayKind.TheVariants.{Core, Name, NoMemory}
 use Rattle.md_script.specs.declared.error.PlayError.{PlayError}
 
+-- the kind of an error of the store
 abbrev pub core_kind : CoreError → PlayKind
 core_kind core.NoMemory = NoMemory
 core_kind refusal = Core refusal
 
+-- the kind of an error of a name
 abbrev pub name_kind : NameError → PlayKind
 name_kind name.NoMemory = NoMemory
 name_kind refusal = Name refusal

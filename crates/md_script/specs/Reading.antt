@@ -48,6 +48,7 @@ Unread old new TooManyReads = ReadsOn old new
 Unread old new NoMemory = Sound old new
 Unread old new other = ⊥
 
+-- a reader gave all its bytes, or why reading ended
 abbrev pub ReadsWhole : Source → Source → Result (Vec ℕ) PlayKind → Type 0
 ReadsWhole old new (Ok script) = IsReadWhole old new script.items
 ReadsWhole old new (Err kind) = Unread old new kind

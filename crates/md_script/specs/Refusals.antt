@@ -7,6 +7,7 @@ use Rattle.md_core.specs.declared.error.CoreError.TheVariants as core
 use Rattle.md_script.specs.declared.error.PlayKind.{PlayKind}
 use Rattle.md_script.specs.declared.error.PlayKind.TheVariants as play
 
+-- what an error of the store says
 abbrev pub core_text : CoreError → List ℕ
 core_text core.BadName = codes "bad name"
 core_text core.LongUnique = codes "long unique"
@@ -23,6 +24,7 @@ core_text core.NoJob = codes "no job"
 core_text core.Answered = codes "answered"
 core_text core.NoMemory = codes "no memory"
 
+-- what an error of a name says
 abbrev pub name_text : NameError → List ℕ
 name_text name.BadHost = codes "bad host"
 name_text name.BadMicro = codes "bad micro"

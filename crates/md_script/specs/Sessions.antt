@@ -11,6 +11,7 @@ use Rattle.md_dirs.specs.declared.image.ImageFile.{ImageFile}
 use Rattle.md_name.specs.declared.error.NameError.{NameError}
 use Rattle.md_name.specs.Made.{make_refusal}
 use Rattle.md_head.specs.Summaries.{summary_of}
+use Rattle.md_dirs.specs.Calls.{fresh}
 use Rattle.md_core.specs.declared.error.CoreError.{CoreError}
 use Rattle.md_core.specs.declared.jobs.call.Call.{Call}
 use Rattle.md_core.specs.declared.jobs.step.Event.{Event}
@@ -61,7 +62,7 @@ image_of folders files = do
 unfoldable pub run_over : ℕ → List ImageFile → Result Run PlayKind
 run_over folders files = do
   image ← image_of folders files
-  unless_refused (load_refusal image) (new_run image 0 0)
+  unless_refused (load_refusal image) (new_run (fresh image))
 
 -- a store that was just opened
 abbrev pub new_store : Run → ScriptStore
@@ -84,6 +85,7 @@ with_store s t = record { folders = s.folders; files = []; store = Some t }
 abbrev pub without_fault : Event → Occurrence
 without_fault event = record { event = event; faulted = false }
 
+-- what one step of a job prints
 abbrev pub step_text : Run → Event → List ℕ
 step_text r event = shown_text event.job (option_map step_out (step_of (machine_of r) (without_fault event)))
 
@@ -155,6 +157,7 @@ abbrev pub unless_bad : Option NameError → List ℕ → Result (List ℕ) Play
 unless_bad None text = Ok text
 unless_bad (Some e) text = Err (Name e)
 
+-- what `unique` with these parts prints, or why no name is made
 unfoldable pub made_name : ℕ → ℕ → ℕ → ℕ → List ℕ → Result (List ℕ) PlayKind
 made_name sec micro pid count host = unless_bad (make_refusal micro host) (unique_text sec micro pid count host)
 

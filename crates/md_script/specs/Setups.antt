@@ -22,13 +22,14 @@ pub record Setting : Type 0 where
 abbrev pub printing_nothing : Setting → Result (Setting × List ℕ) PlayKind
 printing_nothing s = Ok (s, [])
 
--- No other command is read.
+-- a folder, a file or a call is noted, in the order of their lines; another command is `not in this run`
 abbrev pub set_up : Setting → Command → Result (Setting × List ℕ) PlayKind
 set_up s (make_folder name) = printing_nothing (record s { folders = s.folders ++ name ∷ [] })
 set_up s (make_file file) = printing_nothing (record s { files = s.files ++ file ∷ [] })
 set_up s (submit call) = printing_nothing (record s { calls = s.calls ++ call ∷ [] })
 set_up s other = Err NotInThisRun
 
+-- a line of a set-up: the command that it spells, noted
 unfoldable pub setting_line : Setting → List ℕ → Result (Setting × List ℕ) PlayKind
 setting_line s line = command_at s.folders (SettingUp s.with_jobs) line >>= set_up s
 

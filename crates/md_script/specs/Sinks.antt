@@ -9,10 +9,12 @@ pub record Sink : Type 0 where
   pub contents : Option (List ℕ)
   pub has_failed : Bool
 
+-- the text was added to what the sink holds
 pub record Took (old new : Sink) (text : List ℕ) : Type 0 where
   pub contents : Appends old.contents new.contents text
   pub failed : new.has_failed ≡ old.has_failed
 
+-- the sink holds what it held
 pub record Untouched (old new : Sink) : Type 0 where
   pub contents : Keeps old.contents new.contents
   pub failed : new.has_failed ≡ old.has_failed

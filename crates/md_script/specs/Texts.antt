@@ -18,14 +18,17 @@ use Rattle.md_core.specs.declared.jobs.step.StepOut.{StepOut}
 use Rattle.md_view.specs.declared.entry.Entry.{Entry}
 use Rattle.md_script.specs.Escapes.{escape_all}
 
+-- LF
 abbrev pub line_end : List ℕ
 line_end = 10 ∷ []
 
+-- the word of a directory of a maildir
 abbrev pub place_text : Place → List ℕ
 place_text Tmp = codes "tmp"
 place_text New = codes "new"
 place_text Cur = codes "cur"
 
+-- the words of a directory call
 abbrev pub call_text : DirCall → List ℕ
 call_text dir.Create = codes "create"
 call_text (dir.Append n) = codes "append " ++ decimal n
@@ -34,6 +37,7 @@ call_text dir.Rename = codes "rename"
 call_text dir.Unlink = codes "unlink"
 call_text (dir.List place) = codes "list " ++ place_text place
 
+-- the word of a reply
 abbrev pub reply_text : DirReply → List ℕ
 reply_text reply.Ok = codes "ok"
 reply_text reply.Exists = codes "exists"
@@ -45,6 +49,7 @@ abbrev pub letters_text : List ℕ → List ℕ
 letters_text [] = codes "-"
 letters_text (c ∷ letters) = c ∷ letters
 
+-- the words of an answer
 abbrev pub answer_text : Answer → List ℕ
 answer_text answer.Delivered = codes "delivered"
 answer_text (answer.Flags s) = codes "flags " ++ letters_text (spelling s)
@@ -75,6 +80,7 @@ abbrev pub out_text : ℕ → StepOut → List ℕ
 out_text job out =
     decimal job ++ codes " " ++ call_text out.call ++ codes " " ++ reply_text out.reply ++ line_end ++ answer_line job out.answer
 
+-- what a step shows, where it was taken
 abbrev pub shown_text : ℕ → Option StepOut → List ℕ
 shown_text job None = []
 shown_text job (Some out) = out_text job out
@@ -113,6 +119,7 @@ abbrev pub value_line : List ℕ → Option (List ℕ) → List ℕ
 value_line name None = []
 value_line name (Some value) = name ++ codes "=" ++ escape_all value ++ line_end
 
+-- `seconds=` and the seconds, where there are some
 abbrev pub seconds_line : Option ℤ → List ℕ
 seconds_line None = []
 seconds_line (Some seconds) = codes "seconds=" ++ signed_decimal seconds ++ line_end

@@ -9,6 +9,7 @@ use Rattle.md_script.specs.declared.verb.Mode.{Mode}
 use Rattle.md_script.specs.declared.verb.Mode.TheVariants.{Playing, SettingUp}
 use Rattle.md_script.specs.Words.{require}
 
+-- the first word of a line, as a command
 unfoldable pub verb_of : List ℕ → Option Verb
 verb_of word =
     if bytes_eq word (codes "folder") then Some verb.Folder

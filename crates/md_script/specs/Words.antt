@@ -20,6 +20,7 @@ require false kind = Err kind
 abbrev pub Rest : Type 0
 Rest = Option (List ℕ)
 
+-- the byte of a space
 abbrev pub is_space : ℕ → Bool
 is_space b = b == 32
 
@@ -28,6 +29,7 @@ unfoldable pub cut_at_space : List ℕ → List ℕ × Rest
 cut_at_space text =
     (before_first is_space text, if list_any is_space text then Some (after_first is_space text) else None)
 
+-- a word has at least one byte
 abbrev pub nonempty_word : List ℕ × Rest → Result (List ℕ × Rest) PlayKind
 nonempty_word ([], rest) = Err BadCommand
 nonempty_word (b ∷ bytes, rest) = Ok (b ∷ bytes, rest)

@@ -23,7 +23,7 @@ use std::alloc::Global;
 /// A command, as the words of a line spell it. Folders are numbered from 0 in the order in which they were named, and
 /// jobs from 1.
 #[derive(Debug, Drop)]
-pub(crate) enum Command<'a> {
+pub enum Command<'a> {
     /// `folder NAME`: a new folder.
     Folder { name: &'a [u8] },
     /// `file FOLDER PLACE NAME STAMP [BODY]`: a file that the store begins with.
@@ -53,7 +53,7 @@ pub(crate) enum Command<'a> {
 /// The words are read from left to right, and the first that fails names the refusal: a command that may not come here is refused right
 /// after its first word, a folder is looked up as its word is read, a missing word is met at its place, and words too many come last.
 #[tactic(auto, unfolding(crate::specs::Commands::command_at))]
-pub(crate) fn read_command<'a>(
+pub fn read_command<'a>(
     alloc: Global,
     folders: &Folders,
     mode: Mode,

@@ -17,7 +17,7 @@ const DOT: u8 = b'.';
 
 /// The names of a script's folders, at most `MOST_FOLDERS`, in the order in which they were named.
 #[derive(Drop)]
-pub(crate) struct Folders {
+pub struct Folders {
     alloc: Global,
     names: Vec<Vec<u8>>,
 }
@@ -32,7 +32,7 @@ impl Model for Folders {
 
 impl Folders {
     /// No folder.
-    pub(crate) fn new(alloc: Global) -> Self
+    pub fn new(alloc: Global) -> Self
         ensures { result ≡ [] }
     {
         Folders {
@@ -42,7 +42,7 @@ impl Folders {
     }
 
     /// How many folders there are.
-    pub(crate) fn count(&self) -> u32
+    pub fn count(&self) -> u32
         ensures { result ≡ length self.now }
     {
         self.names.len() as u32
@@ -79,7 +79,7 @@ impl Folders {
     }
 
     /// Adds a folder after the others.
-    pub(crate) fn add(&mut self, name: &[u8]) -> Result<(), AllocError>
+    pub fn add(&mut self, name: &[u8]) -> Result<(), AllocError>
         requires { length self.old < MOST_FOLDERS }
         ensures ok { OnOk result (self.new ≡ self.old ++ name.now ∷ []) }
         ensures err { OnErr result (self.new ≡ self.old) }

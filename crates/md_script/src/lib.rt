@@ -25,7 +25,9 @@ mod summary;
 mod verb;
 mod words;
 
+pub use command::{Command, read_command};
 pub use error::{PlayError, PlayKind};
+pub use folders::Folders;
 pub use lines::count_lines;
 pub use listing::push_entries;
 pub use player::{play, transcript, transcript_over, write_whole};
@@ -37,3 +39,4 @@ pub use source::{Got, Reader, Source};
 pub use storage::Storage;
 pub use store::{open_store, push_answer_line};
 pub use summary::push_summary;
+pub use verb::Mode;

@@ -1,5 +1,6 @@
 //! Directories that a script is played over.
 ghost use Rattle.std.specs.Prelude.{◌≡◌, ◌⊎◌, None, Some, IfOk, IfErr, refl};
+ghost use Rattle.md_dirs.specs.Calls.{fresh};
 ghost use Rattle.md_dirs.specs.Image.{image_state, image_refusal};
 ghost use Rattle.md_dirs.specs.declared.calls.DirError.TheVariants.{NoMemory};
 
@@ -12,12 +13,11 @@ pub trait Storage: Dirs + Drop {
     /// in place of either.
     fn holding(alloc: Global, folders: u32, files: Vec<ImageFile>) -> Result<Self, DirError>
         ensures accepted { IfOk result (λ _. image_refusal folders files.items ≡ None) }
-        ensures made { IfOk result (λ dirs. Self.state dirs ≡ image_state folders files.items) }
-        ensures fresh { IfOk result (λ dirs. Self.calls dirs ≡ 0) }
+        ensures made { IfOk result (λ dirs. Self.device dirs ≡ fresh (image_state folders files.items)) }
         ensures refused { IfErr result (λ e. (e ≡ NoMemory) ⊎ (image_refusal folders files.items ≡ Some e)) };
 
     // A law: no call of theirs was a fault.
-    ghost never_fails: { (dirs : Self) → Self.failures dirs ≡ 0 };
+    ghost never_fails: { (dirs : Self) → (Self.device dirs).failures ≡ 0 };
 }
 
 impl Storage for IndexDirs {

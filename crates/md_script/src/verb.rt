@@ -7,7 +7,7 @@ use crate::error::PlayKind;
 
 /// What a line is read for.
 #[derive(Clone, Copy, Debug, PartialEq, Eq)]
-pub(crate) enum Mode {
+pub enum Mode {
     /// To be run at once, over a store that was loaded or not.
     Playing { is_loaded: bool },
     /// To set a store up, with jobs or without, for another to run.

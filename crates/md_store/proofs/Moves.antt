@@ -11,7 +11,7 @@ use Rattle.md_core.specs.declared.world.submit.SubmitRefused.{SubmitRefused}
 use Rattle.md_core.specs.declared.jobs.effect.Effect.{Effect}
 use Rattle.md_core.specs.declared.jobs.step.StepOut.{StepOut}
 use Rattle.md_core.specs.Asked.{is_fault}
-use Rattle.md_core.specs.declared.jobs.task.Task.{Task}
+use Rattle.md_core.specs.Tasks.Task.{Task}
 use Rattle.md_core.specs.Machine.{Machine, Occurrence, occurrence, step_by, task_of, job_at, step_of as done_of}
 use Rattle.md_core.specs.Trace.{Step}
 use Rattle.md_core.specs.Runs.{Run, machine_of, and_event, and_call, effects_of}

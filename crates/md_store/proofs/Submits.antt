@@ -8,6 +8,7 @@ use Rattle.std.proofs.lemmas.List.{nil_from_length}
 use Rattle.md_dirs.specs.Path.{path_cmp}
 use Rattle.md_dirs.specs.State.{bare}
 use Rattle.md_name.specs.Names.{is_unique_name}
+use Rattle.md_dirs.specs.Calls.{fresh}
 use Rattle.md_core.specs.declared.error.CoreError.{CoreError}
 use Rattle.md_core.specs.declared.error.CoreError.TheVariants as core
 use Rattle.md_core.specs.declared.jobs.call.Call.{Call}
@@ -92,7 +93,7 @@ no-entries : finmap.entries (finmap.empty {X = ℕ} {R = path_cmp}) ≡ []
 no-entries = nil_from_length (finmap.entries (finmap.empty {X = ℕ} {R = path_cmp})) (sym (len-entries (finmap.empty {X = ℕ} {R = path_cmp})) ∙
     len-empty path_cmp ℕ)
 
-none-used : (folders : ℕ) (u : List ℕ) → is_used (new_run (bare folders) 0 0) u ≡ false
+none-used : (folders : ℕ) (u : List ℕ) → is_used (new_run (fresh (bare folders))) u ≡ false
 none-used folders u = ap (λ es. list_any (λ e. uses u e.0) es || false) no-entries
 
 -- what the first checks say counts, whatever the last ones say
@@ -108,7 +109,7 @@ accepted ((false, x) ∷ ps) cs ds none h = accepted ps cs ds none h
 
 module _ (r : Run) (folders : ℕ) (same : r.image.folders ≡ folders) (asked : Call) where
   abbrev empty : Run
-  empty = new_run (bare folders) 0 0
+  empty = new_run (fresh (bare folders))
 
   abbrev held_of : Run → Checks
   held_of s = held (too_many s) (is_used s) asked

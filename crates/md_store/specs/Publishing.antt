@@ -6,6 +6,7 @@ use mathlib.Core.List.{IsPrefix}
 use lib.ListN.{get_elem?}
 use Rattle.logbook.specs.Pages.{Book}
 use Rattle.md_dirs.specs.State.{bare}
+use Rattle.md_dirs.specs.Calls.{fresh}
 use Rattle.md_core.specs.declared.jobs.effect.Effect.{Effect}
 use Rattle.md_core.specs.Runs.{Run, new_run}
 use Rattle.md_view.specs.Named.{Named, AreMessages, after_change}
@@ -13,12 +14,15 @@ use Rattle.md_store.specs.Histories.{named_after, IsLegalFrom}
 use Rattle.md_store.specs.Pages.{Log, Page, Note}
 use Rattle.md_store.specs.declared.rule.View.{View}
 
+-- the book of no store
 abbrev pub no_book : Book
 no_book = record { number = 0; log_name = 0; cells_name = 0 }
 
+-- the run of no store
 abbrev pub no_run : Run
-no_run = new_run (bare 0) 0 0
+no_run = new_run (fresh (bare 0))
 
+-- the names of no store
 abbrev pub no_names : Named
 no_names = record { folders = 0; names = finmap.empty }
 

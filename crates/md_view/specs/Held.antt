@@ -28,6 +28,7 @@ list_of Cur f = f.in_cur
 abbrev pub listed_in : List FolderLists → ℕ → Place → List Entry
 listed_in fs folder place = option_map_or (list_of place) (slice_get fs folder) []
 
+-- an entry of a folder, by its unique name
 abbrev pub by_folder : ℕ → Entry → List ℕ × Listed
 by_folder folder e = (e.unique, record { folder = folder; place = e.place; name = e.name; size = e.size })
 

@@ -23,6 +23,7 @@ names_at r k = names_of (box (trace_of r) k)
 abbrev pub names_after_first : Names → List Effect → ℕ → Names
 names_after_first opening history k = names_after opening (take k history)
 
+-- the entry of a message, if it is in the folder
 abbrev pub shown_in : ℕ → List ℕ → Listed → Option Entry
 shown_in folder u message = if message.folder == folder then Some (as_entry (u, message)) else None
 

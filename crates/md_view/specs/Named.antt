@@ -31,6 +31,7 @@ listed_code =
     back New = refl
     back Cur = refl
 
+-- names as a tuple
 abbrev pub named_code : Coded Named
 named_code =
     code_by (ℕ × Names) (coded× coded_ℕ (finmap.code (coded_list coded_ℕ) listed_code))
@@ -60,6 +61,7 @@ abbrev pub has_name : ℕ → Place → List ℕ → Listed → Bool
 has_name folder place name message =
     message.folder == folder && place_index message.place == place_index place && pointwise nat_eq message.name name
 
+-- whether a message with this name is there, in this directory
 abbrev pub is_there : Named → ℕ → Place → List ℕ → Bool
 is_there n folder place name = option_map_or (has_name folder place name) (finmap.get n.names (unique_of name)) false
 

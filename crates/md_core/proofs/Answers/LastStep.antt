@@ -7,7 +7,7 @@ use Rattle.md_core.specs.declared.jobs.answer.Answer.{Answer}
 use Rattle.md_core.specs.declared.jobs.call.Call.{Call}
 use Rattle.md_core.specs.declared.jobs.call.Call.TheVariants as call
 use Rattle.md_core.specs.declared.jobs.step.DirReply.{DirReply}
-use Rattle.md_core.specs.declared.jobs.task.Task.{Task}
+use Rattle.md_core.specs.Tasks.Task.{Task}
 use Rattle.md_core.specs.Turn.{After, Turn, rows_for}
 use Rattle.md_core.specs.Machine.{Machine, Standing, working, answered, Occurrence, job_at, new_job, moment_of, turn_of, reply_to, standing_of, step_of, step_by}
 use Rattle.md_core.specs.Trace.{Step, call_at}

@@ -1,18 +1,17 @@
 -- A job is answered that it faulted only where one of its directory calls did, and never that its name is taken.
-use Rattle.md_core.specs.declared.jobs.errand.Stage as errand
-use Rattle.md_core.specs.declared.jobs.errand.Stage.TheVariants.{Look, Act}
+use Rattle.md_core.specs.Tasks.Errand as errand
+use Rattle.md_core.specs.Tasks.Errand.{Look, Act}
 use Rattle.std.proofs.Common.{ℕ, ◌≡◌, ◌+◌, ◌≤◌, List, Some, None, refl, subst, ◌∙◌, length, arith}
 use Rattle.md_dirs.specs.State.{State}
 use Rattle.md_core.specs.declared.jobs.answer.Answer.{Answer}
 use Rattle.md_core.specs.declared.jobs.answer.Answer.TheVariants as answer
 use Rattle.md_core.specs.declared.jobs.call.Call.{Call}
 use Rattle.md_core.specs.declared.jobs.call.Call.TheVariants as call
-use Rattle.md_core.specs.declared.jobs.deliver.Stage.{Stage}
-use Rattle.md_core.specs.declared.jobs.deliver.Stage.TheVariants.{Start, Writing, Linked, Undo}
+use Rattle.md_core.specs.Machines.Refusals.{refused_by}
+use Rattle.md_core.specs.Tasks.Delivery.{Stage, Start, Writing, Linked, Undo}
 use Rattle.md_core.specs.declared.jobs.step.DirReply.{DirReply}
 use Rattle.md_core.specs.declared.jobs.step.DirReply.TheVariants as reply
-use Rattle.md_core.specs.declared.jobs.task.Task.{Task}
-use Rattle.md_core.specs.declared.jobs.task.Task.TheVariants.{Deliver, Errand, Clean}
+use Rattle.md_core.specs.Tasks.Task.{Task, Deliver, Errand, Clean}
 use Rattle.md_core.specs.Turn.{After}
 use Rattle.md_core.specs.Machine.{Standing, working, answered, job_at, new_job}
 use Rattle.md_core.specs.Runs.{Run, machine_at}
@@ -37,7 +36,7 @@ abbrev PendingAt : Run → ℕ → Stage → Type 0
 PendingAt r job Start = Unit {0}
 PendingAt r job (Writing start k) = Unit {0}
 PendingAt r job Linked = Unit {0}
-PendingAt r job (Undo a) = (a ≡ answer.Fault) × IsFaulted r job
+PendingAt r job (Undo a) = (refused_by a ≡ answer.Fault) × IsFaulted r job
 
 abbrev Pending : Run → ℕ → Task → Type 0
 Pending r job (Deliver d) = PendingAt r job d.stage

@@ -1,27 +1,29 @@
 -- A job that acts on one message gives no answer of a time, of a lost file in tmp, or of a clean.
-use Rattle.std.proofs.Common.{ℕ, List, Option, Some, None, Bool, true, false, ◌-◌, nat_le, cond}
+use Rattle.std.proofs.Common.{ℕ, ◌≡◌, List, Option, Some, None, Bool, true, false, ◌-◌, nat_le, cond, is_some, refl, subst}
 use Rattle.md_dirs.specs.declared.paths.Place.{Place}
 use Rattle.md_dirs.specs.declared.rows.Row.{Row}
 use Rattle.md_dirs.specs.Rows.{row_named}
 use Rattle.md_name.specs.declared.info.Info.{Info}
+use Rattle.md_name.specs.Letters.{Set}
+use Rattle.md_name.specs.Names.{flags_of}
 use Rattle.md_core.specs.declared.jobs.answer.Answer.{Answer}
 use Rattle.md_core.specs.declared.jobs.answer.Answer.TheVariants as answer
-use Rattle.md_core.specs.declared.jobs.errand.Errand.{Errand}
-use Rattle.md_core.specs.declared.jobs.errand.Stage.{Stage}
-use Rattle.md_core.specs.declared.jobs.errand.Stage.TheVariants.{Look, Act}
-use Rattle.md_core.specs.declared.jobs.purpose.Decision.{Decision}
-use Rattle.md_core.specs.declared.jobs.purpose.Decision.TheVariants as decision
-use Rattle.md_core.specs.declared.jobs.purpose.Deed.{Deed}
-use Rattle.md_core.specs.declared.jobs.purpose.Purpose.{Purpose}
-use Rattle.md_core.specs.declared.jobs.purpose.Purpose.TheVariants as purpose
-use Rattle.md_core.specs.declared.jobs.refusal.Refusal.{Refusal}
-use Rattle.md_core.specs.declared.jobs.refusal.Refusal.TheVariants as refusal
+use Rattle.md_core.specs.Tasks.Errand.{Errand, Stage, Look, Act}
+use Rattle.md_core.specs.Tasks.Decision.{Decision}
+use Rattle.md_core.specs.Tasks.Decision as decision
+use Rattle.md_core.specs.Tasks.Deed.{Deed}
+use Rattle.md_core.specs.Tasks.Deed as deed
+use Rattle.md_core.specs.Tasks.Purpose.{Purpose}
+use Rattle.md_core.specs.Tasks.Purpose as purpose
+use Rattle.md_core.specs.Tasks.Refusal.{Refusal}
+use Rattle.md_core.specs.Tasks.Refusal as refusal
 use Rattle.md_core.specs.declared.jobs.step.DirReply.{DirReply}
 use Rattle.md_core.specs.declared.jobs.step.DirReply.TheVariants as reply
 use Rattle.md_core.specs.Turn.{goes_on}
-use Rattle.md_core.specs.Machines.Purposes.{first, searches, place_after, info_in, decide, answer_by, deed_by}
-use Rattle.md_core.specs.Machines.Errand.{at_stage, refuses, taken_by, after_none, after_decision, after_row, after_look, lost_or_again, after_act, stage_turn}
-use Rattle.md_core.specs.Machines.Refusals.{refused_by}
+use Rattle.md_core.specs.Machines.Purposes.{first, searches, place_after, info_in, has_trashed, wanted, act_if, decide_flag, decide, answer_by, deed_by}
+use Rattle.md_core.specs.Alone.{is_same_set}
+use Rattle.md_core.specs.Machines.Errand.{at_stage, taken_by, after_none, after_decision, after_row, after_look, lost_or_again, after_act, stage_turn}
+use Rattle.md_core.specs.Machines.Refusals.{refused_by, refuses}
 
 abbrev pub IsPlain : Answer → Type 0
 IsPlain answer.TimedOut = ⊥
@@ -43,13 +45,30 @@ abbrev pub GivesPlain : Option Answer → Type 0
 GivesPlain None = Unit {0}
 GivesPlain (Some a) = IsPlain a
 
-refusal-plain : (a : Refusal) → IsPlain (refused_by a)
-refusal-plain refusal.NotThere = tt
-refusal-plain refusal.NotTrashed = tt
-refusal-plain refusal.OtherInfo = tt
-refusal-plain refusal.NameTaken = tt
-refusal-plain refusal.Lost = tt
-refusal-plain refusal.Fault = tt
+-- what the table refuses with
+test-plain : (b : Bool) (r a : Refusal) → IsPlain (refused_by r) → act_if b r ≡ decision.Refuse a → IsPlain (refused_by a)
+test-plain true r a plain is = cc
+test-plain false r a plain is = let same : r ≡ a = cc in subst (λ (x : Refusal). IsPlain (refused_by x)) same plain
+
+flag-plain : (p : Purpose) (o : Option Set) (a : Refusal) → decide_flag p o ≡ decision.Refuse a → IsPlain (refused_by a)
+flag-plain p None a is = let same : refusal.OtherInfo ≡ a = cc in subst (λ (x : Refusal). IsPlain (refused_by x)) same tt
+flag-plain p (Some had) a is = by (is_same_set had (wanted p had)) is
+  where
+    by : (b : Bool) → cond b decision.Keep decision.Act ≡ decision.Refuse a → IsPlain (refused_by a)
+    by true h = cc
+    by false h = cc
+
+decided-plain : (p : Purpose) (info : Info) (a : Refusal) → decide p info ≡ decision.Refuse a → IsPlain (refused_by a)
+decided-plain (purpose.Seen given) info a is = test-plain (is_some (flags_of info)) refusal.OtherInfo a tt is
+decided-plain (purpose.Flag add remove) info a is = flag-plain (purpose.Flag add remove) (flags_of info) a is
+decided-plain (purpose.Move to) info a is = cc
+decided-plain (purpose.Copy to fresh) info a is = test-plain (is_some (flags_of info)) refusal.OtherInfo a tt is
+decided-plain purpose.Expunge info a is = test-plain (has_trashed (flags_of info)) refusal.NotTrashed a tt is
+
+taken-plain : (d : Deed) → IsPlain (refused_by (taken_by d))
+taken-plain (deed.Rename old new) = tt
+taken-plain (deed.Link old new) = tt
+taken-plain (deed.Unlink old) = tt
 
 answer-plain : (p : Purpose) (info : Info) → IsPlain (answer_by p info)
 answer-plain (purpose.Seen given) info = tt
@@ -64,14 +83,15 @@ module _ (number : ℕ) (e : Errand) (tries : ℕ) where
   none-plain (Some next) = tt
 
   module _ (place : Place) where
-    decision-plain : (row : Row) (d : Decision) → GivesPlain (after_decision number e place tries row d).answer
-    decision-plain row (decision.Refuse a) = refusal-plain a
-    decision-plain row decision.Keep = answer-plain e.purpose (info_in row.name)
-    decision-plain row decision.Act = tt
+    decision-plain : (row : Row) (d : Decision) → decide e.purpose (info_in row.name) ≡ d →
+        GivesPlain (after_decision number e place tries row d).answer
+    decision-plain row (decision.Refuse a) is = decided-plain e.purpose (info_in row.name) a is
+    decision-plain row decision.Keep is = answer-plain e.purpose (info_in row.name)
+    decision-plain row decision.Act is = tt
 
     row-plain : (o : Option Row) → GivesPlain (after_row number e place tries o).answer
     row-plain None = none-plain (place_after (searches e.purpose) place)
-    row-plain (Some row) = decision-plain row (decide e.purpose (info_in row.name))
+    row-plain (Some row) = decision-plain row (decide e.purpose (info_in row.name)) refl
 
     look-plain : (r : DirReply) (o : Option Row) → GivesPlain (after_look number e place tries r o).answer
     look-plain reply.Ok o = row-plain o
@@ -88,7 +108,7 @@ module _ (number : ℕ) (e : Errand) (tries : ℕ) where
 
   act-plain : (d : Deed) (a : Answer) (size : ℕ) (r : DirReply) → IsPlain a → GivesPlain (after_act number e d a size tries r).answer
   act-plain d a size reply.Ok plain = plain
-  act-plain d a size reply.Exists plain = refusal-plain (taken_by d)
+  act-plain d a size reply.Exists plain = taken-plain d
   act-plain d a size reply.NotFound plain = lost-plain
   act-plain d a size reply.Fault plain = tt
 

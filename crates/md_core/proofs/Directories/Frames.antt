@@ -9,12 +9,9 @@ use Rattle.md_core.specs.Mailbox.{is_message, is_tmp}
 use Rattle.md_core.proofs.Induction.Good.{key_of, bytes_at, IsUnused, HasNoMessage, IsAlone, StageFits, DeliveryFits, ErrandFits, folder_to, TaskFits, Makes}
 use Rattle.md_core.proofs.Mailbox.Changes.{by_name}
 use Rattle.md_core.specs.declared.jobs.call.Call.{Call}
-use Rattle.md_core.specs.declared.jobs.deliver.Delivery.{Delivery}
-use Rattle.md_core.specs.declared.jobs.deliver.Stage.{Stage}
-use Rattle.md_core.specs.declared.jobs.deliver.Stage.TheVariants.{Start, Writing, Linked, Undo}
-use Rattle.md_core.specs.declared.jobs.errand.Errand.{Errand as ErrandOf}
-use Rattle.md_core.specs.declared.jobs.task.Task.{Task}
-use Rattle.md_core.specs.declared.jobs.task.Task.TheVariants.{Deliver, Errand, Clean}
+use Rattle.md_core.specs.Tasks.Delivery.{Delivery, Stage, Start, Writing, Linked, Undo}
+use Rattle.md_core.specs.Tasks.Errand.{Errand as ErrandOf}
+use Rattle.md_core.specs.Tasks.Task.{Task, Deliver, Errand, Clean}
 
 pub message-key : (p : Path) → is_message p ≡ true → key_of p ≡ unique_of p.name
 message-key p m = by p.place m

@@ -10,21 +10,18 @@ use Rattle.md_name.specs.Names.{unique_of, info_text, is_message_name, is_unique
 use Rattle.md_core.specs.declared.jobs.answer.Answer.{Answer}
 use Rattle.md_core.specs.declared.jobs.call.Call.{Call}
 use Rattle.md_core.specs.declared.jobs.call.Call.TheVariants as call
-use Rattle.md_core.specs.declared.jobs.cleaning.Cleaning.{Cleaning}
-use Rattle.md_core.specs.declared.jobs.deliver.Delivery.{Delivery}
-use Rattle.md_core.specs.declared.jobs.deliver.Stage.{Stage}
-use Rattle.md_core.specs.declared.jobs.deliver.Stage.TheVariants.{Start, Writing, Linked, Undo}
+use Rattle.md_core.specs.Tasks.Cleaning.{Cleaning}
+use Rattle.md_core.specs.Machines.Refusals.{refused_by}
+use Rattle.md_core.specs.Tasks.Delivery.{Delivery, Stage, Start, Writing, Linked, Undo}
 use Rattle.md_core.specs.declared.jobs.effect.Effect.{Effect}
-use Rattle.md_core.specs.declared.jobs.errand.Errand.{Errand as ErrandOf}
-use Rattle.md_core.specs.declared.jobs.errand.Stage as errand
-use Rattle.md_core.specs.declared.jobs.errand.Stage.TheVariants.{Look, Act}
-use Rattle.md_core.specs.declared.jobs.purpose.Decision.TheVariants as decision
-use Rattle.md_core.specs.declared.jobs.purpose.Purpose.{Purpose}
-use Rattle.md_core.specs.declared.jobs.purpose.Purpose.TheVariants as purpose
+use Rattle.md_core.specs.Tasks.Errand.{Errand as ErrandOf, Look, Act}
+use Rattle.md_core.specs.Tasks.Errand as errand
+use Rattle.md_core.specs.Tasks.Decision as decision
+use Rattle.md_core.specs.Tasks.Purpose.{Purpose}
+use Rattle.md_core.specs.Tasks.Purpose as purpose
 use Rattle.md_core.specs.declared.jobs.step.DirReply.{DirReply}
 use Rattle.md_core.specs.declared.jobs.step.Moment.{Moment}
-use Rattle.md_core.specs.declared.jobs.task.Task.{Task}
-use Rattle.md_core.specs.declared.jobs.task.Task.TheVariants.{Deliver, Errand, Clean}
+use Rattle.md_core.specs.Tasks.Task.{Task, Deliver, Errand, Clean}
 use Rattle.std.specs.FinMap as finmap
 use Rattle.md_core.specs.Mailbox.{Entry, Mailbox, mailbox_of, bytes_of, is_tmp, is_message, HasOnePath}
 use Rattle.md_core.specs.History.{names_of, names_after_change, IsAllowed}
@@ -68,7 +65,7 @@ abbrev pub StageFits : State → Delivery → Stage → Type 0
 StageFits s d Start = IsUnused s d.tmp.name
 StageFits s d (Writing start k) = (k ≤ length d.body) × HasNoMessage s d.tmp.name × IsAlone s d.tmp (take k d.body)
 StageFits s d Linked = Unit {0}
-StageFits s d (Undo a) = HasNoMessage s d.tmp.name × (is_success a ≡ false)
+StageFits s d (Undo a) = HasNoMessage s d.tmp.name × (is_success (refused_by a) ≡ false)
 
 pub record DeliveryFits (s : State) (asked : Call) (d : Delivery) : Type 0 where
   pub of : asked ≡ call.Deliver d.tmp.folder d.tmp.name d.body d.chunk

@@ -5,10 +5,10 @@ use Rattle.std.proofs.lemmas.List.{length-map}
 use Rattle.md_core.specs.declared.jobs.call.Call.{Call}
 use Rattle.md_core.specs.declared.jobs.call.Call.TheVariants.{Deliver, Seen, Flag, Move, Expunge, Copy, Clean}
 use Rattle.md_name.specs.Names.{is_unique_name}
-use Rattle.md_core.specs.declared.jobs.purpose.Purpose.{Purpose}
-use Rattle.md_core.specs.declared.jobs.purpose.Purpose.TheVariants as purpose
-use Rattle.md_core.specs.declared.jobs.task.Task.{Task}
-use Rattle.md_core.specs.declared.jobs.task.Task.TheVariants as task
+use Rattle.md_core.specs.Tasks.Purpose.{Purpose}
+use Rattle.md_core.specs.Tasks.Purpose as purpose
+use Rattle.md_core.specs.Tasks.Task.{Task}
+use Rattle.md_core.specs.Tasks.Task as task
 use Rattle.md_core.specs.Machines.Deliver.{new_delivery}
 use Rattle.md_core.specs.Machines.Errand.{new_errand}
 use Rattle.md_core.specs.Machines.Clean.{new_cleaning}

@@ -6,11 +6,9 @@ use Rattle.md_dirs.specs.State.{State}
 use Rattle.md_core.specs.declared.jobs.answer.Answer.{Answer}
 use Rattle.md_core.specs.declared.jobs.call.Call.{Call}
 use Rattle.md_core.specs.declared.jobs.call.Call.TheVariants as call
-use Rattle.md_core.specs.declared.jobs.deliver.Stage.{Stage}
-use Rattle.md_core.specs.declared.jobs.deliver.Stage.TheVariants.{Start, Writing, Linked, Undo}
+use Rattle.md_core.specs.Tasks.Delivery.{Stage, Start, Writing, Linked, Undo}
 use Rattle.md_core.specs.declared.jobs.effect.Effect.{Effect}
-use Rattle.md_core.specs.declared.jobs.task.Task.{Task}
-use Rattle.md_core.specs.declared.jobs.task.Task.TheVariants.{Deliver, Errand, Clean}
+use Rattle.md_core.specs.Tasks.Task.{Task, Deliver, Errand, Clean}
 use Rattle.md_core.specs.Mailbox.{Entry, Mailbox, mailbox_of}
 use Rattle.md_core.specs.Machines.Deliver.{delivery_effect}
 use Rattle.md_core.specs.Machine.{Machine, working}

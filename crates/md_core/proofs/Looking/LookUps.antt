@@ -26,7 +26,8 @@ use Rattle.md_core.specs.declared.jobs.step.StepOut.{StepOut}
 use Rattle.md_core.specs.Mailbox.{Entry, mailbox_of, entry_of, is_message, is_tmp, HasOnePath}
 use Rattle.md_core.specs.Alone.{entry_if, is_in_place}
 use Rattle.md_core.specs.Machines.Purposes.{info_in, info_in_parts}
-use Rattle.md_core.specs.Turn.{After, Device, Looks, Takes, reply_of}
+use Rattle.md_dirs.specs.Calls.{Device}
+use Rattle.md_core.specs.Turn.{After, Looks, Takes, reply_of}
 use Rattle.md_core.specs.Asked.{list, state_by, is_fault}
 use Rattle.lists.proofs.Members.{Has, get-has, has-get}
 use Rattle.md_core.proofs.Mailbox.Shown.{mailbox-shows, shows-mailbox}

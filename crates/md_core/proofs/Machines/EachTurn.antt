@@ -1,5 +1,5 @@
 -- What a turn does, whatever the task.
-use Rattle.md_core.specs.declared.jobs.task.Task.TheVariants.{Deliver, Errand, Clean}
+use Rattle.md_core.specs.Tasks.Task.{Deliver, Errand, Clean}
 use Rattle.md_core.proofs.Induction.Good.{EachTurn}
 use Rattle.md_core.proofs.Machines.Deliver.Turns.{delivery-does}
 use Rattle.md_core.proofs.Machines.Errand.Turns.{errand-does}

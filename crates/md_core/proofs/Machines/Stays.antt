@@ -5,7 +5,7 @@ use Rattle.md_core.specs.declared.jobs.answer.Answer.{Answer}
 use Rattle.md_core.specs.declared.jobs.call.Call.{Call}
 use Rattle.md_core.specs.declared.jobs.effect.Effect.{Effect}
 use Rattle.md_core.specs.declared.jobs.step.DirReply.{DirReply}
-use Rattle.md_core.specs.declared.jobs.task.Task.{Task}
+use Rattle.md_core.specs.Tasks.Task.{Task}
 use Rattle.md_core.specs.Mailbox.{mailbox_of, HasOnePath}
 use Rattle.md_core.specs.Machine.{task_left}
 use Rattle.md_core.specs.Asked.{Asked}

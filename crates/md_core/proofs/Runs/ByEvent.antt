@@ -2,7 +2,7 @@
 use Rattle.std.proofs.Common.{ℕ, zero, suc, ◌≡◌, ◌≤◌, ◌+◌, ◌++◌, List, [], ◌∷◌, Some, refl, sym, ap, subst, ◌∙◌, take, length, slice_get, arith}
 use Rattle.std.proofs.lemmas.List.{map-append, length-map, take_all, take-append-le}
 use Rattle.md_core.specs.declared.jobs.call.Call.{Call}
-use Rattle.md_core.specs.declared.jobs.task.Task.{Task}
+use Rattle.md_core.specs.Tasks.Task.{Task}
 use Rattle.md_core.specs.Machine.{Machine, working, Occurrence, job_at, new_job, after_event}
 use Rattle.md_core.specs.Runs.{Run, beginning, run_from, machine_at, machine_of, jobs_of, and_event, and_events, and_call}
 use Rattle.md_core.specs.Stepping.{IsRun}

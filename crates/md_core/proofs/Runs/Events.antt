@@ -4,7 +4,7 @@ use Rattle.std.specs.Option.{option_map}
 use Rattle.std.proofs.lemmas.Option.{slice_get_within, slice_get_past}
 use Rattle.md_core.specs.declared.jobs.step.DirReply.{DirReply}
 use Rattle.md_core.specs.declared.jobs.step.Moment.{Moment}
-use Rattle.md_core.specs.declared.jobs.task.Task.{Task}
+use Rattle.md_core.specs.Tasks.Task.{Task}
 use Rattle.md_core.specs.Turn.{Turn, rows_for}
 use Rattle.md_core.specs.Machine.{Machine, Standing, working, answered, Occurrence, job_at, task_of, turn_of, moment_of, standing_of, after_turn, reply_to, after_turn_of, after_event, step_of, step_by}
 use Rattle.md_core.specs.Runs.{step_refusal}

@@ -2,6 +2,7 @@
 use Rattle.std.proofs.Common.{ℕ, ◌≡◌, List, [], ◌∷◌, Some, None, sym, ap, ◌∙◌, length, take, arith}
 use Rattle.std.proofs.lemmas.List.{take_at, take-take, take-append-le}
 use Rattle.std.proofs.lemmas.Option.{slice_get_within}
+use Rattle.md_dirs.specs.Calls.{Device}
 use Rattle.md_dirs.specs.State.{State, IsSound}
 use Rattle.md_core.specs.declared.jobs.call.Call.{Call}
 use Rattle.md_core.specs.Machine.{Machine, working, Occurrence, job_at, new_job}
@@ -13,8 +14,8 @@ use Rattle.md_core.proofs.Lists.Places.{at_end, get-from_take}
 use Rattle.md_core.proofs.Runs.Events.{goes_on-exact, job_at-more}
 use Rattle.md_core.proofs.Runs.ByEvent.{moment-end, moment-and_event, moment-and_call}
 
-pub is_run-new : (image : State) (failures made : ℕ) → IsSound image → load_refusal image ≡ None → IsRun (new_run image failures made)
-is_run-new image failures made sound loaded = record {
+pub is_run-new : (first : Device) → IsSound first.state → load_refusal first.state ≡ None → IsRun (new_run first)
+is_run-new first sound loaded = record {
   sound = sound;
   loaded = loaded;
   accepted = λ i call at. cc;

@@ -8,12 +8,9 @@ use Rattle.std.proofs.lemmas.List.Sums.{sum_by-append}
 use Rattle.md_dirs.specs.State.{State}
 use Rattle.md_core.specs.declared.jobs.answer.Answer.{Answer}
 use Rattle.md_core.specs.declared.jobs.call.Call.{Call}
-use Rattle.md_core.specs.declared.jobs.deliver.Stage.{Stage}
-use Rattle.md_core.specs.declared.jobs.deliver.Stage.TheVariants.{Start, Writing, Linked, Undo}
-use Rattle.md_core.specs.declared.jobs.task.Task.{Task}
-use Rattle.md_core.specs.declared.jobs.cleaning.Stage as cleaning
-use Rattle.md_core.specs.declared.jobs.cleaning.Stage.TheVariants as cleaning_stage
-use Rattle.md_core.specs.declared.jobs.task.Task.TheVariants.{Deliver, Errand, Clean}
+use Rattle.md_core.specs.Tasks.Delivery.{Stage, Start, Writing, Linked, Undo}
+use Rattle.md_core.specs.Tasks.Task.{Task, Deliver, Errand, Clean}
+use Rattle.md_core.specs.Tasks.Cleaning as cleaning
 use Rattle.md_core.specs.Machines.Deliver.{stage_left}
 use Rattle.md_core.specs.Machines.Clean as cleaned_by
 use Rattle.md_core.specs.Machine.{Machine, Standing, working, answered, Occurrence, job_at, job_left, task_left, standing_of, new_job, after_event, step_by}
@@ -66,8 +63,8 @@ left-some s (Errand e) = errand_left-some (searches e.purpose) e.stage
 left-some s (Clean c) = by c.stage
   where
     by : (stage : cleaning.Stage) → 0 < cleaned_by.stage_left s c.folder stage
-    by cleaning_stage.Look = omega arith
-    by (cleaning_stage.Remove name rest files) = omega arith
+    by cleaning.Look = omega arith
+    by (cleaning.Remove name rest files) = omega arith
 
 -- a step is refused exactly where nothing is left
 pub left-exact : (s : State) (o : Option Standing) → (step_refusal o ≡ None) ↔ (0 < left_of s o)

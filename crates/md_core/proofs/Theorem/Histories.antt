@@ -8,7 +8,7 @@ use Rattle.std.proofs.lemmas.Option.{slice_get_within}
 use Rattle.md_core.specs.declared.jobs.answer.Answer.{Answer}
 use Rattle.md_core.specs.declared.jobs.call.Call.{Call}
 use Rattle.md_core.specs.declared.jobs.effect.Effect.{Effect}
-use Rattle.md_core.specs.declared.jobs.task.Task.{Task}
+use Rattle.md_core.specs.Tasks.Task.{Task}
 use Rattle.md_core.specs.Mailbox.{mailbox_of}
 use Rattle.md_core.specs.History.{Names, names_of, names_after_change, names_after, WasNowhere, IsAllowed, IsAllowedAfter, IsLegal}
 use Rattle.md_core.specs.Machine.{Machine, Standing, working, answered, standing_of}

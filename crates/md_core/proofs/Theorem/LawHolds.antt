@@ -9,8 +9,7 @@ use Rattle.md_core.specs.declared.jobs.answer.Answer.{Answer}
 use Rattle.md_core.specs.declared.jobs.call.Call.{Call}
 use Rattle.md_core.specs.declared.jobs.call.Call.TheVariants as call
 use Rattle.md_core.specs.declared.jobs.effect.Effect.{Effect}
-use Rattle.md_core.specs.declared.jobs.task.Task.{Task}
-use Rattle.md_core.specs.declared.jobs.task.Task.TheVariants.{Deliver, Errand, Clean}
+use Rattle.md_core.specs.Tasks.Task.{Task, Deliver, Errand, Clean}
 use Rattle.md_core.specs.Mailbox.{Entry, mailbox_of, is_tmp, is_message}
 use Rattle.md_core.specs.History.{Names, names_of, as_listed, names_after, IsNowhere}
 use Rattle.md_core.specs.Machine.{Machine, Standing, working, answered, Occurrence, job_at, job_left, new_job}

@@ -14,10 +14,9 @@ use Rattle.md_core.specs.History.{names_of, names_after, IsLegal}
 use Rattle.md_core.specs.Trace.{Step, call_at}
 use Rattle.md_core.specs.Machine.{Standing, working, answered, job_at, job_left}
 use Rattle.md_core.specs.Runs.{Run, machine_at, dirs_of, done_at, jobs_of, effects_of, box_in, dirs_at_first}
-use Rattle.md_core.specs.declared.jobs.deliver.Stage.{Stage}
-use Rattle.md_core.specs.declared.jobs.deliver.Stage.TheVariants.{Linked}
-use Rattle.md_core.specs.declared.jobs.task.Task.{Task}
-use Rattle.md_core.specs.declared.jobs.task.Task.TheVariants as task
+use Rattle.md_core.specs.Tasks.Delivery.{Stage, Linked}
+use Rattle.md_core.specs.Tasks.Task.{Task}
+use Rattle.md_core.specs.Tasks.Task as task
 use Rattle.md_core.specs.Machines.Deliver.{pieces}
 use Rattle.md_core.specs.Stepping.{Simulates, effects_by}
 use Rattle.md_core.specs.Interleaving.{is_success, NoneOverwritten, IsDeliveryOf, IsCopyTo}

@@ -13,16 +13,12 @@ use Rattle.md_dirs.specs.declared.paths.Place.TheVariants.{Tmp}
 use Rattle.md_dirs.proofs.Sound.{file_by-push, file_by-set_other, number-within, swept-kept}
 use Rattle.md_core.specs.declared.jobs.answer.Answer.TheVariants as answer
 use Rattle.md_core.specs.declared.jobs.call.Call.{Call}
-use Rattle.md_core.specs.declared.jobs.deliver.Delivery.{Delivery}
-use Rattle.md_core.specs.declared.jobs.deliver.Stage.{Stage}
-use Rattle.md_core.specs.declared.jobs.deliver.Stage.TheVariants.{Start, Writing, Linked, Undo}
-use Rattle.md_core.specs.declared.jobs.cleaning.Stage as cleaning
-use Rattle.md_core.specs.declared.jobs.cleaning.Stage.TheVariants as cleaning_stage
+use Rattle.md_core.specs.Tasks.Delivery.{Delivery, Stage, Start, Writing, Linked, Undo}
+use Rattle.md_core.specs.Tasks.Cleaning as cleaning
 use Rattle.md_core.specs.declared.jobs.step.DirReply.{DirReply}
 use Rattle.md_core.specs.declared.jobs.step.DirReply.TheVariants as reply
 use Rattle.md_core.specs.declared.jobs.step.Moment.{Moment}
-use Rattle.md_core.specs.declared.jobs.task.Task.{Task}
-use Rattle.md_core.specs.declared.jobs.task.Task.TheVariants.{Deliver, Errand, Clean}
+use Rattle.md_core.specs.Tasks.Task.{Task, Deliver, Errand, Clean}
 use Rattle.md_core.specs.Mailbox.{is_tmp, is_message}
 use Rattle.md_core.specs.Asked.{Asked, create, append, link, rename, unlink, list, ask_of, state_by}
 use Rattle.md_core.specs.Trace.{Step, call_at, Trace, step_at, state, state_after, file_in}
@@ -151,8 +147,8 @@ appends s asked number at (Errand e) fits p bytes is =
 appends s asked number at (Clean c) fits p bytes is = by c.stage is
   where
     by : (stage : cleaning.Stage) → (cleaned_by.stage_turn c at.own stage).asked ≡ append p bytes → Writes s asked p
-    by cleaning_stage.Look h = cc
-    by (cleaning_stage.Remove name rest files) h = cc
+    by cleaning.Look h = cc
+    by (cleaning.Remove name rest files) h = cc
 
 module _ (r : Run) (run : IsRun r) where
   abbrev t : Trace

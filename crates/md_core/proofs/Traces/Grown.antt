@@ -2,7 +2,7 @@
 use Rattle.std.proofs.Common.{◌≡◌, ◌++◌, Option, Some, None, refl, sym, ap, ◌∙◌}
 use Rattle.std.specs.Option.{option_to_list, option_map}
 use Rattle.md_core.specs.declared.jobs.step.StepOut.{StepOut}
-use Rattle.md_core.specs.declared.jobs.task.Task.{Task}
+use Rattle.md_core.specs.Tasks.Task.{Task}
 use Rattle.md_core.specs.Trace.{Step}
 use Rattle.md_core.specs.Machine.{Occurrence, job_at, task_of, step_of, step_by}
 use Rattle.md_core.specs.Runs.{Run, beginning, machine_of, and_event}

@@ -9,8 +9,8 @@ use Rattle.md_dirs.specs.State.{State}
 use Rattle.md_core.specs.declared.jobs.answer.Answer.{Answer}
 use Rattle.md_core.specs.declared.jobs.call.Call.{Call}
 use Rattle.md_core.specs.declared.jobs.effect.Effect.{Effect}
-use Rattle.md_core.specs.declared.jobs.task.Task.{Task}
-use Rattle.md_core.specs.declared.jobs.task.Task.TheVariants as task
+use Rattle.md_core.specs.Tasks.Task.{Task}
+use Rattle.md_core.specs.Tasks.Task as task
 use Rattle.md_core.specs.Mailbox.{Mailbox, mailbox_of}
 use Rattle.md_core.specs.Alone.{alone}
 use Rattle.md_core.specs.Machine.{Machine, Standing, answered, job_at}

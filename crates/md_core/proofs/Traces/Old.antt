@@ -13,13 +13,10 @@ use Rattle.md_dirs.specs.declared.rows.Row.{Row}
 use Rattle.md_dirs.proofs.Sound.{by_path}
 use Rattle.md_core.specs.declared.jobs.call.Call.{Call}
 use Rattle.md_core.specs.declared.jobs.call.Call.TheVariants as call
-use Rattle.md_core.specs.declared.jobs.cleaning.Cleaning.{Cleaning}
-use Rattle.md_core.specs.declared.jobs.cleaning.Stage.{Stage}
-use Rattle.md_core.specs.declared.jobs.cleaning.Stage.TheVariants.{Look, Remove}
+use Rattle.md_core.specs.Tasks.Cleaning.{Cleaning, Stage, Look, Remove}
 use Rattle.md_core.specs.declared.jobs.step.DirReply.{DirReply}
 use Rattle.md_core.specs.declared.jobs.step.DirReply.TheVariants as reply
-use Rattle.md_core.specs.declared.jobs.task.Task.{Task}
-use Rattle.md_core.specs.declared.jobs.task.Task.TheVariants.{Deliver, Errand, Clean}
+use Rattle.md_core.specs.Tasks.Task.{Task, Deliver, Errand, Clean}
 use Rattle.md_core.specs.Mailbox.{is_tmp}
 use Rattle.md_core.specs.Turn.{Turn, rows_for}
 use Rattle.md_core.specs.Asked.{Asked, create, append, link, rename, unlink, list, ask_of, state_by}

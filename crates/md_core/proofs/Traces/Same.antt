@@ -6,7 +6,7 @@ use Rattle.std.proofs.lemmas.List.{append-nil, append_assoc, map-append, take_al
 use Rattle.std.proofs.lemmas.Option.{slice_get_within, slice_get_past}
 use Rattle.md_dirs.specs.State.{State}
 use Rattle.md_core.specs.declared.jobs.effect.Effect.{Effect}
-use Rattle.md_core.specs.declared.jobs.task.Task.{Task}
+use Rattle.md_core.specs.Tasks.Task.{Task}
 use Rattle.md_core.specs.Asked.{ask_of, state_by}
 use Rattle.md_core.specs.Machine.{Machine, working, Occurrence, job_at, after_event, step_of, step_by}
 use Rattle.md_core.specs.Trace.{Step, Trace, step_at, state_after, state, effects}

@@ -2,7 +2,7 @@
 use Rattle.std.proofs.Common.{ℕ, suc, ◌≡◌, ◌∙◌, List, [], ◌∷◌, Bool, refl, sym, ap, length, map}
 use Rattle.md_core.specs.declared.jobs.effect.Effect.{Effect}
 use Rattle.md_core.specs.declared.jobs.step.Event.{Event}
-use Rattle.md_core.specs.Turn.{Device}
+use Rattle.md_dirs.specs.Calls.{Device}
 use Rattle.md_core.specs.Machine.{Machine}
 use Rattle.md_core.specs.Standing.{JobView}
 use Rattle.md_core.specs.Runs.{Run}

@@ -10,8 +10,9 @@ use Rattle.md_core.specs.declared.jobs.step.Event.{Event}
 use Rattle.md_core.specs.declared.jobs.step.Moment.{Moment}
 use Rattle.md_core.specs.declared.jobs.step.DirReply.{DirReply}
 use Rattle.md_core.specs.declared.jobs.step.StepOut.{StepOut}
-use Rattle.md_core.specs.declared.jobs.task.Task.{Task}
-use Rattle.md_core.specs.Turn.{Turn, After, Device, rows_for}
+use Rattle.md_core.specs.Tasks.Task.{Task}
+use Rattle.md_dirs.specs.Calls.{Device}
+use Rattle.md_core.specs.Turn.{Turn, After, rows_for}
 use Rattle.md_core.specs.Asked.{is_fault}
 use Rattle.md_core.specs.Machine.{Machine, Standing, working, answered, is_working, Occurrence, moment_of, standing_of, after_event, after_turn, turn_of, job_at, step_of, step_out}
 use Rattle.md_core.specs.Standing.{JobView, TakesTurn, standings}

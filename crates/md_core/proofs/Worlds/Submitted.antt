@@ -7,7 +7,7 @@ use Rattle.md_dirs.specs.State.{IsSound}
 use Rattle.md_core.specs.declared.jobs.call.Call.{Call}
 use Rattle.md_core.specs.declared.jobs.effect.Effect.{Effect}
 use Rattle.md_core.specs.declared.jobs.step.Event.{Event}
-use Rattle.md_core.specs.Turn.{Device}
+use Rattle.md_dirs.specs.Calls.{Device}
 use Rattle.md_core.specs.Machine.{Machine, new_job}
 use Rattle.md_core.specs.Standing.{JobView, job_of}
 use Rattle.md_core.specs.Runs.{Run, beginning, and_call, first_clock, effects_of}
@@ -81,7 +81,7 @@ module _ (first : Device) (sound : IsSound first.state) (loaded : load_refusal f
     (used : List (List ℕ)) (names : (u : List ℕ) → is_among u used ≡ list_any (λ e. uses u e.0) (finmap.entries first.state.names)) where
   pub load-world : IsWorld (run_of first [] [] []) (machine_by first clock [] []) first used [] []
   load-world = record {
-    run = is_run-new first.state first.failures first.calls sound loaded;
+    run = is_run-new first sound loaded;
     now = (λ i. record { dirs = first.state; clock = is_first i; jobs = []; effects = [] }) ∙ sym (run_from-none (beginning first.state []));
     failed = omega arith;
     called = omega arith;

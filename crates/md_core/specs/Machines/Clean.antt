@@ -10,9 +10,9 @@ use Rattle.md_dirs.specs.declared.rows.Row.{Row}
 use Rattle.md_core.specs.Turn.{Turn, After, goes_on, ends}
 use Rattle.md_core.specs.Asked.{list, unlink}
 use Rattle.md_core.specs.declared.jobs.answer.Answer.TheVariants as answer
-use Rattle.md_core.specs.declared.jobs.cleaning.Cleaning.{Cleaning}
-use Rattle.md_core.specs.declared.jobs.cleaning.Stage.{Stage}
-use Rattle.md_core.specs.declared.jobs.cleaning.Stage.TheVariants.{Look, Remove}
+use Rattle.md_core.specs.Machines.Refusals.{refuses}
+use Rattle.md_core.specs.Tasks.Refusal.{Fault}
+use Rattle.md_core.specs.Tasks.Cleaning.{Cleaning, Stage, Look, Remove}
 use Rattle.md_core.specs.declared.jobs.step.DirReply.{DirReply}
 use Rattle.md_core.specs.declared.jobs.step.DirReply.TheVariants as reply
 
@@ -20,6 +20,7 @@ use Rattle.md_core.specs.declared.jobs.step.DirReply.TheVariants as reply
 abbrev pub new_cleaning : ℕ → Cleaning
 new_cleaning folder = record { folder = folder; stage = Look }
 
+-- the clean, at another stage
 abbrev pub at_stage : Cleaning → Stage → Cleaning
 at_stage c stage = record c { stage = stage }
 
@@ -35,6 +36,7 @@ least_seconds = 129600
 abbrev pub is_old : ℕ → Row → Bool
 is_old own row = nat_le least_seconds (own - row.stamp)
 
+-- the rows whose files are old
 abbrev pub old_rows : ℕ → List Row → List Row
 old_rows own rows = filter (is_old own) rows
 
@@ -43,28 +45,33 @@ abbrev pub after_next : Cleaning → List Row → ℕ → After Cleaning
 after_next c [] files = ends c (answer.Cleaned files)
 after_next c (row ∷ rest) files = goes_on (at_stage c (Remove row.name rest files))
 
+-- how it goes on from the old rows of the listing; so many files will be removed
 abbrev pub after_old : Cleaning → List Row → After Cleaning
 after_old c old = after_next c old (length old)
 
+-- how it goes on after the listing; directories that can't be listed end it with Fault
 abbrev pub after_look : Cleaning → ℕ → DirReply → List Row → After Cleaning
 after_look c own reply.Ok rows = after_old c (old_rows own rows)
-after_look c own reply.Exists rows = ends c answer.Fault
-after_look c own reply.NotFound rows = ends c answer.Fault
-after_look c own reply.Fault rows = ends c answer.Fault
+after_look c own reply.Exists rows = refuses c Fault
+after_look c own reply.NotFound rows = refuses c Fault
+after_look c own reply.Fault rows = refuses c Fault
 
 -- a name that is gone was not removed by this job
 abbrev pub after_unlink : Cleaning → List Row → ℕ → DirReply → After Cleaning
 after_unlink c rest files reply.Ok = after_next c rest files
-after_unlink c rest files reply.Exists = ends c answer.Fault
+after_unlink c rest files reply.Exists = refuses c Fault
 after_unlink c rest files reply.NotFound = after_next c rest (files - 1)
-after_unlink c rest files reply.Fault = ends c answer.Fault
+after_unlink c rest files reply.Fault = refuses c Fault
 
+-- the listing of tmp
 abbrev pub look_turn : Cleaning → ℕ → Turn Cleaning
 look_turn c own = record { asked = list c.folder Tmp; follows = λ r rows. after_look c own r rows }
 
+-- the unlink of a name of tmp
 abbrev pub unlink_turn : Cleaning → List ℕ → List Row → ℕ → Turn Cleaning
 unlink_turn c name rest files = record { asked = unlink (tmp c name); follows = λ r rows. after_unlink c rest files r }
 
+-- the turn at a stage
 abbrev pub stage_turn : Cleaning → ℕ → Stage → Turn Cleaning
 stage_turn c own Look = look_turn c own
 stage_turn c own (Remove name rest files) = unlink_turn c name rest files
@@ -78,5 +85,6 @@ abbrev pub stage_left : State → ℕ → Stage → ℕ
 stage_left s folder Look = 1 + length (rows_of s folder Tmp)
 stage_left s folder (Remove name rest files) = 1 + length rest
 
+-- how many turns a clean takes at most from here to its answer
 abbrev pub cleaning_left : State → Cleaning → ℕ
 cleaning_left s c = stage_left s c.folder c.stage

@@ -13,14 +13,15 @@ use Rattle.md_core.specs.declared.jobs.effect.Effect.{Effect}
 use Rattle.md_core.specs.declared.jobs.step.Moment.{Moment}
 use Rattle.md_core.specs.declared.jobs.step.DirReply.{DirReply}
 use Rattle.md_core.specs.declared.jobs.step.DirReply.TheVariants as reply
-use Rattle.md_core.specs.declared.jobs.deliver.Delivery.{Delivery}
-use Rattle.md_core.specs.declared.jobs.deliver.Stage.{Stage}
-use Rattle.md_core.specs.declared.jobs.deliver.Stage.TheVariants.{Start, Writing, Linked, Undo}
+use Rattle.md_core.specs.Machines.Refusals.{refused_by, refuses}
+use Rattle.md_core.specs.Tasks.Refusal.{NameTaken, TimedOut, TmpGone, Fault}
+use Rattle.md_core.specs.Tasks.Delivery.{Delivery, Stage, Start, Writing, Linked, Undo}
 
 -- a delivery of a body under a unique name, not begun
 abbrev pub new_delivery : ℕ → List ℕ → List ℕ → ℕ → Delivery
 new_delivery folder unique body chunk = record { tmp = path folder Tmp unique; body = body; chunk = chunk; stage = Start }
 
+-- the delivery, at another stage
 abbrev pub at_stage : Delivery → Stage → Delivery
 at_stage d stage = record d { stage = stage }
 
@@ -32,6 +33,7 @@ target d = path d.tmp.folder New d.tmp.name
 abbrev pub piece_len : Delivery → ℕ → ℕ
 piece_len d k = min d.chunk (length d.body - k)
 
+-- the bytes that are written next
 abbrev pub piece : Delivery → ℕ → List ℕ
 piece d k = take (piece_len d k) (drop k d.body)
 
@@ -47,30 +49,36 @@ most_seconds = 86400
 abbrev pub is_in_time : ℕ → ℕ → Bool
 is_in_time start own = nat_lt (own - start) most_seconds
 
+-- how it goes on after the create
 abbrev pub after_create : Delivery → ℕ → DirReply → After Delivery
 after_create d own reply.Ok = goes_on (at_stage d (Writing own 0))
-after_create d own reply.Exists = ends d answer.NameTaken
-after_create d own reply.NotFound = ends d answer.Fault
-after_create d own reply.Fault = ends d answer.Fault
+after_create d own reply.Exists = refuses d NameTaken
+after_create d own reply.NotFound = refuses d Fault
+after_create d own reply.Fault = refuses d Fault
 
+-- how it goes on after an append; a fault is answered once its file is unlinked
 abbrev pub after_append : Delivery → ℕ → ℕ → DirReply → After Delivery
 after_append d start k reply.Ok = goes_on (at_stage d (Writing start (k + piece_len d k)))
-after_append d start k reply.Exists = ends d answer.Fault
-after_append d start k reply.NotFound = ends d answer.TmpGone
-after_append d start k reply.Fault = goes_on (at_stage d (Undo answer.Fault))
+after_append d start k reply.Exists = refuses d Fault
+after_append d start k reply.NotFound = refuses d TmpGone
+after_append d start k reply.Fault = goes_on (at_stage d (Undo Fault))
 
+-- how it goes on after the link, which is its effect where it is done
 abbrev pub after_link : ℕ → Delivery → DirReply → After Delivery
 after_link job d reply.Ok = acts (at_stage d Linked) (delivery_effect job d)
-after_link job d reply.Exists = goes_on (at_stage d (Undo answer.NameTaken))
-after_link job d reply.NotFound = ends d answer.TmpGone
-after_link job d reply.Fault = goes_on (at_stage d (Undo answer.Fault))
+after_link job d reply.Exists = goes_on (at_stage d (Undo NameTaken))
+after_link job d reply.NotFound = refuses d TmpGone
+after_link job d reply.Fault = goes_on (at_stage d (Undo Fault))
 
+-- the create of its path in tmp
 abbrev pub create_turn : Delivery → ℕ → Turn Delivery
 create_turn d own = record { asked = create d.tmp; follows = λ r rows. after_create d own r }
 
+-- the append of the next piece
 abbrev pub append_turn : Delivery → ℕ → ℕ → Turn Delivery
 append_turn d start k = record { asked = append d.tmp (piece d k); follows = λ r rows. after_append d start k r }
 
+-- the link from tmp to new
 abbrev pub link_turn : ℕ → Delivery → Turn Delivery
 link_turn job d = record { asked = link d.tmp (target d); follows = λ r rows. after_link job d r }
 
@@ -82,13 +90,14 @@ unlink_turn d a = record { asked = unlink d.tmp; follows = λ r rows. ends d a }
 abbrev pub writing_turn : ℕ → Delivery → ℕ → ℕ → ℕ → Turn Delivery
 writing_turn job d own start k =
     if is_in_time start own then (if nat_lt k (length d.body) then append_turn d start k else link_turn job d)
-    else unlink_turn d answer.TimedOut
+    else unlink_turn d (refused_by TimedOut)
 
+-- the turn at a stage
 abbrev pub stage_turn : ℕ → Delivery → Moment → Stage → Turn Delivery
 stage_turn job d at Start = create_turn d at.own
 stage_turn job d at (Writing start k) = writing_turn job d at.own start k
 stage_turn job d at Linked = unlink_turn d answer.Delivered
-stage_turn job d at (Undo a) = unlink_turn d a
+stage_turn job d at (Undo refusal) = unlink_turn d (refused_by refusal)
 
 -- the turn of a delivery that has no answer
 abbrev pub delivery_turn : ℕ → Delivery → Moment → Turn Delivery
@@ -103,7 +112,8 @@ abbrev pub stage_left : Delivery → Stage → ℕ
 stage_left d Start = pieces (length d.body) d.chunk + 3
 stage_left d (Writing start k) = pieces (length d.body - k) d.chunk + 2
 stage_left d Linked = 1
-stage_left d (Undo a) = 1
+stage_left d (Undo refusal) = 1
 
+-- how many turns a delivery takes at most from here to its answer
 abbrev pub delivery_left : Delivery → ℕ
 delivery_left d = stage_left d d.stage

@@ -5,24 +5,21 @@ use Rattle.md_dirs.specs.Rows.{row_named}
 use Rattle.md_dirs.specs.declared.paths.Place.{Place}
 use Rattle.md_dirs.specs.declared.paths.Place.TheVariants.{Tmp, New, Cur}
 use Rattle.md_dirs.specs.declared.rows.Row.{Row}
-use Rattle.md_core.specs.Turn.{Turn, After, goes_on, ends, ends_by}
+use Rattle.md_core.specs.Turn.{Turn, After, goes_on, ends_by}
 use Rattle.md_core.specs.Asked.{Asked, list, link, rename, unlink}
 use Rattle.md_core.specs.Machines.Purposes.{first, searches, place_after, info_in, decide, answer_by, deed_by}
-use Rattle.md_core.specs.Machines.Refusals.{refused_by}
+use Rattle.md_core.specs.Machines.Refusals.{refuses}
 use Rattle.md_core.specs.declared.jobs.answer.Answer.{Answer}
 use Rattle.md_core.specs.declared.jobs.effect.Change.{Change}
 use Rattle.md_core.specs.declared.jobs.effect.Change.TheVariants.{Add, Rename, Remove, Same}
 use Rattle.md_core.specs.declared.jobs.effect.Effect.{Effect}
-use Rattle.md_core.specs.declared.jobs.errand.Errand.{Errand}
-use Rattle.md_core.specs.declared.jobs.errand.Stage.{Stage}
-use Rattle.md_core.specs.declared.jobs.errand.Stage.TheVariants.{Look, Act}
-use Rattle.md_core.specs.declared.jobs.purpose.Decision.{Decision}
-use Rattle.md_core.specs.declared.jobs.purpose.Decision.TheVariants as decision
-use Rattle.md_core.specs.declared.jobs.purpose.Deed.{Deed}
-use Rattle.md_core.specs.declared.jobs.purpose.Deed.TheVariants as deed
-use Rattle.md_core.specs.declared.jobs.purpose.Purpose.{Purpose}
-use Rattle.md_core.specs.declared.jobs.refusal.Refusal.{Refusal}
-use Rattle.md_core.specs.declared.jobs.refusal.Refusal.TheVariants.{NotThere, NameTaken, Lost, Fault}
+use Rattle.md_core.specs.Tasks.Errand.{Errand, Stage, Look, Act}
+use Rattle.md_core.specs.Tasks.Decision.{Decision}
+use Rattle.md_core.specs.Tasks.Decision as decision
+use Rattle.md_core.specs.Tasks.Deed.{Deed}
+use Rattle.md_core.specs.Tasks.Deed as deed
+use Rattle.md_core.specs.Tasks.Purpose.{Purpose}
+use Rattle.md_core.specs.Tasks.Refusal.{Refusal, NotThere, NameTaken, Lost, Fault}
 use Rattle.md_core.specs.declared.jobs.step.DirReply.{DirReply}
 use Rattle.md_core.specs.declared.jobs.step.DirReply.TheVariants as reply
 
@@ -30,12 +27,9 @@ use Rattle.md_core.specs.declared.jobs.step.DirReply.TheVariants as reply
 abbrev pub new_errand : ℕ → List ℕ → Purpose → ℕ → Errand
 new_errand folder unique purpose tries = record { folder = folder; unique = unique; purpose = purpose; stage = Look (first purpose) tries }
 
+-- the errand, at another stage
 abbrev pub at_stage : Errand → Stage → Errand
 at_stage e stage = record e { stage = stage }
-
--- it ends with a refusal
-abbrev pub refuses : Errand → Refusal → After Errand
-refuses e refusal = ends e (refused_by refusal)
 
 -- ---- deeds
 
@@ -68,6 +62,7 @@ after_none e tries (Some next) = goes_on (at_stage e (Look next tries))
 abbrev pub kept : ℕ → Answer → Effect
 kept job a = record { job = job; answer = a; change = Same }
 
+-- what was decided of the message that was found: a refusal, its name as it is, or a deed
 abbrev pub after_decision : ℕ → Errand → Place → ℕ → Row → Decision → After Errand
 after_decision job e place tries row (decision.Refuse refusal) = refuses e refusal
 after_decision job e place tries row decision.Keep = ends_by e (kept job (answer_by e.purpose (info_in row.name)))
@@ -78,12 +73,14 @@ abbrev pub after_row : ℕ → Errand → Place → ℕ → Option Row → After
 after_row job e place tries None = after_none e tries (place_after (searches e.purpose) place)
 after_row job e place tries (Some row) = after_decision job e place tries row (decide e.purpose (info_in row.name))
 
+-- how it goes on after a look; directories that can't be listed end it with Fault
 abbrev pub after_look : ℕ → Errand → Place → ℕ → DirReply → Option Row → After Errand
 after_look job e place tries reply.Ok row = after_row job e place tries row
 after_look job e place tries reply.Exists row = refuses e Fault
 after_look job e place tries reply.NotFound row = refuses e Fault
 after_look job e place tries reply.Fault row = refuses e Fault
 
+-- the listing of a place, in which the unique name is looked for
 abbrev pub look_turn : ℕ → Errand → Place → ℕ → Turn Errand
 look_turn job e place tries = record {
   asked = list e.folder place;
@@ -100,6 +97,7 @@ lost_or_again e tries = if nat_le tries 1 then refuses e Lost else goes_on (at_s
 abbrev pub done_by : ℕ → Deed → Answer → ℕ → Effect
 done_by job d a size = record { job = job; answer = a; change = change_of d size }
 
+-- how it goes on after a deed, which is its effect where it is done
 abbrev pub after_act : ℕ → Errand → Deed → Answer → ℕ → ℕ → DirReply → After Errand
 after_act job e d a size tries reply.Ok = ends_by e (done_by job d a size)
 after_act job e d a size tries reply.Exists = refuses e (taken_by d)
@@ -112,10 +110,12 @@ act_turn job e d a size tries = record { asked = asked_of d; follows = λ r rows
 
 -- ---- turns
 
+-- the turn at a stage
 abbrev pub stage_turn : ℕ → Errand → Stage → Turn Errand
 stage_turn job e (Look place tries) = look_turn job e place tries
 stage_turn job e (Act place row tries) =
-    act_turn job e (deed_by e.purpose e.folder e.unique place row.name (info_in row.name)) (answer_by e.purpose (info_in row.name)) row.size tries
+    act_turn job e (deed_by e.purpose e.folder e.unique place row.name (info_in row.name)) (answer_by e.purpose (info_in row.name))
+    row.size tries
 
 -- the turn of an errand that has no answer
 abbrev pub errand_turn : ℕ → Errand → Turn Errand
@@ -127,5 +127,6 @@ stage_left both (Look New tries) = (if both then 3 else 2) * max tries 1
 stage_left both (Look place tries) = (if both then 3 else 2) * max tries 1 - (if both then 1 else 0)
 stage_left both (Act place row tries) = (if both then 3 else 2) * max tries 1 - (if both then 2 else 1)
 
+-- how many turns an errand takes at most from here to its answer
 abbrev pub errand_left : Errand → ℕ
 errand_left e = stage_left (searches e.purpose) e.stage

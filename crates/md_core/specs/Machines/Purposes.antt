@@ -13,14 +13,11 @@ use Rattle.md_name.specs.declared.info.Info.TheVariants.{Bare, Two, Opaque}
 use Rattle.md_core.specs.Alone.{is_same_set}
 use Rattle.md_core.specs.declared.jobs.answer.Answer.{Answer}
 use Rattle.md_core.specs.declared.jobs.answer.Answer.TheVariants as answer
-use Rattle.md_core.specs.declared.jobs.purpose.Decision.{Decision}
-use Rattle.md_core.specs.declared.jobs.purpose.Decision.TheVariants.{Refuse, Keep, Act}
-use Rattle.md_core.specs.declared.jobs.purpose.Deed.{Deed}
-use Rattle.md_core.specs.declared.jobs.purpose.Deed.TheVariants as deed
-use Rattle.md_core.specs.declared.jobs.purpose.Purpose.{Purpose}
-use Rattle.md_core.specs.declared.jobs.purpose.Purpose.TheVariants.{Seen, Flag, Move, Copy, Expunge}
-use Rattle.md_core.specs.declared.jobs.refusal.Refusal.{Refusal}
-use Rattle.md_core.specs.declared.jobs.refusal.Refusal.TheVariants.{NotTrashed, OtherInfo}
+use Rattle.md_core.specs.Tasks.Decision.{Decision, Refuse, Keep, Act}
+use Rattle.md_core.specs.Tasks.Deed.{Deed}
+use Rattle.md_core.specs.Tasks.Deed as deed
+use Rattle.md_core.specs.Tasks.Purpose.{Purpose, Seen, Flag, Move, Copy, Expunge}
+use Rattle.md_core.specs.Tasks.Refusal.{Refusal, NotTrashed, OtherInfo}
 
 -- ---- the places
 

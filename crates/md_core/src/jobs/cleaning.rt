@@ -1,10 +1,12 @@
 //! A clean: files of tmp that have not been used for 36 hours go.
 ghost use Rattle.std.specs.Prelude.{◌≡◌, [], ◌∷◌, IfOk, IfErr, OnErr, MatchOption, None, length};
-ghost use Rattle.md_core.specs.Turn.{Takes, device, IsUntouched};
+ghost use Rattle.md_core.specs.Tasks.Cleaning.{Remove};
+ghost use Rattle.md_core.specs.Turn.{Takes, IsUntouched};
 ghost use Rattle.md_core.specs.Machines.Clean.{new_cleaning, cleaning_turn, look_turn, unlink_turn, is_old as is_old_by, old_rows as old_rows_by, after_old, after_unlink, tmp as tmp_of};
 
 use crate::error::CoreError;
 use crate::jobs::answer::Answer;
+use crate::jobs::refusal::Refusal;
 use crate::jobs::step::{DirCall, DirReply, Moment};
 use crate::jobs::turn::{Turned, reply_of};
 use md_dirs::{Bytes, Dirs, Path, Place, Row};
@@ -71,6 +73,15 @@ pub struct Cleaning {
     pub stage: Stage,
 }
 
+impl Model for Cleaning {
+    ghost use Rattle.md_core.specs.Tasks.Cleaning.{Cleaning as CleaningView};
+    ghost use Rattle.md_core.specs.Tasks.Views.Stages.{cleaning_stage};
+
+    ghost Value = { CleaningView };
+
+    ghost view = { λ c. record { folder = c.folder; stage = cleaning_stage c.stage } };
+}
+
 // Whether a row's file has not been used for 36 hours. A clock that is before the stamp counts as no time.
 fn is_old(own: u64, row: &Row) -> bool
     ensures { result ≡ is_old_by own row.now }
@@ -105,12 +116,12 @@ impl Cleaning {
         at: Moment,
     ) -> Result<Turned, CoreError>
         ensures ok { IfOk result (λ t.
-            Takes (cleaning_turn self.old at.own) at (device (D.state dirs.old) (D.failures dirs.old) (D.calls dirs.old)) t.out t.effect
-            self.new (device (D.state dirs.new) (D.failures dirs.new) (D.calls dirs.new))) }
+            Takes (cleaning_turn self.old at.own) at (D.device dirs.old) t.out t.effect
+            self.new (D.device dirs.new)) }
         ensures memory { IfErr result (λ e. e ≡ CoreError.NoMemory) }
         ensures task { OnErr result (self.new ≡ self.old) }
-        ensures dirs { OnErr result (IsUntouched (device (D.state dirs.old) (D.failures dirs.old) (D.calls dirs.old))
-            (device (D.state dirs.new) (D.failures dirs.new) (D.calls dirs.new))) }
+        ensures dirs { OnErr result (IsUntouched (D.device dirs.old)
+            (D.device dirs.new)) }
     {
         match &self.stage {
             Stage::Look => self.look(dirs, at),
@@ -124,12 +135,12 @@ impl Cleaning {
 
     fn look<D: Dirs>(&mut self, dirs: &mut D, at: Moment) -> Result<Turned, CoreError>
         ensures ok { IfOk result (λ t.
-            Takes (look_turn self.old at.own) at (device (D.state dirs.old) (D.failures dirs.old) (D.calls dirs.old)) t.out t.effect
-            self.new (device (D.state dirs.new) (D.failures dirs.new) (D.calls dirs.new))) }
+            Takes (look_turn self.old at.own) at (D.device dirs.old) t.out t.effect
+            self.new (D.device dirs.new)) }
         ensures memory { IfErr result (λ e. e ≡ CoreError.NoMemory) }
         ensures task { OnErr result (self.new ≡ self.old) }
-        ensures dirs { OnErr result (IsUntouched (device (D.state dirs.old) (D.failures dirs.old) (D.calls dirs.old))
-            (device (D.state dirs.new) (D.failures dirs.new) (D.calls dirs.new))) }
+        ensures dirs { OnErr result (IsUntouched (D.device dirs.old)
+            (D.device dirs.new)) }
     {
         match dirs.list(self.folder, Place::Tmp) {
             Ok(rows) => {
@@ -138,20 +149,20 @@ impl Cleaning {
             }
             Err(error) => {
                 let reply = reply_of(Err(error))?;
-                Ok(Turned::plain(LIST, reply, Some(Answer::Fault)))
+                Ok(Turned::plain(LIST, reply, Some(Refusal::Fault.answer())))
             }
         }
     }
 
     fn unlink<D: Dirs>(&mut self, dirs: &mut D, at: Moment, tmp: Path) -> Result<Turned, CoreError>
-        ensures ok { (name : _) (rest : _) (files : _) → self.old.stage ≡ Stage.Remove name rest files → tmp ≡ tmp_of self.old name
+        ensures ok { (name : _) (rest : _) (files : _) → self.old.stage ≡ Remove name rest files → tmp ≡ tmp_of self.old name
             → IfOk result (λ t. Takes (unlink_turn self.old name rest files) at
-            (device (D.state dirs.old) (D.failures dirs.old) (D.calls dirs.old)) t.out t.effect self.new
-            (device (D.state dirs.new) (D.failures dirs.new) (D.calls dirs.new))) }
+            (D.device dirs.old) t.out t.effect self.new
+            (D.device dirs.new)) }
         ensures memory { IfErr result (λ e. e ≡ CoreError.NoMemory) }
         ensures task { OnErr result (self.new ≡ self.old) }
-        ensures dirs { OnErr result (IsUntouched (device (D.state dirs.old) (D.failures dirs.old) (D.calls dirs.old))
-            (device (D.state dirs.new) (D.failures dirs.new) (D.calls dirs.new))) }
+        ensures dirs { OnErr result (IsUntouched (D.device dirs.old)
+            (D.device dirs.new)) }
     {
         let reply = reply_of(dirs.unlink(&tmp))?;
         let answer = self.unlinked(reply);
@@ -187,7 +198,7 @@ impl Cleaning {
 
     // The name was taken away, or the call was refused.
     fn unlinked(&mut self, reply: DirReply) -> Option<Answer>
-        ensures { (name : _) (rest : _) (files : _) → self.old.stage ≡ Stage.Remove name rest files →
+        ensures { (name : _) (rest : _) (files : _) → self.old.stage ≡ Remove name rest files →
             after_unlink self.old rest files reply ≡ record { task = self.new; answer = result; effect = None } }
     {
         let Stage::Remove { name, rest, files } = &mut self.stage else {
@@ -196,8 +207,8 @@ impl Cleaning {
         let left = match reply {
             DirReply::Ok => *files,
             DirReply::NotFound => files.saturating_sub(1),
-            DirReply::Exists => return Some(Answer::Fault),
-            DirReply::Fault => return Some(Answer::Fault),
+            DirReply::Exists => return Some(Refusal::Fault.answer()),
+            DirReply::Fault => return Some(Refusal::Fault.answer()),
         };
         let Some(row) = rest.next() else {
             return Some(Answer::Cleaned(left));

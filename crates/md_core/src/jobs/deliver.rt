@@ -1,16 +1,18 @@
 //! A delivery: "Using maildir format", steps 3 to 6.
 ghost use Rattle.std.specs.Prelude.{◌≡◌, ◌+◌, ◌^◌, ◌<◌, length, IfOk, IfErr, OnErr, is_some};
-ghost use Rattle.md_core.specs.Turn.{Takes, device, IsUntouched};
+ghost use Rattle.md_core.specs.Turn.{Takes, IsUntouched};
 ghost use Rattle.md_core.specs.Machines.Deliver.{new_delivery, after_create, after_append, after_link, create_turn, append_turn, link_turn, unlink_turn, delivery_turn, delivery_effect, piece_len as piece_len_of, piece as piece_of, target as target_of, is_in_time as is_in_time_by};
 
 use crate::error::CoreError;
 use crate::jobs::answer::Answer;
 use crate::jobs::call::JobId;
 use crate::jobs::effect::{Change, Effect};
+use crate::jobs::refusal::Refusal;
 use crate::jobs::step::{DirCall, DirReply, Moment};
 use crate::jobs::turn::{Turned, reply_of};
 use md_dirs::{Bytes, Dirs, Path, Place};
 use std::alloc::{AllocError, Global};
+use std::marker::Model;
 
 /// How far a delivery has come.
 #[derive(Clone, Copy, Debug)]
@@ -21,8 +23,8 @@ pub enum Stage {
     Writing { start: u64, written: u64 },
     /// The message is in new.
     Linked,
-    /// The file in tmp goes, and then the job has this answer.
-    Undo(Answer),
+    /// The file in tmp goes, and then the job is refused so.
+    Undo(Refusal),
 }
 
 /// A delivery is given up after 24 hours, in seconds.
@@ -35,6 +37,19 @@ pub struct Delivery {
     pub body: Bytes,
     pub chunk: u64,
     pub stage: Stage,
+}
+
+impl Model for Delivery {
+    ghost use Rattle.md_core.specs.Tasks.Delivery.{Delivery as DeliveryView};
+    ghost use Rattle.md_core.specs.Tasks.Views.Stages.{delivery_stage};
+    ghost use Rattle.std.specs.Coded.{codes};
+    ghost use Rattle.md_name.specs.contracts.flags.Flags as flags;
+
+    ghost Value = { DeliveryView };
+
+    ghost coded = { Prim.hlevel (codes, flags.the_row.coded) };
+
+    ghost view = { λ d. record { tmp = d.tmp; body = d.body; chunk = d.chunk; stage = delivery_stage d.stage } };
 }
 
 // Whether a delivery that began at `start` is in time at `own`, both by its own clock. A clock that went back counts as none.
@@ -70,18 +85,18 @@ impl Delivery {
         at: Moment,
     ) -> Result<Turned, CoreError>
         ensures ok { IfOk result (λ t.
-            Takes (delivery_turn job self.old at) at (device (D.state dirs.old) (D.failures dirs.old) (D.calls dirs.old)) t.out t.effect
-            self.new (device (D.state dirs.new) (D.failures dirs.new) (D.calls dirs.new))) }
+            Takes (delivery_turn job self.old at) at (D.device dirs.old) t.out t.effect
+            self.new (D.device dirs.new)) }
         ensures memory { IfErr result (λ e. e ≡ CoreError.NoMemory) }
         ensures task { OnErr result (self.new ≡ self.old) }
-        ensures dirs { OnErr result (IsUntouched (device (D.state dirs.old) (D.failures dirs.old) (D.calls dirs.old))
-            (device (D.state dirs.new) (D.failures dirs.new) (D.calls dirs.new))) }
+        ensures dirs { OnErr result (IsUntouched (D.device dirs.old)
+            (D.device dirs.new)) }
     {
         match self.stage {
             Stage::Start => self.create(dirs, at),
             Stage::Writing { start, written } => {
                 if !is_in_time(start, at.own) {
-                    self.unlink(dirs, at, Answer::TimedOut)
+                    self.unlink(dirs, at, Refusal::TimedOut.answer())
                 } else if written < self.body.len() as u64 {
                     self.append(dirs, at, start, written)
                 } else {
@@ -89,18 +104,18 @@ impl Delivery {
                 }
             }
             Stage::Linked => self.unlink(dirs, at, Answer::Delivered),
-            Stage::Undo(answer) => self.unlink(dirs, at, answer),
+            Stage::Undo(refusal) => self.unlink(dirs, at, refusal.answer()),
         }
     }
 
     fn create<D: Dirs>(&mut self, dirs: &mut D, at: Moment) -> Result<Turned, CoreError>
         ensures ok { IfOk result (λ t.
-            Takes (create_turn self.old at.own) at (device (D.state dirs.old) (D.failures dirs.old) (D.calls dirs.old)) t.out t.effect
-            self.new (device (D.state dirs.new) (D.failures dirs.new) (D.calls dirs.new))) }
+            Takes (create_turn self.old at.own) at (D.device dirs.old) t.out t.effect
+            self.new (D.device dirs.new)) }
         ensures memory { IfErr result (λ e. e ≡ CoreError.NoMemory) }
         ensures task { OnErr result (self.new ≡ self.old) }
-        ensures dirs { OnErr result (IsUntouched (device (D.state dirs.old) (D.failures dirs.old) (D.calls dirs.old))
-            (device (D.state dirs.new) (D.failures dirs.new) (D.calls dirs.new))) }
+        ensures dirs { OnErr result (IsUntouched (D.device dirs.old)
+            (D.device dirs.new)) }
     {
         let reply = reply_of(dirs.create(&self.tmp, at.clock))?;
         let answer = self.created(at.own, reply);
@@ -116,12 +131,12 @@ impl Delivery {
     ) -> Result<Turned, CoreError>
         requires { written < length self.old.body }
         ensures ok { IfOk result (λ t.
-            Takes (append_turn self.old start written) at (device (D.state dirs.old) (D.failures dirs.old) (D.calls dirs.old)) t.out t.effect
-            self.new (device (D.state dirs.new) (D.failures dirs.new) (D.calls dirs.new))) }
+            Takes (append_turn self.old start written) at (D.device dirs.old) t.out t.effect
+            self.new (D.device dirs.new)) }
         ensures memory { IfErr result (λ e. e ≡ CoreError.NoMemory) }
         ensures task { OnErr result (self.new ≡ self.old) }
-        ensures dirs { OnErr result (IsUntouched (device (D.state dirs.old) (D.failures dirs.old) (D.calls dirs.old))
-            (device (D.state dirs.new) (D.failures dirs.new) (D.calls dirs.new))) }
+        ensures dirs { OnErr result (IsUntouched (D.device dirs.old)
+            (D.device dirs.new)) }
     {
         let piece = self.piece(written);
         let len = piece.len() as u64;
@@ -139,12 +154,12 @@ impl Delivery {
         at: Moment,
     ) -> Result<Turned, CoreError>
         ensures ok { IfOk result (λ t.
-            Takes (link_turn job self.old) at (device (D.state dirs.old) (D.failures dirs.old) (D.calls dirs.old)) t.out t.effect
-            self.new (device (D.state dirs.new) (D.failures dirs.new) (D.calls dirs.new))) }
+            Takes (link_turn job self.old) at (D.device dirs.old) t.out t.effect
+            self.new (D.device dirs.new)) }
         ensures memory { IfErr result (λ e. e ≡ CoreError.NoMemory) }
         ensures task { OnErr result (self.new ≡ self.old) }
-        ensures dirs { OnErr result (IsUntouched (device (D.state dirs.old) (D.failures dirs.old) (D.calls dirs.old))
-            (device (D.state dirs.new) (D.failures dirs.new) (D.calls dirs.new))) }
+        ensures dirs { OnErr result (IsUntouched (D.device dirs.old)
+            (D.device dirs.new)) }
     {
         let target = self.target(alloc)?;
         let reply = reply_of(dirs.link(&self.tmp, &target))?;
@@ -161,12 +176,12 @@ impl Delivery {
         answer: Answer,
     ) -> Result<Turned, CoreError>
         ensures ok { IfOk result (λ t.
-            Takes (unlink_turn self.old answer) at (device (D.state dirs.old) (D.failures dirs.old) (D.calls dirs.old)) t.out t.effect
-            self.new (device (D.state dirs.new) (D.failures dirs.new) (D.calls dirs.new))) }
+            Takes (unlink_turn self.old answer) at (D.device dirs.old) t.out t.effect
+            self.new (D.device dirs.new)) }
         ensures memory { IfErr result (λ e. e ≡ CoreError.NoMemory) }
         ensures task { self.new ≡ self.old }
-        ensures dirs { OnErr result (IsUntouched (device (D.state dirs.old) (D.failures dirs.old) (D.calls dirs.old))
-            (device (D.state dirs.new) (D.failures dirs.new) (D.calls dirs.new))) }
+        ensures dirs { OnErr result (IsUntouched (D.device dirs.old)
+            (D.device dirs.new)) }
     {
         let reply = reply_of(dirs.unlink(&self.tmp))?;
         Ok(Turned::plain(DirCall::Unlink, reply, Some(answer)))
@@ -223,9 +238,9 @@ impl Delivery {
                 };
                 None
             }
-            DirReply::Exists => Some(Answer::NameTaken),
-            DirReply::NotFound => Some(Answer::Fault),
-            DirReply::Fault => Some(Answer::Fault),
+            DirReply::Exists => Some(Refusal::NameTaken.answer()),
+            DirReply::NotFound => Some(Refusal::Fault.answer()),
+            DirReply::Fault => Some(Refusal::Fault.answer()),
         }
     }
 
@@ -238,10 +253,10 @@ impl Delivery {
                 self.stage = Stage::Writing { start, written };
                 None
             }
-            DirReply::Exists => Some(Answer::Fault),
-            DirReply::NotFound => Some(Answer::TmpGone),
+            DirReply::Exists => Some(Refusal::Fault.answer()),
+            DirReply::NotFound => Some(Refusal::TmpGone.answer()),
             DirReply::Fault => {
-                self.stage = Stage::Undo(Answer::Fault);
+                self.stage = Stage::Undo(Refusal::Fault);
                 None
             }
         }
@@ -259,12 +274,16 @@ impl Delivery {
                 Turned::acted(DirCall::Link, reply, effect)
             }
             DirReply::Exists => {
-                self.stage = Stage::Undo(Answer::NameTaken);
+                self.stage = Stage::Undo(Refusal::NameTaken);
                 Turned::plain(DirCall::Link, reply, None)
             }
-            DirReply::NotFound => Turned::plain(DirCall::Link, reply, Some(Answer::TmpGone)),
+            DirReply::NotFound => Turned::plain(
+                DirCall::Link,
+                reply,
+                Some(Refusal::TmpGone.answer()),
+            ),
             DirReply::Fault => {
-                self.stage = Stage::Undo(Answer::Fault);
+                self.stage = Stage::Undo(Refusal::Fault);
                 Turned::plain(DirCall::Link, reply, None)
             }
         }

@@ -1,8 +1,9 @@
 //! An errand: it looks for a message in one place after the other, decides what to do with it, and does that. Seen, Flag, Move, Copy and
 //! Expunge are errands, each a row of the table in `purpose.rt`.
 ghost use Rattle.std.specs.Prelude.{◌≡◌, IfOk, IfErr, OnErr, is_some};
-ghost use Rattle.md_core.specs.Turn.{Takes, device, IsUntouched};
+ghost use Rattle.md_core.specs.Turn.{Takes, IsUntouched};
 ghost use Rattle.md_core.specs.Asked.{shown_call};
+ghost use Rattle.md_core.specs.Tasks.Views.Purposes.{purpose_view, deed_view};
 ghost use Rattle.md_core.specs.Machines.Purposes.{searches, place_after, decide, info_in};
 ghost use Rattle.md_core.specs.Machines.Errand.{new_errand, asked_of, after_none, after_decision, after_row, after_look, lost_or_again, after_act, look_turn, act_turn, errand_turn};
 
@@ -16,6 +17,7 @@ use crate::jobs::step::{DirCall, DirReply, Moment};
 use crate::jobs::turn::{Turned, look, reply_of};
 use md_dirs::{Bytes, Dirs, Place, Row};
 use std::alloc::Global;
+use std::marker::Model;
 
 /// How far an errand has come. So many tries are left, with this one.
 #[derive(Debug, Drop)]
@@ -35,10 +37,24 @@ pub struct Errand {
     pub stage: Stage,
 }
 
+impl Model for Errand {
+    ghost use Rattle.md_core.specs.Tasks.Errand.{Errand as ErrandView};
+    ghost use Rattle.md_core.specs.Tasks.Views.Purposes.{purpose_view};
+    ghost use Rattle.md_core.specs.Tasks.Views.Stages.{errand_stage};
+    ghost use Rattle.std.specs.Coded.{codes};
+    ghost use Rattle.md_name.specs.contracts.flags.Flags as flags;
+
+    ghost Value = { ErrandView };
+
+    ghost coded = { Prim.hlevel (codes, flags.the_row.coded) };
+
+    ghost view = { λ e. record { folder = e.folder; unique = e.unique; purpose = purpose_view e.purpose; stage = errand_stage e.stage } };
+}
+
 impl Errand {
     /// An errand that has not begun.
     pub(crate) fn new(folder: u32, unique: Bytes, purpose: Purpose, tries: u64) -> Errand
-        ensures { result ≡ new_errand folder unique purpose tries }
+        ensures { result ≡ new_errand folder unique (purpose_view purpose) tries }
     {
         let place = purpose.first();
         Errand {
@@ -58,12 +74,12 @@ impl Errand {
         at: Moment,
     ) -> Result<Turned, CoreError>
         ensures ok { IfOk result (λ t.
-            Takes (errand_turn job self.old) at (device (D.state dirs.old) (D.failures dirs.old) (D.calls dirs.old)) t.out t.effect
-            self.new (device (D.state dirs.new) (D.failures dirs.new) (D.calls dirs.new))) }
+            Takes (errand_turn job self.old) at (D.device dirs.old) t.out t.effect
+            self.new (D.device dirs.new)) }
         ensures memory { IfErr result (λ e. e ≡ CoreError.NoMemory) }
         ensures task { OnErr result (self.new ≡ self.old) }
-        ensures dirs { OnErr result (IsUntouched (device (D.state dirs.old) (D.failures dirs.old) (D.calls dirs.old))
-            (device (D.state dirs.new) (D.failures dirs.new) (D.calls dirs.new))) }
+        ensures dirs { OnErr result (IsUntouched (D.device dirs.old)
+            (D.device dirs.new)) }
     {
         match &self.stage {
             Stage::Look { place, tries } => {
@@ -93,12 +109,12 @@ impl Errand {
         tries: u64,
     ) -> Result<Turned, CoreError>
         ensures ok { IfOk result (λ t.
-            Takes (look_turn job self.old place tries) at (device (D.state dirs.old) (D.failures dirs.old) (D.calls dirs.old)) t.out t.effect
-            self.new (device (D.state dirs.new) (D.failures dirs.new) (D.calls dirs.new))) }
+            Takes (look_turn job self.old place tries) at (D.device dirs.old) t.out t.effect
+            self.new (D.device dirs.new)) }
         ensures memory { IfErr result (λ e. e ≡ CoreError.NoMemory) }
         ensures task { OnErr result (self.new ≡ self.old) }
-        ensures dirs { OnErr result (IsUntouched (device (D.state dirs.old) (D.failures dirs.old) (D.calls dirs.old))
-            (device (D.state dirs.new) (D.failures dirs.new) (D.calls dirs.new))) }
+        ensures dirs { OnErr result (IsUntouched (D.device dirs.old)
+            (D.device dirs.new)) }
     {
         let (reply, row) = look(dirs, self.folder, place, self.unique.as_slice())?;
         Ok(self.looked(job, place, reply, row, tries))
@@ -115,12 +131,12 @@ impl Errand {
         tries: u64,
     ) -> Result<Turned, CoreError>
         ensures ok { IfOk result (λ t.
-            Takes (act_turn job self.old deed answer size tries) at (device (D.state dirs.old) (D.failures dirs.old) (D.calls dirs.old)) t.out t.effect
-            self.new (device (D.state dirs.new) (D.failures dirs.new) (D.calls dirs.new))) }
+            Takes (act_turn job self.old (deed_view deed) answer size tries) at (D.device dirs.old) t.out t.effect
+            self.new (D.device dirs.new)) }
         ensures memory { IfErr result (λ e. e ≡ CoreError.NoMemory) }
         ensures task { OnErr result (self.new ≡ self.old) }
-        ensures dirs { OnErr result (IsUntouched (device (D.state dirs.old) (D.failures dirs.old) (D.calls dirs.old))
-            (device (D.state dirs.new) (D.failures dirs.new) (D.calls dirs.new))) }
+        ensures dirs { OnErr result (IsUntouched (D.device dirs.old)
+            (D.device dirs.new)) }
     {
         let reply = reply_of(deed.make(dirs))?;
         Ok(self.acted(job, deed, answer, size, tries, reply))
@@ -141,7 +157,7 @@ impl Errand {
     {
         let call = DirCall::List(place);
         if reply != DirReply::Ok {
-            return Turned::plain(call, reply, Some(Answer::Fault));
+            return Turned::plain(call, reply, Some(Refusal::Fault.answer()));
         }
         let Some(row) = row else {
             let answer = self.not_found(place, tries);
@@ -198,9 +214,9 @@ impl Errand {
         tries: u64,
         reply: DirReply,
     ) -> Turned
-        ensures follows { after_act job self.old deed answer size tries reply ≡
+        ensures follows { after_act job self.old (deed_view deed) answer size tries reply ≡
             record { task = self.new; answer = result.out.answer; effect = result.effect } }
-        ensures shown { (result.out.call ≡ shown_call (asked_of deed)) × (result.out.reply ≡ reply) }
+        ensures shown { (result.out.call ≡ shown_call (asked_of (deed_view deed))) × (result.out.reply ≡ reply) }
         ensures effect { result.out.effect ≡ is_some result.effect }
     {
         let call = deed.shown();
@@ -222,7 +238,7 @@ impl Errand {
                 Turned::plain(call, reply, answer)
             }
             DirReply::Exists => Turned::plain(call, reply, Some(deed.taken().answer())),
-            DirReply::Fault => Turned::plain(call, reply, Some(Answer::Fault)),
+            DirReply::Fault => Turned::plain(call, reply, Some(Refusal::Fault.answer())),
         }
     }
 

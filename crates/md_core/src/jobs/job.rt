@@ -1,6 +1,6 @@
 //! Jobs: the call of each, for contracts alone, and how far it is.
 ghost use Rattle.std.specs.Prelude.{◌≡◌, true, Some, IfOk, IfErr, OnErr};
-ghost use Rattle.md_core.specs.Turn.{device, IsUntouched};
+ghost use Rattle.md_core.specs.Turn.{IsUntouched};
 ghost use Rattle.md_core.specs.Machine.{is_working, with_answer};
 ghost use Rattle.md_core.specs.Standing.{TakesTurn, job_of};
 ghost use Rattle.md_core.specs.Runs.{answer_of};
@@ -82,12 +82,12 @@ impl Job {
     ) -> Result<Turned, CoreError>
         requires { is_working self.old.standing ≡ true }
         ensures ok { IfOk result (λ t.
-            TakesTurn job at self.old (device (D.state dirs.old) (D.failures dirs.old) (D.calls dirs.old)) t.out t.effect
-            self.new (device (D.state dirs.new) (D.failures dirs.new) (D.calls dirs.new))) }
+            TakesTurn job at self.old (D.device dirs.old) t.out t.effect
+            self.new (D.device dirs.new)) }
         ensures memory { IfErr result (λ e. e ≡ CoreError.NoMemory) }
         ensures job { OnErr result (self.new ≡ self.old) }
-        ensures dirs { OnErr result (IsUntouched (device (D.state dirs.old) (D.failures dirs.old) (D.calls dirs.old))
-            (device (D.state dirs.new) (D.failures dirs.new) (D.calls dirs.new))) }
+        ensures dirs { OnErr result (IsUntouched (D.device dirs.old)
+            (D.device dirs.new)) }
     {
         let Progress::Working(task) = &mut self.progress else {
             unreachable!()

@@ -2,7 +2,9 @@
 //! with it.
 ghost use Rattle.std.specs.Prelude.{◌≡◌, IfOk, IfErr, MatchResult};
 ghost use Rattle.md_dirs.specs.Path.{path_of};
-ghost use Rattle.md_dirs.specs.Calls.{Obeys, calls_after};
+ghost use Rattle.md_dirs.specs.Calls.{Obeys};
+ghost use Rattle.md_core.specs.Tasks.Deed.{Rename};
+ghost use Rattle.md_core.specs.Tasks.Views.Purposes.{purpose_view, decision_view, deed_view, refusal_view};
 ghost use Rattle.md_name.specs.Names.{flags_of, flagged};
 ghost use Rattle.md_core.specs.Alone.{is_same_set};
 ghost use Rattle.md_core.specs.Asked.{ask_of, shown_call};
@@ -94,7 +96,7 @@ fn is_trashed(name: &[u8]) -> bool
 
 // What is done by a test, or refused.
 fn act_if(test: bool, refusal: Refusal) -> Decision
-    ensures { result ≡ act_if_by test refusal }
+    ensures { decision_view result ≡ act_if_by test (refusal_view refusal) }
 {
     if test {
         return Decision::Act;
@@ -137,7 +139,7 @@ fn copied_name(alloc: Global, fresh: &Bytes, info: Info) -> Result<Bytes, CoreEr
 impl Purpose {
     /// The place that is looked in first.
     pub(crate) fn first(&self) -> Place
-        ensures { result ≡ first self.now }
+        ensures { result ≡ first (purpose_view self.now) }
     {
         match self {
             Purpose::Seen(_) => Place::New,
@@ -150,7 +152,7 @@ impl Purpose {
 
     // Whether cur is looked in too, where the message is not in new.
     fn searches(&self) -> bool
-        ensures { result ≡ searches self.now }
+        ensures { result ≡ searches (purpose_view self.now) }
     {
         match self {
             Purpose::Seen(_) => false,
@@ -163,7 +165,7 @@ impl Purpose {
 
     /// The place that is looked in after this one.
     pub(crate) fn after(&self, place: Place) -> Option<Place>
-        ensures { result ≡ place_after (searches self.now) place }
+        ensures { result ≡ place_after (searches (purpose_view self.now)) place }
     {
         let searches = self.searches();
         match place {
@@ -175,7 +177,7 @@ impl Purpose {
 
     // The flags that a message with these gets.
     fn wanted(&self, had: Flags) -> Flags
-        ensures { result ≡ wanted_by self.now had }
+        ensures { result ≡ wanted_by (purpose_view self.now) had }
     {
         match self {
             Purpose::Seen(given) => had.with(*given),
@@ -188,7 +190,7 @@ impl Purpose {
 
     // A Flag keeps the name of a message that has its flags.
     fn decide_flag(&self, name: &[u8]) -> Decision
-        ensures { result ≡ decide_flag self.now (flags_of (info_in name.now)) }
+        ensures { decision_view result ≡ decide_flag (purpose_view self.now) (flags_of (info_in name.now)) }
     {
         let Some(had) = info_of(name).flags() else {
             return Decision::Refuse(Refusal::OtherInfo);
@@ -201,7 +203,7 @@ impl Purpose {
 
     /// What is decided of a message of this name.
     pub(crate) fn decide(&self, name: &[u8]) -> Decision
-        ensures { result ≡ decide_by self.now (info_in name.now) }
+        ensures { decision_view result ≡ decide_by (purpose_view self.now) (info_in name.now) }
     {
         match self {
             Purpose::Seen(_) => act_if(info_of(name).flags().is_some(), Refusal::OtherInfo),
@@ -214,14 +216,14 @@ impl Purpose {
 
     // The answer that says which flags the message has then.
     fn flags(&self, name: &[u8]) -> Answer
-        ensures { result ≡ Answer.Flags (wanted_by self.now (shown_by (info_in name.now))) }
+        ensures { result ≡ Answer.Flags (wanted_by (purpose_view self.now) (shown_by (info_in name.now))) }
     {
         Answer::Flags(self.wanted(shown(name)))
     }
 
     /// The answer of one whose call took effect on a message of this name.
     pub(crate) fn answer(&self, name: &[u8]) -> Answer
-        ensures { result ≡ answer_by self.now (info_in name.now) }
+        ensures { result ≡ answer_by (purpose_view self.now) (info_in name.now) }
     {
         match self {
             Purpose::Seen(_) => self.flags(name),
@@ -242,7 +244,7 @@ impl Purpose {
         place: Place,
         name: &Bytes,
     ) -> Result<Deed, CoreError>
-        ensures { MatchResult result (λ deed. deed ≡ deed_by self.now folder unique.now place name.now (info_in name.now)) (λ e. e ≡ CoreError.NoMemory) }
+        ensures { MatchResult result (λ deed. deed_view deed ≡ deed_by (purpose_view self.now) folder unique.now place name.now (info_in name.now)) (λ e. e ≡ CoreError.NoMemory) }
     {
         let old = path(alloc, folder, place, name)?;
         match self {
@@ -268,7 +270,7 @@ impl Purpose {
     // A message gets its flags by another name in cur.
     fn marked(&self, alloc: Global, old: Path, unique: &Bytes) -> Result<Deed, CoreError>
         ensures { MatchResult result
-            (λ deed. deed ≡ Deed.Rename old (path_of old.folder Place.Cur (flagged unique.now (wanted_by self.now (shown_by (info_in old.name))))))
+            (λ deed. deed_view deed ≡ Rename old (path_of old.folder Place.Cur (flagged unique.now (wanted_by (purpose_view self.now) (shown_by (info_in old.name))))))
             (λ e. e ≡ CoreError.NoMemory) }
     {
         let flags = self.wanted(shown(old.name.as_slice()));
@@ -285,8 +287,7 @@ impl Purpose {
 impl Deed {
     /// Makes the directory call. No clock plays a part in it.
     pub(crate) fn make<D: Dirs>(&self, dirs: &mut D) -> Result<(), DirError>
-        ensures meets { Obeys (ask_of (asked_of self.now) 0) (D.state dirs.old) (D.failures dirs.old) result (D.state dirs.new) (D.failures dirs.new) }
-        ensures counted { D.calls dirs.new ≡ calls_after result (D.calls dirs.old) }
+        ensures meets { Obeys (ask_of (asked_of (deed_view self.now)) 0) (D.device dirs.old) result (D.device dirs.new) }
     {
         match self {
             Deed::Rename { old, new } => dirs.rename(old, new),
@@ -297,7 +298,7 @@ impl Deed {
 
     /// The directory call, as a step shows it.
     pub(crate) fn shown(&self) -> DirCall
-        ensures { result ≡ shown_call (asked_of self.now) }
+        ensures { result ≡ shown_call (asked_of (deed_view self.now)) }
     {
         match self {
             Deed::Rename { .. } => DirCall::Rename,
@@ -308,7 +309,7 @@ impl Deed {
 
     /// What it changed, with a message of this size.
     pub(crate) fn change(self, size: u64) -> Change
-        ensures { result ≡ change_of self size }
+        ensures { result ≡ change_of (deed_view self) size }
     {
         match self {
             Deed::Rename { old, new } => Change::Rename {
@@ -335,7 +336,7 @@ impl Deed {
 
     /// What it says where a name is there: a link makes a name, and nothing else does.
     pub(crate) fn taken(&self) -> Refusal
-        ensures { result ≡ taken_by self.now }
+        ensures { refusal_view result ≡ taken_by (deed_view self.now) }
     {
         match self {
             Deed::Link { .. } => Refusal::NameTaken,

@@ -1,5 +1,6 @@
 //! Refusals: how a job ends that has not done what its call asks.
 ghost use Rattle.std.specs.Prelude.{◌≡◌};
+ghost use Rattle.md_core.specs.Tasks.Views.Purposes.{refusal_view};
 ghost use Rattle.md_core.specs.Machines.Refusals.{refused_by};
 
 use crate::jobs::answer::Answer;
@@ -17,6 +18,10 @@ pub enum Refusal {
     NameTaken,
     /// The name was gone at the act in each of the tries.
     Lost,
+    /// A delivery took 24 hours or more.
+    TimedOut,
+    /// The file of a delivery was gone from tmp.
+    TmpGone,
     /// A directory call faulted.
     Fault,
 }
@@ -24,7 +29,7 @@ pub enum Refusal {
 impl Refusal {
     /// The answer that says so.
     pub(crate) fn answer(self) -> Answer
-        ensures { result ≡ refused_by self }
+        ensures { result ≡ refused_by (refusal_view self) }
     {
         match self {
             Refusal::NotThere => Answer::NotThere,
@@ -32,6 +37,8 @@ impl Refusal {
             Refusal::OtherInfo => Answer::OtherInfo,
             Refusal::NameTaken => Answer::NameTaken,
             Refusal::Lost => Answer::Lost,
+            Refusal::TimedOut => Answer::TimedOut,
+            Refusal::TmpGone => Answer::TmpGone,
             Refusal::Fault => Answer::Fault,
         }
     }

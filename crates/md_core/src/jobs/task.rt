@@ -1,6 +1,7 @@
 //! Tasks: what a job that has no answer does, one kind for each call.
 ghost use Rattle.std.specs.Prelude.{◌≡◌, IfOk, IfErr, OnErr};
-ghost use Rattle.md_core.specs.Turn.{Takes, device, IsUntouched};
+ghost use Rattle.md_core.specs.Turn.{Takes, IsUntouched};
+ghost use Rattle.md_core.specs.Tasks.Views.Tasks.{task_view};
 ghost use Rattle.md_core.specs.Machine.{turn_of, new_job, working};
 
 use crate::error::CoreError;
@@ -25,7 +26,7 @@ pub enum Task {
 impl Task {
     /// The task of a call, not begun.
     pub(crate) fn new(call: Call) -> Task
-        ensures { working result ≡ new_job call }
+        ensures { working (task_view result) ≡ new_job call }
     {
         match call {
             Call::Deliver {
@@ -78,12 +79,12 @@ impl Task {
         at: Moment,
     ) -> Result<Turned, CoreError>
         ensures ok { IfOk result (λ t.
-            Takes (turn_of job self.old at) at (device (D.state dirs.old) (D.failures dirs.old) (D.calls dirs.old)) t.out t.effect
-            self.new (device (D.state dirs.new) (D.failures dirs.new) (D.calls dirs.new))) }
+            Takes (turn_of job (task_view self.old) at) at (D.device dirs.old) t.out t.effect
+            (task_view self.new) (D.device dirs.new)) }
         ensures memory { IfErr result (λ e. e ≡ CoreError.NoMemory) }
         ensures task { OnErr result (self.new ≡ self.old) }
-        ensures dirs { OnErr result (IsUntouched (device (D.state dirs.old) (D.failures dirs.old) (D.calls dirs.old))
-            (device (D.state dirs.new) (D.failures dirs.new) (D.calls dirs.new))) }
+        ensures dirs { OnErr result (IsUntouched (D.device dirs.old)
+            (D.device dirs.new)) }
     {
         match self {
             Task::Deliver(delivery) => delivery.turn(alloc, dirs, job, at),

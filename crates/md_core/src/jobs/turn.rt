@@ -1,6 +1,6 @@
 //! What one turn of a job gave.
 ghost use Rattle.std.specs.Prelude.{◌≡◌, IfOk, IfErr, OnErr, MatchResult, Some, None, false, true};
-ghost use Rattle.md_core.specs.Turn.{reply_from, device, Looks, IsUntouched};
+ghost use Rattle.md_core.specs.Turn.{reply_from, Looks, IsUntouched};
 
 use crate::error::CoreError;
 use crate::jobs::answer::Answer;
@@ -85,11 +85,11 @@ pub(crate) fn look<D: Dirs>(
     unique: &[u8],
 ) -> Result<(DirReply, Option<Row>), CoreError>
     ensures obeys { MatchResult result
-        (λ found. Looks folder place unique.now (device (D.state dirs.old) (D.failures dirs.old) (D.calls dirs.old)) found.0 found.1
-        (device (D.state dirs.new) (D.failures dirs.new) (D.calls dirs.new)))
+        (λ found. Looks folder place unique.now (D.device dirs.old) found.0 found.1
+        (D.device dirs.new))
         (λ e. e ≡ CoreError.NoMemory) }
-    ensures dirs { OnErr result (IsUntouched (device (D.state dirs.old) (D.failures dirs.old) (D.calls dirs.old))
-        (device (D.state dirs.new) (D.failures dirs.new) (D.calls dirs.new))) }
+    ensures dirs { OnErr result (IsUntouched (D.device dirs.old)
+        (D.device dirs.new)) }
 {
     match dirs.find(folder, place, unique) {
         Ok(row) => Ok((DirReply::Ok, row)),

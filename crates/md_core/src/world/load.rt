@@ -26,10 +26,10 @@ impl<D: Dirs> World<D> {
     /// Every name is looked at, by folder, then tmp, new and cur, then name. The first fault is the refusal: `BadName`, `LongUnique` and
     /// `DuplicateUnique`, in this order at one name. `NoMemory` may come in place of any of these. The directories come back.
     pub fn load(alloc: Global, dirs: D) -> Result<World<D>, LoadRefused<D>>
-        ensures ok { IfOk result (λ w. w ≡ new_run (D.state dirs) (D.failures dirs) (D.calls dirs)) }
-        ensures accepted { OnOk result (load_refusal (D.state dirs) ≡ None) }
+        ensures ok { IfOk result (λ w. w ≡ new_run (D.device dirs)) }
+        ensures accepted { OnOk result (load_refusal (D.device dirs).state ≡ None) }
         ensures theorem { IfOk result (λ w. Interleaves (trace_of w)) }
-        ensures refused { IfErr result (λ r. (r.error ≡ CoreError.NoMemory) ⊎ (load_refusal (D.state dirs) ≡ Some r.error)) }
+        ensures refused { IfErr result (λ r. (r.error ≡ CoreError.NoMemory) ⊎ (load_refusal (D.device dirs).state ≡ Some r.error)) }
         ensures err { IfErr result (λ r. r.dirs ≡ dirs) }
     {
         let _sound = dirs.folders();

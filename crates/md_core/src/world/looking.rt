@@ -105,9 +105,9 @@ fn is_bad(name: &[u8]) -> bool
 
 // Looks at all names of a directory.
 fn look_in<D: Dirs>(dirs: &D, folder: u32, place: Place, seen: &mut Seen) -> Result<(), CoreError>
-    requires { IsLookOf (D.state dirs.now) (entries_before (D.state dirs.now) folder (place_index place)) seen.old }
-    ensures ok { OnOk result (IsLookOf (D.state dirs.now) (entries_before (D.state dirs.now) folder (place_index place + 1)) seen.new) }
-    ensures refused { IfErr result (IsFault (load_refusal (D.state dirs.now))) }
+    requires { IsLookOf (D.device dirs.now).state (entries_before (D.device dirs.now).state folder (place_index place)) seen.old }
+    ensures ok { OnOk result (IsLookOf (D.device dirs.now).state (entries_before (D.device dirs.now).state folder (place_index place + 1)) seen.new) }
+    ensures refused { IfErr result (IsFault (load_refusal (D.device dirs.now).state)) }
 {
     for at in 0..usize::MAX {
         let Some(row) = dirs.row_at(folder, place, at) else {
@@ -123,10 +123,10 @@ fn look_in<D: Dirs>(dirs: &D, folder: u32, place: Place, seen: &mut Seen) -> Res
 ///
 /// The first fault is the refusal; else it is refused only when out of memory.
 pub(crate) fn look<D: Dirs>(alloc: Global, dirs: &D) -> Result<Looked, CoreError>
-    ensures accepted { IfOk result (λ l. load_refusal (D.state dirs.now) ≡ None) }
-    ensures clock { IfOk result (λ l. l.clock ≡ first_clock (D.state dirs.now)) }
-    ensures used { IfOk result (λ l. (u : _) → is_among u l.used ≡ list_any (λ e. uses u e.0) (finmap.entries (D.state dirs.now).names)) }
-    ensures refused { IfErr result (IsFault (load_refusal (D.state dirs.now))) }
+    ensures accepted { IfOk result (λ l. load_refusal (D.device dirs.now).state ≡ None) }
+    ensures clock { IfOk result (λ l. l.clock ≡ first_clock (D.device dirs.now).state) }
+    ensures used { IfOk result (λ l. (u : _) → is_among u l.used ≡ list_any (λ e. uses u e.0) (finmap.entries (D.device dirs.now).state.names)) }
+    ensures refused { IfErr result (IsFault (load_refusal (D.device dirs.now).state)) }
 {
     let mut seen = Seen::new(alloc);
     for folder in 0..dirs.folders() {

@@ -13,8 +13,8 @@ use md_name::split;
 /// The bytes of the message of a unique name, lent. It takes no memory and makes no directory call: it looks once in new and once in cur
 /// of each folder, up to that of the message.
 pub(crate) fn message_bytes<'a, D: Dirs>(dirs: &'a D, unique: &[u8]) -> Option<&'a [u8]>
-    requires { HasOnePath (D.state dirs.now) }
-    ensures { option_map (λ b. b.now) result ≡ option_map (λ (e : Entry). e.bytes) (finmap.get (mailbox_of (D.state dirs.now)) unique.now) }
+    requires { HasOnePath (D.device dirs.now).state }
+    ensures { option_map (λ b. b.now) result ≡ option_map (λ (e : Entry). e.bytes) (finmap.get (mailbox_of (D.device dirs.now).state) unique.now) }
 {
     let folders = dirs.folders();
     if !is_unique_part(unique) {
@@ -43,12 +43,12 @@ fn is_unique_part(name: &[u8]) -> bool
 
 // The bytes of the message of a unique name, if it is in this directory.
 fn bytes_in<'a, D: Dirs>(dirs: &'a D, folder: u32, place: Place, unique: &[u8]) -> Option<&'a [u8]>
-    requires sound { IsSound (D.state dirs.now) }
-    requires one { HasOnePath (D.state dirs.now) }
+    requires sound { IsSound (D.device dirs.now).state }
+    requires one { HasOnePath (D.device dirs.now).state }
     requires place { is_tmp place ≡ false }
     requires name { is_of unique.now unique.now ≡ true }
     ensures { option_map (λ b. b.now) result
-        ≡ option_map (λ (e : Entry). e.bytes) (entry_if (is_in_place place folder) (finmap.get (mailbox_of (D.state dirs.now)) unique.now)) }
+        ≡ option_map (λ (e : Entry). e.bytes) (entry_if (is_in_place place folder) (finmap.get (mailbox_of (D.device dirs.now).state) unique.now)) }
 {
     let row = dirs.look(folder, place, unique)?;
     dirs.read(folder, place, row.name)

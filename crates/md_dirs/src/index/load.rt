@@ -32,7 +32,8 @@ impl Model for Loading {
 
 impl Loading {
     ghost use Rattle.md_dirs.specs.State.{bare};
-    ghost use Rattle.md_dirs.specs.Calls.{Obeys};
+    ghost use Rattle.std.specs.Prelude.{◌≡◌, ◌⊎◌, Some, None, IfErr, OnOk};
+    ghost use Rattle.md_dirs.specs.declared.calls.DirError.TheVariants.{NoMemory};
     ghost use Rattle.md_dirs.specs.Image.{put};
 
     /// Folders with no file. It takes no memory.
@@ -48,7 +49,8 @@ impl Loading {
 
     /// Makes a file with its bytes.
     pub fn put_file(&mut self, alloc: Global, file: ImageFile) -> Result<(), DirError>
-        ensures { Obeys (put file) self.old 0 result self.new 0 }
+        ensures made { OnOk result (((put file).refusal self.old ≡ None) × (self.new ≡ (put file).after self.old)) }
+        ensures refused { IfErr result (λ e. (e ≡ NoMemory) ⊎ ((put file).refusal self.old ≡ Some e)) }
     {
         if file.path.folder >= self.folders {
             return Err(DirError::NotFound);

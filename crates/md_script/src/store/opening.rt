@@ -33,8 +33,8 @@ fn directories<D: Storage>(
     folders: u32,
     files: Vec<ImageFile>,
 ) -> Result<D, PlayKind>
-    ensures image { Gives D.state result (image_of folders files.items) }
-    ensures fresh { IfOk result (λ dirs. D.calls dirs ≡ 0) }
+    ensures image { Gives (λ dirs. (D.device dirs).state) result (image_of folders files.items) }
+    ensures fresh { IfOk result (λ dirs. (D.device dirs).calls ≡ 0) }
 {
     match D::holding(alloc, folders, files) {
         Ok(dirs) => Ok(dirs),

@@ -64,11 +64,7 @@ fn is_set(flag: &AtomicBool) -> bool {
 }
 
 impl Dirs for Gated {
-    ghost state = { λ d. d.dirs.state };
-
-    ghost failures = { λ _. 0 };
-
-    ghost calls = { λ d. d.dirs.calls };
+    ghost device = { λ d. record { state = d.dirs.state; failures = 0; calls = d.dirs.calls } };
 
     fn create(&mut self, path: &Path, now: u64) -> Result<(), DirError> {
         self.dirs.create(path, now)

@@ -8,15 +8,11 @@ use Rattle.md_dirs.specs.declared.paths.Place.TheVariants.{Tmp, Cur}
 use Rattle.md_core.specs.declared.jobs.answer.Answer.TheVariants as answer
 use Rattle.md_core.specs.declared.jobs.call.Call.{Call}
 use Rattle.md_core.specs.declared.jobs.call.Call.TheVariants as call
-use Rattle.md_core.specs.declared.jobs.cleaning.Cleaning.{Cleaning}
-use Rattle.md_core.specs.declared.jobs.cleaning.Stage as cleaning
-use Rattle.md_core.specs.declared.jobs.cleaning.Stage.TheVariants as cleaning_stage
-use Rattle.md_core.specs.declared.jobs.deliver.Delivery.{Delivery}
-use Rattle.md_core.specs.declared.jobs.deliver.Stage.{Stage}
-use Rattle.md_core.specs.declared.jobs.deliver.Stage.TheVariants.{Start, Writing, Linked, Undo}
+use Rattle.md_core.specs.Tasks.Cleaning.{Cleaning}
+use Rattle.md_core.specs.Tasks.Cleaning as cleaning
+use Rattle.md_core.specs.Tasks.Delivery.{Delivery, Stage, Start, Writing, Linked, Undo}
 use Rattle.md_core.specs.declared.jobs.step.Moment.{Moment}
-use Rattle.md_core.specs.declared.jobs.task.Task.{Task}
-use Rattle.md_core.specs.declared.jobs.task.Task.TheVariants.{Deliver, Errand, Clean}
+use Rattle.md_core.specs.Tasks.Task.{Task, Deliver, Errand, Clean}
 use Rattle.md_core.specs.Mailbox.{is_tmp}
 use Rattle.md_core.specs.Machine.{turn_of}
 use Rattle.md_core.specs.Machines.Deliver as delivered_by
@@ -70,8 +66,8 @@ mail-leaves (create p) mail = absurd mail
 mail-leaves (append p bytes) mail = absurd mail
 
 cleaning-leaves : (c : Cleaning) (own : ℕ) (stage : cleaning.Stage) → LeavesTmp (cleaned_by.stage_turn c own stage).asked
-cleaning-leaves c own cleaning_stage.Look = tt
-cleaning-leaves c own (cleaning_stage.Remove name rest files) = tt
+cleaning-leaves c own cleaning.Look = tt
+cleaning-leaves c own (cleaning.Remove name rest files) = tt
 
 pub asks-fair : (s : State) (asked : Call) (number : ℕ) (task : Task) (at : Moment) → TaskFits s asked task →
     LeavesTmp (turn_of number task at).asked
@@ -80,8 +76,8 @@ asks-fair s asked number (Errand e) at fits = mail-leaves (errand_turn number e)
 asks-fair s asked number (Clean c) at fits = cleaning-leaves c at.own c.stage
 
 cleaning-creates : (c : Cleaning) (own : ℕ) (p : Path) (stage : cleaning.Stage) → (cleaned_by.stage_turn c own stage).asked ≡ create p → ⊥
-cleaning-creates c own p cleaning_stage.Look is = cc
-cleaning-creates c own p (cleaning_stage.Remove name rest files) is = cc
+cleaning-creates c own p cleaning.Look is = cc
+cleaning-creates c own p (cleaning.Remove name rest files) is = cc
 
 -- the name of a path that a delivery asks for is one that its call makes
 delivery-makes : (s : State) (asked : Call) (d : Delivery) (p : Path) → DeliveryFits s asked d → d.tmp ≡ p → Makes asked p.name

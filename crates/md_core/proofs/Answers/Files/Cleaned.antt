@@ -15,13 +15,10 @@ use Rattle.md_dirs.specs.declared.rows.Row.{Row}
 use Rattle.md_dirs.proofs.Sound.{by_number}
 use Rattle.md_core.specs.declared.jobs.answer.Answer.TheVariants as answer
 use Rattle.md_core.specs.declared.jobs.call.Call.TheVariants as call
-use Rattle.md_core.specs.declared.jobs.cleaning.Cleaning.{Cleaning}
-use Rattle.md_core.specs.declared.jobs.cleaning.Stage.{Stage}
-use Rattle.md_core.specs.declared.jobs.cleaning.Stage.TheVariants.{Look, Remove}
+use Rattle.md_core.specs.Tasks.Cleaning.{Cleaning, Stage, Look, Remove}
 use Rattle.md_core.specs.declared.jobs.step.DirReply.{DirReply}
 use Rattle.md_core.specs.declared.jobs.step.DirReply.TheVariants as reply
-use Rattle.md_core.specs.declared.jobs.task.Task.{Task}
-use Rattle.md_core.specs.declared.jobs.task.Task.TheVariants.{Deliver, Errand, Clean}
+use Rattle.md_core.specs.Tasks.Task.{Task, Deliver, Errand, Clean}
 use Rattle.md_core.specs.Machine.{Machine, Standing, working, answered, Occurrence, after_event, step_of, job_at, new_job, standing_of}
 use Rattle.md_core.specs.Trace.{Step, call_at}
 use Rattle.md_core.specs.Machines.Clean.{old_rows, after_next, at_stage, tmp, stage_turn}

@@ -6,9 +6,9 @@ use Rattle.md_dirs.specs.declared.paths.Path.{Path}
 use Rattle.md_dirs.specs.declared.paths.Place.TheVariants.{Tmp}
 use Rattle.md_core.specs.declared.jobs.answer.Answer.TheVariants.{TmpGone}
 use Rattle.md_core.specs.declared.jobs.call.Call.TheVariants.{Deliver}
-use Rattle.md_core.specs.declared.jobs.deliver.Delivery.{Delivery}
-use Rattle.md_core.specs.declared.jobs.task.Task.{Task}
-use Rattle.md_core.specs.declared.jobs.task.Task.TheVariants as task
+use Rattle.md_core.specs.Tasks.Delivery.{Delivery}
+use Rattle.md_core.specs.Tasks.Task.{Task}
+use Rattle.md_core.specs.Tasks.Task as task
 use Rattle.md_core.specs.Trace.{Step, call_at}
 use Rattle.md_core.specs.Machine.{answered, working, job_at}
 use Rattle.md_core.specs.Machines.Clean.{least_seconds}

@@ -9,16 +9,13 @@ use Rattle.md_dirs.specs.declared.rows.Row.{Row}
 use Rattle.md_core.specs.declared.jobs.answer.Answer.{Answer}
 use Rattle.md_core.specs.declared.jobs.answer.Answer.TheVariants as answer
 use Rattle.md_core.specs.declared.jobs.call.Call.{Call}
-use Rattle.md_core.specs.declared.jobs.cleaning.Cleaning.{Cleaning}
-use Rattle.md_core.specs.declared.jobs.cleaning.Stage as cleaning
-use Rattle.md_core.specs.declared.jobs.cleaning.Stage.TheVariants as cleaning_stage
-use Rattle.md_core.specs.declared.jobs.deliver.Delivery.{Delivery}
-use Rattle.md_core.specs.declared.jobs.deliver.Stage.{Stage}
-use Rattle.md_core.specs.declared.jobs.deliver.Stage.TheVariants.{Start, Writing, Linked, Undo}
+use Rattle.md_core.specs.Tasks.Cleaning.{Cleaning}
+use Rattle.md_core.specs.Tasks.Cleaning as cleaning
+use Rattle.md_core.specs.Machines.Refusals.{refused_by}
+use Rattle.md_core.specs.Tasks.Delivery.{Delivery, Stage, Start, Writing, Linked, Undo}
 use Rattle.md_core.specs.declared.jobs.step.DirReply.{DirReply}
 use Rattle.md_core.specs.declared.jobs.step.DirReply.TheVariants as reply
-use Rattle.md_core.specs.declared.jobs.task.Task.{Task}
-use Rattle.md_core.specs.declared.jobs.task.Task.TheVariants.{Deliver, Errand, Clean}
+use Rattle.md_core.specs.Tasks.Task.{Task, Deliver, Errand, Clean}
 use Rattle.md_core.specs.Machine.{working}
 use Rattle.md_core.specs.Machines.Clean as cleaned_by
 use Rattle.md_core.specs.Machines.Deliver.{at_stage, target, create_turn, append_turn, link_turn, unlink_turn, stage_turn, is_in_time}
@@ -73,14 +70,14 @@ next-says c (row ∷ rest) files a is = cc
 
 clean-says : (c : Cleaning) (own : ℕ) (stage : cleaning.Stage) (rep : DirReply) (rows : List Row) (a : Answer) →
     ((cleaned_by.stage_turn c own stage).follows rep rows).answer ≡ Some a → CleanSays a
-clean-says c own cleaning_stage.Look reply.Ok rows a is = next-says c _ _ a is
-clean-says c own cleaning_stage.Look reply.Exists rows a is = inl cc
-clean-says c own cleaning_stage.Look reply.NotFound rows a is = inl cc
-clean-says c own cleaning_stage.Look reply.Fault rows a is = inl cc
-clean-says c own (cleaning_stage.Remove name rest files) reply.Ok rows a is = next-says c _ _ a is
-clean-says c own (cleaning_stage.Remove name rest files) reply.Exists rows a is = inl cc
-clean-says c own (cleaning_stage.Remove name rest files) reply.NotFound rows a is = next-says c _ _ a is
-clean-says c own (cleaning_stage.Remove name rest files) reply.Fault rows a is = inl cc
+clean-says c own cleaning.Look reply.Ok rows a is = next-says c _ _ a is
+clean-says c own cleaning.Look reply.Exists rows a is = inl cc
+clean-says c own cleaning.Look reply.NotFound rows a is = inl cc
+clean-says c own cleaning.Look reply.Fault rows a is = inl cc
+clean-says c own (cleaning.Remove name rest files) reply.Ok rows a is = next-says c _ _ a is
+clean-says c own (cleaning.Remove name rest files) reply.Exists rows a is = inl cc
+clean-says c own (cleaning.Remove name rest files) reply.NotFound rows a is = next-says c _ _ a is
+clean-says c own (cleaning.Remove name rest files) reply.Fault rows a is = inl cc
 
 module _ (r : Run) (run : IsRun r) (k job : ℕ) (t : IsTurn r k job) where
   abbrev s : State
@@ -161,7 +158,7 @@ module _ (r : Run) (run : IsRun r) (k job : ℕ) (t : IsTurn r k job) where
     stage-says Start h rep = create-says rep
     stage-says (Writing start i) h rep = writing-says start i h (is_in_time start own) refl (nat_lt i (length d.body)) rep
     stage-says Linked h rep = λ is. tt
-    stage-says (Undo a) h rep = λ is. undo-says a h
+    stage-says (Undo a) h rep = λ is. undo-says (refused_by a) h
 
     delivery-says : AtStage r k job d.tmp d.stage → (rep : DirReply) → Says (stage_turn n d (at r k job t) d.stage) rep
     delivery-says h rep = stage-says d.stage h rep

@@ -10,13 +10,10 @@ use Rattle.md_dirs.specs.declared.paths.Place.TheVariants.{Tmp}
 use Rattle.md_dirs.specs.declared.rows.Row.{Row}
 use Rattle.md_core.specs.declared.jobs.call.Call.{Call}
 use Rattle.md_core.specs.declared.jobs.call.Call.TheVariants as call
-use Rattle.md_core.specs.declared.jobs.cleaning.Cleaning.{Cleaning}
-use Rattle.md_core.specs.declared.jobs.cleaning.Stage.{Stage}
-use Rattle.md_core.specs.declared.jobs.cleaning.Stage.TheVariants.{Look, Remove}
+use Rattle.md_core.specs.Tasks.Cleaning.{Cleaning, Stage, Look, Remove}
 use Rattle.md_core.specs.declared.jobs.step.DirReply.{DirReply}
 use Rattle.md_core.specs.declared.jobs.step.DirReply.TheVariants as reply
-use Rattle.md_core.specs.declared.jobs.task.Task.{Task}
-use Rattle.md_core.specs.declared.jobs.task.Task.TheVariants.{Deliver, Errand, Clean}
+use Rattle.md_core.specs.Tasks.Task.{Task, Deliver, Errand, Clean}
 use Rattle.md_core.specs.Trace.{Step, call_at}
 use Rattle.md_core.specs.Machine.{working, job_at, new_job}
 use Rattle.md_core.specs.Machines.Clean.{least_seconds, new_cleaning, is_old, old_rows, after_next, at_stage, tmp, stage_turn}

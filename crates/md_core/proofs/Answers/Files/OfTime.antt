@@ -8,7 +8,7 @@ use Rattle.md_core.specs.declared.jobs.answer.Answer.{Answer}
 use Rattle.md_core.specs.declared.jobs.answer.Answer.TheVariants as answer
 use Rattle.md_core.specs.declared.jobs.call.Call.{Call}
 use Rattle.md_core.specs.declared.jobs.call.Call.TheVariants as call
-use Rattle.md_core.specs.declared.jobs.deliver.Delivery.{Delivery}
+use Rattle.md_core.specs.Tasks.Delivery.{Delivery}
 use Rattle.md_core.specs.Machine.{answered, job_at}
 use Rattle.md_core.specs.Machines.Deliver.{most_seconds}
 use Rattle.md_core.specs.Runs.{Run, machine_at, jobs_of, first_step}

@@ -1,5 +1,5 @@
 -- A delivery that writes has begun, at the moment of its own clock that it keeps, and has its file in tmp, or a clean took that away since.
-use Rattle.md_core.specs.declared.jobs.purpose.Purpose.TheVariants as purpose
+use Rattle.md_core.specs.Tasks.Purpose as purpose
 use Rattle.md_core.specs.Machines.Errand.{new_errand}
 use Rattle.std.proofs.Common.{ℕ, ◌≡◌, ◌≢◌, ◌<◌, ◌≤◌, ◌⊎◌, ◌+◌, inl, inr, List, Some, None, Bool, true, false, cond, length, nat_lt, slice_get, refl, sym, ap, subst, ◌∙◌, arith}
 use Rattle.md_dirs.specs.State.{State, file_at}
@@ -11,13 +11,11 @@ use Rattle.lists.proofs.Maps as maps
 use Rattle.md_core.specs.declared.jobs.answer.Answer.TheVariants as answer
 use Rattle.md_core.specs.declared.jobs.call.Call.{Call}
 use Rattle.md_core.specs.declared.jobs.call.Call.TheVariants as call
-use Rattle.md_core.specs.declared.jobs.deliver.Delivery.{Delivery}
-use Rattle.md_core.specs.declared.jobs.deliver.Stage.{Stage}
-use Rattle.md_core.specs.declared.jobs.deliver.Stage.TheVariants.{Start, Writing, Linked, Undo}
+use Rattle.md_core.specs.Machines.Refusals.{refused_by}
+use Rattle.md_core.specs.Tasks.Delivery.{Delivery, Stage, Start, Writing, Linked, Undo}
 use Rattle.md_core.specs.declared.jobs.step.DirReply.{DirReply}
 use Rattle.md_core.specs.declared.jobs.step.DirReply.TheVariants as reply
-use Rattle.md_core.specs.declared.jobs.task.Task.{Task}
-use Rattle.md_core.specs.declared.jobs.task.Task.TheVariants.{Deliver, Errand, Clean}
+use Rattle.md_core.specs.Tasks.Task.{Task, Deliver, Errand, Clean}
 use Rattle.md_core.specs.Machine.{Occurrence, working, job_at, new_job}
 use Rattle.md_core.specs.Machines.Deliver.{new_delivery, at_stage, piece, append_turn, link_turn, unlink_turn, stage_turn, is_in_time}
 use Rattle.md_core.specs.Machines.Clean.{new_cleaning}
@@ -52,7 +50,7 @@ abbrev pub AtStage : Run → ℕ → ℕ → Path → Stage → Type 0
 AtStage r k job p Start = k ≤ first_step r job
 AtStage r k job p (Writing start n) = HasBegun r job k start p
 AtStage r k job p Linked = Unit {0}
-AtStage r k job p (Undo a) = (a ≡ answer.Fault) ⊎ (a ≡ answer.NameTaken)
+AtStage r k job p (Undo a) = (refused_by a ≡ answer.Fault) ⊎ (refused_by a ≡ answer.NameTaken)
 
 abbrev pub AtTask : Run → ℕ → ℕ → Task → Type 0
 AtTask r k job (Deliver d) = AtStage r k job d.tmp d.stage

@@ -1,8 +1,7 @@
 -- What one look-up says is so at its moment; and what a search says that looked in new and then in cur is so at one of the two moments.
-use Rattle.md_core.specs.declared.jobs.errand.Stage.{Stage}
-use Rattle.md_core.specs.declared.jobs.errand.Stage.TheVariants.{Look, Act}
-use Rattle.md_core.specs.declared.jobs.purpose.Purpose.{Purpose}
-use Rattle.md_core.specs.declared.jobs.purpose.Purpose.TheVariants as purpose
+use Rattle.md_core.specs.Tasks.Errand.{Stage, Look, Act}
+use Rattle.md_core.specs.Tasks.Purpose.{Purpose}
+use Rattle.md_core.specs.Tasks.Purpose as purpose
 use Rattle.md_core.specs.Machines.Purposes.{searches}
 use Rattle.md_core.specs.Machines.Errand.{at_stage}
 use Rattle.md_core.proofs.Machines.Errand.Table.{one-place, last-place}
@@ -18,8 +17,7 @@ use Rattle.md_core.specs.declared.jobs.answer.Answer.TheVariants as answer
 use Rattle.md_core.specs.declared.jobs.call.Call.{Call}
 use Rattle.md_core.specs.declared.jobs.call.Call.TheVariants as call
 use Rattle.md_core.specs.declared.jobs.step.DirReply.{DirReply}
-use Rattle.md_core.specs.declared.jobs.task.Task.{Task}
-use Rattle.md_core.specs.declared.jobs.task.Task.TheVariants.{Deliver, Errand, Clean}
+use Rattle.md_core.specs.Tasks.Task.{Task, Deliver, Errand, Clean}
 use Rattle.md_core.specs.Mailbox.{Entry, is_tmp}
 use Rattle.md_core.specs.Alone.{seen_alone, flag_alone, move_alone, copy_alone, expunge_alone, entry_if, is_in_place, is_in_folder}
 use Rattle.md_core.specs.Machine.{Standing, working, answered, job_at, new_job}

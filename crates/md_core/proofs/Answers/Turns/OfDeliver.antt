@@ -6,9 +6,8 @@ use Rattle.md_dirs.specs.State.{State, file_at}
 use Rattle.md_core.specs.declared.jobs.answer.Answer.{Answer}
 use Rattle.md_core.specs.declared.jobs.answer.Answer.TheVariants as answer
 use Rattle.md_core.specs.declared.jobs.call.Call.{Call}
-use Rattle.md_core.specs.declared.jobs.deliver.Delivery.{Delivery}
-use Rattle.md_core.specs.declared.jobs.deliver.Stage.{Stage}
-use Rattle.md_core.specs.declared.jobs.deliver.Stage.TheVariants.{Start, Writing, Linked, Undo}
+use Rattle.md_core.specs.Machines.Refusals.{refused_by}
+use Rattle.md_core.specs.Tasks.Delivery.{Delivery, Stage, Start, Writing, Linked, Undo}
 use Rattle.md_core.specs.declared.jobs.step.Moment.{Moment}
 use Rattle.md_core.specs.declared.jobs.step.DirReply.{DirReply}
 use Rattle.md_core.specs.declared.jobs.step.DirReply.TheVariants as reply
@@ -21,7 +20,7 @@ use Rattle.md_core.proofs.Answers.Turns.Refusals.{create-exists, create-not_foun
 
 -- what an answer says of the stage at which it was given, and of the reply
 abbrev pub DeliveryTells : Stage → DirReply → Answer → Type 0
-DeliveryTells (Undo b) r a = a ≡ b
+DeliveryTells (Undo b) r a = a ≡ refused_by b
 DeliveryTells stage r answer.Delivered = Unit {0}
 DeliveryTells stage r answer.TimedOut = Unit {0}
 DeliveryTells stage r answer.TmpGone = Unit {0}
@@ -33,7 +32,7 @@ abbrev pub Undoes : DirReply → Stage → Type 0
 Undoes r Start = Unit {0}
 Undoes r (Writing start k) = Unit {0}
 Undoes r Linked = Unit {0}
-Undoes r (Undo a) = (a ≡ answer.Fault) × (r ≡ reply.Fault)
+Undoes r (Undo a) = (refused_by a ≡ answer.Fault) × (r ≡ reply.Fault)
 
 abbrev pub DeliverySays : Stage → DirReply → After Delivery → Type 0
 DeliverySays stage r after = MatchOption after.answer (Undoes r after.task.stage) (DeliveryTells stage r)

@@ -17,27 +17,24 @@ use Rattle.md_name.specs.declared.info.Info.{Info}
 use Rattle.md_core.specs.declared.jobs.answer.Answer.{Answer}
 use Rattle.md_core.specs.declared.jobs.answer.Answer.TheVariants as answer
 use Rattle.md_core.specs.declared.jobs.call.Call.{Call}
-use Rattle.md_core.specs.declared.jobs.errand.Errand.{Errand as ErrandOf}
-use Rattle.md_core.specs.declared.jobs.errand.Stage.{Stage}
-use Rattle.md_core.specs.declared.jobs.errand.Stage.TheVariants.{Look, Act}
-use Rattle.md_core.specs.declared.jobs.purpose.Decision.{Decision}
-use Rattle.md_core.specs.declared.jobs.purpose.Decision.TheVariants as decision
-use Rattle.md_core.specs.declared.jobs.purpose.Purpose.{Purpose}
-use Rattle.md_core.specs.declared.jobs.purpose.Purpose.TheVariants.{Seen, Flag, Move, Copy, Expunge}
-use Rattle.md_core.specs.declared.jobs.refusal.Refusal.{Refusal}
-use Rattle.md_core.specs.declared.jobs.refusal.Refusal.TheVariants as refusal
+use Rattle.md_core.specs.Tasks.Errand.{Errand as ErrandOf, Stage, Look, Act}
+use Rattle.md_core.specs.Tasks.Decision.{Decision}
+use Rattle.md_core.specs.Tasks.Decision as decision
+use Rattle.md_core.specs.Tasks.Purpose.{Purpose, Seen, Flag, Move, Copy, Expunge}
+use Rattle.md_core.specs.Tasks.Refusal.{Refusal}
+use Rattle.md_core.specs.Tasks.Refusal as refusal
 use Rattle.md_core.specs.declared.jobs.step.Moment.{Moment}
 use Rattle.md_core.specs.declared.jobs.step.DirReply.{DirReply}
 use Rattle.md_core.specs.declared.jobs.step.DirReply.TheVariants as reply
-use Rattle.md_core.specs.declared.jobs.task.Task.TheVariants.{Errand}
+use Rattle.md_core.specs.Tasks.Task.{Errand}
 use Rattle.md_core.specs.Mailbox.{Entry, Mailbox, mailbox_of, entry_of, HasOnePath}
 use Rattle.md_core.specs.Alone.{Outcome, alone, seen_alone, seen_by, flag_alone, flag_by, copy_alone, copy_by, expunge_alone, expunge_by, refuse, entry_if, is_in_place, is_in_folder, flags_in}
 use Rattle.md_core.specs.Turn.{Turn, After, goes_on, rows_for, reply_of}
 use Rattle.md_core.specs.Asked.{ask_of, state_by}
 use Rattle.md_core.specs.Machine.{as_task}
 use Rattle.md_core.specs.Machines.Purposes.{first, searches, place_after, info_in, has_trashed, act_if, decide_flag, decide, answer_by, name_copied, deed_by}
-use Rattle.md_core.specs.Machines.Errand.{at_stage, refuses, asked_of, after_none, after_decision, after_row, look_turn, stage_turn, errand_turn}
-use Rattle.md_core.specs.Machines.Refusals.{refused_by}
+use Rattle.md_core.specs.Machines.Errand.{at_stage, asked_of, after_none, after_decision, after_row, look_turn, stage_turn, errand_turn}
+use Rattle.md_core.specs.Machines.Refusals.{refused_by, refuses}
 use Rattle.md_core.proofs.Induction.Good.{ErrandFits, call_by}
 use Rattle.md_core.proofs.Looking.LookUps.{IsRow, found-row, row-entry, row-message, no-entry, info-in}
 use Rattle.md_core.proofs.Machines.Stays.{as_after}

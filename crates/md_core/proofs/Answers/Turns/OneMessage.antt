@@ -1,6 +1,5 @@
 -- What a turn of a job that acts on one message says: of the answer that it gives, or of how the job goes on.
-use Rattle.md_core.specs.declared.jobs.errand.Stage.{Stage}
-use Rattle.md_core.specs.declared.jobs.errand.Stage.TheVariants.{Look, Act}
+use Rattle.md_core.specs.Tasks.Errand.{Stage, Look, Act}
 use Rattle.md_core.specs.Machines.Purposes.{searches, place_after}
 use Rattle.std.proofs.Common.{ℕ, ◌≡◌, ◌+◌, ◌≤◌, List, [], Some, None, Bool, true, MatchOption}
 use Rattle.std.specs.FinMap.{get}
@@ -15,8 +14,7 @@ use Rattle.md_core.specs.declared.jobs.call.Call.{Call}
 use Rattle.md_core.specs.declared.jobs.call.Call.TheVariants as call
 use Rattle.md_core.specs.declared.jobs.step.DirReply.{DirReply}
 use Rattle.md_core.specs.declared.jobs.step.DirReply.TheVariants as reply
-use Rattle.md_core.specs.declared.jobs.task.Task.{Task}
-use Rattle.md_core.specs.declared.jobs.task.Task.TheVariants.{Deliver, Errand, Clean}
+use Rattle.md_core.specs.Tasks.Task.{Task, Deliver, Errand, Clean}
 use Rattle.md_core.specs.Mailbox.{mailbox_of, is_message}
 use Rattle.md_core.specs.Alone.{alone, entry_if, is_in_place}
 use Rattle.md_core.specs.Turn.{After}

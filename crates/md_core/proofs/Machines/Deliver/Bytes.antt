@@ -1,7 +1,7 @@
 -- The bytes that are written so far, with the next piece.
 use Rattle.std.proofs.Common.{ℕ, zero, suc, ◌≡◌, ◌+◌, ◌-◌, ◌<◌, ◌≤◌, ◌++◌, List, [], ◌∷◌, length, take, drop, refl, sym, ap, subst, ◌∙◌, arith}
 use Rattle.md_core.specs.Machines.Deliver.{piece_len, piece, pieces}
-use Rattle.md_core.specs.declared.jobs.deliver.Delivery.{Delivery}
+use Rattle.md_core.specs.Tasks.Delivery.{Delivery}
 use Rattle.md_core.proofs.Lists.Pieces.{pieces-less}
 
 take-none : (m : ℕ) → take {A = ℕ} m [] ≡ []

@@ -7,12 +7,10 @@ use Rattle.md_core.specs.declared.jobs.answer.Answer.{Answer}
 use Rattle.md_core.specs.declared.jobs.answer.Answer.TheVariants as answer
 use Rattle.md_core.specs.declared.jobs.call.Call.{Call}
 use Rattle.md_core.specs.declared.jobs.call.Call.TheVariants as call
-use Rattle.md_core.specs.declared.jobs.deliver.Delivery.{Delivery}
-use Rattle.md_core.specs.declared.jobs.deliver.Stage.{Stage}
-use Rattle.md_core.specs.declared.jobs.deliver.Stage.TheVariants.{Linked}
+use Rattle.md_core.specs.Tasks.Delivery.{Delivery, Stage, Linked}
 use Rattle.md_core.specs.declared.jobs.effect.Effect.{Effect}
 use Rattle.md_core.specs.declared.jobs.step.DirReply.{DirReply}
-use Rattle.md_core.specs.declared.jobs.task.Task.TheVariants.{Deliver}
+use Rattle.md_core.specs.Tasks.Task.{Deliver}
 use Rattle.md_core.specs.Mailbox.{Entry, mailbox_of, HasOnePath}
 use Rattle.md_core.specs.Alone.{alone, deliver_alone}
 use Rattle.md_core.specs.History.{names_of, names_after_change}

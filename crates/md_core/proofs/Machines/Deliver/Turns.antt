@@ -7,15 +7,15 @@ use Rattle.md_dirs.specs.State.{State, IsSound, file_at}
 use Rattle.md_dirs.specs.declared.calls.DirError.TheVariants.{NotFound}
 use Rattle.md_core.specs.declared.jobs.answer.Answer.{Answer}
 use Rattle.md_core.specs.declared.jobs.answer.Answer.TheVariants as answer
-use Rattle.md_core.specs.declared.jobs.deliver.Delivery.{Delivery}
-use Rattle.md_core.specs.declared.jobs.deliver.Stage.{Stage}
-use Rattle.md_core.specs.declared.jobs.deliver.Stage.TheVariants.{Start, Writing, Linked, Undo}
+use Rattle.md_core.specs.Machines.Refusals.{refused_by}
+use Rattle.md_core.specs.Tasks.Refusal.{Refusal}
+use Rattle.md_core.specs.Tasks.Refusal as refusal
+use Rattle.md_core.specs.Tasks.Delivery.{Delivery, Stage, Start, Writing, Linked, Undo}
 use Rattle.md_core.specs.declared.jobs.call.Call.{Call}
 use Rattle.md_core.specs.declared.jobs.step.Moment.{Moment}
 use Rattle.md_core.specs.declared.jobs.step.DirReply.{DirReply}
 use Rattle.md_core.specs.declared.jobs.step.DirReply.TheVariants as reply
-use Rattle.md_core.specs.declared.jobs.task.Task.{Task}
-use Rattle.md_core.specs.declared.jobs.task.Task.TheVariants.{Deliver}
+use Rattle.md_core.specs.Tasks.Task.{Task, Deliver}
 use Rattle.md_core.specs.Mailbox.{HasOnePath}
 use Rattle.md_core.specs.Turn.{Turn, After, rows_for, reply_of}
 use Rattle.md_core.specs.Asked.{ask_of, state_by, Asked, append, link}
@@ -76,7 +76,7 @@ module _ (s : State) (number : ℕ) (asked : Call) (at : Moment) (sound : IsSoun
     with_message = record { task = Deliver (at_stage d Linked); answer = None; effect = Some (delivery_effect number d) }
 
     -- the call changed nothing, and the file in tmp goes next, or is gone
-    undoes : (made : Asked) (r : DirReply) (a : Answer) → is_success a ≡ false → is_effect_at (call_by d) made r None ≡ false →
+    undoes : (made : Asked) (r : DirReply) (a : Refusal) → is_success (refused_by a) ≡ false → is_effect_at (call_by d) made r None ≡ false →
         Does s s number asked (Deliver x) made r (record { task = Deliver (at_stage d (Undo a)); answer = None; effect = None })
     undoes made r a failure none =
         goes-on s s number asked x one fits made r (Undo a) (quiet-stays s d.tmp.name sound) (fits.stage.1, failure) refl none (omega arith)
@@ -105,7 +105,7 @@ module _ (s : State) (number : ℕ) (asked : Call) (at : Moment) (sound : IsSoun
         (append-done here.0 here.1 more)
     append-does more reply.Exists replied = fails_now _ _ answer.Fault refl refl
     append-does more reply.NotFound replied = fails_now _ _ answer.TmpGone refl refl
-    append-does more reply.Fault replied = undoes _ _ answer.Fault refl refl
+    append-does more reply.Fault replied = undoes _ _ refusal.Fault refl refl
 
     link-done : (n : ℕ) → d.tmp.folder < s.folders → file_at s d.tmp ≡ Some n → take k d.body ≡ d.body →
         Does s (dirs.with_path (target d) s (Some n)) number asked (Deliver x) (link d.tmp (target d)) reply.Ok with_message
@@ -122,9 +122,9 @@ module _ (s : State) (number : ℕ) (asked : Call) (at : Moment) (sound : IsSoun
         let here = there (file_at s d.tmp) _ NotFound (accepted _ faulted (sym replied)) in
         subst (λ (o : Option ℕ). Does s (dirs.with_path (target d) s o) number asked (Deliver x) (link d.tmp (target d)) reply.Ok with_message) (sym here.1)
         (link-done here.0 fits.in_folder here.1 whole)
-    link-does whole reply.Exists replied = undoes _ _ answer.NameTaken refl refl
+    link-does whole reply.Exists replied = undoes _ _ refusal.NameTaken refl refl
     link-does whole reply.NotFound replied = fails_now _ _ answer.TmpGone refl refl
-    link-does whole reply.Fault replied = undoes _ _ answer.Fault refl refl
+    link-does whole reply.Fault replied = undoes _ _ refusal.Fault refl refl
 
 -- What a turn of a delivery does, whatever its stage.
 module _ (s : State) (number : ℕ) (asked : Call) (at : Moment) (faulted : Bool) (sound : IsSound s) (one : HasOnePath s) (d : Delivery) where
@@ -156,7 +156,7 @@ module _ (s : State) (number : ℕ) (asked : Call) (at : Moment) (faulted : Bool
       unlink-does s number asked at sound one (at_stage d Linked) answer.Delivered fits (delivery_effect number d, refl, refl) (omega arith)
       (reply_of (dirs.unlink d.tmp) s faulted)
   stage-does (Undo a) fits =
-      unlink-does s number asked at sound one (at_stage d (Undo a)) a fits (rw fits.stage.1 refl) (omega arith) (reply_of (dirs.unlink d.tmp) s faulted)
+      unlink-does s number asked at sound one (at_stage d (Undo a)) (refused_by a) fits (rw fits.stage.1 refl) (omega arith) (reply_of (dirs.unlink d.tmp) s faulted)
 
   pub delivery-does : DeliveryFits s asked d →
       DoesBy s number asked d at.clock (delivery_turn number d at) (reply_of (ask_of (delivery_turn number d at).asked at.clock) s faulted)

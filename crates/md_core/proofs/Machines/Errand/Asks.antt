@@ -4,11 +4,8 @@ use Rattle.md_dirs.specs.declared.paths.Path.{Path}
 use Rattle.md_dirs.specs.declared.paths.Place.{Place}
 use Rattle.md_dirs.specs.declared.paths.Place.TheVariants.{Tmp}
 use Rattle.md_name.specs.declared.info.Info.{Info}
-use Rattle.md_core.specs.declared.jobs.errand.Errand.{Errand}
-use Rattle.md_core.specs.declared.jobs.errand.Stage.{Stage}
-use Rattle.md_core.specs.declared.jobs.errand.Stage.TheVariants.{Look, Act}
-use Rattle.md_core.specs.declared.jobs.purpose.Purpose.{Purpose}
-use Rattle.md_core.specs.declared.jobs.purpose.Purpose.TheVariants.{Seen, Flag, Move, Copy, Expunge}
+use Rattle.md_core.specs.Tasks.Errand.{Errand, Stage, Look, Act}
+use Rattle.md_core.specs.Tasks.Purpose.{Purpose, Seen, Flag, Move, Copy, Expunge}
 use Rattle.md_core.specs.Asked.{Asked, create, append, link, rename, unlink, list}
 use Rattle.md_core.specs.Mailbox.{is_tmp}
 use Rattle.md_core.specs.Machines.Purposes.{deed_by, info_in}

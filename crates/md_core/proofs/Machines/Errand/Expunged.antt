@@ -17,12 +17,11 @@ use Rattle.md_name.specs.declared.info.Info.{Info}
 use Rattle.md_core.specs.declared.jobs.answer.Answer.TheVariants as answer
 use Rattle.md_core.specs.declared.jobs.call.Call.{Call}
 use Rattle.md_core.specs.declared.jobs.effect.Effect.{Effect}
-use Rattle.md_core.specs.declared.jobs.errand.Errand.{Errand as ErrandOf}
-use Rattle.md_core.specs.declared.jobs.errand.Stage.TheVariants.{Act}
-use Rattle.md_core.specs.declared.jobs.purpose.Deed.TheVariants as deed
-use Rattle.md_core.specs.declared.jobs.purpose.Purpose.TheVariants as purpose
+use Rattle.md_core.specs.Tasks.Errand.{Errand as ErrandOf, Act}
+use Rattle.md_core.specs.Tasks.Deed as deed
+use Rattle.md_core.specs.Tasks.Purpose as purpose
 use Rattle.md_core.specs.declared.jobs.step.DirReply.TheVariants as reply
-use Rattle.md_core.specs.declared.jobs.task.Task.TheVariants.{Errand}
+use Rattle.md_core.specs.Tasks.Task.{Errand}
 use Rattle.md_core.specs.Mailbox.{mailbox_of, entry_of, is_message, HasOnePath}
 use Rattle.md_core.specs.Alone.{alone, expunge_alone, expunge_by, refuse, entry_if, is_in_place}
 use Rattle.md_core.specs.History.{names_of, names_after_change}

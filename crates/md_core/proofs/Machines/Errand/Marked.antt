@@ -17,10 +17,10 @@ use Rattle.md_core.specs.declared.jobs.answer.Answer.TheVariants as answer
 use Rattle.md_core.specs.declared.jobs.call.Call.{Call}
 use Rattle.md_core.specs.declared.jobs.call.Call.TheVariants as call
 use Rattle.md_core.specs.declared.jobs.effect.Effect.{Effect}
-use Rattle.md_core.specs.declared.jobs.errand.Errand.{Errand as ErrandOf}
-use Rattle.md_core.specs.declared.jobs.purpose.Deed.TheVariants as deed
+use Rattle.md_core.specs.Tasks.Errand.{Errand as ErrandOf}
+use Rattle.md_core.specs.Tasks.Deed as deed
 use Rattle.md_core.specs.declared.jobs.step.DirReply.TheVariants as reply
-use Rattle.md_core.specs.declared.jobs.task.Task.TheVariants.{Errand}
+use Rattle.md_core.specs.Tasks.Task.{Errand}
 use Rattle.md_core.specs.Mailbox.{Entry, Mailbox, mailbox_of, entry_of, is_message, is_tmp, HasOnePath}
 use Rattle.md_core.specs.Alone.{Outcome, alone, seen_alone, seen_by, flag_alone, flag_by, entry_if, is_in_place, flags_in, is_same_set, info_with, refuse}
 use Rattle.md_core.specs.History.{Listed, as_listed, names_of, name_of, names_after_change, size_in, IsThere, ShowsFlags, MayGetFlags}

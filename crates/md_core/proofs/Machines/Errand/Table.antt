@@ -9,13 +9,11 @@ use Rattle.md_name.specs.declared.info.Info.{Info}
 use Rattle.md_core.specs.declared.jobs.answer.Answer.{Answer}
 use Rattle.md_core.specs.declared.jobs.answer.Answer.TheVariants as answer
 use Rattle.md_core.specs.declared.jobs.call.Call.TheVariants as call
-use Rattle.md_core.specs.declared.jobs.errand.Stage.{Stage}
-use Rattle.md_core.specs.declared.jobs.errand.Stage.TheVariants as stage
-use Rattle.md_core.specs.declared.jobs.purpose.Decision.TheVariants.{Keep, Act}
-use Rattle.md_core.specs.declared.jobs.purpose.Purpose.{Purpose}
-use Rattle.md_core.specs.declared.jobs.purpose.Purpose.TheVariants.{Seen, Flag, Move, Copy, Expunge}
-use Rattle.md_core.specs.declared.jobs.refusal.Refusal.{Refusal}
-use Rattle.md_core.specs.declared.jobs.refusal.Refusal.TheVariants.{NotThere, NotTrashed, OtherInfo, NameTaken, Lost, Fault}
+use Rattle.md_core.specs.Tasks.Errand.{Stage}
+use Rattle.md_core.specs.Tasks.Errand as stage
+use Rattle.md_core.specs.Tasks.Decision.{Keep, Act}
+use Rattle.md_core.specs.Tasks.Purpose.{Purpose, Seen, Flag, Move, Copy, Expunge}
+use Rattle.md_core.specs.Tasks.Refusal.{Refusal, NotThere, NotTrashed, OtherInfo, NameTaken, Lost, TimedOut, TmpGone, Fault}
 use Rattle.md_core.specs.declared.jobs.step.DirReply.{DirReply}
 use Rattle.md_core.specs.declared.jobs.step.DirReply.TheVariants as reply
 use Rattle.md_core.specs.Alone.{is_same_set}
@@ -146,6 +144,8 @@ refusal-fails NotTrashed = refl
 refusal-fails OtherInfo = refl
 refusal-fails NameTaken = refl
 refusal-fails Lost = refl
+refusal-fails TimedOut = refl
+refusal-fails TmpGone = refl
 refusal-fails Fault = refl
 
 -- a look that goes on, and one that is refused
@@ -167,6 +167,8 @@ flag-refused f g u add remove tries place reply.Ok NotTrashed = refl
 flag-refused f g u add remove tries place reply.Ok OtherInfo = refl
 flag-refused f g u add remove tries place reply.Ok NameTaken = refl
 flag-refused f g u add remove tries place reply.Ok Lost = refl
+flag-refused f g u add remove tries place reply.Ok TimedOut = refl
+flag-refused f g u add remove tries place reply.Ok TmpGone = refl
 flag-refused f g u add remove tries place reply.Ok Fault = refl
 flag-refused f g u add remove tries place reply.Exists refusal = refl
 flag-refused f g u add remove tries place reply.NotFound refusal = refl

@@ -20,19 +20,16 @@ use Rattle.md_core.specs.declared.jobs.answer.Answer.{Answer}
 use Rattle.md_core.specs.declared.jobs.answer.Answer.TheVariants as answer
 use Rattle.md_core.specs.declared.jobs.call.Call.{Call}
 use Rattle.md_core.specs.declared.jobs.effect.Effect.{Effect}
-use Rattle.md_core.specs.declared.jobs.errand.Errand.{Errand as ErrandOf}
-use Rattle.md_core.specs.declared.jobs.errand.Stage.{Stage}
-use Rattle.md_core.specs.declared.jobs.errand.Stage.TheVariants.{Look, Act}
-use Rattle.md_core.specs.declared.jobs.purpose.Decision.{Decision}
-use Rattle.md_core.specs.declared.jobs.purpose.Decision.TheVariants as decision
-use Rattle.md_core.specs.declared.jobs.purpose.Purpose.{Purpose}
-use Rattle.md_core.specs.declared.jobs.purpose.Purpose.TheVariants.{Seen, Flag, Move, Copy, Expunge}
-use Rattle.md_core.specs.declared.jobs.refusal.Refusal.{Refusal}
-use Rattle.md_core.specs.declared.jobs.refusal.Refusal.TheVariants as refusal
+use Rattle.md_core.specs.Tasks.Errand.{Errand as ErrandOf, Stage, Look, Act}
+use Rattle.md_core.specs.Tasks.Decision.{Decision}
+use Rattle.md_core.specs.Tasks.Decision as decision
+use Rattle.md_core.specs.Tasks.Purpose.{Purpose, Seen, Flag, Move, Copy, Expunge}
+use Rattle.md_core.specs.Tasks.Refusal.{Refusal}
+use Rattle.md_core.specs.Tasks.Refusal as refusal
 use Rattle.md_core.specs.declared.jobs.step.Moment.{Moment}
 use Rattle.md_core.specs.declared.jobs.step.DirReply.{DirReply}
 use Rattle.md_core.specs.declared.jobs.step.DirReply.TheVariants as reply
-use Rattle.md_core.specs.declared.jobs.task.Task.TheVariants.{Errand}
+use Rattle.md_core.specs.Tasks.Task.{Errand}
 use Rattle.md_core.specs.Alone.{alone}
 use Rattle.md_core.specs.History.{MayGetFlags}
 use Rattle.md_core.specs.Mailbox.{Entry, mailbox_of, entry_of, bytes_of, HasOnePath}
@@ -41,8 +38,8 @@ use Rattle.md_core.specs.Turn.{Turn, After, goes_on, ends_by, rows_for, reply_of
 use Rattle.md_core.specs.Asked.{Asked, list, ask_of, state_by}
 use Rattle.md_core.specs.Machine.{as_task}
 use Rattle.md_core.specs.Machines.Purposes.{first, searches, place_after, info_in, wanted, decide, answer_by, deed_by, shown}
-use Rattle.md_core.specs.Machines.Errand.{at_stage, refuses, asked_of, taken_by, after_none, kept, after_decision, after_row, lost_or_again, done_by, look_turn, act_turn, stage_turn, errand_turn, stage_left, errand_left}
-use Rattle.md_core.specs.Machines.Refusals.{refused_by}
+use Rattle.md_core.specs.Machines.Errand.{at_stage, asked_of, taken_by, after_none, kept, after_decision, after_row, lost_or_again, done_by, look_turn, act_turn, stage_turn, errand_turn, stage_left, errand_left}
+use Rattle.md_core.specs.Machines.Refusals.{refused_by, refuses}
 use Rattle.md_core.proofs.Induction.Good.{bytes_at, FoundAt, HasSize, IsOfSize, IsPlaceOf, IsAtStage, IsFound, ErrandFits, call_by, Does}
 use Rattle.md_core.proofs.Looking.LookUps.{IsRow, found-row, row-entry, info-in}
 use Rattle.md_core.proofs.Mailbox.Shown.{shows-mailbox}

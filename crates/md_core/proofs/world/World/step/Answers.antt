@@ -4,7 +4,6 @@ use Rattle.std.proofs.lemmas.Option.{slice_get_read}
 use Rattle.md_core.specs.declared.jobs.step.Event.{Event}
 use Rattle.md_core.specs.declared.jobs.step.Moment.{Moment}
 use Rattle.md_core.specs.Asked.{is_fault}
-use Rattle.md_core.specs.Turn.{device}
 use Rattle.md_core.specs.Machine.{Machine, Occurrence, occurrence, job_at}
 use Rattle.md_core.specs.Standing.{TakesTurn}
 use Rattle.md_core.specs.Runs.{Run, jobs_of, and_event, step_refusal, steps_left}
@@ -31,9 +30,9 @@ turn-requires g c =
 pub invariant_of-self-2 : goal.invariant_of-self-2
 invariant_of-self-2 g c =
     let s = c.self.inside in
-    let first = device (g.D.Dirs.state s.image.value) (g.D.Dirs.failures s.image.value) (g.D.Dirs.calls s.image.value) in
-    let held = device (g.D.Dirs.state s.dirs) (g.D.Dirs.failures s.dirs) (g.D.Dirs.calls s.dirs) in
-    let held' = device (g.D.Dirs.state c.turn.new.dirs) (g.D.Dirs.failures c.turn.new.dirs) (g.D.Dirs.calls c.turn.new.dirs) in
+    let first = g.D.Dirs.device s.image.value in
+    let held = g.D.Dirs.device s.dirs in
+    let held' = g.D.Dirs.device c.turn.new.dirs in
     let out = c.in_ok-turned.turned.out in
     let event : Event = record { job = c.args.job; now = c.args.now; own = c.args.own } in
     let moment : Moment = record { clock = c.max-clock.result; own = c.unwrap_or.result } in
@@ -55,9 +54,9 @@ invariant_of-self-2 g c =
 pub returns-clause-event : goal.returns-clause-event
 returns-clause-event g c =
     let s = c.self.inside in
-    let first = device (g.D.Dirs.state s.image.value) (g.D.Dirs.failures s.image.value) (g.D.Dirs.calls s.image.value) in
-    let held = device (g.D.Dirs.state s.dirs) (g.D.Dirs.failures s.dirs) (g.D.Dirs.calls s.dirs) in
-    let held' = device (g.D.Dirs.state c.turn.new.dirs) (g.D.Dirs.failures c.turn.new.dirs) (g.D.Dirs.calls c.turn.new.dirs) in
+    let first = g.D.Dirs.device s.image.value in
+    let held = g.D.Dirs.device s.dirs in
+    let held' = g.D.Dirs.device c.turn.new.dirs in
     let out = c.in_ok-turned.turned.out in
     let event : Event = record { job = c.args.job; now = c.args.now; own = c.args.own } in
     let moment : Moment = record { clock = c.max-clock.result; own = c.unwrap_or.result } in
@@ -82,9 +81,9 @@ returns-clause-theorem g c = interleaves _ (invariant_of-self-2 g c).run
 pub returns-clause-shows : goal.returns-clause-shows
 returns-clause-shows g c =
     let s = c.self.inside in
-    let first = device (g.D.Dirs.state s.image.value) (g.D.Dirs.failures s.image.value) (g.D.Dirs.calls s.image.value) in
-    let held = device (g.D.Dirs.state s.dirs) (g.D.Dirs.failures s.dirs) (g.D.Dirs.calls s.dirs) in
-    let held' = device (g.D.Dirs.state c.turn.new.dirs) (g.D.Dirs.failures c.turn.new.dirs) (g.D.Dirs.calls c.turn.new.dirs) in
+    let first = g.D.Dirs.device s.image.value in
+    let held = g.D.Dirs.device s.dirs in
+    let held' = g.D.Dirs.device c.turn.new.dirs in
     let out = c.in_ok-turned.turned.out in
     let event : Event = record { job = c.args.job; now = c.args.now; own = c.args.own } in
     let moment : Moment = record { clock = c.max-clock.result; own = c.unwrap_or.result } in
@@ -117,9 +116,9 @@ returns-clause-trace g c =
 pub returns-clause-success : goal.returns-clause-success
 returns-clause-success g c =
     let s = c.self.inside in
-    let first = device (g.D.Dirs.state s.image.value) (g.D.Dirs.failures s.image.value) (g.D.Dirs.calls s.image.value) in
-    let held = device (g.D.Dirs.state s.dirs) (g.D.Dirs.failures s.dirs) (g.D.Dirs.calls s.dirs) in
-    let held' = device (g.D.Dirs.state c.turn.new.dirs) (g.D.Dirs.failures c.turn.new.dirs) (g.D.Dirs.calls c.turn.new.dirs) in
+    let first = g.D.Dirs.device s.image.value in
+    let held = g.D.Dirs.device s.dirs in
+    let held' = g.D.Dirs.device c.turn.new.dirs in
     let out = c.in_ok-turned.turned.out in
     let event : Event = record { job = c.args.job; now = c.args.now; own = c.args.own } in
     let moment : Moment = record { clock = c.max-clock.result; own = c.unwrap_or.result } in
@@ -150,7 +149,7 @@ returns-clause-nearer g c =
     let s = c.self.inside in
     let n = c.args.job in
     let what = occurrence n c.args.now c.args.own (is_fault c.in_ok-turned.turned.out.reply) in
-    let r = run_of (device (g.D.Dirs.state s.image.value) (g.D.Dirs.failures s.image.value) (g.D.Dirs.calls s.image.value)) s.jobs.items
+    let r = run_of (g.D.Dirs.device s.image.value) s.jobs.items
     s.log.events.items s.log.marks.items in
     let goes : step_refusal (job_at (jobs_of r) n) ≡ None = ap (λ (m : Machine). step_refusal (job_at m.jobs n)) (sym c.self.invariant.now) ∙
     rw c.deref.ensures.value at c.in_ok-at.ensures.refused in
@@ -162,7 +161,7 @@ returns-clause-others g c =
     let s = c.self.inside in
     let n = c.args.job in
     let what = occurrence n c.args.now c.args.own (is_fault c.in_ok-turned.turned.out.reply) in
-    let r = run_of (device (g.D.Dirs.state s.image.value) (g.D.Dirs.failures s.image.value) (g.D.Dirs.calls s.image.value)) s.jobs.items
+    let r = run_of (g.D.Dirs.device s.image.value) s.jobs.items
     s.log.events.items s.log.marks.items in
     let goes : step_refusal (job_at (jobs_of r) n) ≡ None = ap (λ (m : Machine). step_refusal (job_at m.jobs n)) (sym c.self.invariant.now) ∙
     rw c.deref.ensures.value at c.in_ok-at.ensures.refused in

@@ -1,5 +1,4 @@
 use Rattle.std.proofs.Common.{◌≡◌, ◌∙◌, None, ap, sym}
-use Rattle.md_core.specs.Turn.{device}
 use Rattle.md_core.specs.Runs.{Run, effects_of}
 use Rattle.md_core.specs.Submitting.{submit_refusal}
 use Rattle.md_core.specs.Worlds.{run_of}
@@ -10,8 +9,8 @@ use Rattle.md_core.proofs.world.World.submit.Goals as goal
 pub invariant_of-self-2 : goal.invariant_of-self-2
 invariant_of-self-2 g c =
     let s = c.self.inside in
-    let first = device (g.D.Dirs.state s.image.value) (g.D.Dirs.failures s.image.value) (g.D.Dirs.calls s.image.value) in
-    let held = device (g.D.Dirs.state s.dirs) (g.D.Dirs.failures s.dirs) (g.D.Dirs.calls s.dirs) in
+    let first = g.D.Dirs.device s.image.value in
+    let held = g.D.Dirs.device s.dirs in
     let goes : submit_refusal (run_of first s.jobs.items s.log.events.items s.log.marks.items) c.args.call ≡ None =
     ap (λ (r : Run). submit_refusal r c.args.call) c.self.view_is ∙ sym c.in_default.ensures in
     rw (c.push_reserved.ensures.items, c.new.ensures, c.prepare.ensures.jobs)
@@ -25,8 +24,8 @@ returns-clause-theorem g c = interleaves _ (invariant_of-self-2 g c).run
 pub returns-clause-effects : goal.returns-clause-effects
 returns-clause-effects g c =
     let s = c.self.inside in
-    let first = device (g.D.Dirs.state s.image.value) (g.D.Dirs.failures s.image.value) (g.D.Dirs.calls s.image.value) in
-    let held = device (g.D.Dirs.state s.dirs) (g.D.Dirs.failures s.dirs) (g.D.Dirs.calls s.dirs) in
+    let first = g.D.Dirs.device s.image.value in
+    let held = g.D.Dirs.device s.dirs in
     let goes : submit_refusal (run_of first s.jobs.items s.log.events.items s.log.marks.items) c.args.call ≡ None =
     ap (λ (r : Run). submit_refusal r c.args.call) c.self.view_is ∙ sym c.in_default.ensures in
     rw (c.push_reserved.ensures.items, c.new.ensures, c.prepare.ensures.jobs)

@@ -10,21 +10,21 @@ use Rattle.md_core.proofs.world.looking.look.Goals as goal
 pub loop-folder-init : goal.loop-folder-init
 loop-folder-init g c =
     let seen = c.new-seen in
-    look-none (g.D.Dirs.state c.args.dirs.now) seen.result seen.ensures.0 seen.ensures.1 seen.ensures.2
+    look-none (g.D.Dirs.device c.args.dirs.now).state seen.result seen.ensures.0 seen.ensures.1 seen.ensures.2
 
 pub look_in-requires : goal.look_in-requires
 look_in-requires g c = c.loop-folder.invariant
 
 pub loop-folder-preserved : goal.loop-folder-preserved
 loop-folder-preserved g c =
-    let s = g.D.Dirs.state c.args.dirs.now in
+    let s = (g.D.Dirs.device c.args.dirs.now).state in
     let seen = c.look_in-in-loop-folder-2.new.seen in
     subst (λ es. IsLookOf s es seen) (before-next s c.loop-folder.folder) c.in_ok-look_in-3.ensures.ok
 
 -- all folders were looked at
-looked : (g : Over) (c : goal.After-of g) → IsLookOf (g.D.Dirs.state c.args.dirs.now) (entries (g.D.Dirs.state c.args.dirs.now).names) c.loop-folder.seen
+looked : (g : Over) (c : goal.After-of g) → IsLookOf (g.D.Dirs.device c.args.dirs.now).state (entries (g.D.Dirs.device c.args.dirs.now).state.names) c.loop-folder.seen
 looked g c =
-    let s = g.D.Dirs.state c.args.dirs.now in
+    let s = (g.D.Dirs.device c.args.dirs.now).state in
     let seen = c.loop-folder.seen in
     let all : c.loop-folder.folder ≡ s.folders = omega (arith, c.loop-folder.auto.folder-end, c.loop-folder-test.false, c.folders-folder-end.ensures.count) in
     subst (λ es. IsLookOf s es seen) (ap (λ (k : ℕ). entries_before s k 0) all ∙ before-all s c.folders-folder-end.ensures.sound) c.loop-folder.invariant
@@ -37,5 +37,5 @@ returns-clause-clock g c = (looked g c).clock
 
 pub returns-clause-used : goal.returns-clause-used
 returns-clause-used g c = λ u.
-    let s = g.D.Dirs.state c.args.dirs.now in
+    let s = (g.D.Dirs.device c.args.dirs.now).state in
     ap (is_among u) c.of.ensures ∙ used-all s (entries s.names) c.loop-folder.seen (looked g c) u

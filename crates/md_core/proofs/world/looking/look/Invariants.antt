@@ -3,5 +3,5 @@ use Rattle.md_core.proofs.world.looking.look.Given as goal
 
 abbrev pub invariant-loop-folder : goal.invariant-loop-folder
 invariant-loop-folder g l =
-    let s = g.D.Dirs.state l.dirs in
+    let s = (g.D.Dirs.device l.dirs).state in
     IsLookOf s (entries_before s l.folder 0) l.seen

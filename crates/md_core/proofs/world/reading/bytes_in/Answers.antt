@@ -6,10 +6,10 @@ use Rattle.md_core.proofs.world.reading.bytes_in.Goals as goal
 pub returns-in_err-row : goal.returns-in_err-row
 returns-in_err-row g c =
     rw c.from_residual.ensures
-    (none-bytes (g.D.Dirs.state c.args.dirs.now) c.args.unique.now c.args.folder c.args.place (sym c.in_err-row.ensures))
+    (none-bytes (g.D.Dirs.device c.args.dirs.now).state c.args.unique.now c.args.folder c.args.place (sym c.in_err-row.ensures))
 
 pub returns : goal.returns
 returns g c =
     c.read.ensures
-    ∙ row-bytes (g.D.Dirs.state c.args.dirs.now) c.args.unique.now c.args.folder c.args.place (row_shown c.in_ok-row.row) c.requires.sound c.requires.one
+    ∙ row-bytes (g.D.Dirs.device c.args.dirs.now).state c.args.unique.now c.args.folder c.args.place (row_shown c.in_ok-row.row) c.requires.sound c.requires.one
     c.requires.place c.requires.name (sym c.in_ok-row.ensures)

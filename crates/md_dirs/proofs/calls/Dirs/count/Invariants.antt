@@ -4,8 +4,8 @@ use Rattle.md_dirs.proofs.calls.Dirs.count.Given as goal
 
 abbrev pub invariant-loop-low : goal.invariant-loop-low
 invariant-loop-low g l = record {
-  from : l.low ≤ length (rows_of (g.Self.Dirs.state l.self) l.folder l.place);
-  to : length (rows_of (g.Self.Dirs.state l.self) l.folder l.place) ≤ l.high;
+  from : l.low ≤ length (rows_of (g.Self.Dirs.device l.self).state l.folder l.place);
+  to : length (rows_of (g.Self.Dirs.device l.self).state l.folder l.place) ≤ l.high;
 }
 
 abbrev pub decreases-loop-low : goal.decreases-loop-low

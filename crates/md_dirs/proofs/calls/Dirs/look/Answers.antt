@@ -12,33 +12,33 @@ use Rattle.md_dirs.proofs.calls.Dirs.look.Given as given
 
 pub loop-low-init : goal.loop-low-init
 loop-low-init g c =
-    let s : State = g.Self.Dirs.state c.args.self.now in
+    let s : State = (g.Self.Dirs.device c.args.self.now).state in
     subst (IsHalved (names s c.args.folder c.args.place) c.args.unique.now 1 0) (sym (c.count-count.ensures ∙ count-named s c.args.folder c.args.place))
     (halved-all (names s c.args.folder c.args.place) c.args.unique.now 1)
 
 pub returns-in_err-row_at : goal.returns-in_err-row_at
 returns-in_err-row_at g c =
     let l = c.loop-low in
-    absurd (looked-past (g.Self.Dirs.state c.args.self.now) c.args.folder c.args.place c.args.unique.now 1 l.low l.high l.invariant
+    absurd (looked-past (g.Self.Dirs.device c.args.self.now).state c.args.folder c.args.place c.args.unique.now 1 l.low l.high l.invariant
     (l.low + (l.high - l.low) / 2) (omega arith) c.in_err-row_at.ensures.row)
 
 pub loop-low-preserved-then-is_below : goal.loop-low-preserved-then-is_below
 loop-low-preserved-then-is_below g c =
     let l = c.loop-low in
-    looked-low (g.Self.Dirs.state c.args.self.now) c.args.folder c.args.place c.args.unique.now 1 l.low l.high l.invariant
+    looked-low (g.Self.Dirs.device c.args.self.now).state c.args.folder c.args.place c.args.unique.now 1 l.low l.high l.invariant
     (l.low + (l.high - l.low) / 2) (omega arith) (omega arith) (row_shown c.in_ok-row_at.field-0) c.in_ok-row_at.ensures.row
     (sym c.is_below.ensures ∙ c.if-is_below.true)
 
 pub loop-low-preserved : goal.loop-low-preserved
 loop-low-preserved g c =
     let l = c.loop-low in
-    looked-high (g.Self.Dirs.state c.args.self.now) c.args.folder c.args.place c.args.unique.now 1 l.low l.high l.invariant
+    looked-high (g.Self.Dirs.device c.args.self.now).state c.args.folder c.args.place c.args.unique.now 1 l.low l.high l.invariant
     (l.low + (l.high - l.low) / 2) (omega arith) (omega arith) (row_shown c.in_ok-row_at.field-0) c.in_ok-row_at.ensures.row
     (sym c.is_below.ensures ∙ c.if-is_below.false)
 
 pub returns-then-is_named : goal.returns-then-is_named
 returns-then-is_named g c =
-    let s : State = g.Self.Dirs.state c.args.self.now in
+    let s : State = (g.Self.Dirs.device c.args.self.now).state in
     let l = c.loop-low in
     row-at_name s c.args.folder c.args.place c.args.unique.now l.low (row_shown c.in-Some.row)
     (halved-edge (names s c.args.folder c.args.place) c.args.unique.now 1 l.low l.high l.invariant (omega (arith, c.loop-low-test.false)))
@@ -46,33 +46,33 @@ returns-then-is_named g c =
 
 pub loop-from-init : goal.loop-from-init
 loop-from-init g c =
-    let s : State = g.Self.Dirs.state c.args.self.now in
+    let s : State = (g.Self.Dirs.device c.args.self.now).state in
     subst (IsHalved (names s c.args.folder c.args.place) c.args.unique.now 3 0) (sym (c.count-count.ensures ∙ count-named s c.args.folder c.args.place))
     (halved-all (names s c.args.folder c.args.place) c.args.unique.now 3)
 
 pub returns-in_err-row_at-2 : goal.returns-in_err-row_at-2
 returns-in_err-row_at-2 g c =
     let l = c.loop-from in
-    absurd (looked-past (g.Self.Dirs.state c.args.self.now) c.args.folder c.args.place c.args.unique.now 3 l.from l.end l.invariant
+    absurd (looked-past (g.Self.Dirs.device c.args.self.now).state c.args.folder c.args.place c.args.unique.now 3 l.from l.end l.invariant
     (l.from + (l.end - l.from) / 2) (omega arith) c.in_err-row_at-2.ensures.row)
 
 pub loop-from-preserved-then-is_below_info : goal.loop-from-preserved-then-is_below_info
 loop-from-preserved-then-is_below_info g c =
     let l = c.loop-from in
-    looked-low (g.Self.Dirs.state c.args.self.now) c.args.folder c.args.place c.args.unique.now 3 l.from l.end l.invariant
+    looked-low (g.Self.Dirs.device c.args.self.now).state c.args.folder c.args.place c.args.unique.now 3 l.from l.end l.invariant
     (l.from + (l.end - l.from) / 2) (omega arith) (omega arith) (row_shown c.in_ok-row_at-2.field-0) c.in_ok-row_at-2.ensures.row
     (sym c.is_below_info.ensures ∙ c.if-is_below_info.true)
 
 pub loop-from-preserved : goal.loop-from-preserved
 loop-from-preserved g c =
     let l = c.loop-from in
-    looked-high (g.Self.Dirs.state c.args.self.now) c.args.folder c.args.place c.args.unique.now 3 l.from l.end l.invariant
+    looked-high (g.Self.Dirs.device c.args.self.now).state c.args.folder c.args.place c.args.unique.now 3 l.from l.end l.invariant
     (l.from + (l.end - l.from) / 2) (omega arith) (omega arith) (row_shown c.in_ok-row_at-2.field-0) c.in_ok-row_at-2.ensures.row
     (sym c.is_below_info.ensures ∙ c.if-is_below_info.false)
 
 -- no row is at the unique name, or one of another name
 missed : (g : given.Over) (c : Joined-row_at g) → (at : Option Row)
-    × (at ≡ slice_get (rows_of (g.Self.Dirs.state c.args.self.now) c.args.folder c.args.place) c.loop-low.low)
+    × (at ≡ slice_get (rows_of (g.Self.Dirs.device c.args.self.now).state c.args.folder c.args.place) c.loop-low.low)
     × (option_and_then (λ (r : Row). cond (is_named c.args.unique.now r.name) (Some r) None) at ≡ None)
 missed g c = elim c.match-row_at.branch [
   | in-Some+else-is_named w ↦ (
@@ -85,7 +85,7 @@ missed g c = elim c.match-row_at.branch [
 
 pub returns-in_err-row : goal.returns-in_err-row
 returns-in_err-row g c =
-    let s : State = g.Self.Dirs.state c.args.self.now in
+    let s : State = (g.Self.Dirs.device c.args.self.now).state in
     let rows = names s c.args.folder c.args.place in
     let u = c.args.unique.now in
     let m = missed g (goal.at.returns-in_err-row g c).Joined-row_at in
@@ -96,7 +96,7 @@ returns-in_err-row g c =
 
 pub returns-then-is_named-2 : goal.returns-then-is_named-2
 returns-then-is_named-2 g c =
-    let s : State = g.Self.Dirs.state c.args.self.now in
+    let s : State = (g.Self.Dirs.device c.args.self.now).state in
     let rows = names s c.args.folder c.args.place in
     let u = c.args.unique.now in
     let m = missed g (goal.at.returns-then-is_named-2 g c).Joined-row_at in
@@ -107,7 +107,7 @@ returns-then-is_named-2 g c =
 
 pub returns-else-is_named-2 : goal.returns-else-is_named-2
 returns-else-is_named-2 g c =
-    let s : State = g.Self.Dirs.state c.args.self.now in
+    let s : State = (g.Self.Dirs.device c.args.self.now).state in
     let rows = names s c.args.folder c.args.place in
     let u = c.args.unique.now in
     let m = missed g (goal.at.returns-else-is_named-2 g c).Joined-row_at in

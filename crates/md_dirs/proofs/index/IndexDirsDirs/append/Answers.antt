@@ -15,9 +15,11 @@ invariant_of-self-2 c =
     (counted-grown s.folders s.names s.slots.items c.self.invariant c.args.path.now c.args.bytes.now c.args.now c.in-Some.file
     c.index_mut.result.now (sym c.file_at.ensures ∙ c.in-Some.is) c.index_mut.ensures.value)
 
-pub returns-clause-meets : goal.returns-clause-meets
-returns-clause-meets c =
+pub returns : goal.returns
+returns c =
     let s = c.self.inside in
-    rw (← c.self.view_is, c.in_ok-grow_slot.ensures.ok)
-    (append-done s.folders s.names s.slots.items c.self.invariant c.args.path.now c.args.bytes.now c.args.now c.in-Some.file
-    c.index_mut.result.now (sym c.file_at.ensures ∙ c.in-Some.is) c.index_mut.ensures.value)
+    record {
+      meets = rw (← c.self.view_is, c.in_ok-grow_slot.ensures.ok)
+          (append-done s.folders s.names s.slots.items c.self.invariant c.args.path.now c.args.bytes.now c.args.now c.in-Some.file
+          c.index_mut.result.now _ _ (sym c.file_at.ensures ∙ c.in-Some.is) c.index_mut.ensures.value c.raise-2.ensures);
+    }

@@ -11,7 +11,8 @@ pub returns-in_default-clause-meets : goal.returns-in_default-clause-meets
 returns-in_default-clause-meets c =
     let s = c.self.inside in
     rw (← c.self.view_is, c.take.ensures.gone)
-    (unlink-nothing s.folders s.names s.slots.items c.self.invariant c.args.path.now (sym c.take.ensures.file ∙ c.in_default.is))
+    (unlink-nothing s.folders s.names s.slots.items c.self.invariant c.args.path.now _ _ (sym c.take.ensures.file ∙ c.in_default.is)
+    c.raise.ensures)
 
 pub release_one-requires : goal.release_one-requires
 release_one-requires c =
@@ -28,4 +29,4 @@ pub returns-clause-meets : goal.returns-clause-meets
 returns-clause-meets c =
     let s = c.self.inside in
     rw (← c.self.view_is, c.take.ensures.gone, c.release_one.ensures)
-    (unlink-done s.folders s.names s.slots.items c.self.invariant c.args.path.now c.in-Some.file (sym c.take.ensures.file ∙ c.in-Some.is))
+    (unlink-done s.folders s.names s.slots.items c.self.invariant c.args.path.now c.in-Some.file _ _ (sym c.take.ensures.file ∙ c.in-Some.is) c.raise-2.ensures)

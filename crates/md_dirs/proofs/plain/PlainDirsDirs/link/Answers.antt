@@ -15,10 +15,12 @@ invariant_of-self-2 c =
     (counted-linked s.folders s.names s.slots.items c.self.invariant c.args.old.now c.args.new.now c.in-Some.file (sym c.file_at.ensures ∙
     c.in-Some.is) c.if-new-self.false none)
 
-pub returns-clause-meets : goal.returns-clause-meets
-returns-clause-meets c =
+pub returns : goal.returns
+returns c =
     let s = c.self.inside in
     let none = sym c.file_at-2.ensures ∙ absent c.file_at-2.result (sym c.is_some.ensures ∙ c.if-is_some.false) in
-    rw (← c.self.view_is, c.in_ok-add_name.ensures.names, c.in_ok-add_name.ensures.slots, c.in_ok-name.ensures)
-    (link-done s.folders s.names s.slots.items c.self.invariant c.args.old.now c.args.new.now c.in-Some.file (sym c.file_at.ensures ∙
-    c.in-Some.is) c.if-new-self.false none)
+    record {
+      meets = rw (← c.self.view_is, c.in_ok-add_name.ensures.names, c.in_ok-add_name.ensures.slots, c.in_ok-name.ensures)
+          (link-done s.folders s.names s.slots.items c.self.invariant c.args.old.now c.args.new.now c.in-Some.file _ _ (sym c.file_at.ensures ∙
+          c.in-Some.is) c.if-new-self.false none c.raise-2.ensures);
+    }

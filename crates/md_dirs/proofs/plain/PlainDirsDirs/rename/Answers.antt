@@ -15,10 +15,12 @@ invariant_of-self-2 c =
     (counted-moved s.folders s.names s.slots.items c.self.invariant c.args.old.now c.args.new.now c.in-Some.file c.file_at-there.result
     (sym c.file_at.ensures ∙ c.in-Some.is) c.if-new-self.false (sym c.file_at-there.ensures) differ)
 
-pub returns-clause-meets : goal.returns-clause-meets
-returns-clause-meets c =
+pub returns : goal.returns
+returns c =
     let s = c.self.inside in
     let differ = sym c.is_same.ensures ∙ c.if-is_same.false in
-    rw (← c.self.view_is, c.take-gone.ensures.gone, c.in_ok-put.ensures.ok, c.release_one.ensures, c.in_ok-name.ensures)
-    (rename-done s.folders s.names s.slots.items c.self.invariant c.args.old.now c.args.new.now c.in-Some.file c.file_at-there.result
-    (sym c.file_at.ensures ∙ c.in-Some.is) c.if-new-self.false (sym c.file_at-there.ensures) differ)
+    record {
+      meets = rw (← c.self.view_is, c.take-gone.ensures.gone, c.in_ok-put.ensures.ok, c.release_one.ensures, c.in_ok-name.ensures)
+          (rename-done s.folders s.names s.slots.items c.self.invariant c.args.old.now c.args.new.now c.in-Some.file c.file_at-there.result _ _
+          (sym c.file_at.ensures ∙ c.in-Some.is) c.if-new-self.false (sym c.file_at-there.ensures) differ c.raise-2.ensures);
+    }

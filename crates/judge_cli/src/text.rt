@@ -1,0 +1,65 @@
+//! Findings as lines of text.
+
+use crate::why::why;
+use md_judge::{Finding, Session};
+use std::alloc::{AllocError, Global};
+
+const HEX: &[u8; 16] = b"0123456789abcdef";
+
+/// `LINE CLAUSE` and a line feed.
+pub(crate) fn push_short(
+    alloc: Global,
+    out: &mut Vec<u8>,
+    finding: Finding,
+) -> Result<(), AllocError> {
+    let text = format!(in alloc; "{} {}\n", finding.line, finding.clause.name())?;
+    out.extend_from_slice(text.as_bytes())
+}
+
+/// A line for people: the line of the log, the actor, its call, the clause, why, and the earlier line that it goes back to.
+pub(crate) fn push_long(
+    alloc: Global,
+    out: &mut Vec<u8>,
+    session: &Session,
+    at: usize,
+    finding: Finding,
+) -> Result<(), AllocError> {
+    let (actor, call) = session.words(at);
+    let line = format!(in alloc; "line {}: ", finding.line)?;
+    out.extend_from_slice(line.as_bytes())?;
+    push_shown(out, actor)?;
+    out.extend_from_slice(b": ")?;
+    push_shown(out, call)?;
+    let (name, why) = (finding.clause.name(), why(finding.clause));
+    let end = match finding.before {
+        None => format!(in alloc; ": {name}: {why}\n")?,
+        Some(before) => format!(in alloc; ": {name}: {why} (see line {before})\n")?,
+    };
+    out.extend_from_slice(end.as_bytes())
+}
+
+/// Words as a terminal may show them: a control byte is `\xNN`, and so is each byte past ASCII where the words are not UTF-8.
+pub(crate) fn push_shown(out: &mut Vec<u8>, words: &[u8]) -> Result<(), AllocError> {
+    let is_text = str::from_utf8(words).is_ok();
+    let mut last = 0u8;
+    for byte in words.iter().copied() {
+        // The control characters from U+0080 to U+009F are two bytes in UTF-8.
+        let is_second = last == 0xc2 && byte < 0xa0;
+        if byte.is_ascii_control() || byte >= 0x80 && (!is_text || is_second) {
+            push_hex(out, byte)?;
+        } else {
+            out.push(byte)?;
+        }
+        last = byte;
+    }
+    Ok(())
+}
+
+fn push_hex(out: &mut Vec<u8>, byte: u8) -> Result<(), AllocError> {
+    let high = HEX[(byte >> 4) as usize];
+    let low = HEX[(byte & 15) as usize];
+    out.extend_from_slice(b"\\x")?;
+    out.push(high)?;
+    out.push(low)?;
+    Ok(())
+}

@@ -1,0 +1,5 @@
+//! Tests of `judge_cli`.
+#![tactic(auto)]
+
+#[cfg(test)]
+mod tests;

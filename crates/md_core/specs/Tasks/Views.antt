@@ -1,0 +1,3 @@
+pub mod Purposes
+pub mod Stages
+pub mod Tasks

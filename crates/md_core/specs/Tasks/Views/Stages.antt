@@ -1,0 +1,28 @@
+-- What the definitions see of how far the code's tasks have come.
+use Rattle.md_core.specs.Tasks.Errand as errand
+use Rattle.md_core.specs.Tasks.Delivery as delivery
+use Rattle.md_core.specs.Tasks.Cleaning as cleaning
+use Rattle.md_core.specs.Tasks.Views.Purposes.{refusal_view}
+use Rattle.md_core.specs.declared.jobs.errand.Stage.{Stage as ErrandStage}
+use Rattle.md_core.specs.declared.jobs.errand.Stage.TheVariants as errand_at
+use Rattle.md_core.specs.declared.jobs.deliver.Stage.{Stage as DeliveryStage}
+use Rattle.md_core.specs.declared.jobs.deliver.Stage.TheVariants as delivery_at
+use Rattle.md_core.specs.declared.jobs.cleaning.Stage.{Stage as CleaningStage}
+use Rattle.md_core.specs.declared.jobs.cleaning.Stage.TheVariants as cleaning_at
+
+-- how far an errand has come, as the definitions see it
+abbrev pub errand_stage : ErrandStage → errand.Stage
+errand_stage (errand_at.Look place tries) = errand.Look place tries
+errand_stage (errand_at.Act place row tries) = errand.Act place row tries
+
+-- how far a delivery has come, as the definitions see it
+abbrev pub delivery_stage : DeliveryStage → delivery.Stage
+delivery_stage delivery_at.Start = delivery.Start
+delivery_stage (delivery_at.Writing start written) = delivery.Writing start written
+delivery_stage delivery_at.Linked = delivery.Linked
+delivery_stage (delivery_at.Undo refusal) = delivery.Undo (refusal_view refusal)
+
+-- how far a clean has come, as the definitions see it
+abbrev pub cleaning_stage : CleaningStage → cleaning.Stage
+cleaning_stage cleaning_at.Look = cleaning.Look
+cleaning_stage (cleaning_at.Remove name rest files) = cleaning.Remove name rest files

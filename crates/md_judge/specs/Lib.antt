@@ -1,0 +1,4 @@
+pub mod Logs
+pub mod Told
+pub mod Law
+pub mod Changes

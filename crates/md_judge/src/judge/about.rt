@@ -1,0 +1,156 @@
+//! What actors did about messages since they last answered.
+use super::befores::{Mark, NO_MARK};
+use super::mail::Key;
+use md_log::LineFault;
+use std::alloc::Global;
+use std::collections::BTreeMap;
+
+/// What an actor did about a message since its last answer about it.
+#[derive(Clone, Copy)]
+pub(super) struct About {
+    /// The actor's first line after that answer; 0 before any.
+    from: usize,
+    /// The line of its last call on the message; 0 where there is none.
+    act: usize,
+    was_refused: bool,
+    pub(super) is_added: bool,
+    pub(super) is_changed: bool,
+    pub(super) is_unlinked: bool,
+    /// The line of its last step that changed the message's paths.
+    pub(super) changed_at: Mark,
+}
+
+const NOTHING: About = About {
+    from: 0,
+    act: 0,
+    was_refused: false,
+    is_added: false,
+    is_changed: false,
+    is_unlinked: false,
+    changed_at: NO_MARK,
+};
+
+impl About {
+    /// Notes a call on the message.
+    pub(super) fn note_act(&mut self, line: usize, was_refused: bool) {
+        self.act = line;
+        self.was_refused = was_refused;
+    }
+
+    /// The line of the last call on it.
+    pub(super) fn act_line(&self) -> Option<usize> {
+        match self.act {
+            0 => None,
+            line => Some(line),
+        }
+    }
+
+    /// The line of the last call on it, where that was refused.
+    pub(super) fn refused_line(&self) -> Option<usize> {
+        if self.was_refused {
+            self.act_line()
+        } else {
+            None
+        }
+    }
+}
+
+/// The lines of an actor that matter.
+#[derive(Clone, Copy)]
+struct Lines {
+    /// The first; 0 where there is none.
+    first: usize,
+    /// The message of its last line, where that was an answer.
+    answered: Option<Key>,
+}
+
+const NO_LINES: Lines = Lines {
+    first: 0,
+    answered: None,
+};
+
+/// What each actor did about each message.
+#[derive(Drop)]
+pub(super) struct Actors {
+    about: BTreeMap<(u32, Key), About>,
+    /// The folders that had the message when a step of the actor took it from its own, with the step's line.
+    moved: BTreeMap<((u32, Key), u32), usize>,
+    lines: Vec<Lines>,
+}
+
+impl Actors {
+    pub(super) fn new(alloc: Global) -> Self {
+        Actors {
+            about: BTreeMap::new(alloc),
+            moved: BTreeMap::new(alloc),
+            lines: Vec::new(alloc),
+        }
+    }
+
+    /// A line of an actor, which may be its first.
+    pub(super) fn note_line(&mut self, actor: u32, at: usize) -> Result<(), LineFault> {
+        // An actor may have a number before it has a line.
+        for _ in self.lines.len()..=actor as usize {
+            self.lines.push(NO_LINES)?;
+        }
+        let Some(lines) = self.lines.get_mut(actor as usize) else {
+            return Ok(());
+        };
+        if lines.first == 0 {
+            lines.first = at;
+        }
+        if let Some(key) = lines.answered.take() {
+            self.about(actor, key)?.from = at;
+        }
+        Ok(())
+    }
+
+    pub(super) fn about(&mut self, actor: u32, key: Key) -> Result<&mut About, LineFault> {
+        Ok(self.about.entry((actor, key))?.or_insert(NOTHING))
+    }
+
+    /// The actor took the message from its folder at a line, while another folder had it.
+    pub(super) fn note_moved(
+        &mut self,
+        actor: u32,
+        key: Key,
+        to: u32,
+        line: usize,
+    ) -> Result<(), LineFault> {
+        self.moved.insert(((actor, key), to), line)?;
+        Ok(())
+    }
+
+    /// Whether the actor has moved the message to a folder since a line.
+    pub(super) fn has_moved(&self, actor: u32, key: Key, to: u32, first: usize) -> bool {
+        match self.moved.get(&((actor, key), to)) {
+            None => false,
+            Some(line) => *line >= first,
+        }
+    }
+
+    /// What the actor did about the message since its last answer.
+    pub(super) fn done(&self, actor: u32, key: Key) -> About {
+        self.about.get(&(actor, key)).copied().unwrap_or(NOTHING)
+    }
+
+    /// The actor answers about the message, so that nothing was done since.
+    pub(super) fn told(&mut self, actor: u32, key: Key) -> Result<(), LineFault> {
+        self.about.insert((actor, key), NOTHING)?;
+        if let Some(lines) = self.lines.get_mut(actor as usize) {
+            lines.answered = Some(key);
+        }
+        Ok(())
+    }
+
+    /// The first line of the span of an answer.
+    pub(super) fn first_line(&self, actor: u32, about: &About) -> usize {
+        match about.from {
+            0 => match self.lines.get(actor as usize) {
+                None => 0,
+                Some(lines) => lines.first,
+            },
+            line => line,
+        }
+    }
+}

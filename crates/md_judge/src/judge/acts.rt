@@ -1,0 +1,276 @@
+//! Calls on paths: what they are defined to answer, and what they do.
+ghost use Rattle.std.specs.Prelude.{◌≡◌, ◌≢◌, ◌↔◌, ℕ, Some, IsTrue, true, is_some, length};
+ghost use Rattle.md_dirs.specs.State.{State, file_at, has_folder};
+ghost use Rattle.md_dirs.specs.declared.paths.Path.{Path};
+ghost use Rattle.md_judge.specs.Told.{ask_at, ask_between};
+ghost use Rattle.md_log.specs.declared.line.Deed.TheVariants as deed;
+ghost use Rattle.md_judge.specs.Law.{IsWrongReply, reply_by};
+ghost use Rattle.md_judge.specs.Changes.{IsOlder, Leads};
+ghost use Rattle.md_judge.specs.declared.judge.directories.Spot.{Spot};
+
+use super::Judge;
+use super::befores::{line_at, mark_of};
+use super::directories::Spot;
+use md_log::{Clause, Deed, LineFault, Naming, Reply};
+
+/// What a step does to paths.
+#[derive(Clone, Copy)]
+pub(super) struct Change {
+    pub(super) taken: Option<(Spot, u32)>,
+    pub(super) added: Option<(Spot, u32)>,
+    /// A path that named the first file and names the second.
+    pub(super) turned: Option<(Spot, u32, u32)>,
+    pub(super) is_unlink: bool,
+}
+
+pub(super) const NO_CHANGE: Change = Change {
+    taken: None,
+    added: None,
+    turned: None,
+    is_unlink: false,
+};
+
+impl Judge {
+    /// A call on one path.
+    pub(super) fn at(
+        &mut self,
+        actor: u32,
+        deed: Deed,
+        path: Spot,
+        reply: Reply,
+    ) -> Result<(), LineFault> {
+        let file = self.directories.file_at(path);
+        let is_wrong = is_wrong_at(deed, file.is_some(), reply);
+        self.note_wrong(is_wrong, path);
+        match (deed, file) {
+            (Deed::Create, _) => self.create(actor, path, file, reply),
+            (Deed::Write, Some(file)) => {
+                self.write(actor, file, reply);
+                Ok(())
+            }
+            (Deed::Flush, Some(file)) => {
+                self.flush(file, reply);
+                Ok(())
+            }
+            (Deed::Unlink, _) => self.unlink(actor, path, file, reply),
+            (Deed::Write | Deed::Flush, None) => Ok(()),
+        }
+    }
+
+    /// A call on two paths.
+    pub(super) fn between(
+        &mut self,
+        actor: u32,
+        naming: Naming,
+        old: Spot,
+        new: Spot,
+        reply: Reply,
+    ) -> Result<(), LineFault> {
+        let file = self.directories.file_at(old);
+        let there = self.directories.file_at(new);
+        let is_wrong = is_wrong_between(naming, (file.is_some(), there.is_some()), reply);
+        let is_of_old = (reply == Reply::NotFound) == file.is_some();
+        self.note_wrong(is_wrong, if is_of_old { old } else { new });
+        self.note_act(actor, old, reply)?;
+        match file {
+            Some(file) if reply == Reply::Ok => {
+                let change = naming_change(naming, old, new, file, there);
+                self.change(actor, change)
+            }
+            _ => Ok(()),
+        }
+    }
+
+    /// Notes a reply that no directory gives; the path is what it is not given for.
+    fn note_wrong(&mut self, is_wrong: bool, path: Spot) {
+        if is_wrong {
+            let before = self.directories.last_change(path);
+            self.note(true, Clause::NotADirectory, before);
+        }
+    }
+
+    /// A call on a message by a name of it.
+    fn note_act(&mut self, actor: u32, spot: Spot, reply: Reply) -> Result<(), LineFault> {
+        if let Some(unique) = self.unique_at(spot) {
+            let at = self.now;
+            let about = self.actors.about(actor, (spot.folder, unique))?;
+            about.note_act(at, reply != Reply::Ok);
+        }
+        Ok(())
+    }
+
+    fn create(
+        &mut self,
+        actor: u32,
+        path: Spot,
+        there: Option<u32>,
+        reply: Reply,
+    ) -> Result<(), LineFault> {
+        if reply != Reply::Ok {
+            return Ok(());
+        }
+        let is_message = self.unique_at(path).is_some();
+        self.note(is_message, Clause::SeenBeforeWhole, None);
+        let file = self.files.make(mark_of(self.now), Some(actor), self.clock)?;
+        self.change(actor, create_change(path, there, file))
+    }
+
+    fn write(&mut self, actor: u32, file: u32, reply: Reply) {
+        let now = self.clock;
+        let line = mark_of(self.now);
+        let Some(facts) = self.files.facts_mut(file) else {
+            return;
+        };
+        if reply == Reply::Fault {
+            facts.is_cut = true;
+            facts.written_at = line;
+        }
+        if reply != Reply::Ok {
+            return;
+        }
+        facts.stamp = now;
+        facts.is_unflushed = true;
+        facts.is_cut = false;
+        facts.written_at = line;
+        let is_seen = facts.seen > 0;
+        let is_mixed = facts.maker != Some(actor);
+        let (seen_at, made_at) = (facts.seen_at, facts.made_at);
+        self.note(is_seen, Clause::SeenBeforeWhole, line_at(seen_at));
+        self.note(is_mixed, Clause::Mixed, line_at(made_at));
+    }
+
+    fn flush(&mut self, file: u32, reply: Reply) {
+        if reply == Reply::Ok
+            && let Some(facts) = self.files.facts_mut(file)
+        {
+            facts.is_unflushed = false;
+        }
+    }
+
+    fn unlink(
+        &mut self,
+        actor: u32,
+        path: Spot,
+        file: Option<u32>,
+        reply: Reply,
+    ) -> Result<(), LineFault> {
+        self.note_act(actor, path, reply)?;
+        match file {
+            Some(file) if reply == Reply::Ok => self.change(actor, unlink_change(path, file)),
+            _ => Ok(()),
+        }
+    }
+}
+
+/// Whether a call on one path answers what it is not defined to answer.
+fn is_wrong_at(deed: Deed, is_there: bool, reply: Reply) -> bool
+    ensures { (p : Path) (now : ℕ) (s : State) → has_folder s p ≡ true → is_some (file_at s p) ≡ is_there
+        → IsTrue result ↔ IsWrongReply reply ((ask_at deed p now).refusal s) }
+{
+    is_wrong(reply, defined_at(deed, is_there))
+}
+
+/// Whether a call on two paths, of which the old and the new are there or not, answers what it is not defined to answer.
+fn is_wrong_between(naming: Naming, are_there: (bool, bool), reply: Reply) -> bool
+    ensures { (old new : Path) (s : State) → has_folder s new ≡ true → is_some (file_at s old) ≡ are_there.0
+        → is_some (file_at s new) ≡ are_there.1 → IsTrue result ↔ IsWrongReply reply ((ask_between naming old new).refusal s) }
+{
+    is_wrong(reply, defined_between(naming, are_there.0, are_there.1))
+}
+
+/// Whether a reply is not the defined one. Any call may fail.
+fn is_wrong(reply: Reply, defined: Reply) -> bool
+    ensures { IsTrue result ↔ ((reply ≢ Reply.Fault) × (reply ≢ defined)) }
+{
+    reply != Reply::Fault && reply != defined
+}
+
+/// What a call on one path is defined to answer.
+pub(super) fn defined_at(deed: Deed, is_there: bool) -> Reply
+    ensures { (p : Path) (now : ℕ) (s : State) → has_folder s p ≡ true → is_some (file_at s p) ≡ is_there
+        → result ≡ reply_by ((ask_at deed p now).refusal s) }
+{
+    match (deed, is_there) {
+        (Deed::Create, true) => Reply::Exists,
+        (Deed::Create, false) => Reply::Ok,
+        (_, true) => Reply::Ok,
+        (_, false) => Reply::NotFound,
+    }
+}
+
+/// What a call on two paths is defined to answer.
+pub(super) fn defined_between(naming: Naming, is_old_there: bool, is_new_there: bool) -> Reply
+    ensures { (old new : Path) (s : State) → has_folder s new ≡ true → is_some (file_at s old) ≡ is_old_there
+        → is_some (file_at s new) ≡ is_new_there → result ≡ reply_by ((ask_between naming old new).refusal s) }
+{
+    match (naming, is_old_there, is_new_there) {
+        (_, false, _) => Reply::NotFound,
+        (Naming::Link, true, true) => Reply::Exists,
+        _ => Reply::Ok,
+    }
+}
+
+/// What a create does that was made, of a file that none was before.
+fn create_change(spot: Spot, there: Option<u32>, file: u32) -> Change
+    ensures { (path : Spot → Path) (s : State) (now : ℕ) → file_at s (path spot) ≡ there → file ≡ length s.files → IsOlder there file
+        → Leads path result s ((ask_at deed.Create (path spot) now).after s) }
+{
+    match there {
+        None => Change {
+            taken: None,
+            added: Some((spot, file)),
+            turned: None,
+            is_unlink: false,
+        },
+        Some(old) => Change {
+            taken: None,
+            added: None,
+            turned: Some((spot, old, file)),
+            is_unlink: false,
+        },
+    }
+}
+
+/// What an unlink does that was made.
+fn unlink_change(spot: Spot, file: u32) -> Change
+    ensures { (path : Spot → Path) (s : State) (now : ℕ) → Leads path result s ((ask_at deed.Unlink (path spot) now).after s) }
+{
+    Change {
+        taken: Some((spot, file)),
+        added: None,
+        turned: None,
+        is_unlink: true,
+    }
+}
+
+/// What a link or a rename does that was made. Where both paths name one file, it does nothing.
+pub(super) fn naming_change(
+    naming: Naming,
+    old: Spot,
+    new: Spot,
+    file: u32,
+    there: Option<u32>,
+) -> Change
+    ensures { (path : Spot → Path) (s : State) → file_at s (path old) ≡ Some file → file_at s (path new) ≡ there
+        → Leads path result s ((ask_between naming (path old) (path new)).after s) }
+{
+    let taken = match naming {
+        Naming::Link => None,
+        Naming::Rename => Some((old, file)),
+    };
+    match there {
+        Some(other) if other == file => NO_CHANGE,
+        Some(other) => Change {
+            taken,
+            added: None,
+            turned: Some((new, other, file)),
+            is_unlink: false,
+        },
+        None => Change {
+            taken,
+            added: Some((new, file)),
+            turned: None,
+            is_unlink: false,
+        },
+    }
+}

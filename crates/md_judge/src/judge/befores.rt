@@ -1,0 +1,55 @@
+//! The earlier lines that broken clauses go back to.
+
+use md_log::Clause;
+
+/// The number of a line that something was done at, or none where that isn't known.
+pub(super) type Mark = u32;
+
+/// No line is known.
+pub(super) const NO_MARK: Mark = 0;
+
+/// The mark of a line. A line past 4,294,967,295 has none.
+pub(super) fn mark_of(line: usize) -> Mark {
+    u32::try_from(line).unwrap_or(NO_MARK)
+}
+
+/// The line of a mark.
+pub(super) fn line_at(mark: Mark) -> Option<usize> {
+    match mark {
+        NO_MARK => None,
+        line => Some(line as usize),
+    }
+}
+
+/// The line that made what is there since a moment.
+pub(super) fn line_before(since: usize) -> Option<usize> {
+    match since {
+        0 | 1 => None,
+        since => Some(since - 1),
+    }
+}
+
+/// For each clause that a step breaks, the earlier line that it goes back to.
+#[derive(Clone, Copy)]
+pub(super) struct Befores {
+    lines: [Option<usize>; 13],
+}
+
+impl Befores {
+    pub(super) fn none() -> Self {
+        Befores { lines: [None; 13] }
+    }
+
+    /// Notes the earlier line of a clause, unless one is noted.
+    pub(super) fn note(&mut self, clause: Clause, line: Option<usize>) {
+        if let Some(noted) = self.lines.get_mut(clause as usize)
+            && noted.is_none()
+        {
+            *noted = line;
+        }
+    }
+
+    pub(super) fn line(&self, clause: Clause) -> Option<usize> {
+        self.lines.get(clause as usize).copied().unwrap_or(None)
+    }
+}

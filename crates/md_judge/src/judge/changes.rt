@@ -1,0 +1,220 @@
+//! Changes of paths: the clauses that they break, and what is kept of them.
+use super::Judge;
+use super::acts::Change;
+use super::befores::{line_at, line_before, mark_of};
+use super::directories::Spot;
+use super::flags::TRASHED;
+use md_dirs::Place;
+use md_log::{Clause, LineFault};
+
+/// 36 hours, after which a file of tmp may be removed.
+const CLEAN_AGE: u64 = 129_600;
+
+impl Judge {
+    /// Judges a change, and makes it.
+    pub(super) fn change(&mut self, actor: u32, change: Change) -> Result<(), LineFault> {
+        if let Some((spot, _, file)) = change.turned {
+            let before = self.directories.last_change(spot);
+            self.note(true, Clause::Overwritten, before);
+            self.check_named(spot, file);
+        }
+        if let Some((spot, file)) = change.added {
+            self.check_named(spot, file);
+            self.check_added(spot, file, change.taken);
+        }
+        self.make(actor, change)?;
+        if let Some((spot, file)) = change.taken {
+            self.check_gone(spot, file, change.is_unlink);
+            self.check_clean(actor, spot, file);
+        }
+        if let Some((spot, file, _)) = change.turned {
+            self.check_clean(actor, spot, file);
+        }
+        Ok(())
+    }
+
+    /// A path is to name a file: what the file was.
+    fn check_named(&mut self, spot: Spot, file: u32) {
+        if self.unique_at(spot).is_none() {
+            return;
+        }
+        let Some(facts) = self.files.facts(file) else {
+            return;
+        };
+        let is_shown = facts.seen == 0;
+        let is_back = spot.place == Place::New && facts.was_cur;
+        let written = line_at(facts.written_at);
+        let is_cut = is_shown && facts.is_cut;
+        self.note(is_cut, Clause::SeenBeforeWhole, written);
+        let is_unflushed = is_shown && facts.is_unflushed;
+        self.note(is_unflushed, Clause::NotFlushed, written);
+        self.note(is_back, Clause::MovedBack, line_at(facts.cur_at));
+    }
+
+    /// A path is to be added: what its message has.
+    fn check_added(&mut self, spot: Spot, file: u32, taken: Option<(Spot, u32)>) {
+        let Some(unique) = self.unique_at(spot) else {
+            return;
+        };
+        let Some(message) = self.mail.message((spot.folder, unique)) else {
+            return;
+        };
+        let is_used = message.count == 0 && !message.was_file(file);
+        let has_more = if self.is_same_message(taken, spot.folder, unique) {
+            message.count > 1
+        } else {
+            message.count > 0
+        };
+        let gone = message.gone_at();
+        let there = line_before(message.since);
+        self.note(is_used, Clause::UsedAgain, gone);
+        self.note(has_more, Clause::TwoNames, there);
+    }
+
+    /// Whether a path that goes is one of the message.
+    fn is_same_message(&self, taken: Option<(Spot, u32)>, folder: u32, unique: u32) -> bool {
+        match taken {
+            None => false,
+            Some((spot, _)) => spot.folder == folder && self.unique_at(spot) == Some(unique),
+        }
+    }
+
+    /// A path was taken: whether a message is gone that may not go.
+    fn check_gone(&mut self, spot: Spot, file: u32, is_unlink: bool) {
+        let Some(unique) = self.unique_at(spot) else {
+            return;
+        };
+        let is_gone = self.mail.count((spot.folder, unique)) == 0;
+        let may_go = is_unlink && spot.place == Place::Cur && self.is_trashed(spot);
+        let is_elsewhere = self.mail.is_copied(file, unique);
+        if is_gone && !may_go && !is_elsewhere {
+            let before = self.mail.put_at((spot.folder, unique));
+            self.note(true, Clause::Gone, before);
+        }
+    }
+
+    fn is_trashed(&self, spot: Spot) -> bool {
+        match self.names.facts(spot.name).flags {
+            None => false,
+            Some(flags) => flags & TRASHED != 0,
+        }
+    }
+
+    /// A path of tmp names its file no longer.
+    fn check_clean(&mut self, actor: u32, spot: Spot, file: u32) {
+        let Some(facts) = self.files.facts(file) else {
+            return;
+        };
+        let is_young = self.clock.saturating_sub(facts.stamp) < CLEAN_AGE;
+        let is_anothers = facts.maker != Some(actor);
+        let is_early = spot.place == Place::Tmp && facts.seen == 0 && is_anothers && is_young;
+        let made = facts.made_at.max(facts.written_at);
+        self.note(is_early, Clause::CleanedEarly, line_at(made));
+    }
+
+    /// Makes a change. The new name comes first, so that a message that is renamed in its folder is there all the while.
+    fn make(&mut self, actor: u32, change: Change) -> Result<(), LineFault> {
+        if let Some((spot, file)) = change.added {
+            self.note_added(actor, spot)?;
+            self.add_path(self.now.saturating_add(1), spot, file)?;
+        }
+        if let Some((spot, old, new)) = change.turned {
+            self.turn_path(actor, spot, old, new)?;
+        }
+        if let Some((spot, file)) = change.taken {
+            self.take_path(spot, file)?;
+            self.note_taken(actor, spot, change.is_unlink)?;
+        }
+        Ok(())
+    }
+
+    fn note_added(&mut self, actor: u32, spot: Spot) -> Result<(), LineFault> {
+        if let Some(unique) = self.unique_at(spot) {
+            let key = (spot.folder, unique);
+            let is_added = self.mail.count(key) == 0;
+            let line = mark_of(self.now);
+            let about = self.actors.about(actor, key)?;
+            about.changed_at = line;
+            about.is_changed = true;
+            about.is_added = about.is_added || is_added;
+        }
+        Ok(())
+    }
+
+    fn note_taken(&mut self, actor: u32, spot: Spot, is_unlink: bool) -> Result<(), LineFault> {
+        let Some(unique) = self.unique_at(spot) else {
+            return Ok(());
+        };
+        let key = (spot.folder, unique);
+        let is_gone = self.mail.count(key) == 0;
+        let line = mark_of(self.now);
+        let about = self.actors.about(actor, key)?;
+        about.changed_at = line;
+        about.is_changed = true;
+        if !is_gone {
+            return Ok(());
+        }
+        about.is_unlinked = about.is_unlinked || is_unlink;
+        let folders = self.mail.folders_with(unique)?;
+        for folder in folders.iter() {
+            self.actors.note_moved(actor, key, *folder, self.now)?;
+        }
+        Ok(())
+    }
+
+    /// A path is there from the moment `at` on.
+    pub(super) fn add_path(&mut self, at: usize, spot: Spot, file: u32) -> Result<(), LineFault> {
+        self.directories.add(at, spot, file)?;
+        let Some(unique) = self.unique_at(spot) else {
+            return Ok(());
+        };
+        let key = (spot.folder, unique);
+        self.mail.add(at, key, file)?;
+        if spot.place == Place::Cur
+            && let Some(flags) = self.names.facts(spot.name).flags
+        {
+            self.mail.hold(at, key, flags)?;
+        }
+        let line = mark_of(at.saturating_sub(1));
+        self.files.see(line, file, spot.place == Place::Cur);
+        self.mail.copy(file, unique)
+    }
+
+    /// A path names another file than before.
+    fn turn_path(&mut self, actor: u32, spot: Spot, old: u32, new: u32) -> Result<(), LineFault> {
+        self.directories.turn(spot, new);
+        let Some(unique) = self.unique_at(spot) else {
+            return Ok(());
+        };
+        let key = (spot.folder, unique);
+        self.mail.turn(key, new)?;
+        let line = mark_of(self.now);
+        let about = self.actors.about(actor, key)?;
+        about.is_changed = true;
+        about.changed_at = line;
+        self.files.unsee(old);
+        self.mail.uncopy(old, unique);
+        self.files
+            .see(mark_of(self.now), new, spot.place == Place::Cur);
+        self.mail.copy(new, unique)
+    }
+
+    /// A path is there for the last time before this step.
+    fn take_path(&mut self, spot: Spot, file: u32) -> Result<(), LineFault> {
+        let at = self.now;
+        self.directories.take(at, spot)?;
+        let Some(unique) = self.unique_at(spot) else {
+            return Ok(());
+        };
+        let key = (spot.folder, unique);
+        self.mail.take(at, key)?;
+        if spot.place == Place::Cur
+            && let Some(flags) = self.names.facts(spot.name).flags
+        {
+            self.mail.unhold(at, key, flags);
+        }
+        self.files.unsee(file);
+        self.mail.uncopy(file, unique);
+        Ok(())
+    }
+}

@@ -1,0 +1,154 @@
+//! The names that are in directories.
+use super::befores::line_before;
+use md_dirs::Place;
+use md_log::LineFault;
+use std::alloc::Global;
+use std::collections::BTreeMap;
+
+/// A path by numbers.
+#[derive(Clone, Copy, PartialEq, Eq)]
+pub(super) struct Spot {
+    pub(super) folder: u32,
+    pub(super) place: Place,
+    pub(super) name: u32,
+}
+
+/// A name that is there: its file, and the first moment at which it is there.
+#[derive(Clone, Copy)]
+pub(super) struct Named {
+    pub(super) file: u32,
+    pub(super) since: usize,
+}
+
+/// What was known of a path.
+#[derive(Clone, Copy)]
+pub(super) struct Kept {
+    spot: Spot,
+    named: Option<Named>,
+    was: Option<usize>,
+}
+
+/// One directory: the names that are there, and the last moments of those that were.
+#[derive(Drop)]
+pub(super) struct Directory {
+    pub(super) names: BTreeMap<u32, Named>,
+    pub(super) was: BTreeMap<u32, usize>,
+}
+
+/// The directories, three for each folder: tmp, new and cur.
+#[derive(Drop)]
+pub(super) struct Directories {
+    alloc: Global,
+    all: Vec<Directory>,
+}
+
+impl Directories {
+    pub(super) fn new(alloc: Global) -> Self {
+        Directories {
+            alloc,
+            all: Vec::new(alloc),
+        }
+    }
+
+    pub(super) fn add_folder(&mut self) -> Result<(), LineFault> {
+        for _ in 0..3 {
+            self.all.push(Directory {
+                names: BTreeMap::new(self.alloc),
+                was: BTreeMap::new(self.alloc),
+            })?;
+        }
+        Ok(())
+    }
+
+    pub(super) fn directory(&self, folder: u32, place: Place) -> Option<&Directory> {
+        self.all.get(number_of(folder, place))
+    }
+
+    pub(super) fn file_at(&self, spot: Spot) -> Option<u32> {
+        let directory = self.directory(spot.folder, spot.place)?;
+        let named = directory.names.get(&spot.name)?;
+        Some(named.file)
+    }
+
+    /// The line that last made a path be there or go.
+    pub(super) fn last_change(&self, spot: Spot) -> Option<usize> {
+        let directory = self.directory(spot.folder, spot.place)?;
+        match directory.names.get(&spot.name) {
+            Some(named) => line_before(named.since),
+            None => directory.was.get(&spot.name).copied(),
+        }
+    }
+
+    /// What is known of a path.
+    pub(super) fn keep(&self, spot: Spot) -> Kept {
+        match self.directory(spot.folder, spot.place) {
+            None => Kept {
+                spot,
+                named: None,
+                was: None,
+            },
+            Some(directory) => Kept {
+                spot,
+                named: directory.names.get(&spot.name).copied(),
+                was: directory.was.get(&spot.name).copied(),
+            },
+        }
+    }
+
+    /// Makes a path be as it was.
+    pub(super) fn put_back(&mut self, kept: Kept) -> Result<(), LineFault> {
+        let spot = kept.spot;
+        let Some(directory) = self.all.get_mut(number_of(spot.folder, spot.place)) else {
+            return Ok(());
+        };
+        match kept.named {
+            None => {
+                directory.names.remove(&spot.name);
+            }
+            Some(named) => {
+                directory.names.insert(spot.name, named)?;
+            }
+        }
+        match kept.was {
+            None => {
+                directory.was.remove(&spot.name);
+            }
+            Some(was) => {
+                directory.was.insert(spot.name, was)?;
+            }
+        }
+        Ok(())
+    }
+
+    /// A path is there from the moment `at` on.
+    pub(super) fn add(&mut self, at: usize, spot: Spot, file: u32) -> Result<(), LineFault> {
+        if let Some(directory) = self.all.get_mut(number_of(spot.folder, spot.place)) {
+            let named = Named { file, since: at };
+            directory.names.insert(spot.name, named)?;
+        }
+        Ok(())
+    }
+
+    /// A path names another file.
+    pub(super) fn turn(&mut self, spot: Spot, file: u32) {
+        if let Some(directory) = self.all.get_mut(number_of(spot.folder, spot.place))
+            && let Some(named) = directory.names.get_mut(&spot.name)
+        {
+            named.file = file;
+        }
+    }
+
+    /// A path was there for the last time at the moment `at`.
+    pub(super) fn take(&mut self, at: usize, spot: Spot) -> Result<(), LineFault> {
+        if let Some(directory) = self.all.get_mut(number_of(spot.folder, spot.place)) {
+            directory.names.remove(&spot.name);
+            directory.was.insert(spot.name, at)?;
+        }
+        Ok(())
+    }
+}
+
+/// The number of a directory.
+fn number_of(folder: u32, place: Place) -> usize {
+    folder as usize * 3 + place as usize
+}

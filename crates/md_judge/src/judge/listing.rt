@@ -1,0 +1,253 @@
+//! Readings of directories, and listings.
+use super::Judge;
+use super::directories::{Directory, Spot};
+use super::mail::Mail;
+use super::tables::Names;
+use super::trial::Open;
+use md_dirs::Place;
+use md_log::{Clause, LineFault, Reply};
+use std::alloc::Global;
+use std::collections::BTreeSet;
+
+/// A reading of one directory: the moment of its first part, and the names that it showed.
+#[derive(Drop)]
+struct Reading {
+    first: Option<usize>,
+    shown: BTreeSet<u32>,
+}
+
+impl Reading {
+    fn none(alloc: Global) -> Self {
+        Reading {
+            first: None,
+            shown: BTreeSet::new(alloc),
+        }
+    }
+
+    /// A part of the reading shows names at the moment `at`. It gives the moment of the first part.
+    fn show(&mut self, at: usize, names: &[u32]) -> Result<usize, LineFault> {
+        let first = self.first.unwrap_or(at);
+        self.first = Some(first);
+        for name in names {
+            self.shown.insert(*name)?;
+        }
+        Ok(first)
+    }
+}
+
+/// What an actor read of a folder.
+#[derive(Drop)]
+pub(super) struct Listing {
+    /// The last step at which it did.
+    pub(super) looked: Option<usize>,
+    tmp: Reading,
+    new: Reading,
+    cur: Reading,
+    has_new: bool,
+    has_cur: bool,
+    /// The first and the last moment of each reading of this listing.
+    spans: Vec<(usize, usize)>,
+    /// The messages that they showed.
+    shown: BTreeSet<u32>,
+}
+
+impl Listing {
+    fn new(alloc: Global) -> Self {
+        Listing {
+            looked: None,
+            tmp: Reading::none(alloc),
+            new: Reading::none(alloc),
+            cur: Reading::none(alloc),
+            has_new: false,
+            has_cur: false,
+            spans: Vec::new(alloc),
+            shown: BTreeSet::new(alloc),
+        }
+    }
+
+    /// The reading of a place, where it goes on.
+    pub(super) fn open(&self, alloc: Global, place: Place) -> Result<Option<Open>, LineFault> {
+        let reading = match place {
+            Place::Tmp => &self.tmp,
+            Place::New => &self.new,
+            Place::Cur => &self.cur,
+        };
+        let Some(first) = reading.first else {
+            return Ok(None);
+        };
+        let mut shown = BTreeSet::new(alloc);
+        for name in reading.shown.iter() {
+            shown.insert(*name)?;
+        }
+        Ok(Some(Open { first, shown }))
+    }
+
+    fn reading(&mut self, place: Place) -> &mut Reading {
+        match place {
+            Place::Tmp => &mut self.tmp,
+            Place::New => &mut self.new,
+            Place::Cur => &mut self.cur,
+        }
+    }
+
+    /// A reading of new or cur is over.
+    fn finish(
+        &mut self,
+        names: &Names,
+        place: Place,
+        span: (usize, usize),
+        shown: &BTreeSet<u32>,
+    ) -> Result<(), LineFault> {
+        for name in shown.iter() {
+            if let Some(unique) = names.facts(*name).unique {
+                self.shown.insert(unique)?;
+            }
+        }
+        self.spans.push(span)?;
+        self.has_new = self.has_new || place == Place::New;
+        self.has_cur = self.has_cur || place == Place::Cur;
+        Ok(())
+    }
+
+    fn is_complete(&self) -> bool {
+        self.has_new && self.has_cur
+    }
+
+    /// The next reading begins the next listing.
+    fn clear(&mut self) {
+        self.has_new = false;
+        self.has_cur = false;
+        self.spans.clear();
+        self.shown.clear();
+    }
+
+    /// A message that was there at each reading of the listing, and that none shows.
+    fn lacking(&self, mail: &Mail, folder: u32) -> Option<u32> {
+        for unique in mail.present(folder)?.iter() {
+            if !self.shown.contains(unique) && self.was_there(mail, folder, *unique) {
+                return Some(*unique);
+            }
+        }
+        None
+    }
+
+    /// Whether a message was there at each reading.
+    fn was_there(&self, mail: &Mail, folder: u32, unique: u32) -> bool {
+        let Some(message) = mail.message((folder, unique)) else {
+            return false;
+        };
+        for span in self.spans.iter() {
+            if !message.was_there(span.0, span.1) {
+                return false;
+            }
+        }
+        true
+    }
+}
+
+/// A name that a part shows, and that was in the directory at no moment since the first part.
+fn shown_wrongly(directory: &Directory, names: &[u32], first: usize) -> Option<u32> {
+    names
+        .iter()
+        .copied()
+        .find(|name| !was_there_since(directory, *name, first))
+}
+
+pub(super) fn was_there_since(directory: &Directory, name: u32, first: usize) -> bool {
+    let was = match directory.was.get(&name) {
+        None => false,
+        Some(last) => *last >= first,
+    };
+    was || directory.names.contains_key(&name)
+}
+
+/// A name that a whole reading lacks, and that was there since its first part.
+fn lacked(directory: &Directory, reading: &Reading, first: usize) -> Option<u32> {
+    for (name, named) in directory.names.iter() {
+        if named.since <= first && !reading.shown.contains(name) {
+            return Some(*name);
+        }
+    }
+    None
+}
+
+impl Judge {
+    /// A part of a reading.
+    pub(super) fn list(
+        &mut self,
+        actor: u32,
+        folder: u32,
+        place: Place,
+        reply: Reply,
+        names: &[u32],
+    ) -> Result<(), LineFault> {
+        let key = (actor, folder);
+        let mut listing = match self.listings.remove(&key) {
+            Some(listing) => listing,
+            None => Listing::new(self.alloc),
+        };
+        listing.looked = Some(self.now);
+        let first = listing.reading(place).show(self.now, names)?;
+        let wrong = self.wrong_name(&mut listing, folder, place, reply, names, first);
+        if let Some(name) = wrong {
+            let before = self.directories.last_change(Spot {
+                folder,
+                place,
+                name,
+            });
+            self.note(true, Clause::NotADirectory, before);
+        }
+        self.note(reply == Reply::NotFound, Clause::NotADirectory, None);
+        if reply != Reply::More {
+            self.end_reading(&mut listing, folder, place, reply, first)?;
+        }
+        self.listings.insert(key, listing)?;
+        Ok(())
+    }
+
+    /// A name that a part shows or lacks as no directory does.
+    fn wrong_name(
+        &self,
+        listing: &mut Listing,
+        folder: u32,
+        place: Place,
+        reply: Reply,
+        names: &[u32],
+        first: usize,
+    ) -> Option<u32> {
+        let directory = self.directories.directory(folder, place)?;
+        match reply {
+            Reply::Ok => match shown_wrongly(directory, names, first) {
+                None => lacked(directory, listing.reading(place), first),
+                shown => shown,
+            },
+            Reply::More => shown_wrongly(directory, names, first),
+            Reply::NotFound | Reply::Exists | Reply::Fault => None,
+        }
+    }
+
+    /// A reading is over: with its last part, or by a failure, which drops it.
+    fn end_reading(
+        &mut self,
+        listing: &mut Listing,
+        folder: u32,
+        place: Place,
+        reply: Reply,
+        first: usize,
+    ) -> Result<(), LineFault> {
+        let mut done = Reading::none(self.alloc);
+        std::mem::swap(listing.reading(place), &mut done);
+        if reply != Reply::Ok || place == Place::Tmp {
+            return Ok(());
+        }
+        listing.finish(&self.names, place, (first, self.now), &done.shown)?;
+        if listing.is_complete() {
+            if let Some(unique) = listing.lacking(&self.mail, folder) {
+                let before = self.mail.put_at((folder, unique));
+                self.note(true, Clause::Unlisted, before);
+            }
+            listing.clear();
+        }
+        Ok(())
+    }
+}

@@ -1,0 +1,254 @@
+//! The messages of folders.
+use super::befores::line_before;
+use md_log::LineFault;
+use std::alloc::Global;
+use std::collections::{BTreeMap, BTreeSet};
+
+/// A message: its folder, and the number of its unique name.
+pub(super) type Key = (u32, u32);
+
+/// The message of a unique name in a folder.
+#[derive(Drop)]
+pub(super) struct Message {
+    /// How many paths it has, and the first moment since which it has one.
+    pub(super) count: u32,
+    /// The first file that it was.
+    file: u32,
+    pub(super) since: usize,
+    /// What few messages have.
+    more: Option<Box<Past>>,
+}
+
+/// The past of a message that was gone, or was several files.
+#[derive(Drop)]
+struct Past {
+    /// The times at which it was there before: their first and their last moment.
+    times: Vec<(usize, usize)>,
+    /// The files that it ever was but the first.
+    files: BTreeSet<u32>,
+}
+
+impl Message {
+    fn new(since: usize, file: u32) -> Self {
+        Message {
+            count: 0,
+            file,
+            since,
+            more: None,
+        }
+    }
+
+    fn past(&mut self, alloc: Global) -> Result<&mut Past, LineFault> {
+        if self.more.is_none() {
+            let past = Past {
+                times: Vec::new(alloc),
+                files: BTreeSet::new(alloc),
+            };
+            self.more = Some(Box::new(alloc, past)?);
+        }
+        match &mut self.more {
+            Some(past) => Ok(past),
+            None => Err(LineFault::NoMemory),
+        }
+    }
+
+    /// Whether it was there from a moment to another, which is no later than now.
+    pub(super) fn was_there(&self, first: usize, last: usize) -> bool {
+        if self.count > 0 && self.since <= first {
+            return true;
+        }
+        let Some(past) = &self.more else {
+            return false;
+        };
+        for time in past.times.iter().rev() {
+            if time.1 < last {
+                return false;
+            }
+            if time.0 <= first {
+                return true;
+            }
+        }
+        false
+    }
+
+    /// The line at which it went last.
+    pub(super) fn gone_at(&self) -> Option<usize> {
+        let Some(past) = &self.more else {
+            return None;
+        };
+        let time = past.times.last()?;
+        Some(time.1)
+    }
+
+    pub(super) fn was_file(&self, file: u32) -> bool {
+        if self.file == file {
+            return true;
+        }
+        match &self.more {
+            None => false,
+            Some(past) => past.files.contains(&file),
+        }
+    }
+
+    /// It is a file.
+    fn be(&mut self, alloc: Global, file: u32) -> Result<(), LineFault> {
+        if !self.was_file(file) {
+            self.past(alloc)?.files.insert(file)?;
+        }
+        Ok(())
+    }
+}
+
+/// Since when a message in cur shows flags: in how many paths now, and the last moment when it did.
+#[derive(Clone, Copy)]
+pub(super) struct Held {
+    pub(super) count: u32,
+    pub(super) last: usize,
+}
+
+/// The messages of all folders.
+#[derive(Drop)]
+pub(super) struct Mail {
+    alloc: Global,
+    messages: BTreeMap<Key, Message>,
+    /// The unique names that are in each folder.
+    present: Vec<BTreeSet<u32>>,
+    /// How many paths of messages of a unique name a file has.
+    copies: BTreeMap<(u32, u32), u32>,
+    held: BTreeMap<(u32, (u32, u64)), Held>,
+}
+
+impl Mail {
+    pub(super) fn new(alloc: Global) -> Self {
+        Mail {
+            alloc,
+            messages: BTreeMap::new(alloc),
+            present: Vec::new(alloc),
+            copies: BTreeMap::new(alloc),
+            held: BTreeMap::new(alloc),
+        }
+    }
+
+    pub(super) fn add_folder(&mut self) -> Result<(), LineFault> {
+        self.present.push(BTreeSet::new(self.alloc))?;
+        Ok(())
+    }
+
+    pub(super) fn message(&self, key: Key) -> Option<&Message> {
+        self.messages.get(&key)
+    }
+
+    /// How many paths the message has.
+    pub(super) fn count(&self, key: Key) -> u32 {
+        match self.messages.get(&key) {
+            None => 0,
+            Some(message) => message.count,
+        }
+    }
+
+    /// The line that put the message there, the last time that it came.
+    pub(super) fn put_at(&self, key: Key) -> Option<usize> {
+        line_before(self.messages.get(&key)?.since)
+    }
+
+    /// The unique names that are in a folder.
+    pub(super) fn present(&self, folder: u32) -> Option<&BTreeSet<u32>> {
+        self.present.get(folder as usize)
+    }
+
+    /// Whether the file is a message of the unique name in any folder.
+    pub(super) fn is_copied(&self, file: u32, unique: u32) -> bool {
+        match self.copies.get(&(file, unique)) {
+            None => false,
+            Some(count) => *count > 0,
+        }
+    }
+
+    pub(super) fn held(&self, key: Key, flags: u64) -> Option<Held> {
+        self.held.get(&(key.0, (key.1, flags))).copied()
+    }
+
+    /// The folders that have a message of the unique name.
+    pub(super) fn folders_with(&self, unique: u32) -> Result<Vec<u32>, LineFault> {
+        let mut folders = Vec::new(self.alloc);
+        for (at, present) in self.present.iter().enumerate() {
+            if present.contains(&unique)
+                && let Ok(folder) = u32::try_from(at)
+            {
+                folders.push(folder)?;
+            }
+        }
+        Ok(folders)
+    }
+
+    /// The message has one more path, from the moment `at` on.
+    pub(super) fn add(&mut self, at: usize, key: Key, file: u32) -> Result<(), LineFault> {
+        let alloc = self.alloc;
+        let message = self.messages.entry(key)?.or_insert(Message::new(at, file));
+        if message.count == 0 {
+            message.since = at;
+        }
+        message.count = message.count.saturating_add(1);
+        message.be(alloc, file)?;
+        if let Some(present) = self.present.get_mut(key.0 as usize) {
+            present.insert(key.1)?;
+        }
+        Ok(())
+    }
+
+    /// The message is a further file.
+    pub(super) fn turn(&mut self, key: Key, file: u32) -> Result<(), LineFault> {
+        let alloc = self.alloc;
+        match self.messages.get_mut(&key) {
+            None => Ok(()),
+            Some(message) => message.be(alloc, file),
+        }
+    }
+
+    /// The message has one path fewer: where it has none, the moment `at` was its last.
+    pub(super) fn take(&mut self, at: usize, key: Key) -> Result<(), LineFault> {
+        let alloc = self.alloc;
+        if let Some(message) = self.messages.get_mut(&key) {
+            message.count = message.count.saturating_sub(1);
+            if message.count == 0 {
+                let time = (message.since, at);
+                message.past(alloc)?.times.push(time)?;
+                if let Some(present) = self.present.get_mut(key.0 as usize) {
+                    present.remove(&key.1);
+                }
+            }
+        }
+        Ok(())
+    }
+
+    /// One more path of the file is a message of the unique name.
+    pub(super) fn copy(&mut self, file: u32, unique: u32) -> Result<(), LineFault> {
+        let count = self.copies.entry((file, unique))?.or_insert(0);
+        *count = count.saturating_add(1);
+        Ok(())
+    }
+
+    pub(super) fn uncopy(&mut self, file: u32, unique: u32) {
+        if let Some(count) = self.copies.get_mut(&(file, unique)) {
+            *count = count.saturating_sub(1);
+        }
+    }
+
+    /// One more path in cur shows these flags, from the moment `at` on.
+    pub(super) fn hold(&mut self, at: usize, key: Key, flags: u64) -> Result<(), LineFault> {
+        let held = self
+            .held
+            .entry((key.0, (key.1, flags)))?
+            .or_insert(Held { count: 0, last: at });
+        held.count = held.count.saturating_add(1);
+        Ok(())
+    }
+
+    /// A path in cur showed these flags for the last time at the moment `at`.
+    pub(super) fn unhold(&mut self, at: usize, key: Key, flags: u64) {
+        if let Some(held) = self.held.get_mut(&(key.0, (key.1, flags))) {
+            held.count = held.count.saturating_sub(1);
+            held.last = at;
+        }
+    }
+}

@@ -1,0 +1,371 @@
+//! An order of steps whose calls overlap, in which directories give their replies.
+//!
+//! The steps are placed one after another. A step may come next where no step that isn't placed ended before it began. Of these the first
+//! of the log that fits is taken; where none fits, the last step that was placed is taken back. Orders that differ only by steps which have
+//! nothing to do with one another are tried once, by sleep sets (Godefroid, "Partial-Order Methods for the Verification of Concurrent
+//! Systems", section 5).
+use super::Judge;
+use super::directories::Directories;
+use super::trial::{Asked, Open, Reader, Trial, Undo};
+use md_log::{Call, LineFault, Step, Ticks};
+use std::alloc::Global;
+use std::collections::BTreeSet;
+
+/// As many tries there are for any steps, and as many more for each step.
+const LEAST_TRIES: usize = 100_000;
+
+const TRIES_A_STEP: usize = 64;
+
+/// Why no order was found, and the number of the step that has no place.
+#[derive(Clone, Copy)]
+pub(crate) struct NoOrder {
+    pub(crate) step: usize,
+    pub(crate) fault: LineFault,
+}
+
+/// A step to be placed.
+#[derive(Drop)]
+struct Waiting {
+    asked: Asked,
+    ticks: Ticks,
+}
+
+/// A place in the order: the steps that may come here, in the order of the log.
+#[derive(Drop)]
+struct Position {
+    choices: Vec<usize>,
+    next: usize,
+    /// Steps that were tried here, or at an earlier place with the same outcome.
+    asleep: Vec<usize>,
+    placed: Option<(usize, Undo)>,
+}
+
+/// The search for an order.
+#[derive(Drop)]
+struct Search<'a> {
+    alloc: Global,
+    directories: &'a mut Directories,
+    trial: Trial,
+    steps: &'a [Waiting],
+    /// The moments at which steps are placed.
+    moments: &'a [usize],
+    by_begin: BTreeSet<(u64, usize)>,
+    by_end: BTreeSet<(u64, usize)>,
+    positions: Vec<Position>,
+    /// How many steps were placed at most, and the first step that could have come next there.
+    deepest: usize,
+    stuck: usize,
+    tries: usize,
+}
+
+impl Search<'_> {
+    /// Searches until an order is found.
+    fn run(&mut self) -> Result<(), NoOrder> {
+        let most = self
+            .steps
+            .len()
+            .saturating_mul(TRIES_A_STEP)
+            .saturating_add(LEAST_TRIES);
+        self.begin()?;
+        for _ in 0..most {
+            if self.by_end.is_empty() {
+                return Ok(());
+            }
+            if self.tries > most {
+                break;
+            }
+            self.go_on()?;
+        }
+        Err(self.stop(LineFault::TooManyOrders))
+    }
+
+    fn begin(&mut self) -> Result<(), NoOrder> {
+        for (at, step) in self.steps.iter().enumerate() {
+            let begun = self.by_begin.insert((step.ticks.begin, at));
+            let ended = self.by_end.insert((step.ticks.end, at));
+            if begun.is_err() || ended.is_err() {
+                return Err(no_memory(at));
+            }
+        }
+        let asleep = Vec::new(self.alloc);
+        self.open(asleep)
+    }
+
+    fn stop(&self, fault: LineFault) -> NoOrder {
+        NoOrder {
+            step: self.stuck,
+            fault,
+        }
+    }
+
+    /// Opens the next place.
+    fn open(&mut self, asleep: Vec<usize>) -> Result<(), NoOrder> {
+        let choices = match self.choices() {
+            Ok(choices) => choices,
+            Err(fault) => return Err(self.stop(fault)),
+        };
+        self.tries = self.tries.saturating_add(choices.len());
+        let depth = self.positions.len();
+        if depth >= self.deepest
+            && let Some(first) = choices.first()
+        {
+            self.stuck = *first;
+            self.deepest = depth.saturating_add(1);
+        }
+        let position = Position {
+            choices,
+            next: 0,
+            asleep,
+            placed: None,
+        };
+        match self.positions.push(position) {
+            Ok(()) => Ok(()),
+            Err(_) => Err(self.stop(LineFault::NoMemory)),
+        }
+    }
+
+    /// The steps that may come next by their ticks.
+    fn choices(&self) -> Result<Vec<usize>, LineFault> {
+        let mut choices = Vec::new(self.alloc);
+        let Some((end, _)) = self.by_end.iter().next() else {
+            return Ok(choices);
+        };
+        for (begin, at) in self.by_begin.iter() {
+            if begin > end {
+                break;
+            }
+            choices.push(*at)?;
+        }
+        choices.sort_unstable();
+        Ok(choices)
+    }
+
+    /// Tries the next choice of the last place, or takes back the one before it.
+    fn go_on(&mut self) -> Result<(), NoOrder> {
+        let now = self.now();
+        let Some(position) = self.positions.last_mut() else {
+            return Err(self.stop(LineFault::NoOrder));
+        };
+        let Some(at) = position.choices.get(position.next).copied() else {
+            return self.go_back();
+        };
+        position.next = position.next.saturating_add(1);
+        let is_asleep = position.asleep.as_slice().contains(&at);
+        let Some(step) = self.steps.get(at) else {
+            return Ok(());
+        };
+        if is_asleep || !self.trial.fits(self.directories, &step.asked, now) {
+            return Ok(());
+        }
+        match self.put(at, now) {
+            Ok(asleep) => self.open(asleep),
+            Err(fault) => Err(NoOrder { step: at, fault }),
+        }
+    }
+
+    /// The moment of the last place.
+    fn now(&self) -> usize {
+        let depth = self.positions.len();
+        let moment = self.moments.get(depth.saturating_sub(1));
+        moment.copied().unwrap_or(usize::MAX)
+    }
+
+    /// Puts a step at the last place. It gives the steps that are not to be tried next.
+    fn put(&mut self, at: usize, now: usize) -> Result<Vec<usize>, LineFault> {
+        let mut asleep = Vec::new(self.alloc);
+        let Some(step) = self.steps.get(at) else {
+            return Ok(asleep);
+        };
+        let undo = self.trial.make(self.directories, &step.asked, now)?;
+        self.by_begin.remove(&(step.ticks.begin, at));
+        self.by_end.remove(&(step.ticks.end, at));
+        let Some(position) = self.positions.last_mut() else {
+            return Ok(asleep);
+        };
+        for other in position.asleep.iter() {
+            let is_apart = match self.steps.get(*other) {
+                None => false,
+                Some(other) => other.asked.is_apart(&step.asked),
+            };
+            if is_apart {
+                asleep.push(*other)?;
+            }
+        }
+        position.placed = Some((at, undo));
+        Ok(asleep)
+    }
+
+    /// Closes the last place, and takes back the step before it.
+    fn go_back(&mut self) -> Result<(), NoOrder> {
+        let _closed = self.positions.pop();
+        match self.take_back() {
+            Ok(true) => Ok(()),
+            Ok(false) => Err(self.stop(LineFault::NoOrder)),
+            Err(fault) => Err(self.stop(fault)),
+        }
+    }
+
+    /// Takes back the step of the last place, which is not tried there again. False where there is no place.
+    fn take_back(&mut self) -> Result<bool, LineFault> {
+        let Some(position) = self.positions.last_mut() else {
+            return Ok(false);
+        };
+        let Some((at, undo)) = position.placed.take() else {
+            return Ok(true);
+        };
+        position.asleep.push(at)?;
+        self.trial.undo(self.directories, undo)?;
+        if let Some(step) = self.steps.get(at) {
+            self.by_begin.insert((step.ticks.begin, at))?;
+            self.by_end.insert((step.ticks.end, at))?;
+        }
+        Ok(true)
+    }
+
+    /// The order that was found. The directories are as they were before.
+    fn finish(&mut self) -> Result<Vec<usize>, LineFault> {
+        let mut order = Vec::new(self.alloc);
+        for _ in 0..self.positions.len() {
+            if let Some(at) = self.take_out()? {
+                order.push(at)?;
+            }
+        }
+        order.reverse();
+        Ok(order)
+    }
+
+    /// Takes the last place away, and the step that was placed there.
+    fn take_out(&mut self) -> Result<Option<usize>, LineFault> {
+        let Some(position) = self.positions.pop() else {
+            return Ok(None);
+        };
+        let Some((at, undo)) = position.into_placed() else {
+            return Ok(None);
+        };
+        self.trial.undo(self.directories, undo)?;
+        Ok(Some(at))
+    }
+}
+
+impl Position {
+    fn into_placed(self) -> Option<(usize, Undo)> {
+        let Position {
+            choices: _,
+            next: _,
+            asleep: _,
+            placed,
+        } = self;
+        placed
+    }
+}
+
+fn no_memory(step: usize) -> NoOrder {
+    let fault = LineFault::NoMemory;
+    NoOrder { step, fault }
+}
+
+impl Judge {
+    /// The numbers of steps in an order in which the directories give their replies, the step of each number being at its place in `steps`;
+    /// the steps are placed at these moments, which are after all before. It takes about n log n where few overlap, and gives up after
+    /// 100,000 tries and 64 more for each step. Steps without ticks are placed at once.
+    pub(crate) fn order(
+        &mut self,
+        steps: &[Step],
+        moments: &[usize],
+    ) -> Result<Vec<usize>, NoOrder> {
+        let mut trial = Trial::new(self.alloc);
+        let mut waiting = Vec::new(self.alloc);
+        for (at, step) in steps.iter().enumerate() {
+            if let Err(fault) = self.wait(&mut trial, &mut waiting, step) {
+                return Err(NoOrder { step: at, fault });
+            }
+        }
+        let alloc = self.alloc;
+        let mut search = Search {
+            alloc,
+            directories: &mut self.directories,
+            trial,
+            steps: &waiting,
+            moments,
+            by_begin: BTreeSet::new(alloc),
+            by_end: BTreeSet::new(alloc),
+            positions: Vec::new(alloc),
+            deepest: 0,
+            stuck: 0,
+            tries: 0,
+        };
+        search.run()?;
+        search.finish().map_err(|_| no_memory(0))
+    }
+
+    /// Makes a step ready to be placed.
+    fn wait(
+        &mut self,
+        trial: &mut Trial,
+        waiting: &mut Vec<Waiting>,
+        step: &Step,
+    ) -> Result<(), LineFault> {
+        let asked = self.asked(step)?;
+        if let Asked::List { reader, place, .. } = &asked
+            && !trial.open.contains_key(reader)
+            && let Some(open) = self.open_reading(*reader, *place)?
+        {
+            trial.open.insert(*reader, open)?;
+        }
+        let ticks = step.ticks.unwrap_or(Ticks { begin: 0, end: 0 });
+        waiting.push(Waiting { asked, ticks })?;
+        Ok(())
+    }
+
+    /// A reading that goes on.
+    fn open_reading(
+        &self,
+        reader: Reader,
+        place: md_dirs::Place,
+    ) -> Result<Option<Open>, LineFault> {
+        match self.listings.get(&(reader.0, reader.1.0)) {
+            None => Ok(None),
+            Some(listing) => listing.open(self.alloc, place),
+        }
+    }
+
+    fn asked(&mut self, step: &Step) -> Result<Asked, LineFault> {
+        match &step.call {
+            Call::At { deed, path, reply } => Ok(Asked::At {
+                deed: *deed,
+                path: self.spot(path)?,
+                reply: *reply,
+            }),
+            Call::Between {
+                naming,
+                old,
+                new,
+                reply,
+            } => Ok(Asked::Between {
+                naming: *naming,
+                old: self.spot(old)?,
+                new: self.spot(new)?,
+                reply: *reply,
+            }),
+            Call::List {
+                folder,
+                place,
+                reply,
+                shown,
+            } => {
+                let actor = self.actor_names.number(step.actor.as_slice())?.0;
+                let mut names = BTreeSet::new(self.alloc);
+                for name in shown.as_slice() {
+                    names.insert(self.names.number(name.as_slice())?)?;
+                }
+                Ok(Asked::List {
+                    reader: (actor, (*folder, *place as u32)),
+                    place: *place,
+                    reply: *reply,
+                    shown: names,
+                })
+            }
+            Call::Answer { .. } => Ok(Asked::Answer),
+        }
+    }
+}

@@ -1,0 +1,15 @@
+//! A judge of the directory calls that mail programs made in maildirs: which steps break the law.
+//!
+//! `judge_log` reads a log in one pass, and gives a finding for each clause of the law that a step breaks, or the first line that is wrong.
+//! The log's language and the law are in docs/JUDGE.md.
+#![tactic(auto)]
+
+mod judge;
+mod log;
+mod session;
+mod stretch;
+mod words;
+
+pub use log::{Finding, judge_log};
+pub use md_log::{CLAUSES, Clause, LineFault, LogFault};
+pub use session::Session;

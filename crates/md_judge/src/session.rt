@@ -1,0 +1,216 @@
+//! A log whose lines come one by one.
+use crate::judge::Judge;
+use crate::log::{Finding, HEAD};
+use crate::stretch::{Placed, Stretch};
+use crate::words::Passages;
+use md_log::{CLAUSES, Clause, Folders, Line, LineFault, LogFault, Step, read_line};
+use std::alloc::Global;
+
+/// The byte that a line begins with that is passed over.
+const COMMENT: u8 = b'#';
+
+/// A log that is being read, and what was found so far.
+#[derive(Drop)]
+pub struct Session {
+    alloc: Global,
+    folders: Folders,
+    has_begun: bool,
+    judge: Judge,
+    findings: Vec<Finding>,
+    passages: Passages,
+    lines: u64,
+    stretch: Stretch,
+}
+
+impl Session {
+    /// A log of which no line was read.
+    pub fn new(alloc: Global) -> Self {
+        Session {
+            alloc,
+            folders: Folders::new(alloc),
+            has_begun: false,
+            judge: Judge::new(alloc),
+            findings: Vec::new(alloc),
+            passages: Passages::new(alloc),
+            lines: 0,
+            stretch: Stretch::new(alloc),
+        }
+    }
+
+    /// This clause is not judged, as by a line `allow`. `NotADirectory` is judged all the same.
+    pub fn allow(&mut self, clause: Clause) {
+        if clause != Clause::NotADirectory {
+            self.judge.allow(clause);
+        }
+    }
+
+    /// Takes in the next line, without its end. The first is the head. After a refusal the log is not to be judged.
+    pub fn line(&mut self, text: &[u8]) -> Result<(), LogFault> {
+        self.lines = self.lines.saturating_add(1);
+        let line = self.lines;
+        match line {
+            1 if text == HEAD => Ok(()),
+            1 => Err(fault_at(1, LineFault::NoLog)),
+            _ => self.take(line, text),
+        }
+    }
+
+    /// The log is over. A log without a line is none.
+    pub fn end(&mut self) -> Result<(), LogFault> {
+        if self.lines == 0 {
+            return Err(fault_at(1, LineFault::NoLog));
+        }
+        self.finish()
+    }
+
+    /// Judges what waits, and puts the findings in the order of their lines.
+    pub(crate) fn finish(&mut self) -> Result<(), LogFault> {
+        self.judge_stretch()?;
+        let line = self.lines;
+        if self.stretch.is_in_order() {
+            return Ok(());
+        }
+        self.sort().map_err(|fault| fault_at(line, fault))
+    }
+
+    fn sort(&mut self) -> Result<(), LineFault> {
+        let mut order = Vec::new(self.alloc);
+        for (at, finding) in self.findings.iter().enumerate() {
+            order.push((finding.line, at))?;
+        }
+        order.sort_unstable();
+        let mut findings = Vec::with_capacity(self.alloc, order.len())?;
+        for (_, at) in order.iter() {
+            if let Some(finding) = self.findings.get(*at) {
+                findings.push(*finding)?;
+            }
+        }
+        self.passages.sort(&order)?;
+        self.findings = findings;
+        Ok(())
+    }
+
+    /// What was found, in the order of the lines, and at one line in the order of the law.
+    pub fn findings(&self) -> &[Finding] {
+        self.findings.as_slice()
+    }
+
+    /// The actor and the call of a finding, by its number from 0, as the log spells them. The names that a `list` line shows are left out.
+    pub fn words(&self, finding: usize) -> (&[u8], &[u8]) {
+        self.passages.words(finding)
+    }
+
+    pub(crate) fn into_findings(self) -> Vec<Finding> {
+        let Session {
+            alloc: _,
+            folders: _,
+            has_begun: _,
+            judge: _,
+            findings,
+            passages: _,
+            lines: _,
+            stretch: _,
+        } = self;
+        findings
+    }
+
+    /// Takes a line in, unless it is passed over.
+    pub(crate) fn take(&mut self, number: u64, text: &[u8]) -> Result<(), LogFault> {
+        if let [] | [COMMENT, ..] = text {
+            return Ok(());
+        }
+        match read_line(self.alloc, &self.folders, self.has_begun, text) {
+            Ok(Line::Step(step)) => self.take_step(number, step, text),
+            Ok(line) => {
+                let taken = self.take_head(number, line);
+                taken.map_err(|fault| fault_at(number, fault))
+            }
+            Err(fault) => Err(fault_at(number, fault)),
+        }
+    }
+
+    fn take_head(&mut self, number: u64, line: Line) -> Result<(), LineFault> {
+        self.judge.go_to(number as usize);
+        match line {
+            Line::Folder { name } => {
+                self.folders.add(name)?;
+                self.judge.add_folder()
+            }
+            Line::Allow { clause } => {
+                self.judge.allow(clause);
+                Ok(())
+            }
+            Line::File { path, stamp } => self.judge.put_file(&path, stamp),
+            Line::Also { path, old } => self.judge.put_name(&path, &old),
+            Line::Step(_) => Ok(()),
+        }
+    }
+
+    /// Judges a step, or lets it wait where it has ticks.
+    fn take_step(&mut self, number: u64, step: Step, text: &[u8]) -> Result<(), LogFault> {
+        self.has_begun = true;
+        if step.ticks.is_some() {
+            let waits = self.stretch.add(self.alloc, number as usize, step, text);
+            return waits.map_err(|fault| fault_at(number, fault));
+        }
+        self.judge_stretch()?;
+        let judged = self.judge_step(number as usize, number, step, text);
+        judged.map_err(|fault| fault_at(number, fault))
+    }
+
+    /// Judges the steps that wait, in an order that their ticks and replies allow.
+    fn judge_stretch(&mut self) -> Result<(), LogFault> {
+        if self.stretch.is_empty() {
+            return Ok(());
+        }
+        let order = match self.judge.order(self.stretch.steps(), self.stretch.lines()) {
+            Ok(order) => order,
+            Err(stop) => return Err(fault_at(self.stretch.line(stop.step), stop.fault)),
+        };
+        let first = self.stretch.line(0);
+        let placed = match self.stretch.place(self.alloc, &order) {
+            Ok(placed) => placed,
+            Err(fault) => return Err(fault_at(first, fault)),
+        };
+        for waiting in placed {
+            let Placed {
+                moment,
+                line,
+                step,
+                text,
+            } = waiting;
+            let judged = self.judge_step(moment, line, step, &text);
+            judged.map_err(|fault| fault_at(line, fault))?;
+        }
+        Ok(())
+    }
+
+    /// Judges a step at a moment, and keeps the clauses that it breaks.
+    fn judge_step(
+        &mut self,
+        moment: usize,
+        line: u64,
+        step: Step,
+        text: &[u8],
+    ) -> Result<(), LineFault> {
+        self.judge.go_to(moment);
+        self.judge.step(step)?;
+        for clause in CLAUSES {
+            if self.judge.is_broken(clause) {
+                let before = self.judge.before(clause);
+                let before = before.map(|moment| self.stretch.line_at(moment));
+                self.findings.push(Finding {
+                    line,
+                    clause,
+                    before,
+                })?;
+                self.passages.add(text)?;
+            }
+        }
+        Ok(())
+    }
+}
+
+fn fault_at(line: u64, fault: LineFault) -> LogFault {
+    LogFault { line, fault }
+}

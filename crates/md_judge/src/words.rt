@@ -1,0 +1,93 @@
+//! The words of the lines that findings are at.
+use md_log::LineFault;
+use std::alloc::Global;
+
+const SPACE: u8 = b' ';
+
+/// Where the actor of a finding begins in the text, and where its call begins and ends.
+#[derive(Clone, Copy)]
+struct Passage {
+    actor: usize,
+    call: usize,
+    end: usize,
+}
+
+/// The actor and the call of each finding.
+#[derive(Drop)]
+pub(crate) struct Passages {
+    text: Vec<u8>,
+    all: Vec<Passage>,
+}
+
+impl Passages {
+    pub(crate) fn new(alloc: Global) -> Self {
+        Passages {
+            text: Vec::new(alloc),
+            all: Vec::new(alloc),
+        }
+    }
+
+    /// Keeps the words of a step's line: MOMENT ACTOR CALL..
+    pub(crate) fn add(&mut self, line: &[u8]) -> Result<(), LineFault> {
+        let (_, rest) = first_word(line);
+        let (actor, rest) = first_word(rest);
+        let call = without_names(rest);
+        let at = self.text.len();
+        self.text.extend_from_slice(actor)?;
+        self.text.extend_from_slice(call)?;
+        self.all.push(Passage {
+            actor: at,
+            call: at.saturating_add(actor.len()),
+            end: self.text.len(),
+        })?;
+        Ok(())
+    }
+
+    /// Puts the passages in an order of their numbers.
+    pub(crate) fn sort(&mut self, order: &[(u64, usize)]) -> Result<(), LineFault> {
+        let mut all = Vec::with_capacity(*self.all.allocator(), order.len())?;
+        for (_, at) in order {
+            if let Some(passage) = self.all.get(*at) {
+                all.push(*passage)?;
+            }
+        }
+        self.all = all;
+        Ok(())
+    }
+
+    /// The actor and the call of the finding of this number.
+    pub(crate) fn words(&self, at: usize) -> (&[u8], &[u8]) {
+        let Some(passage) = self.all.get(at) else {
+            return (&[], &[]);
+        };
+        let text = self.text.as_slice();
+        let actor = text.get(passage.actor..passage.call);
+        let call = text.get(passage.call..passage.end);
+        (actor.unwrap_or(&[]), call.unwrap_or(&[]))
+    }
+}
+
+/// The first word of a text, and what comes after the space after it.
+fn first_word(text: &[u8]) -> (&[u8], &[u8]) {
+    match text.iter().position(|byte| *byte == SPACE) {
+        None => (text, &[]),
+        Some(at) => (&text[..at], &text[at + 1..]),
+    }
+}
+
+/// A call without the names that a reading shows: these may be as many as a directory has.
+fn without_names(call: &[u8]) -> &[u8] {
+    if !call.starts_with(b"list ") {
+        return call;
+    }
+    let mut spaces = 0u32;
+    for (at, byte) in call.iter().enumerate() {
+        if *byte == SPACE {
+            spaces = spaces.saturating_add(1);
+        }
+        if spaces == 4 {
+            return &call[..at];
+        }
+    }
+    call
+}

@@ -1,0 +1,68 @@
+-- What programs told their users, as a log writes it.
+use Rattle.std.specs.Prelude.{ℕ, List, Result, Ok, Err, if◌then◌else◌, codes}
+use Rattle.std.specs.List.{list_all}
+use Rattle.std.specs.FinSet as set
+use Rattle.std.specs.Str.{bytes_eq}
+use Rattle.md_name.specs.Letters.{Set, is_letter}
+use Rattle.md_log.specs.declared.error.LineFault.{LineFault}
+use Rattle.md_log.specs.declared.error.LineFault.TheVariants.{BadLine, BadFlags}
+use Rattle.md_log.specs.declared.line.Said.{Said}
+use Rattle.md_log.specs.declared.line.Said.TheVariants as said
+use Rattle.md_log.specs.declared.line.Call.{Call}
+use Rattle.md_log.specs.declared.line.Call.TheVariants as call
+use Rattle.md_log.specs.Bind.{◌>>=◌}
+use Rattle.md_log.specs.Words.{Rest, word_at, end_at}
+use Rattle.md_log.specs.Names.{unique_name_of}
+use Rattle.md_log.specs.Folders.{folder_of}
+
+-- a hyphen is no flags; other words are letters, in any order and perhaps repeated
+unfoldable pub flags_of : List ℕ → Result Set LineFault
+flags_of word =
+    if bytes_eq word (codes "-") then Ok set.empty
+    else (if list_all is_letter word then Ok (set.from_list word) else Err BadFlags)
+
+-- an answer of one word
+unfoldable pub bare_of : List ℕ → Result Said LineFault
+bare_of word =
+    if bytes_eq word (codes "delivered") then Ok said.Delivered
+    else (if bytes_eq word (codes "expunged") then Ok said.Expunged
+    else (if bytes_eq word (codes "done") then Ok said.Done
+    else (if bytes_eq word (codes "failed") then Ok said.Failed
+    else (if bytes_eq word (codes "notthere") then Ok said.NotThere else Err BadLine))))
+
+-- the words after what is said of the message: a folder and a unique name
+unfoldable pub about_line : List (List ℕ) → Said → Rest → Result Call LineFault
+about_line folders answer rest = do
+  first ← word_at rest
+  folder ← folder_of folders first.0
+  second ← word_at first.1
+  unique ← unique_name_of second.0
+  _ ← end_at second.1
+  Ok (call.Answer answer folder unique)
+
+-- the words after `flags`
+unfoldable pub flags_line : List (List ℕ) → Rest → Result Call LineFault
+flags_line folders rest = do
+  word ← word_at rest
+  flags ← flags_of word.0
+  about_line folders (said.Flags flags) word.1
+
+-- the words after `moved`
+unfoldable pub moved_line : List (List ℕ) → Rest → Result Call LineFault
+moved_line folders rest = do
+  word ← word_at rest
+  to ← folder_of folders word.0
+  about_line folders (said.Moved to) word.1
+
+-- the words after an answer of one word
+unfoldable pub bare_line : List (List ℕ) → List ℕ → Rest → Result Call LineFault
+bare_line folders first rest = do
+  answer ← bare_of first
+  about_line folders answer rest
+
+-- the words of `answer` after it
+unfoldable pub answer_line : List (List ℕ) → Rest → Result Call LineFault
+answer_line folders rest = do
+  first ← word_at rest
+  if bytes_eq first.0 (codes "flags") then flags_line folders first.1
+      else (if bytes_eq first.0 (codes "moved") then moved_line folders first.1 else bare_line folders first.0 first.1)

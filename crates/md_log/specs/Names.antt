@@ -1,0 +1,75 @@
+-- The names of folders, files and messages, which a log writes with escapes.
+use Rattle.std.specs.Prelude.{ℕ, Bool, true, false, not, ◌&&◌, ◌||◌, ◌==◌, List, [], ◌∷◌, ◌++◌, length, nat_le, nat_lt, Some, None, Result, Ok, Err, if◌then◌else◌}
+use Rattle.std.specs.List.{list_any, list_all, slice_split}
+use Rattle.md_name.specs.Names.{begins_with_dot, is_colon}
+use Rattle.md_log.specs.declared.error.LineFault.{LineFault}
+use Rattle.md_log.specs.declared.error.LineFault.TheVariants.{BadLine, BadEscape, BadName}
+use Rattle.md_log.specs.Bind.{◌>>=◌}
+use Rattle.md_log.specs.Words.{require, Rest, is_space}
+
+-- the byte that a backslash and a letter stand for: `\s` a space, `\n` LF, `\r` CR, `\\` a backslash
+unfoldable pub meant_by : ℕ → Result ℕ LineFault
+meant_by letter =
+    if letter == 115 then Ok 32
+    else (if letter == 110 then Ok 10
+    else (if letter == 114 then Ok 13
+    else (if letter == 92 then Ok 92 else Err BadEscape)))
+
+-- bytes before those that are read
+abbrev pub after_bytes : List ℕ → Result (List ℕ) LineFault → Result (List ℕ) LineFault
+after_bytes front read = read >>= (λ bytes. Ok (front ++ bytes))
+
+-- the bytes that a text stands for, where a backslash stands before it or not: a backslash and the letter after it are one byte, and
+-- any other byte is itself
+unfoldable pub unescaped_by : Bool → List ℕ → Result (List ℕ) LineFault
+unescaped_by true [] = Err BadEscape
+unescaped_by false [] = Ok []
+unescaped_by true (letter ∷ text) = meant_by letter >>= (λ b. after_bytes (b ∷ []) (unescaped_by false text))
+unescaped_by false (b ∷ text) = if b == 92 then unescaped_by true text else after_bytes (b ∷ []) (unescaped_by false text)
+
+abbrev pub unescaped : List ℕ → Result (List ℕ) LineFault
+unescaped text = unescaped_by false text
+
+-- `.` and `..`
+abbrev pub is_dots : List ℕ → Bool
+is_dots name = nat_le (length name) 2 && list_all (λ b. b == 46) name
+
+-- POSIX, 3.169: a file's name has neither a slash nor NUL
+abbrev pub is_barred : ℕ → Bool
+is_barred b = b == 47 || b == 0
+
+-- a file can have the name: 1 to 255 bytes, no slash, no NUL, and neither `.` nor `..`
+unfoldable pub is_name : List ℕ → Bool
+is_name name = nat_lt 0 (length name) && nat_le (length name) 255 && not (is_dots name) && not (list_any is_barred name)
+
+-- the name that a word spells
+unfoldable pub name_of : List ℕ → Result (List ℕ) LineFault
+name_of word = do
+  name ← unescaped word
+  _ ← require (is_name name) BadName
+  Ok name
+
+-- the unique name that a word spells: a name with no colon, and no dot in front
+unfoldable pub unique_name_of : List ℕ → Result (List ℕ) LineFault
+unique_name_of word = do
+  name ← name_of word
+  _ ← require (not (begins_with_dot name) && not (list_any is_colon name)) BadName
+  Ok name
+
+-- names before those that are read
+abbrev pub after_names : List (List ℕ) → Result (List (List ℕ)) LineFault → Result (List (List ℕ)) LineFault
+after_names front read = read >>= (λ names. Ok (front ++ names))
+
+abbrev pub nonempty_name_of : List ℕ → Result (List ℕ) LineFault
+nonempty_name_of [] = Err BadLine
+nonempty_name_of (b ∷ word) = name_of (b ∷ word)
+
+-- the names that words spell
+unfoldable pub names_of : List (List ℕ) → Result (List (List ℕ)) LineFault
+names_of [] = Ok []
+names_of (word ∷ words) = nonempty_name_of word >>= (λ name. after_names (name ∷ []) (names_of words))
+
+-- the names in the rest of a line
+unfoldable pub names_at : Rest → Result (List (List ℕ)) LineFault
+names_at None = Ok []
+names_at (Some text) = names_of (slice_split is_space text)

@@ -1,0 +1,30 @@
+-- Paths, as a log writes them: `FOLDER/PLACE/NAME`.
+use Rattle.std.specs.Prelude.{ℕ, List, Result, Ok, Err, if◌then◌else◌, codes}
+use Rattle.std.specs.Str.{bytes_eq}
+use Rattle.md_dirs.specs.declared.paths.Place.{Place}
+use Rattle.md_dirs.specs.declared.paths.Place.TheVariants.{Tmp, New, Cur}
+use Rattle.md_dirs.specs.declared.paths.Path.{Path}
+use Rattle.md_log.specs.declared.error.LineFault.{LineFault}
+use Rattle.md_log.specs.declared.error.LineFault.TheVariants.{BadPlace}
+use Rattle.md_log.specs.Bind.{◌>>=◌}
+use Rattle.md_log.specs.Words.{Rest, word_at, piece_at}
+use Rattle.md_log.specs.Names.{name_of}
+use Rattle.md_log.specs.Folders.{folder_of}
+
+-- maildir(5): tmp, new and cur are the directories of a maildir
+unfoldable pub directory_of : List ℕ → Result Place LineFault
+directory_of word =
+    if bytes_eq word (codes "tmp") then Ok Tmp
+    else (if bytes_eq word (codes "new") then Ok New
+    else (if bytes_eq word (codes "cur") then Ok Cur else Err BadPlace))
+
+-- the next word as a path
+unfoldable pub path_at : List (List ℕ) → Rest → Result (Path × Rest) LineFault
+path_at folders rest = do
+  word ← word_at rest
+  first ← piece_at word.0
+  second ← piece_at first.1
+  folder ← folder_of folders first.0
+  place ← directory_of second.0
+  name ← name_of second.1
+  Ok (record { folder = folder; place = place; name = name }, word.1)

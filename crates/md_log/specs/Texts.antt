@@ -1,0 +1,55 @@
+-- What is said of wrong lines, and the names of clauses.
+use Rattle.std.specs.Prelude.{ℕ, List, [], ◌∷◌, Option, codes}
+use Rattle.std.specs.List.{find}
+use Rattle.std.specs.Str.{bytes_eq}
+use Rattle.md_log.specs.declared.error.LineFault.{LineFault}
+use Rattle.md_log.specs.declared.error.LineFault.TheVariants as fault
+use Rattle.md_log.specs.declared.clause.Clause.{Clause}
+use Rattle.md_log.specs.declared.clause.Clause.TheVariants as clause
+
+-- what is said of a line for each fault
+abbrev pub fault_text : LineFault → List ℕ
+fault_text fault.NoLog = codes "no log"
+fault_text fault.BadLine = codes "bad line"
+fault_text fault.BadNumber = codes "bad number"
+fault_text fault.BadEscape = codes "bad escape"
+fault_text fault.BadPlace = codes "bad place"
+fault_text fault.BadName = codes "bad name"
+fault_text fault.BadReply = codes "bad reply"
+fault_text fault.BadClause = codes "bad clause"
+fault_text fault.BadFlags = codes "bad flags"
+fault_text fault.UnknownFolder = codes "unknown folder"
+fault_text fault.SameFolder = codes "same folder"
+fault_text fault.TooManyFolders = codes "too many folders"
+fault_text fault.SamePath = codes "same path"
+fault_text fault.NoSuchPath = codes "no such path"
+fault_text fault.TooLate = codes "too late"
+fault_text fault.NoOrder = codes "no order"
+fault_text fault.TooManyOrders = codes "too many orders"
+fault_text fault.NoMemory = codes "no memory"
+
+-- each clause by its name
+abbrev pub clause_text : Clause → List ℕ
+clause_text clause.NotADirectory = codes "NotADirectory"
+clause_text clause.Overwritten = codes "Overwritten"
+clause_text clause.SeenBeforeWhole = codes "SeenBeforeWhole"
+clause_text clause.Mixed = codes "Mixed"
+clause_text clause.NotFlushed = codes "NotFlushed"
+clause_text clause.TwoNames = codes "TwoNames"
+clause_text clause.Gone = codes "Gone"
+clause_text clause.UsedAgain = codes "UsedAgain"
+clause_text clause.MovedBack = codes "MovedBack"
+clause_text clause.CleanedEarly = codes "CleanedEarly"
+clause_text clause.Unlisted = codes "Unlisted"
+clause_text clause.GaveUp = codes "GaveUp"
+clause_text clause.AnsweredFalsely = codes "AnsweredFalsely"
+
+-- the clauses in the order of the law
+abbrev pub clauses : List Clause
+clauses =
+    clause.NotADirectory ∷ clause.Overwritten ∷ clause.SeenBeforeWhole ∷ clause.Mixed ∷ clause.NotFlushed ∷ clause.TwoNames ∷ clause.Gone
+    ∷ clause.UsedAgain ∷ clause.MovedBack ∷ clause.CleanedEarly ∷ clause.Unlisted ∷ clause.GaveUp ∷ clause.AnsweredFalsely ∷ []
+
+-- the clause of a name
+unfoldable pub clause_named : List ℕ → Option Clause
+clause_named name = find (λ c. bytes_eq (clause_text c) name) clauses

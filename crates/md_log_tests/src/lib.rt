@@ -1,0 +1,5 @@
+//! Tests of `md_log`.
+#![tactic(auto)]
+
+#[cfg(test)]
+mod tests;

@@ -1,0 +1,48 @@
+//! Effects, as comments of a log.
+use crate::text::{push_number, push_path_of};
+use md_core::{Change, Effect};
+use std::alloc::AllocError;
+
+/// `# effect` and the change: `add PATH SIZE`, `rename PATH PATH`, `remove PATH` or `same`.
+pub(crate) fn push_effect(
+    out: &mut Vec<u8>,
+    names: &[Vec<u8>],
+    effect: &Effect,
+) -> Result<(), AllocError> {
+    out.extend_from_slice(b"# effect ")?;
+    match &effect.change {
+        Change::Add {
+            folder,
+            place,
+            name,
+            size,
+        } => {
+            out.extend_from_slice(b"add")?;
+            push_path_of(out, names, *folder, *place, name.as_slice())?;
+            out.push(b' ')?;
+            push_number(out, *size)?;
+        }
+        Change::Rename {
+            folder,
+            place,
+            name,
+            to_folder,
+            to_place,
+            to_name,
+        } => {
+            out.extend_from_slice(b"rename")?;
+            push_path_of(out, names, *folder, *place, name.as_slice())?;
+            push_path_of(out, names, *to_folder, *to_place, to_name.as_slice())?;
+        }
+        Change::Remove {
+            folder,
+            place,
+            name,
+        } => {
+            out.extend_from_slice(b"remove")?;
+            push_path_of(out, names, *folder, *place, name.as_slice())?;
+        }
+        Change::Same => out.extend_from_slice(b"same")?,
+    }
+    Ok(out.push(b'\n')?)
+}

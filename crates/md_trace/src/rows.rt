@@ -1,0 +1,71 @@
+//! The rows of directories, as the beginning of a log, a listing and a comment have them.
+use crate::text::{place_text, push_message, push_name, push_number, push_path_of, push_seconds};
+use md_dirs::{Dirs, Place};
+use md_script::PlayKind;
+use std::alloc::AllocError;
+
+const PLACES: [Place; 3] = [Place::Tmp, Place::New, Place::Cur];
+
+/// `file PATH STAMP` for each name that is there.
+pub(crate) fn push_files<D: Dirs>(
+    out: &mut Vec<u8>,
+    names: &[Vec<u8>],
+    dirs: &D,
+) -> Result<(), PlayKind> {
+    for folder in 0..dirs.folders() {
+        for place in PLACES {
+            for at in 0..dirs.count(folder, place) {
+                if let Some(row) = dirs.row_at(folder, place, at) {
+                    out.extend_from_slice(b"file")?;
+                    push_path_of(out, names, folder, place, row.name)?;
+                    out.push(b' ')?;
+                    push_seconds(out, row.stamp)?;
+                    out.push(b'\n')?;
+                }
+            }
+        }
+    }
+    Ok(())
+}
+
+/// Each name of a directory, with a space in front.
+pub(crate) fn push_names<D: Dirs>(
+    out: &mut Vec<u8>,
+    dirs: &D,
+    folder: u32,
+    place: Place,
+) -> Result<(), AllocError> {
+    for at in 0..dirs.count(folder, place) {
+        if let Some(row) = dirs.row_at(folder, place, at) {
+            out.push(b' ')?;
+            push_name(out, row.name)?;
+        }
+    }
+    Ok(())
+}
+
+/// The comments `# state`, and `# PLACE FOLDER NAME STAMP SIZE` for each name that is there.
+pub(crate) fn push_states<D: Dirs>(
+    out: &mut Vec<u8>,
+    names: &[Vec<u8>],
+    dirs: &D,
+) -> Result<(), AllocError> {
+    out.extend_from_slice(b"# state\n")?;
+    for folder in 0..dirs.folders() {
+        for place in PLACES {
+            for at in 0..dirs.count(folder, place) {
+                if let Some(row) = dirs.row_at(folder, place, at) {
+                    out.extend_from_slice(b"# ")?;
+                    out.extend_from_slice(place_text(place))?;
+                    push_message(out, names, folder, row.name)?;
+                    out.push(b' ')?;
+                    push_number(out, row.stamp)?;
+                    out.push(b' ')?;
+                    push_number(out, row.size)?;
+                    out.push(b'\n')?;
+                }
+            }
+        }
+    }
+    Ok(())
+}

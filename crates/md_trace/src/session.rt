@@ -1,0 +1,92 @@
+//! What the lines of a script do, and what a log says of them.
+ghost use Rattle.std.specs.Prelude.{◌<◌, length};
+ghost use Rattle.md_script.specs.Folders.{most_folders};
+
+use crate::store::Store;
+use crate::text::push_name;
+use md_dirs::ImageFile;
+use md_name::{UniqueParts, make_unique};
+use md_script::{Command, Folders, Mode, PlayKind, open_store, read_command};
+use std::alloc::Global;
+use std::mem;
+
+/// Folders and files, and a store over them, which is opened at the first command that needs it.
+#[derive(Drop)]
+pub(crate) struct Session {
+    alloc: Global,
+    with_states: bool,
+    folders: Folders,
+    names: Vec<Vec<u8>>,
+    files: Vec<ImageFile>,
+    store: Option<Store>,
+}
+
+impl Session {
+    /// A session without a folder.
+    pub(crate) fn new(alloc: Global, with_states: bool) -> Session {
+        Session {
+            alloc,
+            with_states,
+            folders: Folders::new(alloc),
+            names: Vec::new(alloc),
+            files: Vec::new(alloc),
+            store: None,
+        }
+    }
+
+    /// Runs one line, which isn't empty and doesn't begin with `#`. What a script prints by itself has no place in a log: a listing, a
+    /// reading, a made name and a summary are checked as they are in a script, and say nothing.
+    pub(crate) fn run_line(&mut self, line: &[u8], out: &mut Vec<u8>) -> Result<(), PlayKind> {
+        let mode = Mode::Playing {
+            is_loaded: self.store.is_some(),
+        };
+        match read_command(self.alloc, &self.folders, mode, line)? {
+            Command::Folder { name } => self.folder(name, out),
+            Command::File(file) => Ok(self.files.push(file)?),
+            Command::Submit(call) => self.store(out)?.submit(call),
+            Command::Step(event) => self.store(out)?.step(event, out),
+            Command::Finish(event) => self.store(out)?.finish(event, out),
+            Command::List { .. } | Command::Read { .. } => {
+                self.store(out)?;
+                Ok(())
+            }
+            Command::First { folder } => self.store(out)?.first(folder),
+            Command::Second { folder } => self.store(out)?.second(folder),
+            Command::Unique(parts) => self.unique(parts),
+            Command::Summary { .. } => Ok(()),
+        }
+    }
+}
+
+impl Session {
+    fn folder(&mut self, name: &[u8], out: &mut Vec<u8>) -> Result<(), PlayKind>
+        requires { length self.old.folders < most_folders }
+    {
+        self.folders.add(name)?;
+        self.names.push(Vec::from_slice(self.alloc, name)?)?;
+        out.extend_from_slice(b"folder ")?;
+        push_name(out, name)?;
+        out.push(b'\n')?;
+        Ok(())
+    }
+
+    // The store, opened over the folders and the files if no command did so before.
+    fn store(&mut self, out: &mut Vec<u8>) -> Result<&mut Store, PlayKind> {
+        if self.store.is_none() {
+            let files = mem::replace(&mut self.files, Vec::new(self.alloc));
+            let names = mem::replace(&mut self.names, Vec::new(self.alloc));
+            let world = open_store(self.alloc, self.folders.count(), files)?;
+            self.store = Some(Store::open(self.alloc, self.with_states, names, world, out)?);
+        }
+        match &mut self.store {
+            Some(store) => Ok(store),
+            None => Err(PlayKind::NoMemory),
+        }
+    }
+
+    // A made name, which is checked alone.
+    fn unique(&self, parts: UniqueParts<'_>) -> Result<(), PlayKind> {
+        let _name = make_unique(self.alloc, parts)?;
+        Ok(())
+    }
+}

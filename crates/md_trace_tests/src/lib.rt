@@ -1,0 +1,5 @@
+//! Tests of `md_trace`.
+#![tactic(auto)]
+
+#[cfg(test)]
+mod tests;

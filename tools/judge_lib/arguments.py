@@ -1,0 +1,59 @@
+"""The arguments of a call as strace prints them with -y and -xx: each string is in hexadecimal digits."""
+
+from __future__ import annotations
+
+import re
+from typing import List, NamedTuple, Optional
+
+_DESCRIPTOR = re.compile(r"(-?\d+|AT_FDCWD)(?:<((?:\\x[0-9a-f]{2})*)>(\(deleted\))?)?")
+_STRING = re.compile(r'"((?:\\x[0-9a-f]{2})*)"(?:\.\.\.)?')
+_SHOWN = re.compile(r'd_name="((?:\\x[0-9a-f]{2})*)"')
+_OPENS, _CLOSES = "[{(", "]})"
+
+
+class Descriptor(NamedTuple):
+    """An open file's number, None for the working directory; the path that the system knows for it, and whether that name is taken away."""
+
+    number: Optional[int]
+    path: Optional[bytes]
+    is_deleted: bool
+
+
+def split(text: str) -> List[str]:
+    """The arguments of a call."""
+    parts, depth, begin = [], 0, 0
+    for at, letter in enumerate(text):
+        if letter in _OPENS:
+            depth += 1
+        elif letter in _CLOSES:
+            depth -= 1
+        elif letter == "," and depth == 0:
+            parts.append(text[begin:at].strip())
+            begin = at + 1
+    last = text[begin:].strip()
+    return parts + [last] if last else parts
+
+
+def read_descriptor(text: str) -> Optional[Descriptor]:
+    """An open file, or the working directory."""
+    found = _DESCRIPTOR.fullmatch(text)
+    if found is None:
+        return None
+    path = None if found[2] is None else _bytes(found[2])
+    return Descriptor(None if found[1] == "AT_FDCWD" else int(found[1]), path, found[3] is not None)
+
+
+def read_string(text: str) -> Optional[bytes]:
+    """A string; None for NULL or an address that couldn't be read."""
+    found = _STRING.fullmatch(text)
+    return None if found is None else _bytes(found[1])
+
+
+def shown_names(text: str) -> List[bytes]:
+    """The names of a reading of a directory, without the directory itself and the one above it."""
+    names = [_bytes(digits) for digits in _SHOWN.findall(text)]
+    return [name for name in names if name not in (b".", b"..")]
+
+
+def _bytes(digits: str) -> bytes:
+    return bytes.fromhex(digits.replace("\\x", ""))

@@ -1,0 +1,169 @@
+"""What the judged directories have, step by step. Each change can be taken back."""
+
+from __future__ import annotations
+
+from typing import Any, Callable, Dict, Iterable, List, NamedTuple, Optional, Set, Tuple
+
+from .folders import File, Place
+from .names import Path
+from .processes import Turn
+
+
+class Change(NamedTuple):
+    """A path that came to name a file, or no longer does, at so many lines of the log."""
+
+    lines: int
+    path: Path
+    is_there: bool
+
+
+class Reading:
+    """A directory that one actor reads in parts: the names that were there at some moment of it, and all the while."""
+
+    def __init__(self, owner: Turn, there: Iterable[bytes]) -> None:
+        self.owner = owner
+        self.sometimes = set(there)
+        self.always = set(self.sometimes)
+        self.shown: Set[bytes] = set()
+
+
+class Directories:
+    """Names and files. A file is a number."""
+
+    def __init__(self, files: Iterable[File] = ()) -> None:
+        self.names: Dict[Path, int] = {}
+        self.changes: List[Change] = []
+        self.readings: Dict[Tuple[str, Place], Reading] = {}
+        self.unflushed: Dict[int, str] = {}
+        self._paths: Dict[int, Dict[Path, None]] = {}
+        self._in: Dict[Tuple[bytes, str], Set[bytes]] = {}
+        self._former: Dict[Path, List[int]] = {}
+        self._files = 0
+        self._undo: List[Callable[[], Any]] = []
+        # The lines of the log so far.
+        self.told: List[Any] = []
+        for file in files:
+            number = self.new_file()
+            for path in file.paths:
+                self.put(path, number)
+        self._undo.clear()
+
+    def mark(self) -> int:
+        """A moment to come back to."""
+        return len(self._undo)
+
+    def take_back(self, mark: int) -> None:
+        """Takes back all that was changed since."""
+        while len(self._undo) > mark:
+            self._undo.pop()()
+
+    def undone_by(self, undo: Callable[[], Any]) -> None:
+        """Keeps how a change is taken back."""
+        self._undo.append(undo)
+
+    def new_file(self) -> int:
+        """A file of no name yet."""
+        self._files += 1
+        return self._files
+
+    def put(self, path: Path, file: int) -> None:
+        """Has a path name a file, and no other any more."""
+        if self.names.get(path) == file:
+            return
+        self.take(path)
+        self._name(path, file)
+        self._tell(path, True)
+        self._undo.append(lambda: self._forget(path, file))
+
+    def take(self, path: Path) -> None:
+        """Takes a path away."""
+        file = self.names.get(path)
+        if file is None:
+            return
+        self._unname(path, file)
+        former = self._former.setdefault(path, [])
+        former.append(file)
+        self._tell(path, False)
+        self._undo.append(lambda: self._restore(path, file))
+
+    def path_of(self, file: Optional[int]) -> Optional[Path]:
+        """A path that a file has now."""
+        return next(iter(self._paths.get(file, {})), None) if file is not None else None
+
+    def last_of(self, path: Path) -> Optional[int]:
+        """The file that a path named last, where it names none."""
+        former = self._former.get(path)
+        return former[-1] if former else None
+
+    def names_in(self, place: Place) -> Set[bytes]:
+        """The names of a directory."""
+        return self._in.get((place.folder, place.place), set())
+
+    def start_reading(self, actor: str, place: Place, owner: Turn) -> Reading:
+        """A new reading of a directory, in place of the actor's last."""
+        former, reading = self.readings.get((actor, place)), Reading(owner, self.names_in(place))
+        self.readings[actor, place] = reading
+        self._undo.append(lambda: self._put_reading(actor, place, former))
+        return reading
+
+    def end_reading(self, actor: str, place: Place) -> None:
+        """The actor's reading is over."""
+        former = self.readings.pop((actor, place), None)
+        self._undo.append(lambda: self._put_reading(actor, place, former))
+
+    def show(self, reading: Reading, names: Iterable[bytes]) -> None:
+        """Adds names that a reading showed."""
+        new = set(names) - reading.shown
+        reading.shown |= new
+        self._undo.append(lambda: reading.shown.difference_update(new))
+
+    def set_unflushed(self, file: int, actor: Optional[str]) -> None:
+        """Whether a file was written to since its last flush, and by whom."""
+        former = self.unflushed.get(file)
+        self._put_unflushed(file, actor)
+        self._undo.append(lambda: self._put_unflushed(file, former))
+
+    def _put_unflushed(self, file: int, actor: Optional[str]) -> None:
+        if actor is None:
+            self.unflushed.pop(file, None)
+        else:
+            self.unflushed[file] = actor
+
+    def _put_reading(self, actor: str, place: Place, reading: Optional[Reading]) -> None:
+        if reading is None:
+            self.readings.pop((actor, place), None)
+        else:
+            self.readings[actor, place] = reading
+
+    def _tell(self, path: Path, is_there: bool) -> None:
+        self.changes.append(Change(len(self.told), path, is_there))
+        for (_, place), reading in self.readings.items():
+            if path[:2] == place:
+                self._tell_reading(reading, path.name, is_there)
+
+    def _tell_reading(self, reading: Reading, name: bytes, is_there: bool) -> None:
+        if is_there and name not in reading.sometimes:
+            reading.sometimes.add(name)
+            self._undo.append(lambda: reading.sometimes.discard(name))
+        if not is_there and name in reading.always:
+            reading.always.discard(name)
+            self._undo.append(lambda: reading.always.add(name))
+
+    def _name(self, path: Path, file: int) -> None:
+        self.names[path] = file
+        self._paths.setdefault(file, {})[path] = None
+        self._in.setdefault(path[:2], set()).add(path.name)
+
+    def _unname(self, path: Path, file: int) -> None:
+        del self.names[path]
+        del self._paths[file][path]
+        self._in[path[:2]].discard(path.name)
+
+    def _forget(self, path: Path, file: int) -> None:
+        self._unname(path, file)
+        self.changes.pop()
+
+    def _restore(self, path: Path, file: int) -> None:
+        self._name(path, file)
+        self._former[path].pop()
+        self.changes.pop()

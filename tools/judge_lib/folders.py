@@ -1,0 +1,138 @@
+"""The folders that are judged, and which paths lie in them."""
+
+from __future__ import annotations
+
+import os
+from typing import Callable, Dict, Iterable, List, NamedTuple, Optional, Tuple, Union
+
+from .names import PLACES, Path
+from .refused import Refused
+
+_MOST_DEEP = 2
+
+
+class Place(NamedTuple):
+    """One of the three directories of a folder."""
+
+    folder: bytes
+    place: str
+
+
+class Folder(NamedTuple):
+    """A maildir: its name in the log, and its directory."""
+
+    name: bytes
+    directory: bytes
+
+
+class Folders:
+    """The judged folders. `resolve` follows the symbolic links of a directory's path."""
+
+    def __init__(self, folders: Iterable[Folder], resolve: Callable[[bytes], bytes] = os.path.realpath) -> None:
+        self.folders = list(folders)
+        self._resolve = resolve
+        self._resolved: Dict[bytes, bytes] = {}
+        self._places: Dict[bytes, Place] = {}
+        for folder in self.folders:
+            for place in PLACES:
+                directory = self._real(os.path.join(folder.directory, place.encode()))
+                self._places[directory] = Place(folder.name, place)
+
+    def where(self, path: bytes) -> Union[Path, Place, None]:
+        """What a path from the root is: a file of a folder, one of its directories, or neither."""
+        parent, name = os.path.split(path.rstrip(b"/"))
+        if name in (b"", b".", b".."):
+            return self._places.get(self._real(path))
+        parent = self._real(parent)
+        place = self._places.get(parent)
+        if place is not None:
+            return Path(place.folder, place.place, name)
+        return self._places.get(os.path.join(parent, name)) or self._places.get(self._real(path))
+
+    def holds(self, path: bytes) -> bool:
+        """Whether a judged directory is at a path or below it."""
+        real = self._real(path)
+        return any(place == real or place.startswith(real.rstrip(b"/") + b"/") for place in self._places)
+
+    def _real(self, directory: bytes) -> bytes:
+        if directory not in self._resolved:
+            self._resolved[directory] = self._resolve(directory)
+        return self._resolved[directory]
+
+
+def is_maildir(directory: bytes) -> bool:
+    """Whether a directory has the three places of a maildir."""
+    return all(os.path.isdir(os.path.join(directory, place.encode())) for place in PLACES)
+
+
+def named_folders(words: List[bytes], base: bytes) -> List[Folder]:
+    """The folders of words `DIR` or `NAME=DIR`. Without a name a folder has the last step of its directory's path."""
+    folders = []
+    for word in words:
+        name, is_named, directory = word.rpartition(b"=")
+        if is_named and os.path.isdir(os.path.join(base, word)):
+            name, directory = b"", word
+        directory = os.path.join(base, directory)
+        if not is_maildir(directory):
+            raise Refused(f"{os.fsdecode(word)}: is no maildir: it lacks tmp, new or cur")
+        folders.append(Folder(name or os.path.basename(os.path.abspath(directory)), directory))
+    return _told_apart(folders)
+
+
+def found_folders(base: bytes) -> List[Folder]:
+    """The maildirs at and below a directory, two steps deep at most."""
+    there = _directories(os.path.abspath(base), _MOST_DEEP)
+    found = [Folder(os.path.basename(directory), directory) for directory in there if is_maildir(directory)]
+    if not found:
+        raise Refused("there is no maildir here: name one by --folder DIR")
+    return _told_apart(found)
+
+
+def _directories(directory: bytes, deep: int) -> List[bytes]:
+    places = [place.encode() for place in PLACES]
+    with os.scandir(directory) as entries:
+        below = sorted(entry.path for entry in entries if entry.is_dir(follow_symlinks=False) and entry.name not in places)
+    return [directory] + ([each for child in below for each in _directories(child, deep - 1)] if deep else [])
+
+
+def _told_apart(folders: List[Folder]) -> List[Folder]:
+    names = [folder.name for folder in folders]
+    for name in names:
+        if names.count(name) > 1:
+            raise Refused(f"two folders are named {os.fsdecode(name)}: give names, by --folder NAME=DIR")
+    return folders
+
+
+class File(NamedTuple):
+    """A file that is there at the beginning, by all of its names, and the second of its last change."""
+
+    paths: Tuple[Path, ...]
+    stamp: int
+    is_regular: bool = True
+
+
+def files_of(folders: Iterable[Folder]) -> List[File]:
+    """The files that are in the folders now. Files of several names are told by device and number."""
+    found: Dict[Tuple[int, int], File] = {}
+    for folder in folders:
+        for place in PLACES:
+            with os.scandir(os.path.join(folder.directory, place.encode())) as entries:
+                for entry in sorted(entries, key=lambda each: each.name):
+                    _add(found, Path(folder.name, place, entry.name), entry)
+    return list(found.values())
+
+
+def _add(found: Dict[Tuple[int, int], File], path: Path, entry: os.DirEntry[bytes]) -> None:
+    try:
+        status = entry.stat(follow_symlinks=False)
+    except FileNotFoundError:
+        return
+    key = (status.st_dev, status.st_ino)
+    former = found.get(key)
+    paths = (*former.paths, path) if former else (path,)
+    found[key] = File(paths, max(0, int(status.st_mtime)), entry.is_file(follow_symlinks=False))
+
+
+def first_path(where: Union[Path, Place, None]) -> Optional[Path]:
+    """A file's path, where it is one."""
+    return where if isinstance(where, Path) else None

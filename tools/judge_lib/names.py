@@ -1,0 +1,46 @@
+"""Names of a maildir: what a log writes of them, and what they say of a message."""
+
+from __future__ import annotations
+
+import re
+from typing import FrozenSet, NamedTuple, Optional
+
+PLACES = ("tmp", "new", "cur")
+
+_ESCAPES = {b" ": b"\\s", b"\n": b"\\n", b"\r": b"\\r", b"\\": b"\\\\"}
+_FLAGS = re.compile(rb"2,([A-Za-z]*)", re.DOTALL)
+
+
+class Path(NamedTuple):
+    """A path of a file in a judged folder."""
+
+    folder: bytes
+    place: str
+    name: bytes
+
+    def word(self) -> bytes:
+        """The path as a log writes it."""
+        return b"/".join((escaped(self.folder), self.place.encode(), escaped(self.name)))
+
+    def is_message(self) -> bool:
+        """Whether the path makes its file a message."""
+        return self.place != "tmp" and not self.name.startswith(b".") and unique_of(self.name) != b""
+
+
+def escaped(name: bytes) -> bytes:
+    """A name as a log writes it."""
+    return re.sub(rb"[ \n\r\\]", lambda found: _ESCAPES[found[0]], name)
+
+
+def unique_of(name: bytes) -> bytes:
+    """The unique part of a name."""
+    return name.partition(b":")[0]
+
+
+def flags_of(name: bytes) -> Optional[FrozenSet[str]]:
+    """The flags that a name shows; None where what follows its colon is no `2,` and letters."""
+    _, colon, info = name.partition(b":")
+    if not colon:
+        return frozenset()
+    found = _FLAGS.fullmatch(info)
+    return frozenset(found[1].decode()) if found else None

@@ -1,0 +1,78 @@
+"""What scenes showed, as text and as the table of a page."""
+
+from __future__ import annotations
+
+import shlex
+import time
+from pathlib import Path
+from typing import List
+
+from .scene import Scene
+from .staging import Found, Outcome, trace_words
+from .tracing import version
+
+_HEAD = ["| Program | Scene | What the judge found | Shown by |", "|---|---|---|---|"]
+
+
+def system() -> str:
+    """This system's name."""
+    lines = Path("/etc/os-release").read_text(encoding="utf-8").splitlines()
+    return next((line.partition("=")[2].strip('"') for line in lines if line.startswith("PRETTY_NAME=")), "this system")
+
+
+def ran_here() -> str:
+    """When and where scenes were run."""
+    return f"Run on {time.strftime('%-d %B %Y', time.gmtime())} on {system()}, with {version()}."
+
+
+def text(outcome: Outcome) -> List[str]:
+    """An outcome for people."""
+    scene = outcome.scene
+    head = f"{scene.name}: {scene.program} ({scene.package} {outcome.version}) {scene.about}"
+    if not outcome.found:
+        return [head, f"  nothing{_of_runs(outcome)}{_unjudged(outcome)}"]
+    return [head, *(f"  {each.clause}{_share(each, outcome)}: {each.sentence}: {each.line}" for each in outcome.found)]
+
+
+def markdown(outcomes: List[Outcome]) -> List[str]:
+    """The table, a row for each scene."""
+    return [ran_here(), "", *_HEAD, *(_row(outcome) for outcome in outcomes)]
+
+
+def _row(outcome: Outcome) -> str:
+    scene = outcome.scene
+    found = "; ".join(f"`{each.clause}`{_share(each, outcome)}, {each.sentence}: `{_short(each.line)}`" for each in outcome.found)
+    cell = found or f"nothing{_of_runs(outcome)}"
+    program = scene.program if "'" in scene.program else f"`{scene.program}`"
+    return f"| {program}, {scene.package} {outcome.version} | {scene.about} | {cell}{_unjudged(outcome)} | `tools/scenes {scene.name}` |"
+
+
+def _share(found: Found, outcome: Outcome) -> str:
+    return "" if outcome.scene.beside is None else f" in {found.runs} of {outcome.runs} interleavings"
+
+
+def _of_runs(outcome: Outcome) -> str:
+    if outcome.scene.beside is None:
+        return ""
+    return f" in {outcome.runs} interleavings" + ("" if outcome.is_whole else ", and there are more")
+
+
+def _unjudged(outcome: Outcome) -> str:
+    """Whether nothing was taken to be claimed, so that GaveUp and AnsweredFalsely were not judged."""
+    return "" if outcome.scene.claims else " (no claims)"
+
+
+def _short(line: str) -> str:
+    """A line of a log, with what is long in it cut."""
+    return line.replace("|", "\\|") if len(line) <= 90 else line[:87].replace("|", "\\|") + ".."
+
+
+def repeated(scene: Scene) -> List[str]:
+    """The commands that a user can type to repeat a scene."""
+    words = shlex.join(trace_words(scene))
+    if scene.beside is not None:
+        return [f"# {scene.name}: {scene.program} {scene.about}", "tools/explore --setup " + shlex.quote("\n".join(scene.setup)) + " \\",
+                f"  {words}{' ' if words else ''}{shlex.quote(scene.command)} {shlex.quote(scene.beside)}"]
+    whose = ", as another user than root" if scene.is_unprivileged else ""
+    return [f"# {scene.name}: {scene.program} {scene.about}; in an empty directory{whose}", *scene.setup,
+            f"tools/trace {words}{' ' if words else ''}-o log sh -c {shlex.quote(scene.command)}", "maildir_judge < log"]

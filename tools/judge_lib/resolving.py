@@ -1,0 +1,323 @@
+"""Makes steps of calls: which of a call's paths lie in judged folders, and what it did there."""
+
+from __future__ import annotations
+
+import re
+from typing import Callable, Dict, Iterator, List, Optional, Set, Union
+
+from .arguments import Descriptor, read_descriptor, read_string, shown_names, split
+from .folders import Folders, Place, first_path
+from .names import Path
+from .processes import OpenFile, Process, Processes, Turn
+from .steps import FlushAll, FromOutside, Name, OnFile, Open, OpenPlace, Read, Step, Unlink, Unsaid, When, text_of
+from .strace_lines import STARTS, Begun, Call, Ended, Event, Starting, Unread
+
+_OF_DESCRIPTOR = re.compile(rb"/(?:proc/(?:self|\d+)|dev)/fd/(\d+)")
+_WRITES = {"write": 0, "pwrite64": 0, "writev": 0, "pwritev": 0, "pwritev2": 0, "ftruncate": 0, "fallocate": 0, "sendfile": 0,
+           "copy_file_range": 2, "splice": 2}
+# These may write nothing at all, and then change nothing.
+_COUNTED = set(_WRITES) - {"ftruncate", "fallocate"}
+
+Where = Union[Path, Place, None]
+
+
+class Resolver:
+    """Reads events in the order of their ends, and gives the steps of each."""
+
+    def __init__(self, folders: Folders, processes: Processes, ended: Callable[[str, Ended], Iterator[Step]]) -> None:
+        self._folders, self._processes, self._ended = folders, processes, ended
+        self._said: Set[str] = set()
+        self._by_name: Dict[str, Callable[[_Made], Iterator[Step]]] = {
+            **{name: self._start for name in STARTS},
+            **{name: self._program for name in ("execve", "execveat")},
+            "chdir": self._change_directory, "fchdir": self._change_directory, "chroot": self._unseen,
+            **{name: self._open for name in ("open", "openat", "openat2", "creat")},
+            **{name: self._copy for name in ("dup", "dup2", "dup3", "fcntl")}, "close": self._close, "close_range": self._close_range,
+            "lseek": self._seek, "getdents": self._read, "getdents64": self._read,
+            **{name: self._write for name in _WRITES}, "truncate": self._truncate, "mmap": self._map,
+            "fsync": self._flush, "fdatasync": self._flush, "sync": self._flush_all, "syncfs": self._unseen,
+            "link": self._link, "linkat": self._link, "rename": self._rename, "renameat": self._rename, "renameat2": self._rename,
+            "unlink": self._unlink, "unlinkat": self._unlink, "rmdir": self._unlink,
+            **{name: self._make for name in ("symlink", "symlinkat", "mknod", "mknodat", "mkdir", "mkdirat")},
+            "io_uring_setup": self._unseen,
+        }
+
+    def steps(self, event: Event) -> Iterator[Step]:
+        """The steps of an event: none where it is none of the judged folders'."""
+        if isinstance(event, Unread):
+            when = When("", event.end, event.end, 0)
+            yield Unsaid(when, f"line {event.end} of the trace: {event.text[:200]}")
+        elif isinstance(event, Ended):
+            yield from self._end(event)
+        elif isinstance(event, Starting):
+            self._processes.start(event.pid, event.arguments)
+        elif isinstance(event, Begun):
+            yield from self._begun(event)
+        elif isinstance(event, Call) and not event.is_undone() and event.name in self._by_name:
+            made = _Made(event, self._processes.of(event.pid))
+            if event.error == "ENAMETOOLONG":
+                yield Unsaid(made.when, f"{event.name} of a name that is too long")
+                return
+            yield from self._by_name[event.name](made)
+
+    def _end(self, event: Ended) -> Iterator[Step]:
+        self._processes.of(event.pid)
+        actor = self._processes.answering.get(event.pid)
+        if actor is not None:
+            yield from self._ended(actor, event)
+
+    def _begun(self, event: Begun) -> Iterator[Step]:
+        made = _Made(Call(event.pid, event.begin, event.end, event.moment, event.name, event.arguments, None, "EINTR", None),
+                     self._processes.of(event.pid))
+        if event.name in ("exit_group", "execve", "mmap", "close") or not self._touches(made):
+            return
+        yield Unsaid(made.when, f"whether {event.name} took effect before its process ended")
+
+    def _touches(self, made: _Made) -> bool:
+        """Whether a call names anything of the judged folders."""
+        paths = [made.path_of(number) for number in range(len(made.words))]
+        descriptors = [read_descriptor(word) for word in made.words]
+        paths += [each.path for each in descriptors if each is not None and each.number is not None]
+        return any(path is not None and self._folders.where(path) is not None for path in paths)
+
+    # Processes and descriptors
+
+    def _start(self, made: _Made) -> Iterator[Step]:
+        if made.call.result:
+            self._processes.expect(made.call.result, made.call.pid, made.call.arguments)
+            self._processes.of(made.call.result)
+        return iter(())
+
+    def _program(self, made: _Made) -> Iterator[Step]:
+        program = read_string(made.words[1 if made.call.name == "execveat" else 0])
+        if made.is_ok():
+            self._processes.start_program(made.call.pid, program or b"?")
+        return iter(())
+
+    def _change_directory(self, made: _Made) -> Iterator[Step]:
+        path = made.descriptor_path(0) if made.call.name == "fchdir" else made.path(0)
+        if made.is_ok() and path is not None:
+            made.process.directory = path
+        return iter(())
+
+    def _unseen(self, made: _Made) -> Iterator[Step]:
+        """A call after which this tracer may see too little. It is said once."""
+        if made.is_ok() and made.call.name not in self._said:
+            self._said.add(made.call.name)
+            what = {"chroot": "paths after chroot", "syncfs": "which files syncfs flushes"}
+            yield Unsaid(made.when, what.get(made.call.name, "calls that are made by io_uring"))
+
+    def _copy(self, made: _Made) -> Iterator[Step]:
+        is_copy = made.call.name != "fcntl" or made.words[1].startswith("F_DUPFD")
+        descriptor = read_descriptor(made.words[0])
+        if is_copy and made.is_ok() and descriptor is not None and made.call.result is not None:
+            made.process.table.pop(made.call.result, None)
+            if descriptor.number in made.process.table:
+                made.process.table[made.call.result] = made.process.table[descriptor.number]
+        return iter(())
+
+    def _close(self, made: _Made) -> Iterator[Step]:
+        descriptor = read_descriptor(made.words[0])
+        if descriptor is not None:
+            made.process.table.pop(descriptor.number, None)
+        return iter(())
+
+    def _close_range(self, made: _Made) -> Iterator[Step]:
+        first, last = (int(word, 0) for word in made.words[:2])
+        if "CLOEXEC" not in made.call.arguments:
+            for number in [each for each in made.process.table if first <= each <= last]:
+                del made.process.table[number]
+        return iter(())
+
+    # Files
+
+    def _open(self, made: _Made) -> Iterator[Step]:
+        name = made.call.name
+        at = 0 if name in ("open", "creat") else 1
+        path = made.path(at, None if at == 0 else 0)
+        flags = "O_CREAT|O_TRUNC" if name == "creat" else made.words[at + 1]
+        opened = OpenFile(is_sync=re.search(r"\bO_D?SYNC\b", flags) is not None)
+        if made.is_ok() and made.call.result is not None:
+            made.process.table[made.call.result] = opened
+        where = self._where(path)
+        if "O_TMPFILE" in flags:
+            return
+        if isinstance(where, Place):
+            opened.place = where
+            yield OpenPlace(made.when)
+        elif where is not None:
+            yield Open(made.when, where, made.call.reply(), flags, opened)
+
+    def _write(self, made: _Made) -> Iterator[Step]:
+        if made.is_ok() and made.call.result == 0 and made.call.name in _COUNTED:
+            return
+        yield from self._on_file(made, "write", _WRITES[made.call.name])
+
+    def _flush(self, made: _Made) -> Iterator[Step]:
+        yield from self._on_file(made, "flush", 0)
+
+    def _on_file(self, made: _Made, word: str, number: int) -> Iterator[Step]:
+        descriptor = read_descriptor(made.words[number])
+        if descriptor is None or descriptor.path is None:
+            return
+        opened, where = made.process.table.get(descriptor.number), self._where(descriptor.path)
+        if where is None and opened is None or isinstance(where, Place):
+            return
+        yield OnFile(made.when, word, made.call.reply(), opened, first_path(where), descriptor.is_deleted)
+
+    def _truncate(self, made: _Made) -> Iterator[Step]:
+        where = first_path(self._where(made.path(0)))
+        if where is not None:
+            yield OnFile(made.when, "write", made.call.reply(), None, where, False)
+
+    def _map(self, made: _Made) -> Iterator[Step]:
+        if "MAP_SHARED" not in made.words[3] or "PROT_WRITE" not in made.words[2] or not made.is_ok():
+            return
+        descriptor = read_descriptor(made.words[4])
+        if descriptor is not None and descriptor.path is not None and first_path(self._where(descriptor.path)) is not None:
+            yield Unsaid(made.when, f"writes through memory to {text_of(descriptor)}")
+
+    def _flush_all(self, made: _Made) -> Iterator[Step]:
+        yield FlushAll(made.when)
+
+    # Directories
+
+    def _seek(self, made: _Made) -> Iterator[Step]:
+        opened = self._opened_place(made)
+        if opened is not None and made.words[1:] != ["0", "SEEK_CUR"]:
+            opened.turn = Turn()
+            opened.turn.is_dropped = made.words[1] != "0"
+        return iter(())
+
+    def _read(self, made: _Made) -> Iterator[Step]:
+        opened = self._opened_place(made)
+        if opened is None or opened.place is None:
+            return
+        is_end = made.call.result == 0
+        if opened.turn.is_read_to_end:
+            if not is_end:
+                yield Unsaid(made.when, f"what a reading of {opened.place.place} showed after its end")
+            return
+        opened.turn.is_read_to_end = is_end
+        reply = "ok" if is_end else "more" if made.is_ok() else made.call.reply()
+        part = Read(made.when, opened.place, "fault" if reply == "exists" else reply, shown_names(made.call.arguments), opened.turn)
+        opened.turn.parts.append(part)
+        opened.turn.parts[0].is_whole = is_end and len(opened.turn.parts) <= 2
+        yield part
+
+    def _opened_place(self, made: _Made) -> Optional[OpenFile]:
+        """The open directory of a call, one that was open before the trace too."""
+        descriptor = read_descriptor(made.words[0])
+        if descriptor is None or descriptor.number is None or descriptor.path is None:
+            return None
+        where = self._where(descriptor.path)
+        if not isinstance(where, Place):
+            return None
+        opened = made.process.table.setdefault(descriptor.number, OpenFile())
+        opened.place = where
+        return opened
+
+    # Names
+
+    def _link(self, made: _Made) -> Iterator[Step]:
+        is_at = made.call.name == "linkat"
+        old = made.path(1, 0) if is_at else made.path(0)
+        new = made.path(3, 2) if is_at else made.path(1)
+        if old is not None and _OF_DESCRIPTOR.fullmatch(old) or is_at and "AT_EMPTY_PATH" in made.words[4]:
+            yield from self._link_open_file(made, old, new)
+            return
+        yield from self._named(made, "link", old, new)
+
+    def _link_open_file(self, made: _Made, old: Optional[bytes], new: Optional[bytes]) -> Iterator[Step]:
+        """A link to an open file, by its descriptor: it has a name already, or comes from outside."""
+        found = _OF_DESCRIPTOR.fullmatch(old or b"")
+        at = read_descriptor(made.words[0])
+        number = int(found[1]) if found else at.number if at else None
+        opened = made.process.table.get(number) if number is not None else None
+        if opened is not None and opened.file is not None:
+            if first_path(self._where(new)) is not None:
+                yield Unsaid(made.when, "a link to a file by its descriptor")
+            return
+        yield from self._named(made, "link", b"/", new)
+
+    def _rename(self, made: _Made) -> Iterator[Step]:
+        is_at = made.call.name != "rename"
+        old = made.path(1, 0) if is_at else made.path(0)
+        new = made.path(3, 2) if is_at else made.path(1)
+        flags = made.words[4] if made.call.name == "renameat2" else "0"
+        if made.is_ok() and ("RENAME_EXCHANGE" in flags or "RENAME_WHITEOUT" in flags):
+            if self._where(old) is not None or self._where(new) is not None:
+                yield Unsaid(made.when, f"a rename with {flags}: what the log says after it may be wrong")
+            return
+        # What RENAME_NOREPLACE refuses is what link refuses, and what it does is what rename does.
+        yield from self._named(made, "link" if made.call.reply() == "exists" else "rename", old, new)
+
+    def _named(self, made: _Made, word: str, old: Optional[bytes], new: Optional[bytes]) -> Iterator[Step]:
+        where_old, where_new, reply = self._where(old), self._where(new), made.call.reply()
+        if reply == "ok" and any(path is not None and self._is_directory(path) for path in (old, new)):
+            yield Unsaid(made.when, f"a {word} of a judged directory: what the log says after it may be wrong")
+            return
+        paths = first_path(where_old), first_path(where_new)
+        if paths[0] is not None and paths[1] is not None:
+            yield Name(made.when, word, paths[0], paths[1], reply)
+        elif paths[1] is not None:
+            yield FromOutside(made.when, paths[1], reply, replaces=word == "rename")
+        elif paths[0] is not None and word == "rename":
+            yield Unlink(made.when, paths[0], reply)
+
+    def _unlink(self, made: _Made) -> Iterator[Step]:
+        is_at = made.call.name == "unlinkat"
+        path = made.path(1, 0) if is_at else made.path(0)
+        is_directory = made.call.name == "rmdir" or is_at and "AT_REMOVEDIR" in made.words[2]
+        where = self._where(path)
+        if isinstance(where, Path):
+            if is_directory and made.is_ok():
+                yield Unsaid(made.when, f"{made.call.name} of a directory: the next line says it as a file")
+            yield Unlink(made.when, where, made.call.reply())
+        elif made.is_ok() and path is not None and (where is not None or self._is_directory(path)):
+            yield Unsaid(made.when, f"{made.call.name} of a directory: {path.decode('utf-8', 'replace')}")
+
+    def _make(self, made: _Made) -> Iterator[Step]:
+        name = made.call.name
+        at = {"symlink": 1, "symlinkat": 2, "mknod": 0, "mkdir": 0}.get(name, 1)
+        path = made.path(at, at - 1 if name.endswith("at") else None)
+        where = first_path(self._where(path))
+        if where is not None:
+            if made.is_ok():
+                yield Unsaid(made.when, f"{name}: the next line says it as a file")
+            yield FromOutside(made.when, where, made.call.reply(), replaces=False, is_empty=True)
+
+    def _where(self, path: Optional[bytes]) -> Where:
+        return None if path is None else self._folders.where(path)
+
+    def _is_directory(self, path: bytes) -> bool:
+        return self._folders.holds(path)
+
+
+class _Made:
+    """A call with its process and its arguments."""
+
+    def __init__(self, call: Call, process: Process) -> None:
+        self.call, self.process = call, process
+        self.words: List[str] = split(call.arguments) if not call.name.startswith("getdents") else call.arguments.split(",", 1)
+        self.when = When(process.actor, call.begin, call.end, call.moment)
+
+    def is_ok(self) -> bool:
+        """Whether the call succeeded."""
+        return self.call.error is None
+
+    def path(self, number: int, at: Optional[int] = None) -> Optional[bytes]:
+        """An argument that is a path, from the root."""
+        text = read_string(self.words[number]) if number < len(self.words) else None
+        base: Optional[Descriptor] = read_descriptor(self.words[at]) if at is not None else None
+        return None if text is None else self.process.path(text, base)
+
+    def path_of(self, number: int) -> Optional[bytes]:
+        """An argument that may be a path, after a descriptor or not."""
+        at = number - 1 if number and read_descriptor(self.words[number - 1]) is not None else None
+        return self.path(number, at)
+
+    def descriptor_path(self, number: int) -> Optional[bytes]:
+        """The path of an argument that is an open file."""
+        descriptor = read_descriptor(self.words[number])
+        return None if descriptor is None else descriptor.path

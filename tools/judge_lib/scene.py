@@ -1,0 +1,87 @@
+"""Scenes: what real programs do in a maildir, each in a file of a few lines `WORD TEXT` that a user can repeat."""
+
+from __future__ import annotations
+
+import re
+import shutil
+import subprocess
+from pathlib import Path
+from typing import Dict, List, NamedTuple, Optional
+
+from .refused import Refused
+
+FOLDER = Path(__file__).resolve().parent.parent / "scenes.d"
+ENDING = ".scene"
+_LINE = re.compile(r"([a-z]+) +(.*)")
+_ONCE = ("package", "program", "runs", "scene", "needs", "trace", "explore", "beside", "status", "user")
+_MANY = ("setup", "claims", "fail")
+
+
+class Scene(NamedTuple):
+    """A scene: the package of its program, what is made before, and the command, or the two of which every interleaving is run."""
+
+    name: str
+    package: str
+    program: str
+    runs: str
+    about: str
+    needs: List[str]
+    setup: List[str]
+    claims: List[str]
+    fail: List[str]
+    command: str
+    beside: Optional[str]
+    status: int
+    is_unprivileged: bool
+
+    def packages(self) -> List[str]:
+        """All packages that it needs."""
+        return [self.package, *self.needs]
+
+    def lacks(self) -> List[str]:
+        """Those of its packages that are not installed."""
+        return [package for package in self.packages() if version_of(package) is None]
+
+
+def read_scene(path: Path) -> Scene:
+    """Reads the file of a scene."""
+    once: Dict[str, str] = {}
+    many: Dict[str, List[str]] = {word: [] for word in _MANY}
+    for number, line in enumerate(path.read_text(encoding="utf-8").splitlines(), 1):
+        if not line or line.startswith("#"):
+            continue
+        found = _LINE.fullmatch(line)
+        word = found[1] if found else ""
+        if found and word in many:
+            many[word].append(found[2])
+        elif found and word in _ONCE and word not in once:
+            once[word] = found[2]
+        else:
+            raise Refused(f"{path.name}: line {number}: is no line of a scene: {line}")
+    has_command = ("trace" in once) != ("explore" in once) and ("explore" in once) == ("beside" in once)
+    if not has_command or not {"package", "program", "scene"} <= set(once):
+        raise Refused(f"{path.name}: needs package, program, scene, and either trace or explore and beside")
+    return Scene(
+        name=path.name.removesuffix(ENDING), package=once["package"], program=once["program"],
+        runs=once.get("runs", once["program"].split(" ")[0]), about=once["scene"], needs=once.get("needs", "").split(),
+        setup=many["setup"], claims=many["claims"], fail=many["fail"], command=once.get("trace") or once.get("explore") or "",
+        beside=once.get("beside"), status=int(once.get("status", "0")), is_unprivileged="user" in once,
+    )
+
+
+def read_scenes(names: List[str], folder: Path = FOLDER) -> List[Scene]:
+    """The scenes of these names, or all of them."""
+    there = sorted(path.name.removesuffix(ENDING) for path in folder.glob("*" + ENDING))
+    for name in names:
+        if name not in there:
+            raise Refused(f"there is no scene {name}; --list names them")
+    return [read_scene(folder / (name + ENDING)) for name in names or there]
+
+
+def version_of(package: str) -> Optional[str]:
+    """The version of an installed package of a Debian system; None where it is not installed."""
+    if shutil.which("dpkg-query") is None:
+        raise Refused("scenes need a system with Debian's packages: there is no dpkg-query")
+    run = subprocess.run(["dpkg-query", "-W", "-f", "${db:Status-Abbrev} ${Version}", package], capture_output=True, text=True, check=False)
+    status, _, version = run.stdout.partition(" ")
+    return version.split()[-1] if run.returncode == 0 and status.startswith("ii") else None

@@ -1,0 +1,117 @@
+"""The command line of `tools/scenes`."""
+
+from __future__ import annotations
+
+import argparse
+import os
+import subprocess
+import sys
+from typing import List, Optional, Sequence
+
+from .exploring import Bounds
+from .judge_run import judge_program
+from .outcomes import markdown, repeated, text
+from .refused import Refused
+from .scene import Scene, read_scenes, version_of
+from .staging import Outcome, stage
+from .tracing import strace
+
+_ABOUT = """\
+Runs scenes of real mail programs, of Debian's packages, and says what
+maildir_judge finds in each. Each scene is a file of tools/scenes.d, and runs
+in an empty directory of its own. A program that isn't installed is named, and
+its scenes are left out.
+"""
+
+_MORE = """\
+status:
+  0    all scenes that were asked for were run, or left out as not installed
+  1    a scene could not be run
+  2    refused: wrong words, no strace, no judge
+"""
+
+
+def _options() -> argparse.ArgumentParser:
+    form = argparse.RawDescriptionHelpFormatter
+    parser = argparse.ArgumentParser(prog="tools/scenes", description=_ABOUT, epilog=_MORE, formatter_class=form)
+    parser.add_argument("--markdown", action="store_true", help="prints the table of the page docs/JUDGED.md")
+    parser.add_argument("--list", action="store_true", help="names the scenes, and runs nothing")
+    parser.add_argument("--print", action="store_true", help="prints the commands that repeat each scene, and runs nothing")
+    parser.add_argument("--install", action="store_true", help="prints the command that installs the packages which are lacking")
+    parser.add_argument("--install-now", action="store_true", help="runs that command, as root")
+    parser.add_argument("--logs", metavar="DIR", help="keeps the log of each scene in DIR")
+    parser.add_argument("--runs", type=int, default=1000, metavar="N", help="at most so many runs of two commands (1000)")
+    parser.add_argument("--seconds", type=float, default=120, metavar="N", help="at most so many seconds for two commands (120)")
+    parser.add_argument("names", nargs="*", metavar="SCENE", help="which scenes; without any, all")
+    return parser
+
+
+def main(words: Optional[Sequence[str]] = None) -> int:
+    """Does what the words say, and answers the status."""
+    options = _options().parse_args(words)
+    try:
+        scenes = read_scenes(options.names)
+        if options.list or options.print:
+            for scene in scenes:
+                print("\n".join(repeated(scene)) if options.print else f"{scene.name:<26} {scene.program} {scene.about}")
+            return 0
+        if options.install or options.install_now:
+            return _install(scenes, options.install_now)
+        strace()
+        judge_program()
+        return _run(scenes, options)
+    except (Refused, OSError) as error:
+        print(f"scenes: {error}", file=sys.stderr)
+        return 2
+    except KeyboardInterrupt:
+        return 130
+
+
+def _install(scenes: List[Scene], is_now: bool) -> int:
+    lacking = list(dict.fromkeys(package for scene in scenes for package in scene.lacks()))
+    words = ["apt-get", "install", "--yes", "--no-install-recommends", *lacking]
+    if not lacking:
+        print("all packages are installed")
+        return 0
+    print(" ".join(words), flush=True)
+    return subprocess.run(words, check=False).returncode if is_now else 0
+
+
+def _run(scenes: List[Scene], options: argparse.Namespace) -> int:
+    outcomes, has_failed = [], False
+    for scene in scenes:
+        lacking = scene.lacks()
+        if lacking:
+            _say(f"{scene.name}: left out: not installed: {' '.join(lacking)}")
+            continue
+        try:
+            outcome = stage(scene, version_of(scene.package) or "", Bounds(options.runs, options.seconds), _tell)
+        except Refused as error:
+            _say(str(error))
+            has_failed = True
+            continue
+        outcomes.append(outcome)
+        _keep(outcome, options.logs)
+        _say("" if options.markdown else "\n".join(text(outcome)))
+    if options.markdown:
+        print("\n".join(markdown(outcomes)))
+    return 1 if has_failed else 0
+
+
+def _keep(outcome: Outcome, folder: Optional[str]) -> None:
+    if folder is not None and outcome.log:
+        os.makedirs(folder, exist_ok=True)
+        with open(os.path.join(folder, outcome.scene.name + ".log"), "wb") as file:
+            file.write(outcome.log)
+
+
+def _tell(words: str) -> None:
+    if sys.stderr.isatty():
+        print(f"\r{words}\033[K", end="", file=sys.stderr, flush=True)
+
+
+def _say(words: str) -> None:
+    _tell("")
+    if words:
+        is_outcome = "\n" in words
+        print(words if is_outcome else f"scenes: {words}", file=sys.stdout if is_outcome else sys.stderr, flush=True)

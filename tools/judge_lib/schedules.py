@@ -1,0 +1,60 @@
+"""Every order in which two commands can make their directory calls, one run after the other."""
+
+from __future__ import annotations
+
+from typing import List, NamedTuple, Optional, Protocol
+
+from .stopping import SIDES, Went
+
+
+class Commands(Protocol):
+    """Two commands that go on one call at a time."""
+
+    def has_ended(self, side: str) -> bool:
+        """Whether a command has ended."""
+
+    def go_on(self, side: str) -> Went:
+        """Has a command make its next call, or end."""
+
+
+class Choice(NamedTuple):
+    """Which command went on, whether the other one could have, and what came of it."""
+
+    side: str
+    is_free: bool
+    went: Went
+
+
+class Played(NamedTuple):
+    """A run: its choices, and the order of the calls, as in AAB."""
+
+    choices: List[Choice]
+    order: str
+    waits: bool
+
+
+def play(commands: Commands, prefix: str) -> Played:
+    """Goes on as the prefix says, and after it with the first command that has not ended."""
+    choices: List[Choice] = []
+    while not all(commands.has_ended(side) for side in SIDES):
+        open_sides = [side for side in SIDES if not commands.has_ended(side)]
+        wanted = prefix[len(choices):len(choices) + 1]
+        side = wanted if wanted in open_sides else open_sides[0]
+        went = commands.go_on(side)
+        choices.append(Choice(side, len(open_sides) == 2, went))
+        if went is Went.WAITS:
+            return Played(choices, _order(choices), True)
+    return Played(choices, _order(choices), False)
+
+
+def next_prefix(played: Played) -> Optional[str]:
+    """The prefix of the next run: the last choice of A where B could have gone on. An end without a call could have come at any time."""
+    for number in range(len(played.choices) - 1, -1, -1):
+        choice = played.choices[number]
+        if choice.is_free and choice.side == SIDES[0] and choice.went is Went.CALLED:
+            return "".join(each.side for each in played.choices[:number]) + SIDES[1]
+    return None
+
+
+def _order(choices: List[Choice]) -> str:
+    return "".join(choice.side for choice in choices if choice.went is Went.CALLED)

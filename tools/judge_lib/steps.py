@@ -1,0 +1,310 @@
+"""The steps of a log: each fits the directories or not, and says its lines as it is taken."""
+
+from __future__ import annotations
+
+from typing import Callable, List, NamedTuple, Optional, Tuple, Union
+
+from .arguments import Descriptor
+from .directories import Directories
+from .folders import Place
+from .names import Path, escaped
+from .processes import OpenFile, Turn
+
+
+class Line(NamedTuple):
+    """A line of a log. One with no actor is a comment. The ticks are lines of the trace, where the call overlaps another."""
+
+    moment: int
+    actor: Optional[str]
+    text: bytes
+    ticks: Optional[Tuple[int, int]] = None
+
+    def encoded(self) -> bytes:
+        """The line as it is written."""
+        if self.actor is None:
+            return b"# " + self.text.replace(b"\r", b"\\r").replace(b"\n", b"\\n")
+        ticks = b"" if self.ticks is None else b"@%d..%d" % self.ticks
+        return b"%d%b %b %b" % (self.moment, ticks, self.actor.encode(), self.text)
+
+
+class When(NamedTuple):
+    """Who made a call, between which lines of the trace, and when it returned."""
+
+    actor: str
+    begin: int
+    end: int
+    moment: int
+
+
+class Step:
+    """One call. `fits` says whether the directories would give its reply."""
+
+    # Whether it reads or changes names, so that its place among the steps of others matters.
+    is_of_directories = True
+
+    def __init__(self, when: When) -> None:
+        self.when = when
+        # Whether it overlaps another step, so that its lines have ticks.
+        self.overlaps = False
+
+    def fits(self, directories: Directories) -> bool:
+        """Whether the call may take effect now."""
+        return True
+
+    def take(self, directories: Directories) -> List[Line]:
+        """Takes effect, and gives its lines."""
+        raise NotImplementedError
+
+    def line(self, *words: Union[str, bytes, Path]) -> Line:
+        """A line of the call."""
+        return Line(self.when.moment, self.when.actor, b" ".join(_word(word) for word in words), self.ticks())
+
+    def ticks(self) -> Optional[Tuple[int, int]]:
+        """Between which lines of the trace the call took effect, where that matters."""
+        return (self.when.begin, self.when.end) if self.overlaps else None
+
+    def comment(self, text: str) -> Line:
+        """A line that says what can't be said."""
+        return Line(self.when.moment, None, f"not said: {text}".encode("utf-8", "surrogateescape"))
+
+
+def _word(word: Union[str, bytes, Path]) -> bytes:
+    if isinstance(word, Path):
+        return word.word()
+    return word.encode() if isinstance(word, str) else word
+
+
+class Unsaid(Step):
+    """A call that the language has no words for."""
+
+    def __init__(self, when: When, text: str) -> None:
+        super().__init__(when)
+        self._text = text
+
+    def take(self, directories: Directories) -> List[Line]:
+        return [self.comment(self._text)]
+
+
+class Open(Step):
+    """`open` of a path in a place."""
+
+    def __init__(self, when: When, path: Path, reply: str, flags: str, opened: OpenFile) -> None:
+        super().__init__(when)
+        self._path, self._reply, self._opened = path, reply, opened
+        self._makes = "O_CREAT" in flags
+        self._is_exclusive = self._makes and "O_EXCL" in flags
+        self._empties = "O_TRUNC" in flags
+
+    def fits(self, directories: Directories) -> bool:
+        is_there = self._path in directories.names
+        if self._reply == "ok":
+            return not is_there if self._is_exclusive else is_there or self._makes
+        if self._reply == "exists":
+            return is_there
+        return self._reply != "notfound" or not is_there
+
+    def take(self, directories: Directories) -> List[Line]:
+        file = directories.names.get(self._path)
+        if self._reply != "ok":
+            word = "create" if self._makes else "write" if self._empties else None
+            return [self.line(word, self._path, self._reply)] if word else []
+        if self._makes and (file is None or self._is_exclusive):
+            self._set(directories, directories.new_file())
+            return [self.line("create", self._path, "ok")]
+        if file is None:
+            return [self.comment(f"{self._path.word().decode('utf-8', 'replace')} was opened, and the log doesn't have it")]
+        self._set(directories, file, is_new=False)
+        if self._empties:
+            directories.set_unflushed(file, self.when.actor)
+            return [self.line("write", self._path, "ok")]
+        return []
+
+    def _set(self, directories: Directories, file: int, is_new: bool = True) -> None:
+        former, opened = self._opened.file, self._opened
+        opened.file = file
+        directories.undone_by(lambda: setattr(opened, "file", former))
+        if is_new:
+            directories.put(self._path, file)
+
+
+class OpenPlace(Step):
+    """A directory is opened: what is read of it then is a step of its own."""
+
+    def take(self, directories: Directories) -> List[Line]:
+        return []
+
+
+class OnFile(Step):
+    """A call on an open file: a write or a flush. Its line has any path that the file has."""
+
+    is_of_directories = False
+
+    def __init__(self, when: When, word: str, reply: str, opened: Optional[OpenFile], at: Optional[Path], is_deleted: bool) -> None:
+        super().__init__(when)
+        self._word, self._reply, self._opened = word, reply, opened
+        self._at, self._is_deleted = at, is_deleted
+
+    def _file(self, directories: Directories) -> Optional[int]:
+        if self._opened is not None and self._opened.file is not None:
+            return self._opened.file
+        if self._at is None:
+            return None
+        return directories.last_of(self._at) if self._is_deleted else directories.names.get(self._at)
+
+    def take(self, directories: Directories) -> List[Line]:
+        file = self._file(directories)
+        path = directories.path_of(file)
+        if file is None or path is None:
+            return []
+        lines = [self.line(self._word, path, self._reply)]
+        if self._reply == "ok":
+            directories.set_unflushed(file, self.when.actor if self._word == "write" else None)
+            if self._word == "write" and self._opened is not None and self._opened.is_sync:
+                directories.set_unflushed(file, None)
+                lines.append(self.line("flush", path, "ok"))
+        return lines
+
+
+class FlushAll(Step):
+    """`sync`: it flushes every file."""
+
+    is_of_directories = False
+
+    def take(self, directories: Directories) -> List[Line]:
+        lines = []
+        for file in list(directories.unflushed):
+            directories.set_unflushed(file, None)
+            path = directories.path_of(file)
+            if path is not None:
+                lines.append(self.line("flush", path, "ok"))
+        return lines
+
+
+class Unlink(Step):
+    """`unlink`, and a rename to a path outside."""
+
+    def __init__(self, when: When, path: Path, reply: str) -> None:
+        super().__init__(when)
+        self._path, self._reply = path, reply
+
+    def fits(self, directories: Directories) -> bool:
+        is_there = self._path in directories.names
+        return {"ok": is_there, "notfound": not is_there}.get(self._reply, True)
+
+    def take(self, directories: Directories) -> List[Line]:
+        if self._reply == "ok":
+            directories.take(self._path)
+        return [self.line("unlink", self._path, self._reply)]
+
+
+class Name(Step):
+    """`link` or `rename` inside."""
+
+    def __init__(self, when: When, word: str, old: Path, new: Path, reply: str) -> None:
+        super().__init__(when)
+        self._word, self._old, self._new, self._reply = word, old, new, reply
+
+    def fits(self, directories: Directories) -> bool:
+        has_old, has_new = self._old in directories.names, self._new in directories.names
+        if self._reply == "ok":
+            return has_old and (self._word == "rename" or not has_new)
+        return {"notfound": not has_old, "exists": has_new}.get(self._reply, True)
+
+    def take(self, directories: Directories) -> List[Line]:
+        file = directories.names.get(self._old)
+        if self._reply == "ok" and file is not None and directories.names.get(self._new) != file:
+            directories.put(self._new, file)
+            if self._word == "rename":
+                directories.take(self._old)
+        return [self.line(self._word, self._old, self._new, self._reply)]
+
+
+class FromOutside(Step):
+    """A file that comes to a path in a place from outside, whole and flushed as far as the log says."""
+
+    def __init__(self, when: When, new: Path, reply: str, replaces: bool, is_empty: bool = False) -> None:
+        super().__init__(when)
+        self._new, self._reply, self._replaces, self._is_empty = new, reply, replaces, is_empty
+
+    def fits(self, directories: Directories) -> bool:
+        is_there = self._new in directories.names
+        if self._reply == "ok":
+            return self._replaces or not is_there
+        return self._reply != "exists" or is_there
+
+    def take(self, directories: Directories) -> List[Line]:
+        if self._reply == "notfound":
+            return []
+        if self._reply != "ok":
+            return [self.line("create", self._new, self._reply)]
+        file = directories.new_file()
+        if self._new not in directories.names:
+            directories.put(self._new, file)
+            return self._lines(self._new)
+        # The language has no line for it: a file of tmp that no program made stands for it.
+        between = Path(self._new.folder, "tmp", b".outside.%d" % self.when.end)
+        directories.put(self._new, file)
+        return [*self._lines(between), self.line("rename", between, self._new, "ok")]
+
+    def _lines(self, path: Path) -> List[Line]:
+        rest = [] if self._is_empty else [self.line("write", path, "ok"), self.line("flush", path, "ok")]
+        return [self.line("create", path, "ok"), *rest]
+
+
+class Read(Step):
+    """A part of a reading of a directory."""
+
+    def __init__(self, when: When, place: Place, reply: str, names: List[bytes], turn: Turn) -> None:
+        super().__init__(when)
+        self._place, self._reply, self._names, self._turn = place, reply, names, turn
+        # Whether this part alone has all of the reading's names: one call reads them at one moment.
+        self.is_whole = reply == "ok"
+
+    def fits(self, directories: Directories) -> bool:
+        names, reading = set(self._names), directories.readings.get((self.when.actor, self._place))
+        if reading is None or reading.owner is not self._turn:
+            there = directories.names_in(self._place)
+            return names == there if self.is_whole else names <= there
+        return names <= reading.sometimes and (self._reply != "ok" or reading.always <= reading.shown | names)
+
+    def take(self, directories: Directories) -> List[Line]:
+        if self._turn.is_dropped:
+            return [self.comment(f"a part of a reading of {self._place.place}, as another came between its parts")]
+        lines, reading = [], directories.readings.get((self.when.actor, self._place))
+        if reading is not None and reading.owner is not self._turn:
+            lines.append(self._drop(directories, reading.owner))
+            reading = None
+        if reading is None and self._reply in ("ok", "more"):
+            reading = directories.start_reading(self.when.actor, self._place, self._turn)
+        if reading is not None:
+            directories.show(reading, self._names)
+        if self._reply != "more":
+            directories.end_reading(self.when.actor, self._place)
+        return [*lines, self._listed(self._reply, self._names)]
+
+    def _drop(self, directories: Directories, turn: Turn) -> Line:
+        """A reading that was not read to its end says nothing: its line is that of one which faults."""
+        turn.is_dropped = True
+        directories.undone_by(lambda: setattr(turn, "is_dropped", False))
+        return self._listed("fault", [])
+
+    def _listed(self, reply: str, names: List[bytes]) -> Line:
+        return self.line("list", escaped(self._place.folder), self._place.place, reply, *map(escaped, names))
+
+
+class Answer(Step):
+    """The end of a command: what its status claims, said by who knows the claims."""
+
+    is_of_directories = False
+
+    def __init__(self, when: When, says: Callable[[Directories, When], List[Line]]) -> None:
+        super().__init__(when)
+        self._says = says
+
+    def take(self, directories: Directories) -> List[Line]:
+        return [line._replace(ticks=self.ticks()) for line in self._says(directories, self.when)]
+
+
+def text_of(at: Optional[Descriptor]) -> str:
+    """A descriptor's path, for a comment."""
+    return "?" if at is None or at.path is None else at.path.decode("utf-8", "replace")

@@ -1,0 +1,189 @@
+"""Two commands of which each process stops after each of its directory calls, until it is told to go on."""
+
+from __future__ import annotations
+
+import os
+import select
+import signal
+import subprocess
+import time
+from enum import Enum
+from typing import Dict, List, Optional, Tuple
+
+from .making import Making
+from .processes import Processes
+from .refused import Refused
+from .strace_lines import OPTIONS, Call, Ended, Reader, Stopped
+from .tracing import end_processes, end_strace, strace, traced_calls
+
+SIDES = ("A", "B")
+# A process is stopped after each of these. A signal cuts a reading of a directory (getdents64) into parts, so a program that reads one is
+# stopped when it has opened it.
+_STOPPING = ("open openat openat2 creat link linkat symlink symlinkat rename renameat renameat2 unlink unlinkat rmdir mkdir mkdirat "
+             "mknod mknodat")
+_SECONDS_TO_START = 20
+# A command that makes no call for so long waits for the other one, as for a lock.
+_SECONDS_TO_WAIT = 3
+
+# Each command writes its process number, and waits until it is told to begin.
+_BEGIN = 'echo $$ > "$0/$1"; kill -STOP $$; exec sh -c "$2" > "$0/$1.out" 2>&1'
+_BOTH = 'sh -c "$3" "$0" A "$1" & sh -c "$3" "$0" B "$2" & wait'
+
+
+class Went(Enum):
+    """What came of telling a command to go on."""
+
+    CALLED = "it made one directory call, and the readings before it"
+    ENDED = "it ended without a call"
+    WAITS = "it made no call, and did not end"
+
+
+class Pair:
+    """Both commands, at work in a directory. Leave it by `close`, which ends what is still there."""
+
+    def __init__(self, commands: Tuple[str, str], base: str, room: str, making: Making, processes: Processes) -> None:
+        self._room, self._making, self._processes = room, making, processes
+        self._reader = Reader()
+        self._roots: Dict[str, int] = {}
+        self._side_of: Dict[int, str] = {}
+        self._stopped: Dict[int, None] = {}
+        self._is_counted: Dict[int, bool] = {}
+        self._has_read = False
+        self._rest = b""
+        fifo = os.path.join(room, "trace")
+        os.mkfifo(fifo)
+        inject = "inject=" + ",".join("?" + name for name in _STOPPING.split()) + ":signal=SIGSTOP"
+        words = [strace(), *OPTIONS, "-e", traced_calls(), "-e", inject, "-o", fifo, "--", "sh", "-c", _BOTH, room, *commands, _BEGIN]
+        self._strace = subprocess.Popen(words, cwd=base, stdin=subprocess.DEVNULL, stdout=subprocess.DEVNULL, start_new_session=True)
+        self._lines = os.open(fifo, os.O_RDONLY)
+        try:
+            self._start()
+        except BaseException:
+            self.close()
+            raise
+
+    def _start(self) -> None:
+        """Waits until both commands are stopped before their first call."""
+        until = time.monotonic() + _SECONDS_TO_START
+        while not all(self._pid_in_file(side) in self._stopped for side in SIDES):
+            if self._read(until) is None or self._strace.poll() is not None:
+                raise Refused("the commands did not start under strace")
+        for side in SIDES:
+            pid = self._roots[side] = self._pid_in_file(side) or 0
+            self._side_of[pid] = side
+            self._processes.of(pid).actor = side
+            self._processes.answering[pid] = side
+
+    def _pid_in_file(self, side: str) -> Optional[int]:
+        try:
+            with open(os.path.join(self._room, side), encoding="ascii") as file:
+                return int(file.read() or 0)
+        except FileNotFoundError:
+            return None
+
+    def has_ended(self, side: str) -> bool:
+        """Whether a command has ended."""
+        return self._roots.get(side) is None
+
+    def go_on(self, side: str) -> Went:
+        """Has a command go on to the end of its next directory call, or to its own end."""
+        until = time.monotonic() + _SECONDS_TO_WAIT
+        self._has_read = False
+        self._continue_one(side)
+        while not self.has_ended(side):
+            counted = self._read(until)
+            if counted is None:
+                return Went.WAITS
+            if side in counted:
+                return Went.CALLED
+            if not self._is_running(side):
+                self._continue_one(side)
+        return Went.CALLED if self._has_read else Went.ENDED
+
+    def run_to_end(self, seconds: float) -> bool:
+        """Lets both go on unstopped; whether they ended in time."""
+        until = time.monotonic() + seconds
+        while self._strace.poll() is None:
+            for pid in list(self._stopped):
+                self._continue(pid)
+            if self._read(until) is None:
+                return self._strace.poll() is not None
+        return True
+
+    def close(self) -> None:
+        """Ends what is still there, by the numbers of the processes that were started here."""
+        if self._strace.poll() is None:
+            end_processes(self._is_counted)
+            end_strace(self._strace)
+        os.close(self._lines)
+
+    def _is_running(self, side: str) -> bool:
+        own = [pid for pid, its in self._side_of.items() if its == side]
+        return any(pid not in self._stopped for pid in own)
+
+    def _continue_one(self, side: str) -> None:
+        for pid in self._stopped:
+            if self._side_of.get(pid) == side:
+                self._continue(pid)
+                return
+
+    def _continue(self, pid: int) -> None:
+        del self._stopped[pid]
+        _signal(pid, signal.SIGCONT)
+
+    def _read(self, until: float) -> Optional[List[str]]:
+        """Reads what comes next, and gives the sides that were stopped after a call which counts; None where nothing comes in time."""
+        if not select.select([self._lines], [], [], max(0.0, until - time.monotonic()))[0]:
+            return None
+        piece = os.read(self._lines, 1 << 16)
+        if not piece:
+            self._roots.clear()
+            return [] if self._strace.wait() is not None else None
+        lines = (self._rest + piece).split(b"\n")
+        self._rest = lines.pop()
+        return [side for line in lines for side in self._take(line.decode("latin1"))]
+
+    def _take(self, line: str) -> List[str]:
+        sides: List[str] = []
+        for event in self._reader.events(line):
+            if isinstance(event, Stopped):
+                sides += self._stop(event.pid)
+                continue
+            steps = self._making.add(event)
+            if isinstance(event, Call):
+                self._side_of_new(event.pid)
+                self._has_read |= any(step.is_of_directories for step in steps)
+                self._is_counted[event.pid] = self._is_counted.get(event.pid, False) or any(step.is_of_directories for step in steps)
+            elif isinstance(event, Ended):
+                self._end(event.pid)
+        return sides
+
+    def _side_of_new(self, pid: int) -> None:
+        actor = self._processes.of(pid).actor
+        if pid not in self._side_of and actor in SIDES and self._roots:
+            self._side_of[pid] = actor
+
+    def _stop(self, pid: int) -> List[str]:
+        is_counted, self._is_counted[pid] = self._is_counted.get(pid, False), False
+        self._stopped[pid] = None
+        if is_counted or not self._roots and pid == self._own_start(pid):
+            side = self._side_of.get(pid)
+            return [side] if side else []
+        self._continue(pid)
+        return []
+
+    def _own_start(self, pid: int) -> Optional[int]:
+        return pid if pid in (self._pid_in_file("A"), self._pid_in_file("B")) else None
+
+    def _end(self, pid: int) -> None:
+        self._stopped.pop(pid, None)
+        side = self._side_of.pop(pid, None)
+        if side is not None and self._roots.get(side) == pid:
+            del self._roots[side]
+
+
+def _signal(pid: int, number: int) -> None:
+    try:
+        os.kill(pid, number)
+    except ProcessLookupError:
+        pass

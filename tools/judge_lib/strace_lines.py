@@ -1,0 +1,162 @@
+"""What strace printed, as calls in the order in which they returned, and the ends of processes."""
+
+from __future__ import annotations
+
+import re
+from typing import Dict, Iterable, Iterator, NamedTuple, Optional, Union
+
+from .arguments import Descriptor, read_descriptor
+
+# The calls that a log may need. A name that this machine's strace doesn't know is passed over by its question mark.
+TRACED = (
+    "execve execveat clone clone3 fork vfork chdir fchdir chroot "
+    "open openat openat2 creat close close_range dup dup2 dup3 fcntl lseek getdents getdents64 "
+    "write pwrite64 writev pwritev pwritev2 ftruncate truncate fallocate sendfile copy_file_range splice mmap "
+    "fsync fdatasync sync syncfs link linkat symlink symlinkat mknod mknodat mkdir mkdirat "
+    "rename renameat renameat2 unlink unlinkat rmdir io_uring_setup"
+)
+
+# -s 0 prints no bytes that are written; paths are printed whole all the same.
+OPTIONS = ["-q", "-f", "-y", "-v", "-xx", "-s", "0", "-ttt"]
+
+_LINE = re.compile(r"(\d+) +(\d+)\.\d+ (.*)", re.DOTALL)
+_WHOLE = re.compile(r"(\w+)\((.*)\) += (-?\d+|\?|0x[0-9a-f]+)(.*)", re.DOTALL)
+_RESUMED = re.compile(r"<\.\.\. (\w+) resumed>(.*)", re.DOTALL)
+_BEGUN = re.compile(r"(\w+)\((.*?) *<unfinished \.\.\.>", re.DOTALL)
+_EXITED = re.compile(r"\+\+\+ exited with (\d+) \+\+\+")
+_KILLED = re.compile(r"\+\+\+ killed by (\w+)")
+_ERROR = re.compile(r"\b(E[A-Z0-9]+) ")
+
+
+class Call(NamedTuple):
+    """A call that returned. `begin` and `end` are lines of the trace: it took effect between them."""
+
+    pid: int
+    begin: int
+    end: int
+    moment: int
+    name: str
+    arguments: str
+    result: Optional[int]
+    error: Optional[str]
+    opened: Optional[Descriptor]
+
+    def is_undone(self) -> bool:
+        """Whether a signal stopped it before it did anything."""
+        return self.error is not None and (self.error == "EINTR" or self.error.startswith("ERESTART"))
+
+    def reply(self) -> str:
+        """The reply as a log says it."""
+        return {None: "ok", "ENOENT": "notfound", "EEXIST": "exists"}.get(self.error, "fault")
+
+
+class Begun(NamedTuple):
+    """A call that never returned, since its process ended meanwhile: it may have taken effect or not."""
+
+    pid: int
+    begin: int
+    end: int
+    moment: int
+    name: str
+    arguments: str
+
+
+class Ended(NamedTuple):
+    """The end of a process; `status` is None where a signal ended it."""
+
+    pid: int
+    end: int
+    moment: int
+    status: Optional[int]
+
+
+class Stopped(NamedTuple):
+    """A process was stopped by a signal."""
+
+    pid: int
+    end: int
+
+
+class Starting(NamedTuple):
+    """A process is about to start another one, which may be seen before the call returns."""
+
+    pid: int
+    end: int
+    arguments: str
+
+
+class Unread(NamedTuple):
+    """A line that is none of strace's that we know."""
+
+    end: int
+    text: str
+
+
+Event = Union[Call, Begun, Ended, Stopped, Starting, Unread]
+
+STARTS = ("clone", "clone3", "fork", "vfork")
+
+
+class Reader:
+    """Reads lines one by one, and keeps the calls that have begun."""
+
+    def __init__(self) -> None:
+        self._number = 0
+        self._begun: Dict[int, Begun] = {}
+
+    def events(self, line: str) -> Iterator[Event]:
+        """What a line tells."""
+        self._number += 1
+        found = _LINE.fullmatch(line.rstrip("\n"))
+        if found is None:
+            yield Unread(self._number, line.rstrip("\n"))
+            return
+        yield from self._events(int(found[1]), int(found[2]), found[3])
+
+    def _events(self, pid: int, moment: int, text: str) -> Iterator[Event]:
+        if text.startswith("+++"):
+            yield from self._end(pid, moment, text)
+        elif text.startswith("---"):
+            if text.startswith("--- stopped by"):
+                yield Stopped(pid, self._number)
+        elif begun := _BEGUN.fullmatch(text):
+            self._begun[pid] = Begun(pid, self._number, self._number, moment, begun[1], begun[2])
+            if begun[1] in STARTS:
+                yield Starting(pid, self._number, begun[2])
+        elif resumed := _RESUMED.fullmatch(text):
+            former = self._begun.pop(pid, None)
+            if former is None:
+                yield Unread(self._number, text)
+            else:
+                yield from self._whole(pid, former.begin, moment, f"{former.name}({former.arguments}{resumed[2]}")
+        else:
+            yield from self._whole(pid, self._number, moment, text)
+
+    def _whole(self, pid: int, begin: int, moment: int, text: str) -> Iterator[Event]:
+        found = _WHOLE.fullmatch(text)
+        if found is None:
+            yield Unread(self._number, text)
+            return
+        name, arguments, result, rest = found.groups()
+        error = _ERROR.search(rest)
+        if result == "?" and error is None:
+            yield Begun(pid, begin, self._number, moment, name, arguments)
+            return
+        value = None if result == "?" else int(result, 0)
+        opened = read_descriptor(result + rest.split(" ")[0]) if rest.startswith("<") else None
+        yield Call(pid, begin, self._number, moment, name, arguments, value, error[1] if error else None, opened)
+
+    def _end(self, pid: int, moment: int, text: str) -> Iterator[Event]:
+        begun = self._begun.pop(pid, None)
+        if begun is not None:
+            yield begun._replace(end=self._number)
+        exited = _EXITED.match(text)
+        if exited or _KILLED.match(text):
+            yield Ended(pid, self._number, moment, int(exited[1]) if exited else None)
+
+
+def read_events(lines: Iterable[str]) -> Iterator[Event]:
+    """All events of a trace, in the order of their ends."""
+    reader = Reader()
+    for line in lines:
+        yield from reader.events(line)

@@ -1,0 +1,1 @@
+"""Races that people see: the parts of `tools/races`."""

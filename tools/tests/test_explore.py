@@ -1,0 +1,78 @@
+"""Tests of tools/explore: which interleavings are tried, and what is said of them."""
+
+import subprocess
+import sys
+import unittest
+from itertools import combinations
+
+from judge_support import TOOLS
+
+from judge_lib.explore_command import table
+from judge_lib.exploring import Broken, Explored
+from judge_lib.judge_run import SENTENCES, Finding
+from judge_lib.schedules import next_prefix, play
+from judge_lib.stopping import Went
+
+
+class Counted:
+    """Two commands of so many calls, of which one may wait for the other."""
+
+    def __init__(self, a, b, has_read_at_end=False, waits_at=None):
+        self.left, self.ended = {"A": a, "B": b}, set()
+        self.has_read_at_end, self.waits_at, self.made = has_read_at_end, waits_at, ""
+
+    def has_ended(self, side):
+        return side in self.ended
+
+    def go_on(self, side):
+        if self.made == self.waits_at:
+            return Went.WAITS
+        if not self.left[side]:
+            self.ended.add(side)
+            return Went.CALLED if self.has_read_at_end else Went.ENDED
+        self.left[side] -= 1
+        self.made += side
+        return Went.CALLED
+
+
+def orders(make):
+    found, prefix = [], ""
+    while prefix is not None:
+        played = play(make(), prefix)
+        found.append(played.order)
+        prefix = next_prefix(played)
+    return found
+
+
+class Schedules(unittest.TestCase):
+    def test_each_interleaving_is_tried(self):
+        for a, b in [(0, 0), (1, 1), (2, 3), (4, 2)]:
+            every = {"".join("A" if at in chosen else "B" for at in range(a + b)) for chosen in combinations(range(a + b), a)}
+            self.assertEqual(set(orders(lambda: Counted(a, b))), every)
+
+    def test_a_reading_before_the_end_is_a_step(self):
+        self.assertEqual(len(set(orders(lambda: Counted(1, 1, has_read_at_end=True)))), 6)
+
+    def test_a_command_that_waits(self):
+        played = play(Counted(2, 2, waits_at="AB"), "AB")
+        self.assertTrue(played.waits)
+        self.assertEqual(played.order, "AB")
+
+
+class Table(unittest.TestCase):
+    def test_lines(self):
+        broken = {"Gone": Broken("AB", b"", Finding(5, "Gone"), 1), "Mixed": Broken("BA", b"", Finding(4, "Mixed"), 2)}
+        lines = table(Explored({"AB", "BA"}, 3, 1, False, 2, broken))
+        self.assertEqual(lines, ["interleavings   2, and there are more", "break the law   2",
+                                 "not in order    1 runs, where one command waited for the other",
+                                 f"Mixed           2, first in BA: {SENTENCES['Mixed']}",
+                                 f"Gone            1, first in AB: {SENTENCES['Gone']}"])
+
+    def test_refusals(self):
+        for words in [["true"], ["--claims", "done box u", "true", "true"]]:
+            run = subprocess.run([sys.executable, TOOLS / "explore", *words], capture_output=True, check=False)
+            self.assertEqual((run.returncode, run.stdout), (2, b""))
+
+
+if __name__ == "__main__":
+    unittest.main()

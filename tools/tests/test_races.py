@@ -1,0 +1,155 @@
+"""tools/races: what it refuses, how it counts, and what it makes of hostile names. The programs that it plays by must be built."""
+
+from __future__ import annotations
+
+import json
+import os
+import re
+import subprocess
+import sys
+import tempfile
+import unittest
+from pathlib import Path
+
+TOOLS = Path(__file__).resolve().parent.parent
+sys.path.insert(0, str(TOOLS))
+
+from races_lib import command, scene  # noqa: E402
+from races_lib.play import Programs, play, play_whole, run  # noqa: E402
+from races_lib.refused import Refused  # noqa: E402
+from races_lib.tree import actors_of, interleavings  # noqa: E402
+
+CHOSEN = command.options().parse_args([])
+TRACE = Path(os.environ.get("MAILDIR_TRACE", CHOSEN.trace))
+CLI = Path(os.environ.get("MAILDIR_CLI", CHOSEN.cli))
+PROGRAMS = Programs(TRACE, CLI)
+BUILT = all(os.access(program, os.X_OK) for program in (TRACE, CLI))
+
+TWO_CLEANS = b"folder i\njob clean i\njob clean i\nfinish 1 1\nfinish 2 1\n"
+TWO_FLAGS = b"folder i\nfile i cur u 0 x\njob flag i u S - 2\njob flag i u F - 2\nfinish 1 1\nfinish 2 1\n"
+
+
+class ScratchTest(unittest.TestCase):
+    """A test with a scratch folder."""
+
+    def setUp(self) -> None:
+        scratch = tempfile.TemporaryDirectory()
+        self.addCleanup(scratch.cleanup)
+        self.folder = Path(scratch.name)
+
+    def script(self, text: bytes) -> Path:
+        """A script of this text."""
+        file = self.folder / "race.script"
+        file.write_bytes(text)
+        return file
+
+    def races(self, *words: object) -> subprocess.CompletedProcess[str]:
+        """How the tool ends on these words."""
+        line = [TOOLS / "races", "--trace", TRACE, "--cli", CLI, *words]
+        return subprocess.run([str(word) for word in line], capture_output=True, text=True, check=False)
+
+
+class Scenes(ScratchTest):
+    """What a script says by itself."""
+
+    def refusal(self, text: bytes) -> str:
+        """Why the script makes no scene."""
+        with self.assertRaises(Refused) as refused:
+            scene.read_scene(self.script(text))
+        return str(refused.exception)
+
+    def test_a_script_without_a_race_is_refused(self) -> None:
+        self.assertIn("the script has none", self.refusal(b"folder i\n"))
+        self.assertIn("the script has 1", self.refusal(b"folder i\njob clean i\nfinish 1 1\n"))
+        self.assertIn("the script has 4", self.refusal(b"folder i\n" + b"job clean i\n" * 4))
+
+    def test_a_job_without_a_moment_is_refused(self) -> None:
+        self.assertIn("job 2 takes no step", self.refusal(b"folder i\njob clean i\njob clean i\nfinish 1 1\n"))
+
+    def test_a_step_keeps_its_moment(self) -> None:
+        job = scene.read_scene(self.script(b"job clean i\njob clean i\nstep 1 5\nstep 1 6 9\nfinish 1 8\nfinish 2 1\n")).actors[0]
+        self.assertEqual([job.step(done) for done in range(5)], [b"step 1 5", b"step 1 6 9", b"step 1 8", b"step 1 8", b"step 1 8"])
+        self.assertEqual(job.steps_from(1), [b"step 1 6 9", b"finish 1 8"])
+
+    def test_a_file_that_is_not_there_is_refused(self) -> None:
+        with self.assertRaises(Refused):
+            scene.read_scene(self.folder / "none")
+
+
+@unittest.skipUnless(BUILT, "maildir_trace and maildir_cli are not built")
+class Pages(ScratchTest):
+    """What the tool makes of scripts, by the programs."""
+
+    def data(self, text: bytes, *words: str) -> tuple[str, dict]:
+        """The page of a script, and the scene that it holds."""
+        out = self.folder / "out.html"
+        done = self.races(self.script(text), "-o", out, *words)
+        self.assertEqual(done.returncode, 0, done.stderr)
+        page = out.read_text(encoding="utf-8")
+        return page, json.loads(re.search(r'id="data">(.*?)</script>', page, re.S)[1])[0]
+
+    def test_all_interleavings_are_there_once(self) -> None:
+        found, has_more = interleavings(PROGRAMS, scene.read_scene(self.script(TWO_CLEANS)), 10)
+        self.assertEqual(([actors_of(one) for one in found], has_more), ([[0, 1], [1, 0]], False))
+        found, _ = interleavings(PROGRAMS, scene.read_scene(self.script(TWO_FLAGS)), 100)
+        paths = [actors_of(one) for one in found]
+        # Two look and rename one after the other; or both look first, and the second to rename looks and renames once more.
+        first = [[0, 0, 1, 1], [0, 1, 0, 1, 1, 1], [0, 1, 1, 0, 0, 0]]
+        self.assertEqual(paths, [*first, [1, 0, 0, 1, 1, 1], [1, 0, 1, 0, 0, 0], [1, 1, 0, 0]])
+
+    def test_an_interleaving_is_what_the_transcript_says(self) -> None:
+        race = scene.read_scene(self.script(TWO_FLAGS))
+        steps = [f"{step.actor + 1} {step.call.split(' ')[0]} {step.reply.split(':')[0]}" for step in play(PROGRAMS, race, [0, 1]).steps]
+        lines = TWO_FLAGS.replace(b"finish 1 1", b"step 1 1\nstep 2 1\nfinish 1 1")
+        told = [line.split(" ") for line in run([str(CLI), "play"], lines)[1].decode().splitlines()]
+        self.assertEqual(steps, [f"{words[0]} {words[1]} {words[-1]}" for words in told if words[1] in ("list", "rename")])
+
+    def test_more_than_the_bound_is_said(self) -> None:
+        out = self.folder / "out.html"
+        done = self.races(self.script(TWO_FLAGS), "-o", out, "--most", "3")
+        self.assertEqual(done.returncode, 0)
+        self.assertIn("took 3 interleavings, and there are more: about 6", done.stderr)
+        self.assertIn('"more":true', out.read_text(encoding="utf-8"))
+
+    def test_a_refused_line_is_named(self) -> None:
+        done = self.races(self.script(TWO_FLAGS + b"list j\n"), "-o", self.folder / "out.html")
+        self.assertEqual((done.returncode, done.stdout), (1, ""))
+        self.assertIn("line 7: unknown folder", done.stderr)
+
+    def test_a_line_without_its_words_is_named(self) -> None:
+        done = self.races(self.script(b"folder i\nstep\n"), "-o", self.folder / "out.html")
+        self.assertIn("line 2: bad command", done.stderr)
+
+    def test_one_job_is_no_race(self) -> None:
+        done = self.races(self.script(b"folder i\njob clean i\nfinish 1 1\n"), "-o", self.folder / "out.html")
+        self.assertEqual(done.returncode, 1)
+        self.assertIn("the script has 1", done.stderr)
+
+    def test_markup_in_names_is_text(self) -> None:
+        name = b"<script>alert(1)<\\script>"
+        text = TWO_FLAGS.replace(b" u ", b" " + name + b" ").replace(b" i ", b" <b>&amp; ").replace(b"folder i", b"folder <b>&amp;")
+        page, shown = self.data(b"# </script><script>alert(2)</script>\n" + text)
+        self.assertEqual(len(re.findall("<script", page)), 2)
+        self.assertNotIn("<b>", page)
+        self.assertNotIn("alert(1)<", page.split('id="data">')[0])
+        self.assertEqual(shown["folders"], ["<b>&amp;"])
+        self.assertIn("<script>alert(1)<\\\\script>", json.dumps(shown, ensure_ascii=False))
+
+    def test_a_name_of_a_whole_element_is_text(self) -> None:
+        page, _ = self.data(TWO_FLAGS.replace(b" u ", b" <script>alert(1)<script> "))
+        self.assertEqual(len(re.findall("<script", page)), 2)
+
+    def test_bytes_that_are_no_text_are_shown_by_their_numbers(self) -> None:
+        _, shown = self.data(TWO_FLAGS.replace(b" u ", b" \xff\xc3 "))
+        self.assertIn("\\xff\\xc3", json.dumps(shown, ensure_ascii=False).replace("\\\\", "\\"))
+
+    def test_the_last_state_is_compared(self) -> None:
+        other = self.folder / "other"
+        other.write_text(f'#!/bin/sh\n"{CLI}" "$@" | sed "s/^cur u/cur v/"\n', encoding="utf-8")
+        other.chmod(0o755)
+        with self.assertRaisesRegex(Refused, "not what `maildir_cli play` lists"):
+            play_whole(Programs(TRACE, other), scene.read_scene(self.script(TWO_FLAGS)))
+
+
+if __name__ == "__main__":
+    unittest.main()

@@ -1,0 +1,167 @@
+"""docs/races.html in a browser: all interleavings by keyboard alone, what is shown, and no error, request or scroll."""
+
+from __future__ import annotations
+
+import json
+import re
+import sys
+import unittest
+from pathlib import Path
+
+sys.path.insert(0, str(Path(__file__).resolve().parent))
+sys.path.insert(0, str(Path(__file__).resolve().parent.parent))
+
+import browser  # noqa: E402
+
+PAGE = Path(__file__).resolve().parents[2] / "docs/races.html"
+UP, RIGHT, DOWN, HOME, TAB, ENTER = "\ue013", "\ue014", "\ue015", "\ue011", "\ue004", "\ue007"
+PLACES = ("tmp", "new", "cur")
+
+# Keeps what the page shows after each key: where it is, the rows of each directory, and what is said of the step.
+KEEP = """
+window.kept = [];
+document.addEventListener('keydown', () => {
+  const rows = {};
+  for (const list of document.querySelectorAll('#columns .state ul')) {
+    rows[list.getAttribute('aria-label')] = [...list.querySelectorAll('li:not(.empty)')].map(item => item.textContent);
+  }
+  const text = id => document.getElementById(id).textContent;
+  window.kept.push([text('place'), document.getElementById('path').value, rows, text('said')]);
+});
+"""
+
+
+def data_of(page: Path) -> list[dict]:
+    """The scenes that a page holds."""
+    text = page.read_text(encoding="utf-8")
+    return json.loads(re.search(r'id="data">(.*?)</script>', text, re.S)[1])
+
+
+def rows_of(scene: dict, state: int) -> dict[str, list[str]]:
+    """The rows of a state, as the page shows them."""
+    return {
+        f"{folder}/{place}": rows
+        for folder, places in zip(scene["folders"], scene["states"][state])
+        for place, rows in zip(PLACES, places)
+    }
+
+
+# Chooses a scene by its number.
+CHOOSE = "const choice = document.getElementById('scene'); choice.value = arguments[0]; choice.dispatchEvent(new Event('change'));"
+
+
+@unittest.skipUnless(browser.is_there(), f"{browser.PACKAGES} are not there")
+@unittest.skipUnless(PAGE.exists(), "docs/races.html is not there")
+class Page(unittest.TestCase):
+    """The page as readers have it."""
+
+    @classmethod
+    def setUpClass(cls) -> None:
+        cls.browser = browser.Browser()
+        cls.addClassCleanup(cls.browser.close)
+        cls.scenes = data_of(PAGE)
+
+    def setUp(self) -> None:
+        self.browser.size(1200, 900)
+        self.browser.go(PAGE)
+
+    def open_scene(self, number: int) -> None:
+        """Opens a scene and goes to its first interleaving, by keys alone: the second stop of the Tab key is the choice of scenes."""
+        self.browser.go(PAGE)
+        self.browser.press(TAB, TAB)
+        self.assertEqual(self.browser.run("return document.activeElement.id"), "scene")
+        self.browser.press(HOME, *[DOWN] * number)
+        self.assertEqual(self.browser.run("return document.getElementById('scene').value"), str(number))
+        while self.browser.run("return document.activeElement.tagName") != "BUTTON":
+            self.browser.press(TAB)
+        self.browser.press(*[UP] * len(self.scenes[number]["paths"]))
+        self.browser.run(KEEP)
+
+    def check_path(self, scene: dict, number: int) -> None:
+        """Steps through an interleaving, and compares what is shown at each step."""
+        path = scene["paths"][number]
+        self.browser.press(HOME, *[RIGHT] * len(path))
+        kept = self.browser.run("return window.kept.splice(0)")
+        self.assertEqual(len(kept), len(path) + 1)
+        for at, (place, shown, rows, said) in enumerate(kept):
+            self.assertEqual((place, shown), (f"step {at} of {len(path)}", str(number + 1)))
+            step = scene["steps"][path[at - 1]] if at else None
+            self.assertEqual(rows, rows_of(scene, step[9] if step else scene["first"]))
+            for part in (step[1], step[2], step[4], step[5], step[7], step[8]) if step else ():
+                self.assertIn(part, said)
+
+    def test_all_interleavings_are_reached_by_keys(self) -> None:
+        for number, scene in enumerate(self.scenes):
+            with self.subTest(scene["title"]):
+                self.open_scene(number)
+                for path in range(len(scene["paths"])):
+                    self.check_path(scene, path)
+                    self.browser.press(DOWN)
+                    self.browser.run("window.kept.splice(0)")
+
+    def test_an_actor_is_chosen_by_its_button(self) -> None:
+        self.browser.run("document.querySelectorAll('#turns button')[1].focus()")
+        self.browser.press(ENTER)
+        self.assertIn("job 2", self.browser.run("return document.getElementById('said').textContent"))
+
+    def test_no_error_and_no_request(self) -> None:
+        self.browser.log("browser"), self.browser.log("performance")
+        self.browser.go(PAGE)
+        for _ in range(4):
+            self.browser.press(RIGHT)
+        self.assertEqual(self.browser.log("browser"), [])
+        sent = [json.loads(entry["message"])["message"] for entry in self.browser.log("performance")]
+        asked = [one["params"]["request"]["url"] for one in sent if one["method"] == "Network.requestWillBeSent"]
+        self.assertEqual([url for url in asked if not url.startswith("data:")], [PAGE.resolve().as_uri()])
+
+    def test_nothing_is_wider_than_a_phone(self) -> None:
+        for width in (360, 1200):
+            self.browser.size(width, 740)
+            for number in range(len(self.scenes)):
+                self.browser.run(CHOOSE, str(number))
+                self.browser.run("document.getElementById('end').click()")
+                self.assertLessEqual(self.browser.run("return document.documentElement.scrollWidth"), width)
+
+    def test_a_reader_without_scripts_has_tables(self) -> None:
+        self.browser.command("Emulation.setScriptExecutionDisabled", value=True)
+        try:
+            self.browser.go(PAGE)
+            shown = self.browser.command("Runtime.evaluate", expression="document.body.innerText")["result"]["value"]
+        finally:
+            self.browser.command("Emulation.setScriptExecutionDisabled", value=False)
+        for scene in self.scenes:
+            self.assertIn(scene["about"], shown)
+
+
+def luminance(colour: str) -> float:
+    """The relative luminance of a colour, by WCAG 2."""
+    parts = [int(colour[at : at + 2], 16) / 255 for at in (1, 3, 5)]
+    red, green, blue = (part / 12.92 if part <= 0.04045 else ((part + 0.055) / 1.055) ** 2.4 for part in parts)
+    return 0.2126 * red + 0.7152 * green + 0.0722 * blue
+
+
+def contrast(one: str, other: str) -> float:
+    """The contrast of two colours, by WCAG 2."""
+    low, high = sorted((luminance(one), luminance(other)))
+    return (high + 0.05) / (low + 0.05)
+
+
+class Colours(unittest.TestCase):
+    """The colours of the page and of the pictures."""
+
+    GROUNDS = {"text": "ground box effect-box lost-box again-box here-box", "soft": "ground box", "link": "ground"} | {
+        kind: f"ground box {kind}-box here-box" for kind in ("effect", "lost", "again", "here")
+    }
+
+    def test_text_has_the_contrast_of_wcag_aa(self) -> None:
+        style = PAGE.parent.parent.joinpath("tools/races_lib/page.css").read_text(encoding="utf-8")
+        for scheme in re.findall(r":root \{(.*?)\}", style, re.S):
+            colours = dict(re.findall(r"--([a-z-]+): (#[0-9a-f]{6})", scheme))
+            for text, grounds in self.GROUNDS.items():
+                for ground in grounds.split():
+                    with self.subTest(f"{text} on {ground}"):
+                        self.assertGreaterEqual(contrast(colours[text], colours[ground]), 4.5)
+
+
+if __name__ == "__main__":
+    unittest.main()

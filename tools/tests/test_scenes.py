@@ -1,0 +1,111 @@
+"""Tests of tools/scenes: the files of scenes, and the table of what they showed."""
+
+import os
+import subprocess
+import sys
+import tempfile
+import unittest
+from pathlib import Path
+from unittest import mock
+
+from judge_support import TOOLS
+
+from judge_lib import outcomes
+from judge_lib.claims import read_claim
+from judge_lib.judge_run import judge, judge_program
+from judge_lib.refused import Refused
+from judge_lib.scene import FOLDER, read_scene
+from judge_lib.staging import Found, Outcome
+
+TRACED = """\
+package  p
+program  q r
+scene    does it
+setup    a
+setup    b
+trace    q r < s
+claims   done box u
+fail     unlink:error=EIO
+status   1
+"""
+
+EXPLORED = """\
+# Why.
+package  p
+program  q
+scene    does it
+needs    o
+explore  q
+beside   t
+user     not root
+"""
+
+
+class Scenes(unittest.TestCase):
+    def setUp(self):
+        room = tempfile.TemporaryDirectory()
+        self.addCleanup(room.cleanup)
+        self.room = Path(room.name)
+
+    def read(self, text):
+        path = self.room / "one.scene"
+        path.write_text(text)
+        return read_scene(path)
+
+    def test_words(self):
+        traced = self.read(TRACED)
+        self.assertEqual((traced.name, traced.runs, traced.setup, traced.status, traced.beside), ("one", "q", ["a", "b"], 1, None))
+        explored = self.read(EXPLORED)
+        self.assertEqual((explored.packages(), explored.beside, explored.is_unprivileged), (["p", "o"], "t", True))
+
+    def test_wrong_files(self):
+        added = [TRACED + line for line in ("trace    again", "beside   t", "colour   red", "x")]
+        for text in ["", *added, EXPLORED.replace("beside", "setup")]:
+            with self.assertRaises(Refused, msg=text):
+                self.read(text)
+
+    def test_each_scene_can_be_read(self):
+        files = sorted(FOLDER.iterdir())
+        self.assertGreater(len(files), 12)
+        for path in files:
+            scene = read_scene(path)
+            self.assertEqual(path.suffix, ".scene")
+            for claim in scene.claims:
+                read_claim(claim)
+
+    def test_repeated(self):
+        traced = "tools/trace --actor q --claims 'done box u' --fail unlink:error=EIO -o log sh -c 'q r < s'"
+        self.assertEqual(outcomes.repeated(self.read(TRACED))[1:], ["a", "b", traced, "maildir_judge < log"])
+        self.assertEqual(outcomes.repeated(self.read(EXPLORED))[1:], ["tools/explore --setup '' \\", "  q t"])
+
+    def test_rows(self):
+        found = [Found("Gone", 2, "q unlink box/cur/u|v ok", "it goes")]
+        rows = [Outcome(self.read(TRACED), "1-2", 1, True, [], b""), Outcome(self.read(EXPLORED), "3", 4, True, found, b""),
+                Outcome(self.read(EXPLORED), "3", 4, False, [], b"")]
+        with mock.patch.object(outcomes, "ran_here", return_value="Run here."):
+            self.assertEqual(outcomes.markdown(rows)[4:], [
+                "| `q r`, p 1-2 | does it | nothing | `tools/scenes one` |",
+                "| `q`, p 3 | does it | `Gone` in 2 of 4 interleavings, it goes: `q unlink box/cur/u\\|v ok` (no claims) | `tools/scenes one` |",
+                "| `q`, p 3 | does it | nothing in 4 interleavings, and there are more (no claims) | `tools/scenes one` |"])
+
+    def test_judge(self):
+        """The program is one that prints `LINE CLAUSE`, and whose status is 0, 1 or 2."""
+        program = self.room / "judge"
+        program.write_text("#!/bin/sh\n[ \"$1\" = --lines ] || exit 9\nread first\n[ \"$first\" = log ] || { echo bad >&2; exit 2; }\necho '3 Gone'\nexit 1\n")
+        program.chmod(0o755)
+        with mock.patch.dict(os.environ, {"MAILDIR_JUDGE": str(program)}):
+            self.assertEqual(judge(b"log\n"), [(3, "Gone")])
+            with self.assertRaisesRegex(Refused, "status 2: bad"):
+                judge(b"no log\n")
+        with mock.patch.dict(os.environ, {"MAILDIR_JUDGE": "/nowhere"}), self.assertRaisesRegex(Refused, "/nowhere: is no program"):
+            judge_program()
+
+    def test_program(self):
+        run = subprocess.run([sys.executable, TOOLS / "scenes", "--list", "mdeliver"], capture_output=True, text=True, check=False)
+        self.assertEqual((run.returncode, run.stdout), (0, "mdeliver                   mdeliver delivers a message\n"))
+        run = subprocess.run([sys.executable, TOOLS / "scenes", "--list", "none"], capture_output=True, text=True, check=False)
+        self.assertEqual((run.returncode, run.stderr), (2, "scenes: there is no scene none; --list names them\n"))
+
+
+if __name__ == "__main__":
+    unittest.main()

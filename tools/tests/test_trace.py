@@ -1,0 +1,191 @@
+"""Tests of tools/trace: logs of recorded traces, the order of calls that overlap, claims, and refusals."""
+
+import os
+import subprocess
+import sys
+import tempfile
+import unittest
+
+from judge_support import BOX, TOOLS, log_of, opened, quoted, recorded, steps_of, trace
+
+from judge_lib.claims import read_claim
+from judge_lib.folders import files_of, found_folders, named_folders
+from judge_lib.refused import Refused
+
+BOX_AT = BOX.directory.decode()
+
+
+def rename(old, new):
+    return f"rename({quoted(old)}, {quoted(new)}"
+
+
+class Recorded(unittest.TestCase):
+    """Traces of strace 6.1, recorded on Debian 12."""
+
+    def test_delivery(self):
+        log = log_of(recorded("mdeliver"), claims=["delivered box"])
+        name = "1795547350.M232618P3656Q1.vm"
+        name = steps_of(log)[0].split("/")[2].split(" ")[0]
+        self.assertEqual(steps_of(log), [f"a create box/tmp/{name} ok", f"a write box/tmp/{name} ok", f"a flush box/tmp/{name} ok",
+                                         f"a rename box/tmp/{name} box/new/{name}:2, ok", f"a answer delivered box {name}"])
+        self.assertEqual(log.statuses, {"a": 0})
+        self.assertTrue(log.encoded().startswith(b"maildir_log 1\n# a ended with status 0\nfolder box\n1"))
+
+    def test_listing(self):
+        log = log_of(recorded("mlist"), [("new", b"u"), ("cur", b"v:2,S")])
+        self.assertEqual(steps_of(log), ["a list box cur more v:2,S", "a list box cur ok", "a list box new more u", "a list box new ok"])
+        self.assertIn(b"\n# not judged, as no --claims says what status 0 claims: GaveUp AnsweredFalsely\n", log.encoded())
+        self.assertIn(b"\nfile box/new/u 1000\n", log.encoded())
+
+    def test_programs_are_actors(self):
+        """A rename that must not replace is said by the call that gives its reply."""
+        log = log_of(recorded("mv"), [("cur", b"u:2,S"), ("new", b"w")], by_program=True)
+        self.assertEqual(steps_of(log), ["mv.1 link box/new/w box/cur/u:2,S exists", "mv.2 rename box/new/w box/cur/w:2, ok"])
+        self.assertEqual(log.statuses, {"mv.1": 0, "mv.2": 0, "sh.1": 3})
+
+    def test_all_calls(self):
+        """calls.log has what each call of tools/tests/strace/calls.py is in a log."""
+        log = log_of(recorded("calls"), [("cur", b"u:2,S"), ("cur", b"v:2,"), ("tmp", b"old")])
+        expected = (TOOLS / "tests/strace/calls.log").read_text(encoding="latin1").split("\n")[:-1]
+        self.assertEqual(steps_of(log), expected)
+
+
+class Overlapping(unittest.TestCase):
+    """Calls that overlap come in an order that gives their replies."""
+
+    def test_order_of_replies(self):
+        """The one that returns first was second."""
+        log = log_of(trace(f"1 {rename('box/cur/u:2,', 'box/cur/u:2,F')} <unfinished ...>",
+                           f"2 {rename('box/cur/u:2,', 'box/cur/u:2,R')}) = -1 ENOENT (No such file or directory)",
+                           "1 <... rename resumed>) = 0"), [("cur", b"u:2,")])
+        self.assertEqual(steps_of(log), ["a rename box/cur/u:2, box/cur/u:2,F ok", "a rename box/cur/u:2, box/cur/u:2,R notfound"])
+        self.assertEqual([line.encoded().split(b" ")[0] for line in log.lines], [b"1002@1..3", b"1001@2..2"])
+
+    def test_whole_reading_at_one_moment(self):
+        """A reading of one part was before the rename that returned before it."""
+        place = opened(3, f"{BOX_AT}/cur")
+        log = log_of(trace(f"2 getdents64({place}, <unfinished ...>", f"1 {rename('box/cur/u:2,', 'box/cur/u:2,F')}) = 0",
+                           "2 <... getdents64 resumed>[{d_name=" + quoted("u:2,") + "}], 32768) = 32", f"2 getdents64({place}, [], 32768) = 0"),
+                     [("cur", b"u:2,")])
+        self.assertEqual(steps_of(log)[0], "a list box cur more u:2,")
+
+    def test_no_order(self):
+        """Where no order gives all replies, the log says so, and has that of the returns."""
+        log = log_of(trace(f"1 unlink({quoted('box/cur/v')} <unfinished ...>", f"2 unlink({quoted('box/cur/u')}) = 0", "1 <... unlink resumed>) = 0"))
+        self.assertEqual(steps_of(log), ["# not said: the order of 2 calls that overlap: none that was tried gives all their replies",
+                                         "a unlink box/cur/u ok", "a unlink box/cur/v ok"])
+
+    def test_no_return(self):
+        log = log_of(trace(f"1 unlink({quoted('box/cur/u')} <unfinished ...>", "1 +++ killed by SIGKILL +++"), [("cur", b"u")])
+        self.assertEqual(steps_of(log), ["# not said: whether unlink took effect before its process ended"])
+        self.assertEqual(log.statuses, {"a": None})
+
+    def test_interrupted_before(self):
+        log = log_of(trace(f"1 unlink({quoted('box/cur/u')}) = ? ERESTARTSYS (To be restarted if SA_RESTART is set)",
+                           f"1 unlink({quoted('box/cur/u')}) = -1 EINTR (Interrupted system call)"), [("cur", b"u")])
+        self.assertEqual(steps_of(log), [])
+
+    def test_unknown_line(self):
+        self.assertEqual(steps_of(log_of(trace("1 what is this")))[0][:11], "# not said:")
+
+
+class Readings(unittest.TestCase):
+    """Which lines a reading of a directory has."""
+
+    def test_two_at_once(self):
+        """A reading that another of the same actor comes between is dropped."""
+        cur, other = opened(3, f"{BOX_AT}/cur"), opened(4, f"{BOX_AT}/cur")
+        part = "[{d_name=" + quoted("u") + "}], 32768) = 32"
+        log = log_of(trace(f"1 getdents64({cur}, {part}", f"1 getdents64({other}, {part}", f"1 getdents64({cur}, {part}",
+                           f"1 getdents64({other}, [], 32768) = 0", f"1 getdents64({other}, [], 32768) = 0"), [("cur", b"u")])
+        self.assertEqual(steps_of(log), ["a list box cur more u", "a list box cur fault", "a list box cur more u",
+                                         "# not said: a part of a reading of cur, as another came between its parts", "a list box cur ok"])
+
+    def test_from_the_beginning_again(self):
+        cur = opened(3, f"{BOX_AT}/cur")
+        log = log_of(trace(f"1 getdents64({cur}, [], 32768) = 0", f"1 lseek({cur}, 0, SEEK_SET) = 0", f"1 getdents64({cur}, [], 32768) = 0"))
+        self.assertEqual(steps_of(log), ["a list box cur ok", "a list box cur ok"])
+
+
+class WhatAStatusClaims(unittest.TestCase):
+    """The answers."""
+
+    def answers(self, claim, status, *calls, files=((("cur"), b"u:2,S"),)):
+        log = log_of(trace(*calls, f"1 +++ exited with {status} +++"), files, [claim])
+        return [line for line in steps_of(log) if " answer " in line]
+
+    def test_flags(self):
+        """The flags are those of a moment of the command which is as claimed, if there is one."""
+        gained = f"1 {rename('box/cur/u:2,S', 'box/cur/u:2,FS')}) = 0"
+        self.assertEqual(self.answers("flags box u +F", 0, gained), ["a answer flags FS box u"])
+        self.assertEqual(self.answers("flags box u -S", 0, gained), ["a answer flags F box u"])
+        self.assertEqual(self.answers("flags box u =", 0, gained), ["a answer flags - box u"])
+        lost = f"1 {rename('box/cur/u:2,FS', 'box/cur/u:2,S')}) = 0"
+        self.assertEqual(self.answers("flags box u +F", 0, gained, lost), ["a answer flags FS box u"])
+
+    def test_failed(self):
+        self.assertEqual(self.answers("flags box u +F", 1), ["a answer failed box u"])
+        self.assertEqual(self.answers("delivered box", 1), [])
+
+    def test_delivered_or_not(self):
+        made = f"1 openat(AT_FDCWD, {quoted('box/tmp/v')}, O_WRONLY|O_CREAT|O_EXCL, 0600) = {opened(3, BOX_AT + '/tmp/v')}"
+        linked = f"1 link({quoted('box/tmp/v')}, {quoted('box/new/v,S=3')}) = 0"
+        self.assertEqual(self.answers("delivered box", 0, made, linked), ["a answer delivered box v,S=3"])
+        self.assertEqual(self.answers("delivered box", 3, made, linked), ["a answer failed box v,S=3"])
+        self.assertEqual(self.answers("delivered box", 0, made), ["a answer delivered box v"])
+        self.assertEqual(self.answers("delivered box", 0), ["a answer delivered box none"])
+
+    def test_other_words(self):
+        self.assertEqual(self.answers("moved other box u", 0), ["a answer moved other box u"])
+        self.assertEqual(self.answers("expunged box u", 0), ["a answer expunged box u"])
+        self.assertEqual(self.answers("done box u", 0), ["a answer done box u"])
+        self.assertEqual(self.answers("b: done box u", 0), [])
+
+    def test_wrong_claims(self):
+        for text in ["", "done box", "flags box u", "flags box u F", "moved box u", "told box u"]:
+            with self.assertRaises(Refused, msg=text):
+                read_claim(text)
+
+
+class Tree(unittest.TestCase):
+    """What is there at the beginning, and how the program ends."""
+
+    def setUp(self):
+        room = tempfile.TemporaryDirectory()
+        self.addCleanup(room.cleanup)
+        self.base = os.fsencode(os.path.realpath(room.name))
+        for place in (b"tmp", b"new", b"cur"):
+            os.makedirs(os.path.join(self.base, b"box", place))
+            os.makedirs(os.path.join(self.base, b"deep/box", place))
+
+    def test_files(self):
+        new = os.path.join(self.base, b"box/new/u v")
+        with open(new, "wb"):
+            pass
+        os.utime(new, (-5, -5))
+        os.link(new, os.path.join(self.base, b"box/tmp/u v"))
+        folders = named_folders([b"box"], self.base)
+        self.assertEqual([(file.paths, file.stamp) for file in files_of(folders)], [(((b"box", "tmp", b"u v"), (b"box", "new", b"u v")), 0)])
+
+    def test_folders(self):
+        self.assertEqual([folder.name for folder in named_folders([b"box", b"far=deep/box"], self.base)], [b"box", b"far"])
+        for words in [[b"none"], [b"box", b"deep/box"]]:
+            with self.assertRaises(Refused):
+                named_folders(words, self.base)
+        with self.assertRaises(Refused):
+            found_folders(self.base)
+        self.assertEqual([folder.name for folder in found_folders(os.path.join(self.base, b"deep"))], [b"box"])
+
+    def run_tool(self, *words, path=os.environ["PATH"]):
+        environment = {**os.environ, "PATH": path}
+        return subprocess.run([sys.executable, TOOLS / "trace", *words], cwd=self.base, capture_output=True, text=True, env=environment, check=False)
+
+    def test_refusals(self):
+        without = self.run_tool("--folder", "box", "true", path="/nowhere")
+        self.assertEqual((without.returncode, without.stdout), (2, ""))
+        self.assertIn("strace is not installed: it is the package strace", without.stderr)
+        self.assertEqual(self.run_tool().returncode, 2)
+
+
+if __name__ == "__main__":
+    unittest.main()
