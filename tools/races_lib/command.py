@@ -7,12 +7,14 @@ import os
 import sys
 from pathlib import Path
 
+from .count import count
+from .judged import judged
 from .page import page, scene_shown
 from .picture import picture
-from .play import Programs, check_script, play_whole
+from .play import Played, Programs, check_script, play_whole
 from .refused import Refused
-from .scene import read_scene
-from .tree import estimate, interleavings
+from .scene import Scene, read_scene
+from .tree import actors_of, interleavings
 
 TOP = Path(__file__).resolve().parents[2]
 EXAMPLES = TOP / "crates/examples/data"
@@ -48,22 +50,31 @@ def options() -> argparse.ArgumentParser:
     return parser
 
 
+def own_turns(scene: Scene, own: Played) -> list[int]:
+    """Who takes the steps in the script itself. A listing takes two, however often the script makes it."""
+    turns: list[int] = []
+    for actor in actors_of(own):
+        if not scene.actors[actor].folder or turns.count(actor) < 2:
+            turns.append(actor)
+    return turns
+
+
 def show_scene(programs: Programs, file: Path, most: int) -> dict[str, object]:
     """A script's scene, with its interleavings."""
     check_script(programs, file)
     scene = read_scene(file)
     own = play_whole(programs, scene)
-    found, has_more = interleavings(programs, scene, most)
-    if has_more:
-        print(f"races: {file}: took {len(found)} interleavings, and there are more: about {estimate(found[0])}", file=sys.stderr)
-    else:
-        print(f"races: {file}: took {len(found)} interleavings of {len(found)}", file=sys.stderr)
-    return scene_shown(scene, found, own, has_more)
+    found, has_more = interleavings(programs, scene, own_turns(scene, own), most)
+    number, is_all = count(programs, scene, found) if has_more else (len(found), True)
+    there_are = f"{'' if is_all else 'at least '}{number:,}"
+    print(f"races: {file}: took {len(found):,} interleavings of {there_are}", file=sys.stderr)
+    is_example = file.resolve().parent == EXAMPLES.resolve()
+    return scene_shown(scene, found, own, there_are) | {"judged": judged(scene.name if is_example else "")}
 
 
-def make_page(programs: Programs, files: list[Path], most: int) -> str:
+def make_page(programs: Programs, files: list[Path], most: int, is_of_docs: bool = False) -> str:
     """The page of some scripts."""
-    return page([show_scene(programs, file, most) for file in files])
+    return page([show_scene(programs, file, most) for file in files], is_of_docs)
 
 
 def make_picture(programs: Programs, file: Path, title: str) -> str:
@@ -74,7 +85,7 @@ def make_picture(programs: Programs, file: Path, title: str) -> str:
 
 def documents(programs: Programs) -> dict[str, str]:
     """All that is made for docs, by its file."""
-    made = {PAGE: make_page(programs, [EXAMPLES / f"{name}.script" for name in SCENES], MOST)}
+    made = {PAGE: make_page(programs, [EXAMPLES / f"{name}.script" for name in SCENES], MOST, is_of_docs=True)}
     for name, (file, title) in PICTURES.items():
         made[name] = make_picture(programs, file, title)
     return made

@@ -58,6 +58,7 @@
   function open(number) {
     now.scene = number;
     now.path = scene().own;
+    showJudged();
     go(0);
   }
 
@@ -65,7 +66,9 @@
     get('scene').value = String(now.scene);
     get('path').value = String(now.path + 1);
     get('path').max = String(scene().paths.length);
-    get('count').textContent = `of ${scene().paths.length}${scene().more ? ', and there are more' : ''}`;
+    const taken = scene().paths.length.toLocaleString('en');
+    get('count').textContent = taken === scene().all ? `of ${taken}` : `of the ${taken} taken; there are ${scene().all}`;
+    get('lattice-title').textContent = taken === scene().all ? 'All orders' : 'The orders that were taken';
     get('about').textContent = scene().about;
     get('place').textContent = `step ${now.step} of ${path().length}`;
     get('before').disabled = now.path === 0;
@@ -161,9 +164,38 @@
     for (let actor = 1; actor < scene().actors.length; actor += 1) showActor(columns, actor);
   }
 
-  // Where a point is, by how many steps each actor has taken.
-  const across = done => 22 + 40 * done[0] + 22 * (done[2] || 0);
-  const down = done => 40 + 36 * (done[1] || 0) + 16 * (done[2] || 0);
+  // A text of a page of docs, with what stands in its backquotes as code.
+  function code(parent, text) {
+    text.split('`').forEach((part, at) => at % 2 ? add(parent, 'code', part) : parent.append(part));
+  }
+
+  // What was seen of released programs. Where nothing was, the page says so.
+  function showJudged() {
+    const box = get('judged');
+    const { told, ran, rows } = scene().judged;
+    box.replaceChildren();
+    if (told) code(add(box, 'p'), `${told}.`);
+    for (const [program, scene, found, command] of rows) {
+      const item = add(box, 'div', undefined, 'column');
+      code(add(item, 'h3'), program);
+      code(add(item, 'p'), `${scene[0].toUpperCase()}${scene.slice(1)}.`);
+      code(add(item, 'p'), `The judge found: ${found}.`);
+      code(add(item, 'p'), `Shown by ${command}.`);
+    }
+    if (rows.length) add(box, 'p', ran, 'hint');
+    else add(box, 'p', told ? 'The judge has no log of this race.' : 'No released program was looked at.');
+  }
+
+  // Where a point is, by how many steps each actor has taken. Those of a third actor lie between the points of the other two.
+  const deepest = () => Math.max(0, ...scene().paths.map(order => order.filter(number => scene().steps[number][ACTOR] === 2).length));
+  function placing() {
+    const third = deepest();
+    const [wide, high] = third ? [15 * third + 26, 14 * third + 24] : [40, 36];
+    return {
+      across: done => 22 + wide * done[0] + 15 * (done[2] || 0),
+      down: done => 40 + high * (done[1] || 0) + 14 * (done[2] || 0),
+    };
+  }
 
   // The points that an order goes through.
   function points(order) {
@@ -195,10 +227,12 @@
     const mine = points(path());
     const places = new Map(mine.map((done, at) => [done.join(), at]));
     const dots = [...all.points.values()];
+    const { across, down } = placing();
     const width = Math.max(...dots.map(dot => across(dot.done))) + 26;
     const height = Math.max(...dots.map(dot => down(dot.done))) + 26;
     svg.setAttribute('viewBox', `0 0 ${width} ${height}`);
     svg.setAttribute('width', width);
+    svg.setAttribute('height', height);
     svg.setAttribute('aria-label', `Order ${now.path + 1}: ${path().map(number => nameOf(scene().steps[number][ACTOR])).join(', ')}`);
     draw(svg, 'text', { x: 12, y: 16 }).textContent = `→ ${nameOf(0)}, ↓ ${nameOf(1)}${scene().actors[2] ? `, ↘ ${nameOf(2)}` : ''}`;
     const lines = [...all.ways].map(([key, [from, to]]) => {
@@ -209,16 +243,18 @@
     for (const { from, to, on } of lines.sort((one, other) => one.on - other.on)) {
       draw(svg, 'line', { x1: across(from), y1: down(from), x2: across(to), y2: down(to), class: ['', 'on', 'past'][on] });
     }
-    for (const dot of dots) showPoint(svg, dot, places.get(dot.done.join()));
+    const here = across(mine[now.step]);
+    svg.parentElement.scrollLeft = here - svg.parentElement.clientWidth / 2;
+    for (const dot of dots) showPoint(svg, dot, places.get(dot.done.join()), across(dot.done), down(dot.done));
   }
 
-  function showPoint(svg, dot, at) {
+  function showPoint(svg, dot, at, x, y) {
     const kinds = at === undefined ? [] : ['on'];
     if (at) kinds.push(stepAt(at - 1)[KIND]);
     if (at === now.step) kinds.push('here');
-    const circle = draw(svg, 'circle', { cx: across(dot.done), cy: down(dot.done), r: at === undefined ? 7 : 9, class: kinds.join(' ') });
+    const circle = draw(svg, 'circle', { cx: x, cy: y, r: at === undefined ? 7 : 9, class: kinds.join(' ') });
     const sign = at ? SIGNS[stepAt(at - 1)[KIND]] : undefined;
-    if (sign) draw(svg, 'text', { x: across(dot.done), y: down(dot.done) + 4, class: 'sign' }).textContent = sign;
+    if (sign) draw(svg, 'text', { x, y: y + 4, class: 'sign' }).textContent = sign;
     draw(circle, 'title', {}).textContent = dot.done.map((steps, actor) => `${nameOf(actor)}: ${steps}`).join(', ');
     circle.addEventListener('click', () => {
       if (at === undefined) now.path = dot.number;

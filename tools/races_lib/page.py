@@ -49,7 +49,7 @@ def step_shown(step: Step, mark: Mark, state: int) -> list[object]:
     return [step.actor, step.call, step.reply, step.moment, effect, answer, mark.kind, mark.words, mark.clause, state]
 
 
-def scene_shown(scene: Scene, interleavings: list[Played], own: Played, has_more: bool) -> dict[str, object]:
+def scene_shown(scene: Scene, interleavings: list[Played], own: Played, there_are: str) -> dict[str, object]:
     """A scene as the page has it. Steps and states that come in many interleavings are there once."""
     states, steps = Table(), Table()
     first = states.number(rows_shown(scene, own.beginning))
@@ -69,7 +69,7 @@ def scene_shown(scene: Scene, interleavings: list[Played], own: Played, has_more
         "steps": steps.values(),
         "paths": paths,
         "own": begins.index(True) if True in begins else 0,
-        "more": has_more,
+        "all": there_are,
     }
 
 
@@ -88,8 +88,30 @@ def table(scene: dict[str, object]) -> str:
     return (
         f"<section><h2>{escape(scene['title'])}</h2><p>{escape(scene['about'])}</p><p>{calls}</p>"
         f'<div class="wide" tabindex="0" role="region" aria-label="{escape(scene["title"])}, one interleaving">'
-        f"<table><thead><tr>{head}</tr></thead><tbody>{''.join(lines)}</tbody></table></div></section>"
+        f"<table><thead><tr>{head}</tr></thead><tbody>{''.join(lines)}</tbody></table></div>{judged_text(scene['judged'])}</section>"
     )
+
+
+def coded(text: str) -> str:
+    """A text of a page of docs, with what stands in its backquotes as code."""
+    parts = escape(text).split("`")
+    return "".join(f"<code>{part}</code>" if at % 2 else part for at, part in enumerate(parts))
+
+
+def judged_text(judged: dict[str, object]) -> str:
+    """What released programs do in the race of a scene, for readers without JavaScript."""
+    parts = ["<h3>What released programs do in this race</h3>"]
+    if judged["told"]:
+        parts.append(f"<p>{coded(judged['told'])}.</p>")
+    for program, scene, found, command in judged["rows"]:
+        parts.append(f"<p><strong>{coded(program)}</strong>, {coded(scene)}. The judge found: {coded(found)}. Shown by {coded(command)}.</p>")
+    if judged["rows"]:
+        parts.append(f"<p>{coded(judged['ran'])}</p>")
+    elif judged["told"]:
+        parts.append("<p>The judge has no log of this race.</p>")
+    else:
+        parts.append("<p>No released program was looked at.</p>")
+    return "".join(parts)
 
 
 def row_of(number: str, who: str, call: str, state: list[list[list[str]]], folders: list[str], said: str) -> str:
@@ -103,8 +125,13 @@ def row_of(number: str, who: str, call: str, state: list[list[list[str]]], folde
     return "<tr>" + "".join(f"<td>{cell}</td>" for cell in cells) + "</tr>"
 
 
-def page(scenes: list[dict[str, object]]) -> str:
-    """The whole page."""
+def link(name: str, text: str, is_of_docs: bool) -> str:
+    """A page of docs: a link where this page is one, and else its name."""
+    return f'<a href="{name}">{text}</a>' if is_of_docs else f"{text} (docs/{name})"
+
+
+def page(scenes: list[dict[str, object]], is_of_docs: bool) -> str:
+    """The whole page, which may be one of docs."""
     data = json.dumps(scenes, ensure_ascii=False, separators=(",", ":")).replace("<", "\\u003c")
     text = (HERE / "page.html").read_text(encoding="utf-8")
     parts = {
@@ -112,5 +139,7 @@ def page(scenes: list[dict[str, object]]) -> str:
         "SCRIPT": (HERE / "page.js").read_text(encoding="utf-8"),
         "TABLES": "\n".join(table(scene) for scene in scenes),
         "DATA": data,
+        "THEOREM": link("THEOREM.md", "the theorem", is_of_docs),
+        "JUDGED": link("JUDGED.md", "what real programs do", is_of_docs),
     }
     return re.sub("@([A-Z]+)@", lambda found: parts[found[1]], text)

@@ -11,7 +11,7 @@ from .scene import Scene, shown
 PLACES = (b"tmp", b"new", b"cur")
 LEFT, WIDE, COLUMN, TOP, DEEP = 16, 440, 176, 58, 40
 
-STYLE = """svg{--ground:#fff;--text:#1b1f24;--soft:#57606a;--line:#8c959f;--effect:#116329;--box:#f3f5f8}
+STYLE = """svg{--ground:#fff;--text:#1b1f24;--soft:#57606a;--line:#818b98;--effect:#116329;--box:#f3f5f8}
 @media (prefers-color-scheme:dark){
 svg{--ground:#0d1117;--text:#e6edf3;--soft:#a8b3bf;--line:#6e7681;--effect:#7ee787;--box:#161b22}}
 text{font:14px system-ui,sans-serif;fill:var(--text)}.code{font-family:ui-monospace,monospace;font-size:13px}.soft{fill:var(--soft)}

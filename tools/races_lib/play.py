@@ -147,17 +147,22 @@ def place_listings(lines: list[bytes], scene: Scene, played: Played, logged: lis
             played.steps.append(next(left))
             last = played.steps[-1].rows
         elif verb == b"finish":
-            number = words[0]
             for step in left:
                 played.steps.append(step)
                 last = step.rows
-                if step.answer and b"%d" % scene.actors[step.actor].number == number:
+                if step.answer and scene.actors[step.actor].number == int(words[0]):
                     break
 
 
 def names_in(rows: tuple[Row, ...], folder: bytes, place: str) -> str:
     """The names that a state shows in a directory."""
     return shown(b" ".join(row[2] for row in rows if row[0] == folder and row[1] == place.encode())) or "nothing"
+
+
+def play_logged(programs: Programs, scene: Scene, path: list[int]) -> Played:
+    """An interleaving that begins with a path, played by the program that logs alone: what its listings list isn't there."""
+    lines, log = play_on(programs, scene, path)
+    return read_log(lines, log, scene)
 
 
 def play(programs: Programs, scene: Scene, path: list[int]) -> Played:

@@ -2,6 +2,7 @@
 
 from __future__ import annotations
 
+import os
 from dataclasses import dataclass, field
 from pathlib import Path
 
@@ -63,7 +64,7 @@ def read_scene(file: Path, fewest: int = 2) -> Scene:
     except OSError as error:
         raise Refused(f"{file} cannot be read: {error.strerror}") from None
     about = " ".join(shown(line[1:]).strip() for line in lines if line.startswith(b"#"))
-    scene = Scene(file.stem, about, [], [], [line for line in lines if line and not line.startswith(b"#")])
+    scene = Scene(shown(os.fsencode(file.stem)), about, [], [], [line for line in lines if line and not line.startswith(b"#")])
     for line in scene.whole:
         read_line(scene, line)
     check_actors(file, scene.actors, fewest)
@@ -80,10 +81,11 @@ def read_line(scene: Scene, line: bytes) -> None:
         scene.actors.append(Actor(f"job {number}", line.removeprefix(b"job "), number))
     elif words[0] in (b"step", b"finish"):
         for actor in scene.actors:
-            if words[1] == b"%d" % actor.number:
+            if int(words[1]) == actor.number:
                 actor.moments.append(b" ".join(words[2:]))
     elif words[0] == b"first" and all(actor.folder != words[1] for actor in scene.actors):
-        scene.actors.append(Actor("listing", b"first and second " + words[1], folder=words[1]))
+        others = sum(bool(actor.folder) for actor in scene.actors)
+        scene.actors.append(Actor(f"listing {others + 1}" if others else "listing", b"first and second " + words[1], folder=words[1]))
 
 
 def check_actors(file: Path, actors: list[Actor], fewest: int) -> None:

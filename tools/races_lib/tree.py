@@ -3,11 +3,34 @@
 from __future__ import annotations
 
 import os
-from concurrent.futures import FIRST_COMPLETED, Future, ThreadPoolExecutor, wait
-from math import factorial, prod
+from collections import Counter, deque
+from collections.abc import Iterator
+from concurrent.futures import ThreadPoolExecutor
+from itertools import islice
+from typing import NamedTuple
 
 from .play import Played, Programs, play
 from .scene import Scene
+
+# How many are played side by side before the next are chosen, so that what is taken does not depend on who is done first.
+BATCH = 32
+
+
+class Parting(NamedTuple):
+    """A beginning that parts from an interleaving after so many steps: there another actor takes the next one."""
+
+    path: list[int]
+    after: int
+    other: int
+
+    def turns(self) -> list[int]:
+        """Who takes its steps."""
+        return [*self.path[: self.after], self.other]
+
+
+def workers() -> ThreadPoolExecutor:
+    """As many threads as there are processors to play on."""
+    return ThreadPoolExecutor(min(4, len(os.sched_getaffinity(0))))
 
 
 def actors_of(played: Played) -> list[int]:
@@ -15,34 +38,28 @@ def actors_of(played: Played) -> list[int]:
     return [step.actor for step in played.steps]
 
 
-def others(played: Played, after: int) -> list[list[int]]:
-    """The beginnings that part from an interleaving after so many steps: some other actor, which isn't done, takes the next step."""
+def partings(played: Played, after: int) -> Iterator[Parting]:
+    """The beginnings that part from an interleaving after so many steps or more, by an actor that isn't done."""
     path = actors_of(played)
-    return [[*path[:at], other] for at in range(after, len(path)) for other in sorted(set(path[at:]) - {path[at]})]
+    left = Counter(path[after:])
+    for at in range(after, len(path)):
+        yield from (Parting(path, at, other) for other in sorted(left) if other != path[at])
+        left[path[at]] -= 1
+        if not left[path[at]]:
+            del left[path[at]]
 
 
-def interleavings(programs: Programs, scene: Scene, most: int) -> tuple[list[Played], bool]:
+def interleavings(programs: Programs, scene: Scene, own: list[int], most: int) -> tuple[list[Played], bool]:
     """All interleavings in order of who takes the steps, at most so many; and whether there are more.
 
-    A process plays each. How many steps a job takes depends on the path, so each interleaving says which others part from it."""
-    found: list[Played] = []
-    waiting: list[list[int]] = [[]]
-    running: dict[Future[Played], int] = {}
-    with ThreadPoolExecutor(min(4, len(os.sched_getaffinity(0)))) as workers:
-        while waiting or running:
-            while waiting and len(found) + len(running) < most and len(running) < 8:
-                path = waiting.pop()
-                running[workers.submit(play, programs, scene, path)] = len(path)
-            if not running:
-                break
-            for done in wait(running, return_when=FIRST_COMPLETED).done:
-                played = done.result()
+    A process plays each. How many steps a job takes depends on the path, so each interleaving says which others part from it. The first
+    is the script's own; where there are too many, those are taken that part from it the fewest times."""
+    found = [play(programs, scene, own)]
+    waiting = deque(islice(partings(found[0], 0), most))
+    with workers() as pool:
+        while waiting and len(found) < most:
+            batch = [waiting.popleft() for _ in range(min(BATCH, len(waiting), most - len(found)))]
+            for parting, played in zip(batch, pool.map(lambda one: play(programs, scene, one.turns()), batch)):
                 found.append(played)
-                waiting.extend(others(played, running.pop(done)))
+                waiting.extend(islice(partings(played, parting.after + 1), max(0, most + 1 - len(found) - len(waiting))))
     return sorted(found, key=actors_of), bool(waiting)
-
-
-def estimate(played: Played) -> int:
-    """How many interleavings there were if each job always took as many steps as in this one."""
-    path = actors_of(played)
-    return factorial(len(path)) // prod(factorial(path.count(actor)) for actor in set(path))

@@ -3,6 +3,7 @@
 from __future__ import annotations
 
 import json
+import math
 import os
 import re
 import subprocess
@@ -14,8 +15,9 @@ from pathlib import Path
 TOOLS = Path(__file__).resolve().parent.parent
 sys.path.insert(0, str(TOOLS))
 
-from races_lib import command, scene  # noqa: E402
-from races_lib.play import Programs, play, play_whole, run  # noqa: E402
+from races_lib import command, judged, scene  # noqa: E402
+from races_lib.count import count  # noqa: E402
+from races_lib.play import Played, Programs, play, play_whole, run  # noqa: E402
 from races_lib.refused import Refused  # noqa: E402
 from races_lib.tree import actors_of, interleavings  # noqa: E402
 
@@ -26,6 +28,10 @@ PROGRAMS = Programs(TRACE, CLI)
 BUILT = all(os.access(program, os.X_OK) for program in (TRACE, CLI))
 
 TWO_CLEANS = b"folder i\njob clean i\njob clean i\nfinish 1 1\nfinish 2 1\n"
+EXAMPLES = [file for file in sorted(command.EXAMPLES.glob("*.script")) if 1 < len(re.findall("^(?:job|first) ", file.read_text(), re.M)) <= 3]
+# Three that look for one message: the copy looks in two places.
+THREE = b"folder i\nfolder j\nfile i cur u 0 x\njob flag i u S - 1\njob flag i u F - 2\njob copy i u j v 2\n"
+THREE += b"finish 1 1\nfinish 2 1\nfinish 3 1\n"
 TWO_FLAGS = b"folder i\nfile i cur u 0 x\njob flag i u S - 2\njob flag i u F - 2\nfinish 1 1\nfinish 2 1\n"
 
 
@@ -71,9 +77,45 @@ class Scenes(ScratchTest):
         self.assertEqual([job.step(done) for done in range(5)], [b"step 1 5", b"step 1 6 9", b"step 1 8", b"step 1 8", b"step 1 8"])
         self.assertEqual(job.steps_from(1), [b"step 1 6 9", b"finish 1 8"])
 
+    def test_numbers_may_begin_with_zeros(self) -> None:
+        actors = scene.read_scene(self.script(b"job clean i\njob clean i\nfinish 01 5\nfinish 2 1\n")).actors
+        self.assertEqual([actor.moments for actor in actors], [[b"5"], [b"1"]])
+
+    def test_listings_of_two_folders_have_names_of_their_own(self) -> None:
+        actors = scene.read_scene(self.script(b"first i\nfirst j\nsecond i\nsecond j\n")).actors
+        self.assertEqual([actor.name for actor in actors], ["listing", "listing 2"])
+
     def test_a_file_that_is_not_there_is_refused(self) -> None:
         with self.assertRaises(Refused):
             scene.read_scene(self.folder / "none")
+
+
+class Judged(unittest.TestCase):
+    """What is said of released programs, which the tables of pages have."""
+
+    def test_each_row_is_one_of_the_table(self) -> None:
+        table = judged.JUDGED.read_text(encoding="utf-8")
+        for race, scenes in judged.SCENES.items():
+            self.assertTrue((command.EXAMPLES / f"{race}.script").exists())
+            rows = judged.judged(race)["rows"]
+            self.assertEqual([row[3] for row in rows], [f"`tools/scenes {one}`" for one in scenes])
+            for row in rows:
+                self.assertIn("| " + " | ".join(cell.replace("|", "\\|") for cell in row) + " |", table)
+            for one in scenes:
+                self.assertTrue((TOOLS / f"scenes.d/{one}.scene").exists())
+
+    def test_the_words_are_those_of_the_readme(self) -> None:
+        for race in (*judged.SCENES, "two-deliverers", "copy-while-flagged", "clocks-apart"):
+            told = judged.judged(race)["told"]
+            self.assertTrue(told)
+            self.assertIn(f"| {told} |", judged.TOLD.read_text(encoding="utf-8"))
+
+    def test_a_race_of_no_table_has_nothing(self) -> None:
+        for race in ("expunge-and-untrash", "two-cleaners", ""):
+            self.assertEqual(judged.judged(race), {"told": "", "ran": "", "rows": []})
+
+    def test_a_bar_in_a_cell_is_no_end_of_it(self) -> None:
+        self.assertEqual(judged.cells("| a \\| b | `c` |"), ("a | b", "`c`"))
 
 
 @unittest.skipUnless(BUILT, "maildir_trace and maildir_cli are not built")
@@ -88,10 +130,15 @@ class Pages(ScratchTest):
         page = out.read_text(encoding="utf-8")
         return page, json.loads(re.search(r'id="data">(.*?)</script>', page, re.S)[1])[0]
 
+    def all_of(self, text: bytes, most: int) -> tuple[list[Played], bool]:
+        """The interleavings of a script, at most so many, and whether there are more."""
+        race = scene.read_scene(self.script(text))
+        return interleavings(PROGRAMS, race, actors_of(play_whole(PROGRAMS, race)), most)
+
     def test_all_interleavings_are_there_once(self) -> None:
-        found, has_more = interleavings(PROGRAMS, scene.read_scene(self.script(TWO_CLEANS)), 10)
+        found, has_more = self.all_of(TWO_CLEANS, 10)
         self.assertEqual(([actors_of(one) for one in found], has_more), ([[0, 1], [1, 0]], False))
-        found, _ = interleavings(PROGRAMS, scene.read_scene(self.script(TWO_FLAGS)), 100)
+        found, _ = self.all_of(TWO_FLAGS, 100)
         paths = [actors_of(one) for one in found]
         # Two look and rename one after the other; or both look first, and the second to rename looks and renames once more.
         first = [[0, 0, 1, 1], [0, 1, 0, 1, 1, 1], [0, 1, 1, 0, 0, 0]]
@@ -108,8 +155,46 @@ class Pages(ScratchTest):
         out = self.folder / "out.html"
         done = self.races(self.script(TWO_FLAGS), "-o", out, "--most", "3")
         self.assertEqual(done.returncode, 0)
-        self.assertIn("took 3 interleavings, and there are more: about 6", done.stderr)
-        self.assertIn('"more":true', out.read_text(encoding="utf-8"))
+        self.assertIn("took 3 interleavings of 6", done.stderr)
+        _, shown = self.data(TWO_FLAGS, "--most", "3")
+        self.assertEqual((len(shown["paths"]), shown["all"]), (3, "6"))
+
+    def test_what_is_taken_does_not_depend_on_the_processors(self) -> None:
+        taken = [[actors_of(one) for one in self.all_of(TWO_FLAGS, 4)[0]] for _ in range(3)]
+        self.assertEqual(taken[1:], taken[:1] * 2)
+        # The script's own, and three that part from it once.
+        self.assertIn([0, 0, 1, 1], taken[0])
+
+    def test_the_count_is_that_of_all_interleavings(self) -> None:
+        races = [scene.read_scene(file) for file in EXAMPLES] + [scene.read_scene(self.script(text)) for text in (TWO_CLEANS, TWO_FLAGS, THREE)]
+        for race in races:
+            with self.subTest(race.name):
+                found, has_more = interleavings(PROGRAMS, race, command.own_turns(race, play_whole(PROGRAMS, race)), 1000)
+                self.assertFalse(has_more)
+                self.assertEqual(count(PROGRAMS, race, found[:1]), (len(found), True))
+
+    def test_many_are_counted_that_are_not_played(self) -> None:
+        # Two deliveries that never meet, with 9 calls each.
+        text = b"folder i\njob deliver i a 1 123456\njob deliver i b 1 123456\nfinish 1 1\nfinish 2 1\n"
+        race = scene.read_scene(self.script(text))
+        found, has_more = self.all_of(text, 1)
+        self.assertEqual((has_more, count(PROGRAMS, race, found)), (True, (math.comb(18, 9), True)))
+
+    def test_a_count_that_is_cut_short_is_a_lower_bound(self) -> None:
+        race = scene.read_scene(self.script(THREE))
+        found, _ = self.all_of(THREE, 20)
+        number, is_all = count(PROGRAMS, race, found, most_steps=50)
+        self.assertFalse(is_all)
+        self.assertGreaterEqual(number, 20)
+        self.assertLess(number, len(self.all_of(THREE, 1000)[0]))
+
+    def test_a_script_of_an_examples_name_is_not_the_example(self) -> None:
+        copy = self.folder / "two-flaggers.script"
+        copy.write_bytes(TWO_FLAGS)
+        self.races(copy, "-o", self.folder / "copy.html")
+        self.races(command.EXAMPLES / "two-flaggers.script", "-o", self.folder / "own.html")
+        self.assertIn("No released program was looked at.", (self.folder / "copy.html").read_text(encoding="utf-8").split('id="data">')[0])
+        self.assertIn("<code>tools/scenes mflag-twice</code>", (self.folder / "own.html").read_text(encoding="utf-8"))
 
     def test_a_refused_line_is_named(self) -> None:
         done = self.races(self.script(TWO_FLAGS + b"list j\n"), "-o", self.folder / "out.html")
@@ -138,6 +223,26 @@ class Pages(ScratchTest):
     def test_a_name_of_a_whole_element_is_text(self) -> None:
         page, _ = self.data(TWO_FLAGS.replace(b" u ", b" <script>alert(1)<script> "))
         self.assertEqual(len(re.findall("<script", page)), 2)
+
+    def test_an_element_with_a_slash_is_text_or_refused(self) -> None:
+        element = b"<script>alert(1)</script>"
+        text = b"folder i\njob deliver i u 99 " + element + b"\njob clean i\nfinish 1 1\nfinish 2 1\n"
+        page, shown = self.data(text)
+        self.assertEqual(len(re.findall("<script", page)), 2)
+        self.assertIn(element.decode(), shown["actors"][0][1])
+        for named, why in ((b" u ", "bad unique"), (b"folder i", "bad folder")):
+            done = self.races(self.script(text.replace(named, named.replace(named.strip().split(b" ")[-1], element))), "-o", self.folder / "no.html")
+            self.assertEqual((done.returncode, done.stderr), (1, f"races: {self.folder}/race.script: line {1 + (named == b' u ')}: {why}\n"))
+            self.assertFalse((self.folder / "no.html").exists())
+
+    def test_a_files_name_is_text(self) -> None:
+        file = Path(os.fsdecode(bytes(self.folder) + b"/<b>\xff&.script"))
+        file.write_bytes(TWO_FLAGS)
+        done = self.races(file, "-o", self.folder / "out.html")
+        self.assertEqual(done.returncode, 0, done.stderr)
+        page = (self.folder / "out.html").read_text(encoding="utf-8")
+        self.assertNotIn("<b>", page)
+        self.assertIn("<h2>&lt;b&gt;\\xff&amp;</h2>", page)
 
     def test_bytes_that_are_no_text_are_shown_by_their_numbers(self) -> None:
         _, shown = self.data(TWO_FLAGS.replace(b" u ", b" \xff\xc3 "))
