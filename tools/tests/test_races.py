@@ -30,7 +30,7 @@ BUILT = all(os.access(program, os.X_OK) for program in (TRACE, CLI))
 TWO_CLEANS = b"folder i\njob clean i\njob clean i\nfinish 1 1\nfinish 2 1\n"
 EXAMPLES = [file for file in sorted(command.EXAMPLES.glob("*.script")) if 1 < len(re.findall("^(?:job|first) ", file.read_text(), re.M)) <= 3]
 # Three that look for one message: the copy looks in two places.
-THREE = b"folder i\nfolder j\nfile i cur u 0 x\njob flag i u S - 1\njob flag i u F - 2\njob copy i u j v 2\n"
+THREE = b"folder i\nfolder j\nfile i cur u 0 x\njob flag i u S - 1\njob flag i u F - 1\njob copy i u j v 1\n"
 THREE += b"finish 1 1\nfinish 2 1\nfinish 3 1\n"
 TWO_FLAGS = b"folder i\nfile i cur u 0 x\njob flag i u S - 2\njob flag i u F - 2\nfinish 1 1\nfinish 2 1\n"
 
@@ -166,12 +166,19 @@ class Pages(ScratchTest):
         self.assertIn([0, 0, 1, 1], taken[0])
 
     def test_the_count_is_that_of_all_interleavings(self) -> None:
-        races = [scene.read_scene(file) for file in EXAMPLES] + [scene.read_scene(self.script(text)) for text in (TWO_CLEANS, TWO_FLAGS, THREE)]
-        for race in races:
+        for race in [scene.read_scene(file) for file in EXAMPLES] + [scene.read_scene(self.script(TWO_FLAGS))]:
             with self.subTest(race.name):
-                found, has_more = interleavings(PROGRAMS, race, command.own_turns(race, play_whole(PROGRAMS, race)), 1000)
-                self.assertFalse(has_more)
-                self.assertEqual(count(PROGRAMS, race, found[:1]), (len(found), True))
+                found, has_more = interleavings(PROGRAMS, race, command.own_turns(race, play_whole(PROGRAMS, race)), 60)
+                number, is_all = count(PROGRAMS, race, found[:1])
+                self.assertTrue(is_all)
+                self.assertEqual((min(number, 60), number > 60), (len(found), has_more))
+
+    def test_three_are_counted_too(self) -> None:
+        race = scene.read_scene(self.script(THREE))
+        found, has_more = self.all_of(THREE, 1000)
+        self.assertEqual((has_more, count(PROGRAMS, race, found[:1])), (False, (len(found), True)))
+        number, is_all = count(PROGRAMS, race, found[:20], most_steps=50)
+        self.assertEqual((is_all, 20 <= number < len(found)), (False, True))
 
     def test_many_are_counted_that_are_not_played(self) -> None:
         # Two deliveries that never meet, with 9 calls each.
@@ -179,14 +186,6 @@ class Pages(ScratchTest):
         race = scene.read_scene(self.script(text))
         found, has_more = self.all_of(text, 1)
         self.assertEqual((has_more, count(PROGRAMS, race, found)), (True, (math.comb(18, 9), True)))
-
-    def test_a_count_that_is_cut_short_is_a_lower_bound(self) -> None:
-        race = scene.read_scene(self.script(THREE))
-        found, _ = self.all_of(THREE, 20)
-        number, is_all = count(PROGRAMS, race, found, most_steps=50)
-        self.assertFalse(is_all)
-        self.assertGreaterEqual(number, 20)
-        self.assertLess(number, len(self.all_of(THREE, 1000)[0]))
 
     def test_a_script_of_an_examples_name_is_not_the_example(self) -> None:
         copy = self.folder / "two-flaggers.script"

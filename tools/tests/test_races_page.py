@@ -3,8 +3,11 @@
 from __future__ import annotations
 
 import json
+import os
 import re
+import subprocess
 import sys
+import tempfile
 import unittest
 from pathlib import Path
 
@@ -13,7 +16,13 @@ sys.path.insert(0, str(Path(__file__).resolve().parent.parent))
 
 import browser  # noqa: E402
 
-PAGE = Path(__file__).resolve().parents[2] / "docs/races.html"
+TOP = Path(__file__).resolve().parents[2]
+PAGE = TOP / "docs/races.html"
+PICTURES = (TOP / "docs/delivery.svg", TOP / "docs/listing.svg")
+TRACE = Path(os.environ.get("MAILDIR_TRACE", TOP / "crates/maildir_trace/out/maildir_trace"))
+CLI = Path(os.environ.get("MAILDIR_CLI", TOP / "crates/maildir_cli/out/maildir_cli"))
+ELEMENT = b"<script>alert(1)</script>"
+HOSTILE = b"# %s\nfolder <b>i\njob deliver <b>i <script>alert(1)<script> 99 %s\njob clean <b>i\nfinish 1 1\nfinish 2 1\n" % (ELEMENT, ELEMENT)
 UP, RIGHT, DOWN, HOME, TAB, ENTER = "\ue013", "\ue014", "\ue015", "\ue011", "\ue004", "\ue007"
 PLACES = ("tmp", "new", "cur")
 
@@ -53,7 +62,7 @@ CHOOSE = "const choice = document.getElementById('scene'); choice.value = argume
 @unittest.skipUnless(browser.is_there(), f"{browser.PACKAGES} are not there")
 @unittest.skipUnless(PAGE.exists(), "docs/races.html is not there")
 class Page(unittest.TestCase):
-    """The page as readers have it."""
+    """The page as readers have it, in Chromium."""
 
     @classmethod
     def setUpClass(cls) -> None:
@@ -122,6 +131,31 @@ class Page(unittest.TestCase):
                 self.browser.run("document.getElementById('end').click()")
                 self.assertLessEqual(self.browser.run("return document.documentElement.scrollWidth"), width)
 
+    def test_what_released_programs_do_is_beside_the_scene(self) -> None:
+        for number, scene in enumerate(self.scenes):
+            self.browser.run(CHOOSE, str(number))
+            shown = self.browser.run("return document.getElementById('judged').textContent")
+            judged = scene["judged"]
+            for text in (judged["told"], judged["ran"], *(cell for row in judged["rows"] for cell in row)):
+                self.assertIn(text.replace("`", "").lower(), shown.lower())
+            self.assertEqual("No released program was looked at." in shown, not judged["told"])
+
+    @unittest.skipUnless(os.access(TRACE, os.X_OK) and os.access(CLI, os.X_OK), "maildir_trace and maildir_cli are not built")
+    def test_markup_in_a_script_does_nothing(self) -> None:
+        with tempfile.TemporaryDirectory() as folder:
+            script, page = Path(folder) / "<i>.script", Path(folder) / "out.html"
+            script.write_bytes(HOSTILE)
+            subprocess.run([TOP / "tools/races", "--trace", TRACE, "--cli", CLI, script, "-o", page], capture_output=True, check=True)
+            self.browser.log("browser")
+            self.browser.go(page)
+            for key in (*[RIGHT] * 4, DOWN, HOME):
+                self.browser.press(key)
+                self.assertEqual(self.browser.run("return document.querySelectorAll('b, i:not(.dot i), script:not(#data)').length"), 1)
+            self.assertEqual(self.browser.log("browser"), [])
+            shown = self.browser.run("return document.getElementById('stepper').innerText")
+            for text in (ELEMENT.decode(), "<script>alert(1)<script>", "<b>i/tmp", "<i>"):
+                self.assertIn(text, shown)
+
     def test_a_reader_without_scripts_has_tables(self) -> None:
         self.browser.command("Emulation.setScriptExecutionDisabled", value=True)
         try:
@@ -131,6 +165,16 @@ class Page(unittest.TestCase):
             self.browser.command("Emulation.setScriptExecutionDisabled", value=False)
         for scene in self.scenes:
             self.assertIn(scene["about"], shown)
+            for row in scene["judged"]["rows"]:
+                self.assertIn(row[3].replace("`", ""), shown)
+
+    def test_all_that_takes_keys_has_a_name(self) -> None:
+        nodes = self.browser.command("Accessibility.getFullAXTree")["nodes"]
+        roles = ("button", "combobox", "spinbutton", "region", "group", "status", "link", "image")
+        named = [(node["role"]["value"], node.get("name", {}).get("value")) for node in nodes if not node["ignored"]]
+        lacking = [role for role, name in named if role in roles and role != "status" and not name]
+        self.assertEqual(lacking, [])
+        self.assertTrue({"button", "combobox", "spinbutton", "region", "group", "status", "main", "image"} <= {role for role, _ in named})
 
 
 def luminance(colour: str) -> float:
@@ -153,14 +197,48 @@ class Colours(unittest.TestCase):
         kind: f"ground box {kind}-box here-box" for kind in ("effect", "lost", "again", "here")
     }
 
+    def check_colours(self, scheme: str, least: float, text: str, grounds: str) -> None:
+        """The contrast of a colour on those of them that the scheme has."""
+        colours = dict(re.findall(r"--([a-z-]+): ?(#[0-9a-f]{3,6})", scheme))
+        for ground in grounds.split():
+            if text in colours and ground in colours:
+                with self.subTest(f"{text} on {ground}"):
+                    one, other = (value if len(value) == 7 else "#" + "".join(2 * part for part in value[1:]) for value in (colours[text], colours[ground]))
+                    self.assertGreaterEqual(contrast(one, other), least)
+
     def test_text_has_the_contrast_of_wcag_aa(self) -> None:
-        style = PAGE.parent.parent.joinpath("tools/races_lib/page.css").read_text(encoding="utf-8")
-        for scheme in re.findall(r":root \{(.*?)\}", style, re.S):
-            colours = dict(re.findall(r"--([a-z-]+): (#[0-9a-f]{6})", scheme))
+        style = (TOP / "tools/races_lib/page.css").read_text(encoding="utf-8")
+        schemes = re.findall(r":root \{(.*?)\}", style, re.S)
+        for picture in PICTURES:
+            schemes += re.findall(r"svg\{(--.*?)\}", picture.read_text(encoding="utf-8"))
+        self.assertEqual(len(schemes), 6)
+        for scheme in schemes:
             for text, grounds in self.GROUNDS.items():
-                for ground in grounds.split():
-                    with self.subTest(f"{text} on {ground}"):
-                        self.assertGreaterEqual(contrast(colours[text], colours[ground]), 4.5)
+                self.check_colours(scheme, 4.5, text, grounds)
+            self.check_colours(scheme, 3, "line", "ground box")
+
+
+class Reach(unittest.TestCase):
+    """The size of the page, and where it leads."""
+
+    def test_the_page_is_below_a_megabyte_and_takes_nothing_from_elsewhere(self) -> None:
+        text = PAGE.read_text(encoding="utf-8")
+        self.assertLess(len(text.encode()), 1_000_000)
+        self.assertEqual(re.findall(r'(?:src|href)="(?!data:|THEOREM\.md|JUDGED\.md)[^"]*"', text), [])
+        self.assertNotRegex(text, r"@import|url\(|fetch\(|XMLHttpRequest")
+
+    def test_the_readme_begins_with_it(self) -> None:
+        head = (TOP / "README.md").read_text(encoding="utf-8").splitlines()[:15]
+        self.assertTrue(any("](docs/races.html)" in line for line in head))
+        self.assertTrue(any(line.startswith("![") and ".svg)" in line for line in head))
+
+    def test_without_chromium_the_tests_are_skipped_by_name(self) -> None:
+        tests = "from test_races_page import Page; import unittest; unittest.main(argv=['tests', '-v', 'Page'])"
+        with tempfile.TemporaryDirectory() as empty:
+            how = {"cwd": Path(__file__).resolve().parent, "env": os.environ | {"PATH": empty}}
+            done = subprocess.run([sys.executable, "-c", tests], capture_output=True, text=True, check=False, **how)
+        self.assertEqual(done.returncode, 0, done.stderr)
+        self.assertIn(f"skipped '{browser.PACKAGES} are not there'", done.stderr)
 
 
 if __name__ == "__main__":
