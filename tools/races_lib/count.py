@@ -34,7 +34,7 @@ class States:
         return self.number((self.number(rows), *learnt))
 
     def learns(self, learnt: int, step: Step) -> int:
-        """What an actor has learnt by a step. A reading shows it stamps too; a listing in halves only counts its steps."""
+        """What an actor has learnt by a step. A reading shows it stamps and sizes too; a listing in halves only counts its steps."""
         if self.scene.actors[step.actor].folder:
             return self.number((learnt,))
         listed = step.rows if step.call.startswith("list ") else ()
@@ -48,7 +48,7 @@ class States:
         for at, step in enumerate(played.steps):
             if here not in self.ways:
                 self.after[here], self.ways[here] = at, dict.fromkeys(left)
-                new += [(here, Parting(path, at, other)) for other in left if other != step.actor]
+                new += [(here, Parting(path, at, other, frozenset(left))) for other in left if other != step.actor]
             learnt[step.actor] = self.learns(learnt[step.actor], step)
             self.ways[here][step.actor] = self.state(step.rows, learnt)
             here = self.ways[here][step.actor]
@@ -78,7 +78,7 @@ def count(programs: Programs, scene: Scene, found: list[Played], most_steps: int
                 state, parting = waiting.popleft()
                 if not states.is_known(state, parting.other):
                     batch.append(parting)
-            for played in pool.map(lambda one: play_logged(programs, scene, one.turns()), batch):
+            for played in pool.map(lambda one: play_logged(programs, scene, one.turns(), one.left), batch):
                 most_steps -= len(played.steps)
                 waiting.extend(states.add(played))
     return states.count(), all(states.is_known(state, parting.other) for state, parting in waiting)

@@ -3,6 +3,7 @@
 from __future__ import annotations
 
 import subprocess
+from collections.abc import Collection
 from dataclasses import dataclass, field
 from pathlib import Path
 
@@ -76,12 +77,12 @@ def lines_of(scene: Scene, path: list[int]) -> tuple[list[bytes], list[int]]:
     return lines, done
 
 
-def play_on(programs: Programs, scene: Scene, path: list[int]) -> tuple[list[bytes], bytes]:
-    """The script that takes the steps of a path and then lets one actor after another come to its end, and its log.
+def play_on(programs: Programs, scene: Scene, path: list[int], left: Collection[int]) -> tuple[list[bytes], bytes]:
+    """The script that takes the steps of a path and then lets one actor after another of those left come to its end, and its log.
 
-    Where an actor was done with fewer steps, its lines too many are refused, and taken out."""
+    Where a job was done with fewer steps, the first of its lines too many is refused, and they are taken out."""
     begin, done = lines_of(scene, path)
-    more = [line for at, actor in enumerate(scene.actors) for line in actor.steps_from(done[at])]
+    more = [line for at, actor in enumerate(scene.actors) if at in left for line in actor.steps_from(done[at])]
     while True:
         lines = [*begin, *more]
         status, log, said = run([str(programs.trace), "--states"], b"\n".join(lines) + b"\n")
@@ -90,7 +91,13 @@ def play_on(programs: Programs, scene: Scene, path: list[int]) -> tuple[list[byt
         number = said.removeprefix("line ").split(":")[0]
         if not said.endswith(": answered") or int(number) <= len(begin):
             raise Refused(f"{scene.name}: {said}")
-        del more[int(number) - 1 - len(begin)]
+        more = without(more, int(number) - 1 - len(begin))
+
+
+def without(lines: list[bytes], first: int) -> list[bytes]:
+    """The lines but those of the job of one of them, from that one on."""
+    job = lines[first].split(b" ")[1]
+    return lines[:first] + [line for line in lines[first:] if line.startswith(HALVES) or line.split(b" ")[1] != job]
 
 
 def read_log(lines: list[bytes], log: bytes, scene: Scene) -> Played:
@@ -159,15 +166,17 @@ def names_in(rows: tuple[Row, ...], folder: bytes, place: str) -> str:
     return shown(b" ".join(row[2] for row in rows if row[0] == folder and row[1] == place.encode())) or "nothing"
 
 
-def play_logged(programs: Programs, scene: Scene, path: list[int]) -> Played:
+def play_logged(programs: Programs, scene: Scene, path: list[int], left: Collection[int]) -> Played:
     """An interleaving that begins with a path, played by the program that logs alone: what its listings list isn't there."""
-    lines, log = play_on(programs, scene, path)
+    lines, log = play_on(programs, scene, path, left)
     return read_log(lines, log, scene)
 
 
-def play(programs: Programs, scene: Scene, path: list[int]) -> Played:
-    """An interleaving that begins with a path, played by the program that logs and by the one that lists, which must agree."""
-    lines, log = play_on(programs, scene, path)
+def play(programs: Programs, scene: Scene, path: list[int], left: Collection[int] | None = None) -> Played:
+    """An interleaving that begins with a path, played by the program that logs and by the one that lists, which must agree.
+
+    All actors are taken to be left, unless it is known which are: those that weren't done before the last step of the path."""
+    lines, log = play_on(programs, scene, path, range(len(scene.actors)) if left is None else left)
     return compared(programs, scene, lines, read_log(lines, log, scene))
 
 

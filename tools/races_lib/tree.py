@@ -17,11 +17,12 @@ BATCH = 32
 
 
 class Parting(NamedTuple):
-    """A beginning that parts from an interleaving after so many steps: there another actor takes the next one."""
+    """A beginning that parts from an interleaving after so many steps: there another actor takes the next one, of those that are left."""
 
     path: list[int]
     after: int
     other: int
+    left: frozenset[int]
 
     def turns(self) -> list[int]:
         """Who takes its steps."""
@@ -43,7 +44,7 @@ def partings(played: Played, after: int) -> Iterator[Parting]:
     path = actors_of(played)
     left = Counter(path[after:])
     for at in range(after, len(path)):
-        yield from (Parting(path, at, other) for other in sorted(left) if other != path[at])
+        yield from (Parting(path, at, other, frozenset(left)) for other in sorted(left) if other != path[at])
         left[path[at]] -= 1
         if not left[path[at]]:
             del left[path[at]]
@@ -59,7 +60,7 @@ def interleavings(programs: Programs, scene: Scene, own: list[int], most: int) -
     with workers() as pool:
         while waiting and len(found) < most:
             batch = [waiting.popleft() for _ in range(min(BATCH, len(waiting), most - len(found)))]
-            for parting, played in zip(batch, pool.map(lambda one: play(programs, scene, one.turns()), batch)):
+            for parting, played in zip(batch, pool.map(lambda one: play(programs, scene, one.turns(), one.left), batch)):
                 found.append(played)
                 waiting.extend(islice(partings(played, parting.after + 1), max(0, most + 1 - len(found) - len(waiting))))
     return sorted(found, key=actors_of), bool(waiting)

@@ -190,6 +190,11 @@ def contrast(one: str, other: str) -> float:
     return (high + 0.05) / (low + 0.05)
 
 
+def whole(colour: str) -> str:
+    """A colour with two digits for each part."""
+    return colour if len(colour) == 7 else "#" + "".join(2 * digit for digit in colour[1:])
+
+
 class Colours(unittest.TestCase):
     """The colours of the page and of the pictures."""
 
@@ -203,8 +208,7 @@ class Colours(unittest.TestCase):
         for ground in grounds.split():
             if text in colours and ground in colours:
                 with self.subTest(f"{text} on {ground}"):
-                    one, other = (value if len(value) == 7 else "#" + "".join(2 * part for part in value[1:]) for value in (colours[text], colours[ground]))
-                    self.assertGreaterEqual(contrast(one, other), least)
+                    self.assertGreaterEqual(contrast(whole(colours[text]), whole(colours[ground])), least)
 
     def test_text_has_the_contrast_of_wcag_aa(self) -> None:
         style = (TOP / "tools/races_lib/page.css").read_text(encoding="utf-8")
