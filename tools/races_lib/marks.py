@@ -8,7 +8,10 @@ from .play import Played, Step
 from .scene import Scene
 
 # Answers that come without an effect; what each tells is the clause `says`.
-TELLING = ("notthere", "nottrashed", "otherinfo", "lost", "timedout", "tmpgone")
+TELLING = {
+    "lost": ("lost", "loses the race, with its last try"),
+    "tmpgone": ("lost", "finds its file in tmp taken away"),
+} | dict.fromkeys(("notthere", "nottrashed", "otherinfo", "timedout"), ("says", "ends without an effect"))
 
 
 @dataclass(frozen=True)
@@ -44,10 +47,10 @@ def mark_of(scene: Scene, step: Step, has_lost: bool) -> Mark:
         return Mark("listing", "a half of the listing", "the listing law")
     if step.effect:
         return Mark("effect", "takes effect", "acts")
-    if step.reply == "notfound" and not actor.call.startswith(b"clean"):
-        return lost_mark(step)
-    if step.answer.split(" ")[0] in TELLING:
-        return Mark("says", "ends without an effect", "says")
+    if (told := step.answer.split(" ")[0]) in TELLING:
+        return Mark(*TELLING[told], "says")
+    if step.reply == "notfound":
+        return missing_mark(step)
     if actor.call.startswith(b"clean") and verb == "unlink":
         return Mark("tmp", "takes an old file of tmp away", "in_tmp")
     if has_lost and verb == "list":
@@ -55,11 +58,9 @@ def mark_of(scene: Scene, step: Step, has_lost: bool) -> Mark:
     return PLAIN
 
 
-def lost_mark(step: Step) -> Mark:
-    """The mark of a step whose name was gone. The last name of a delivery in tmp is of no message."""
+def missing_mark(step: Step) -> Mark:
+    """The mark of a step whose name was gone, after which its job goes on. A name that is to go from tmp is of no message."""
     verb, path = step.call.split(" ")[:2]
     if verb == "unlink" and "/tmp/" in path:
-        return Mark("quiet", "its name in tmp was gone already", "quiet")
-    if step.answer:
-        return Mark("lost", "loses the race, with its last try", "says")
+        return Mark("quiet", "the name in tmp was gone already", "quiet")
     return Mark("lost", "loses the race: the name is gone", "quiet")

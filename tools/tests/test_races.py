@@ -17,7 +17,8 @@ sys.path.insert(0, str(TOOLS))
 
 from races_lib import command, judged, scene  # noqa: E402
 from races_lib.count import count  # noqa: E402
-from races_lib.play import Played, Programs, play, play_whole, run  # noqa: E402
+from races_lib.marks import marks_of  # noqa: E402
+from races_lib.play import Played, Programs, Step, play, play_whole, run  # noqa: E402
 from races_lib.refused import Refused  # noqa: E402
 from races_lib.tree import actors_of, interleavings  # noqa: E402
 
@@ -116,6 +117,38 @@ class Judged(unittest.TestCase):
 
     def test_a_bar_in_a_cell_is_no_end_of_it(self) -> None:
         self.assertEqual(judged.cells("| a \\| b | `c` |"), ("a | b", "`c`"))
+
+
+class Marks(ScratchTest):
+    """What a step is to the theorem.."""
+
+    SCRIPT = b"folder i\njob deliver i u 9 x\njob clean i\njob flag i v S - 2\nfinish 1 1\nfinish 2 1\nfinish 3 1\n"
+    # Who, the call, the reply, the effect, the answer; the mark's kind and clause.
+    ROWS = """0|create i/tmp/u|ok|||quiet|quiet
+0|link i/tmp/u i/new/u|ok|add i/new/u 1||effect|acts
+0|unlink i/tmp/u|ok||delivered|quiet|quiet
+0|unlink i/tmp/u|notfound||delivered|quiet|quiet
+0|unlink i/tmp/u|notfound||timedout|says|says
+0|link i/tmp/u i/new/u|notfound||tmpgone|lost|says
+1|unlink i/tmp/u|ok||cleaned 1|tmp|in_tmp
+1|unlink i/tmp/u|notfound||cleaned 0|quiet|quiet
+2|list i cur|ok: v:2,S|same|flags S|effect|acts
+2|list i cur|ok: nothing||notthere|says|says
+2|rename i/cur/v i/cur/v:2,S|notfound|||lost|quiet
+2|list i cur|ok: v:2,F|||again|quiet
+2|rename i/cur/v:2,F i/cur/v:2,FS|notfound||lost|lost|says"""
+
+    def test_marks_are_those_of_what_was_printed(self) -> None:
+        race = scene.read_scene(self.script(self.SCRIPT))
+        rows = [row.split("|") for row in self.ROWS.split("\n")]
+        played = Played(steps=[Step(int(who), call, reply, "1", effect, answer) for who, call, reply, effect, answer, _, _ in rows])
+        for row, mark in zip(rows, marks_of(race, played)):
+            self.assertEqual([mark.kind, mark.clause], row[5:], row)
+
+    def test_a_half_of_a_listing_is_of_the_listing_law(self) -> None:
+        race = scene.read_scene(self.script(b"first i\njob clean i\nfinish 1 1\nsecond i\n"))
+        played = Played(steps=[Step(0, "list i new", "ok: nothing")])
+        self.assertEqual([mark.clause for mark in marks_of(race, played)], ["the listing law"])
 
 
 @unittest.skipUnless(BUILT, "maildir_trace and maildir_cli are not built")
