@@ -111,6 +111,10 @@ class Judged(unittest.TestCase):
             self.assertTrue(told)
             self.assertIn(f"| {told} |", judged.TOLD.read_text(encoding="utf-8"))
 
+    def test_a_page_that_is_not_what_is_made_is_refused(self) -> None:
+        with self.assertRaisesRegex(Refused, "docs/races.html is not what"):
+            command.check({command.PAGE: "another"})
+
     def test_a_race_of_no_table_has_nothing(self) -> None:
         for race in ("expunge-and-untrash", "two-cleaners", ""):
             self.assertEqual(judged.judged(race), {"told": "", "ran": "", "rows": []})
