@@ -113,6 +113,13 @@ class Page(unittest.TestCase):
         self.browser.press(ENTER)
         self.assertIn("job 2", self.browser.run("return document.getElementById('said').textContent"))
 
+    def test_a_point_of_the_diagram_is_gone_to_by_a_click(self) -> None:
+        before = self.browser.run("return document.getElementById('path').value")
+        self.browser.run("document.querySelector('#lattice circle:not(.on)').dispatchEvent(new MouseEvent('click', { bubbles: true }))")
+        self.assertNotEqual(self.browser.run("return document.getElementById('path').value"), before)
+        self.assertRegex(self.browser.run("return document.getElementById('place').textContent"), "^step [1-9]")
+        self.assertEqual(self.browser.run("return document.querySelectorAll('#lattice circle.here').length"), 1)
+
     def test_no_error_and_no_request(self) -> None:
         self.browser.log("browser"), self.browser.log("performance")
         self.browser.go(PAGE)
