@@ -14,6 +14,7 @@ pub(crate) mod looking;
 pub(crate) mod looks;
 pub(crate) mod reading;
 pub(crate) mod run;
+pub(crate) mod settle;
 pub(crate) mod step;
 pub(crate) mod submit;
 
