@@ -16,6 +16,7 @@ pub mod Sparing
 pub mod Interleaving
 pub mod Stepping
 pub mod Worlds
+pub mod Settling
 pub mod Looking
 pub mod Accepting
 pub mod Trace

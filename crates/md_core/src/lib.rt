@@ -16,4 +16,5 @@ pub use jobs::step::{DirCall, DirReply, Event, Moment, StepOut};
 pub use world::World;
 pub use world::load::LoadRefused;
 pub use world::run::RunStop;
+pub use world::settle::{SettleError, SettleRefused};
 pub use world::submit::SubmitRefused;

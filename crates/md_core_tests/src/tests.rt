@@ -7,6 +7,7 @@ mod mailbox;
 mod memory;
 mod pairs;
 mod runs;
+mod settles;
 mod small;
 mod submits;
 mod threads;
