@@ -22,3 +22,4 @@ pub mod Trace
 pub mod Bounds
 pub mod Tracing
 pub mod Laws
+pub mod Joining
