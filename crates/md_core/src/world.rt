@@ -8,6 +8,7 @@ use std::alloc::Global;
 use std::marker::Model;
 
 pub(crate) mod checks;
+pub(crate) mod into_dirs;
 pub(crate) mod load;
 pub(crate) mod log;
 pub(crate) mod looking;
