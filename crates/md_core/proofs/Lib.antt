@@ -9,3 +9,4 @@ pub mod Theorem
 pub mod Worlds
 pub mod Answers
 pub mod Traces
+pub mod Calling
