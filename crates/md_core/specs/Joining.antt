@@ -7,11 +7,11 @@ use Rattle.md_core.specs.declared.jobs.effect.Change.TheVariants.{Add}
 use Rattle.md_core.specs.declared.jobs.effect.Effect.{Effect}
 use Rattle.md_core.specs.History.{Listed, Names, names_after}
 
--- the effect, of a job whose number is greater by so many
+-- the same effect, of a job whose number is so many greater
 abbrev pub job_after : ℕ → Effect → Effect
 job_after n e = record e { job = n + e.job }
 
--- the effects, of jobs whose numbers are greater by so many
+-- the same effects, of jobs whose numbers are so many greater
 abbrev pub numbered_after : ℕ → List Effect → List Effect
 numbered_after n effects = map (job_after n) effects
 
