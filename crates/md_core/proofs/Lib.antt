@@ -10,3 +10,4 @@ pub mod Worlds
 pub mod Settling
 pub mod Answers
 pub mod Traces
+pub mod Calling

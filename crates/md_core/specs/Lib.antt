@@ -23,3 +23,5 @@ pub mod Trace
 pub mod Bounds
 pub mod Tracing
 pub mod Laws
+pub mod Calling
+pub mod Joining

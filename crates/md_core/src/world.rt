@@ -7,7 +7,9 @@ use md_dirs::Dirs;
 use std::alloc::Global;
 use std::marker::Model;
 
+pub(crate) mod call;
 pub(crate) mod checks;
+pub(crate) mod into_dirs;
 pub(crate) mod load;
 pub(crate) mod log;
 pub(crate) mod looking;
