@@ -96,15 +96,15 @@ fn errand(alloc: Global, number: u32, letter: Flags) -> Result<Call, AllocError>
     })
 }
 
-// The errands in turn, with their letters and what each is answered.
-fn errands() -> Result<[(Flags, Answer); 5], NameError> {
+// The errands in turn by their numbers, with their letters and what each is answered.
+fn errands() -> Result<[(u32, Flags, Answer); 5], NameError> {
     let (seen, trashed) = (Flags::parse(b"S")?, Flags::parse(b"T")?);
     Ok([
-        (seen, Answer::Flags(seen)),
-        (trashed, Answer::Flags(Flags::parse(b"ST")?)),
-        (seen, Copied),
-        (seen, Moved),
-        (seen, Expunged),
+        (0, seen, Answer::Flags(seen)),
+        (1, trashed, Answer::Flags(Flags::parse(b"ST")?)),
+        (2, seen, Copied),
+        (3, seen, Moved),
+        (4, seen, Expunged),
     ])
 }
 
@@ -113,10 +113,10 @@ fn errands_are_answered<D: Dirs>(
     rt: &impl Abort,
     alloc: Global,
     world: &mut World<D>,
-    wants: &[(Flags, Answer)],
+    wants: &[(u32, Flags, Answer)],
 ) -> Result<bool, CoreError> {
-    for (number, (letter, want)) in wants.iter().enumerate() {
-        let call = errand(alloc, number as u32, *letter)?;
+    for (number, letter, want) in wants {
+        let call = errand(alloc, *number, *letter)?;
         if answered(rt, world, call, NOW)? != *want {
             return Ok(false);
         }
