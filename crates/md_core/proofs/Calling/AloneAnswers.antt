@@ -132,7 +132,8 @@ module _ (r r' : Run) (run : IsRun r) (asked : Call) (accepted : submit_refusal 
   box-next : (k : ℕ) → ((x : Step) → step_at t k ≡ Some x → x.effect ≡ None) → box t (k + 1) ≡ box t k
   box-next k none = at_place t.steps k
       (λ x at. quiet r' run' k x at (none x at))
-      (λ past. ap (λ (xs : List Step). mailbox_of (state_after t.image xs)) (take_all (k + 1) t.steps (omega (arith, past)) ∙ sym (take_all k t.steps past)))
+      (λ past. ap (λ (xs : List Step). mailbox_of (state_after t.image xs))
+      (take_all (k + 1) t.steps (omega (arith, past)) ∙ sym (take_all k t.steps past)))
 
   box-stays : (i d : ℕ) → ((k : ℕ) (x : Step) → i ≤ k → k < i + d → step_at t k ≡ Some x → x.effect ≡ None) → box t (i + d) ≡ box t i
   box-stays = stays (box t) box-next
@@ -186,7 +187,9 @@ module _ (r r' : Run) (run : IsRun r) (asked : Call) (accepted : submit_refusal 
       let last = o.end.last in
       let since = since-of i first in
       let after : i ≤ k = o.first.first k last in
-      let within : k < length r'.events = (let n = slice_get_within t.steps k last.step last.at in let m = many-steps r' run' in omega (arith, n, m)) in
+      let n = slice_get_within t.steps k last.step last.at in
+      let m = many-steps r' run' in
+      let within : k < length r'.events = omega (arith, n, m) in
       let e : k ≡ i + (k - i) = omega (arith, after) in
       let same : last.step.at.own ≡ first.step.at.own =
       own-at k last.step last.at (omega (arith, since, after))
@@ -261,11 +264,14 @@ module _ (r r' : Run) (run : IsRun r) (asked : Call) (accepted : submit_refusal 
       -- it is answered as it is alone
       refused : IsOfSpan t job asked a → alone asked (mailbox_of (dirs_of r)) ≡ record { answer = a; after = mailbox_of (dirs_of r') }
       refused s =
-          let from : start ≤ s.k = (let begun = since-of s.in_span.from s.in_span.begun in let after = s.in_span.after in omega (arith, begun, after)) in
-          let its : (alone asked (mailbox_of (dirs_of r))).answer ≡ a = ap (λ (m : Mailbox). (alone asked m).answer) (sym (box-since s.k from)) ∙ s.is in
-          let after : (alone asked (mailbox_of (dirs_of r))).after ≡ mailbox_of (dirs_of r') =
+          let begun = since-of s.in_span.from s.in_span.begun in
+          let after = s.in_span.after in
+          let from : start ≤ s.k = omega (arith, begun, after) in
+          let its : (alone asked (mailbox_of (dirs_of r))).answer ≡ a =
+          ap (λ (m : Mailbox). (alone asked m).answer) (sym (box-since s.k from)) ∙ s.is in
+          let left : (alone asked (mailbox_of (dirs_of r))).after ≡ mailbox_of (dirs_of r') =
           alone-refused asked (mailbox_of (dirs_of r)) (ap is_success its ∙ failure) ∙ sym undone in
-          λ i. record { answer = its i; after = after i }
+          λ i. record { answer = its i; after = left i }
 
       -- no other job touched its message
       untouched : (u : List ℕ) (times : ℕ) → 0 < times → IsTouched t job u times → ⊥

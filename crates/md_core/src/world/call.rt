@@ -8,7 +8,8 @@ ghost use Rattle.md_core.specs.Stepping.{IsRun, Succeeds};
 ghost use Rattle.md_core.specs.Interleaving.{Interleaves};
 ghost use Rattle.md_core.specs.Tracing.{trace_of};
 ghost use Rattle.md_core.specs.Laws.{HasJob};
-ghost use Rattle.md_core.specs.Calling.{next_job, GoesOnBy, StepsAlone, OthersStay, HasAnswer, IsUnanswered, AnswersAlone, AnswersAsAlone, IfRefused, IfSubmitted, IfStopped};
+ghost use Rattle.md_core.specs.Calling.{next_job, GoesOnBy, StepsAlone, OthersStay, HasAnswer, IsUnanswered, AnswersAlone, AnswersAsAlone};
+ghost use Rattle.md_core.specs.Calling.{IfRefused, IfSubmitted, IfStopped};
 
 use crate::jobs::answer::Answer;
 use crate::jobs::call::{Call, JobId};
@@ -53,6 +54,9 @@ impl<D: Dirs> World<D> {
     ///
     /// It is refused as `submit` refuses: nothing has changed, and the call comes back. Where a growth is refused amid the steps it ends as
     /// `NoMemory`, with the number of the job. That job may have taken effect: a delivery does so before its last step.
+    ///
+    /// It costs the steps of its job: a delivery takes at most one for each piece of its body and three more, a move and a copy three for each
+    /// try, the other errands two, and a clean one for each name of tmp and one more.
     pub fn call(&mut self, call: Call, now: u64, own: Option<u64>) -> Result<Answer, CallError>
         ensures submitted { IfSubmitted result (submit_refusal self.old call ≡ None) }
         ensures refused { IfRefused result (λ r. IsRefusal (submit_refusal self.old call) r.error) }

@@ -52,22 +52,25 @@ pub returns-in-Some-clause-success : goal.returns-in-Some-clause-success
 returns-in-Some-clause-success g c =
     let submitted = c.in-Ok.ensures in
     let r = c.args.self.now in
-    let g' = steps-alone r c.submit.new.self c.finish.new.self c.args.call c.in-Ok.job c.args.now c.args.own submitted.ok.0 submitted.ok.1 c.in-Some.ensures.goes in
-    succeeds r c.finish.new.self c.interleaves.ensures.run c.args.call submitted.refused c.args.now c.args.own g' c.in-Some.ensures.run c.in-Some.answer
-    (ap (λ n. answer_of (job_at (jobs_of c.finish.new.self) n)) (sym submitted.ok.1) ∙ sym c.in-Some.ensures.answer)
+    let goes = steps-alone r c.submit.new.self c.finish.new.self c.args.call c.in-Ok.job c.args.now c.args.own submitted.ok.0 submitted.ok.1
+    c.in-Some.ensures.goes in
+    succeeds r c.finish.new.self c.interleaves.ensures.run c.args.call submitted.refused c.args.now c.args.own goes
+    c.in-Some.ensures.run c.in-Some.answer (ap (λ n. answer_of (job_at (jobs_of c.finish.new.self) n)) (sym submitted.ok.1) ∙ sym c.in-Some.ensures.answer)
 
 pub returns-in-Some-clause-alone : goal.returns-in-Some-clause-alone
 returns-in-Some-clause-alone g c =
     let submitted = c.in-Ok.ensures in
     let r = c.args.self.now in
-    let g' = steps-alone r c.submit.new.self c.finish.new.self c.args.call c.in-Ok.job c.args.now c.args.own submitted.ok.0 submitted.ok.1 c.in-Some.ensures.goes in
-    answers-alone r c.finish.new.self c.interleaves.ensures.run c.args.call submitted.refused c.args.now c.args.own g' c.in-Some.ensures.run c.in-Some.answer
-    (ap (λ n. answer_of (job_at (jobs_of c.finish.new.self) n)) (sym submitted.ok.1) ∙ sym c.in-Some.ensures.answer)
+    let goes = steps-alone r c.submit.new.self c.finish.new.self c.args.call c.in-Ok.job c.args.now c.args.own submitted.ok.0 submitted.ok.1
+    c.in-Some.ensures.goes in
+    answers-alone r c.finish.new.self c.interleaves.ensures.run c.args.call submitted.refused c.args.now c.args.own goes
+    c.in-Some.ensures.run c.in-Some.answer (ap (λ n. answer_of (job_at (jobs_of c.finish.new.self) n)) (sym submitted.ok.1) ∙ sym c.in-Some.ensures.answer)
 
 pub returns-in-Some-clause-exact : goal.returns-in-Some-clause-exact
 returns-in-Some-clause-exact g c =
     let submitted = c.in-Ok.ensures in
     let r = c.args.self.now in
-    let g' = steps-alone r c.submit.new.self c.finish.new.self c.args.call c.in-Ok.job c.args.now c.args.own submitted.ok.0 submitted.ok.1 c.in-Some.ensures.goes in
-    as-alone r c.finish.new.self c.interleaves.ensures.run c.args.call submitted.refused c.args.now c.args.own g' c.in-Some.ensures.run c.in-Some.answer
-    (ap (λ n. answer_of (job_at (jobs_of c.finish.new.self) n)) (sym submitted.ok.1) ∙ sym c.in-Some.ensures.answer)
+    let goes = steps-alone r c.submit.new.self c.finish.new.self c.args.call c.in-Ok.job c.args.now c.args.own submitted.ok.0 submitted.ok.1
+    c.in-Some.ensures.goes in
+    as-alone r c.finish.new.self c.interleaves.ensures.run c.args.call submitted.refused c.args.now c.args.own goes
+    c.in-Some.ensures.run c.in-Some.answer (ap (λ n. answer_of (job_at (jobs_of c.finish.new.self) n)) (sym submitted.ok.1) ∙ sym c.in-Some.ensures.answer)
