@@ -1,3 +1,4 @@
 pub mod Going
 pub mod Begun
+pub mod AloneRefused
 pub mod AloneAnswers

@@ -1,6 +1,7 @@
 -- A call from its submit to its answer, at one moment, with no step of another job between.
 use Rattle.std.specs.Prelude.{ℕ, ◌≡◌, ◌≢◌, ◌+◌, List, Option, Some, None, Result, Ok, Err, true, false, length, slice_get}
 use Rattle.md_core.specs.declared.jobs.answer.Answer.{Answer}
+use Rattle.md_core.specs.declared.jobs.answer.Answer.TheVariants as answer
 use Rattle.md_core.specs.declared.jobs.call.Call.{Call}
 use Rattle.md_core.specs.declared.jobs.step.Event.{Event}
 use Rattle.md_core.specs.declared.world.call.CallError.{CallError}
@@ -43,6 +44,13 @@ pub record IsUnanswered (r : Run) (job : ℕ) : Type 0 where
 pub record AnswersAlone (call : Call) (m m' : Mailbox) (a : Answer) : Type 0 where
   pub done : is_success a ≡ true → alone call m ≡ record { answer = a; after = m' }
   pub undone : is_success a ≡ false → m' ≡ m
+
+-- A call answers as it does alone on the mailbox, and leaves it so. But where a directory call of it faulted it may have left the mailbox
+-- as it was; and a clean does leave it so, since the mailbox knows nothing of the files that it counts.
+abbrev pub AnswersAsAlone : Call → Mailbox → Mailbox → Answer → Type 0
+AnswersAsAlone call m m' answer.Fault = m' ≡ m
+AnswersAsAlone call m m' (answer.Cleaned n) = m' ≡ m
+AnswersAsAlone call m m' a = alone call m ≡ record { answer = a; after = m' }
 
 -- what is so of a call that was refused when it was submitted
 abbrev pub IfRefused : Result Answer CallError → (SubmitRefused → Type 0) → Type 0

@@ -1,34 +1,48 @@
 -- A call whose job alone took steps answers, and leaves the mailbox, as it does alone.
-use Rattle.std.proofs.Common.{ℕ, zero, suc, ◌≡◌, ◌≢◌, ◌<◌, ◌≤◌, ◌+◌, ◌-◌, ◌++◌, List, [], ◌∷◌, Option, Some, None, true, false, refl, sym, ap, ◌∙◌, inl, inr, length, slice_get, is_some, arith, length-append}
+use Rattle.std.proofs.Common.{ℕ, zero, suc, ◌≡◌, ◌≢◌, ◌<◌, ◌≤◌, ◌+◌, ◌-◌, ◌++◌, List, [], ◌∷◌, Option, Some, None, true, false, refl, sym, ap, subst, ◌∙◌, inl, inr, length, take, slice_get, is_some, unwrap_or, max, arith, length-append}
+use Rattle.std.specs.Prelude.{count_by}
+use Rattle.std.specs.List.{filter_map, cons_option}
 use Rattle.std.specs.Option.{option_map}
 use Rattle.std.proofs.lemmas.Bool.{cases_lt}
-use Rattle.std.proofs.lemmas.List.{take_all}
+use Rattle.std.proofs.lemmas.List.{take_all, drop_all, append-nil}
+use Rattle.std.proofs.lemmas.List.Elements.{filter_map-append}
 use Rattle.std.proofs.lemmas.Option.{slice_get_within, slice_get-map}
+use Rattle.md_dirs.specs.declared.paths.Path.{Path}
 use Rattle.md_core.specs.declared.jobs.answer.Answer.{Answer}
+use Rattle.md_core.specs.declared.jobs.answer.Answer.TheVariants as answer
 use Rattle.md_core.specs.declared.jobs.call.Call.{Call}
+use Rattle.md_core.specs.declared.jobs.call.Call.TheVariants as call
 use Rattle.md_core.specs.declared.jobs.effect.Effect.{Effect}
+use Rattle.md_core.specs.declared.jobs.step.Event.{Event}
+use Rattle.md_core.specs.Accepting.{IsAccepted}
 use Rattle.md_core.specs.Alone.{alone}
-use Rattle.md_core.specs.Mailbox.{mailbox_of}
+use Rattle.md_core.specs.Answering.{is_touch, IsOfSpan, IsTouched, IsLost, IsOutOfTime, IsTimedOut, IsTmpGone, Says}
+use Rattle.md_core.specs.Mailbox.{Mailbox, mailbox_of}
 use Rattle.md_core.specs.Machine.{Occurrence, job_at, answered}
 use Rattle.md_core.specs.Runs.{Run, machine_at, dirs_of, and_call}
 use Rattle.md_core.specs.Submitting.{submit_refusal}
 use Rattle.md_core.specs.Stepping.{IsRun, Succeeds}
-use Rattle.md_core.specs.Trace.{Trace, Step, IsAnswered, call_at, step_at, state_after, state, box}
+use Rattle.md_core.specs.Trace.{Trace, Step, IsStepOf, IsAnswered, call_at, step_at, state_after, state, box, effects}
 use Rattle.md_core.specs.Tracing.{trace_of}
 use Rattle.md_core.specs.Interleaving.{is_success, Acts, TakesEffect}
-use Rattle.md_core.specs.Calling.{next_job, StepsAlone, HasAnswer, AnswersAlone}
-use Rattle.md_core.proofs.Lists.Places.{at_place, at_joint, get-pushed}
+use Rattle.md_core.specs.Calling.{next_job, StepsAlone, HasAnswer, AnswersAlone, AnswersAsAlone}
+use Rattle.md_core.proofs.Lists.Places.{at_place, at_joint, get-pushed, take-one_more}
 use Rattle.md_core.proofs.Runs.Events.{goes_on-exact, job_at-within}
 use Rattle.md_core.proofs.Runs.ByEvent.{length-jobs}
 use Rattle.md_core.proofs.Runs.Extended.{is_run-and_call}
-use Rattle.md_core.proofs.Traces.Same.{many-steps, same-jobs}
+use Rattle.md_core.proofs.Answers.LastStep.{turn-at}
+use Rattle.md_core.proofs.Answers.Moments.{turn-done, next-clock}
+use Rattle.md_core.proofs.Traces.Same.{many-steps, same-jobs, step-done}
 use Rattle.md_core.proofs.Traces.Stands.{answered-at}
 use Rattle.md_core.proofs.Traces.Shown.{shown}
 use Rattle.md_core.proofs.Traces.Kept.{steps-keep, call-keeps}
+use Rattle.md_core.proofs.Traces.Plain.{is-trace}
 use Rattle.md_core.proofs.Traces.Headline.{acts as acts_of, quiet, theorem}
+use Rattle.md_core.proofs.Traces.Telling.{says}
+use Rattle.md_core.proofs.Calling.AloneRefused.{alone-refused}
 
-module _ (r r' : Run) (run : IsRun r) (call : Call) (accepted : submit_refusal r call ≡ None) (now : ℕ) (own : Option ℕ)
-    (g : StepsAlone call now own r r') (run' : IsRun r') where
+module _ (r r' : Run) (run : IsRun r) (asked : Call) (accepted : submit_refusal r asked ≡ None) (now : ℕ) (own : Option ℕ)
+    (g : StepsAlone asked now own r r') (run' : IsRun r') where
   abbrev job : ℕ
   job = next_job r
 
@@ -38,15 +52,15 @@ module _ (r r' : Run) (run : IsRun r) (call : Call) (accepted : submit_refusal r
   abbrev t : Trace
   t = trace_of r'
 
-  run0 : IsRun (and_call r call)
-  run0 = is_run-and_call r call run accepted
+  run0 : IsRun (and_call r asked)
+  run0 = is_run-and_call r asked run accepted
 
-  call-of : call_at t.calls job ≡ Some call
+  call-of : call_at t.calls job ≡ Some asked
   call-of =
       let e : length r.calls + 1 ≡ suc (length r.calls) = omega arith in
       ap (λ (x : Run). call_at x.calls job) g.goes
-      ∙ ap (call_at (r.calls ++ call ∷ [])) e
-      ∙ get-pushed r.calls call
+      ∙ ap (call_at (r.calls ++ asked ∷ [])) e
+      ∙ get-pushed r.calls asked
 
   events-are : r'.events ≡ r.events ++ g.events
   events-are = ap (λ (x : Run). x.events) g.goes
@@ -59,8 +73,8 @@ module _ (r r' : Run) (run : IsRun r) (call : Call) (accepted : submit_refusal r
   begins =
       let within : start ≤ start = omega arith in
       ap (λ (x : Run). state (trace_of x) start) g.goes
-      ∙ steps-keep (and_call r call) run0 g.events start within
-      ∙ call-keeps r run call run0 start within
+      ∙ steps-keep (and_call r asked) run0 g.events start within
+      ∙ call-keeps r run asked run0 start within
       ∙ (shown r run).dirs
 
   ends : state t (start + length g.events) ≡ dirs_of r'
@@ -99,18 +113,119 @@ module _ (r r' : Run) (run : IsRun r) (call : Call) (accepted : submit_refusal r
       omega (arith, within, as_many, same))
       (λ j e _. omega (arith, e, early))
 
-  -- past the end nothing changes, and before it nothing but effects
-  next : (k : ℕ) → ((x : Step) → step_at t k ≡ Some x → x.effect ≡ None) → box t (k + 1) ≡ box t k
-  next k none = at_place t.steps k
-      (λ x at. quiet r' run' k x at (none x at))
-      (λ past. ap (λ (xs : List Step). mailbox_of (state_after t.image xs)) (take_all (k + 1) t.steps (omega (arith, past)) ∙ sym (take_all k t.steps past)))
+  since-of : (k : ℕ) → IsStepOf t job k → start ≤ k
+  since-of k x = elim (cases_lt k start) [
+    | inl early ↦ absurd (before k x.step x.at early x.own)
+    | inr late ↦ late
+  ]
 
-  stays : (i d : ℕ) → ((k : ℕ) (x : Step) → i ≤ k → k < i + d → step_at t k ≡ Some x → x.effect ≡ None) → box t (i + d) ≡ box t i
-  stays i zero none = let e : i + 0 ≡ i = omega arith in ap (box t) e
-  stays i (suc d) none =
+  -- what only effects change stays over steps that are none
+  stays : {X : Type 0} (f : ℕ → X) → ((k : ℕ) → ((x : Step) → step_at t k ≡ Some x → x.effect ≡ None) → f (k + 1) ≡ f k) → (i d : ℕ) →
+      ((k : ℕ) (x : Step) → i ≤ k → k < i + d → step_at t k ≡ Some x → x.effect ≡ None) → f (i + d) ≡ f i
+  stays f next i zero none = let e : i + 0 ≡ i = omega arith in ap f e
+  stays f next i (suc d) none =
       let e : i + suc d ≡ (i + d) + 1 = omega arith in
-      ap (box t) e ∙ next (i + d) (λ x at. none (i + d) x (omega arith) (omega arith) at)
-      ∙ stays i d (λ k x from to at. none k x from (omega (arith, to)) at)
+      ap f e ∙ next (i + d) (λ x at. none (i + d) x (omega arith) (omega arith) at)
+      ∙ stays f next i d (λ k x from to at. none k x from (omega (arith, to)) at)
+
+  -- past the end nothing changes, and before it nothing but effects
+  box-next : (k : ℕ) → ((x : Step) → step_at t k ≡ Some x → x.effect ≡ None) → box t (k + 1) ≡ box t k
+  box-next k none = at_place t.steps k
+      (λ x at. quiet r' run' k x at (none x at))
+      (λ past. ap (λ (xs : List Step). mailbox_of (state_after t.image xs))
+      (take_all (k + 1) t.steps (omega (arith, past)) ∙ sym (take_all k t.steps past)))
+
+  box-stays : (i d : ℕ) → ((k : ℕ) (x : Step) → i ≤ k → k < i + d → step_at t k ≡ Some x → x.effect ≡ None) → box t (i + d) ≡ box t i
+  box-stays = stays (box t) box-next
+
+  effects-next : (k : ℕ) → ((x : Step) → step_at t k ≡ Some x → x.effect ≡ None) → effects t (k + 1) ≡ effects t k
+  effects-next k none = at_place t.steps k
+      (λ x at.
+      let last : filter_map (λ (y : Step). y.effect) (x ∷ []) ≡ [] = ap (λ (o : Option Effect). cons_option o []) (none x at) in
+      ap (filter_map (λ (y : Step). y.effect)) (take-one_more t.steps k x at)
+      ∙ filter_map-append (λ (y : Step). y.effect) (take k t.steps) (x ∷ [])
+      ∙ ap (λ es. effects t k ++ es) last
+      ∙ append-nil (effects t k))
+      (λ past. ap (filter_map (λ (y : Step). y.effect)) (take_all (k + 1) t.steps (omega (arith, past)) ∙ sym (take_all k t.steps past)))
+
+  -- its event is that of the call, and so is its moment by the clock of the host
+  event-at : (k : ℕ) (e : Occurrence) → slice_get r'.events k ≡ Some e → start ≤ k → e.event ≡ record { job = job; now = now; own = own }
+  event-at k e at since = at_joint r.events g.events k e (ap (λ (es : List Occurrence). slice_get es k) (sym events-are) ∙ at)
+      (λ early. absurd (let n = slice_get_within r.events k e early in omega (arith, n, since)))
+      (λ j _ late. g.each j e late)
+
+  abbrev clock : ℕ → ℕ
+  clock k = max (machine_at r' k).clock now
+
+  clock-next : (k : ℕ) → start ≤ k → k < length r'.events → clock (k + 1) ≡ clock k
+  clock-next k since within = at_place r'.events k
+      (λ e at.
+      let turn = turn-at r' run' k e at in
+      let its : turn.event.event.now ≡ now = ap (λ (x : Event). x.now) (event-at k turn.event turn.at since) in
+      let next : (machine_at r' (k + 1)).clock ≡ max (machine_at r' k).clock turn.event.event.now = next-clock r' k e.event.job turn in
+      omega (arith, its, next))
+      (λ past. absurd (omega (arith, within, past)))
+
+  clock-same : (k d : ℕ) → start ≤ k → k + d ≤ length r'.events → clock (k + d) ≡ clock k
+  clock-same k zero since within = let e : k + 0 ≡ k = omega arith in ap clock e
+  clock-same k (suc d) since within =
+      let e : k + suc d ≡ (k + d) + 1 = omega arith in
+      ap clock e ∙ clock-next (k + d) (omega (arith, since)) (omega (arith, within)) ∙ clock-same k d since (omega (arith, within))
+
+  own-at : (k : ℕ) (x : Step) → step_at t k ≡ Some x → start ≤ k → x.at.own ≡ unwrap_or own (clock k)
+  own-at k x at since =
+      let h = turn-done r' run' k x (step-done r' run' k x at) in
+      let e = event-at k h.1.event h.1.at since in
+      ap (λ (d : Step). d.at.own) h.2 ∙ (λ i. unwrap_or (e i).own (max (machine_at r' k).clock (e i).now))
+
+  -- no time passes between its steps
+  in-time : (p : Path) → IsOutOfTime t job p → ⊥
+  in-time p o =
+      let i = o.first.k in
+      let k = o.end.k in
+      let first = o.first.begun in
+      let last = o.end.last in
+      let since = since-of i first in
+      let after : i ≤ k = o.first.first k last in
+      let n = slice_get_within t.steps k last.step last.at in
+      let m = many-steps r' run' in
+      let within : k < length r'.events = omega (arith, n, m) in
+      let e : k ≡ i + (k - i) = omega (arith, after) in
+      let same : last.step.at.own ≡ first.step.at.own =
+      own-at k last.step last.at (omega (arith, since, after))
+      ∙ ap (unwrap_or own) (ap clock e ∙ clock-same i (k - i) since (omega (arith, within, after)))
+      ∙ sym (own-at i first.step first.at since) in
+      let late = o.seconds in
+      omega (arith, same, late)
+
+  never-timed-out : (c : Call) → IsTimedOut t job c → ⊥
+  never-timed-out (call.Deliver folder u body chunk) h = in-time _ h
+  never-timed-out (call.Seen folder u flags tries) h = h
+  never-timed-out (call.Flag folder u add remove tries) h = h
+  never-timed-out (call.Move folder u to tries) h = h
+  never-timed-out (call.Expunge folder u tries) h = h
+  never-timed-out (call.Copy folder u to fresh tries) h = h
+  never-timed-out (call.Clean folder) h = h
+
+  -- no clean stepped
+  never-gone : (c : Call) → asked ≡ c → IsTmpGone t job c → ⊥
+  never-gone (call.Deliver folder u body chunk) is h =
+      let since = since-of h.before.from h.before.begun in
+      let after = h.before.after in
+      let own = mine h.k h.cleaned.step h.cleaned.at (omega (arith, since, after)) in
+      let clean : Some asked ≡ Some (call.Clean h.cleaned.folder) = sym call-of ∙ ap (call_at t.calls) (sym own) ∙ h.cleaned.by in
+      let both : Some (call.Deliver folder u body chunk) ≡ Some (call.Clean h.cleaned.folder) = ap Some (sym is) ∙ clean in
+      cc
+  never-gone (call.Seen folder u flags tries) is h = h
+  never-gone (call.Flag folder u add remove tries) is h = h
+  never-gone (call.Move folder u to tries) is h = h
+  never-gone (call.Expunge folder u tries) is h = h
+  never-gone (call.Copy folder u to fresh tries) is h = h
+  never-gone (call.Clean folder) is h = h
+
+  accepted-call : IsAccepted t.image (take (length r.calls) t.calls) asked
+  accepted-call = (is-trace r' run').accepted (length r.calls) asked
+      (ap (λ (x : Run). slice_get x.calls (length r.calls)) g.goes ∙ get-pushed r.calls asked)
 
   opening : box t start ≡ mailbox_of (dirs_of r)
   opening = ap mailbox_of begins
@@ -122,24 +237,68 @@ module _ (r r' : Run) (run : IsRun r) (call : Call) (accepted : submit_refusal r
     answers : IsAnswered t job a
     answers = (shown r' run').answer job a has
 
-    acts : Acts t job call a
-    acts = acts_of r' run' job call a call-of answers
+    said : Says t job asked a
+    said = says r' run' job asked a call-of answers
 
-    undone : is_success a ≡ false → mailbox_of (dirs_of r') ≡ mailbox_of (dirs_of r)
-    undone failure =
-        sym ending
-        ∙ stays start (length g.events) (λ k x from _ at. acts.undone failure k (record { step = x; at = at; own = mine k x at from }))
-        ∙ opening
+    acts : Acts t job asked a
+    acts = acts_of r' run' job asked a call-of answers
+
+    -- no step of the job is an effect where its answer is no success
+    module _ (failure : is_success a ≡ false) where
+      none-since : (k : ℕ) (x : Step) → start ≤ k → step_at t k ≡ Some x → x.effect ≡ None
+      none-since k x from at = acts.undone failure k (record { step = x; at = at; own = mine k x at from })
+
+      box-since : (k : ℕ) → start ≤ k → box t k ≡ mailbox_of (dirs_of r)
+      box-since k since =
+          let e : k ≡ start + (k - start) = omega (arith, since) in
+          ap (box t) e ∙ box-stays start (k - start) (λ i x from _ at. none-since i x from at) ∙ opening
+
+      effects-since : (k : ℕ) → start ≤ k → effects t k ≡ effects t start
+      effects-since k since =
+          let e : k ≡ start + (k - start) = omega (arith, since) in
+          ap (effects t) e ∙ stays (effects t) effects-next start (k - start) (λ i x from _ at. none-since i x from at)
+
+      undone : mailbox_of (dirs_of r') ≡ mailbox_of (dirs_of r)
+      undone = sym ending ∙ box-since (start + length g.events) (omega arith)
+
+      -- it is answered as it is alone
+      refused : IsOfSpan t job asked a → alone asked (mailbox_of (dirs_of r)) ≡ record { answer = a; after = mailbox_of (dirs_of r') }
+      refused s =
+          let begun = since-of s.in_span.from s.in_span.begun in
+          let after = s.in_span.after in
+          let from : start ≤ s.k = omega (arith, begun, after) in
+          let its : (alone asked (mailbox_of (dirs_of r))).answer ≡ a =
+          ap (λ (m : Mailbox). (alone asked m).answer) (sym (box-since s.k from)) ∙ s.is in
+          let left : (alone asked (mailbox_of (dirs_of r))).after ≡ mailbox_of (dirs_of r') =
+          alone-refused asked (mailbox_of (dirs_of r)) (ap is_success its ∙ failure) ∙ sym undone in
+          λ i. record { answer = its i; after = left i }
+
+      -- no other job touched its message
+      untouched : (u : List ℕ) (times : ℕ) → 0 < times → IsTouched t job u times → ⊥
+      untouched u times some h =
+          let from = since-of h.from h.begun in
+          let to = since-of h.to h.goes_on in
+          let same : effects t (h.to + 1) ≡ effects t h.from = effects-since (h.to + 1) (omega (arith, to)) ∙ sym (effects-since h.from from) in
+          let as_many : length (effects t (h.to + 1)) ≡ length (effects t h.from) = ap length same in
+          let none = drop_all (length (effects t h.from)) (effects t (h.to + 1)) (omega (arith, as_many)) in
+          let few : times ≤ 0 = subst (λ (es : List Effect). times ≤ count_by (is_touch job u) es) none h.touched in
+          omega (arith, some, few)
+
+      never-lost : (c : Call) → IsAccepted t.image (take (length r.calls) t.calls) c → IsLost t job c → ⊥
+      never-lost (call.Deliver folder u body chunk) accepts lost = lost
+      never-lost (call.Seen folder u flags tries) accepts lost = untouched u tries accepts.2 lost
+      never-lost (call.Flag folder u add remove tries) accepts lost = untouched u tries accepts.2 lost
+      never-lost (call.Move folder u to tries) accepts lost = untouched u tries accepts.2.2 lost
+      never-lost (call.Expunge folder u tries) accepts lost = untouched u tries accepts.2 lost
+      never-lost (call.Copy folder u to fresh tries) accepts lost = untouched u tries accepts.2.2 lost
+      never-lost (call.Clean folder) accepts lost = lost
 
     module _ (success : is_success a ≡ true) where
-      taken : TakesEffect t job call a
+      taken : TakesEffect t job asked a
       taken = acts.done success
 
       since : start ≤ taken.k
-      since = elim (cases_lt taken.k start) [
-        | inl early ↦ absurd (before taken.k taken.effect.own.step taken.effect.own.at early taken.effect.own.own)
-        | inr late ↦ late
-      ]
+      since = since-of taken.k taken.effect.own
 
       within : taken.k < start + length g.events
       within =
@@ -159,24 +318,41 @@ module _ (r r' : Run) (run : IsRun r) (call : Call) (accepted : submit_refusal r
       to-effect : box t taken.k ≡ box t start
       to-effect =
           let e : taken.k ≡ start + (taken.k - start) = (let h = since in omega (arith, h)) in
-          ap (box t) e ∙ stays start (taken.k - start)
+          ap (box t) e ∙ box-stays start (taken.k - start)
           (λ k x from to at. no-other k x from (λ same. let h = since in omega (arith, same, to, h)) at)
 
       from-effect : box t (start + length g.events) ≡ box t (taken.k + 1)
       from-effect =
           let rest = (start + length g.events) - (taken.k + 1) in
           let e : start + length g.events ≡ (taken.k + 1) + rest = (let h = within in omega (arith, h)) in
-          ap (box t) e ∙ stays (taken.k + 1) rest
+          ap (box t) e ∙ box-stays (taken.k + 1) rest
           (λ k x from to at. no-other k x (let h = since in omega (arith, from, h)) (λ same. omega (arith, same, from)) at)
 
-      done : alone call (mailbox_of (dirs_of r)) ≡ record { answer = a; after = mailbox_of (dirs_of r') }
+      done : alone asked (mailbox_of (dirs_of r)) ≡ record { answer = a; after = mailbox_of (dirs_of r') }
       done =
-          ap (alone call) (sym (to-effect ∙ opening))
+          ap (alone asked) (sym (to-effect ∙ opening))
           ∙ taken.effect.as_alone
           ∙ (λ i. record { answer = a; after = (sym from-effect ∙ ending) i })
 
-    pub answers-alone : AnswersAlone call (mailbox_of (dirs_of r)) (mailbox_of (dirs_of r')) a
+    pub answers-alone : AnswersAlone asked (mailbox_of (dirs_of r)) (mailbox_of (dirs_of r')) a
     answers-alone = record { done = done; undone = undone }
 
     pub succeeds : Succeeds r' job (Some a)
-    succeeds = λ success. ((theorem r' run').jobs job call (answered a) call-of (answered-at r' run' job a answers)).success a refl success
+    succeeds = λ success. ((theorem r' run').jobs job asked (answered a) call-of (answered-at r' run' job a answers)).success a refl success
+
+  -- all answers
+  pub as-alone : (a : Answer) → HasAnswer r' job a → AnswersAsAlone asked (mailbox_of (dirs_of r)) (mailbox_of (dirs_of r')) a
+  as-alone answer.Delivered has = done answer.Delivered has refl
+  as-alone (answer.Flags s) has = done (answer.Flags s) has refl
+  as-alone answer.Moved has = done answer.Moved has refl
+  as-alone answer.Expunged has = done answer.Expunged has refl
+  as-alone answer.Copied has = done answer.Copied has refl
+  as-alone (answer.Cleaned n) has = undone (answer.Cleaned n) has refl
+  as-alone answer.NotThere has = refused answer.NotThere has refl (said answer.NotThere has)
+  as-alone answer.NotTrashed has = refused answer.NotTrashed has refl (said answer.NotTrashed has)
+  as-alone answer.OtherInfo has = refused answer.OtherInfo has refl (said answer.OtherInfo has)
+  as-alone answer.Lost has = absurd (never-lost answer.Lost has refl asked accepted-call (said answer.Lost has))
+  as-alone answer.TimedOut has = absurd (never-timed-out asked (said answer.TimedOut has))
+  as-alone answer.TmpGone has = absurd (never-gone asked refl (said answer.TmpGone has))
+  as-alone answer.NameTaken has = absurd (said answer.NameTaken has)
+  as-alone answer.Fault has = undone answer.Fault has refl

@@ -11,7 +11,8 @@ use Rattle.md_core.proofs.Lists.Places.{at_end}
 use Rattle.md_core.proofs.Runs.Extended.{is_run-and_event}
 use Rattle.md_core.proofs.Runs.Going.{there-after}
 
-pub goes-more : (event : Event) (r r' r'' : Run) (e : Occurrence) → e.event ≡ event → GoesOnBy event r r' → r'' ≡ and_event r' e → GoesOnBy event r r''
+pub goes-more : (event : Event) (r r' r'' : Run) (e : Occurrence) → e.event ≡ event → GoesOnBy event r r' → r'' ≡ and_event r' e →
+    GoesOnBy event r r''
 goes-more event r r' r'' e own g is = record {
   events = g.events ++ e ∷ [];
   each = λ k x at. at_end g.events e k x at (λ early. g.each k x early) (λ _ last. ap (λ (y : Occurrence). y.event) last ∙ own);

@@ -60,17 +60,20 @@ module _ (opening : Names) (earlier later : List Effect) (jobs : ℕ) where
   names-at : (j : ℕ) → names_after opening (joined jobs earlier (take j later)) ≡ names_after middle (take j later)
   names-at j = names-joined opening earlier (numbered_after jobs (take j later)) ∙ names-numbered jobs middle (take j later)
 
+  late-at : (j : ℕ) (o : Option Effect) → slice_get later j ≡ o → slice_get (numbered_after jobs later) j ≡ option_map (job_after jobs) o
+  late-at j o is = slice_get-map (job_after jobs) later j ∙ ap (option_map (job_after jobs)) is
+
   -- an effect of the later history, as it is in the two as one
   late-effect : (j : ℕ) (x : Effect) → slice_get (numbered_after jobs later) j ≡ Some x →
       (e : Effect) × (slice_get later j ≡ Some e) × (x ≡ job_after jobs e)
   late-effect j x at = by (slice_get later j) refl
     where
       by : (o : Option Effect) → slice_get later j ≡ o → (e : Effect) × (o ≡ Some e) × (x ≡ job_after jobs e)
-      by None is = let h : None ≡ Some x = sym (slice_get-map (job_after jobs) later j ∙ ap (option_map (job_after jobs)) is) ∙ at in cc
-      by (Some e) is = let h : Some (job_after jobs e) ≡ Some x = sym (slice_get-map (job_after jobs) later j ∙ ap (option_map (job_after jobs)) is) ∙ at in (e, refl, cc)
+      by None is = let h : None ≡ Some x = sym (late-at j None is) ∙ at in cc
+      by (Some e) is = let h : Some (job_after jobs e) ≡ Some x = sym (late-at j (Some e) is) ∙ at in (e, refl, cc)
 
   get-late : (j : ℕ) (e : Effect) → slice_get later j ≡ Some e → slice_get all (length earlier + j) ≡ Some (job_after jobs e)
-  get-late j e at = get-second earlier (numbered_after jobs later) (length earlier + j) j refl ∙ slice_get-map (job_after jobs) later j ∙ ap (option_map (job_after jobs)) at
+  get-late j e at = get-second earlier (numbered_after jobs later) (length earlier + j) j refl ∙ late-at j (Some e) at
 
   -- a name that no effect may use again was nowhere in the earlier history
   nowhere-earlier : (UsesAgain opening earlier later → ⊥) → (j : ℕ) (e : Effect) → slice_get later j ≡ Some e → (u : List ℕ) → AddsName e.change u →
@@ -82,7 +85,8 @@ module _ (opening : Names) (earlier later : List Effect) (jobs : ℕ) where
       by (Some x) is = absurd (never (record { unique = u; i = j; effect = e; at = at; adds = adds; k = k; message = x; had = is }))
 
   -- a name that was nowhere in both is nowhere in the two as one
-  nowhere-joined : (j : ℕ) (u : List ℕ) → WasNowhere opening earlier u → WasNowhere middle (take j later) u → WasNowhere opening (joined jobs earlier (take j later)) u
+  nowhere-joined : (j : ℕ) (u : List ℕ) → WasNowhere opening earlier u → WasNowhere middle (take j later) u →
+      WasNowhere opening (joined jobs earlier (take j later)) u
   nowhere-joined j u first second k = elim (cases_lt k (length earlier)) [
     | inl early ↦ subst (λ (es : List Effect). IsNowhere (names_after opening es) u)
         (sym (take-append-le k earlier (numbered_after jobs (take j later)) (omega (arith, early)))) (first k)
@@ -118,7 +122,8 @@ module _ (opening : Names) (earlier later : List Effect) (jobs : ℕ) where
           omega (arith, ek, el, one)))
         where
           -- numbers of the later jobs are greater
-          apart : (p : ℕ) (c : Effect) (q : ℕ) (d : Effect) → slice_get earlier p ≡ Some c → slice_get (numbered_after jobs later) q ≡ Some d → c.job ≡ d.job → ⊥
+          apart : (p : ℕ) (c : Effect) (q : ℕ) (d : Effect) → slice_get earlier p ≡ Some c → slice_get (numbered_after jobs later) q ≡ Some d →
+              c.job ≡ d.job → ⊥
           apart p c q d atc atd equal =
               let y = late-effect q d atd in
               let low = to p c atc in
@@ -128,16 +133,20 @@ module _ (opening : Names) (earlier later : List Effect) (jobs : ℕ) where
 
       each : (i : ℕ) (e : Effect) → slice_get all i ≡ Some e → IsAllowedAfter folders opening (take i all) e
       each i e at = at_joint earlier (numbered_after jobs later) i e at
-          (λ early. subst (λ (es : List Effect). IsAllowedAfter folders opening es e)
-          (sym (take-append-le i earlier (numbered_after jobs later) (let h = slice_get_within earlier i e early in omega (arith, h)))) (first.each i e early))
+          (λ early.
+          let within : i ≤ length earlier = (let h = slice_get_within earlier i e early in omega (arith, h)) in
+          subst (λ (es : List Effect). IsAllowedAfter folders opening es e)
+          (sym (take-append-le i earlier (numbered_after jobs later) within)) (first.each i e early))
           (λ j ej late.
           let x = late-effect j e late in
           let before = second.each j x.0 x.1 in
-          let allowed : IsAllowed folders (names_after middle (take j later)) (WasNowhere opening (joined jobs earlier (take j later))) x.0.answer x.0.change =
-          allowed-added folders (names_after middle (take j later)) (WasNowhere middle (take j later)) (WasNowhere opening (joined jobs earlier (take j later)))
+          let now = names_after middle (take j later) in
+          let allowed : IsAllowed folders now (WasNowhere opening (joined jobs earlier (take j later))) x.0.answer x.0.change =
+          allowed-added folders now (WasNowhere middle (take j later)) (WasNowhere opening (joined jobs earlier (take j later)))
           x.0.answer x.0.change (λ u adds was. nowhere-joined j u (nowhere-earlier never j x.0 x.1 u adds) was) before in
           let here : IsAllowedAfter folders opening (joined jobs earlier (take j later)) x.0 =
-          subst (λ (m : Names). IsAllowed folders m (WasNowhere opening (joined jobs earlier (take j later))) x.0.answer x.0.change) (sym (names-at j)) allowed in
+          subst (λ (m : Names). IsAllowed folders m (WasNowhere opening (joined jobs earlier (take j later))) x.0.answer x.0.change)
+          (sym (names-at j)) allowed in
           subst (λ (es : List Effect). IsAllowedAfter folders opening es e) (sym (ap (λ n. take n all) ej ∙ first-joined j))
           (subst (λ (y : Effect). IsAllowedAfter folders opening (joined jobs earlier (take j later)) y) (sym x.2) here))
 

@@ -8,7 +8,8 @@ ghost use Rattle.md_core.specs.Stepping.{IsRun, Succeeds};
 ghost use Rattle.md_core.specs.Interleaving.{Interleaves};
 ghost use Rattle.md_core.specs.Tracing.{trace_of};
 ghost use Rattle.md_core.specs.Laws.{HasJob};
-ghost use Rattle.md_core.specs.Calling.{next_job, GoesOnBy, StepsAlone, OthersStay, HasAnswer, IsUnanswered, AnswersAlone, IfRefused, IfSubmitted, IfStopped};
+ghost use Rattle.md_core.specs.Calling.{next_job, GoesOnBy, StepsAlone, OthersStay, HasAnswer, IsUnanswered, AnswersAlone, AnswersAsAlone};
+ghost use Rattle.md_core.specs.Calling.{IfRefused, IfSubmitted, IfStopped};
 
 use crate::jobs::answer::Answer;
 use crate::jobs::call::{Call, JobId};
@@ -48,11 +49,14 @@ impl<D: Dirs> World<D> {
     }
 
     /// Submits a call and takes the steps of its job until it has its answer, all at one moment, in seconds by two clocks as in `step`. No
-    /// other job steps between, so the mailbox is after it as the call leaves it alone, or as it was. It takes as many steps as the call's job.
+    /// other job steps between, so it answers as the call does alone, and leaves the mailbox so. A directory call that faults is no error but
+    /// an answer: `Answer::Fault`, and the mailbox is as it was; or `Answer::Delivered` where the delivery was done by then.
     ///
-    /// It is refused as `submit` refuses: nothing has changed, and the call comes back. Where a growth is refused amid the steps, it ends as
-    /// `NoMemory`, with the number of the job, which may have taken effect by then: a delivery does before its last step. A directory call
-    /// that faults is no error but an answer, `Answer::Fault`, or where its delivery was done, `Answer::Delivered`.
+    /// It is refused as `submit` refuses: nothing has changed, and the call comes back. Where a growth is refused amid the steps it ends as
+    /// `NoMemory`, with the number of the job. That job may have taken effect: a delivery does so before its last step.
+    ///
+    /// It costs the steps of its job: a delivery takes at most one for each piece of its body and three more, a move and a copy three for each
+    /// try, the other errands two, and a clean one for each name of tmp and one more.
     pub fn call(&mut self, call: Call, now: u64, own: Option<u64>) -> Result<Answer, CallError>
         ensures submitted { IfSubmitted result (submit_refusal self.old call ≡ None) }
         ensures refused { IfRefused result (λ r. IsRefusal (submit_refusal self.old call) r.error) }
@@ -63,8 +67,9 @@ impl<D: Dirs> World<D> {
         ensures others { IfSubmitted result (OthersStay (next_job self.old) self.old self.new) }
         ensures answered { IfOk result (HasAnswer self.new (next_job self.old)) }
         ensures success { IfOk result (λ a. Succeeds self.new (next_job self.old) (Some a)) }
-        // What a caller sees: the call did what it does alone, or nothing.
+        // What a caller sees: the call did what it does alone, or nothing; and it answers as alone, unless a directory call faulted.
         ensures alone { IfOk result (AnswersAlone call (mailbox_of (dirs_of self.old)) (mailbox_of (dirs_of self.new))) }
+        ensures exact { IfOk result (AnswersAsAlone call (mailbox_of (dirs_of self.old)) (mailbox_of (dirs_of self.new))) }
         ensures number { IfStopped result (λ job. job ≡ next_job self.old) }
         ensures stopped { IfStopped result (IsUnanswered self.new) }
         ensures theorem { Interleaves (trace_of self.new) }

@@ -19,15 +19,23 @@ fn goes_on<D: Dirs>(
     rt: &impl Abort,
     world: &mut World<D>,
     job: JobId,
-    now: u64,
 ) -> Result<Answer, CoreError> {
     for _ in 0..100 {
         assert!(rt; world.answer(job).is_none());
-        if let Some(answer) = world.step(job, now, None)?.answer {
+        if let Some(answer) = world.step(job, NOW, None)?.answer {
             return Ok(answer);
         }
     }
     Err(CoreError::NoMemory)
+}
+
+// A call that is made once.
+fn once<D: Dirs>(world: &mut World<D>, call: Call) -> Result<Answer, CoreError> {
+    match world.call(call, NOW, None) {
+        Ok(answer) => Ok(answer),
+        Err(CallError::Refused(refused)) => Err(refused.error),
+        Err(CallError::NoMemory { .. }) => Err(CoreError::NoMemory),
+    }
 }
 
 // A call that is made again, or goes on, where a growth was refused. A refused call is no job, and one that lacks memory is the last.
@@ -35,14 +43,13 @@ fn answered<D: Dirs>(
     rt: &impl Abort,
     world: &mut World<D>,
     call: Call,
-    now: u64,
 ) -> Result<Answer, CoreError> {
     let jobs = world.jobs();
-    let refused = match world.call(call, now, None) {
+    let refused = match world.call(call, NOW, None) {
         Ok(answer) => return Ok(answer),
         Err(CallError::NoMemory { job }) => {
             assert!(rt; world.jobs() == job && job > jobs);
-            return goes_on(rt, world, job, now);
+            return goes_on(rt, world, job);
         }
         Err(CallError::Refused(refused)) => refused,
     };
@@ -50,11 +57,7 @@ fn answered<D: Dirs>(
     if refused.error != CoreError::NoMemory {
         return Err(refused.error);
     }
-    match world.call(refused.call, now, None) {
-        Ok(answer) => Ok(answer),
-        Err(CallError::Refused(refused)) => Err(refused.error),
-        Err(CallError::NoMemory { .. }) => Err(CoreError::NoMemory),
-    }
+    once(world, refused.call)
 }
 
 // A call on the message u of folder 0: each of the errands, by its number.
@@ -96,15 +99,15 @@ fn errand(alloc: Global, number: u32, letter: Flags) -> Result<Call, AllocError>
     })
 }
 
-// The errands in turn, with their letters and what each is answered.
-fn errands() -> Result<[(Flags, Answer); 5], NameError> {
+// The errands in turn by their numbers, with their letters and what each is answered.
+fn errands() -> Result<[(u32, Flags, Answer); 5], NameError> {
     let (seen, trashed) = (Flags::parse(b"S")?, Flags::parse(b"T")?);
     Ok([
-        (seen, Answer::Flags(seen)),
-        (trashed, Answer::Flags(Flags::parse(b"ST")?)),
-        (seen, Copied),
-        (seen, Moved),
-        (seen, Expunged),
+        (0, seen, Answer::Flags(seen)),
+        (1, trashed, Answer::Flags(Flags::parse(b"ST")?)),
+        (2, seen, Copied),
+        (3, seen, Moved),
+        (4, seen, Expunged),
     ])
 }
 
@@ -113,11 +116,11 @@ fn errands_are_answered<D: Dirs>(
     rt: &impl Abort,
     alloc: Global,
     world: &mut World<D>,
-    wants: &[(Flags, Answer)],
+    wants: &[(u32, Flags, Answer)],
 ) -> Result<bool, CoreError> {
-    for (number, (letter, want)) in wants.iter().enumerate() {
-        let call = errand(alloc, number as u32, *letter)?;
-        if answered(rt, world, call, NOW)? != *want {
+    for (number, letter, want) in wants {
+        let call = errand(alloc, *number, *letter)?;
+        if answered(rt, world, call)? != *want {
             return Ok(false);
         }
     }
@@ -141,8 +144,8 @@ fn delivers_and_cleans<D: Dirs>(
 ) -> Result<bool, CoreError> {
     let call = delivery(alloc, 0, NAME, copied(alloc, BODY)?, 4)?;
     Ok(
-        answered(rt, world, call, NOW)? == Delivered
-            && answered(rt, world, Call::Clean { folder: 0 }, NOW)? == Cleaned(1),
+        answered(rt, world, call)? == Delivered
+            && answered(rt, world, Call::Clean { folder: 0 })? == Cleaned(1),
     )
 }
 
@@ -205,21 +208,32 @@ fn a_refused_call_comes_back(rt: HostRuntime) -> Result<(), Fail> {
     Ok(())
 }
 
+// A delivery by a call that may lack memory amid its five steps: then its job has no answer, and takes those that are left.
+fn is_delivered(rt: &impl Abort, alloc: Global) -> Result<(), CoreError> {
+    let mut world = load(alloc, PlainDirs::new(alloc, 1))?;
+    let call = delivery(alloc, 0, NAME, copied(alloc, BODY)?, 4)?;
+    assert!(rt; answered(rt, &mut world, call)? == Delivered);
+    assert!(rt; world.jobs() == 1 && world.log().len() == 5 && world.effects().len() == 1);
+    assert!(rt; has_names(&world, New, &[(NAME, 6)]) && has_names(&world, Tmp, &[]));
+    Ok(())
+}
+
+#[test]
+fn a_call_that_lacks_memory_goes_on(rt: HostRuntime) -> Result<(), Fail> {
+    Ok(is_delivered(&rt, rt.alloc())?)
+}
+
 // What a delivery answers over directories whose call number `at` fails.
-fn delivers(
-    rt: &impl Abort,
-    alloc: Global,
-    at: u64,
-) -> Result<(World<FailAt<PlainDirs>>, Answer), CoreError> {
+fn delivers(alloc: Global, at: u64) -> Result<(World<FailAt<PlainDirs>>, Answer), CoreError> {
     let mut world = load(alloc, FailAt::new(PlainDirs::new(alloc, 1), at))?;
     let call = delivery(alloc, 0, NAME, copied(alloc, BODY)?, 4)?;
-    let answer = answered(rt, &mut world, call, NOW)?;
+    let answer = once(&mut world, call)?;
     Ok((world, answer))
 }
 
 // A delivery makes five calls: the create, two appends, the link and the unlink.
 fn is_fault_or_done(rt: &impl Abort, alloc: Global, at: u64) -> Result<(), CoreError> {
-    let (world, answer) = delivers(rt, alloc, at)?;
+    let (world, answer) = delivers(alloc, at)?;
     let is_done = at >= 5;
     assert!(rt;
         answer == if is_done { Delivered } else { Fault },
@@ -243,10 +257,10 @@ fn a_fault_is_an_answer(rt: HostRuntime) -> Result<(), Fail> {
 
 // After a call that ended in a fault the next one is answered as ever.
 fn goes_on_after_a_fault(rt: &impl Abort, alloc: Global) -> Result<(), CoreError> {
-    let (mut world, answer) = delivers(rt, alloc, 1)?;
+    let (mut world, answer) = delivers(alloc, 1)?;
     assert!(rt; answer == Fault && world.jobs() == 1);
     let next = delivery(alloc, 0, b"u", copied(alloc, BODY)?, 4)?;
-    assert!(rt; answered(rt, &mut world, next, NOW)? == Delivered);
+    assert!(rt; once(&mut world, next)? == Delivered);
     assert!(rt; has_names(&world, New, &[(b"u", 6)]));
     Ok(())
 }
@@ -262,10 +276,10 @@ fn calls_go_on_after_a_fault(rt: HostRuntime) -> Result<(), Fail> {
 // The directories of a world whose one delivery is done are those of a new world, which takes the name of a file that is gone.
 fn begins_anew(rt: &impl Abort, alloc: Global) -> Result<bool, CoreError> {
     let mut world = world_of_two(alloc)?;
-    answered(rt, &mut world, Call::Clean { folder: 0 }, NOW)?;
+    answered(rt, &mut world, Call::Clean { folder: 0 })?;
     let mut world = load(alloc, world.into_dirs())?;
     let call = delivery(alloc, 0, b"x", copied(alloc, BODY)?, 4)?;
-    let answer = answered(rt, &mut world, call, NOW)?;
+    let answer = answered(rt, &mut world, call)?;
     Ok(answer == Delivered && world.jobs() == 1 && has_names(&world, New, &[(b"u", 1), (b"x", 6)]))
 }
 

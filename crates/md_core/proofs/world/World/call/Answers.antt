@@ -6,7 +6,7 @@ use Rattle.md_core.specs.Stepping.{IsRun}
 use Rattle.md_core.specs.Calling.{OthersStay}
 use Rattle.md_core.proofs.Calling.Begun.{others-since, there-submitted, unanswered}
 use Rattle.md_core.proofs.Calling.Going.{steps-alone}
-use Rattle.md_core.proofs.Calling.AloneAnswers.{answers-alone, succeeds}
+use Rattle.md_core.proofs.Calling.AloneAnswers.{answers-alone, succeeds, as-alone}
 use Rattle.md_core.proofs.Runs.Extended.{is_run-and_call}
 use Rattle.md_core.proofs.Traces.All.{interleaves}
 use Rattle.md_core.proofs.world.World.call.Goals as goal
@@ -52,14 +52,25 @@ pub returns-in-Some-clause-success : goal.returns-in-Some-clause-success
 returns-in-Some-clause-success g c =
     let submitted = c.in-Ok.ensures in
     let r = c.args.self.now in
-    let g' = steps-alone r c.submit.new.self c.finish.new.self c.args.call c.in-Ok.job c.args.now c.args.own submitted.ok.0 submitted.ok.1 c.in-Some.ensures.goes in
-    succeeds r c.finish.new.self c.interleaves.ensures.run c.args.call submitted.refused c.args.now c.args.own g' c.in-Some.ensures.run c.in-Some.answer
-    (ap (λ n. answer_of (job_at (jobs_of c.finish.new.self) n)) (sym submitted.ok.1) ∙ sym c.in-Some.ensures.answer)
+    let goes = steps-alone r c.submit.new.self c.finish.new.self c.args.call c.in-Ok.job c.args.now c.args.own submitted.ok.0 submitted.ok.1
+    c.in-Some.ensures.goes in
+    succeeds r c.finish.new.self c.interleaves.ensures.run c.args.call submitted.refused c.args.now c.args.own goes
+    c.in-Some.ensures.run c.in-Some.answer (ap (λ n. answer_of (job_at (jobs_of c.finish.new.self) n)) (sym submitted.ok.1) ∙ sym c.in-Some.ensures.answer)
 
 pub returns-in-Some-clause-alone : goal.returns-in-Some-clause-alone
 returns-in-Some-clause-alone g c =
     let submitted = c.in-Ok.ensures in
     let r = c.args.self.now in
-    let g' = steps-alone r c.submit.new.self c.finish.new.self c.args.call c.in-Ok.job c.args.now c.args.own submitted.ok.0 submitted.ok.1 c.in-Some.ensures.goes in
-    answers-alone r c.finish.new.self c.interleaves.ensures.run c.args.call submitted.refused c.args.now c.args.own g' c.in-Some.ensures.run c.in-Some.answer
-    (ap (λ n. answer_of (job_at (jobs_of c.finish.new.self) n)) (sym submitted.ok.1) ∙ sym c.in-Some.ensures.answer)
+    let goes = steps-alone r c.submit.new.self c.finish.new.self c.args.call c.in-Ok.job c.args.now c.args.own submitted.ok.0 submitted.ok.1
+    c.in-Some.ensures.goes in
+    answers-alone r c.finish.new.self c.interleaves.ensures.run c.args.call submitted.refused c.args.now c.args.own goes
+    c.in-Some.ensures.run c.in-Some.answer (ap (λ n. answer_of (job_at (jobs_of c.finish.new.self) n)) (sym submitted.ok.1) ∙ sym c.in-Some.ensures.answer)
+
+pub returns-in-Some-clause-exact : goal.returns-in-Some-clause-exact
+returns-in-Some-clause-exact g c =
+    let submitted = c.in-Ok.ensures in
+    let r = c.args.self.now in
+    let goes = steps-alone r c.submit.new.self c.finish.new.self c.args.call c.in-Ok.job c.args.now c.args.own submitted.ok.0 submitted.ok.1
+    c.in-Some.ensures.goes in
+    as-alone r c.finish.new.self c.interleaves.ensures.run c.args.call submitted.refused c.args.now c.args.own goes
+    c.in-Some.ensures.run c.in-Some.answer (ap (λ n. answer_of (job_at (jobs_of c.finish.new.self) n)) (sym submitted.ok.1) ∙ sym c.in-Some.ensures.answer)
