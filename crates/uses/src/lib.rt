@@ -3,5 +3,9 @@
 
 pub mod deliver;
 mod error;
+pub mod head;
+pub mod index;
+pub mod name;
+pub mod server;
 
 pub use error::UseError;
