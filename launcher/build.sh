@@ -44,14 +44,14 @@ refuse_unbuilt() {
   refuse 70 "$current was not built: rt ended with status $joined"
 }
 
-# Proves one crate and builds it. The program is run once, over an empty script.
+# Proves one crate and builds it. A program is run once: over an empty script, or for its version.
 build_crate() {
   enter_crate "$1"
-  if [ "$1" = maildir_cli ]; then
-    start_rt "$1" /dev/null "$work/log" run -- play
-  else
-    start_rt "$1" /dev/null "$work/log" lib
-  fi
+  case $1 in
+    maildir_cli) start_rt "$1" /dev/null "$work/log" run -- play ;;
+    maildir_judge) start_rt "$1" /dev/null "$work/log" run -- --version ;;
+    *) start_rt "$1" /dev/null "$work/log" lib ;;
+  esac
   follow read_build_line describe_build
   join_job
   [ "$joined" -eq 0 ] || refuse_unbuilt

@@ -2,11 +2,17 @@
 
 files=$parts/files.txt
 
+# The files to install: those of the table, and the judge where it is built.
+list_files() {
+  cat "$files"
+  if has_judge; then echo 755 crates/maildir_judge/out/maildir_judge bin/maildir_judge; fi
+}
+
 # Calls a function with the mode, the source and the target of each file.
 each_file() {
   while read -r mode from to; do
     case $mode in '#' | '') ;; *) "$1" "$mode" "$top/$from" "$prefix/$to" ;; esac
-  done <"$files"
+  done <"$work/files_to_install"
 }
 
 # Refuses where a file to install is missing, or where one has its place that no install has put there as it is now.
@@ -76,6 +82,7 @@ open_install() {
   open_work
   trap close_install EXIT
   for name in record folders files placed; do : >"$work/$name"; done
+  list_files >"$work/files_to_install"
   [ ! -e "$manifest" ] || { check_record "$manifest" && cp "$manifest" "$work/record"; }
   umask 022
 }

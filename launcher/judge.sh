@@ -2,6 +2,14 @@
 
 judge=$top/crates/maildir_judge
 
+# What is built and run from here on is the judge.
+take_judge() {
+  crate=$judge
+  program=$judge/out/maildir_judge
+  stamp=$program.built
+  runs=maildir_judge
+}
+
 # Judges the log of a file, or of standard input where the file is - or none. The judge gets the other words.
 judge_log() {
   file=
@@ -29,15 +37,20 @@ judge_log() {
   run_judge "$@"
 }
 
-# Judges by the built program where nothing is newer that it is made of, and else unproved.
-run_judge() {
-  program=$judge/out/maildir_judge
+# Whether the judge is built, by the launcher or by the gate, and nothing is newer that it is made of.
+has_judge() (
+  take_judge
   stamp=$program
-  runs=maildir_judge
-  if [ -x "$program" ] && [ -z "$(find_newer)" ]; then
+  [ -x "$program" ] && [ -z "$(find_newer)" ]
+)
+
+# Judges by the built program where it is up to date, and else unproved.
+run_judge() {
+  take_judge
+  if has_judge; then
     if [ -n "$file" ]; then exec "$program" "$@" <"$file"; fi
     exec "$program" "$@"
   fi
-  remedy="'rt run <stdin' in crates/maildir_judge proves and builds the judge"
+  remedy="'$0 build judge' proves and builds the judge"
   play_unproved "the judge is not built, or older than what it is made of" "$@"
 }

@@ -47,8 +47,9 @@ Plays scripts over a Maildir store in memory. docs/SCRIPT.md has the language.
 Commands:
 $(print_commands)
   judge [WORDS] [FILE]        Says which steps of a log of directory calls break the law of a maildir; docs/JUDGE.md has the words
-  build                       Proves the program and builds it
-  install [--prefix DIR]      Installs maildir_cli with its manual page and completions for bash, zsh and fish
+  build [judge]               Proves the program, or the judge, and builds it
+  install [--prefix DIR]      Installs maildir_cli with its manual page and completions for bash, zsh and fish, and maildir_judge
+                              where that is built
   uninstall [--prefix DIR]    Takes away what install has put there
 
 Options:

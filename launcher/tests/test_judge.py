@@ -25,7 +25,7 @@ class Judged(Scene):
     def test_a_judge_that_is_not_built_is_not_proved(self):
         ran = self.run_launcher('judge', '--lines', self.log)
         self.assertIn('this run is not proved yet, since the judge is not built', ran.stderr)
-        self.assertIn("'rt run <stdin' in crates/maildir_judge", ran.stderr)
+        self.assertIn("build judge' proves and builds the judge", ran.stderr)
         self.assertEqual(self.calls(), ['maildir_judge try -- --lines'])
 
     def test_a_built_judge_has_the_words(self):
@@ -43,6 +43,26 @@ class Judged(Scene):
         os.utime(source, (2_000_000_000, 2_000_000_000))
         self.assertIn('not proved yet', self.run_launcher('judge', self.log).stderr)
         self.assertEqual(self.calls(), ['maildir_judge try --'])
+
+    def test_it_is_built_crate_by_crate(self):
+        ran = self.run_launcher('build', 'judge')
+        self.assertEqual(self.calls(), ['md_name lib', 'md_log lib', 'md_judge lib', 'maildir_judge run -- --version'], ran.stderr)
+        self.assertIn('proved and built 4 crates', ran.stderr)
+        self.assertEqual(self.run_launcher('judge', self.log).stdout, f'words: \n{LOG}')
+        again = self.run_launcher('build', 'judge')
+        self.assertIn('nothing that it is made of has changed since', again.stderr)
+        self.refused(64, 'a word too many', 'build', 'judge', 'judge')
+
+    def test_it_is_installed_where_it_is_built(self):
+        self.run_launcher('build')
+        self.run_launcher('install')
+        installed = self.path('home', '.local', 'bin', 'maildir_judge')
+        self.assertFalse(os.path.exists(installed))
+        self.run_launcher('build', 'judge')
+        self.assertIn(installed, self.run_launcher('install').stdout)
+        self.assertTrue(os.access(installed, os.X_OK))
+        self.run_launcher('uninstall')
+        self.assertFalse(os.path.exists(installed))
 
     def test_wrong_words_are_refused(self):
         self.refused(64, '--allow lacks a clause', 'judge', self.log, '--allow')

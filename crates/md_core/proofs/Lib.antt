@@ -7,5 +7,7 @@ pub mod Machines
 pub mod Runs
 pub mod Theorem
 pub mod Worlds
+pub mod Settling
 pub mod Answers
 pub mod Traces
+pub mod Calling

@@ -3,6 +3,7 @@ pub mod Placed
 pub mod Staying
 pub mod Growing
 pub mod Histories
+pub mod Joined
 pub mod Comes
 pub mod Bounds
 pub mod RunLaw

@@ -16,9 +16,12 @@ pub mod Sparing
 pub mod Interleaving
 pub mod Stepping
 pub mod Worlds
+pub mod Settling
 pub mod Looking
 pub mod Accepting
 pub mod Trace
 pub mod Bounds
 pub mod Tracing
 pub mod Laws
+pub mod Calling
+pub mod Joining

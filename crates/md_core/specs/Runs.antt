@@ -1,5 +1,6 @@
--- A run: directories at the beginning, the calls that were submitted, and the events since. All else of a world is a function of these.
-use Rattle.std.specs.Prelude.{ℕ, ◌≡◌, ◌+◌, ◌==◌, List, [], ◌∷◌, ◌++◌, Option, Some, None, map, max, take, fold, slice_get, length, count_by, zero, suc}
+-- A run: directories and the clock at the beginning, the calls that were submitted, and the events since. All else of a world is a
+-- function of these.
+use Rattle.std.specs.Prelude.{ℕ, ◌≡◌, ◌+◌, ◌==◌, List, [], ◌∷◌, ◌++◌, Option, Some, None, map, max, take, fold, slice_get, length, count_by}
 use Rattle.std.specs.List.{position_or_len}
 use Rattle.std.specs.Option.{option_and_then}
 use Rattle.std.specs.FinMap as finmap
@@ -17,20 +18,18 @@ use Rattle.md_core.specs.declared.jobs.step.Event.{Event}
 use Rattle.md_core.specs.Machine.{Machine, Standing, working, answered, Occurrence, after_event, step_of, new_job, job_at, job_left}
 use Rattle.md_core.specs.Trace.{Step}
 
--- directories, calls and marked events: a world's whole history
+-- directories, their clock, calls and marked events: a world's whole history
 pub record Run : Type 0 where
   -- the directories at the beginning
   pub image : State
+  -- the clock at the beginning, in seconds; no file of the directories has a later stamp
+  pub clock : ℕ
   -- how often these had failed by then, and how many calls were made of them
   pub failures : ℕ
   pub calls_made : ℕ
   -- the calls of the jobs
   pub calls : List Call
   pub events : List Occurrence
-
--- a run of no call and no event
-abbrev pub new_run : Device → Run
-new_run first = record { image = first.state; failures = first.failures; calls_made = first.calls; calls = []; events = [] }
 
 -- the stamp of a file
 abbrev pub stamp_of : Option File → ℕ
@@ -45,9 +44,20 @@ clock_by s es = fold (λ clock e. max clock (stamp_of (file_by s.files e.1))) 0 
 abbrev pub first_clock : State → ℕ
 first_clock s = clock_by s (finmap.entries s.names)
 
+-- a run of no call and no event
+abbrev pub new_run : Device → Run
+new_run first = record {
+  image = first.state;
+  clock = first_clock first.state;
+  failures = first.failures;
+  calls_made = first.calls;
+  calls = [];
+  events = [];
+}
+
 -- the machine before the first event, with all jobs
-abbrev pub beginning : State → List Call → Machine
-beginning image calls = record { dirs = image; clock = first_clock image; jobs = map new_job calls; effects = [] }
+abbrev pub beginning : State → ℕ → List Call → Machine
+beginning image clock calls = record { dirs = image; clock = clock; jobs = map new_job calls; effects = [] }
 
 -- one event after another
 unfoldable pub run_from : Machine → List Occurrence → Machine
@@ -56,11 +66,11 @@ run_from m (e ∷ es) = run_from (after_event m e) es
 
 -- moment k of a run: the machine after the first k events
 abbrev pub machine_at : Run → ℕ → Machine
-machine_at r k = run_from (beginning r.image r.calls) (take k r.events)
+machine_at r k = run_from (beginning r.image r.clock r.calls) (take k r.events)
 
 -- the machine after all events
 abbrev pub machine_of : Run → Machine
-machine_of r = run_from (beginning r.image r.calls) r.events
+machine_of r = run_from (beginning r.image r.clock r.calls) r.events
 
 -- what event k did
 abbrev pub done_at : Run → ℕ → Option Step

@@ -1,5 +1,5 @@
 -- Which runs a world may have, and what a step of it shows.
-use Rattle.std.specs.Prelude.{ℕ, ◌≡◌, ◌+◌, ◌++◌, ◌∷◌, ◌==◌, List, [], Option, Some, None, true, filter, take, slice_get, IfSome, is_some}
+use Rattle.std.specs.Prelude.{ℕ, ◌≡◌, ◌≤◌, ◌++◌, ◌∷◌, ◌==◌, List, [], Option, Some, None, true, filter, take, slice_get, IfSome, is_some}
 use Rattle.std.specs.Option.{option_to_list}
 use Rattle.md_dirs.specs.State.{IsSound}
 use Rattle.md_core.specs.declared.jobs.answer.Answer.{Answer}
@@ -8,19 +8,19 @@ use Rattle.md_core.specs.declared.jobs.effect.Effect.{Effect}
 use Rattle.md_core.specs.declared.jobs.step.StepOut.{StepOut}
 use Rattle.md_core.specs.Mailbox.{Mailbox}
 use Rattle.md_core.specs.Alone.{alone}
-use Rattle.md_core.specs.History.{names_after}
 use Rattle.md_core.specs.Trace.{Step, call_at}
 use Rattle.md_core.specs.Machine.{Machine, Occurrence, step_out, job_at, step_of as done_of}
-use Rattle.md_core.specs.Runs.{Run, machine_at, machine_of, effects_of, step_refusal, box_in}
+use Rattle.md_core.specs.Runs.{Run, first_clock, machine_at, machine_of, effects_of, step_refusal, box_in}
 use Rattle.md_core.specs.Loading.{load_refusal}
 use Rattle.md_core.specs.Submitting.{submit_refusal}
 use Rattle.md_core.specs.Interleaving.{is_effect_at, is_success}
 
--- The runs of a world: sound directories at the beginning, with no fault; each call accepted by the checks when it was submitted; and each
--- event of a job that was there and had no answer.
+-- The runs of a world: sound directories at the beginning, with no fault, and with no later stamp than the clock; each call accepted by
+-- the checks when it was submitted; and each event of a job that was there and had no answer.
 pub record IsRun (r : Run) : Type 0 where
   pub sound : IsSound r.image
   pub loaded : load_refusal r.image ≡ None
+  pub stamped : first_clock r.image ≤ r.clock
   pub accepted : (i : ℕ) (call : Call) → slice_get r.calls i ≡ Some call → submit_refusal (record r { calls = take i r.calls }) call ≡ None
   pub taken : (k : ℕ) (e : Occurrence) → slice_get r.events k ≡ Some e → step_refusal (job_at (machine_at r k).jobs e.event.job) ≡ None
 

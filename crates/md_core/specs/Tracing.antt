@@ -15,7 +15,7 @@ deeds_from m (e ∷ es) = option_to_list (step_of m e) ++ deeds_from (after_even
 
 -- the trace of a run
 abbrev pub trace_of : Run → Trace
-trace_of r = record { image = r.image; calls = r.calls; steps = deeds_from (beginning r.image r.calls) r.events }
+trace_of r = record { image = r.image; calls = r.calls; steps = deeds_from (beginning r.image r.clock r.calls) r.events }
 
 -- no event of a run has a moment of its own: all jobs go by the clock of the store
 abbrev pub HasOneClock : Run → Type 0

@@ -24,10 +24,11 @@ pub record HasRoom (log : Log) : Type 0 where
   pub marks : vec_len log.marks < vec_capacity log.marks
   pub effects : vec_len log.effects < vec_capacity log.effects
 
--- the run: the directories at the beginning, the calls of the jobs, and the marked events
-abbrev pub run_of : Device → List JobView → List Event → List Bool → Run
-run_of first jobs events marks = record {
+-- the run: the directories and the clock at the beginning, the calls of the jobs, and the marked events
+abbrev pub run_of : Device → ℕ → List JobView → List Event → List Bool → Run
+run_of first began jobs events marks = record {
   image = first.state;
+  clock = began;
   failures = first.failures;
   calls_made = first.calls;
   calls = map (λ job. job.call) jobs;

@@ -14,6 +14,8 @@ pub use jobs::call::{Call, JobId};
 pub use jobs::effect::{Change, Effect};
 pub use jobs::step::{DirCall, DirReply, Event, Moment, StepOut};
 pub use world::World;
+pub use world::call::CallError;
 pub use world::load::LoadRefused;
 pub use world::run::RunStop;
+pub use world::settle::{SettleError, SettleRefused};
 pub use world::submit::SubmitRefused;

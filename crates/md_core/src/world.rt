@@ -7,26 +7,31 @@ use md_dirs::Dirs;
 use std::alloc::Global;
 use std::marker::Model;
 
+pub(crate) mod call;
 pub(crate) mod checks;
+pub(crate) mod into_dirs;
 pub(crate) mod load;
 pub(crate) mod log;
 pub(crate) mod looking;
 pub(crate) mod looks;
 pub(crate) mod reading;
 pub(crate) mod run;
+pub(crate) mod settle;
 pub(crate) mod step;
 pub(crate) mod submit;
 
 /// Directories, the jobs on them, and the log of their steps.
 ///
-/// Contracts see it as its run: the directories at the beginning, the calls that were submitted, and the events since, each with
-/// a mark where its directory call faulted.
+/// Contracts see it as its run: the directories and the clock at the beginning, the calls that were submitted, and the events since, each
+/// with a mark where its directory call faulted.
 #[derive(Drop)]
 pub struct World<D: Dirs> {
     alloc: Global,
     image: Image<D>,
     dirs: D,
-    // In seconds.
+    // The clock at the beginning, in seconds.
+    began: u64,
+    // The clock now, in seconds.
     clock: u64,
     jobs: Vec<Job>,
     used: UsedNames,
@@ -45,13 +50,13 @@ impl<D: Dirs> Model for World<D> {
     ghost coded = { Prim.hlevel (codes, state_code, flags.the_row.coded) };
 
     ghost view = { λ w.
-        run_of (D.device w.image.value) w.jobs.items w.log.events.items
+        run_of (D.device w.image.value) w.began w.jobs.items w.log.events.items
         w.log.marks.items };
 
     ghost invariant = { λ w.
         let first = D.device w.image.value in
         let now = D.device w.dirs in
-        let run = run_of first w.jobs.items w.log.events.items w.log.marks.items in
+        let run = run_of first w.began w.jobs.items w.log.events.items w.log.marks.items in
         IsWorld run (machine_by now w.clock w.jobs.items w.log.effects.items) now w.used w.log.events.items w.log.marks.items };
 }
 

@@ -1,12 +1,14 @@
 // What no clause says: worked values, growths that are refused, faults of the directories, and what may cross threads. One refused
 // allocation anywhere leaves each test passing: the refused call changed nothing, and is made again. Worked runs of all seven calls
 // are scripts, in crates/examples/data/.
+mod calls;
 mod faults;
 mod loads;
 mod mailbox;
 mod memory;
 mod pairs;
 mod runs;
+mod settles;
 mod small;
 mod submits;
 mod threads;

@@ -10,9 +10,9 @@ use Rattle.md_store.specs.Locks.{IsFresh}
 use Rattle.md_store.specs.Publishing.{Shows, knower}
 
 module _ (r : Run) (fresh : IsFresh r) where
-  machine : machine_of r ≡ beginning r.image r.calls
+  machine : machine_of r ≡ beginning r.image r.clock r.calls
   unfolding run_from
-  machine = ap (run_from (beginning r.image r.calls)) fresh
+  machine = ap (run_from (beginning r.image r.clock r.calls)) fresh
 
   pub fresh-dirs : dirs_of r ≡ r.image
   fresh-dirs = ap (λ (m : Machine). m.dirs) machine

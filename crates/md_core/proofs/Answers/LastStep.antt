@@ -90,7 +90,7 @@ module _ (r : Run) (k job : ℕ) (t : IsTurn r k job) where
       (λ same. differ (same ∙ t.own))
 
 -- a job at the beginning is new
-new-there : (calls : List Call) (job : ℕ) (s : Standing) (r : Run) → job_at (beginning r.image calls).jobs job ≡ Some s →
+new-there : (calls : List Call) (job : ℕ) (s : Standing) (r : Run) → job_at (beginning r.image r.clock calls).jobs job ≡ Some s →
     (c : Call) × (call_at calls job ≡ Some c) × (s ≡ new_job c)
 new-there calls zero s r is = cc
 new-there calls (suc i) s r is = new_at calls i s is

@@ -126,7 +126,7 @@ IsDelivered r job c = Unit {0}
 
 -- what a job did, step by step
 abbrev pub deeds_of : Run → ℕ → List Step
-deeds_of r job = filter (λ d. d.job == job) (deeds_from (beginning r.image r.calls) r.events)
+deeds_of r job = filter (λ d. d.job == job) (deeds_from (beginning r.image r.clock r.calls) r.events)
 
 -- What a clean of a folder did that counted n files: it listed tmp, and then unlinked each name whose file was not used for 36 hours by
 -- its own clock at that listing, once and in order; each of them was found or not, and it counts those that were.

@@ -126,7 +126,7 @@ module _ (r : Run) (run : IsRun r) where
     ]
   ]
 
-  pub good-beginning : IsGood r.calls (beginning r.image r.calls)
+  pub good-beginning : IsGood r.calls (beginning r.image r.clock r.calls)
   good-beginning = record {
     sound = run.sound;
     one_path = loaded-one_path r.image run.loaded;
@@ -162,7 +162,7 @@ module _ (r : Run) (run : IsRun r) where
       done-what = ap (option_and_then (step_of (machine_at r k))) at ∙ done-turned (machine_at r k) e waits.0 waits.1
 
     -- What holds at the beginning, and is kept by each turn where all is good, holds at each moment.
-    module _ (P : List Occurrence → Machine → Type 0) (start : P [] (beginning r.image r.calls))
+    module _ (P : List Occurrence → Machine → Type 0) (start : P [] (beginning r.image r.clock r.calls))
         (step : (es : List Occurrence) (m m' : Machine) (e : Occurrence) (what : Step) → what.job ≡ e.event.job → IsGood r.calls m → Goes r.calls m m' what →
         P es m → P (es ++ e ∷ []) m') where
       abbrev Both : List Occurrence → Machine → Type 0

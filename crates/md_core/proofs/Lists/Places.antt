@@ -22,6 +22,19 @@ at_end [] new (suc i) x is early last = cc
 at_end (z ∷ xs) new zero x is early last = early is
 at_end (z ∷ xs) new (suc i) x is early last = at_end xs new i x is early (λ e. last (ap suc e))
 
+-- an element of two lists that are one is one of the first, or one of the second
+pub at_joint : {X C : Type 0} (xs ys : List X) (i : ℕ) (x : X) → slice_get (xs ++ ys) i ≡ Some x → (slice_get xs i ≡ Some x → C) →
+    ((j : ℕ) → i ≡ length xs + j → slice_get ys j ≡ Some x → C) → C
+at_joint [] ys i x is early late = late i (omega arith) is
+at_joint (z ∷ xs) ys zero x is early late = early is
+at_joint (z ∷ xs) ys (suc i) x is early late = at_joint xs ys i x is early (λ j e at. late j (omega (arith, e)) at)
+
+-- the second list begins where the first ends
+pub get-second : {X : Type 0} (xs ys : List X) (i j : ℕ) → i ≡ length xs + j → slice_get (xs ++ ys) i ≡ slice_get ys j
+get-second [] ys i j e = let same : i ≡ j = omega (arith, e) in ap (slice_get ys) same
+get-second (z ∷ xs) ys zero j e = absurd (omega (arith, e))
+get-second (z ∷ xs) ys (suc i) j e = get-second xs ys i j (omega (arith, e))
+
 -- the elements of the first k are those at the places below k
 pub get-take : {X : Type 0} (k : ℕ) (xs : List X) (i : ℕ) → i < k → slice_get (take k xs) i ≡ slice_get xs i
 get-take zero xs i below = absurd (omega arith)

@@ -23,16 +23,16 @@ unfolding run_from
 run_from-none m = refl
 
 -- the moments of a run
-pub moment-start : (r : Run) → machine_at r 0 ≡ beginning r.image r.calls
-moment-start r = run_from-none (beginning r.image r.calls)
+pub moment-start : (r : Run) → machine_at r 0 ≡ beginning r.image r.clock r.calls
+moment-start r = run_from-none (beginning r.image r.clock r.calls)
 
 pub moment-more : (r : Run) (k : ℕ) (e : Occurrence) → slice_get r.events k ≡ Some e → machine_at r (k + 1) ≡ after_event (machine_at r k) e
-moment-more r k e at = ap (run_from (beginning r.image r.calls)) (take-one_more r.events k e at) ∙
-    run_from-more_event (beginning r.image r.calls) (take k r.events) e
+moment-more r k e at = ap (run_from (beginning r.image r.clock r.calls)) (take-one_more r.events k e at) ∙
+    run_from-more_event (beginning r.image r.clock r.calls) (take k r.events) e
 
 -- after the last event there is no other moment
 pub moment-past : (r : Run) (k : ℕ) → length r.events ≤ k → machine_at r k ≡ machine_of r
-moment-past r k past = ap (run_from (beginning r.image r.calls)) (take_all k r.events past)
+moment-past r k past = ap (run_from (beginning r.image r.clock r.calls)) (take_all k r.events past)
 
 pub moment-end : (r : Run) → machine_at r (length r.events) ≡ machine_of r
 moment-end r = moment-past r (length r.events) (omega arith)
@@ -42,19 +42,19 @@ moment-over r k past = moment-past r (k + 1) (omega arith) ∙ sym (moment-past 
 
 -- a run goes on by one event, and by more
 pub machine-and_event : (r : Run) (e : Occurrence) → machine_of (and_event r e) ≡ after_event (machine_of r) e
-machine-and_event r e = run_from-more_event (beginning r.image r.calls) r.events e
+machine-and_event r e = run_from-more_event (beginning r.image r.clock r.calls) r.events e
 
 pub machine-and_events : (r : Run) (es : List Occurrence) → machine_of (and_events r es) ≡ run_from (machine_of r) es
-machine-and_events r es = run_from-append (beginning r.image r.calls) r.events es
+machine-and_events r es = run_from-append (beginning r.image r.clock r.calls) r.events es
 
 pub moment-and_event : (r : Run) (e : Occurrence) (k : ℕ) → k ≤ length r.events → machine_at (and_event r e) k ≡ machine_at r k
-moment-and_event r e k within = ap (run_from (beginning r.image r.calls)) (take-append-le k r.events (e ∷ []) within)
+moment-and_event r e k within = ap (run_from (beginning r.image r.clock r.calls)) (take-append-le k r.events (e ∷ []) within)
 
 pub moment-and_events : (r : Run) (es : List Occurrence) (k : ℕ) → k ≤ length r.events → machine_at (and_events r es) k ≡ machine_at r k
-moment-and_events r es k within = ap (run_from (beginning r.image r.calls)) (take-append-le k r.events es within)
+moment-and_events r es k within = ap (run_from (beginning r.image r.clock r.calls)) (take-append-le k r.events es within)
 
 -- What holds at the beginning, and is kept by each event of a job that is there and has no answer, holds at each moment.
-module _ (r : Run) (run : IsRun r) (P : List Occurrence → Machine → Type 0) (start : P [] (beginning r.image r.calls))
+module _ (r : Run) (run : IsRun r) (P : List Occurrence → Machine → Type 0) (start : P [] (beginning r.image r.clock r.calls))
     (step : (es : List Occurrence) (m : Machine) (e : Occurrence) (task : Task) → job_at m.jobs e.event.job ≡ Some (working task) → P es m →
     P (es ++ e ∷ []) (after_event m e)) where
   pub at_moment : (k : ℕ) → P (take k r.events) (machine_at r k)
@@ -71,7 +71,7 @@ module _ (r : Run) (run : IsRun r) (P : List Occurrence → Machine → Type 0) 
       subst (λ (es : List Occurrence). P es (machine_at r (k + 1))) same (subst (P (take k r.events)) (sym (moment-over r k past)) (at_moment k))))
 
   pub at_last : P r.events (machine_of r)
-  at_last = subst (λ (es : List Occurrence). P es (run_from (beginning r.image r.calls) es)) (take_all (length r.events) r.events (omega arith))
+  at_last = subst (λ (es : List Occurrence). P es (run_from (beginning r.image r.clock r.calls) es)) (take_all (length r.events) r.events (omega arith))
       (at_moment (length r.events))
 
 -- each call has its job
@@ -88,15 +88,15 @@ length-jobs_of r run = ap (λ (m : Machine). length m.jobs) (sym (moment-end r))
 -- a call that is submitted after some events might have been submitted before them
 module _ (r : Run) (run : IsRun r) (call : Call) where
   abbrev start' : Machine
-  start' = beginning r.image (r.calls ++ call ∷ [])
+  start' = beginning r.image r.clock (r.calls ++ call ∷ [])
 
-  start-with_job : start' ≡ with_job (beginning r.image r.calls) (new_job call)
-  start-with_job = λ i. record { dirs = r.image; clock = (beginning r.image r.calls).clock; jobs = map-append new_job r.calls (call ∷ []) i; effects = [] }
+  start-with_job : start' ≡ with_job (beginning r.image r.clock r.calls) (new_job call)
+  start-with_job = λ i. record { dirs = r.image; clock = (beginning r.image r.clock r.calls).clock; jobs = map-append new_job r.calls (call ∷ []) i; effects = [] }
 
   abbrev Goes : List Occurrence → Machine → Type 0
   Goes es m = run_from start' es ≡ with_job m (new_job call)
 
-  goes-start : Goes [] (beginning r.image r.calls)
+  goes-start : Goes [] (beginning r.image r.clock r.calls)
   goes-start = run_from-none start' ∙ start-with_job
 
   goes-more : (es : List Occurrence) (m : Machine) (e : Occurrence) (task : Task) → job_at m.jobs e.event.job ≡ Some (working task) → Goes es m →

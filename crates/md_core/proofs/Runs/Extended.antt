@@ -1,23 +1,25 @@
 -- A run with one more event or call is a run, and so is a beginning.
-use Rattle.std.proofs.Common.{ℕ, ◌≡◌, List, [], ◌∷◌, Some, None, sym, ap, ◌∙◌, length, take, arith}
+use Rattle.std.proofs.Common.{ℕ, ◌≡◌, ◌≤◌, List, [], ◌∷◌, Some, None, sym, ap, ◌∙◌, length, take, arith}
 use Rattle.std.proofs.lemmas.List.{take_at, take-take, take-append-le}
 use Rattle.std.proofs.lemmas.Option.{slice_get_within}
-use Rattle.md_dirs.specs.Calls.{Device}
 use Rattle.md_dirs.specs.State.{State, IsSound}
 use Rattle.md_core.specs.declared.jobs.call.Call.{Call}
 use Rattle.md_core.specs.Machine.{Machine, working, Occurrence, job_at, new_job}
 use Rattle.md_core.specs.Loading.{load_refusal}
-use Rattle.md_core.specs.Runs.{Run, new_run, beginning, run_from, machine_at, machine_of, jobs_of, and_event, and_call, step_refusal}
+use Rattle.md_core.specs.Runs.{Run, first_clock, beginning, run_from, machine_at, machine_of, jobs_of, and_event, and_call, step_refusal}
 use Rattle.md_core.specs.Submitting.{submit_refusal}
 use Rattle.md_core.specs.Stepping.{IsRun}
 use Rattle.md_core.proofs.Lists.Places.{at_end, get-from_take}
 use Rattle.md_core.proofs.Runs.Events.{goes_on-exact, job_at-more}
 use Rattle.md_core.proofs.Runs.ByEvent.{moment-end, moment-and_event, moment-and_call}
 
-pub is_run-new : (first : Device) → IsSound first.state → load_refusal first.state ≡ None → IsRun (new_run first)
-is_run-new first sound loaded = record {
+-- a run of no call and no event
+pub is_run-begun : (image : State) (clock failures calls_made : ℕ) → IsSound image → load_refusal image ≡ None → first_clock image ≤ clock →
+    IsRun (record { image = image; clock = clock; failures = failures; calls_made = calls_made; calls = []; events = [] })
+is_run-begun image clock failures calls_made sound loaded stamped = record {
   sound = sound;
   loaded = loaded;
+  stamped = stamped;
   accepted = λ i call at. cc;
   taken = λ k e at. cc;
 }
@@ -26,6 +28,7 @@ pub is_run-and_event : (r : Run) (e : Occurrence) → IsRun r → step_refusal (
 is_run-and_event r e run goes = record {
   sound = run.sound;
   loaded = run.loaded;
+  stamped = run.stamped;
   accepted = run.accepted;
   taken = λ k f at. at_end r.events e k f at
       (λ early. ap (λ (m : Machine). step_refusal (job_at m.jobs f.event.job))
@@ -41,11 +44,12 @@ pub is_run-first : (r : Run) → IsRun r → (k : ℕ) → IsRun (record r { eve
 is_run-first r run k = record {
   sound = run.sound;
   loaded = run.loaded;
+  stamped = run.stamped;
   accepted = run.accepted;
   taken = λ i e at.
       let early = get-from_take k r.events i e at in
       let same : machine_at (record r { events = take k r.events }) i ≡ machine_at r i =
-      ap (run_from (beginning r.image r.calls)) (take-take i k r.events (omega (arith, early.0))) in
+      ap (run_from (beginning r.image r.clock r.calls)) (take-take i k r.events (omega (arith, early.0))) in
       ap (λ (m : Machine). step_refusal (job_at m.jobs e.event.job)) same ∙ run.taken i e early.1;
 }
 
@@ -53,6 +57,7 @@ pub is_run-and_call : (r : Run) (call : Call) → IsRun r → submit_refusal r c
 is_run-and_call r call run accepted = record {
   sound = run.sound;
   loaded = run.loaded;
+  stamped = run.stamped;
   accepted = λ i c at. at_end r.calls call i c at
       (λ early. ap (λ (cs : List Call). submit_refusal (record r { calls = cs }) c)
       (take-append-le i r.calls (call ∷ []) (let h = slice_get_within r.calls i c early in omega arith)) ∙ run.accepted i c early)

@@ -93,7 +93,7 @@ of_job-other number es e differ =
 -- the directories before the first of these events that is of a job, or behind all of them
 module _ (r : Run) where
   abbrev from : Machine
-  from = beginning r.image r.calls
+  from = beginning r.image r.clock r.calls
 
   abbrev at_first : ℕ → List Occurrence → State
   at_first number es = dirs_at_first (record r { events = es }) number
@@ -190,7 +190,7 @@ module _ (r : Run) where
 module _ (r : Run) (run : IsRun r) (turns : EachTurn) where
   -- all is good and bounded behind these events
   record IsThere (es : List Occurrence) (m : Machine) : Type 0 where
-    now : m ≡ run_from (beginning r.image r.calls) es
+    now : m ≡ run_from (beginning r.image r.clock r.calls) es
     good : IsGood r.calls m
     bounded : Bounded r es m
 
@@ -199,14 +199,14 @@ module _ (r : Run) (run : IsRun r) (turns : EachTurn) where
   there-more es m e task at was =
       let g = goes turns r.calls m e task was.good at in
       record {
-        now = ap (λ (x : Machine). after_event x e) was.now ∙ sym (run_from-more_event (beginning r.image r.calls) es e);
+        now = ap (λ (x : Machine). after_event x e) was.now ∙ sym (run_from-more_event (beginning r.image r.clock r.calls) es e);
         good = good-kept r.calls (all-apart r run) m (after_event m e) (step_by m e task) g was.good;
         bounded = bounded-more r es m (after_event m e) e (step_by m e task) refl was.now g was.bounded;
       }
 
   there : IsThere r.events (machine_of r)
   there = at_last r run IsThere (record {
-    now = sym (run_from-none (beginning r.image r.calls));
+    now = sym (run_from-none (beginning r.image r.clock r.calls));
     good = good-beginning r run;
     bounded = bounded-start r;
   }) there-more

@@ -160,7 +160,7 @@ module _ (turns : EachTurn) (r : Run) (run : IsRun r) where
       by (call.Expunge a b c) none its = absurd its
       by (call.Clean a) none its = absurd its
 
-  tells-start : Tells r.image.folders opening r.calls (beginning r.image r.calls)
+  tells-start : Tells r.image.folders opening r.calls (beginning r.image r.clock r.calls)
   tells-start = record {
     folders_stay = refl;
     legal = record { once = λ i j a b ata atb same. cc; each = λ i e at. cc };

@@ -21,7 +21,7 @@ own-done r e d is = by (task_of (job_at (machine_of r).jobs e.event.job)) is
 pub grows-by-step : (r : Run) (e : Occurrence) (out : StepOut) → ShowsStep r (and_event r e) e out →
     GrowsByStep (trace_of r) (trace_of (and_event r e)) e.event.job out
 grows-by-step r e out shows =
-    let m = beginning r.image r.calls in
+    let m = beginning r.image r.clock r.calls in
     record {
       step = shows.what;
       steps = deeds-more m r.events e ∙ ap (λ (o : Option Step). deeds_from m r.events ++ option_to_list o) shows.at;

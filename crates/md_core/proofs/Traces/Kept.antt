@@ -14,9 +14,9 @@ module _ (r : Run) (run : IsRun r) where
   pub steps-keep : (es : List Occurrence) → KeepsStates r (and_events r es)
   steps-keep es k within =
       let many = many-steps r run in
-      let more = deeds_from (run_from (beginning r.image r.calls) r.events) es in
+      let more = deeds_from (run_from (beginning r.image r.clock r.calls) r.events) es in
       let inside : k ≤ length (trace_of r).steps = omega (arith, many, within) in
-      ap (state_after r.image) (ap (take k) (deeds-append (beginning r.image r.calls) r.events es) ∙ take-append-le k (trace_of r).steps more inside)
+      ap (state_after r.image) (ap (take k) (deeds-append (beginning r.image r.clock r.calls) r.events es) ∙ take-append-le k (trace_of r).steps more inside)
 
   pub call-keeps : (call : Call) → IsRun (and_call r call) → KeepsStates r (and_call r call)
   call-keeps call later k within =

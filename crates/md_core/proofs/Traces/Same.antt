@@ -18,7 +18,7 @@ use Rattle.md_core.proofs.Runs.Events.{goes_on-exact, happens-turned, done-turne
 use Rattle.md_core.proofs.Runs.ByEvent.{at_moment, moment-start, run_from-more_event}
 
 abbrev pub steps_by : Run → List Occurrence → List Step
-steps_by r es = deeds_from (beginning r.image r.calls) es
+steps_by r es = deeds_from (beginning r.image r.clock r.calls) es
 
 pub deeds-more : (m : Machine) (es : List Occurrence) (e : Occurrence) →
     deeds_from m (es ++ e ∷ []) ≡ deeds_from m es ++ option_to_list (step_of (run_from m es) e)
@@ -79,12 +79,12 @@ module _ (r : Run) (run : IsRun r) where
     pub many : length (steps_by r es) ≡ length es
     pub dirs : state_after r.image (steps_by r es) ≡ m.dirs
     pub effects : filter_map (λ (x : Step). x.effect) (steps_by r es) ≡ m.effects
-    pub machine : run_from (beginning r.image r.calls) es ≡ m
+    pub machine : run_from (beginning r.image r.clock r.calls) es ≡ m
     pub jobs : map (λ (x : Step). x.job) (steps_by r es) ≡ map (λ (e : Occurrence). e.event.job) es
 
-  shows-start : Shows [] (beginning r.image r.calls)
+  shows-start : Shows [] (beginning r.image r.clock r.calls)
   shows-start =
-      let none : steps_by r [] ≡ [] = deeds-none (beginning r.image r.calls) in
+      let none : steps_by r [] ≡ [] = deeds-none (beginning r.image r.clock r.calls) in
       record {
         many = ap length none;
         dirs = ap (state_after r.image) none ∙ state-none r.image;
@@ -96,9 +96,9 @@ module _ (r : Run) (run : IsRun r) where
   steps-more : (es : List Occurrence) (m : Machine) (e : Occurrence) (task : Task) → job_at m.jobs e.event.job ≡ Some (working task) → Shows es m →
       steps_by r (es ++ e ∷ []) ≡ steps_by r es ++ step_by m e task ∷ []
   steps-more es m e task is h =
-      deeds-more (beginning r.image r.calls) es e
-      ∙ ap (λ (x : Machine). deeds_from (beginning r.image r.calls) es ++ option_to_list (step_of x e)) h.machine
-      ∙ ap (λ (o : Option Step). deeds_from (beginning r.image r.calls) es ++ option_to_list o) (done-turned m e task is)
+      deeds-more (beginning r.image r.clock r.calls) es e
+      ∙ ap (λ (x : Machine). deeds_from (beginning r.image r.clock r.calls) es ++ option_to_list (step_of x e)) h.machine
+      ∙ ap (λ (o : Option Step). deeds_from (beginning r.image r.clock r.calls) es ++ option_to_list o) (done-turned m e task is)
 
   length-more : {X : Type 0} (xs : List X) (x : X) → length (xs ++ x ∷ []) ≡ length xs + 1
   length-more [] x = refl
@@ -115,7 +115,7 @@ module _ (r : Run) (run : IsRun r) where
             ∙ ap (λ (s : State). state_by (ask_of x.asked x.at.clock) s x.reply) h.dirs ∙ ap (λ (y : Machine). y.dirs) (sym (happens-turned m e task is));
         effects = ap (filter_map (λ (y : Step). y.effect)) more ∙ effects-more (steps_by r es) x
             ∙ ap (λ (y : List Effect). y ++ option_to_list x.effect) h.effects ∙ ap (λ (y : Machine). y.effects) (sym (happens-turned m e task is));
-        machine = run_from-more_event (beginning r.image r.calls) es e ∙ ap (λ (y : Machine). after_event y e) h.machine;
+        machine = run_from-more_event (beginning r.image r.clock r.calls) es e ∙ ap (λ (y : Machine). after_event y e) h.machine;
         jobs = ap (map (λ (y : Step). y.job)) more ∙ map-append (λ (y : Step). y.job) (steps_by r es) (x ∷ [])
             ∙ ap (λ ns. ns ++ e.event.job ∷ []) h.jobs ∙ sym (map-append (λ (y : Occurrence). y.event.job) es (e ∷ []));
       }
@@ -149,7 +149,7 @@ module _ (r : Run) (run : IsRun r) where
   pub first-steps : (k : ℕ) → take k t.steps ≡ steps_by r (take k r.events)
   first-steps k = at_within (λ within.
       let rest = take-rest k r.events in
-      let m = beginning r.image r.calls in
+      let m = beginning r.image r.clock r.calls in
       let split : t.steps ≡ steps_by r (take k r.events) ++ deeds_from (run_from m (take k r.events)) rest.0 =
       ap (λ (es : List Occurrence). steps_by r es) rest.1 ∙ deeds-append m (take k r.events) rest.0 in
       let many : k ≡ length (steps_by r (take k r.events)) = sym ((shows-moment k).many ∙ length-take k r.events within) in

@@ -61,12 +61,12 @@ pub moment-is : (clock now : ℕ) (own : Option ℕ) (at : Moment) → at.clock 
     moment_of clock (record { job = job; now = now; own = own }) ≡ at
 moment-is clock now own at c o job = λ i. record { clock = sym c i; own = sym o i }
 
-module _ (first : Device) (jobs : List JobView) (events : List Event) (marks : List Bool) (held : Device) (clock : ℕ) (effects : List Effect)
+module _ (first : Device) (began : ℕ) (jobs : List JobView) (events : List Event) (marks : List Bool) (held : Device) (clock : ℕ) (effects : List Effect)
     (used : List (List ℕ))
     (event : Event) (place : ℕ) (is : place + 1 ≡ event.job) (job : JobView) (there : slice_get jobs place ≡ Some job)
     (out : StepOut) (effect : Option Effect) (job' : JobView) (held' : Device) where
   abbrev pub run : Run
-  run = run_of first jobs events marks
+  run = run_of first began jobs events marks
 
   abbrev pub kept : Machine
   kept = machine_by held clock jobs effects
@@ -91,9 +91,10 @@ module _ (first : Device) (jobs : List JobView) (events : List Event) (marks : L
     at_number = let e : suc place ≡ event.job = omega arith in ap (job_at kept.jobs) (sym e) ∙ standing-at jobs place job there ∙ ap Some turned.was
 
     -- the run of the world's fields after the turn is the run with one more event
-    pub run-after : run_of first (slice_set jobs place job') (events ++ event ∷ []) (marks ++ is_fault out.reply ∷ []) ≡ and_event run marked_event
+    pub run-after : run_of first began (slice_set jobs place job') (events ++ event ∷ []) (marks ++ is_fault out.reply ∷ []) ≡ and_event run marked_event
     run-after = λ i. record {
       image = first.state;
+      clock = began;
       failures = first.failures;
       calls_made = first.calls;
       calls = calls-set jobs place job job' there turned.call i;
@@ -140,7 +141,7 @@ module _ (first : Device) (jobs : List JobView) (events : List Event) (marks : L
       as_many = simp length-append (let same = world.as_many in omega arith);
     }
 
-    pub step-world : IsWorld (run_of first (slice_set jobs place job') (events ++ event ∷ []) (marks ++ is_fault out.reply ∷ [])) kept' held' used
+    pub step-world : IsWorld (run_of first began (slice_set jobs place job') (events ++ event ∷ []) (marks ++ is_fault out.reply ∷ [])) kept' held' used
         (events ++ event ∷ []) (marks ++ is_fault out.reply ∷ [])
     step-world = subst (λ (r : Run). IsWorld r kept' held' used (events ++ event ∷ []) (marks ++ is_fault out.reply ∷ [])) (sym run-after) stepped
 

@@ -1,5 +1,5 @@
 -- A world with one more job keeps what a world keeps, of the run with one more call. And a world at its beginning.
-use Rattle.std.proofs.Common.{ℕ, ◌≡◌, ◌++◌, ◌∙◌, List, [], ◌∷◌, None, Bool, true, false, ◌||◌, refl, sym, ap, subst, arith}
+use Rattle.std.proofs.Common.{ℕ, ◌≡◌, ◌≤◌, ◌++◌, ◌∙◌, List, [], ◌∷◌, None, Bool, true, false, ◌||◌, refl, sym, ap, subst, arith}
 use Rattle.std.specs.List.{list_any}
 use Rattle.std.specs.FinMap as finmap
 use Rattle.std.proofs.lemmas.List.{map-append}
@@ -17,7 +17,7 @@ use Rattle.md_core.specs.Used.{is_among}
 use Rattle.md_core.specs.Worlds.{IsWorld, run_of, machine_by}
 use Rattle.md_core.proofs.Runs.Events.{with_job}
 use Rattle.md_core.proofs.Runs.ByEvent.{machine-and_call, run_from-none}
-use Rattle.md_core.proofs.Runs.Extended.{is_run-and_call, is_run-new}
+use Rattle.md_core.proofs.Runs.Extended.{is_run-and_call, is_run-begun}
 
 any-push : {X : Type 0} (p : X → Bool) (xs : List X) (x : X) → list_any p (xs ++ x ∷ []) ≡ (list_any p xs || p x)
 any-push p [] x = by (p x)
@@ -41,13 +41,13 @@ last_first false true false = refl
 last_first false false true = refl
 last_first false false false = refl
 
-module _ (first : Device) (jobs : List JobView) (events : List Event) (marks : List Bool) (held : Device) (clock : ℕ) (effects : List Effect)
+module _ (first : Device) (began : ℕ) (jobs : List JobView) (events : List Event) (marks : List Bool) (held : Device) (clock : ℕ) (effects : List Effect)
     (used : List (List ℕ)) (asked : Call) where
   abbrev pub run : Run
-  run = run_of first jobs events marks
+  run = run_of first began jobs events marks
 
   -- the run of the world's fields with the job is the run with one more call
-  pub run-submitted : run_of first (jobs ++ job_of asked ∷ []) events marks ≡ and_call run asked
+  pub run-submitted : run_of first began (jobs ++ job_of asked ∷ []) events marks ≡ and_call run asked
   run-submitted = λ i. record run { calls = map-append (λ job. job.call) jobs (job_of asked ∷ []) i }
 
   kept-submitted : machine_by held clock (jobs ++ job_of asked ∷ []) effects ≡ with_job (machine_by held clock jobs effects) (new_job asked)
@@ -67,7 +67,7 @@ module _ (first : Device) (jobs : List JobView) (events : List Event) (marks : L
       as_many = world.as_many;
     }
 
-    pub submit-world : IsWorld (run_of first (jobs ++ job_of asked ∷ []) events marks)
+    pub submit-world : IsWorld (run_of first began (jobs ++ job_of asked ∷ []) events marks)
         (machine_by held clock (jobs ++ job_of asked ∷ []) effects) held used' events marks
     submit-world = subst (λ (r : Run). IsWorld r (machine_by held clock (jobs ++ job_of asked ∷ []) effects) held used' events marks)
         (sym run-submitted) submitted
@@ -76,13 +76,14 @@ module _ (first : Device) (jobs : List JobView) (events : List Event) (marks : L
     pub effects-submitted : effects_of (and_call run asked) ≡ effects_of run
     effects-submitted = ap (λ (m : Machine). m.effects) (machine-and_call run world.run asked)
 
--- A world at its beginning, over directories that may be loaded.
-module _ (first : Device) (sound : IsSound first.state) (loaded : load_refusal first.state ≡ None) (clock : ℕ) (is_first : clock ≡ first_clock first.state)
+-- A world at its beginning, over directories that may be loaded, by a clock that none of their stamps is past.
+module _ (first : Device) (sound : IsSound first.state) (loaded : load_refusal first.state ≡ None) (clock : ℕ)
+    (stamped : first_clock first.state ≤ clock)
     (used : List (List ℕ)) (names : (u : List ℕ) → is_among u used ≡ list_any (λ e. uses u e.0) (finmap.entries first.state.names)) where
-  pub load-world : IsWorld (run_of first [] [] []) (machine_by first clock [] []) first used [] []
-  load-world = record {
-    run = is_run-new first sound loaded;
-    now = (λ i. record { dirs = first.state; clock = is_first i; jobs = []; effects = [] }) ∙ sym (run_from-none (beginning first.state []));
+  pub begun-world : IsWorld (run_of first clock [] [] []) (machine_by first clock [] []) first used [] []
+  begun-world = record {
+    run = is_run-begun first.state clock first.failures first.calls sound loaded stamped;
+    now = sym (run_from-none (beginning first.state clock []));
     failed = omega arith;
     called = omega arith;
     names = λ u. names u ∙ or_none (list_any (λ e. uses u e.0) (finmap.entries first.state.names));

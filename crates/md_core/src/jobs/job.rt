@@ -72,6 +72,13 @@ impl Job {
         }
     }
 
+    /// Whether it has no answer.
+    pub(crate) fn is_working(&self) -> bool
+        ensures { result ≡ is_working self.now.standing }
+    {
+        matches!(self.progress, Progress::Working(_))
+    }
+
     /// Takes the next turn, and keeps the answer. After a refusal nothing has changed.
     pub(crate) fn turn<D: Dirs>(
         &mut self,

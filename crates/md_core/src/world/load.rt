@@ -38,6 +38,7 @@ impl<D: Dirs> World<D> {
                 alloc,
                 image: Image::of(&dirs),
                 dirs,
+                began: looked.clock,
                 clock: looked.clock,
                 jobs: Vec::new(alloc),
                 used: looked.used,

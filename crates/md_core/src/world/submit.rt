@@ -50,7 +50,8 @@ fn prepare(
 }
 
 impl<D: Dirs> World<D> {
-    /// Submits a call, and gives the number of its job. The name of a delivery, and that of a copy, is used from then on, for good.
+    /// Submits a call, and gives the number of its job. The name of a delivery, and that of a copy, is used from then on, until the world
+    /// settles.
     ///
     /// It is refused, in this order, as `NoFolder`, `SameFolder`, `BadUnique`, `BadTries`, `BadChunk`, `BodyTooLong`, `TooManyJobs`,
     /// `NameUsed` and `NoMemory`. After a refusal nothing has changed, and the call comes back.

@@ -25,10 +25,10 @@ use Rattle.md_core.proofs.Answers.Files.Tmp.{LeavesTmp}
 
 -- what a delivery asks, by its stage: a path of tmp is made at its start alone, and taken away later
 module _ (number : ℕ) (d : Delivery) (at : Moment) where
-  abbrev asked_at : Stage → Asked
+  abbrev pub asked_at : Stage → Asked
   asked_at stage = (delivered_by.stage_turn number d at stage).asked
 
-  writing-by : (P : Asked → Type 0) (start k : ℕ) → P (append_turn d start k).asked → P (link_turn number d).asked →
+  pub writing-by : (P : Asked → Type 0) (start k : ℕ) → P (append_turn d start k).asked → P (link_turn number d).asked →
       P (unlink_turn d answer.TimedOut).asked → P (asked_at (Writing start k))
   writing-by P start k appends links unlinks = by (is_in_time start at.own) (nat_lt k (length d.body))
     where

@@ -61,15 +61,15 @@ module _ (r : Run) (job : ℕ) where
 
   -- what the job did before moment k
   abbrev deeds : ℕ → List Step
-  deeds k = filter is_own (deeds_from (beginning r.image r.calls) (take k r.events))
+  deeds k = filter is_own (deeds_from (beginning r.image r.clock r.calls) (take k r.events))
 
   deeds-start : deeds 0 ≡ []
-  deeds-start = ap (filter is_own) (deeds-none (beginning r.image r.calls))
+  deeds-start = ap (filter is_own) (deeds-none (beginning r.image r.clock r.calls))
 
   module _ (k n : ℕ) (t : IsTurn r k n) where
     deeds-next : deeds (k + 1) ≡ deeds k ++ filter is_own (done_in r k n t ∷ [])
     deeds-next =
-        let from = beginning r.image r.calls in
+        let from = beginning r.image r.clock r.calls in
         let es = take k r.events in
         let this : step_of (machine_at r k) t.event ≡ Some (done_in r k n t) =
         sym (ap (option_and_then (step_of (machine_at r k))) t.at) ∙ done-in r k n t in
@@ -292,7 +292,7 @@ module _ (r : Run) (run : IsRun r) (job folder : ℕ) (of : call_at r.calls job 
   stands-start : StandsAt 0
   stands-start st is = by job of (ap (λ (m : Machine). job_at m.jobs job) (sym (moment-start r)) ∙ is)
     where
-      by : (j : ℕ) → call_at r.calls j ≡ Some (call.Clean folder) → job_at (beginning r.image r.calls).jobs j ≡ Some st →
+      by : (j : ℕ) → call_at r.calls j ≡ Some (call.Clean folder) → job_at (beginning r.image r.clock r.calls).jobs j ≡ Some st →
           Stands r job folder 0 st
       by zero of-j at-j = cc
       by (suc i) of-j at-j =
@@ -319,7 +319,7 @@ module _ (r : Run) (run : IsRun r) (job folder : ℕ) (of : call_at r.calls job 
       record {
         look = h.look;
         unlinks = h.unlinks;
-        deeds = ap (λ (es : List Occurrence). filter (is_own r job) (deeds_from (beginning r.image r.calls) es))
+        deeds = ap (λ (es : List Occurrence). filter (is_own r job) (deeds_from (beginning r.image r.clock r.calls) es))
             (sym (take_all end r.events (omega arith))) ∙ h.deeds_are;
         listed = h.listed;
         ok = h.ok;

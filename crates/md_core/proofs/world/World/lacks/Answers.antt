@@ -8,7 +8,7 @@ returns g c =
     let s = c.self.inside in
     let first = g.D.Dirs.device s.image.value in
     let held = g.D.Dirs.device s.dirs in
-    let here = folders-are first s.jobs.items s.log.events.items s.log.marks.items held s.clock s.log.effects.items s.used c.args.self.now
+    let here = folders-are first s.began s.jobs.items s.log.events.items s.log.marks.items held s.clock s.log.effects.items s.used c.args.self.now
     c.self.view_is c.self.invariant in
     let count = c.folders.ensures.count in
     grind (arith, nat_tests, here, count)

@@ -47,7 +47,7 @@ invariant_of-self-2 g c =
     let marks = c.push.ensures.marks ∙ (λ i. c.in_ok-reserve.ensures.same.1 i ++ c.is_fault.ensures i ∷ []) in
     let effects = c.push.ensures.effects ∙ ap (λ es. es ++ option_to_list c.in_ok-turned.turned.effect) c.in_ok-reserve.ensures.same.2 in
     rw (events, marks, effects, c.max-clock.ensures)
-    (step-world first s.jobs.items s.log.events.items s.log.marks.items held s.clock s.log.effects.items s.used event c.in_ok-at.at place.0
+    (step-world first s.began s.jobs.items s.log.events.items s.log.marks.items held s.clock s.log.effects.items s.used event c.in_ok-at.at place.0
     c.index_mut.result.now there
     out c.in_ok-turned.turned.effect c.turn.new.self held' c.self.invariant turned)
 
@@ -69,8 +69,8 @@ returns-clause-event g c =
     (sym same) c.in_ok-turned.ensures.ok in
     let events = c.push.ensures.events ∙ ap (λ es. es ++ event ∷ []) c.in_ok-reserve.ensures.same.0 in
     let marks = c.push.ensures.marks ∙ (λ i. c.in_ok-reserve.ensures.same.1 i ++ c.is_fault.ensures i ∷ []) in
-    (λ i. run_of first (slice_set s.jobs.items c.in_ok-at.at c.turn.new.self) (events i) (marks i))
-    ∙ run-after first s.jobs.items s.log.events.items s.log.marks.items held s.clock s.log.effects.items s.used event c.in_ok-at.at place.0
+    (λ i. run_of first s.began (slice_set s.jobs.items c.in_ok-at.at c.turn.new.self) (events i) (marks i))
+    ∙ run-after first s.began s.jobs.items s.log.events.items s.log.marks.items held s.clock s.log.effects.items s.used event c.in_ok-at.at place.0
     c.index_mut.result.now there
     out c.in_ok-turned.turned.effect c.turn.new.self held' c.self.invariant turned
     ∙ ap (λ (r : Run). and_event r (occurrence c.args.job c.args.now c.args.own (is_fault out.reply))) c.self.view_is
@@ -94,12 +94,12 @@ returns-clause-shows g c =
     let there = slice_get_read s.jobs.items (length s.jobs.items) c.in_ok-at.at c.index_mut.result.now refl within c.index_mut.ensures.value in
     let turned = subst (λ (a : Moment). TakesTurn c.args.job a c.index_mut.result.now held out c.in_ok-turned.turned.effect c.turn.new.self held')
     (sym same) c.in_ok-turned.ensures.ok in
-    let goes : step_refusal (job_at (jobs_of (run_of first s.jobs.items s.log.events.items s.log.marks.items)) c.args.job) ≡ None =
+    let goes : step_refusal (job_at (jobs_of (run_of first s.began s.jobs.items s.log.events.items s.log.marks.items)) c.args.job) ≡ None =
     ap (λ (m : Machine). step_refusal (job_at m.jobs c.args.job)) (sym c.self.invariant.now) ∙
     rw c.deref.ensures.value at c.in_ok-at.ensures.refused in
     let what : Occurrence = occurrence c.args.job c.args.now c.args.own (is_fault out.reply) in
-    let shown = shows each-turn (run_of first s.jobs.items s.log.events.items s.log.marks.items) c.self.invariant.run what goes out
-    (step-shown first s.jobs.items s.log.events.items s.log.marks.items held s.clock s.log.effects.items s.used event c.in_ok-at.at place.0
+    let shown = shows each-turn (run_of first s.began s.jobs.items s.log.events.items s.log.marks.items) c.self.invariant.run what goes out
+    (step-shown first s.began s.jobs.items s.log.events.items s.log.marks.items held s.clock s.log.effects.items s.used event c.in_ok-at.at place.0
     c.index_mut.result.now there
     out c.in_ok-turned.turned.effect c.turn.new.self held' c.self.invariant turned) in
     subst (λ (x : Run). ShowsStep c.args.self.now x what out) (sym (returns-clause-event g c))
@@ -129,7 +129,7 @@ returns-clause-success g c =
     let there = slice_get_read s.jobs.items (length s.jobs.items) c.in_ok-at.at c.index_mut.result.now refl within c.index_mut.ensures.value in
     let turned = subst (λ (a : Moment). TakesTurn c.args.job a c.index_mut.result.now held out c.in_ok-turned.turned.effect c.turn.new.self held')
     (sym same) c.in_ok-turned.ensures.ok in
-    let r = run_of first s.jobs.items s.log.events.items s.log.marks.items in
+    let r = run_of first s.began s.jobs.items s.log.events.items s.log.marks.items in
     let goes : step_refusal (job_at (jobs_of r) c.args.job) ≡ None =
     ap (λ (m : Machine). step_refusal (job_at m.jobs c.args.job)) (sym c.self.invariant.now) ∙
     rw c.deref.ensures.value at c.in_ok-at.ensures.refused in
@@ -139,7 +139,7 @@ returns-clause-success g c =
     let theorem = run-law each-turn (and_event r what) later in
     subst (λ (x : Run). Succeeds x c.args.job out.answer) (sym is)
     (succeeds each-turn r c.self.invariant.run what goes out
-    (step-shown first s.jobs.items s.log.events.items s.log.marks.items held s.clock s.log.effects.items s.used event c.in_ok-at.at place.0
+    (step-shown first s.began s.jobs.items s.log.events.items s.log.marks.items held s.clock s.log.effects.items s.used event c.in_ok-at.at place.0
     c.index_mut.result.now there
     out c.in_ok-turned.turned.effect c.turn.new.self held' c.self.invariant turned) theorem)
 
@@ -149,7 +149,7 @@ returns-clause-nearer g c =
     let s = c.self.inside in
     let n = c.args.job in
     let what = occurrence n c.args.now c.args.own (is_fault c.in_ok-turned.turned.out.reply) in
-    let r = run_of (g.D.Dirs.device s.image.value) s.jobs.items
+    let r = run_of (g.D.Dirs.device s.image.value) s.began s.jobs.items
     s.log.events.items s.log.marks.items in
     let goes : step_refusal (job_at (jobs_of r) n) ≡ None = ap (λ (m : Machine). step_refusal (job_at m.jobs n)) (sym c.self.invariant.now) ∙
     rw c.deref.ensures.value at c.in_ok-at.ensures.refused in
@@ -161,7 +161,7 @@ returns-clause-others g c =
     let s = c.self.inside in
     let n = c.args.job in
     let what = occurrence n c.args.now c.args.own (is_fault c.in_ok-turned.turned.out.reply) in
-    let r = run_of (g.D.Dirs.device s.image.value) s.jobs.items
+    let r = run_of (g.D.Dirs.device s.image.value) s.began s.jobs.items
     s.log.events.items s.log.marks.items in
     let goes : step_refusal (job_at (jobs_of r) n) ≡ None = ap (λ (m : Machine). step_refusal (job_at m.jobs n)) (sym c.self.invariant.now) ∙
     rw c.deref.ensures.value at c.in_ok-at.ensures.refused in

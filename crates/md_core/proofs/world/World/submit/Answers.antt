@@ -11,10 +11,10 @@ invariant_of-self-2 g c =
     let s = c.self.inside in
     let first = g.D.Dirs.device s.image.value in
     let held = g.D.Dirs.device s.dirs in
-    let goes : submit_refusal (run_of first s.jobs.items s.log.events.items s.log.marks.items) c.args.call ≡ None =
+    let goes : submit_refusal (run_of first s.began s.jobs.items s.log.events.items s.log.marks.items) c.args.call ≡ None =
     ap (λ (r : Run). submit_refusal r c.args.call) c.self.view_is ∙ sym c.in_default.ensures in
     rw (c.push_reserved.ensures.items, c.new.ensures, c.prepare.ensures.jobs)
-    (submit-world first s.jobs.items s.log.events.items s.log.marks.items held s.clock s.log.effects.items s.used c.args.call c.self.invariant goes
+    (submit-world first s.began s.jobs.items s.log.events.items s.log.marks.items held s.clock s.log.effects.items s.used c.args.call c.self.invariant goes
     c.prepare.new.used c.in-Ok.ensures.used)
 
 pub returns-clause-theorem : goal.returns-clause-theorem
@@ -26,10 +26,10 @@ returns-clause-effects g c =
     let s = c.self.inside in
     let first = g.D.Dirs.device s.image.value in
     let held = g.D.Dirs.device s.dirs in
-    let goes : submit_refusal (run_of first s.jobs.items s.log.events.items s.log.marks.items) c.args.call ≡ None =
+    let goes : submit_refusal (run_of first s.began s.jobs.items s.log.events.items s.log.marks.items) c.args.call ≡ None =
     ap (λ (r : Run). submit_refusal r c.args.call) c.self.view_is ∙ sym c.in_default.ensures in
     rw (c.push_reserved.ensures.items, c.new.ensures, c.prepare.ensures.jobs)
-    (ap effects_of (run-submitted first s.jobs.items s.log.events.items s.log.marks.items held s.clock s.log.effects.items s.used c.args.call)
-    ∙ effects-submitted first s.jobs.items s.log.events.items s.log.marks.items held s.clock s.log.effects.items s.used c.args.call c.self.invariant
+    (ap effects_of (run-submitted first s.began s.jobs.items s.log.events.items s.log.marks.items held s.clock s.log.effects.items s.used c.args.call)
+    ∙ effects-submitted first s.began s.jobs.items s.log.events.items s.log.marks.items held s.clock s.log.effects.items s.used c.args.call c.self.invariant
     goes c.prepare.new.used c.in-Ok.ensures.used
     ∙ ap effects_of c.self.view_is)

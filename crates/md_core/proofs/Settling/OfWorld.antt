@@ -1,0 +1,67 @@
+-- What a settled world keeps, and that only memory can be wanting to it. And which job has no answer, by what a world keeps of its jobs.
+use Rattle.std.proofs.Common.{ℕ, ◌≡◌, ◌⊎◌, ◌+◌, inl, inr, List, [], ◌∷◌, Option, Some, None, Bool, cond, not, nat_lt, option_map, position, refl, sym, ap, subst, ◌∙◌}
+use Rattle.std.specs.List.{list_any, position_or_len}
+use Rattle.std.proofs.lemmas.List.{length-map}
+use Rattle.std.specs.FinMap as finmap
+use Rattle.md_dirs.specs.Calls.{Device}
+use Rattle.md_core.specs.declared.error.CoreError.{CoreError}
+use Rattle.md_core.specs.declared.error.CoreError.TheVariants as core
+use Rattle.md_core.specs.declared.jobs.effect.Effect.{Effect}
+use Rattle.md_core.specs.declared.jobs.step.Event.{Event}
+use Rattle.md_core.specs.Loading.{load_refusal}
+use Rattle.md_core.specs.Looking.{IsFault}
+use Rattle.md_core.specs.Machine.{Machine, Standing, is_working}
+use Rattle.md_core.specs.Runs.{Run}
+use Rattle.md_core.specs.Settling.{first_unanswered, settled}
+use Rattle.md_core.specs.Standing.{JobView, standings}
+use Rattle.md_core.specs.Stepping.{IsRun}
+use Rattle.md_core.specs.Submitting.{uses}
+use Rattle.md_core.specs.Used.{is_among}
+use Rattle.md_core.specs.Worlds.{IsWorld, run_of, machine_by}
+use Rattle.md_core.proofs.Worlds.Submitted.{begun-world}
+use Rattle.md_core.proofs.Settling.EachRun.{run-loads, is_run-settled}
+
+place-standings : (jobs : List JobView) → position_or_len is_working (standings jobs) ≡ position_or_len (λ job. is_working job.standing) jobs
+place-standings [] = refl
+place-standings (job ∷ jobs) = ap (λ n. cond (not (is_working job.standing)) (1 + n) 0) (place-standings jobs)
+
+position-standings : (jobs : List JobView) → position is_working (standings jobs) ≡ position (λ job. is_working job.standing) jobs
+position-standings jobs =
+    λ i. cond (nat_lt (place-standings jobs i) (length-map jobs (λ (job : JobView). job.standing) i)) (Some (place-standings jobs i)) None
+
+module _ (first : Device) (began : ℕ) (jobs : List JobView) (events : List Event) (marks : List Bool) (held : Device) (clock : ℕ) (effects : List Effect)
+    (used : List (List ℕ)) (world : IsWorld (run_of first began jobs events marks) (machine_by held clock jobs effects) held used events marks) where
+  abbrev run : Run
+  run = run_of first began jobs events marks
+
+  settled-is : run_of held clock [] [] [] ≡ settled run
+  settled-is = λ i. record {
+    image = (world.now i).dirs;
+    clock = (world.now i).clock;
+    failures = world.failed i;
+    calls_made = world.called i;
+    calls = [];
+    events = [];
+  }
+
+  begins : IsRun (run_of held clock [] [] [])
+  begins = subst (λ (r : Run). IsRun r) (sym settled-is) (is_run-settled run world.run)
+
+  pub settled-world : (used' : List (List ℕ)) →
+      ((u : List ℕ) → is_among u used' ≡ list_any (λ e. uses u e.0) (finmap.entries held.state.names)) →
+      IsWorld (run_of held clock [] [] []) (machine_by held clock [] []) held used' [] []
+  settled-world used' names = begun-world held begins.sound begins.loaded clock begins.stamped used' names
+
+  -- no name has a fault
+  pub only-memory : (e : CoreError) → IsFault (load_refusal held.state) e → e ≡ core.NoMemory
+  only-memory e fault = elim fault [
+    | inl memory ↦ memory
+    | inr some ↦ let none = begins.loaded in cc
+  ]
+
+  -- the first job without an answer, by the jobs that are held
+  pub unanswered-is : (r : Run) → run ≡ r → first_unanswered r ≡ option_map (λ at. at + 1) (position (λ job. is_working job.standing) jobs)
+  unanswered-is r view =
+      ap first_unanswered (sym view)
+      ∙ ap (λ (m : Machine). option_map (λ at. at + 1) (position is_working m.jobs)) (sym world.now)
+      ∙ ap (option_map (λ at. at + 1)) (position-standings jobs)

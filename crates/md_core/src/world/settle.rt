@@ -1,0 +1,103 @@
+//! Worlds that begin again with their directories.
+ghost use Rattle.std.specs.Prelude.{◌≡◌, ◌<◌, None, IfOk, IfErr, IfSome, OnOk, length, option_map, position};
+ghost use Rattle.md_core.specs.Interleaving.{Interleaves};
+ghost use Rattle.md_core.specs.Machine.{is_working};
+ghost use Rattle.md_core.specs.Settling.{first_unanswered, settle_error, settled};
+ghost use Rattle.md_core.specs.Tracing.{trace_of};
+
+use crate::error::CoreError;
+use crate::image::Image;
+use crate::jobs::call::JobId;
+use crate::jobs::job::Job;
+use crate::world::World;
+use crate::world::log::Log;
+use crate::world::looking::look;
+use md_dirs::Dirs;
+use thiserror::Error;
+
+/// Why a world does not settle.
+#[derive(Clone, Copy, Debug, PartialEq, Eq, Error)]
+pub enum SettleError {
+    /// This job has no answer, and each job before it has one.
+    #[error("job {0} has no answer")]
+    Unanswered(JobId),
+    /// A growth was refused.
+    #[error("no memory")]
+    NoMemory,
+}
+
+/// A world that did not settle, as it was, and why.
+#[derive(Drop)]
+pub struct SettleRefused<D: Dirs> {
+    pub error: SettleError,
+    pub world: World<D>,
+}
+
+// The place of the first of these jobs that has no answer.
+fn first_working(jobs: &[Job]) -> Option<usize>
+    ensures value { result ≡ position (λ job. is_working job.standing) jobs.now }
+    ensures within { IfSome result (λ at. at < length jobs.now) }
+{
+    jobs.iter().position(|job| job.is_working())
+}
+
+impl<D: Dirs> World<D> {
+    /// The world with its directories, its mailbox and its clock as they are, with no job and an empty log. It may take 10,000 calls again,
+    /// and of the names of earlier deliveries and copies only those are used that the directories hold now.
+    ///
+    /// It is refused as `Unanswered`, with the first such job, where a job has no answer; else only as `NoMemory`, where a growth is
+    /// refused. The world then comes back as it was. Every name is looked at once, as in `load`, and no directory call is made.
+    pub fn settle(self) -> Result<World<D>, SettleRefused<D>>
+        ensures ok { IfOk result (λ w. w ≡ settled self) }
+        ensures answered { OnOk result (first_unanswered self ≡ None) }
+        ensures theorem { IfOk result (λ w. Interleaves (trace_of w)) }
+        ensures refused { IfErr result (λ r. r.error ≡ settle_error (first_unanswered self)) }
+        ensures world { IfErr result (λ r. r.world ≡ self) }
+    {
+        if let Some(job) = self.first_unanswered() {
+            return Err(SettleRefused {
+                error: SettleError::Unanswered(job),
+                world: self,
+            });
+        }
+        match look(self.alloc, &self.dirs) {
+            Ok(looked) => {
+                let World {
+                    alloc,
+                    dirs,
+                    clock,
+                    ..
+                } = self;
+                Ok(World {
+                    alloc,
+                    image: Image::of(&dirs),
+                    dirs,
+                    began: clock,
+                    clock,
+                    jobs: Vec::new(alloc),
+                    used: looked.used,
+                    log: Log::new(alloc),
+                })
+            }
+            Err(error) => {
+                // No name has a fault, since the directories of every run load.
+                let memory = matches!(error, CoreError::NoMemory);
+                prove!(memory);
+                Err(SettleRefused {
+                    error: SettleError::NoMemory,
+                    world: self,
+                })
+            }
+        }
+    }
+
+    // The number of the first job that has no answer.
+    fn first_unanswered(&self) -> Option<JobId>
+        ensures { result ≡ first_unanswered self.now }
+    {
+        match first_working(&self.jobs) {
+            Some(at) => Some(at as u64 + 1),
+            None => None,
+        }
+    }
+}
