@@ -5,7 +5,7 @@
 use anyhow::{Context, Result};
 use std::env;
 use std::env::Args;
-use uses::server::{Plan, serve};
+use uses::server::{Plan, Unwatched, serve};
 
 // The next word, a number.
 fn number(words: &mut Args) -> Result<u64> {
@@ -25,7 +25,7 @@ fn main(rt: HostRuntime) -> Result<()> {
         messages,
         listing,
     };
-    let (counts, kept) = serve(&rt, rt.alloc(), plan, rounds)?;
+    let (counts, kept) = serve(&rt, rt.alloc(), plan, rounds, &Unwatched)?;
     println!(rt; "delivered {}", counts.delivered)?;
     println!(rt; "seen {}", counts.seen)?;
     println!(rt; "listed {}", counts.listed)?;

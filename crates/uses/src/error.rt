@@ -1,5 +1,5 @@
 // Why a use ended early.
-use md_core::CoreError;
+use md_core::{CallError as WorldCallError, CoreError, SettleError};
 use md_head::HeadError;
 use md_index::IndexError;
 use md_name::NameError;
@@ -14,6 +14,12 @@ pub enum UseError {
     /// The world refused its directories, the call or a step.
     #[error(transparent)]
     Core(#[from] CoreError),
+    /// The world's call has no answer.
+    #[error(transparent)]
+    World(#[from] WorldCallError),
+    /// The world did not settle.
+    #[error(transparent)]
+    Settle(#[from] SettleError),
     /// The listing was refused.
     #[error(transparent)]
     View(#[from] ViewError),
@@ -38,9 +44,6 @@ pub enum UseError {
     /// The store's listing was refused.
     #[error(transparent)]
     List(#[from] ListError),
-    /// The files of a world are no directories, which never comes.
-    #[error("files not kept")]
-    NotKept,
     /// A growth was refused.
     #[error("no memory")]
     NoMemory(#[from(alloc)] AllocError),

@@ -1,6 +1,7 @@
 //! How a program calls the libraries: one module for each use, in the plainest code.
 #![tactic(auto)]
 
+pub mod call;
 pub mod deliver;
 mod error;
 pub mod head;

@@ -1,13 +1,13 @@
 //! The heart of a server. In a round, threads share a store: each delivers messages, marks them seen and lists. Between two rounds the store
-//! is closed and opened anew, so that there is no end of calls.
-ghost use Rattle.std.specs.Prelude.{◌≡◌, IfOk};
+//! is closed, its world settles, and it is opened again: so there is no end of calls.
+ghost use Rattle.std.specs.Prelude.{◌≡◌};
 ghost use Rattle.md_view.specs.Named.{named_of};
 ghost use Rattle.md_store.specs.Locks.{IsFresh};
 
 use crate::error::UseError;
 use crate::name::is_seen;
 use md_core::{Answer, Call, World};
-use md_dirs::{Bytes, ImageFile, IndexDirs, Path};
+use md_dirs::{Bytes, IndexDirs};
 use md_name::{Flags, UniqueParts, make_unique};
 use md_store::{Naming, Pass, Prepared, Store, prepare};
 use md_view::{Entry, list};
@@ -56,6 +56,25 @@ impl Counts {
             listed: self.listed.saturating_add(other.listed),
         }
     }
+}
+
+/// What a caller does as a store was opened, and as it is to be closed: between the two there are calls, and between two rounds a pause.
+pub trait Watch {
+    /// Called in each round before its calls.
+    fn opened(&self);
+
+    /// Called in each round after its calls.
+    fn closing(&self);
+}
+
+/// Nothing is done.
+#[derive(Clone, Copy, Debug)]
+pub struct Unwatched;
+
+impl Watch for Unwatched {
+    fn opened(&self) {}
+
+    fn closing(&self) {}
 }
 
 /// A thread's number, from 0, and its pass.
@@ -150,72 +169,49 @@ fn unique_name(alloc: Global, round: u64, thread: u64, count: u64) -> Result<Vec
 }
 
 /// Serves so many rounds over a new store of one folder. What the threads did, and how many messages the folder shows at the end.
-pub fn serve<R: Threads + Wait + Sync>(
+pub fn serve<W: Watch, R: Threads + Wait + Sync>(
     rt: &R,
     alloc: Global,
     plan: Plan,
     rounds: u64,
+    watch: &W,
 ) -> Result<(Counts, usize), UseError> {
     let dirs = IndexDirs::new(alloc, 1);
     let mut world = World::load(alloc, dirs).map_err(|refused| refused.error)?;
     let mut counts = Counts::none();
     for number in 0..rounds {
-        let (left, counted) = round(rt, alloc, world, plan, number)?;
+        let (left, counted) = round(rt, alloc, world, plan, number, watch)?;
         counts = counts.and(counted);
-        world = afresh(alloc, &left)?;
+        world = left.settle().map_err(|refused| refused.error)?;
     }
     let kept = list(alloc, &world, 0)?.len();
     Ok((counts, kept))
 }
 
-/// A world of the messages of another one's folder. It has had no call.
-fn afresh(alloc: Global, world: &World<IndexDirs>) -> Result<World<IndexDirs>, UseError>
-    ensures { IfOk result (λ w. IsFresh w) }
-{
-    let mut files = Vec::new(alloc);
-    for entry in list(alloc, world, 0)? {
-        if let Some(bytes) = world.read(entry.unique.as_slice()) {
-            let bytes = Bytes::copied(alloc, bytes)?;
-            let path = Path {
-                folder: 0,
-                place: entry.place,
-                name: entry.name,
-            };
-            files.push(ImageFile {
-                path,
-                bytes,
-                stamp: NOW,
-            })?;
-        }
-    }
-    let Ok(dirs) = IndexDirs::from_image(alloc, 1, files) else {
-        return Err(UseError::NotKept);
-    };
-    Ok(World::load(alloc, dirs).map_err(|refused| refused.error)?)
-}
-
 /// One round: opens a store of a world, lets the threads take in their messages, and closes it.
-fn round<R: Threads + Wait + Sync>(
+fn round<W: Watch, R: Threads + Wait + Sync>(
     rt: &R,
     alloc: Global,
     world: World<IndexDirs>,
     plan: Plan,
     round: u64,
+    watch: &W,
 ) -> Result<(World<IndexDirs>, Counts), UseError>
     requires { IsFresh world }
 {
     match prepare(world, plan.threads) {
-        Ok(prepared) => round_in::<Brand, R>(rt, alloc, prepared, plan, round),
+        Ok(prepared) => round_in::<Brand, W, R>(rt, alloc, prepared, plan, round, watch),
         Err(refused) => Err(UseError::Open(refused.error)),
     }
 }
 
-fn round_in<J: Naming + Send + Sync, R: Threads + Wait + Sync>(
+fn round_in<J: Naming + Send + Sync, W: Watch, R: Threads + Wait + Sync>(
     rt: &R,
     alloc: Global,
     prepared: Prepared<IndexDirs>,
     plan: Plan,
     round: u64,
+    watch: &W,
 ) -> Result<(World<IndexDirs>, Counts), UseError>
     requires begun { prepared.run ≡ J.begun }
     requires named { (named_of prepared.run.image ≡ J.opening) × (prepared.book ≡ J.book) }
@@ -224,7 +220,9 @@ fn round_in<J: Naming + Send + Sync, R: Threads + Wait + Sync>(
         Ok(opened) => opened,
         Err(refused) => return Err(UseError::Open(refused.error)),
     };
+    watch.opened();
     let counts = by_threads(rt, alloc, &store, passes, plan, round);
+    watch.closing();
     let world = store.close(rt);
     Ok((world, counts?))
 }
