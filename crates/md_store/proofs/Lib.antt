@@ -9,4 +9,5 @@ pub mod Moves
 pub mod Told
 pub mod Fresh
 pub mod Submits
+pub mod Ends
 pub mod Last

@@ -11,6 +11,7 @@ use Rattle.md_core.specs.Runs.{Run, jobs_of, and_call, and_event, step_refusal, 
 use Rattle.md_core.specs.Submitting.{submit_refusal}
 use Rattle.md_core.specs.Asked.{is_fault}
 use Rattle.md_store.specs.declared.step.StoreStep.{StoreStep}
+use Rattle.md_store.specs.Calling.{RefusesSince}
 use Rattle.md_store.specs.Locks.{IsSince, SubmitsSince, StepsSince}
 
 pub since_itself : (begun run : Run) → run ≡ begun → IsSince begun run
@@ -83,3 +84,8 @@ no-job-since each begun r since run job (Err e) Taken why = λ none. no-job each
     by : (o : Option CoreError) → IsRefusal o e → e ≡ core.NoJob → o ≡ Some core.NoJob
     by None memory none = let never : core.NoMemory ≡ core.NoJob = sym memory ∙ none in cc
     by (Some x) is none = ap Some (sym is ∙ none)
+
+pub refuses-since : {A : Type 0} (begun r : Run) → IsSince begun r → IsRun r → (job : ℕ) (res : Result A CoreError) (Taken : A → Type 0)
+    → MatchResult res Taken (IsRefusal (step_refusal (job_at (jobs_of r) job))) → IfErr res (RefusesSince begun job)
+refuses-since begun r since run job (Ok x) Taken why = tt
+refuses-since begun r since run job (Err e) Taken why = record { run = r; since = since; is_run = run; refused = why }

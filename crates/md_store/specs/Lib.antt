@@ -6,3 +6,4 @@ pub mod Locks
 pub mod Telling
 pub mod Listing
 pub mod Refusals
+pub mod Calling

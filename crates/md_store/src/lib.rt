@@ -6,6 +6,7 @@
 #![tactic(auto)]
 
 mod book;
+mod calling;
 mod error;
 mod locked;
 mod naming;
@@ -20,6 +21,7 @@ mod step;
 mod store;
 mod writing;
 
+pub use calling::CallError;
 pub use error::{ListError, OpenError, StoreError};
 pub use locked::Locked;
 pub use naming::Naming;

@@ -6,6 +6,7 @@ ghost use Rattle.md_core.specs.declared.error.CoreError.TheVariants as core;
 ghost use Rattle.md_core.specs.Runs.{effects_of};
 ghost use Rattle.md_view.specs.Named.{named_of};
 ghost use Rattle.md_store.specs.declared.error.ListError.TheVariants as refusal;
+ghost use Rattle.md_store.specs.Calling.{RefusesSince};
 ghost use Rattle.md_store.specs.Histories.{IsLegalFrom, read_at};
 ghost use Rattle.md_store.specs.Listing.{Lists, Finishes, ShowsLast};
 ghost use Rattle.md_store.specs.Locks.{IsSince, SubmitsSince, StepsSince};
@@ -70,6 +71,7 @@ impl<D: Dirs, J: Naming> Store<D, J> {
         ensures refused { OnErr result (pass.new ≡ pass.old) }
         ensures no_job { IfErr result (λ e. e ≡ core.NoJob → (job ≡ 0) ⊎ (length J.begun.calls < job)) }
         ensures error { IfErr result (λ e. (e ≡ core.NoJob) ⊎ (e ≡ core.Answered) ⊎ (e ≡ core.NoMemory)) }
+        ensures why { IfErr result (RefusesSince J.begun job) }
     {
         let mut guard = self.lock.lock(rt);
         guard.lags();

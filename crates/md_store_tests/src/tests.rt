@@ -1,4 +1,5 @@
 // What no clause says: that threads that step and list meet, that a listing enters anew, and each refusal once.
+mod calls;
 mod crowd;
 mod fixtures;
 mod gated;

@@ -1,7 +1,12 @@
 //! How a program calls the libraries: one module for each use, in the plainest code.
 #![tactic(auto)]
 
+pub mod call;
 pub mod deliver;
 mod error;
+pub mod head;
+pub mod index;
+pub mod name;
+pub mod server;
 
 pub use error::UseError;

@@ -4,6 +4,7 @@ ghost use Rattle.std.specs.Prelude.{◌≡◌, IfOk};
 ghost use Rattle.md_view.specs.Named.{named_of};
 ghost use Rattle.md_store.specs.Locks.{IsFresh};
 
+use super::calls::{call_and_take, call_at_once, call_twice, call_with_little_memory};
 use super::gated::{Gate, Gated, look_at_gate};
 use super::later::flag_later;
 use super::seen::look_by_two;
@@ -31,6 +32,10 @@ pub enum Scene<'a> {
     DelivererAndFlagger,
     Newcomer,
     Gate,
+    Calls,
+    CallsTwice,
+    CallTaken,
+    CallLater,
     Stampede(&'a Stampede),
 }
 
@@ -164,6 +169,10 @@ fn play_scene<J: Naming + Send + Sync, R: Threads + Wait + Sync>(
         Scene::DelivererAndFlagger => deliver_beside_flags(rt, alloc, store, passes),
         Scene::Newcomer => deliver_to_another(rt, alloc, store, passes),
         Scene::Gate => look_at_gate(rt, alloc, gate, store, passes),
+        Scene::Calls => call_at_once(rt, alloc, store, passes),
+        Scene::CallsTwice => call_twice(rt, alloc, store, passes),
+        Scene::CallTaken => call_and_take(rt, alloc, store, passes),
+        Scene::CallLater => call_with_little_memory(rt, alloc, store, passes),
         Scene::Stampede(stampede) => run_all(rt, alloc, stampede, store, passes) > 500,
     }
 }

@@ -1,0 +1,111 @@
+// Calls, each from its submission to its answer.
+ghost use Rattle.std.specs.Prelude.{◌≡◌, ◌⊎◌, Some, None, IfOk, IfErr};
+ghost use mathlib.Core.List.{IsPrefix};
+ghost use Rattle.md_core.specs.declared.error.CoreError.TheVariants as core;
+ghost use Rattle.md_store.specs.declared.calling.CallError.TheVariants as refusal;
+ghost use Rattle.md_store.specs.Calling.{Answers, GivesSince, RefusesSince, Leaves, Ends, Stops};
+ghost use Rattle.md_store.specs.Telling.{Stands};
+
+use crate::naming::Naming;
+use crate::news::News;
+use crate::pass::Pass;
+use crate::step::StoreStep;
+use crate::store::Store;
+use md_core::{Answer, Call, CoreError, JobId, SubmitRefused};
+use md_dirs::Dirs;
+use std::sync::Wait;
+use thiserror::Error;
+
+/// No memory holds the log of so many steps.
+const MOST_STEPS: u64 = 1 << 62;
+
+/// Why a call has no answer that its pass was told of. But for a refused one, the call is a job from then on, and may have taken effect.
+#[derive(Debug, Drop, Error)]
+pub enum CallError {
+    /// The store did not take the call, and nothing has changed. The call comes back.
+    #[error("{}", .0.error)]
+    Refused(SubmitRefused),
+    /// A growth was refused amid the steps. The job has no answer, and may be stepped on.
+    #[error("no memory amid the steps of job {job}")]
+    NoMemory { job: JobId },
+    /// Another thread stepped the job to its answer, and was given it.
+    #[error("job {job} was answered elsewhere")]
+    Unanswered { job: JobId },
+    /// The job has this answer. Memory for publishing its effect was refused, and a later step of any job publishes it first.
+    #[error("job {job} was answered, and not published yet")]
+    Untold { job: JobId, answer: Answer },
+}
+
+impl<D: Dirs, J: Naming> Store<D, J> {
+    /// Submits a call and steps its job until that has its answer, each step at the moments `now` and `own`, in seconds, as `step` takes
+    /// them. Other threads may step other jobs between. Where the answer says that the call took effect, the pass was told of that effect.
+    ///
+    /// It takes the lock once for the submission and once a step: as many as the job makes directory calls. Refused `Refused` as `submit`
+    /// is, else `NoMemory`, else `Unanswered` where another thread stepped this job to its answer, else `Untold` with the answer where
+    /// memory for publishing the effect of the last step was refused.
+    pub fn call<R: Wait>(
+        &self,
+        rt: &R,
+        pass: &mut Pass<J>,
+        call: Call,
+        now: u64,
+        own: Option<u64>,
+    ) -> Result<Answer, CallError>
+        ensures held { IsPrefix pass.old pass.new }
+        ensures answer { IfOk result (λ a. Answers J.begun J.opening.folders call now own a pass.new) }
+        ensures error { IfErr result (λ e. Leaves J.begun J.opening.folders call now own e pass.old pass.new) }
+    {
+        match self.submit(rt, call) {
+            Ok(job) => self.finish(rt, pass, job, now, own),
+            Err(refused) => Err(CallError::Refused(refused)),
+        }
+    }
+
+    // Steps a job until it has its answer.
+    fn finish<R: Wait>(
+        &self,
+        rt: &R,
+        pass: &mut Pass<J>,
+        job: JobId,
+        now: u64,
+        own: Option<u64>,
+    ) -> Result<Answer, CallError>
+        ensures held { IsPrefix pass.old pass.new }
+        ensures answer { IfOk result (λ a. GivesSince J.begun job now own a × Stands (Some a) job pass.new) }
+        ensures error { IfErr result (Stops J.begun job now own) }
+    {
+        'steps: for _ in 0..MOST_STEPS {
+            if let Some(ended) = self.go_on(rt, pass, job, now, own) {
+                return ended;
+            }
+        }
+        Err(CallError::NoMemory { job })
+    }
+
+    // Makes the next step of a job. What ends its call, if it does.
+    fn go_on<R: Wait>(
+        &self,
+        rt: &R,
+        pass: &mut Pass<J>,
+        job: JobId,
+        now: u64,
+        own: Option<u64>,
+    ) -> Option<Result<Answer, CallError>>
+        ensures held { IsPrefix pass.old pass.new }
+        ensures end { Ends J.begun job now own result pass.new }
+    {
+        let StoreStep { out, news } = match self.step(rt, pass, job, now, own) {
+            Ok(step) => step,
+            Err(CoreError::NoMemory) => return Some(Err(CallError::NoMemory { job })),
+            Err(_) => return Some(Err(CallError::Unanswered { job })),
+        };
+        let Some(answer) = out.answer else {
+            return None;
+        };
+        match news {
+            News::NoEffect => Some(Ok(answer)),
+            News::Told => Some(Ok(answer)),
+            News::Later => Some(Err(CallError::Untold { job, answer })),
+        }
+    }
+}

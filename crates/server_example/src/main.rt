@@ -1,0 +1,34 @@
+//! Runs the server of `uses`, by the words THREADS ROUNDS MESSAGES LISTING: in each of so many rounds, each of so many threads takes in so
+//! many messages, and lists after each so many of them. It prints what was counted, which is the same whatever the schedule.
+#![tactic(auto)]
+
+use anyhow::{Context, Result};
+use std::env;
+use std::env::Args;
+use uses::server::{Plan, Unwatched, serve};
+
+// The next word, a number.
+fn number(words: &mut Args) -> Result<u64> {
+    let word = words.next().context("THREADS ROUNDS MESSAGES LISTING")?;
+    word.parse::<u64>().context("a number")
+}
+
+fn main(rt: HostRuntime) -> Result<()> {
+    let mut words = env::args(&rt)?;
+    let _program = words.next();
+    let threads = number(&mut words)? as usize;
+    let rounds = number(&mut words)?;
+    let messages = number(&mut words)?;
+    let listing = number(&mut words)?;
+    let plan = Plan {
+        threads,
+        messages,
+        listing,
+    };
+    let (counts, kept) = serve(&rt, rt.alloc(), plan, rounds, &Unwatched)?;
+    println!(rt; "delivered {}", counts.delivered)?;
+    println!(rt; "seen {}", counts.seen)?;
+    println!(rt; "listed {}", counts.listed)?;
+    println!(rt; "kept {kept}")?;
+    Ok(())
+}

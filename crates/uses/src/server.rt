@@ -1,0 +1,250 @@
+//! The heart of a server. In a round, threads share a store: each delivers messages, marks them seen and lists. Between two rounds the store
+//! is closed, its world settles, and it is opened again: so there is no end of calls.
+ghost use Rattle.std.specs.Prelude.{◌≡◌};
+ghost use Rattle.md_view.specs.Named.{named_of};
+ghost use Rattle.md_store.specs.Locks.{IsFresh};
+
+use crate::error::UseError;
+use crate::name::is_seen;
+use md_core::{Answer, Call, World};
+use md_dirs::{Bytes, IndexDirs};
+use md_name::{Flags, UniqueParts, make_unique};
+use md_store::{Naming, Pass, Prepared, Store, prepare};
+use md_view::{Entry, list};
+use std::alloc::Global;
+use std::marker::Brand;
+use std::sync::Wait;
+use std::thread;
+use std::thread::Threads;
+
+const MAIL: &[u8] = b"From: a@example.org\r\nSubject: hello\r\n\r\nHello.\r\n";
+
+/// The second of the store's clock.
+const NOW: u64 = 1000;
+
+/// How many threads there are, how many messages each takes in, and after how many of them it lists.
+#[derive(Clone, Copy, Debug)]
+pub struct Plan {
+    pub threads: usize,
+    pub messages: u64,
+    pub listing: u64,
+}
+
+/// How many messages were delivered, how many were marked seen, and how many listings showed the message before them, seen.
+#[derive(Clone, Copy, Debug, PartialEq, Eq)]
+pub struct Counts {
+    pub delivered: u64,
+    pub seen: u64,
+    pub listed: u64,
+}
+
+impl Counts {
+    /// Nothing yet.
+    pub fn none() -> Counts {
+        Counts {
+            delivered: 0,
+            seen: 0,
+            listed: 0,
+        }
+    }
+
+    /// Both together.
+    pub fn and(self, other: Counts) -> Counts {
+        Counts {
+            delivered: self.delivered.saturating_add(other.delivered),
+            seen: self.seen.saturating_add(other.seen),
+            listed: self.listed.saturating_add(other.listed),
+        }
+    }
+}
+
+/// What a caller does as a store was opened, and as it is to be closed: between the two there are calls, and between two rounds a pause.
+pub trait Watch {
+    /// Called in each round before its calls.
+    fn opened(&self);
+
+    /// Called in each round after its calls.
+    fn closing(&self);
+}
+
+/// Nothing is done.
+#[derive(Clone, Copy, Debug)]
+pub struct Unwatched;
+
+impl Watch for Unwatched {
+    fn opened(&self) {}
+
+    fn closing(&self) {}
+}
+
+/// A thread's number, from 0, and its pass.
+#[derive(Drop)]
+struct Session<J: Naming> {
+    number: u64,
+    pass: Pass<J>,
+}
+
+impl<J: Naming> Session<J> {
+    // Takes in the messages of a thread in a round, and lists between them.
+    fn run<R: Wait>(
+        mut self,
+        rt: &R,
+        alloc: Global,
+        store: &Store<IndexDirs, J>,
+        plan: Plan,
+        round: u64,
+    ) -> Result<Counts, UseError> {
+        let mut counts = Counts::none();
+        for count in 0..plan.messages {
+            let unique = unique_name(alloc, round, self.number, count)?;
+            counts = counts.and(self.take_in(rt, alloc, store, &unique)?);
+            if count.checked_rem(plan.listing) == Some(0) {
+                counts = counts.and(self.look(alloc, store, &unique)?);
+            }
+        }
+        Ok(counts)
+    }
+
+    // Delivers a message, and marks it seen.
+    fn take_in<R: Wait>(
+        &mut self,
+        rt: &R,
+        alloc: Global,
+        store: &Store<IndexDirs, J>,
+        unique: &[u8],
+    ) -> Result<Counts, UseError> {
+        let delivery = Call::Deliver {
+            folder: 0,
+            unique: Bytes::copied(alloc, unique)?,
+            body: Bytes::copied(alloc, MAIL)?,
+            chunk: 4096,
+        };
+        let delivered = store.call(rt, &mut self.pass, delivery, NOW, None)?;
+        let marking = Call::Seen {
+            folder: 0,
+            unique: Bytes::copied(alloc, unique)?,
+            flags: Flags::parse(b"S")?,
+            tries: 16,
+        };
+        let marked = store.call(rt, &mut self.pass, marking, NOW, None)?;
+        Ok(Counts {
+            delivered: u64::from(delivered == Answer::Delivered),
+            seen: u64::from(matches!(marked, Answer::Flags(_))),
+            listed: 0,
+        })
+    }
+
+    // Lists, and looks for a message there.
+    fn look(
+        &mut self,
+        alloc: Global,
+        store: &Store<IndexDirs, J>,
+        unique: &[u8],
+    ) -> Result<Counts, UseError> {
+        let entries = store.list(alloc, &mut self.pass, 0)?;
+        let listed = u64::from(shows_seen(&entries, unique));
+        Ok(Counts {
+            delivered: 0,
+            seen: 0,
+            listed,
+        })
+    }
+}
+
+// Whether a listing shows a message of this unique name, marked seen.
+fn shows_seen(entries: &[Entry], unique: &[u8]) -> bool {
+    entries.iter().any(|entry| entry.unique.as_slice() == unique && is_seen(entry.name.as_slice()))
+}
+
+// The unique name of the message that a thread takes in after so many others of a round.
+fn unique_name(alloc: Global, round: u64, thread: u64, count: u64) -> Result<Vec<u8>, UseError> {
+    let parts = UniqueParts {
+        sec: NOW.saturating_add(round),
+        micro: 5,
+        pid: thread,
+        count,
+        host: b"mx.example.org",
+    };
+    Ok(make_unique(alloc, parts)?)
+}
+
+/// Serves so many rounds over a new store of one folder. What the threads did, and how many messages the folder shows at the end.
+pub fn serve<W: Watch, R: Threads + Wait + Sync>(
+    rt: &R,
+    alloc: Global,
+    plan: Plan,
+    rounds: u64,
+    watch: &W,
+) -> Result<(Counts, usize), UseError> {
+    let dirs = IndexDirs::new(alloc, 1);
+    let mut world = World::load(alloc, dirs).map_err(|refused| refused.error)?;
+    let mut counts = Counts::none();
+    for number in 0..rounds {
+        let (left, counted) = round(rt, alloc, world, plan, number, watch)?;
+        counts = counts.and(counted);
+        world = left.settle().map_err(|refused| refused.error)?;
+    }
+    let kept = list(alloc, &world, 0)?.len();
+    Ok((counts, kept))
+}
+
+/// One round: opens a store of a world, lets the threads take in their messages, and closes it.
+fn round<W: Watch, R: Threads + Wait + Sync>(
+    rt: &R,
+    alloc: Global,
+    world: World<IndexDirs>,
+    plan: Plan,
+    round: u64,
+    watch: &W,
+) -> Result<(World<IndexDirs>, Counts), UseError>
+    requires { IsFresh world }
+{
+    match prepare(world, plan.threads) {
+        Ok(prepared) => round_in::<Brand, W, R>(rt, alloc, prepared, plan, round, watch),
+        Err(refused) => Err(UseError::Open(refused.error)),
+    }
+}
+
+fn round_in<J: Naming + Send + Sync, W: Watch, R: Threads + Wait + Sync>(
+    rt: &R,
+    alloc: Global,
+    prepared: Prepared<IndexDirs>,
+    plan: Plan,
+    round: u64,
+    watch: &W,
+) -> Result<(World<IndexDirs>, Counts), UseError>
+    requires begun { prepared.run ≡ J.begun }
+    requires named { (named_of prepared.run.image ≡ J.opening) × (prepared.book ≡ J.book) }
+{
+    let (store, passes) = match prepared.open::<J, R>(rt, alloc) {
+        Ok(opened) => opened,
+        Err(refused) => return Err(UseError::Open(refused.error)),
+    };
+    watch.opened();
+    let counts = by_threads(rt, alloc, &store, passes, plan, round);
+    watch.closing();
+    let world = store.close(rt);
+    Ok((world, counts?))
+}
+
+// Each pass in a thread of its own.
+fn by_threads<J: Naming + Send + Sync, R: Threads + Wait + Sync>(
+    rt: &R,
+    alloc: Global,
+    store: &Store<IndexDirs, J>,
+    passes: Vec<Pass<J>>,
+    plan: Plan,
+    round: u64,
+) -> Result<Counts, UseError> {
+    let mut sessions = Vec::new(alloc);
+    for (number, pass) in passes.into_iter().enumerate() {
+        let number = number as u64;
+        sessions.push(Session { number, pass })?;
+    }
+    let run = |session: Session<J>| session.run(rt, alloc, store, plan, round);
+    let mut counts = Counts::none();
+    for counted in thread::map_vec(rt, sessions, &run)? {
+        counts = counts.and(counted?);
+    }
+    Ok(counts)
+}
