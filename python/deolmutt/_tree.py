@@ -1,0 +1,267 @@
+"""One world as the folders of a mailbox tree, each with its messages by their keys."""
+
+from __future__ import annotations
+
+from typing import Iterable, NamedTuple, Optional, Union
+
+from ._names import fresh_unique
+from .calls import Answer, Call, Deliver, Expunge, Flag, Place, Seen
+from .errors import BadFlag, Failed, NoSpareFolder, OtherInfo, TooManyJobs
+from .lines import folder_line
+from .world import World
+
+# The names of the folders on the way from the top of a tree to one of it.
+Steps = tuple[str, ...]
+TOP: Steps = ()
+MOST_FOLDERS = 64
+_FLAGS_FOLLOW = "2,"
+_TRASHED = "T"
+
+
+class Message(NamedTuple):
+    """Where the store has a message: its unique name, its directory and its info, if it has any."""
+
+    unique: str
+    place: Place
+    info: Optional[str]
+
+    @property
+    def flags(self) -> str:
+        """Its flags. Other info has none."""
+        if self.info is None or not self.info.startswith(_FLAGS_FOLLOW):
+            return ""
+        return self.info[len(_FLAGS_FOLLOW) :]
+
+    def check_info(self) -> None:
+        """Refuses a message with another program's mark, whose flags the store doesn't change."""
+        if self.info is not None:
+            flags_in(self.info)
+
+
+def flags_in(info: str) -> str:
+    """The flags that info says: none, or `2,` and letters. All else is refused as `OtherInfo`."""
+    flags = info[len(_FLAGS_FOLLOW) :]
+    if info and not (info.startswith(_FLAGS_FOLLOW) and is_flags(flags)):
+        raise OtherInfo(f"info is empty, or 2, and letters: {info!r}")
+    return flags
+
+
+def is_flags(flags: str) -> bool:
+    """Whether a text is letters alone, A to Z and a to z, or empty."""
+    return not flags or (flags.isascii() and flags.isalpha())
+
+
+def check_flags(flags: str) -> None:
+    """Refuses flags that are no letters."""
+    if not is_flags(flags):
+        raise BadFlag(f"flags are letters: {flags!r}")
+
+
+class Wanted(NamedTuple):
+    """What a message is to be in the store beside its bytes."""
+
+    place: Place
+    flags: str
+    date: float
+
+
+class Tree:
+    """A world, the names of its folders, and what it doesn't keep itself: keys and dates."""
+
+    def __init__(self, world: World, folders: dict[Steps, int], spare: list[int]) -> None:
+        self.world = world
+        self._folders = folders
+        self._spare = spare
+        # The key of a message, where it is not its unique name.
+        self._keys: dict[str, str] = {}
+        # When a message was delivered, in seconds since 1970, where that was said.
+        self._dates: dict[str, float] = {}
+        self._contents: dict[int, dict[str, Message]] = {}
+        self._known_changes = world.changes
+
+    # Folders.
+
+    def folder(self, steps: Steps) -> Optional[int]:
+        """The number of a folder, or None where there is none of that name."""
+        return self._folders.get(steps)
+
+    def folders_in(self, steps: Steps) -> list[str]:
+        """The names of the folders right in a folder."""
+        return [found[-1] for found in self._folders if found and found[:-1] == steps]
+
+    def all_folders(self) -> dict[Steps, int]:
+        """All folders with their numbers, a folder before those in it."""
+        return dict(sorted(self._folders.items()))
+
+    def add_folder(self, steps: Steps) -> None:
+        """Gives a spare folder a name."""
+        if not self._spare:
+            raise NoSpareFolder(
+                f"a store's folders are fixed when it is loaded, and all {len(self._folders)} of this"
+                " one are in use: make it with more spare_folders (64 folders at most)"
+            )
+        self._folders[steps] = self._spare.pop()
+
+    def remove_folder(self, steps: Steps) -> None:
+        """Makes a folder a spare one again."""
+        self._spare.append(self._folders.pop(steps))
+
+    # Messages.
+
+    def contents(self, number: int) -> dict[str, Message]:
+        """The messages of a folder by their keys. They are listed anew after calls of others."""
+        if self.world.changes != self._known_changes:
+            self._contents.clear()
+            self._known_changes = self.world.changes
+        found = self._contents.get(number)
+        if found is None:
+            found = self._contents[number] = self._listed(number)
+        return found
+
+    def _listed(self, number: int) -> dict[str, Message]:
+        found: dict[str, Message] = {}
+        for entry in self.world.list(number):
+            unique = entry.unique
+            key = self._keys.get(unique, unique)
+            found[unique if key in found else key] = Message(unique, entry.place, entry.info)
+        return found
+
+    def date(self, message: Message) -> float:
+        """When a message was delivered, in seconds since 1970, and 0 where nobody said so."""
+        return self._dates.get(message.unique, 0.0)
+
+    def note(self, unique: str, key: str, date: float) -> None:
+        """Keeps the key and the date of a message."""
+        if key != unique:
+            self._keys[unique] = key
+        self._dates[unique] = date
+
+    def deliver(self, number: int, body: bytes, wanted: Wanted) -> str:
+        """Puts a message into a folder, and answers its key, which is its unique name.
+
+        It is delivered to new, and taken on to cur where it is wanted there.
+        """
+        unique = fresh_unique()
+        self._call(number, Deliver(number, unique, body))
+        self._dates[unique] = wanted.date
+        message = self._contents[number][unique] = Message(unique, Place.NEW, None)
+        if wanted.place is Place.CUR:
+            self._contents[number][unique] = self._seen(number, message, wanted.flags)
+        return unique
+
+    def deliver_all(self, number: int, messages: list[tuple[bytes, Wanted]]) -> list[str]:
+        """The same for many messages, in some calls of the library."""
+        uniques = [fresh_unique() for _ in messages]
+        self._call_all(
+            Deliver(number, unique, body) for unique, (body, _) in zip(uniques, messages)
+        )
+        for unique, (_, wanted) in zip(uniques, messages):
+            self._dates[unique] = wanted.date
+        self._call_all(
+            Seen(number, unique, wanted.flags)
+            for unique, (_, wanted) in zip(uniques, messages)
+            if wanted.place is Place.CUR
+        )
+        return uniques
+
+    def remove(self, number: int, key: str) -> None:
+        """Removes a message: it goes to cur with the flag T, and then it is expunged."""
+        contents = self.contents(number)
+        message = contents[key]
+        if message.place is Place.NEW:
+            contents[key] = self._seen(number, message, _TRASHED)
+        elif _TRASHED not in message.flags:
+            contents[key] = self._flag(number, message, _TRASHED, "")
+        self._call(number, Expunge(number, message.unique))
+        del contents[key]
+        self._keys.pop(message.unique, None)
+        self._dates.pop(message.unique, None)
+
+    def rename_key(self, number: int, key: str, other: str) -> None:
+        """Gives a message another key."""
+        contents = self.contents(number)
+        message = contents[other] = contents.pop(key)
+        self._keys[message.unique] = other
+
+    def set_flags(self, number: int, key: str, flags: str) -> None:
+        """Gives a message these flags and no others. One in new that is given any goes to cur."""
+        contents = self.contents(number)
+        message = contents[key]
+        message.check_info()
+        if message.place is Place.NEW and (flags or message.flags):
+            message = contents[key] = self._seen(number, message, flags)
+        if set(message.flags) != set(flags):
+            others = "".join(set(message.flags) - set(flags))
+            contents[key] = self._flag(number, message, flags, others)
+
+    def add_flags_to_all(self, number: int, keys: Iterable[str], flags: str) -> None:
+        """Adds flags to many messages, in some calls of the library."""
+        contents = self.contents(number)
+        calls: list[Call] = []
+        for key in dict.fromkeys(keys):
+            message = contents[key]
+            message.check_info()
+            if message.place is Place.NEW:
+                calls.append(Seen(number, message.unique, flags))
+            else:
+                calls.append(Flag(number, message.unique, flags))
+        if flags:
+            self._call_all(calls)
+
+    def _seen(self, number: int, message: Message, flags: str) -> Message:
+        answer = self._call(number, Seen(number, message.unique, flags))
+        return Message(message.unique, Place.CUR, _FLAGS_FOLLOW + answer.flags)
+
+    def _flag(self, number: int, message: Message, add: str, remove: str) -> Message:
+        answer = self._call(number, Flag(number, message.unique, add, remove))
+        return Message(message.unique, Place.CUR, _FLAGS_FOLLOW + answer.flags)
+
+    # Calls.
+
+    def call(self, call: Call) -> Answer:
+        """Makes a call. Where the world has had all its calls, it is settled first."""
+        try:
+            return self.world.call(call)
+        except TooManyJobs:
+            self.world.settle()
+            return self.world.call(call)
+
+    def _call(self, number: int, call: Call) -> Answer:
+        """The same, with the folder's contents in step: the caller says in them what changed."""
+        self.contents(number)
+        answer = self.call(call)
+        self._known_changes = self.world.changes
+        return answer
+
+    def _call_all(self, calls: Iterable[Call]) -> None:
+        """Makes many calls. What they changed is listed anew when it is asked for."""
+        left = list(calls)
+        while left:
+            try:
+                answers = self.world.call_many(left)
+                left = []
+            except TooManyJobs as error:
+                answers = error.done
+                left = left[len(answers) :]
+                self.world.settle()
+            for answer in answers:
+                if isinstance(answer, Failed):
+                    raise answer
+
+
+def loaded_tree(folders: list[Steps], spare: int, files: Iterable[bytes]) -> Tree:
+    """A tree with these folders and the files that these lines say, in folders `f0`, `f1` and so on:
+    the top, those that are named, and the spare ones."""
+    named = [TOP, *folders]
+    count = len(named) + spare
+    if count > MOST_FOLDERS:
+        raise NoSpareFolder(f"a store has at most {MOST_FOLDERS} folders, not {count}")
+    heads = [folder_line(store_name(number)) for number in range(count)]
+    world = World.load(b"".join([*heads, *files]))
+    numbers = {steps: number for number, steps in enumerate(named)}
+    return Tree(world, numbers, list(range(count - 1, len(named) - 1, -1)))
+
+
+def store_name(number: int) -> str:
+    """The name of a folder in the lines that the world is loaded with."""
+    return f"f{number}"
