@@ -7,6 +7,7 @@ may let run step by step.
 
 from . import calls, errors, lines
 from ._disk import LeftOut
+from ._names import fresh_unique
 from .errors import DeolmuttError, Failed, Refused, WrongThread
 from .maildir import Maildir
 from .world import World
@@ -21,5 +22,6 @@ __all__ = [
     "WrongThread",
     "calls",
     "errors",
+    "fresh_unique",
     "lines",
 ]

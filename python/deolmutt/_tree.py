@@ -2,6 +2,7 @@
 
 from __future__ import annotations
 
+from functools import lru_cache
 from typing import Iterable, NamedTuple, Optional, Union
 
 from ._names import fresh_unique
@@ -38,6 +39,7 @@ class Message(NamedTuple):
             flags_in(self.info)
 
 
+@lru_cache(maxsize=256)
 def flags_in(info: str) -> str:
     """The flags that info says: none, or `2,` and letters. All else is refused as `OtherInfo`."""
     flags = info[len(_FLAGS_FOLLOW) :]
@@ -118,6 +120,11 @@ class Tree:
             found = self._contents[number] = self._listed(number)
         return found
 
+    def _keep_contents(self) -> None:
+        """Says that the contents are those after the calls so far. What ends on its way there, by an
+        exception, leaves them to be listed anew."""
+        self._known_changes = self.world.changes
+
     def _listed(self, number: int) -> dict[str, Message]:
         found: dict[str, Message] = {}
         for entry in self.world.list(number):
@@ -141,12 +148,15 @@ class Tree:
 
         It is delivered to new, and taken on to cur where it is wanted there.
         """
+        contents = self.contents(number)
         unique = fresh_unique()
-        self._call(number, Deliver(number, unique, body))
+        self.call(Deliver(number, unique, body))
         self._dates[unique] = wanted.date
-        message = self._contents[number][unique] = Message(unique, Place.NEW, None)
+        message = Message(unique, Place.NEW, None)
         if wanted.place is Place.CUR:
-            self._contents[number][unique] = self._seen(number, message, wanted.flags)
+            message = self._seen(number, message, wanted.flags)
+        contents[unique] = message
+        self._keep_contents()
         return unique
 
     def deliver_all(self, number: int, messages: list[tuple[bytes, Wanted]]) -> list[str]:
@@ -169,13 +179,14 @@ class Tree:
         contents = self.contents(number)
         message = contents[key]
         if message.place is Place.NEW:
-            contents[key] = self._seen(number, message, _TRASHED)
+            self._seen(number, message, _TRASHED)
         elif _TRASHED not in message.flags:
-            contents[key] = self._flag(number, message, _TRASHED, "")
-        self._call(number, Expunge(number, message.unique))
-        del contents[key]
+            self._flag(number, message, _TRASHED, "")
+        self.call(Expunge(number, message.unique))
         self._keys.pop(message.unique, None)
         self._dates.pop(message.unique, None)
+        del contents[key]
+        self._keep_contents()
 
     def rename_key(self, number: int, key: str, other: str) -> None:
         """Gives a message another key."""
@@ -183,37 +194,37 @@ class Tree:
         message = contents[other] = contents.pop(key)
         self._keys[message.unique] = other
 
-    def set_flags(self, number: int, key: str, flags: str) -> None:
-        """Gives a message these flags and no others. One in new that is given any goes to cur."""
+    def change_flags(self, number: int, key: str, add: str, remove: str) -> None:
+        """Adds and removes flags of a message. One in new that is given any goes to cur."""
         contents = self.contents(number)
         message = contents[key]
         message.check_info()
-        if message.place is Place.NEW and (flags or message.flags):
-            message = contents[key] = self._seen(number, message, flags)
-        if set(message.flags) != set(flags):
-            others = "".join(set(message.flags) - set(flags))
-            contents[key] = self._flag(number, message, flags, others)
+        if message.place is Place.NEW and (add or message.flags):
+            message = self._seen(number, message, add)
+        flags = set(message.flags)
+        if not flags.issuperset(add) or not flags.isdisjoint(remove):
+            message = self._flag(number, message, add, remove)
+        contents[key] = message
+        self._keep_contents()
 
     def add_flags_to_all(self, number: int, keys: Iterable[str], flags: str) -> None:
         """Adds flags to many messages, in some calls of the library."""
         contents = self.contents(number)
-        calls: list[Call] = []
-        for key in dict.fromkeys(keys):
-            message = contents[key]
+        messages = [contents[key] for key in dict.fromkeys(keys)]
+        for message in messages:
             message.check_info()
-            if message.place is Place.NEW:
-                calls.append(Seen(number, message.unique, flags))
-            else:
-                calls.append(Flag(number, message.unique, flags))
         if flags:
-            self._call_all(calls)
+            self._call_all(
+                (Seen if message.place is Place.NEW else Flag)(number, message.unique, flags)
+                for message in messages
+            )
 
     def _seen(self, number: int, message: Message, flags: str) -> Message:
-        answer = self._call(number, Seen(number, message.unique, flags))
+        answer = self.call(Seen(number, message.unique, flags))
         return Message(message.unique, Place.CUR, _FLAGS_FOLLOW + answer.flags)
 
     def _flag(self, number: int, message: Message, add: str, remove: str) -> Message:
-        answer = self._call(number, Flag(number, message.unique, add, remove))
+        answer = self.call(Flag(number, message.unique, add, remove))
         return Message(message.unique, Place.CUR, _FLAGS_FOLLOW + answer.flags)
 
     # Calls.
@@ -225,13 +236,6 @@ class Tree:
         except TooManyJobs:
             self.world.settle()
             return self.world.call(call)
-
-    def _call(self, number: int, call: Call) -> Answer:
-        """The same, with the folder's contents in step: the caller says in them what changed."""
-        self.contents(number)
-        answer = self.call(call)
-        self._known_changes = self.world.changes
-        return answer
 
     def _call_all(self, calls: Iterable[Call]) -> None:
         """Makes many calls. What they changed is listed anew when it is asked for."""

@@ -150,10 +150,14 @@ class Maildir(mailbox.Mailbox):  # type: ignore[type-arg]
 
     # Keys.
 
+    def keys(self) -> List[str]:
+        """The keys of the messages, as a list."""
+        with self._held():
+            return list(self._contents())
+
     def iterkeys(self) -> Iterator[str]:
         """The keys of the messages that are there now. Those removed meanwhile are passed over."""
-        with self._held():
-            keys = list(self._contents())
+        keys = self.keys()
         return (key for key in keys if key in self)
 
     def __contains__(self, key: object) -> bool:
@@ -203,20 +207,23 @@ class Maildir(mailbox.Mailbox):  # type: ignore[type-arg]
         """
         _check_text(flags)
         with self._held():
-            self._lookup(key)
-            self._tree.set_flags(self._number(), key, flags)
+            others = "".join(set(self._lookup(key).flags) - set(flags))
+            self._tree.change_flags(self._number(), key, flags, others)
 
     def add_flag(self, key: str, flag: str) -> None:
         """Adds a flag, or some, to a message's others. Else as `set_flags`."""
-        _check_text(flag)
-        with self._held():
-            self.set_flags(key, "".join({*self.get_flags(key), *flag}))
+        self._change_flags(key, flag, "")
 
     def remove_flag(self, key: str, flag: str) -> None:
         """Takes a flag, or some, away. Else as `set_flags`."""
-        _check_text(flag)
+        self._change_flags(key, "", flag)
+
+    def _change_flags(self, key: str, add: str, remove: str) -> None:
+        _check_text(add)
+        _check_text(remove)
         with self._held():
-            self.set_flags(key, "".join({*self.get_flags(key)} - {*flag}))
+            self._lookup(key)
+            self._tree.change_flags(self._number(), key, add, remove)
 
     def add_flag_to_all(self, keys: Iterable[str], flag: str) -> None:
         """Adds a flag, or some, to many messages, faster than one by one.
@@ -225,7 +232,10 @@ class Maildir(mailbox.Mailbox):  # type: ignore[type-arg]
         """
         _check_text(flag)
         with self._held():
-            wanted = [key for key in keys if self._lookup(key)]
+            wanted = list(keys)
+            missing = set(wanted).difference(self._contents())
+            if missing:
+                raise KeyError(f"No message with key: {min(missing)}")
             self._tree.add_flags_to_all(self._number(), wanted, flag)
 
     # Folders.

@@ -7,7 +7,7 @@ import struct
 import threading
 import time
 from types import TracebackType
-from typing import Callable, Iterable, Iterator, List, NamedTuple, Optional, Union
+from typing import Callable, Iterable, Iterator, List, NamedTuple, NoReturn, Optional, Union
 
 from ._library import AnswerStruct, StepStruct, library
 from ._numbers import MOST_U32, MOST_U64, OK, ROOM, Asked, answer_of, asked, refusal
@@ -41,7 +41,7 @@ from .lines import decoded, encoded, folder_line
 _RECORD = struct.Struct("=4I4Q")
 _ANSWER = struct.Struct("=QQ")
 _ENTRY = struct.Struct("=IIQ")
-_NEW = 1
+_PLACES = {1: Place.NEW, 2: Place.CUR}
 # Where many calls are made at once, so many of them, or of bytes, go to the library together.
 _MOST_TOGETHER = 1024
 _MOST_BYTES_TOGETHER = 1 << 24
@@ -158,12 +158,12 @@ class World:
         Raises what the store refuses, and the answer where it is no success: `Failed`.
         """
         with self._hold:
+            self._changes += 1
             self._job.value = 0
             status = self._library.deolmutt_call(
                 self._open(), *_arguments(asked(call)), _moment(now), _pointer(own),
                 ctypes.byref(self._job), ctypes.byref(self._answer),
             )  # fmt: skip
-            self._changes += 1
             if status != OK:
                 raise _with_job(refusal(status), self._job.value)
             answer = answer_of(self._answer.kind, self._answer.value)
@@ -223,10 +223,10 @@ class World:
         given = bytearray(count * _ANSWER.size)
         out = (ctypes.c_char * len(given)).from_buffer(given)
         self._length.value = 0
+        self._changes += 1
         status: int = self._library.deolmutt_calls(
             self._open(), records, len(records), now, out, count, ctypes.byref(self._length)
         )
-        self._changes += 1
         whole = memoryview(given)[: self._length.value * _ANSWER.size]
         answers.extend(answer_of(kind, value) for kind, value in _ANSWER.iter_unpack(whole))
         return status
@@ -256,10 +256,10 @@ class World:
         """
         step = StepStruct()
         with self._hold:
+            self._changes += 1
             status = self._library.deolmutt_step(
                 self._open(), _checked(job, NoJob), _moment(now), _pointer(own), ctypes.byref(step)
             )
-            self._changes += 1
             self._check(status)
 
     def answer(self, job: int) -> Optional[Answer]:
@@ -347,7 +347,8 @@ class World:
 
     @property
     def changes(self) -> int:
-        """A number that is another one after each call that may have changed a message."""
+        """A number that is another one after each call that may have changed a message, also one that
+        was refused."""
         return self._changes
 
     def __enter__(self) -> World:
@@ -366,7 +367,7 @@ class World:
         if getattr(self, "_handle", None):
             self.close()
 
-    def __reduce__(self) -> str:
+    def __reduce__(self) -> NoReturn:
         raise TypeError("a world can't be copied or pickled: it is memory of the library")
 
     def _open(self) -> ctypes.c_void_p:
@@ -451,10 +452,9 @@ def _together(calls: Iterable[Call]) -> Iterator[tuple[bytes, int]]:
 
 
 def _entries(given: bytes) -> Iterator[Entry]:
-    at = 0
-    while at < len(given):
+    at, end = 0, len(given)
+    while at < end:
         place, length, size = _ENTRY.unpack_from(given, at)
-        at += _ENTRY.size
-        name = decoded(given[at : at + length])
-        yield Entry(Place.NEW if place == _NEW else Place.CUR, name, size)
-        at += length
+        first = at + _ENTRY.size
+        at = first + length
+        yield Entry(_PLACES[place], decoded(given[first:at]), size)
