@@ -128,6 +128,16 @@ def write_file(path: str, body: bytes, date: float) -> None:
             _unlink(fresh)
 
 
+def flush_folder(directory: str) -> None:
+    """Flushes the names in a folder to the disk."""
+    for place in Place:
+        descriptor = os.open(os.path.join(directory, place.value), os.O_RDONLY | os.O_DIRECTORY)
+        try:
+            os.fsync(descriptor)
+        finally:
+            os.close(descriptor)
+
+
 def _place(fresh: str, path: str) -> None:
     try:
         os.link(fresh, path)

@@ -2,6 +2,7 @@
 
 from __future__ import annotations
 
+import time
 from functools import lru_cache
 from typing import Iterable, NamedTuple, Optional, Union
 
@@ -76,7 +77,7 @@ class Tree:
         self._spare = spare
         # The key of a message, where it is not its unique name.
         self._keys: dict[str, str] = {}
-        # When a message was delivered, in seconds since 1970, where that was said.
+        # When a message was delivered, in seconds since 1970.
         self._dates: dict[str, float] = {}
         self._contents: dict[int, dict[str, Message]] = {}
         self._known_changes = world.changes
@@ -127,15 +128,17 @@ class Tree:
 
     def _listed(self, number: int) -> dict[str, Message]:
         found: dict[str, Message] = {}
+        now = time.time()
         for entry in self.world.list(number):
             unique = entry.unique
+            self._dates.setdefault(unique, now)
             key = self._keys.get(unique, unique)
             found[unique if key in found else key] = Message(unique, entry.place, entry.info)
         return found
 
     def date(self, message: Message) -> float:
-        """When a message was delivered, in seconds since 1970, and 0 where nobody said so."""
-        return self._dates.get(message.unique, 0.0)
+        """When a message was delivered, in seconds since 1970, or first met, where others did that."""
+        return self._dates[message.unique]
 
     def note(self, unique: str, key: str, date: float) -> None:
         """Keeps the key and the date of a message."""

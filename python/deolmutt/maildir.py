@@ -249,7 +249,7 @@ class Maildir(mailbox.Mailbox):  # type: ignore[type-arg]
     def get_folder(self, folder: str) -> Maildir:
         """A folder in this one. Raises `mailbox.NoSuchMailboxError` where there is none."""
         with self._held():
-            steps = _step(self._steps, folder)
+            steps = (*self._steps, folder)
             if self._tree.folder(steps) is None:
                 raise mailbox.NoSuchMailboxError(folder)
             return self._at(steps)
@@ -274,7 +274,7 @@ class Maildir(mailbox.Mailbox):  # type: ignore[type-arg]
         there is none, as `mailbox.Maildir` does.
         """
         with self._held():
-            steps = _step(self._steps, folder)
+            steps = (*self._steps, folder)
             number = self._tree.folder(steps)
             if number is None:
                 raise FileNotFoundError(f"No such folder: {folder}")
@@ -362,7 +362,7 @@ class Maildir(mailbox.Mailbox):  # type: ignore[type-arg]
         Each message is a file of its key and its info, with its date, which is written to tmp,
         flushed to the disk and linked to its place. Nothing is overwritten: where a folder of the
         tree has a message of the same unique name, `mailbox.ExternalClashError` is raised before
-        anything is written.
+        anything is written. Where the disk refuses, with OSError, the files so far are there whole.
         """
         path = os.fspath(tree)
         with self._held():
@@ -391,6 +391,7 @@ class Maildir(mailbox.Mailbox):  # type: ignore[type-arg]
             body = self.world.read(message.unique)
             date = self._tree.date(message)
             _disk.write_file(os.path.join(directory, message.place.value, name), body, date)
+        _disk.flush_folder(directory)
 
     # What the methods share.
 

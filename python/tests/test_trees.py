@@ -2,9 +2,11 @@
 
 from __future__ import annotations
 
+import contextlib
 import mailbox
 import os
 import pathlib
+import threading
 import unittest
 import warnings
 from typing import Any
@@ -12,7 +14,7 @@ from typing import Any
 from support import MESSAGE, Case, maildir_message, needs_library
 
 import deolmutt
-from deolmutt import Maildir
+from deolmutt import Maildir, WrongThread
 from deolmutt.errors import BodyTooLong, NoSpareFolder, OtherInfo
 
 MOST_BODY = 16_777_216
@@ -260,6 +262,8 @@ class DifferenceTest(Case):
         for name in ("", ".", "a/b", "a\0"):
             with self.assertRaises(ValueError):
                 self.box.add_folder(name)
+            with self.assertRaises(mailbox.NoSuchMailboxError):
+                self.box.get_folder(name)
 
     def test_a_folder_that_was_removed(self) -> None:
         folder = self.box.add_folder("a")
@@ -283,6 +287,26 @@ class DifferenceTest(Case):
         self.assertEqual(b"zz", self.box.get_bytes("z"))
         self.box.world.flag(0, "b", "F")
         self.assertEqual("F", self.box.get_flags("b"))
+
+    def test_threads_that_meet_are_refused_and_break_nothing(self) -> None:
+        keys: list[str] = []
+
+        def work() -> None:
+            for _ in range(200):
+                try:
+                    key = self.box.add(MESSAGE)
+                except WrongThread:
+                    continue
+                keys.append(key)
+                with contextlib.suppress(WrongThread):
+                    self.box.add_flag(key, "S")
+
+        threads = [threading.Thread(target=work) for _ in range(4)]
+        for thread in threads:
+            thread.start()
+        for thread in threads:
+            thread.join()
+        self.assertEqual({"a", "b", *keys}, set(self.box.keys()))
 
     def test_many_at_once(self) -> None:
         keys = self.box.add_all([MESSAGE, "Subject: x\n\n", maildir_message("S", "cur", 5.0)])
