@@ -4,12 +4,12 @@ from __future__ import annotations
 
 import time
 from functools import lru_cache
-from typing import Iterable, NamedTuple, Optional, Union
+from typing import Iterable, Iterator, NamedTuple, Optional, Union
 
 from ._names import fresh_unique
 from .calls import Answer, Call, Deliver, Expunge, Flag, Place, Seen
-from .errors import BadFlag, Failed, NoSpareFolder, OtherInfo, TooManyJobs
-from .lines import folder_line
+from .errors import BadFlag, Failed, NoSpareFolder, NotSettled, OtherInfo, TooManyJobs
+from .lines import file_line, folder_line
 from .world import World
 
 # The names of the folders on the way from the top of a tree to one of it.
@@ -237,7 +237,7 @@ class Tree:
         try:
             return self.world.call(call)
         except TooManyJobs:
-            self.world.settle()
+            self._settle()
             return self.world.call(call)
 
     def _call_all(self, calls: Iterable[Call]) -> None:
@@ -250,10 +250,25 @@ class Tree:
             except TooManyJobs as error:
                 answers = error.done
                 left = left[len(answers) :]
-                self.world.settle()
+                self._settle()
             for answer in answers:
                 if isinstance(answer, Failed):
                     raise answer
+
+    def _settle(self) -> None:
+        """Gives the world as many calls again: where the library has no settle, its messages are
+        loaded anew."""
+        try:
+            self.world.settle()
+        except NotSettled:
+            numbers = range(len(self._folders) + len(self._spare))
+            files = (line for number in numbers for line in self._lines_of(number))
+            self.world.reload(b"".join([*map(_head, numbers), *files]))
+
+    def _lines_of(self, number: int) -> Iterator[bytes]:
+        for entry in self.world.list(number):
+            date, body = self._dates.get(entry.unique, 0.0), self.world.read(entry.unique)
+            yield file_line(store_name(number), entry.place.value, entry.name, int(date), body)
 
 
 def loaded_tree(folders: list[Steps], spare: int, files: Iterable[bytes]) -> Tree:
@@ -263,10 +278,13 @@ def loaded_tree(folders: list[Steps], spare: int, files: Iterable[bytes]) -> Tre
     count = len(named) + spare
     if count > MOST_FOLDERS:
         raise NoSpareFolder(f"a store has at most {MOST_FOLDERS} folders, not {count}")
-    heads = [folder_line(store_name(number)) for number in range(count)]
-    world = World.load(b"".join([*heads, *files]))
+    world = World.load(b"".join([*map(_head, range(count)), *files]))
     numbers = {steps: number for number, steps in enumerate(named)}
     return Tree(world, numbers, list(range(count - 1, len(named) - 1, -1)))
+
+
+def _head(number: int) -> bytes:
+    return folder_line(store_name(number))
 
 
 def store_name(number: int) -> str:

@@ -82,12 +82,7 @@ class World:
         self._answer = AnswerStruct()
         self._length = ctypes.c_size_t()
         self._library = library()
-        line = ctypes.c_uint64()
-        status = self._library.deolmutt_load(
-            lines, len(lines), ctypes.byref(self._handle), ctypes.byref(line)
-        )
-        if status != OK:
-            raise _at_line(refusal(status), line.value)
+        self._handle = self._loaded(lines)
 
     @classmethod
     def load(cls, lines: bytes) -> World:
@@ -328,6 +323,16 @@ class World:
             if status != OK:
                 raise _with_job(refusal(status), self._job.value)
 
+    def reload(self, lines: bytes) -> None:
+        """Begins anew over these lines, as `load`, in place of all that it holds.
+
+        Where they are refused it keeps what it holds.
+        """
+        with self._hold:
+            self._changes += 1
+            handle, self._handle = self._open(), self._loaded(bytes(lines))
+            self._library.deolmutt_free(handle)
+
     def close(self) -> None:
         """Lets all that the world holds go. Any other call is refused as `Closed` from then on."""
         with self._hold:
@@ -369,6 +374,15 @@ class World:
 
     def __reduce__(self) -> NoReturn:
         raise TypeError("a world can't be copied or pickled: it is memory of the library")
+
+    def _loaded(self, lines: bytes) -> ctypes.c_void_p:
+        handle, line = ctypes.c_void_p(), ctypes.c_uint64()
+        status = self._library.deolmutt_load(
+            lines, len(lines), ctypes.byref(handle), ctypes.byref(line)
+        )
+        if status != OK:
+            raise _at_line(refusal(status), line.value)
+        return handle
 
     def _open(self) -> ctypes.c_void_p:
         if not self._handle:

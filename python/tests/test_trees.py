@@ -308,6 +308,18 @@ class DifferenceTest(Case):
             thread.join()
         self.assertEqual({"a", "b", *keys}, set(self.box.keys()))
 
+    def test_a_mailbox_takes_more_calls_than_a_world(self) -> None:
+        bodies = [str(number).encode() for number in range(7_000)]
+        keys = self.box.add_all(bodies)
+        self.box.add_flag_to_all(keys, "S")
+        for key in keys[:100]:
+            self.box.add_flag(key, "F")
+        for key in keys[:6_000]:
+            self.box.remove(key)
+        self.assertEqual(1_002, len(self.box))
+        self.assertEqual(bodies[6_000:], [self.box.get_bytes(key) for key in keys[6_000:]])
+        self.assertEqual(("1,x:2,S", "S"), (self.box.get_info("a"), self.box.get_flags(keys[-1])))
+
     def test_many_at_once(self) -> None:
         keys = self.box.add_all([MESSAGE, "Subject: x\n\n", maildir_message("S", "cur", 5.0)])
         self.assertEqual(["new", "new", "cur"], [self.box[key].get_subdir() for key in keys])

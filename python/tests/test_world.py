@@ -266,6 +266,16 @@ class LifeTest(unittest.TestCase):
         except errors.NotSettled:
             self.skipTest("this library has no settle")
 
+    def test_a_world_is_loaded_anew_in_place_of_what_it_held(self) -> None:
+        with world_of(("new", "n", b"1")) as world:
+            with self.assertRaises(errors.BadFolder):
+                world.reload(b"folder .a\n")
+            self.assertEqual(b"1", world.read("n"))
+            world.reload(lines.folder_line("a"))
+            self.assertEqual([], world.list(0))
+        with self.assertRaises(errors.Closed):
+            world.reload(b"")
+
     def test_each_refused_line(self) -> None:
         refused = {
             b"folder a\nfile a cur x:2, 0 \\q\n": (errors.BadEscape, 2),
