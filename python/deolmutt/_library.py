@@ -16,8 +16,8 @@ FILE_NAME = "libdeolmutt.so"
 _VARIABLE = "DEOLMUTT_LIBRARY"
 
 _HOW = (
-    f"Build it with `tools/ffi-build --out DIR` in a clone of the repository, and set {_VARIABLE} to"
-    f" DIR/{FILE_NAME}, or put that file into the folder of the package: {Path(__file__).parent}"
+    "Build it with `tools/ffi-build` in a clone of the repository, which prints where it is. Then set"
+    f" {_VARIABLE} to that path, or put the file into the folder of the package: {Path(__file__).parent}"
 )
 
 

@@ -3,6 +3,7 @@
 from __future__ import annotations
 
 import mailbox
+import os
 import pathlib
 import sys
 import tempfile
@@ -12,6 +13,10 @@ from typing import Any, Callable
 PYTHON = pathlib.Path(__file__).resolve().parent.parent
 TOP = PYTHON.parent
 sys.path.insert(0, str(PYTHON))
+# Where `tools/ffi-build` leaves the library.
+BUILT = TOP / "crates/md_ffi/out/deolmutt/libdeolmutt.so"
+if BUILT.is_file():
+    os.environ.setdefault("DEOLMUTT_LIBRARY", str(BUILT))
 
 from deolmutt._library import library  # noqa: E402
 from deolmutt.errors import LibraryMissing  # noqa: E402
