@@ -7,7 +7,7 @@ from functools import lru_cache
 from typing import Callable, NamedTuple, Union
 
 from . import errors
-from .calls import Answer, Call, Clean, Copy, Deliver, Expunge, Flag, Move, Outcome, Seen
+from .calls import Answer, Call, Clean, Copy, Deliver, Expunge, Flag, Move, Outcome, Seen, Step
 from .errors import DeolmuttError, Failed
 from .lines import encoded
 
@@ -25,6 +25,7 @@ REFUSALS: dict[int, type[DeolmuttError]] = {
     8: errors.NotThere,
     9: errors.NoMessageName,
     10: errors.Unanswered,
+    11: errors.Misused,
     20: errors.BadName,
     21: errors.LongUnique,
     22: errors.DuplicateUnique,
@@ -99,6 +100,23 @@ def answer_of(kind: int, value: int) -> Union[Answer, Failed]:
 @lru_cache(maxsize=4096)
 def _letters(bits: int) -> str:
     return "".join(letter for at, letter in enumerate(_LETTERS) if bits >> at & 1)
+
+
+_APPEND, _LIST = 2, 6
+_DIR_CALLS = {1: "create", 3: "link", 4: "rename", 5: "unlink"}
+_PLACES = ("tmp", "new", "cur")
+_REPLIES = {1: "ok", 2: "exists", 3: "notfound", 4: "fault"}
+
+
+def step_of(call: int, value: int, reply: int, effect: int) -> Step:
+    """What a step did."""
+    if call == _APPEND:
+        text = f"append {value}"
+    elif call == _LIST:
+        text = f"list {_PLACES[value]}"
+    else:
+        text = _DIR_CALLS[call]
+    return Step(text, _REPLIES[reply], bool(effect))
 
 
 class Asked(NamedTuple):

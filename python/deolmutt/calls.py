@@ -97,6 +97,15 @@ class Answer(NamedTuple):
     removed: int = 0
 
 
+class Step(NamedTuple):
+    """What one step of a job did: its directory call and the reply, in the words of the script
+    language (docs/SCRIPT.md), and whether the job took effect by it."""
+
+    call: str
+    reply: str
+    took_effect: bool
+
+
 class Place(Enum):
     """The directory of a folder that a message is in."""
 

@@ -10,7 +10,7 @@ from types import TracebackType
 from typing import Callable, Iterable, Iterator, List, NamedTuple, NoReturn, Optional, Union
 
 from ._library import AnswerStruct, StepStruct, library
-from ._numbers import MOST_U32, MOST_U64, OK, ROOM, Asked, answer_of, asked, refusal
+from ._numbers import MOST_U32, MOST_U64, OK, ROOM, Asked, answer_of, asked, refusal, step_of
 from .calls import (
     Answer,
     Call,
@@ -23,6 +23,7 @@ from .calls import (
     Move,
     Place,
     Seen,
+    Step,
 )
 from .errors import (
     BadLine,
@@ -244,10 +245,10 @@ class World:
             self._check(status)
             return self._job.value
 
-    def step(self, job: int, now: Optional[int] = None, own: Optional[int] = None) -> None:
-        """Takes one step of a job: one directory call. `answer` says whether that was its last.
+    def step(self, job: int, now: Optional[int] = None, own: Optional[int] = None) -> Step:
+        """Takes one step of a job, one directory call, and says which it was.
 
-        Refused: `NoJob`, `Answered`.
+        `answer` says whether it was the last. Refused: `NoJob`, `Answered`.
         """
         step = StepStruct()
         with self._hold:
@@ -256,6 +257,7 @@ class World:
                 self._open(), _checked(job, NoJob), _moment(now), _pointer(own), ctypes.byref(step)
             )
             self._check(status)
+        return step_of(step.call, step.value, step.reply, step.effect)
 
     def answer(self, job: int) -> Optional[Answer]:
         """The answer of a job, or None where it has none yet.

@@ -23,6 +23,7 @@ from deolmutt.calls import (
     Outcome,
     Place,
     Seen,
+    Step,
 )
 
 HEADER = TOP / "crates/md_ffi/include/deolmutt.h"
@@ -91,13 +92,58 @@ class CallTest(unittest.TestCase):
             self.assertEqual(0, world.clean(0, now=DAY))
             self.assertEqual(1, world.clean(0, now=2 * DAY))
 
-    def test_a_job_step_by_step(self) -> None:
-        job = self.world.submit(Deliver(1, "d", MESSAGE))
-        while self.world.answer(job) is None:
-            self.world.step(job, now=1000)
+    def test_a_delivery_step_by_step(self) -> None:
+        job = self.world.submit(Deliver(1, "d", b"12345", piece=3))
+        self.assertIsNone(self.world.answer(job))
+        done = self.steps(job)
+        calls = ["create", "append 3", "append 2", "link", "unlink"]
+        self.assertEqual([Step(call, "ok", call == "link") for call in calls], done)
         self.assertEqual(Answer(Outcome.DELIVERED), self.world.answer(job))
         with self.assertRaises(errors.Answered):
             self.world.step(job)
+
+    def test_two_flag_changes_that_race(self) -> None:
+        first, second = (self.world.submit(Flag(0, "c", flag)) for flag in "TR")
+        self.world.step(first, now=1)
+        self.world.step(second, now=1)
+        self.assertEqual([Step("rename", "ok", True)], self.steps(first))
+        replies = [("rename", "notfound"), ("list cur", "ok"), ("rename", "ok")]
+        self.assertEqual(replies, [(step.call, step.reply) for step in self.steps(second)])
+        self.assertEqual(Answer(Outcome.FLAGS, flags="FRST"), self.world.answer(second))
+
+    def test_a_job_that_loses_its_only_try(self) -> None:
+        job = self.world.submit(Flag(0, "c", "R", tries=1))
+        self.world.step(job, now=1)
+        self.world.flag(0, "c", "T")
+        self.world.step(job, now=1)
+        with self.assertRaises(errors.Lost):
+            self.world.answer(job)
+
+    def test_a_delivery_of_over_24_hours(self) -> None:
+        job = self.world.submit(Deliver(1, "d", MESSAGE))
+        self.world.step(job, now=0)
+        while True:
+            try:
+                self.world.answer(job)
+            except errors.TimedOut:
+                break
+            self.world.step(job, now=DAY)
+        self.assertEqual([], self.world.list(1))
+
+    def test_a_delivery_whose_file_a_cleaner_took(self) -> None:
+        job = self.world.submit(Deliver(1, "d", MESSAGE))
+        self.world.step(job, now=0, own=0)
+        self.assertEqual(1, self.world.clean(1, now=2 * DAY))
+        with self.assertRaises(errors.TmpGone):
+            while self.world.answer(job) is None:
+                self.world.step(job, now=2 * DAY, own=1)
+
+    def steps(self, job: int) -> list[Step]:
+        """The steps of a job up to its answer."""
+        done = []
+        while self.world.answer(job) is None:
+            done.append(self.world.step(job, now=1000))
+        return done
 
     def test_call_answers_how_a_job_ended(self) -> None:
         calls = {
