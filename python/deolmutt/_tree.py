@@ -4,7 +4,7 @@ from __future__ import annotations
 
 import time
 from functools import lru_cache
-from typing import Iterable, Iterator, NamedTuple, Optional, Union
+from typing import Iterable, Iterator, NamedTuple, Optional
 
 from ._names import fresh_unique
 from .calls import Answer, Call, Deliver, Expunge, Flag, Place, Seen

@@ -195,7 +195,7 @@ class Maildir(mailbox.Mailbox):  # type: ignore[type-arg]
         self.set_flags(key, flags_in(info))
 
     def get_flags(self, key: str) -> str:
-        """The flags of a message, in order of their letters. Raises KeyError for no message."""
+        """The flags of a message, as its name spells them. Raises KeyError for no message."""
         with self._held():
             return self._lookup(key).flags
 

@@ -69,8 +69,14 @@ class InstallTest(unittest.TestCase):
         self.install()
         self.assert_works()
 
-    def install(self) -> None:
-        words = ["-m", "pip", "install", "-q", "--force-reinstall", "."]
+    def test_its_sources_are_packed_and_installed_from_there(self) -> None:
+        pack = "import backend, sys; print(backend.build_sdist(sys.argv[1]))"
+        packed = run([self.python, "-c", pack, str(self.folder)], self.work)
+        self.assertRegex(packed.stdout, r"\Adeolmutt-[\d.]+\.tar\.gz\n\Z", packed.stderr)
+        self.install(str(self.folder / packed.stdout.strip()))
+
+    def install(self, what: str = ".") -> None:
+        words = ["-m", "pip", "install", "-q", "--force-reinstall", what]
         ran = run([*without_network(), self.python, *words], self.work)
         self.assertEqual(0, ran.returncode, ran.stdout + ran.stderr)
 
