@@ -27,7 +27,7 @@ from ._tree import (
     store_name,
 )
 from .calls import Clean, Place
-from .errors import Closed
+from .errors import BodyTooLong, Closed
 from .lines import file_line
 from .world import World
 
@@ -35,6 +35,8 @@ from .world import World
 Addable = Union[EmailMessage, str, bytes, IO[bytes]]
 Factory = Callable[[IO[bytes]], Any]
 
+# What the store takes of a message that is delivered.
+_MOST_BYTES = 16_777_216
 _NEVER_IN_FOLDER = re.compile("[/\0]")
 
 
@@ -95,7 +97,7 @@ class Maildir(mailbox.Mailbox):  # type: ignore[type-arg]
     def add_all(self, messages: Iterable[Addable]) -> List[str]:
         """Adds messages, and answers their keys, faster than one by one.
 
-        All are looked at before the first is added.
+        All are looked at before the first is added, so that one that `add` refuses is raised first.
         """
         with self._held():
             checked = [(self._body(message), _wanted(message)) for message in messages]
@@ -104,8 +106,8 @@ class Maildir(mailbox.Mailbox):  # type: ignore[type-arg]
     def remove(self, key: str) -> None:
         """Removes a message. Raises KeyError where there is none.
 
-        It takes three steps: to cur, the flag T, and then the expunge, which alone removes it. A
-        failure between them leaves the message in cur, perhaps with the flag T, and never half.
+        It takes two steps: the message gets the flag T, and one of new goes to cur by that, and then
+        the expunge alone removes it. A failure between them leaves it whole in cur, with the flag T.
         """
         with self._held():
             self._lookup(key)
@@ -232,10 +234,10 @@ class Maildir(mailbox.Mailbox):  # type: ignore[type-arg]
         """
         _check_text(flag)
         with self._held():
-            wanted = list(keys)
-            missing = set(wanted).difference(self._contents())
-            if missing:
-                raise KeyError(f"No message with key: {min(missing)}")
+            wanted, contents = list(keys), self._contents()
+            for key in wanted:
+                if key not in contents:
+                    raise KeyError(f"No message with key: {key}")
             self._tree.add_flags_to_all(self._number(), wanted, flag)
 
     # Folders.
@@ -421,10 +423,14 @@ class Maildir(mailbox.Mailbox):  # type: ignore[type-arg]
     def _body(self, message: Addable) -> bytes:
         """The bytes of a message, as the base class writes them to a file."""
         if type(message) is bytes:
-            return message
-        out = io.BytesIO()
-        self._dump_message(message, out)
-        return out.getvalue()
+            body = message
+        else:
+            out = io.BytesIO()
+            self._dump_message(message, out)
+            body = out.getvalue()
+        if len(body) > _MOST_BYTES:
+            raise BodyTooLong()
+        return body
 
 
 class _Loading:

@@ -76,6 +76,8 @@ class BodyTest(Case):
                 box.add(body + b"x")
             with self.assertRaises(BodyTooLong):
                 box[key] = body + b"x"
+            with self.assertRaises(BodyTooLong):
+                box.add_all([b"", body + b"x"])
             self.assertEqual([key], box.keys())
             self.check_tree(box, body)
 
