@@ -357,6 +357,21 @@ class ThreadTest(unittest.TestCase):
             self.assertIsNone(in_thread(lambda: world.deliver(0, "a", MESSAGE)))
             self.assertEqual(MESSAGE, world.read("a"))
 
+    def test_each_thread_may_have_a_world(self) -> None:
+        found: list[int] = []
+
+        def work() -> None:
+            with World.with_folders("a") as world:
+                world.deliver_many(0, [(f"m{number}", bytes(number)) for number in range(2000)])
+                found.append(sum(len(world.read(entry.name)) for entry in world.list(0)))
+
+        threads = [threading.Thread(target=work) for _ in range(4)]
+        for thread in threads:
+            thread.start()
+        for thread in threads:
+            thread.join()
+        self.assertEqual([sum(range(2000))] * 4, found)
+
     def test_threads_that_meet_are_refused_and_break_nothing(self) -> None:
         with World.with_folders("a") as world:
             refused = [0] * 4
