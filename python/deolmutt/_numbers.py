@@ -131,8 +131,13 @@ class Asked(NamedTuple):
     number: int = 0
 
 
+def _bytes(body: Union[bytes, bytearray, memoryview]) -> bytes:
+    """The bytes of a body. A number, of which `bytes` would make so many, is none."""
+    return body if type(body) is bytes else bytes(memoryview(body))
+
+
 _ASKED: dict[type, Callable[..., Asked]] = {
-    Deliver: lambda c: Asked(1, c.folder, encoded(c.unique), 0, bytes(c.body), b"", c.piece),
+    Deliver: lambda c: Asked(1, c.folder, encoded(c.unique), 0, _bytes(c.body), b"", c.piece),
     Seen: lambda c: Asked(2, c.folder, encoded(c.unique), 0, encoded(c.flags), b"", c.tries),
     Flag: lambda c: Asked(
         3, c.folder, encoded(c.unique), 0, encoded(c.add), encoded(c.remove), c.tries

@@ -212,6 +212,14 @@ class CallTest(unittest.TestCase):
             with self.assertRaises(errors.NoJob):
                 self.world.answer(job)
 
+    def test_bodies_are_bytes(self) -> None:
+        self.world.deliver(1, "d", bytearray(b"abc"))
+        self.world.deliver(1, "e", memoryview(b"abcd")[::2])
+        self.assertEqual((b"abc", b"ac"), (self.world.read("d"), self.world.read("e")))
+        for wrong in (5, "text", None, [1]):
+            with self.assertRaises(TypeError):
+                self.world.deliver(1, "f", wrong)  # type: ignore[arg-type]
+
     def test_moments_and_folders_that_no_type_holds(self) -> None:
         for now in (-1, MOST_U64):
             with self.assertRaises(ValueError):
