@@ -1,0 +1,27 @@
+"""A Maildir store in memory that is proved to lose no mail to a race, for Python.
+
+`Maildir` is a mailbox with the methods of `mailbox.Maildir`. `World` is the store itself: its jobs
+deliver, flag, move, copy and expunge messages by the directory calls of maildir(5), which a program
+may let run step by step.
+"""
+
+from . import calls, errors, lines
+from ._disk import LeftOut
+from ._names import fresh_unique
+from .errors import DeolmuttError, Failed, Refused, WrongThread
+from .maildir import Maildir
+from .world import World
+
+__all__ = [
+    "DeolmuttError",
+    "Failed",
+    "LeftOut",
+    "Maildir",
+    "Refused",
+    "World",
+    "WrongThread",
+    "calls",
+    "errors",
+    "fresh_unique",
+    "lines",
+]

@@ -1,0 +1,113 @@
+"""The shared library: where it is, and how its functions are called (deolmutt.h)."""
+
+from __future__ import annotations
+
+import ctypes
+import ctypes.util
+import os
+from functools import lru_cache
+from pathlib import Path
+from typing import Iterator
+
+from .errors import LibraryMissing
+
+ABI = 1
+FILE_NAME = "libdeolmutt.so"
+_VARIABLE = "DEOLMUTT_LIBRARY"
+
+_HOW = (
+    "Build it with `tools/ffi-build` in a clone of the repository, which prints where it is. Then set"
+    f" {_VARIABLE} to that path, or put the file into the folder of the package: {Path(__file__).parent}"
+)
+
+
+class AnswerStruct(ctypes.Structure):
+    """`deolmutt_answer`."""
+
+    _fields_ = (("kind", ctypes.c_uint64), ("value", ctypes.c_uint64))
+
+
+class StepStruct(ctypes.Structure):
+    """`deolmutt_step_out`."""
+
+    _fields_ = (
+        ("call", ctypes.c_uint32),
+        ("reply", ctypes.c_uint32),
+        ("value", ctypes.c_uint64),
+        ("effect", ctypes.c_uint64),
+        ("answer", AnswerStruct),
+    )
+
+
+_U32 = ctypes.c_uint32
+_U64 = ctypes.c_uint64
+_SIZE = ctypes.c_size_t
+_WORLD = ctypes.c_void_p
+# Bytes that are read, which Python lends without a copy, and a buffer that is written.
+_BYTES = ctypes.c_char_p
+_OUT = ctypes.c_void_p
+_TO_U64 = ctypes.POINTER(_U64)
+_TO_SIZE = ctypes.POINTER(_SIZE)
+_TO_ANSWER = ctypes.POINTER(AnswerStruct)
+
+# What a call asks: kind, folder, unique, to, first, second, number.
+_CALL = (_U32, _U32, _BYTES, _SIZE, _U32, _BYTES, _SIZE, _BYTES, _SIZE, _U64)
+
+_FUNCTIONS = {
+    "deolmutt_load": (_BYTES, _SIZE, ctypes.POINTER(_WORLD), _TO_U64),
+    "deolmutt_free": (_WORLD,),
+    "deolmutt_submit": (_WORLD, *_CALL, _TO_U64),
+    "deolmutt_step": (_WORLD, _U64, _U64, _TO_U64, ctypes.POINTER(StepStruct)),
+    "deolmutt_call": (_WORLD, *_CALL, _U64, _TO_U64, _TO_U64, _TO_ANSWER),
+    "deolmutt_calls": (_WORLD, _BYTES, _SIZE, _U64, _OUT, _SIZE, _TO_SIZE),
+    "deolmutt_job_answer": (_WORLD, _U64, _TO_ANSWER),
+    "deolmutt_list": (_WORLD, _U32, _OUT, _SIZE, _TO_SIZE),
+    "deolmutt_read": (_WORLD, _BYTES, _SIZE, _OUT, _SIZE, _TO_SIZE),
+}
+
+# A library that was built without it has no settle.
+_MAYBE = {"deolmutt_settle": (_WORLD, _TO_U64)}
+
+
+@lru_cache(maxsize=None)
+def library() -> ctypes.CDLL:
+    """The library, loaded once. Refused as `LibraryMissing`, with what was tried and how to build it."""
+    tried = []
+    for path in _paths():
+        try:
+            found = ctypes.CDLL(path)
+        except OSError as error:
+            tried.append(f"{path}: {error}")
+            continue
+        return _declared(found, path)
+    raise LibraryMissing("\n".join([f"{FILE_NAME} was not found.", *tried, _HOW]))
+
+
+def _paths() -> Iterator[str]:
+    """Where the library may be. A path that the environment names is the only one."""
+    named = os.environ.get(_VARIABLE)
+    if named:
+        yield named
+        return
+    yield str(Path(__file__).parent / FILE_NAME)
+    yield ctypes.util.find_library("deolmutt") or FILE_NAME
+
+
+def _declared(found: ctypes.CDLL, path: str) -> ctypes.CDLL:
+    """The library with the types of its functions, if it is of this package's version."""
+    try:
+        found.deolmutt_abi.restype = _U32
+        version = found.deolmutt_abi()
+        for name, types in {**_FUNCTIONS, **_those_of(found)}.items():
+            function = getattr(found, name)
+            function.argtypes = types
+            function.restype = _U32
+    except AttributeError as error:
+        raise LibraryMissing(f"{path}: {error}\n{_HOW}") from error
+    if version != ABI:
+        raise LibraryMissing(f"{path} is of version {version}, and {ABI} is needed.\n{_HOW}")
+    return found
+
+
+def _those_of(found: ctypes.CDLL) -> dict[str, tuple[type, ...]]:
+    return {name: types for name, types in _MAYBE.items() if hasattr(found, name)}

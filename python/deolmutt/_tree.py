@@ -1,0 +1,292 @@
+"""One world as the folders of a mailbox tree, each with its messages by their keys."""
+
+from __future__ import annotations
+
+import time
+from functools import lru_cache
+from typing import Iterable, Iterator, NamedTuple, Optional
+
+from ._names import fresh_unique
+from .calls import Answer, Call, Deliver, Expunge, Flag, Place, Seen
+from .errors import BadFlag, Failed, NoSpareFolder, NotSettled, OtherInfo, TooManyJobs
+from .lines import file_line, folder_line
+from .world import World
+
+# The names of the folders on the way from the top of a tree to one of it.
+Steps = tuple[str, ...]
+TOP: Steps = ()
+MOST_FOLDERS = 64
+_FLAGS_FOLLOW = "2,"
+_TRASHED = "T"
+
+
+class Message(NamedTuple):
+    """Where the store has a message: its unique name, its directory and its info, if it has any."""
+
+    unique: str
+    place: Place
+    info: Optional[str]
+
+    @property
+    def flags(self) -> str:
+        """Its flags. Other info has none."""
+        if self.info is None or not self.info.startswith(_FLAGS_FOLLOW):
+            return ""
+        return self.info[len(_FLAGS_FOLLOW) :]
+
+    def check_info(self) -> None:
+        """Refuses a message with another program's mark, whose flags the store doesn't change."""
+        if self.info is not None:
+            flags_in(self.info)
+
+
+@lru_cache(maxsize=256)
+def flags_in(info: str) -> str:
+    """The flags that info says: none, or `2,` and letters. All else is refused as `OtherInfo`."""
+    flags = info[len(_FLAGS_FOLLOW) :]
+    if info and not (info.startswith(_FLAGS_FOLLOW) and is_flags(flags)):
+        raise OtherInfo(f"info is empty, or 2, and letters: {info!r}")
+    return flags
+
+
+def is_flags(flags: str) -> bool:
+    """Whether a text is letters alone, A to Z and a to z, or empty."""
+    return not flags or (flags.isascii() and flags.isalpha())
+
+
+def check_flags(flags: str) -> None:
+    """Refuses flags that are no letters."""
+    if not is_flags(flags):
+        raise BadFlag(f"flags are letters: {flags!r}")
+
+
+class Wanted(NamedTuple):
+    """What a message is to be in the store beside its bytes."""
+
+    place: Place
+    flags: str
+    date: float
+
+
+class Tree:
+    """A world, the names of its folders, and what it doesn't keep itself: keys and dates."""
+
+    def __init__(self, world: World, folders: dict[Steps, int], spare: list[int]) -> None:
+        self.world = world
+        self._folders = folders
+        self._spare = spare
+        # The key of a message, where it is not its unique name.
+        self._keys: dict[str, str] = {}
+        # When a message was delivered, in seconds since 1970.
+        self._dates: dict[str, float] = {}
+        self._contents: dict[int, dict[str, Message]] = {}
+        self._known_changes = world.changes
+
+    # Folders.
+
+    def folder(self, steps: Steps) -> Optional[int]:
+        """The number of a folder, or None where there is none of that name."""
+        return self._folders.get(steps)
+
+    def folders_in(self, steps: Steps) -> list[str]:
+        """The names of the folders right in a folder."""
+        return [found[-1] for found in self._folders if found and found[:-1] == steps]
+
+    def all_folders(self) -> dict[Steps, int]:
+        """All folders with their numbers, a folder before those in it."""
+        return dict(sorted(self._folders.items()))
+
+    def add_folder(self, steps: Steps) -> None:
+        """Gives a spare folder a name."""
+        if not self._spare:
+            raise NoSpareFolder(
+                f"a store's folders are fixed when it is loaded, and all {len(self._folders)} of this"
+                " one are in use: make it with more spare_folders (64 folders at most)"
+            )
+        self._folders[steps] = self._spare.pop()
+
+    def remove_folder(self, steps: Steps) -> None:
+        """Makes a folder a spare one again."""
+        self._spare.append(self._folders.pop(steps))
+
+    # Messages.
+
+    def contents(self, number: int) -> dict[str, Message]:
+        """The messages of a folder by their keys. They are listed anew after calls of others."""
+        if self.world.changes != self._known_changes:
+            self._contents.clear()
+            self._known_changes = self.world.changes
+        found = self._contents.get(number)
+        if found is None:
+            found = self._contents[number] = self._listed(number)
+        return found
+
+    def _keep_contents(self) -> None:
+        """Says that the contents are those after the calls so far. What ends on its way there, by an
+        exception, leaves them to be listed anew."""
+        self._known_changes = self.world.changes
+
+    def _listed(self, number: int) -> dict[str, Message]:
+        found: dict[str, Message] = {}
+        now = time.time()
+        for entry in self.world.list(number):
+            unique = entry.unique
+            self._dates.setdefault(unique, now)
+            key = self._keys.get(unique, unique)
+            found[unique if key in found else key] = Message(unique, entry.place, entry.info)
+        return found
+
+    def date(self, message: Message) -> float:
+        """When a message was delivered, in seconds since 1970, or first met, where others did that."""
+        return self._dates[message.unique]
+
+    def note(self, unique: str, key: str, date: float) -> None:
+        """Keeps the key and the date of a message."""
+        if key != unique:
+            self._keys[unique] = key
+        self._dates[unique] = date
+
+    def deliver(self, number: int, body: bytes, wanted: Wanted) -> str:
+        """Puts a message into a folder, and answers its key, which is its unique name.
+
+        It is delivered to new, and taken on to cur where it is wanted there.
+        """
+        contents = self.contents(number)
+        unique = fresh_unique()
+        self.call(Deliver(number, unique, body))
+        self._dates[unique] = wanted.date
+        message = Message(unique, Place.NEW, None)
+        if wanted.place is Place.CUR:
+            message = self._seen(number, message, wanted.flags)
+        contents[unique] = message
+        self._keep_contents()
+        return unique
+
+    def deliver_all(self, number: int, messages: list[tuple[bytes, Wanted]]) -> list[str]:
+        """The same for many messages, in some calls of the library."""
+        uniques = [fresh_unique() for _ in messages]
+        self._call_all(
+            Deliver(number, unique, body) for unique, (body, _) in zip(uniques, messages)
+        )
+        for unique, (_, wanted) in zip(uniques, messages):
+            self._dates[unique] = wanted.date
+        self._call_all(
+            Seen(number, unique, wanted.flags)
+            for unique, (_, wanted) in zip(uniques, messages)
+            if wanted.place is Place.CUR
+        )
+        return uniques
+
+    def remove(self, number: int, key: str) -> None:
+        """Removes a message: it goes to cur with the flag T, and then it is expunged."""
+        contents = self.contents(number)
+        message = contents[key]
+        if message.place is Place.NEW:
+            self._seen(number, message, _TRASHED)
+        elif _TRASHED not in message.flags:
+            self._flag(number, message, _TRASHED, "")
+        self.call(Expunge(number, message.unique))
+        self._keys.pop(message.unique, None)
+        self._dates.pop(message.unique, None)
+        del contents[key]
+        self._keep_contents()
+
+    def rename_key(self, number: int, key: str, other: str) -> None:
+        """Gives a message another key."""
+        contents = self.contents(number)
+        message = contents[other] = contents.pop(key)
+        self._keys[message.unique] = other
+
+    def change_flags(self, number: int, key: str, add: str, remove: str) -> None:
+        """Adds and removes flags of a message. One in new that is given any goes to cur."""
+        contents = self.contents(number)
+        message = contents[key]
+        message.check_info()
+        if message.place is Place.NEW and (add or message.flags):
+            message = self._seen(number, message, add)
+        flags = set(message.flags)
+        if not flags.issuperset(add) or not flags.isdisjoint(remove):
+            message = self._flag(number, message, add, remove)
+        contents[key] = message
+        self._keep_contents()
+
+    def add_flags_to_all(self, number: int, keys: Iterable[str], flags: str) -> None:
+        """Adds flags to many messages, in some calls of the library."""
+        contents = self.contents(number)
+        messages = [contents[key] for key in dict.fromkeys(keys)]
+        for message in messages:
+            message.check_info()
+        if flags:
+            self._call_all(
+                (Seen if message.place is Place.NEW else Flag)(number, message.unique, flags)
+                for message in messages
+            )
+
+    def _seen(self, number: int, message: Message, flags: str) -> Message:
+        answer = self.call(Seen(number, message.unique, flags))
+        return Message(message.unique, Place.CUR, _FLAGS_FOLLOW + answer.flags)
+
+    def _flag(self, number: int, message: Message, add: str, remove: str) -> Message:
+        answer = self.call(Flag(number, message.unique, add, remove))
+        return Message(message.unique, Place.CUR, _FLAGS_FOLLOW + answer.flags)
+
+    # Calls.
+
+    def call(self, call: Call) -> Answer:
+        """Makes a call. Where the world has had all its calls, it is settled first."""
+        try:
+            return self.world.call(call)
+        except TooManyJobs:
+            self._settle()
+            return self.world.call(call)
+
+    def _call_all(self, calls: Iterable[Call]) -> None:
+        """Makes many calls. What they changed is listed anew when it is asked for."""
+        left = list(calls)
+        while left:
+            try:
+                answers = self.world.call_many(left)
+                left = []
+            except TooManyJobs as error:
+                answers = error.done
+                left = left[len(answers) :]
+                self._settle()
+            for answer in answers:
+                if isinstance(answer, Failed):
+                    raise answer
+
+    def _settle(self) -> None:
+        """Gives the world as many calls again: where the library has no settle, its messages are
+        loaded anew."""
+        try:
+            self.world.settle()
+        except NotSettled:
+            numbers = range(len(self._folders) + len(self._spare))
+            files = (line for number in numbers for line in self._lines_of(number))
+            self.world.reload(b"".join([*map(_head, numbers), *files]))
+
+    def _lines_of(self, number: int) -> Iterator[bytes]:
+        for entry in self.world.list(number):
+            date, body = self._dates.get(entry.unique, 0.0), self.world.read(entry.unique)
+            yield file_line(store_name(number), entry.place.value, entry.name, int(date), body)
+
+
+def loaded_tree(folders: list[Steps], spare: int, files: Iterable[bytes]) -> Tree:
+    """A tree with these folders and the files that these lines say, in folders `f0`, `f1` and so on:
+    the top, those that are named, and the spare ones."""
+    named = [TOP, *folders]
+    count = len(named) + spare
+    if count > MOST_FOLDERS:
+        raise NoSpareFolder(f"a store has at most {MOST_FOLDERS} folders, not {count}")
+    world = World.load(b"".join([*map(_head, range(count)), *files]))
+    numbers = {steps: number for number, steps in enumerate(named)}
+    return Tree(world, numbers, list(range(count - 1, len(named) - 1, -1)))
+
+
+def _head(number: int) -> bytes:
+    return folder_line(store_name(number))
+
+
+def store_name(number: int) -> str:
+    """The name of a folder in the lines that the world is loaded with."""
+    return f"f{number}"

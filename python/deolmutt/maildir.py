@@ -1,0 +1,499 @@
+"""A mailbox in memory, with the methods of Python's `mailbox.Maildir`."""
+
+from __future__ import annotations
+
+import io
+import mailbox
+import os
+import re
+import time
+import warnings
+from email.message import Message as EmailMessage
+from types import TracebackType
+from typing import IO, Any, Callable, Iterable, Iterator, List, Optional, Union
+
+from . import _disk
+from ._names import fresh_unique, is_unique
+from ._tree import (
+    MOST_FOLDERS,
+    TOP,
+    Message,
+    Steps,
+    Tree,
+    Wanted,
+    check_flags,
+    flags_in,
+    loaded_tree,
+    store_name,
+)
+from .calls import Clean, Place
+from .errors import BodyTooLong, Closed
+from .lines import file_line
+from .world import World
+
+# What `add` takes: an email.message.Message, a text, bytes, or a file that is open for reading bytes.
+Addable = Union[EmailMessage, str, bytes, IO[bytes]]
+Factory = Callable[[IO[bytes]], Any]
+
+# What the store takes of a message that is delivered.
+_MOST_BYTES = 16_777_216
+_NEVER_IN_FOLDER = re.compile("[/\0]")
+
+
+class Maildir(mailbox.Mailbox):  # type: ignore[type-arg]
+    """A mailbox in memory, which begins empty and lives until it is closed.
+
+    It has the methods of `mailbox.Maildir`, and they do what that does, with these differences:
+
+    - A message that is given flags is in cur, as maildir(5) has it. One in new goes there.
+    - Info is empty or `2,` and letters. Other info, of a tree that was loaded, is kept: such a message
+      can be read and exported, and what would change its flags or remove it raises `OtherInfo`.
+    - The folders of a store are fixed when it is made. `add_folder` names a spare one.
+    - One thread at a time: a second one's call raises `WrongThread`, and has done nothing.
+    """
+
+    # What stands before info in the names of files that `load` reads and `export` writes.
+    colon = ":"
+
+    def __init__(
+        self,
+        factory: Optional[Factory] = None,
+        folders: Iterable[str] = (),
+        spare_folders: Optional[int] = None,
+    ) -> None:
+        """An empty mailbox with these folders, and so many spare ones for `add_folder`.
+
+        `factory` makes a message of a file that is open for reading bytes; without it messages are
+        `mailbox.MaildirMessage`. A store has at most 64 folders, this mailbox itself among them, and
+        as many as that leaves are spare where `spare_folders` is None.
+        """
+        named = [_step(TOP, folder) for folder in dict.fromkeys(folders)]
+        self._begin(loaded_tree(named, _spare(named, spare_folders), ()), TOP, factory)
+
+    def _begin(self, tree: Tree, steps: Steps, factory: Optional[Factory]) -> None:
+        # The base class would keep a path, which no memory has.
+        self._factory = factory
+        self._tree = tree
+        self._steps = steps
+        self._onetime_keys: Optional[Iterator[str]] = None
+
+    @property
+    def world(self) -> World:
+        """The store itself. Calls that are made of it are seen here too."""
+        return self._tree.world
+
+    # Messages in and out.
+
+    def add(self, message: Addable) -> str:
+        """Adds a message, and answers its key. A `MaildirMessage` keeps its flags and its date.
+
+        It is delivered to new. One that has flags or is of cur then goes there by a second step: a
+        failure between the two leaves it in new without its flags. Its info, other than `2,` and
+        letters, is refused as `OtherInfo`, and what is no message as TypeError or ValueError.
+        """
+        with self._held():
+            return self._tree.deliver(self._number(), self._body(message), _wanted(message))
+
+    def add_all(self, messages: Iterable[Addable]) -> List[str]:
+        """Adds messages, and answers their keys, faster than one by one.
+
+        All are looked at before the first is added, so that one that `add` refuses is raised first.
+        """
+        with self._held():
+            checked = [(self._body(message), _wanted(message)) for message in messages]
+            return self._tree.deliver_all(self._number(), checked)
+
+    def remove(self, key: str) -> None:
+        """Removes a message. Raises KeyError where there is none.
+
+        It takes two steps: the message gets the flag T, and one of new goes to cur by that, and then
+        the expunge alone removes it. A failure between them leaves it whole in cur, with the flag T.
+        """
+        with self._held():
+            self._lookup(key)
+            self._tree.remove(self._number(), key)
+
+    def __setitem__(self, key: str, message: Addable) -> None:
+        """Puts a message in place of another, under its key. Raises KeyError where there is none.
+
+        A `MaildirMessage` brings its own directory, flags and date; any other message gets those of
+        the one before, and this moment as its date. The new one is delivered first, and then the old
+        one is removed: a failure between the two leaves both, the new one under a key of its own.
+        """
+        with self._held():
+            number = self._number()
+            old = self._lookup(key)
+            old.check_info()
+            wanted = _wanted(message, old)
+            fresh = self._tree.deliver(number, self._body(message), wanted)
+            self._tree.remove(number, key)
+            self._tree.rename_key(number, fresh, key)
+
+    def get_message(self, key: str) -> Any:
+        """A message as `MaildirMessage`, or as the factory makes it. Raises KeyError for none."""
+        with self._held():
+            found = self._lookup(key)
+            body = io.BytesIO(self.world.read(found.unique))
+            message = self._factory(body) if self._factory else mailbox.MaildirMessage(body)
+            message.set_subdir(found.place.value)
+            if found.info is not None:
+                message.set_info(found.info)
+            message.set_date(self._tree.date(found))
+            return message
+
+    def get_bytes(self, key: str) -> bytes:
+        """The bytes of a message. Raises KeyError for none."""
+        with self._held():
+            return self.world.read(self._lookup(key).unique)
+
+    def get_file(self, key: str) -> IO[bytes]:
+        """The bytes of a message as a file. It is a copy: later changes are not seen in it."""
+        return io.BytesIO(self.get_bytes(key))
+
+    # Keys.
+
+    def keys(self) -> List[str]:
+        """The keys of the messages, as a list."""
+        with self._held():
+            return list(self._contents())
+
+    def iterkeys(self) -> Iterator[str]:
+        """The keys of the messages that are there now. Those removed meanwhile are passed over."""
+        keys = self.keys()
+        return (key for key in keys if key in self)
+
+    def __contains__(self, key: object) -> bool:
+        """Whether there is a message of this key."""
+        with self._held():
+            return key in self._contents()
+
+    def __len__(self) -> int:
+        """How many messages there are."""
+        with self._held():
+            return len(self._contents())
+
+    def next(self) -> Any:
+        """The next message of an iteration that a mailbox has once, or None after the last."""
+        if self._onetime_keys is None:
+            self._onetime_keys = self.iterkeys()
+        for key in self._onetime_keys:
+            return self[key]
+        return None
+
+    # Flags and info by key.
+
+    def get_info(self, key: str) -> str:
+        """What stands after the first colon of a message's name. Raises KeyError for no message."""
+        with self._held():
+            return self._lookup(key).info or ""
+
+    def set_info(self, key: str, info: str) -> None:
+        """Sets the flags that info says: it is empty, or `2,` and letters, else `OtherInfo`.
+
+        A message of cur keeps the info `2,` where it is to be empty.
+        """
+        if not isinstance(info, str):
+            raise TypeError(f"info must be a string: {type(info)}")
+        self.set_flags(key, flags_in(info))
+
+    def get_flags(self, key: str) -> str:
+        """The flags of a message, as its name spells them. Raises KeyError for no message."""
+        with self._held():
+            return self._lookup(key).flags
+
+    def set_flags(self, key: str, flags: str) -> None:
+        """Gives a message these flags and no others. One in new that is given any goes to cur.
+
+        Raises KeyError for no message, `BadFlag` for what is no letter, and `OtherInfo` where the
+        message has another program's mark.
+        """
+        _check_text(flags)
+        with self._held():
+            others = "".join(set(self._lookup(key).flags) - set(flags))
+            self._tree.change_flags(self._number(), key, flags, others)
+
+    def add_flag(self, key: str, flag: str) -> None:
+        """Adds a flag, or some, to a message's others. Else as `set_flags`."""
+        self._change_flags(key, flag, "")
+
+    def remove_flag(self, key: str, flag: str) -> None:
+        """Takes a flag, or some, away. Else as `set_flags`."""
+        self._change_flags(key, "", flag)
+
+    def _change_flags(self, key: str, add: str, remove: str) -> None:
+        _check_text(add)
+        _check_text(remove)
+        with self._held():
+            self._lookup(key)
+            self._tree.change_flags(self._number(), key, add, remove)
+
+    def add_flag_to_all(self, keys: Iterable[str], flag: str) -> None:
+        """Adds a flag, or some, to many messages, faster than one by one.
+
+        All keys are looked up before the first message is changed.
+        """
+        _check_text(flag)
+        with self._held():
+            wanted, contents = list(keys), self._contents()
+            for key in wanted:
+                if key not in contents:
+                    raise KeyError(f"No message with key: {key}")
+            self._tree.add_flags_to_all(self._number(), wanted, flag)
+
+    # Folders.
+
+    def list_folders(self) -> List[str]:
+        """The names of the folders in this one."""
+        with self._held():
+            self._number()
+            return self._tree.folders_in(self._steps)
+
+    def get_folder(self, folder: str) -> Maildir:
+        """A folder in this one. Raises `mailbox.NoSuchMailboxError` where there is none."""
+        with self._held():
+            steps = (*self._steps, folder)
+            if self._tree.folder(steps) is None:
+                raise mailbox.NoSuchMailboxError(folder)
+            return self._at(steps)
+
+    def add_folder(self, folder: str) -> Maildir:
+        """Makes a folder in this one where it isn't there, and answers it.
+
+        The folders of a store are fixed when it is made, so a spare one is given the name. Raises
+        `NoSpareFolder` where none is left, and ValueError for a name that no directory can have.
+        """
+        with self._held():
+            self._number()
+            steps = _step(self._steps, folder)
+            if self._tree.folder(steps) is None:
+                self._tree.add_folder(steps)
+            return self._at(steps)
+
+    def remove_folder(self, folder: str) -> None:
+        """Removes a folder in this one, which then is a spare one.
+
+        Raises `mailbox.NotEmptyError` where it has messages or folders, and FileNotFoundError where
+        there is none, as `mailbox.Maildir` does.
+        """
+        with self._held():
+            steps = (*self._steps, folder)
+            number = self._tree.folder(steps)
+            if number is None:
+                raise FileNotFoundError(f"No such folder: {folder}")
+            if self._tree.contents(number):
+                raise mailbox.NotEmptyError(f"Folder contains message(s): {folder}")
+            if self._tree.folders_in(steps):
+                raise mailbox.NotEmptyError(f"Folder contains folder(s): {folder}")
+            self._tree.remove_folder(steps)
+
+    def _at(self, steps: Steps) -> Maildir:
+        found = type(self).__new__(type(self))
+        found._begin(self._tree, steps, self._factory)
+        return found
+
+    # The mailbox as a whole.
+
+    def clean(self) -> None:
+        """Removes the files of tmp that were not used for 36 hours."""
+        with self._held():
+            self._tree.call(Clean(self._number()))
+
+    def flush(self) -> None:
+        """Does nothing: each change is there at once. No disk is written, but by `export`."""
+
+    def lock(self) -> None:
+        """Does nothing, as for `mailbox.Maildir`: a maildir needs no lock."""
+
+    def unlock(self) -> None:
+        """Does nothing: there is no lock."""
+
+    def close(self) -> None:
+        """Lets the store go with all messages in it, which were nowhere but in memory.
+
+        Of a folder in another it does nothing, since the store is that one's. What is called after it
+        raises `Closed`. Export the mailbox first, where its messages are to stay.
+        """
+        if self._steps == TOP:
+            self.world.close()
+
+    def __enter__(self) -> Maildir:
+        return self
+
+    def __exit__(
+        self,
+        kind: Optional[type[BaseException]],
+        error: Optional[BaseException],
+        trace: Optional[TracebackType],
+    ) -> None:
+        self.close()
+
+    # Real trees.
+
+    @classmethod
+    def load(
+        cls,
+        tree: Union[str, "os.PathLike[str]"],
+        factory: Optional[Factory] = None,
+        spare_folders: Optional[int] = None,
+    ) -> Maildir:
+        """A mailbox with the messages and folders of a tree, as `mailbox.Maildir` sees them.
+
+        Bytes, keys, flags, other info and dates are those of the tree, which is only read. Files in
+        tmp and names that begin with a dot are no messages. Where two messages of a folder have one
+        unique name, one gets a key of its own. What the store can't have, info with a space or a line
+        end, is left out with a warning of the class `LeftOut`. Raises `mailbox.NoSuchMailboxError`
+        where there is no tree, and `NoSpareFolder` for more than 64 folders.
+        """
+        path = os.fspath(tree)
+        if not os.path.isdir(path):
+            raise mailbox.NoSuchMailboxError(path)
+        steps = list(_disk.find_folders(path))
+        loading = _Loading(cls.colon)
+        for number, folder in enumerate([TOP, *steps]):
+            loading.take_folder(number, _disk.directory_of(path, folder))
+        loaded = loaded_tree(steps, _spare(steps, spare_folders), loading.lines)
+        for unique, (key, date) in loading.notes.items():
+            loaded.note(unique, key, date)
+        box = cls.__new__(cls)
+        box._begin(loaded, TOP, factory)
+        return box
+
+    def export(self, tree: Union[str, "os.PathLike[str]"]) -> None:
+        """Writes this mailbox and the folders in it into a tree on a disk, made where it isn't there.
+
+        Each message is a file of its key and its info, with its date, which is written to tmp,
+        flushed to the disk and linked to its place. Nothing is overwritten: where a folder of the
+        tree has a message of the same unique name, `mailbox.ExternalClashError` is raised before
+        anything is written. Where the disk refuses, with OSError, the files so far are there whole.
+        """
+        path = os.fspath(tree)
+        with self._held():
+            self._number()
+            size = len(self._steps)
+            folders = {
+                steps[size:]: number
+                for steps, number in self._tree.all_folders().items()
+                if steps[:size] == self._steps
+            }
+            for steps, number in folders.items():
+                self._check_clash(_disk.directory_of(path, steps), number)
+            for steps, number in folders.items():
+                self._export_folder(_disk.directory_of(path, steps), number, steps == TOP)
+
+    def _check_clash(self, directory: str, number: int) -> None:
+        clash = _disk.uniques_in(directory, self.colon) & set(self._tree.contents(number))
+        if clash:
+            there = os.path.join(directory, min(clash))
+            raise mailbox.ExternalClashError(f"Name clash with existing message: {there}")
+
+    def _export_folder(self, directory: str, number: int, is_top: bool) -> None:
+        _disk.make_folder(directory, is_top)
+        for key, message in self._tree.contents(number).items():
+            name = key if message.info is None else key + self.colon + message.info
+            body = self.world.read(message.unique)
+            date = self._tree.date(message)
+            _disk.write_file(os.path.join(directory, message.place.value, name), body, date)
+        _disk.flush_folder(directory)
+
+    # What the methods share.
+
+    def _held(self) -> Any:
+        """Keeps other threads out for the length of a method."""
+        return self.world.held
+
+    def _number(self) -> int:
+        """The number of this folder. Raises `mailbox.NoSuchMailboxError` where it was removed."""
+        number = self._tree.folder(self._steps)
+        if number is None:
+            raise mailbox.NoSuchMailboxError(self._steps[-1])
+        return number
+
+    def _contents(self) -> dict[str, Message]:
+        if self.world.is_closed:
+            raise Closed()
+        return self._tree.contents(self._number())
+
+    def _lookup(self, key: str) -> Message:
+        contents = self._contents()
+        try:
+            return contents[key]
+        except KeyError:
+            raise KeyError(f"No message with key: {key}") from None
+
+    def _body(self, message: Addable) -> bytes:
+        """The bytes of a message, as the base class writes them to a file."""
+        if type(message) is bytes:
+            body = message
+        else:
+            out = io.BytesIO()
+            self._dump_message(message, out)
+            body = out.getvalue()
+        if len(body) > _MOST_BYTES:
+            raise BodyTooLong()
+        return body
+
+
+class _Loading:
+    """Messages of a tree on a disk on their way into a store."""
+
+    def __init__(self, colon: str) -> None:
+        self._colon = colon
+        self.lines: List[bytes] = []
+        # The key and the date of each message, by its unique name in the store.
+        self.notes: dict[str, tuple[str, float]] = {}
+
+    def take_folder(self, number: int, directory: str) -> None:
+        """Takes the messages of a folder."""
+        keys: set[str] = set()
+        for file in _disk.read_files(directory, self._colon):
+            if _disk.is_sayable(file.info):
+                self._take(number, file, keys)
+            else:
+                left_out = f"{directory}: {file.unique}: left out: its info"
+                warnings.warn(left_out, _disk.LeftOut, stacklevel=3)
+
+    def _take(self, number: int, file: _disk.File, keys: set[str]) -> None:
+        unique = file.unique
+        if unique in self.notes or not is_unique(unique):
+            # The store has a name once in all its folders, and not every name.
+            unique = fresh_unique()
+        key = unique if file.unique in keys else file.unique
+        keys.add(key)
+        self.notes[unique] = key, file.date
+        name = unique if file.info is None else f"{unique}:{file.info}"
+        self.lines.append(
+            file_line(store_name(number), file.place.value, name, int(file.date), file.body)
+        )
+
+
+def _wanted(message: Addable, old: Optional[Message] = None) -> Wanted:
+    """What a message is to be: what it says itself, else what the one before it was."""
+    if isinstance(message, mailbox.MaildirMessage):
+        flags = flags_in(message.get_info())
+        is_new = message.get_subdir() == Place.NEW.value and not flags
+        return Wanted(Place.NEW if is_new else Place.CUR, flags, message.get_date())
+    if old is None:
+        return Wanted(Place.NEW, "", time.time())
+    is_new = old.place is Place.NEW and not old.flags
+    return Wanted(Place.NEW if is_new else Place.CUR, old.flags, time.time())
+
+
+def _check_text(flags: str) -> None:
+    if not isinstance(flags, str):
+        raise TypeError(f"flags must be a string: {type(flags)}")
+    check_flags(flags)
+
+
+def _step(steps: Steps, folder: str) -> Steps:
+    """The folder of a name in another one. Refused where no directory can have the name."""
+    if folder in ("", ".") or _NEVER_IN_FOLDER.search(folder):
+        raise ValueError(f"no directory can have the name of this folder: {folder!r}")
+    return (*steps, folder)
+
+
+def _spare(named: List[Steps], wanted: Optional[int]) -> int:
+    if wanted is None:
+        return max(MOST_FOLDERS - 1 - len(named), 0)
+    if wanted < 0:
+        raise ValueError(f"spare_folders is 0 or more: {wanted}")
+    return wanted

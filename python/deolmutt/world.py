@@ -1,0 +1,476 @@
+"""A world: a store's folders, their messages, and the jobs on them."""
+
+from __future__ import annotations
+
+import ctypes
+import struct
+import threading
+import time
+from types import TracebackType
+from typing import Callable, Iterable, Iterator, List, NamedTuple, NoReturn, Optional, Union
+
+from ._library import AnswerStruct, StepStruct, library
+from ._numbers import MOST_U32, MOST_U64, OK, ROOM, Asked, answer_of, asked, refusal, step_of
+from .calls import (
+    Answer,
+    Call,
+    Clean,
+    Copy,
+    Deliver,
+    Entry,
+    Expunge,
+    Flag,
+    Move,
+    Place,
+    Seen,
+    Step,
+)
+from .errors import (
+    BadLine,
+    Closed,
+    DeolmuttError,
+    Failed,
+    NoFolder,
+    NoJob,
+    NoMemory,
+    NotSettled,
+    Unanswered,
+    WrongThread,
+)
+from .lines import decoded, encoded, folder_line
+
+_RECORD = struct.Struct("=4I4Q")
+_ANSWER = struct.Struct("=QQ")
+_ENTRY = struct.Struct("=IIQ")
+_PLACES = {1: Place.NEW, 2: Place.CUR}
+# Where many calls are made at once, so many of them, or of bytes, go to the library together.
+_MOST_TOGETHER = 1024
+_MOST_BYTES_TOGETHER = 1 << 24
+_FIRST_ROOM = 1 << 16
+
+
+class _Hold:
+    """The right to a world, which is taken without waiting: the library is not for two threads at once."""
+
+    def __init__(self) -> None:
+        # A thread that has it may take it again.
+        self._lock = threading.RLock()
+
+    def __enter__(self) -> None:
+        if not self._lock.acquire(blocking=False):
+            raise WrongThread()
+
+    def __exit__(self, *_: object) -> None:
+        self._lock.release()
+
+
+class World:
+    """A store: folders, numbered from 0, and the messages in them, which lives until it is closed.
+
+    One world is for one thread at a time. A call from a second thread while the first is in one is
+    refused as `WrongThread`, and has done nothing. Worlds share nothing, so each thread may have one.
+
+    A unique name belongs to one message of the whole store, and is used for good. A world takes
+    10,000 calls; `settle` gives it as many again. Moments are seconds since 1970; `now` is this
+    moment where it is left out, and `own` the moment by the clock of a job's host.
+    """
+
+    def __init__(self, lines: bytes) -> None:
+        self._handle = ctypes.c_void_p()
+        self._hold = _Hold()
+        self._changes = 0
+        self._job = ctypes.c_uint64()
+        self._answer = AnswerStruct()
+        self._length = ctypes.c_size_t()
+        self._library = library()
+        self._handle = self._loaded(lines)
+
+    @classmethod
+    def load(cls, lines: bytes) -> World:
+        """A world over the folders and files of `folder` and `file` lines (deolmutt.lines).
+
+        Refused, each a `BadLine`, as a script's line is; or, with line 0, as `SamePath`, `BadName`,
+        `LongUnique` and `DuplicateUnique`, where the files together make no store.
+        """
+        return cls(bytes(lines))
+
+    @classmethod
+    def with_folders(cls, *names: str) -> World:
+        """A world of empty folders, numbered from 0 as they are named here."""
+        return cls(b"".join(folder_line(name) for name in names))
+
+    # One call to its answer.
+
+    def deliver(self, folder: int, unique: str, body: bytes, now: Optional[int] = None) -> None:
+        """Delivers a message to new of a folder, under a unique name that was never used.
+
+        Refused: `NoFolder`, `BadUnique`, `BodyTooLong` (16 MiB), `NameUsed`.
+        """
+        self.call(Deliver(folder, unique, body), now)
+
+    def seen(self, folder: int, unique: str, flags: str = "", now: Optional[int] = None) -> str:
+        """Takes a message from new to cur, its flags joined by these, and answers its flags.
+
+        Answered without success: `NotThere`, `OtherInfo`.
+        """
+        return self.call(Seen(folder, unique, flags), now).flags
+
+    def flag(
+        self, folder: int, unique: str, add: str = "", remove: str = "", now: Optional[int] = None
+    ) -> str:
+        """Adds and removes flags of a message in cur, and answers its flags.
+
+        Answered without success: `NotThere`, `OtherInfo`.
+        """
+        return self.call(Flag(folder, unique, add, remove), now).flags
+
+    def move(self, folder: int, unique: str, to: int, now: Optional[int] = None) -> None:
+        """Takes a message to another folder. Answered without success: `NotThere`."""
+        self.call(Move(folder, unique, to), now)
+
+    def copy(
+        self, folder: int, unique: str, to: int, fresh: str, now: Optional[int] = None
+    ) -> None:
+        """Gives a message a second name, in this folder or another, which was never used.
+
+        Refused: `NameUsed`. Answered without success: `NotThere`, `OtherInfo`.
+        """
+        self.call(Copy(folder, unique, to, fresh), now)
+
+    def expunge(self, folder: int, unique: str, now: Optional[int] = None) -> None:
+        """Removes a message of cur that has the flag T.
+
+        Answered without success: `NotThere`, `NotTrashed`.
+        """
+        self.call(Expunge(folder, unique), now)
+
+    def clean(self, folder: int, now: Optional[int] = None) -> int:
+        """Removes the files of tmp that were not used for 36 hours, and answers how many."""
+        return self.call(Clean(folder), now).removed
+
+    def call(self, call: Call, now: Optional[int] = None, own: Optional[int] = None) -> Answer:
+        """Submits a call, and takes its job's steps at one moment until it is answered.
+
+        Raises what the store refuses, and the answer where it is no success: `Failed`.
+        """
+        with self._hold:
+            self._changes += 1
+            self._job.value = 0
+            status = self._library.deolmutt_call(
+                self._open(), *_arguments(asked(call)), _moment(now), _pointer(own),
+                ctypes.byref(self._job), ctypes.byref(self._answer),
+            )  # fmt: skip
+            if status != OK:
+                raise _with_job(refusal(status), self._job.value)
+            answer = answer_of(self._answer.kind, self._answer.value)
+        if isinstance(answer, Failed):
+            raise answer
+        return answer
+
+    # Many calls.
+
+    def deliver_many(
+        self, folder: int, messages: Iterable[tuple[str, bytes]], now: Optional[int] = None
+    ) -> None:
+        """Delivers messages, each a unique name and its bytes, faster than one by one.
+
+        The first that is refused or fails is raised, as by `deliver`; those before it are delivered.
+        """
+        self._all(self.call_many([Deliver(folder, *message) for message in messages], now))
+
+    def flag_many(
+        self,
+        folder: int,
+        uniques: Iterable[str],
+        add: str = "",
+        remove: str = "",
+        now: Optional[int] = None,
+    ) -> List[str]:
+        """Adds and removes flags of messages in cur, and answers the flags of each.
+
+        The first that is refused is raised, with those before it changed. Where some answer without
+        success, the others are changed all the same, and the first such answer is raised.
+        """
+        calls = [Flag(folder, unique, add, remove) for unique in uniques]
+        return [answer.flags for answer in self._all(self.call_many(calls, now))]
+
+    def call_many(
+        self, calls: Iterable[Call], now: Optional[int] = None
+    ) -> List[Union[Answer, Failed]]:
+        """Makes calls one after the other, and answers how each ended: an answer that is no success is
+        given as its exception, and not raised.
+
+        The first refused is raised: its `done` has the answers of those before it.
+        """
+        answers: List[Union[Answer, Failed]] = []
+        moment = _moment(now)
+        with self._hold:
+            for records, count in _together(calls):
+                status = self._make(records, count, moment, answers)
+                if status != OK:
+                    error = refusal(status)
+                    error.done = answers
+                    raise error
+        return answers
+
+    def _make(
+        self, records: bytes, count: int, now: int, answers: List[Union[Answer, Failed]]
+    ) -> int:
+        given = bytearray(count * _ANSWER.size)
+        out = (ctypes.c_char * len(given)).from_buffer(given)
+        self._length.value = 0
+        self._changes += 1
+        status: int = self._library.deolmutt_calls(
+            self._open(), records, len(records), now, out, count, ctypes.byref(self._length)
+        )
+        whole = memoryview(given)[: self._length.value * _ANSWER.size]
+        answers.extend(answer_of(kind, value) for kind, value in _ANSWER.iter_unpack(whole))
+        return status
+
+    @staticmethod
+    def _all(answers: List[Union[Answer, Failed]]) -> List[Answer]:
+        for answer in answers:
+            if isinstance(answer, Failed):
+                raise answer
+        return [answer for answer in answers if isinstance(answer, Answer)]
+
+    # A job step by step.
+
+    def submit(self, call: Call) -> int:
+        """Submits a call, and gives the number of its job, from 1. No step is taken of it yet."""
+        with self._hold:
+            status = self._library.deolmutt_submit(
+                self._open(), *_arguments(asked(call)), ctypes.byref(self._job)
+            )
+            self._check(status)
+            return self._job.value
+
+    def step(self, job: int, now: Optional[int] = None, own: Optional[int] = None) -> Step:
+        """Takes one step of a job, one directory call, and says which it was.
+
+        `answer` says whether it was the last. Refused: `NoJob`, `Answered`.
+        """
+        step = StepStruct()
+        with self._hold:
+            self._changes += 1
+            status = self._library.deolmutt_step(
+                self._open(), _checked(job, NoJob), _moment(now), _pointer(own), ctypes.byref(step)
+            )
+            self._check(status)
+        return step_of(step.call, step.value, step.reply, step.effect)
+
+    def answer(self, job: int) -> Optional[Answer]:
+        """The answer of a job, or None where it has none yet.
+
+        An answer that is no success is raised: `Failed`. Refused: `NoJob`.
+        """
+        with self._hold:
+            status = self._library.deolmutt_job_answer(
+                self._open(), _checked(job, NoJob), ctypes.byref(self._answer)
+            )
+            self._check(status)
+            if self._answer.kind == 0:
+                return None
+            answer = answer_of(self._answer.kind, self._answer.value)
+        if isinstance(answer, Failed):
+            raise answer
+        return answer
+
+    # What is there.
+
+    def list(self, folder: int) -> List[Entry]:
+        """The messages of a folder, in order of the bytes of their unique names."""
+        given = self._given(
+            lambda out, room, length: self._library.deolmutt_list(
+                self._open(), _checked(folder, NoFolder, MOST_U32), out, room, length
+            )
+        )
+        return list(_entries(given))
+
+    def read(self, unique: str) -> bytes:
+        """The bytes of a message, in new or cur of any folder. Refused: `NotThere`."""
+        name = encoded(unique)
+        return self._given(
+            lambda out, room, length: self._library.deolmutt_read(
+                self._open(), name, len(name), out, room, length
+            )
+        )
+
+    def _given(self, call: Callable[..., int]) -> bytes:
+        """What a function gives into a buffer, which grows until it is large enough."""
+        length = ctypes.c_size_t()
+        room = _FIRST_ROOM
+        with self._hold:
+            while True:
+                out = ctypes.create_string_buffer(room)
+                status = call(out, room, ctypes.byref(length))
+                if status != ROOM:
+                    break
+                room = length.value
+            self._check(status)
+        return ctypes.string_at(out, length.value)
+
+    # Its life.
+
+    def settle(self) -> None:
+        """Begins anew over the same directories, with no job, so that 10,000 calls may come again.
+
+        A name that is gone may be used again then. It takes about as long as loading. Refused as
+        `Unanswered` where a job has no answer, and as `NotSettled` by a library without it.
+        """
+        if not hasattr(self._library, "deolmutt_settle"):
+            raise NotSettled()
+        with self._hold:
+            status = self._library.deolmutt_settle(self._open(), ctypes.byref(self._job))
+            if status != OK:
+                raise _with_job(refusal(status), self._job.value)
+
+    def reload(self, lines: bytes) -> None:
+        """Begins anew over these lines, as `load`, in place of all that it holds.
+
+        Where they are refused it keeps what it holds.
+        """
+        with self._hold:
+            self._changes += 1
+            handle, self._handle = self._open(), self._loaded(bytes(lines))
+            self._library.deolmutt_free(handle)
+
+    def close(self) -> None:
+        """Lets all that the world holds go. Any other call is refused as `Closed` from then on."""
+        with self._hold:
+            handle, self._handle = self._handle, ctypes.c_void_p()
+            if handle:
+                self._library.deolmutt_free(handle)
+
+    @property
+    def held(self) -> _Hold:
+        """A context in which no other thread may use the world: there it is refused as `WrongThread`."""
+        return self._hold
+
+    @property
+    def is_closed(self) -> bool:
+        """Whether the world was closed."""
+        return not self._handle
+
+    @property
+    def changes(self) -> int:
+        """A number that is another one after each call that may have changed a message, also one that
+        was refused."""
+        return self._changes
+
+    def __enter__(self) -> World:
+        return self
+
+    def __exit__(
+        self,
+        kind: Optional[type[BaseException]],
+        error: Optional[BaseException],
+        trace: Optional[TracebackType],
+    ) -> None:
+        self.close()
+
+    def __del__(self) -> None:
+        # A world that was not loaded has no handle.
+        if getattr(self, "_handle", None):
+            self.close()
+
+    def __reduce__(self) -> NoReturn:
+        raise TypeError("a world can't be copied or pickled: it is memory of the library")
+
+    def _loaded(self, lines: bytes) -> ctypes.c_void_p:
+        handle, line = ctypes.c_void_p(), ctypes.c_uint64()
+        status = self._library.deolmutt_load(
+            lines, len(lines), ctypes.byref(handle), ctypes.byref(line)
+        )
+        if status != OK:
+            raise _at_line(refusal(status), line.value)
+        return handle
+
+    def _open(self) -> ctypes.c_void_p:
+        if not self._handle:
+            raise Closed()
+        return self._handle
+
+    @staticmethod
+    def _check(status: int) -> None:
+        if status != OK:
+            raise refusal(status)
+
+
+def _at_line(error: DeolmuttError, line: int) -> DeolmuttError:
+    if isinstance(error, BadLine):
+        error.line = line
+        error.args = (f"line {line}: {error}" if line else str(error),)
+    return error
+
+
+def _with_job(error: DeolmuttError, job: int) -> DeolmuttError:
+    if isinstance(error, (NoMemory, Unanswered)):
+        error.job = job
+    return error
+
+
+def _moment(now: Optional[int]) -> int:
+    moment = int(time.time()) if now is None else now
+    if not 0 <= moment < MOST_U64:
+        raise ValueError(f"a moment is 0 to 2**64 - 1 seconds since 1970: {moment}")
+    return moment
+
+
+def _pointer(own: Optional[int]) -> Optional[ctypes.c_uint64]:
+    return None if own is None else ctypes.c_uint64(_moment(own))
+
+
+def _checked(number: int, refused: type[DeolmuttError], most: int = MOST_U64) -> int:
+    """A number that the library's type holds. Another one would be taken for one that it holds."""
+    if not 0 <= number < most:
+        raise refused()
+    return number
+
+
+class _Arguments(NamedTuple):
+    """What a call asks, as the library takes it."""
+
+    kind: int
+    folder: int
+    unique: bytes
+    unique_length: int
+    to: int
+    first: bytes
+    first_length: int
+    second: bytes
+    second_length: int
+    number: int
+
+
+def _arguments(a: Asked) -> _Arguments:
+    return _Arguments(
+        a.kind, a.folder, a.unique, len(a.unique), a.to, a.first, len(a.first), a.second,
+        len(a.second), a.number,
+    )  # fmt: skip
+
+
+def _together(calls: Iterable[Call]) -> Iterator[tuple[bytes, int]]:
+    """Calls as records, some together, and how many they are."""
+    parts: list[bytes] = []
+    count = size = 0
+    for call in calls:
+        a = asked(call)
+        lengths = len(a.unique), len(a.first), len(a.second)
+        parts += (_RECORD.pack(a.kind, a.folder, a.to, 0, *lengths, a.number), a.unique, a.first, a.second)
+        count += 1
+        size += lengths[1]
+        if count == _MOST_TOGETHER or size >= _MOST_BYTES_TOGETHER:
+            yield b"".join(parts), count
+            parts, count, size = [], 0, 0
+    if parts:
+        yield b"".join(parts), count
+
+
+def _entries(given: bytes) -> Iterator[Entry]:
+    at, end = 0, len(given)
+    while at < end:
+        place, length, size = _ENTRY.unpack_from(given, at)
+        first = at + _ENTRY.size
+        at = first + length
+        yield Entry(_PLACES[place], decoded(given[first:at]), size)

@@ -1,0 +1,67 @@
+"""What the tests share: the package on the path, and whether the library is there."""
+
+from __future__ import annotations
+
+import mailbox
+import os
+import pathlib
+import sys
+import tempfile
+import unittest
+from typing import Any, Callable
+
+PYTHON = pathlib.Path(__file__).resolve().parent.parent
+TOP = PYTHON.parent
+sys.path.insert(0, str(PYTHON))
+# Where `tools/ffi-build` leaves the library.
+BUILT = TOP / "crates/md_ffi/out/deolmutt/libdeolmutt.so"
+if BUILT.is_file():
+    os.environ.setdefault("DEOLMUTT_LIBRARY", str(BUILT))
+
+from deolmutt._library import library  # noqa: E402
+from deolmutt.errors import LibraryMissing  # noqa: E402
+
+
+def why_not() -> str:
+    """Why the library can't be used, or nothing."""
+    try:
+        library()
+    except LibraryMissing as error:
+        return str(error)
+    return ""
+
+
+WHY_NOT = why_not()
+needs_library = unittest.skipIf(WHY_NOT, f"the library isn't built: {WHY_NOT}")
+
+MESSAGE = b"Subject: one\nFrom: a@example.org\n\nHello.\n"
+
+
+def maildir_message(
+    flags: str = "", subdir: str = "new", date: float = 1_000_000_000.0, body: bytes = MESSAGE
+) -> mailbox.MaildirMessage:
+    """A message with all that a maildir says of it."""
+    message = mailbox.MaildirMessage(body)
+    message.set_subdir(subdir)
+    if flags:
+        message.set_flags(flags)
+    message.set_date(date)
+    return message
+
+
+class Case(unittest.TestCase):
+    """A test with a folder of its own."""
+
+    def setUp(self) -> None:
+        folder = tempfile.TemporaryDirectory()
+        self.addCleanup(folder.cleanup)
+        self.folder = pathlib.Path(folder.name)
+
+
+def outcome(function: Callable[..., Any], *given: Any) -> Any:
+    """What a function answers, or the kind of exception that it raises, as users catch it."""
+    kinds = (mailbox.NoSuchMailboxError, mailbox.NotEmptyError, KeyError, TypeError, ValueError)
+    try:
+        return function(*given)
+    except kinds as error:
+        return next(kind for kind in kinds if isinstance(error, kind))
