@@ -1,4 +1,4 @@
-"""The sessions of docs/PYTHON.md print what the page says."""
+"""The sessions of docs/PYTHON.md and of the README print what the pages say."""
 
 from __future__ import annotations
 
@@ -7,16 +7,19 @@ import unittest
 
 from support import TOP, Case, needs_library
 
-PAGE = TOP / "docs/PYTHON.md"
+# A page, and how many lines of it are run at least.
+PAGES = ((TOP / "docs/PYTHON.md", 16), (TOP / "README.md", 5))
 
 
 @needs_library
 class PageTest(Case):
     def test_sessions(self) -> None:
-        names = {"tree": str(self.folder / "tree")}
-        ran = doctest.testfile(str(PAGE), module_relative=False, globs=names, encoding="utf-8")
-        self.assertGreater(ran.attempted, 15)
-        self.assertEqual(0, ran.failed)
+        for page, least in PAGES:
+            with self.subTest(page=page.name):
+                names = {"tree": str(self.folder / "tree")}
+                ran = doctest.testfile(str(page), module_relative=False, globs=names, encoding="utf-8")
+                self.assertGreaterEqual(ran.attempted, least)
+                self.assertEqual(0, ran.failed)
 
 
 if __name__ == "__main__":
