@@ -1,0 +1,194 @@
+//! Jobs: calls that are submitted, their steps and their answers.
+ghost use Rattle.std.specs.Prelude.{◌≡◌, ◌≢◌, None, Some, Ok, is_some, true};
+ghost use Rattle.md_core.specs.Asked.{is_fault};
+ghost use Rattle.md_core.specs.Machine.{job_at, occurrence};
+ghost use Rattle.md_core.specs.Runs.{and_event, answer_of, jobs_of, step_refusal};
+ghost use Rattle.md_ffi.specs.Asking.{own_at};
+ghost use Rattle.md_ffi.specs.Doing.{GivesIn, OnHeld, submitted};
+
+
+use crate::asked::{Asked, Brought, Own, call_of};
+use crate::handle::Handle;
+use crate::refusal::{NO_MEMORY, Refusal};
+use crate::shown::{AnswerShown, StepShown};
+use md_core::{Answer, CoreError, JobId, World};
+use md_dirs::IndexDirs;
+use md_script::PlayKind;
+use std::alloc::Global;
+
+// The refusal of the store.
+fn refused(error: CoreError) -> Refusal {
+    Refusal::Kind(PlayKind::from(error))
+}
+
+// Submits a call.
+#[tactic(auto, unfolding(crate::specs::Doing::submitted))]
+fn submit(
+    alloc: Global,
+    world: &mut World<IndexDirs>,
+    asked: &Asked,
+    brought: Brought<'_>,
+) -> Result<JobId, Refusal>
+    ensures { GivesIn (submitted world.old asked.now brought.unique.now brought.first.now brought.second.now) world.old world.new result }
+{
+    let call = call_of(alloc, asked, brought)?;
+    match world.submit(call) {
+        Ok(job) => Ok(job),
+        Err(refused) => Err(Refusal::Kind(PlayKind::from(refused.error))),
+    }
+}
+
+/// Submits a call, and sets `job` to the number of its job. Refused `Closed`; then as `call_of` is; then as a world refuses a call. After
+/// a refusal the world is as it was, and so is `job`.
+#[unsafe(no_mangle)]
+pub extern "C" fn md_ffi_submit(
+    alloc: Global,
+    handle: &mut Handle,
+    asked: &Asked,
+    unique: &[u8],
+    first: &[u8],
+    second: &[u8],
+    job: &mut u64,
+) -> u32
+{
+    let Some(mut held) = handle.take(alloc) else {
+        return Refusal::Closed.number();
+    };
+    let brought = Brought {
+        unique,
+        first,
+        second,
+    };
+    let submitted = submit(alloc, &mut held.world, asked, brought);
+    handle.hold(held);
+    match submitted {
+        Ok(number) => {
+            *job = number;
+            0
+        }
+        Err(refusal) => refusal.number(),
+    }
+}
+
+/// Takes one step of a job, at a moment in seconds, and shows it. Refused `Closed`, and as a world refuses a step: `NoJob`, `Answered` and
+/// out of memory, with the world as it was.
+#[unsafe(no_mangle)]
+pub extern "C" fn md_ffi_step(
+    alloc: Global,
+    handle: &mut Handle,
+    job: u64,
+    now: u64,
+    own: &Own,
+    step: &mut StepShown,
+) -> u32
+{
+    let Some(mut held) = handle.take(alloc) else {
+        return Refusal::Closed.number();
+    };
+    let taken = held.world.step(job, now, own.moment());
+    handle.hold(held);
+    match taken {
+        Ok(shown) => {
+            *step = StepShown::of(shown);
+            0
+        }
+        Err(error) => refused(error).number(),
+    }
+}
+
+// Takes steps of a job at one moment until it is answered.
+fn finish(
+    world: &mut World<IndexDirs>,
+    job: JobId,
+    now: u64,
+    own: Option<u64>,
+) -> Result<Answer, Refusal> {
+    for _ in 0..u64::MAX {
+        if let Some(answer) = world.answer(job) {
+            return Ok(answer);
+        }
+        match world.step(job, now, own) {
+            Ok(_) => {}
+            Err(error) => return Err(refused(error)),
+        }
+    }
+    // No job takes so many steps.
+    Err(NO_MEMORY)
+}
+
+/// Submits a call, and takes the steps of its job at one moment, in seconds, until it is answered; sets `job` to its number and `answer` to
+/// its answer.
+///
+/// Refused as `md_ffi_submit`, with the world as it was, `job` 0 and no answer; and out of memory amid the steps, with the job there and
+/// `job` its number.
+#[unsafe(no_mangle)]
+pub extern "C" fn md_ffi_call(
+    alloc: Global,
+    handle: &mut Handle,
+    asked: &Asked,
+    unique: &[u8],
+    first: &[u8],
+    second: &[u8],
+    now: u64,
+    own: &Own,
+    job: &mut u64,
+    answer: &mut AnswerShown,
+) -> u32
+{
+    *job = 0;
+    *answer = AnswerShown::of(None);
+    let Some(mut held) = handle.take(alloc) else {
+        return Refusal::Closed.number();
+    };
+    let brought = Brought {
+        unique,
+        first,
+        second,
+    };
+    let called = call(alloc, &mut held.world, asked, brought, now, own.moment(), job);
+    handle.hold(held);
+    match called {
+        Ok(given) => {
+            *answer = AnswerShown::of(Some(given));
+            0
+        }
+        Err(refusal) => refusal.number(),
+    }
+}
+
+/// Submits a call, sets `job` to its number, and takes the steps of its job until it is answered.
+pub(crate) fn call(
+    alloc: Global,
+    world: &mut World<IndexDirs>,
+    asked: &Asked,
+    brought: Brought<'_>,
+    now: u64,
+    own: Option<u64>,
+    job: &mut u64,
+) -> Result<Answer, Refusal> {
+    let number = submit(alloc, world, asked, brought)?;
+    *job = number;
+    finish(world, number, now, own)
+}
+
+/// The answer of a job, if it has one. Refused `Closed` and `NoJob`, with `answer` as it was.
+#[unsafe(no_mangle)]
+pub extern "C" fn md_ffi_answer(
+    alloc: Global,
+    handle: &mut Handle,
+    job: u64,
+    answer: &mut AnswerShown,
+) -> u32
+{
+    let Some(held) = handle.take(alloc) else {
+        return Refusal::Closed.number();
+    };
+    let is_there = 0 < job && job <= held.world.jobs();
+    let given = held.world.answer(job);
+    handle.hold(held);
+    if !is_there {
+        return refused(CoreError::NoJob).number();
+    }
+    *answer = AnswerShown::of(given);
+    0
+}
