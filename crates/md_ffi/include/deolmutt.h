@@ -57,7 +57,8 @@ enum deolmutt_refusal {
     DEOLMUTT_BAD_RECORD = 7,       /* records that end amid one */
     DEOLMUTT_NOT_THERE = 8,        /* no message of that unique name; no name at that position */
     DEOLMUTT_NO_MESSAGE_NAME = 9,  /* a name that begins with a dot or a colon, or is empty */
-    DEOLMUTT_UNANSWERED = 10,      /* a job has no answer yet */
+    DEOLMUTT_UNANSWERED = 10,      /* a job has no answer yet; no call gives it */
+    DEOLMUTT_CLOSED = 11,          /* a handle without a world; no call on a world of deolmutt_load gives it */
 
     /* of a world */
     DEOLMUTT_BAD_NAME = 20,          /* a file name that is empty, over 255 bytes, or with a slash, NUL, LF or CR */
@@ -201,8 +202,8 @@ uint32_t deolmutt_call(deolmutt_world *world, uint32_t kind, uint32_t folder, co
 /* The answer of a job, DEOLMUTT_NO_ANSWER where it has none yet. Refused: DEOLMUTT_NO_JOB. */
 uint32_t deolmutt_job_answer(deolmutt_world *world, uint64_t job, deolmutt_answer *answer);
 
-/* The messages of a folder, in order of unique name. Each is `u32 place, u32 length of the name, u64 bytes of the message` in the byte
-   order of the machine, and then the whole name of its file. Refused: DEOLMUTT_NO_FOLDER, NO_MEMORY, ROOM (*length is written). */
+/* The messages of a folder, in order of unique name. Each is `u32 place, u32 length of the name, u64 bytes of the message`, little-endian,
+   and then the whole name of its file. Refused: DEOLMUTT_NO_FOLDER, NO_MEMORY, ROOM (*length is written). */
 uint32_t deolmutt_list(deolmutt_world *world, uint32_t folder, uint8_t *out, size_t room, size_t *length);
 
 /* The bytes of a message, in new or cur of any folder. Refused: DEOLMUTT_NOT_THERE, ROOM (*length is written). */
@@ -212,7 +213,7 @@ uint32_t deolmutt_read(deolmutt_world *world, const uint8_t *unique, size_t uniq
    no such folder), ROOM (*length is written). */
 uint32_t deolmutt_names(deolmutt_world *world, uint32_t folder, uint32_t place, uint64_t at, uint8_t *out, size_t room, size_t *length);
 
-/* Many calls in one, each as by deolmutt_call, at one moment. `records` has for each call, in the byte order of the machine,
+/* Many calls in one, each as by deolmutt_call without an own moment, at one moment. `records` has for each call, little-endian,
    `u32 kind, u32 folder, u32 to, u32 0, u64 length of unique, u64 of first, u64 of second, u64 number`, 48 bytes, and then the bytes of
    unique, first and second. It stops at the first refused: the calls before it are done, *done says how many, and `answers` has an answer
    for each of these. Refused: as deolmutt_call; DEOLMUTT_BAD_RECORD where the records end amid one; DEOLMUTT_ROOM where answers, which

@@ -1,5 +1,5 @@
 -- What a call by a handle does to the world behind it.
-use Rattle.std.specs.Prelude.{◌≡◌, ◌⊎◌, ⊥, ℕ, List, length, ◌+◌, Option, Some, None, Result, Ok, Err, MatchResult}
+use Rattle.std.specs.Prelude.{◌≡◌, ◌⊎◌, ℕ, List, length, ◌+◌, Option, Some, None, Result, Ok, Err, MatchResult}
 use Rattle.md_core.specs.declared.error.CoreError.{CoreError}
 use Rattle.md_core.specs.Machine.{job_at}
 use Rattle.md_core.specs.Runs.{Run, and_call, answer_of, jobs_of}

@@ -68,8 +68,8 @@ pub(crate) fn call_of(
     brought: Brought<'_>,
 ) -> Result<Call, Refusal>
     ensures { MatchResult result
-        (λ call. call_at asked.now brought.unique.now brought.first.now brought.second.now ≡ Ok call)
-        (λ e. (e ≡ Kind NoMemory) ⊎ (call_at asked.now brought.unique.now brought.first.now brought.second.now ≡ Err e)) }
+        (λ call. call_at asked.now brought.entry.unique.now brought.entry.first.now brought.entry.second.now ≡ Ok call)
+        (λ e. (e ≡ Kind NoMemory) ⊎ (call_at asked.now brought.entry.unique.now brought.entry.first.now brought.entry.second.now ≡ Err e)) }
 {
     let (folder, number) = (asked.folder, asked.number);
     match asked.kind {

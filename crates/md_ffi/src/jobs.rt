@@ -29,7 +29,7 @@ fn submit(
     asked: &Asked,
     brought: Brought<'_>,
 ) -> Result<JobId, Refusal>
-    ensures { GivesIn (submitted world.old asked.now brought.unique.now brought.first.now brought.second.now) world.old world.new result }
+    ensures { GivesIn (submitted world.old asked.now brought.entry.unique.now brought.entry.first.now brought.entry.second.now) world.old world.new result }
 {
     let call = call_of(alloc, asked, brought)?;
     match world.submit(call) {

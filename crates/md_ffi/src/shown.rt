@@ -1,5 +1,5 @@
 //! What C sees of answers and steps.
-ghost use Rattle.std.specs.Prelude.{◌≡◌, ◌<◌, ◌^◌};
+ghost use Rattle.std.specs.Prelude.{◌≡◌, Some};
 ghost use Rattle.md_ffi.specs.Shown.{answer_number};
 
 use md_core::{Answer, DirCall, DirReply, StepOut};
@@ -65,24 +65,44 @@ impl AnswerShown {
     pub(crate) fn of(answer: Option<Answer>) -> AnswerShown
         ensures { result.kind ≡ answer_number answer }
     {
-        let (kind, value) = match answer {
-            None => (0, 0),
-            Some(Answer::Delivered) => (1, 0),
-            Some(Answer::Flags(flags)) => (2, flag_bits(flags)),
-            Some(Answer::Moved) => (3, 0),
-            Some(Answer::Expunged) => (4, 0),
-            Some(Answer::Copied) => (5, 0),
-            Some(Answer::Cleaned(count)) => (6, count),
-            Some(Answer::NotThere) => (7, 0),
-            Some(Answer::NotTrashed) => (8, 0),
-            Some(Answer::OtherInfo) => (9, 0),
-            Some(Answer::Lost) => (10, 0),
-            Some(Answer::TimedOut) => (11, 0),
-            Some(Answer::TmpGone) => (12, 0),
-            Some(Answer::NameTaken) => (13, 0),
-            Some(Answer::Fault) => (14, 0),
-        };
-        AnswerShown { kind, value }
+        match answer {
+            None => plain(0),
+            Some(answer) => given(answer),
+        }
+    }
+}
+
+// An answer that has no more to say than its number.
+fn plain(kind: u64) -> AnswerShown
+    ensures { (result.kind ≡ kind) × (result.value ≡ 0) }
+{
+    AnswerShown { kind, value: 0 }
+}
+
+fn given(answer: Answer) -> AnswerShown
+    ensures { result.kind ≡ answer_number (Some answer) }
+{
+    match answer {
+        Answer::Delivered => plain(1),
+        Answer::Flags(flags) => AnswerShown {
+            kind: 2,
+            value: flag_bits(flags),
+        },
+        Answer::Moved => plain(3),
+        Answer::Expunged => plain(4),
+        Answer::Copied => plain(5),
+        Answer::Cleaned(count) => AnswerShown {
+            kind: 6,
+            value: count,
+        },
+        Answer::NotThere => plain(7),
+        Answer::NotTrashed => plain(8),
+        Answer::OtherInfo => plain(9),
+        Answer::Lost => plain(10),
+        Answer::TimedOut => plain(11),
+        Answer::TmpGone => plain(12),
+        Answer::NameTaken => plain(13),
+        Answer::Fault => plain(14),
     }
 }
 

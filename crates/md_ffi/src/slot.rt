@@ -1,6 +1,9 @@
 //! The pointer of a handle, and what it owns behind it.
 ghost use Rattle.std.specs.Prelude.{◌≡◌, Option, Some, None, is_some, IsTrue};
+ghost use Rattle.std.specs.Coded.{codes};
 ghost use Rattle.std.specs.contracts.impls.GlobalAllocator.TheImpl.{ghosts};
+ghost use Rattle.md_dirs.specs.State.{state_code};
+ghost use Rattle.md_name.specs.contracts.flags.Flags as flags;
 ghost use Rattle.md_ffi.specs.declared.held.Held.{Held as HeldValue};
 ghost use Rattle.md_ffi.specs.contracts.held.Held.{the_row};
 ghost use Rattle.md_ffi.specs.Slots.{slot_owns};
@@ -19,7 +22,7 @@ use std::ptr::null_mut;
 pub struct Slot {
     at: *mut u8,
     alloc: Global,
-    pub ghost held: { Option HeldValue },
+    pub ghost held: { Option HeldValue } by { Prim.hlevel (codes, state_code, flags.the_row.coded) },
 }
 
 impl Model for Slot {

@@ -1,0 +1,141 @@
+//! What a world shows: the messages of a folder, the bytes of one, and names.
+ghost use Rattle.std.specs.Prelude.{◌≡◌};
+
+use crate::handle::Handle;
+use crate::held::Held;
+use crate::refusal::{NO_MEMORY, Refusal, status};
+use crate::room::lay;
+use crate::shown::{place_number, place_of};
+use md_core::{CoreError, World};
+use md_dirs::IndexDirs;
+use md_script::PlayKind;
+use md_view::{EntryRef, ViewError, list_lent};
+use std::alloc::Global;
+
+// Appends a message of a listing: its place, the lengths of its name and of its bytes, and its name.
+fn push_entry(out: &mut Vec<u8>, entry: &EntryRef<'_>) -> Result<(), Refusal> {
+    // No name is so long.
+    let Ok(length) = u32::try_from(entry.name().len()) else {
+        return Err(NO_MEMORY);
+    };
+    out.extend_from_slice(&place_number(entry.place()).to_le_bytes())?;
+    out.extend_from_slice(&length.to_le_bytes())?;
+    out.extend_from_slice(&entry.size().to_le_bytes())?;
+    out.extend_from_slice(entry.name())?;
+    Ok(())
+}
+
+// The messages of a folder, as bytes.
+fn listing(alloc: Global, world: &World<IndexDirs>, folder: u32) -> Result<Vec<u8>, Refusal> {
+    let entries = match list_lent(alloc, world, folder) {
+        Ok(entries) => entries,
+        Err(ViewError::NoFolder) => {
+            return Err(Refusal::Kind(PlayKind::Core(CoreError::NoFolder)));
+        }
+        Err(ViewError::NoMemory) => return Err(NO_MEMORY),
+    };
+    let mut out = Vec::new(alloc);
+    for entry in &entries {
+        push_entry(&mut out, entry)?;
+    }
+    Ok(out)
+}
+
+fn list(
+    alloc: Global,
+    held: &Held,
+    folder: u32,
+    out: &mut [u8],
+    length: &mut usize,
+) -> Result<(), Refusal> {
+    let bytes = listing(alloc, &held.world, folder)?;
+    lay(&bytes, out, length)
+}
+
+fn read(held: &Held, unique: &[u8], out: &mut [u8], length: &mut usize) -> Result<(), Refusal> {
+    match held.world.read(unique) {
+        Some(bytes) => lay(bytes, out, length),
+        None => Err(Refusal::NotThere),
+    }
+}
+
+fn name(
+    held: &Held,
+    folder: u32,
+    place: u32,
+    at: u64,
+    out: &mut [u8],
+    length: &mut usize,
+) -> Result<(), Refusal> {
+    let Some(place) = place_of(place) else {
+        return Err(Refusal::NoPlace);
+    };
+    match held.world.names(folder, place, at as usize) {
+        Some(row) => lay(row.name, out, length),
+        None => Err(Refusal::NotThere),
+    }
+}
+
+/// Lays the messages of a folder into `out`, in order of unique name: of each its place and the length of its name, in 4 bytes each, the
+/// length of its bytes, in 8, all little-endian, and its name. `length` is set to the whole length.
+///
+/// Refused `Closed`, `NoFolder`, out of memory, with `length` as it was, and `Room`, with it set. The world stays as it is.
+#[unsafe(no_mangle)]
+pub extern "C" fn md_ffi_list(
+    alloc: Global,
+    handle: &mut Handle,
+    folder: u32,
+    out: &mut [u8],
+    length: &mut usize,
+) -> u32
+    ensures { handle.new.slot.held ≡ handle.old.slot.held }
+{
+    let Some(held) = handle.take(alloc) else {
+        return Refusal::Closed.number();
+    };
+    let listed = list(alloc, &held, folder, out, length);
+    handle.hold(held);
+    status(listed)
+}
+
+/// Lays the bytes of a message into `out`, and sets `length` to how many they are. Refused `Closed`, `NotThere`, with `length` as it was,
+/// and `Room`, with it set. The world stays as it is.
+#[unsafe(no_mangle)]
+pub extern "C" fn md_ffi_read(
+    alloc: Global,
+    handle: &mut Handle,
+    unique: &[u8],
+    out: &mut [u8],
+    length: &mut usize,
+) -> u32
+    ensures { handle.new.slot.held ≡ handle.old.slot.held }
+{
+    let Some(held) = handle.take(alloc) else {
+        return Refusal::Closed.number();
+    };
+    let read = read(&held, unique, out, length);
+    handle.hold(held);
+    status(read)
+}
+
+/// Lays the name at a position of a directory into `out`, from 0 in their order, and sets `length` to its length. Refused `Closed`,
+/// `NoPlace`, `NotThere`, with `length` as it was, and `Room`, with it set. The world stays as it is.
+#[unsafe(no_mangle)]
+pub extern "C" fn md_ffi_names(
+    alloc: Global,
+    handle: &mut Handle,
+    folder: u32,
+    place: u32,
+    at: u64,
+    out: &mut [u8],
+    length: &mut usize,
+) -> u32
+    ensures { handle.new.slot.held ≡ handle.old.slot.held }
+{
+    let Some(held) = handle.take(alloc) else {
+        return Refusal::Closed.number();
+    };
+    let named = name(&held, folder, place, at, out, length);
+    handle.hold(held);
+    status(named)
+}
