@@ -13,11 +13,11 @@ use Rattle.md_ffi.specs.declared.held.Held.{Held}
 use Rattle.md_ffi.specs.declared.refusal.Refusal.{Refusal}
 use Rattle.md_ffi.specs.declared.refusal.Refusal.TheVariants.{Kind, Closed}
 
--- a closed handle stays so and refuses; behind an open one the world goes from one run to another, and this holds of the two
-abbrev pub OnHeld : Option Held → Option Held → ℕ → (Run → Run → Type 0) → Type 0
-OnHeld None after status holds = (after ≡ None) × (status ≡ refusal_number Closed)
-OnHeld (Some before) None status holds = ⊥
-OnHeld (Some before) (Some after) status holds = holds before.world after.world
+-- a closed handle stays so and refuses, and this is kept; behind an open one the world goes from one run to another, and this holds of the two
+abbrev pub OnHeld : Option Held → Option Held → ℕ → Type 0 → (Run → Run → Type 0) → Type 0
+OnHeld None after status kept holds = (after ≡ None) × (status ≡ refusal_number Closed) × kept
+OnHeld (Some before) None status kept holds = ⊥
+OnHeld (Some before) (Some after) status kept holds = holds before.world after.world
 
 -- refused by the store, or done
 abbrev pub unless : {X : Type 0} → Option CoreError → X → Result X Refusal
@@ -33,3 +33,8 @@ submitted run asked unique first second =
 abbrev pub GivesIn : {X : Type 0} → Result (Run × X) Refusal → Run → Run → Result X Refusal → Type 0
 GivesIn said old new (Ok x) = said ≡ Ok (new, x)
 GivesIn said old new (Err e) = (new ≡ old) × ((e ≡ Kind NoMemory) ⊎ (said ≡ Err e))
+
+-- what a call by C came to: done, with this of what it gave; or refused with the world and this as they were
+abbrev pub Ends : {X : Type 0} → Result (Run × X) Refusal → Run → Run → ℕ → (X → Type 0) → Type 0 → Type 0
+Ends (Ok done) old new status gave kept = ((new ≡ done.0) × (status ≡ 0) × gave done.1) ⊎ ((new ≡ old) × (status ≡ 4) × kept)
+Ends (Err refusal) old new status gave kept = (new ≡ old) × ((status ≡ refusal_number refusal) ⊎ (status ≡ 4)) × kept

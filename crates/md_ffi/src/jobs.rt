@@ -4,7 +4,7 @@ ghost use Rattle.md_core.specs.Asked.{is_fault};
 ghost use Rattle.md_core.specs.Machine.{job_at, occurrence};
 ghost use Rattle.md_core.specs.Runs.{and_event, answer_of, jobs_of, step_refusal};
 ghost use Rattle.md_ffi.specs.Asking.{own_at};
-ghost use Rattle.md_ffi.specs.Doing.{GivesIn, OnHeld, submitted};
+ghost use Rattle.md_ffi.specs.Doing.{Ends, GivesIn, OnHeld, submitted};
 
 
 use crate::asked::{Asked, Brought, Own, call_of};
@@ -50,6 +50,9 @@ pub extern "C" fn md_ffi_submit(
     second: &[u8],
     job: &mut u64,
 ) -> u32
+    ensures { OnHeld handle.old.slot.held handle.new.slot.held result (job.new ≡ job.old)
+        (λ old new. Ends (submitted old asked.now unique.now first.now second.now) old new result (λ number. job.new ≡ number)
+        (job.new ≡ job.old)) }
 {
     let Some(mut held) = handle.take(alloc) else {
         return Refusal::Closed.number();

@@ -1,5 +1,11 @@
 //! What a world shows: the messages of a folder, the bytes of one, and names.
-ghost use Rattle.std.specs.Prelude.{◌≡◌};
+ghost use Rattle.std.specs.Prelude.{◌≡◌, ◌++◌, ◌⊎◌, Ok, Err, OnOk, MatchResult, IfErr};
+ghost use Rattle.md_script.specs.declared.error.PlayKind.TheVariants.{NoMemory};
+ghost use Rattle.md_ffi.specs.Doing.{OnHeld};
+ghost use Rattle.md_ffi.specs.Laying.{Gives};
+ghost use Rattle.md_ffi.specs.Numbers.{status_number};
+ghost use Rattle.md_ffi.specs.Reading.{entry_bytes, entries_bytes, listed, message_at};
+ghost use Rattle.md_ffi.specs.declared.refusal.Refusal.TheVariants.{Kind};
 
 use crate::handle::Handle;
 use crate::held::Held;
@@ -13,7 +19,10 @@ use md_view::{EntryRef, ViewError, list_lent};
 use std::alloc::Global;
 
 // Appends a message of a listing: its place, the lengths of its name and of its bytes, and its name.
-fn push_entry(out: &mut Vec<u8>, entry: &EntryRef<'_>) -> Result<(), Refusal> {
+fn push_entry(out: &mut Vec<u8>, entry: &EntryRef<'_>) -> Result<(), Refusal>
+    ensures ok { OnOk result (out.new.items ≡ out.old.items ++ entry_bytes entry.now) }
+    ensures err { IfErr result (λ e. e ≡ Kind NoMemory) }
+{
     // No name is so long.
     let Ok(length) = u32::try_from(entry.name().len()) else {
         return Err(NO_MEMORY);
@@ -26,7 +35,12 @@ fn push_entry(out: &mut Vec<u8>, entry: &EntryRef<'_>) -> Result<(), Refusal> {
 }
 
 // The messages of a folder, as bytes.
-fn listing(alloc: Global, world: &World<IndexDirs>, folder: u32) -> Result<Vec<u8>, Refusal> {
+#[tactic(auto, unfolding(crate::specs::Reading::listed))]
+fn listing(alloc: Global, world: &World<IndexDirs>, folder: u32) -> Result<Vec<u8>, Refusal>
+    ensures { MatchResult result
+        (λ bytes. listed world.now folder ≡ Ok bytes.items)
+        (λ e. (e ≡ Kind NoMemory) ⊎ (listed world.now folder ≡ Err e)) }
+{
     let entries = match list_lent(alloc, world, folder) {
         Ok(entries) => entries,
         Err(ViewError::NoFolder) => {
@@ -34,8 +48,14 @@ fn listing(alloc: Global, world: &World<IndexDirs>, folder: u32) -> Result<Vec<u
         }
         Err(ViewError::NoMemory) => return Err(NO_MEMORY),
     };
+    entries_of(alloc, &entries)
+}
+
+fn entries_of(alloc: Global, entries: &[EntryRef<'_>]) -> Result<Vec<u8>, Refusal>
+    ensures { MatchResult result (λ bytes. bytes.items ≡ entries_bytes entries.now) (λ e. e ≡ Kind NoMemory) }
+{
     let mut out = Vec::new(alloc);
-    for entry in &entries {
+    for entry in entries {
         push_entry(&mut out, entry)?;
     }
     Ok(out)
@@ -47,12 +67,17 @@ fn list(
     folder: u32,
     out: &mut [u8],
     length: &mut usize,
-) -> Result<(), Refusal> {
+) -> Result<(), Refusal>
+    ensures { Gives (listed held.now.world folder) out.old out.new length.old length.new (status_number result) }
+{
     let bytes = listing(alloc, &held.world, folder)?;
     lay(&bytes, out, length)
 }
 
-fn read(held: &Held, unique: &[u8], out: &mut [u8], length: &mut usize) -> Result<(), Refusal> {
+#[tactic(auto, unfolding(crate::specs::Reading::message_at))]
+fn read(held: &Held, unique: &[u8], out: &mut [u8], length: &mut usize) -> Result<(), Refusal>
+    ensures { Gives (message_at held.now.world unique.now) out.old out.new length.old length.new (status_number result) }
+{
     match held.world.read(unique) {
         Some(bytes) => lay(bytes, out, length),
         None => Err(Refusal::NotThere),
@@ -88,7 +113,9 @@ pub extern "C" fn md_ffi_list(
     out: &mut [u8],
     length: &mut usize,
 ) -> u32
-    ensures { handle.new.slot.held ≡ handle.old.slot.held }
+    ensures same { handle.new.slot.held ≡ handle.old.slot.held }
+    ensures listed { OnHeld handle.old.slot.held handle.new.slot.held result ((out.new ≡ out.old) × (length.new ≡ length.old))
+        (λ run _. Gives (listed run folder) out.old out.new length.old length.new result) }
 {
     let Some(held) = handle.take(alloc) else {
         return Refusal::Closed.number();
@@ -108,7 +135,9 @@ pub extern "C" fn md_ffi_read(
     out: &mut [u8],
     length: &mut usize,
 ) -> u32
-    ensures { handle.new.slot.held ≡ handle.old.slot.held }
+    ensures same { handle.new.slot.held ≡ handle.old.slot.held }
+    ensures read { OnHeld handle.old.slot.held handle.new.slot.held result ((out.new ≡ out.old) × (length.new ≡ length.old))
+        (λ run _. Gives (message_at run unique.now) out.old out.new length.old length.new result) }
 {
     let Some(held) = handle.take(alloc) else {
         return Refusal::Closed.number();

@@ -1,5 +1,6 @@
 //! What C sees of answers and steps.
 ghost use Rattle.std.specs.Prelude.{◌≡◌, Some};
+ghost use Rattle.md_ffi.specs.Reading.{place_number};
 ghost use Rattle.md_ffi.specs.Shown.{answer_number};
 
 use md_core::{Answer, DirCall, DirReply, StepOut};
@@ -31,7 +32,9 @@ pub struct StepShown {
 }
 
 /// The number of a place.
-pub(crate) fn place_number(place: Place) -> u32 {
+pub(crate) fn place_number(place: Place) -> u32
+    ensures { result ≡ place_number place }
+{
     match place {
         Place::Tmp => 0,
         Place::New => 1,
