@@ -3,6 +3,7 @@ pub mod Asking
 pub mod Doing
 pub mod Laying
 pub mod Loads
+pub mod Naming
 pub mod Numbers
 pub mod Reading
 pub mod Shown

@@ -21,9 +21,17 @@ place_number Tmp = 0
 place_number New = 1
 place_number Cur = 2
 
+-- a number in 4 bytes, little-endian
+unfoldable pub four_bytes : ℕ → List ℕ
+four_bytes n = to_le_bytes w32 n
+
+-- a number in 8 bytes, little-endian
+unfoldable pub eight_bytes : ℕ → List ℕ
+eight_bytes n = to_le_bytes w64 n
+
 -- a message of a listing: its place, the length of its name, its size, and its name
 abbrev pub entry_bytes : Entry → List ℕ
-entry_bytes e = to_le_bytes w32 (place_number e.place) ++ to_le_bytes w32 (length e.name) ++ to_le_bytes w64 e.size ++ e.name
+entry_bytes e = four_bytes (place_number e.place) ++ four_bytes (length e.name) ++ eight_bytes e.size ++ e.name
 
 -- the messages of a folder, one after another
 abbrev pub entries_bytes : List Entry → List ℕ

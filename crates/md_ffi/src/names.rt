@@ -1,4 +1,13 @@
 //! Names, header summaries and scripts, which need no world.
+ghost use Rattle.std.specs.Prelude.{Ok};
+ghost use Rattle.md_name.specs.Names.{split_of};
+ghost use Rattle.md_head.specs.Summaries.{summary_of};
+ghost use Rattle.md_script.specs.Sessions.{transcript};
+ghost use Rattle.md_script.specs.Texts.{summary_text};
+ghost use Rattle.md_ffi.specs.Laying.{Gives};
+ghost use Rattle.md_ffi.specs.Naming.{made, Plays, Splits};
+ghost use Rattle.md_ffi.specs.Numbers.{status_number};
+
 use crate::refusal::{NO_MEMORY, Refusal, status};
 use crate::room::lay;
 use crate::shown::flag_bits;
@@ -7,12 +16,16 @@ use md_name::{Info, UniqueParts, make_unique, split};
 use md_script::{PlayKind, push_summary, transcript};
 use std::alloc::Global;
 
+#[tactic(auto, unfolding(crate::specs::Naming::made))]
 fn unique(
     alloc: Global,
     parts: UniqueParts<'_>,
     out: &mut [u8],
     length: &mut usize,
-) -> Result<(), Refusal> {
+) -> Result<(), Refusal>
+    ensures { Gives (made parts.entry.sec parts.entry.micro parts.entry.pid parts.entry.count parts.entry.host.now)
+        out.old out.new length.old length.new (status_number result) }
+{
     match make_unique(alloc, parts) {
         Ok(name) => lay(&name, out, length),
         Err(error) => Err(Refusal::Kind(PlayKind::from(error))),
@@ -24,7 +37,9 @@ fn summarize(
     message: &[u8],
     out: &mut [u8],
     length: &mut usize,
-) -> Result<(), Refusal> {
+) -> Result<(), Refusal>
+    ensures { Gives (Ok (summary_text (summary_of message.now))) out.old out.new length.old length.new (status_number result) }
+{
     let Ok(summary) = summary(alloc, message) else {
         return Err(NO_MEMORY);
     };
@@ -39,16 +54,24 @@ fn play(
     out: &mut [u8],
     length: &mut usize,
     line: &mut u64,
-) -> Result<(), Refusal> {
-    let printed = transcript(alloc, script)?;
-    *line = match printed.refusal {
-        Some(refused) => refused.line,
+) -> u32
+    ensures { Plays (transcript script.now).text (transcript script.now).refusal out.old out.new length.new line.new result }
+{
+    *length = 0;
+    *line = 0;
+    let Ok(printed) = transcript(alloc, script) else {
+        return NO_MEMORY.number();
+    };
+    let number = match printed.refusal {
+        Some(refused) => {
+            *line = refused.line;
+            Refusal::Kind(refused.kind).number()
+        }
         None => 0,
     };
-    lay(&printed.text, out, length)?;
-    match printed.refusal {
-        Some(refused) => Err(Refusal::Kind(refused.kind)),
-        None => Ok(()),
+    match lay(&printed.text, out, length) {
+        Ok(()) => number,
+        Err(refusal) => refusal.number(),
     }
 }
 
@@ -65,6 +88,7 @@ pub extern "C" fn md_ffi_unique(
     out: &mut [u8],
     length: &mut usize,
 ) -> u32
+    ensures { Gives (made sec micro pid count host.now) out.old out.new length.old length.new result }
 {
     let parts = UniqueParts {
         sec,
@@ -85,6 +109,7 @@ pub extern "C" fn md_ffi_split(
     info: &mut u32,
     flags: &mut u64,
 ) -> u32
+    ensures { Splits (split_of name.now) unique_length.old unique_length.new info.old info.new result }
 {
     let Some((unique, said)) = split(name) else {
         return Refusal::NoMessageName.number();
@@ -106,7 +131,9 @@ pub extern "C" fn md_ffi_summary(
     message: &[u8],
     out: &mut [u8],
     length: &mut usize,
-) -> u32 {
+) -> u32
+    ensures { Gives (Ok (summary_text (summary_of message.now))) out.old out.new length.old length.new result }
+{
     status(summarize(alloc, message, out, length))
 }
 
@@ -119,8 +146,8 @@ pub extern "C" fn md_ffi_transcript(
     out: &mut [u8],
     length: &mut usize,
     line: &mut u64,
-) -> u32 {
-    *length = 0;
-    *line = 0;
-    status(play(alloc, script, out, length, line))
+) -> u32
+    ensures { Plays (transcript script.now).text (transcript script.now).refusal out.old out.new length.new line.new result }
+{
+    play(alloc, script, out, length, line)
 }

@@ -1,10 +1,10 @@
 //! What a world shows: the messages of a folder, the bytes of one, and names.
-ghost use Rattle.std.specs.Prelude.{◌≡◌, ◌++◌, ◌⊎◌, Ok, Err, OnOk, MatchResult, IfErr};
+ghost use Rattle.std.specs.Prelude.{◌≡◌, ◌++◌, ◌⊎◌, Ok, Err, OnOk, MatchResult};
 ghost use Rattle.md_script.specs.declared.error.PlayKind.TheVariants.{NoMemory};
 ghost use Rattle.md_ffi.specs.Doing.{OnHeld};
 ghost use Rattle.md_ffi.specs.Laying.{Gives};
 ghost use Rattle.md_ffi.specs.Numbers.{status_number};
-ghost use Rattle.md_ffi.specs.Reading.{entry_bytes, entries_bytes, listed, message_at};
+ghost use Rattle.md_ffi.specs.Reading.{four_bytes, eight_bytes, entry_bytes, entries_bytes, listed, message_at};
 ghost use Rattle.md_ffi.specs.declared.refusal.Refusal.TheVariants.{Kind};
 
 use crate::handle::Handle;
@@ -16,21 +16,43 @@ use md_core::{CoreError, World};
 use md_dirs::IndexDirs;
 use md_script::PlayKind;
 use md_view::{EntryRef, ViewError, list_lent};
-use std::alloc::Global;
+use std::alloc::{AllocError, Global};
+
+#[tactic(auto, unfolding(crate::specs::Reading::four_bytes))]
+fn push_four(out: &mut Vec<u8>, number: u32) -> Result<(), AllocError>
+    ensures { OnOk result (out.new.items ≡ out.old.items ++ four_bytes number) }
+{
+    out.extend_from_slice(&number.to_le_bytes())
+}
+
+#[tactic(auto, unfolding(crate::specs::Reading::eight_bytes))]
+fn push_eight(out: &mut Vec<u8>, number: u64) -> Result<(), AllocError>
+    ensures { OnOk result (out.new.items ≡ out.old.items ++ eight_bytes number) }
+{
+    out.extend_from_slice(&number.to_le_bytes())
+}
 
 // Appends a message of a listing: its place, the lengths of its name and of its bytes, and its name.
-fn push_entry(out: &mut Vec<u8>, entry: &EntryRef<'_>) -> Result<(), Refusal>
-    ensures ok { OnOk result (out.new.items ≡ out.old.items ++ entry_bytes entry.now) }
-    ensures err { IfErr result (λ e. e ≡ Kind NoMemory) }
+fn push_entry(out: &mut Vec<u8>, entry: &EntryRef<'_>) -> Result<(), AllocError>
+    ensures { OnOk result (out.new.items ≡ out.old.items ++ entry_bytes entry.now) }
 {
     // No name is so long.
     let Ok(length) = u32::try_from(entry.name().len()) else {
-        return Err(NO_MEMORY);
+        return Err(AllocError);
     };
-    out.extend_from_slice(&place_number(entry.place()).to_le_bytes())?;
-    out.extend_from_slice(&length.to_le_bytes())?;
-    out.extend_from_slice(&entry.size().to_le_bytes())?;
+    push_four(out, place_number(entry.place()))?;
+    push_four(out, length)?;
+    push_eight(out, entry.size())?;
     out.extend_from_slice(entry.name())?;
+    Ok(())
+}
+
+fn push_entries(out: &mut Vec<u8>, entries: &[EntryRef<'_>]) -> Result<(), AllocError>
+    ensures { OnOk result (out.new.items ≡ out.old.items ++ entries_bytes entries.now) }
+{
+    for entry in entries {
+        push_entry(out, entry)?;
+    }
     Ok(())
 }
 
@@ -48,16 +70,8 @@ fn listing(alloc: Global, world: &World<IndexDirs>, folder: u32) -> Result<Vec<u
         }
         Err(ViewError::NoMemory) => return Err(NO_MEMORY),
     };
-    entries_of(alloc, &entries)
-}
-
-fn entries_of(alloc: Global, entries: &[EntryRef<'_>]) -> Result<Vec<u8>, Refusal>
-    ensures { MatchResult result (λ bytes. bytes.items ≡ entries_bytes entries.now) (λ e. e ≡ Kind NoMemory) }
-{
     let mut out = Vec::new(alloc);
-    for entry in entries {
-        push_entry(&mut out, entry)?;
-    }
+    push_entries(&mut out, &entries)?;
     Ok(out)
 }
 
