@@ -62,11 +62,7 @@ fn flags(letters: &[u8]) -> Result<Flags, Refusal>
 
 /// The call that is asked. Refused `BadKind` and `BadFlag`, and out of memory.
 #[tactic(auto, unfolding(crate::specs::Asking::call_at))]
-pub(crate) fn call_of(
-    alloc: Global,
-    asked: &Asked,
-    brought: Brought<'_>,
-) -> Result<Call, Refusal>
+pub(crate) fn call_of(alloc: Global, asked: &Asked, brought: Brought<'_>) -> Result<Call, Refusal>
     ensures { MatchResult result
         (λ call. call_at asked.now brought.entry.unique.now brought.entry.first.now brought.entry.second.now ≡ Ok call)
         (λ e. (e ≡ Kind NoMemory) ⊎ (call_at asked.now brought.entry.unique.now brought.entry.first.now brought.entry.second.now ≡ Err e)) }

@@ -1,11 +1,10 @@
 //! Jobs: calls that are submitted, their steps and their answers.
-ghost use Rattle.std.specs.Prelude.{◌≡◌, ◌≢◌, None, Some, Ok, is_some, true};
-ghost use Rattle.md_core.specs.Asked.{is_fault};
+ghost use Rattle.std.specs.Prelude.{◌≡◌, Some, IfOk};
 ghost use Rattle.md_core.specs.Machine.{job_at, occurrence};
-ghost use Rattle.md_core.specs.Runs.{and_event, answer_of, jobs_of, step_refusal};
+ghost use Rattle.md_core.specs.Runs.{answer_of, jobs_of, step_refusal};
 ghost use Rattle.md_ffi.specs.Asking.{own_at};
-ghost use Rattle.md_ffi.specs.Doing.{Ends, GivesIn, OnHeld, submitted};
-
+ghost use Rattle.md_ffi.specs.Numbers.{core_number, refusal_number};
+ghost use Rattle.md_ffi.specs.Doing.{is_job, submitted, Answers, Calls, Ends, GivesIn, OnHeld, Steps};
 
 use crate::asked::{Asked, Brought, Own, call_of};
 use crate::handle::Handle;
@@ -17,7 +16,9 @@ use md_script::PlayKind;
 use std::alloc::Global;
 
 // The refusal of the store.
-fn refused(error: CoreError) -> Refusal {
+fn refused(error: CoreError) -> Refusal
+    ensures { refusal_number result ≡ core_number error }
+{
     Refusal::Kind(PlayKind::from(error))
 }
 
@@ -75,6 +76,7 @@ pub extern "C" fn md_ffi_submit(
 
 /// Takes one step of a job, at a moment in seconds, and shows it. Refused `Closed`, and as a world refuses a step: `NoJob`, `Answered` and
 /// out of memory, with the world as it was.
+#[tactic(auto, using(crate::proofs::Refused::step_number))]
 #[unsafe(no_mangle)]
 pub extern "C" fn md_ffi_step(
     alloc: Global,
@@ -84,6 +86,8 @@ pub extern "C" fn md_ffi_step(
     own: &Own,
     step: &mut StepShown,
 ) -> u32
+    ensures { OnHeld handle.old.slot.held handle.new.slot.held result (step.new ≡ step.old)
+        (λ old new. Steps old new (occurrence job now (own_at own.now)) (step_refusal (job_at (jobs_of old) job)) step.old step.new result) }
 {
     let Some(mut held) = handle.take(alloc) else {
         return Refusal::Closed.number();
@@ -105,7 +109,9 @@ fn finish(
     job: JobId,
     now: u64,
     own: Option<u64>,
-) -> Result<Answer, Refusal> {
+) -> Result<Answer, Refusal>
+    ensures { IfOk result (λ answer. answer_of (job_at (jobs_of world.new) job) ≡ Some answer) }
+{
     for _ in 0..u64::MAX {
         if let Some(answer) = world.answer(job) {
             return Ok(answer);
@@ -137,9 +143,11 @@ pub extern "C" fn md_ffi_call(
     job: &mut u64,
     answer: &mut AnswerShown,
 ) -> u32
+    ensures { OnHeld handle.old.slot.held handle.new.slot.held result (answer.new.kind ≡ 0)
+        (λ _ new. Calls new job.new answer.new result) }
 {
     *job = 0;
-    *answer = AnswerShown::of(None);
+    *answer = AnswerShown::none();
     let Some(mut held) = handle.take(alloc) else {
         return Refusal::Closed.number();
     };
@@ -148,7 +156,15 @@ pub extern "C" fn md_ffi_call(
         first,
         second,
     };
-    let called = call(alloc, &mut held.world, asked, brought, now, own.moment(), job);
+    let called = call(
+        alloc,
+        &mut held.world,
+        asked,
+        brought,
+        now,
+        own.moment(),
+        job,
+    );
     handle.hold(held);
     match called {
         Ok(given) => {
@@ -168,7 +184,9 @@ pub(crate) fn call(
     now: u64,
     own: Option<u64>,
     job: &mut u64,
-) -> Result<Answer, Refusal> {
+) -> Result<Answer, Refusal>
+    ensures { IfOk result (λ answer. answer_of (job_at (jobs_of world.new) job.new) ≡ Some answer) }
+{
     let number = submit(alloc, world, asked, brought)?;
     *job = number;
     finish(world, number, now, own)
@@ -182,6 +200,9 @@ pub extern "C" fn md_ffi_answer(
     job: u64,
     answer: &mut AnswerShown,
 ) -> u32
+    ensures same { handle.new.slot.held ≡ handle.old.slot.held }
+    ensures answer { OnHeld handle.old.slot.held handle.new.slot.held result (answer.new ≡ answer.old)
+        (λ run _. Answers (is_job run job) (answer_of (job_at (jobs_of run) job)) answer.old answer.new result) }
 {
     let Some(held) = handle.take(alloc) else {
         return Refusal::Closed.number();

@@ -5,6 +5,7 @@ ghost use Rattle.md_script.specs.Kinds.{at_no_line};
 ghost use Rattle.md_script.specs.Sessions.{run_over};
 ghost use Rattle.md_script.specs.Words.{Gives};
 ghost use Rattle.md_script.specs.declared.error.PlayKind.TheVariants.{NoMemory};
+ghost use Rattle.md_ffi.specs.Doing.{free_number};
 ghost use Rattle.md_ffi.specs.Loads.{loaded, GivesWorld};
 
 use crate::handle::Handle;
@@ -65,7 +66,12 @@ fn held_of(alloc: Global, lines: &[u8]) -> Result<Box<Held>, PlayError>
 ///
 /// A refused line is named by its number, from 1; what no line is to blame for has the line 0. The handle is closed then.
 #[unsafe(no_mangle)]
-pub extern "C" fn md_ffi_load(alloc: Global, lines: &[u8], handle: &mut Handle, line: &mut u64) -> u32
+pub extern "C" fn md_ffi_load(
+    alloc: Global,
+    lines: &[u8],
+    handle: &mut Handle,
+    line: &mut u64,
+) -> u32
     ensures { GivesWorld lines.now handle.new.slot.held result line.new }
 {
     let _old = handle.take(alloc);
@@ -86,7 +92,7 @@ pub extern "C" fn md_ffi_load(alloc: Global, lines: &[u8], handle: &mut Handle, 
 #[unsafe(no_mangle)]
 pub extern "C" fn md_ffi_free(alloc: Global, handle: &mut Handle) -> u32
     ensures closed { handle.new.slot.held ≡ None }
-    ensures status { (handle.old.slot.held ≡ None) × (result ≡ 11) ⊎ (result ≡ 0) }
+    ensures status { result ≡ free_number handle.old.slot.held }
 {
     match handle.take(alloc) {
         Some(_held) => 0,

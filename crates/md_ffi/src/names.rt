@@ -48,13 +48,7 @@ fn summarize(
     lay(&text, out, length)
 }
 
-fn play(
-    alloc: Global,
-    script: &[u8],
-    out: &mut [u8],
-    length: &mut usize,
-    line: &mut u64,
-) -> u32
+fn play(alloc: Global, script: &[u8], out: &mut [u8], length: &mut usize, line: &mut u64) -> u32
     ensures { Plays (transcript script.now).text (transcript script.now).refusal out.old out.new length.new line.new result }
 {
     *length = 0;

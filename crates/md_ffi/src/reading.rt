@@ -4,7 +4,7 @@ ghost use Rattle.md_script.specs.declared.error.PlayKind.TheVariants.{NoMemory};
 ghost use Rattle.md_ffi.specs.Doing.{OnHeld};
 ghost use Rattle.md_ffi.specs.Laying.{Gives};
 ghost use Rattle.md_ffi.specs.Numbers.{status_number};
-ghost use Rattle.md_ffi.specs.Reading.{four_bytes, eight_bytes, entry_bytes, entries_bytes, listed, message_at};
+ghost use Rattle.md_ffi.specs.Reading.{four_bytes, eight_bytes, entry_bytes, entries_bytes, listed, message_at, name_at};
 ghost use Rattle.md_ffi.specs.declared.refusal.Refusal.TheVariants.{Kind};
 
 use crate::handle::Handle;
@@ -98,6 +98,7 @@ fn read(held: &Held, unique: &[u8], out: &mut [u8], length: &mut usize) -> Resul
     }
 }
 
+#[tactic(auto, unfolding(crate::specs::Reading::name_at))]
 fn name(
     held: &Held,
     folder: u32,
@@ -105,7 +106,9 @@ fn name(
     at: u64,
     out: &mut [u8],
     length: &mut usize,
-) -> Result<(), Refusal> {
+) -> Result<(), Refusal>
+    ensures { Gives (name_at held.now.world folder place at) out.old out.new length.old length.new (status_number result) }
+{
     let Some(place) = place_of(place) else {
         return Err(Refusal::NoPlace);
     };
@@ -173,7 +176,9 @@ pub extern "C" fn md_ffi_names(
     out: &mut [u8],
     length: &mut usize,
 ) -> u32
-    ensures { handle.new.slot.held ≡ handle.old.slot.held }
+    ensures same { handle.new.slot.held ≡ handle.old.slot.held }
+    ensures name { OnHeld handle.old.slot.held handle.new.slot.held result ((out.new ≡ out.old) × (length.new ≡ length.old))
+        (λ run _. Gives (name_at run folder place at) out.old out.new length.old length.new result) }
 {
     let Some(held) = handle.take(alloc) else {
         return Refusal::Closed.number();

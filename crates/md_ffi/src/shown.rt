@@ -1,7 +1,8 @@
 //! What C sees of answers and steps.
-ghost use Rattle.std.specs.Prelude.{◌≡◌, Some};
-ghost use Rattle.md_ffi.specs.Reading.{place_number};
-ghost use Rattle.md_ffi.specs.Shown.{answer_number};
+ghost use Rattle.std.specs.Prelude.{◌≡◌, ◌==◌, Some};
+ghost use Rattle.md_core.specs.Asked.{is_fault};
+ghost use Rattle.md_ffi.specs.Reading.{place_at, place_number};
+ghost use Rattle.md_ffi.specs.Shown.{answer_number, call_number, call_value, reply_number, IsShown};
 
 use md_core::{Answer, DirCall, DirReply, StepOut};
 use md_dirs::Place;
@@ -43,7 +44,9 @@ pub(crate) fn place_number(place: Place) -> u32
 }
 
 /// The place of a number, if it is one's.
-pub(crate) fn place_of(number: u32) -> Option<Place> {
+pub(crate) fn place_of(number: u32) -> Option<Place>
+    ensures { result ≡ place_at number }
+{
     match number {
         0 => Some(Place::Tmp),
         1 => Some(Place::New),
@@ -64,12 +67,19 @@ pub(crate) fn flag_bits(flags: Flags) -> u64 {
 }
 
 impl AnswerShown {
+    /// No answer yet.
+    pub(crate) fn none() -> AnswerShown
+        ensures { (result.kind ≡ 0) × (result.value ≡ 0) }
+    {
+        plain(0)
+    }
+
     /// What is shown of an answer, or that there is none yet.
     pub(crate) fn of(answer: Option<Answer>) -> AnswerShown
         ensures { result.kind ≡ answer_number answer }
     {
         match answer {
-            None => plain(0),
+            None => AnswerShown::none(),
             Some(answer) => given(answer),
         }
     }
@@ -109,7 +119,9 @@ fn given(answer: Answer) -> AnswerShown
     }
 }
 
-fn call_shown(call: DirCall) -> (u32, u64) {
+fn call_shown(call: DirCall) -> (u32, u64)
+    ensures { (result.0 ≡ call_number call) × (result.1 ≡ call_value call) }
+{
     match call {
         DirCall::Create => (1, 0),
         DirCall::Append(count) => (2, count),
@@ -120,7 +132,10 @@ fn call_shown(call: DirCall) -> (u32, u64) {
     }
 }
 
-fn reply_shown(reply: DirReply) -> u32 {
+fn reply_shown(reply: DirReply) -> u32
+    ensures number { result ≡ reply_number reply }
+    ensures fault { (result == 4) ≡ is_fault reply }
+{
     match reply {
         DirReply::Ok => 1,
         DirReply::Exists => 2,
@@ -131,7 +146,10 @@ fn reply_shown(reply: DirReply) -> u32 {
 
 impl StepShown {
     /// What is shown of a step.
-    pub(crate) fn of(step: StepOut) -> StepShown {
+    pub(crate) fn of(step: StepOut) -> StepShown
+        ensures shown { IsShown step result }
+        ensures fault { (result.reply == 4) ≡ is_fault step.reply }
+    {
         let (call, value) = call_shown(step.call);
         StepShown {
             call,
