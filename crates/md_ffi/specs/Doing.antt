@@ -64,7 +64,7 @@ refused_step None = 4
 refused_step (Some error) = core_number error
 
 -- A step was taken, of this event, and is shown; or it was refused, with the world and what was shown before as they were.
-abbrev pub Steps : Run → Run → (Bool → Occurrence) → Option CoreError → StepShown → StepShown → ℕ → Type 0
+unfoldable pub Steps : Run → Run → (Bool → Occurrence) → Option CoreError → StepShown → StepShown → ℕ → Type 0
 Steps old new event refusal before after status =
     ((status ≡ 0) × (refusal ≡ None) × (new ≡ and_event old (event (after.reply == 4))))
     ⊎ ((status ≡ refused_step refusal) × (new ≡ old) × (after ≡ before))

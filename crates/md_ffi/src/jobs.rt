@@ -74,9 +74,28 @@ pub extern "C" fn md_ffi_submit(
     }
 }
 
+// Takes one step of a job, and shows it.
+#[tactic(auto, using(crate::proofs::Refused::step_number), unfolding(crate::specs::Doing::Steps))]
+fn take_step(
+    world: &mut World<IndexDirs>,
+    job: JobId,
+    now: u64,
+    own: &Own,
+    step: &mut StepShown,
+) -> u32
+    ensures { Steps world.old world.new (occurrence job now (own_at own.now)) (step_refusal (job_at (jobs_of world.old) job)) step.old step.new result }
+{
+    match world.step(job, now, own.moment()) {
+        Ok(shown) => {
+            *step = StepShown::of(shown);
+            0
+        }
+        Err(error) => refused(error).number(),
+    }
+}
+
 /// Takes one step of a job, at a moment in seconds, and shows it. Refused `Closed`, and as a world refuses a step: `NoJob`, `Answered` and
 /// out of memory, with the world as it was.
-#[tactic(auto, using(crate::proofs::Refused::step_number))]
 #[unsafe(no_mangle)]
 pub extern "C" fn md_ffi_step(
     alloc: Global,
@@ -92,15 +111,9 @@ pub extern "C" fn md_ffi_step(
     let Some(mut held) = handle.take(alloc) else {
         return Refusal::Closed.number();
     };
-    let taken = held.world.step(job, now, own.moment());
+    let status = take_step(&mut held.world, job, now, own, step);
     handle.hold(held);
-    match taken {
-        Ok(shown) => {
-            *step = StepShown::of(shown);
-            0
-        }
-        Err(error) => refused(error).number(),
-    }
+    status
 }
 
 // Takes steps of a job at one moment until it is answered.
