@@ -1,5 +1,5 @@
 -- What a caller's buffer is given.
-use Rattle.std.specs.Prelude.{◌≡◌, ◌⊎◌, ◌≤◌, ◌<◌, ◌++◌, ℕ, List, Option, Some, None, Result, Ok, Err, length, drop}
+use Rattle.std.specs.Prelude.{◌≡◌, ◌⊎◌, ◌≤◌, ◌<◌, ◌++◌, ℕ, List, Result, Ok, Err, length, drop}
 use Rattle.md_ffi.specs.Numbers.{refusal_number}
 use Rattle.md_ffi.specs.declared.refusal.Refusal.{Refusal}
 

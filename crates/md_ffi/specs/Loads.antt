@@ -7,7 +7,6 @@ use Rattle.md_script.specs.declared.error.PlayKind.TheVariants.{NoMemory}
 use Rattle.md_script.specs.Kinds.{at_no_line}
 use Rattle.md_script.specs.Sessions.{run_over}
 use Rattle.md_script.specs.Setups.{Setting, setting_of}
-use Rattle.md_script.specs.Transcript.{Transcript}
 use Rattle.md_ffi.specs.Numbers.{kind_number}
 use Rattle.md_ffi.specs.declared.held.Held.{Held}
 

@@ -1,5 +1,4 @@
 -- What a slot owns.
-use Rattle.std.specs.Prelude.{◌≡◌}
 use mir.Syntax.{Ty}
 use base.Fml.{Fml, ftrue}
 use denote.RattleType.{RattleType}

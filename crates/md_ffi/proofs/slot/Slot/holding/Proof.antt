@@ -14,18 +14,16 @@ use denote.Exit.{yes}
 use denote.RattleType.{RattleType, owns}
 use denote.Signature.{types_at, plain}
 use denote.RawPtr.{block_ptr}
-use denote.Steps.{nothing, heard}
+use denote.Steps.{nothing}
 use denote.Triple.Entry.{alive}
 use denote.Triple.Walked.{Stays, stay_dropped, walk_of}
 use Rattle.core.proofs.alloc.Calls.{Goes-blank}
-use Rattle.std.specs.declared.option.Option.{Option}
-use Rattle.std.specs.declared.option.Option.TheVariants.{None, Some}
-use Rattle.std.specs.contracts.alloc.Global as heap
+use Rattle.std.specs.declared.option.Option.TheVariants.{Some}
 use Rattle.std.proofs.alloc.Global.TheLaws as heap_laws
 use Rattle.std.specs.contracts.impls.GlobalAllocator.TheImpl.{ghosts}
 use Rattle.std.proofs.raw_atomic.Walks.{proved_at, leaves}
-use Rattle.md_ffi.proofs.Values.{both, Loose, loose_good, loose_in, loose_out}
-use Rattle.md_ffi.proofs.Slots.{R, Z, Slot, slot_in, slot_out}
+use Rattle.md_ffi.proofs.Values.{both, Loose, loose_good, loose_out}
+use Rattle.md_ffi.proofs.Slots.{R, Z, slot_in}
 use Rattle.md_ffi.specs.contracts.slot.Slot.holding.{ended, clauses}
 use Rattle.md_ffi.specs.contracts.slot.Slot.holding.Key.{name as #self}
 use Rattle.md_ffi.proofs.slot.Slot.holding.Statement.{statement}
