@@ -1,0 +1,223 @@
+/*
+ * The interface of deolmutt.h over the proved functions of md_ffi, which take references and slices: none of them null, each of a length
+ * that fits PTRDIFF_MAX. What a proof can't test of C's pointers is tested here, and nothing else is done here: a call is passed on.
+ *
+ * A world is the proved handle in memory of malloc: two words, all zero where it is closed.
+ */
+#include "deolmutt.h"
+
+#include <stdlib.h>
+
+struct deolmutt_world {
+    uint8_t is_open;
+    void *at;
+};
+
+/* A call, as md_ffi takes it: struct Asked of src/asked.rt. */
+struct asked {
+    uint32_t kind;
+    uint32_t folder;
+    uint32_t to;
+    uint32_t reserved;
+    uint64_t number;
+};
+
+/* A moment that may be left out: struct Own of src/asked.rt. */
+struct own {
+    uint64_t is_given;
+    uint64_t at;
+};
+
+uint32_t md_ffi_abi(void);
+size_t md_ffi_text(uint32_t refusal, uint8_t *out, size_t room);
+uint32_t md_ffi_load(const uint8_t *lines, size_t length, struct deolmutt_world *handle, uint64_t *line);
+uint32_t md_ffi_free(struct deolmutt_world *handle);
+uint32_t md_ffi_submit(struct deolmutt_world *handle, const struct asked *asked, const uint8_t *unique, size_t unique_length,
+                       const uint8_t *first, size_t first_length, const uint8_t *second, size_t second_length, uint64_t *job);
+uint32_t md_ffi_step(struct deolmutt_world *handle, uint64_t job, uint64_t now, const struct own *own, deolmutt_step_out *step);
+uint32_t md_ffi_call(struct deolmutt_world *handle, const struct asked *asked, const uint8_t *unique, size_t unique_length,
+                     const uint8_t *first, size_t first_length, const uint8_t *second, size_t second_length, uint64_t now,
+                     const struct own *own, uint64_t *job, deolmutt_answer *answer);
+uint32_t md_ffi_answer(struct deolmutt_world *handle, uint64_t job, deolmutt_answer *answer);
+uint32_t md_ffi_list(struct deolmutt_world *handle, uint32_t folder, uint8_t *out, size_t room, size_t *length);
+uint32_t md_ffi_read(struct deolmutt_world *handle, const uint8_t *unique, size_t unique_length, uint8_t *out, size_t room,
+                     size_t *length);
+uint32_t md_ffi_names(struct deolmutt_world *handle, uint32_t folder, uint32_t place, uint64_t at, uint8_t *out, size_t room,
+                      size_t *length);
+uint32_t md_ffi_calls(struct deolmutt_world *handle, const uint8_t *records, size_t length, uint64_t now, deolmutt_answer *answers,
+                      size_t room, size_t *done);
+uint32_t md_ffi_transcript(const uint8_t *script, size_t length, uint8_t *out, size_t room, size_t *out_length, uint64_t *line);
+uint32_t md_ffi_unique(uint64_t sec, uint64_t micro, uint64_t pid, uint64_t count, const uint8_t *host, size_t host_length, uint8_t *out,
+                       size_t room, size_t *length);
+uint32_t md_ffi_split(const uint8_t *name, size_t length, size_t *unique_length, uint32_t *info, uint64_t *flags);
+uint32_t md_ffi_summary(const uint8_t *message, size_t length, uint8_t *out, size_t room, size_t *out_length);
+
+/* What a slice of no bytes points to. */
+static const uint8_t no_bytes[1] = {0};
+static uint8_t no_room[1];
+
+#define IS_NULL(bytes, length) ((length) != 0 && (bytes) == NULL)
+#define IS_LONG(length) ((length) > (size_t)PTRDIFF_MAX)
+#define BYTES(bytes, length) ((length) == 0 ? no_bytes : (bytes)), (length)
+#define ROOM(out, room) ((room) == 0 ? no_room : (out)), (room)
+
+static struct own own_of(const uint64_t *own) {
+    struct own given = {0, 0};
+    if (own != NULL) {
+        given.is_given = 1;
+        given.at = *own;
+    }
+    return given;
+}
+
+static struct asked asked_of(uint32_t kind, uint32_t folder, uint32_t to, uint64_t number) {
+    struct asked asked;
+    asked.kind = kind;
+    asked.folder = folder;
+    asked.to = to;
+    asked.reserved = 0;
+    asked.number = number;
+    return asked;
+}
+
+uint32_t deolmutt_abi(void) { return md_ffi_abi(); }
+
+size_t deolmutt_text(uint32_t refusal, uint8_t *out, size_t room) {
+    if (IS_NULL(out, room) || IS_LONG(room))
+        return 0;
+    return md_ffi_text(refusal, ROOM(out, room));
+}
+
+uint32_t deolmutt_load(const uint8_t *lines, size_t length, deolmutt_world **world, uint64_t *line) {
+    struct deolmutt_world *made;
+    uint32_t status;
+    if (IS_NULL(lines, length) || world == NULL || line == NULL)
+        return DEOLMUTT_NULL;
+    if (IS_LONG(length))
+        return DEOLMUTT_LENGTH;
+    *world = NULL;
+    *line = 0;
+    made = calloc(1, sizeof *made);
+    if (made == NULL)
+        return DEOLMUTT_NO_MEMORY;
+    status = md_ffi_load(BYTES(lines, length), made, line);
+    if (status == DEOLMUTT_OK)
+        *world = made;
+    else
+        free(made);
+    return status;
+}
+
+uint32_t deolmutt_free(deolmutt_world *world) {
+    uint32_t status;
+    if (world == NULL)
+        return DEOLMUTT_NULL;
+    status = md_ffi_free(world);
+    free(world);
+    return status;
+}
+
+uint32_t deolmutt_submit(deolmutt_world *world, uint32_t kind, uint32_t folder, const uint8_t *unique, size_t unique_length, uint32_t to,
+                         const uint8_t *first, size_t first_length, const uint8_t *second, size_t second_length, uint64_t number,
+                         uint64_t *job) {
+    struct asked asked = asked_of(kind, folder, to, number);
+    if (world == NULL || job == NULL || IS_NULL(unique, unique_length) || IS_NULL(first, first_length) || IS_NULL(second, second_length))
+        return DEOLMUTT_NULL;
+    if (IS_LONG(unique_length) || IS_LONG(first_length) || IS_LONG(second_length))
+        return DEOLMUTT_LENGTH;
+    return md_ffi_submit(world, &asked, BYTES(unique, unique_length), BYTES(first, first_length), BYTES(second, second_length), job);
+}
+
+uint32_t deolmutt_step(deolmutt_world *world, uint64_t job, uint64_t now, const uint64_t *own, deolmutt_step_out *step) {
+    struct own given = own_of(own);
+    if (world == NULL || step == NULL)
+        return DEOLMUTT_NULL;
+    return md_ffi_step(world, job, now, &given, step);
+}
+
+uint32_t deolmutt_call(deolmutt_world *world, uint32_t kind, uint32_t folder, const uint8_t *unique, size_t unique_length, uint32_t to,
+                       const uint8_t *first, size_t first_length, const uint8_t *second, size_t second_length, uint64_t number,
+                       uint64_t now, const uint64_t *own, uint64_t *job, deolmutt_answer *answer) {
+    struct asked asked = asked_of(kind, folder, to, number);
+    struct own given = own_of(own);
+    if (world == NULL || job == NULL || answer == NULL || IS_NULL(unique, unique_length) || IS_NULL(first, first_length) ||
+        IS_NULL(second, second_length))
+        return DEOLMUTT_NULL;
+    if (IS_LONG(unique_length) || IS_LONG(first_length) || IS_LONG(second_length))
+        return DEOLMUTT_LENGTH;
+    return md_ffi_call(world, &asked, BYTES(unique, unique_length), BYTES(first, first_length), BYTES(second, second_length), now, &given,
+                       job, answer);
+}
+
+uint32_t deolmutt_job_answer(deolmutt_world *world, uint64_t job, deolmutt_answer *answer) {
+    if (world == NULL || answer == NULL)
+        return DEOLMUTT_NULL;
+    return md_ffi_answer(world, job, answer);
+}
+
+uint32_t deolmutt_list(deolmutt_world *world, uint32_t folder, uint8_t *out, size_t room, size_t *length) {
+    if (world == NULL || length == NULL || IS_NULL(out, room))
+        return DEOLMUTT_NULL;
+    if (IS_LONG(room))
+        return DEOLMUTT_LENGTH;
+    return md_ffi_list(world, folder, ROOM(out, room), length);
+}
+
+uint32_t deolmutt_read(deolmutt_world *world, const uint8_t *unique, size_t unique_length, uint8_t *out, size_t room, size_t *length) {
+    if (world == NULL || length == NULL || IS_NULL(unique, unique_length) || IS_NULL(out, room))
+        return DEOLMUTT_NULL;
+    if (IS_LONG(unique_length) || IS_LONG(room))
+        return DEOLMUTT_LENGTH;
+    return md_ffi_read(world, BYTES(unique, unique_length), ROOM(out, room), length);
+}
+
+uint32_t deolmutt_names(deolmutt_world *world, uint32_t folder, uint32_t place, uint64_t at, uint8_t *out, size_t room, size_t *length) {
+    if (world == NULL || length == NULL || IS_NULL(out, room))
+        return DEOLMUTT_NULL;
+    if (IS_LONG(room))
+        return DEOLMUTT_LENGTH;
+    return md_ffi_names(world, folder, place, at, ROOM(out, room), length);
+}
+
+uint32_t deolmutt_calls(deolmutt_world *world, const uint8_t *records, size_t length, uint64_t now, deolmutt_answer *answers, size_t room,
+                        size_t *done) {
+    static deolmutt_answer no_answers[1];
+    if (world == NULL || done == NULL || IS_NULL(records, length) || IS_NULL(answers, room))
+        return DEOLMUTT_NULL;
+    if (IS_LONG(length) || room > (size_t)PTRDIFF_MAX / sizeof *answers)
+        return DEOLMUTT_LENGTH;
+    return md_ffi_calls(world, BYTES(records, length), now, room == 0 ? no_answers : answers, room, done);
+}
+
+uint32_t deolmutt_transcript(const uint8_t *script, size_t length, uint8_t *out, size_t room, size_t *out_length, uint64_t *line) {
+    if (out_length == NULL || line == NULL || IS_NULL(script, length) || IS_NULL(out, room))
+        return DEOLMUTT_NULL;
+    if (IS_LONG(length) || IS_LONG(room))
+        return DEOLMUTT_LENGTH;
+    return md_ffi_transcript(BYTES(script, length), ROOM(out, room), out_length, line);
+}
+
+uint32_t deolmutt_unique(uint64_t sec, uint64_t micro, uint64_t pid, uint64_t count, const uint8_t *host, size_t host_length, uint8_t *out,
+                         size_t room, size_t *length) {
+    if (length == NULL || IS_NULL(host, host_length) || IS_NULL(out, room))
+        return DEOLMUTT_NULL;
+    if (IS_LONG(host_length) || IS_LONG(room))
+        return DEOLMUTT_LENGTH;
+    return md_ffi_unique(sec, micro, pid, count, BYTES(host, host_length), ROOM(out, room), length);
+}
+
+uint32_t deolmutt_split(const uint8_t *name, size_t length, size_t *unique_length, uint32_t *info, uint64_t *flags) {
+    if (unique_length == NULL || info == NULL || flags == NULL || IS_NULL(name, length))
+        return DEOLMUTT_NULL;
+    if (IS_LONG(length))
+        return DEOLMUTT_LENGTH;
+    return md_ffi_split(BYTES(name, length), unique_length, info, flags);
+}
+
+uint32_t deolmutt_summary(const uint8_t *message, size_t length, uint8_t *out, size_t room, size_t *out_length) {
+    if (out_length == NULL || IS_NULL(message, length) || IS_NULL(out, room))
+        return DEOLMUTT_NULL;
+    if (IS_LONG(length) || IS_LONG(room))
+        return DEOLMUTT_LENGTH;
+    return md_ffi_summary(BYTES(message, length), ROOM(out, room), out_length);
+}

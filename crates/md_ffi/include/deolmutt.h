@@ -1,0 +1,245 @@
+/*
+ * deolmutt.h: the Maildir store in memory, for C and for languages that call C. ABI version 1.
+ *
+ * Status. Every function but deolmutt_abi and deolmutt_text returns a uint32_t: 0 (DEOLMUTT_OK) where it has done what it says, else a
+ * number of enum deolmutt_refusal. The numbers stay what they are; new ones may come.
+ *
+ * Bytes come as a pointer and a length in bytes. A length of 0 may come with any pointer, also a null one. What a function gives is
+ * copied into the caller's buffer: `out` has `room` bytes, and *length becomes the whole length. Where that is more than `room`, nothing
+ * is written to `out` and the status is DEOLMUTT_ROOM; a call with room 0 asks for the length alone. `out` may overlap nothing else that
+ * is passed in the call.
+ *
+ * Out-parameters. Where the status is 0 each is written. After DEOLMUTT_NULL and DEOLMUTT_LENGTH none is. After another refusal those are
+ * written alone of which the function says so.
+ *
+ * Refused calls. After any refusal a world is as it was before, but for deolmutt_call and deolmutt_calls, which say what they leave.
+ *
+ * Null pointers. A pointer that is null, but for those that may be, is refused as DEOLMUTT_NULL before anything else is done, and a
+ * length of more than PTRDIFF_MAX as DEOLMUTT_LENGTH.
+ *
+ * Who owns what. deolmutt_load gives a world, which is the caller's until deolmutt_free takes it back. It is a precondition of each call
+ * that a world passed to it was given by deolmutt_load and not taken back since, and that pointers and lengths tell of memory that is
+ * there. The library keeps no pointer of the caller's after a call has returned.
+ *
+ * Threads. One world is for one thread at a time: no two calls on one world may overlap, and a world goes from one thread to another by
+ * what orders their memory (a lock, a join). Calls on two worlds may overlap. The library starts no thread, takes no lock and keeps no
+ * state of its own. It is not to be called from a signal handler, or in a forked child of a process with threads.
+ *
+ * Moments are seconds since 1970-01-01 00:00:00 UTC. Folders are numbered from 0, in the order in which they were loaded; jobs from 1.
+ * Memory comes from malloc, realloc and free; where there is none left, a call is refused as DEOLMUTT_NO_MEMORY.
+ */
+#ifndef DEOLMUTT_H
+#define DEOLMUTT_H
+
+#include <stddef.h>
+#include <stdint.h>
+
+#ifdef __cplusplus
+extern "C" {
+#endif
+
+#define DEOLMUTT_ABI 1
+
+/* A store: folders, their messages, and the jobs on them. */
+typedef struct deolmutt_world deolmutt_world;
+
+/* Why a call is refused. */
+enum deolmutt_refusal {
+    DEOLMUTT_OK = 0,
+
+    /* of the call itself */
+    DEOLMUTT_NULL = 1,             /* a pointer is null */
+    DEOLMUTT_LENGTH = 2,           /* a length of more than PTRDIFF_MAX bytes */
+    DEOLMUTT_ROOM = 3,             /* the caller's buffer has too little room */
+    DEOLMUTT_NO_MEMORY = 4,        /* a growth was refused */
+    DEOLMUTT_BAD_KIND = 5,         /* no kind of call, 1 to 7 */
+    DEOLMUTT_NO_PLACE = 6,         /* no place, 0 to 2 */
+    DEOLMUTT_BAD_RECORD = 7,       /* records that end amid one */
+    DEOLMUTT_NOT_THERE = 8,        /* no message of that unique name; no name at that position */
+    DEOLMUTT_NO_MESSAGE_NAME = 9,  /* a name that begins with a dot or a colon, or is empty */
+    DEOLMUTT_UNANSWERED = 10,      /* a job has no answer yet; no call gives it */
+    DEOLMUTT_CLOSED = 11,          /* a handle without a world; no call on a world of deolmutt_load gives it */
+
+    /* of a world */
+    DEOLMUTT_BAD_NAME = 20,          /* a file name that is empty, over 255 bytes, or with a slash, NUL, LF or CR */
+    DEOLMUTT_LONG_UNIQUE = 21,       /* a unique part of over 200 bytes */
+    DEOLMUTT_DUPLICATE_UNIQUE = 22,  /* a unique part met before in new or cur of any folder */
+    DEOLMUTT_NAME_USED = 23,         /* a delivery or a copy under a name that is used */
+    DEOLMUTT_NO_FOLDER = 24,         /* a folder number that isn't there */
+    DEOLMUTT_SAME_FOLDER = 25,       /* a move into the folder where the message is looked for */
+    DEOLMUTT_BAD_UNIQUE = 26,        /* a unique name that is empty, over 200 bytes, begins with a dot, or holds : / NUL LF CR */
+    DEOLMUTT_BAD_TRIES = 27,         /* not 1 to 16 tries */
+    DEOLMUTT_BAD_CHUNK = 28,         /* pieces of no byte */
+    DEOLMUTT_TOO_MANY_JOBS = 29,     /* 10,000 jobs are there */
+    DEOLMUTT_BODY_TOO_LONG = 30,     /* a body of over 16,777,216 bytes */
+    DEOLMUTT_NO_JOB = 31,            /* no job of that number */
+    DEOLMUTT_ANSWERED = 32,          /* the job has its answer */
+
+    /* of names */
+    DEOLMUTT_BAD_HOST = 40,   /* a host that is empty, over 100 bytes once escaped, or with NUL, LF or CR */
+    DEOLMUTT_BAD_MICRO = 41,  /* a microsecond of 1,000,000 or more */
+    DEOLMUTT_BAD_FLAG = 42,   /* a flag that is no ASCII letter */
+
+    /* of the lines of a script */
+    DEOLMUTT_BAD_COMMAND = 50,     /* no command, or a word is missing, empty or one too many */
+    DEOLMUTT_BAD_NUMBER = 51,      /* a word that should be a number is none, or is over 2^64 - 1 */
+    DEOLMUTT_BAD_ESCAPE = 52,      /* a backslash begins no escape */
+    DEOLMUTT_BAD_PLACE = 53,       /* a word that should be tmp, new or cur is none of these */
+    DEOLMUTT_BAD_FOLDER = 54,      /* a folder can't be made under this name */
+    DEOLMUTT_UNKNOWN_FOLDER = 55,  /* no folder was named so */
+    DEOLMUTT_TOO_LATE = 56,        /* the store was loaded, so it can't be added to */
+    DEOLMUTT_NO_FIRST = 57,        /* no first reading of the folder is kept */
+    DEOLMUTT_SAME_PATH = 58,       /* two files have one path */
+    DEOLMUTT_NOT_IN_THIS_RUN = 59, /* the command is none of those that this run takes */
+    DEOLMUTT_READ_FAULT = 60,      /* no call gives it: scripts come whole */
+    DEOLMUTT_WRITE_FAULT = 61,     /* no call gives it */
+    DEOLMUTT_SCRIPT_TOO_LONG = 62, /* no call gives it */
+    DEOLMUTT_TOO_MANY_READS = 63   /* no call gives it */
+};
+
+/* What a call asks. */
+enum deolmutt_kind {
+    DEOLMUTT_DELIVER = 1,
+    DEOLMUTT_SEEN = 2,
+    DEOLMUTT_FLAG = 3,
+    DEOLMUTT_MOVE = 4,
+    DEOLMUTT_EXPUNGE = 5,
+    DEOLMUTT_COPY = 6,
+    DEOLMUTT_CLEAN = 7
+};
+
+/* How a job ended. */
+enum deolmutt_answer_kind {
+    DEOLMUTT_NO_ANSWER = 0,
+    DEOLMUTT_DELIVERED = 1,
+    DEOLMUTT_FLAGS = 2,             /* value: the flags, bit 0 for A to bit 25 for Z, bit 26 for a to bit 51 for z */
+    DEOLMUTT_MOVED = 3,
+    DEOLMUTT_EXPUNGED = 4,
+    DEOLMUTT_COPIED = 5,
+    DEOLMUTT_CLEANED = 6,           /* value: how many files were removed from tmp */
+    DEOLMUTT_MESSAGE_NOT_THERE = 7, /* no message of that name where the call acts */
+    DEOLMUTT_NOT_TRASHED = 8,       /* the message hasn't the flag T */
+    DEOLMUTT_OTHER_INFO = 9,        /* the message has info that holds no flags */
+    DEOLMUTT_LOST = 10,             /* the name was gone at the act in each of the tries */
+    DEOLMUTT_TIMED_OUT = 11,        /* a delivery's 24 hours ended before its link */
+    DEOLMUTT_TMP_GONE = 12,         /* the file in tmp was gone at an append or the link */
+    DEOLMUTT_NAME_TAKEN = 13,       /* a message of that name is there */
+    DEOLMUTT_FAULT = 14             /* a directory call faulted */
+};
+
+enum deolmutt_place { DEOLMUTT_TMP = 0, DEOLMUTT_NEW = 1, DEOLMUTT_CUR = 2 };
+
+/* The directory call of a step. */
+enum deolmutt_dir_call {
+    DEOLMUTT_CREATE = 1,
+    DEOLMUTT_APPEND = 2, /* value: how many bytes */
+    DEOLMUTT_LINK = 3,
+    DEOLMUTT_RENAME = 4,
+    DEOLMUTT_UNLINK = 5,
+    DEOLMUTT_LIST = 6 /* value: the place */
+};
+
+/* What the directories answered. */
+enum deolmutt_dir_reply { DEOLMUTT_DONE = 1, DEOLMUTT_EXISTS = 2, DEOLMUTT_NOT_FOUND = 3, DEOLMUTT_FAULTED = 4 };
+
+/* How a job ended: enum deolmutt_answer_kind, and its value, 0 where the kind names none. */
+typedef struct deolmutt_answer {
+    uint64_t kind;
+    uint64_t value;
+} deolmutt_answer;
+
+/* What a step did: its directory call and the reply, whether it is the job's effect (1) or not (0), and the answer that it gave. */
+typedef struct deolmutt_step_out {
+    uint32_t call;
+    uint32_t reply;
+    uint64_t value;
+    uint64_t effect;
+    deolmutt_answer answer;
+} deolmutt_step_out;
+
+/* The version of this interface: DEOLMUTT_ABI of the header that the library was built with. */
+uint32_t deolmutt_abi(void);
+
+/* The text of a refusal, in ASCII, as much of it as there is room for, and its whole length, at most 32. 0 for a number that is none, and
+   where out is null and room isn't 0. */
+size_t deolmutt_text(uint32_t refusal, uint8_t *out, size_t room);
+
+/* A world over folders and files, from `folder NAME` and `file FOLDER PLACE NAME STAMP [BODY]` lines of the script language.
+   Refused as a script's line is, with *line its number, from 1; or, with *line 0, as DEOLMUTT_SAME_PATH, BAD_NAME, LONG_UNIQUE,
+   DUPLICATE_UNIQUE or NO_MEMORY. *world is null after a refusal, and *line is 0 where there is none. */
+uint32_t deolmutt_load(const uint8_t *lines, size_t length, deolmutt_world **world, uint64_t *line);
+
+/* Takes a world back. */
+uint32_t deolmutt_free(deolmutt_world *world);
+
+/* Submits a call: a job, which no step was taken of. *job is its number.
+     kind     folder  unique     to      first              second             number
+     DELIVER  its     its name   -       the message        -                  bytes of a piece
+     SEEN     its     its name   -       flags to add       -                  tries, 1 to 16
+     FLAG     its     its name   -       flags to add       flags to remove    tries
+     MOVE     from    its name   into    -                  -                  tries
+     EXPUNGE  its     its name   -       -                  -                  tries
+     COPY     from    its name   into    the second name    -                  tries
+     CLEAN    its     -          -       -                  -                  -
+   What is `-` is not read. Flags are ASCII letters in any order.
+   Refused, in this order: DEOLMUTT_BAD_KIND, BAD_FLAG, NO_MEMORY (of the copy of what was passed), then NO_FOLDER, SAME_FOLDER,
+   BAD_UNIQUE, BAD_TRIES, BAD_CHUNK, BODY_TOO_LONG, TOO_MANY_JOBS, NAME_USED and NO_MEMORY. */
+uint32_t deolmutt_submit(deolmutt_world *world, uint32_t kind, uint32_t folder, const uint8_t *unique, size_t unique_length, uint32_t to,
+                         const uint8_t *first, size_t first_length, const uint8_t *second, size_t second_length, uint64_t number,
+                         uint64_t *job);
+
+/* One step of a job, at a moment. own: null, or the moment by the clock of the job's host.
+   Refused: DEOLMUTT_NO_JOB, ANSWERED, NO_MEMORY. */
+uint32_t deolmutt_step(deolmutt_world *world, uint64_t job, uint64_t now, const uint64_t *own, deolmutt_step_out *step);
+
+/* Submits a call, and takes its job's steps at one moment until it is answered. Refused as deolmutt_submit, with the world as it was; and
+   as DEOLMUTT_NO_MEMORY amid the steps, with the job there and its steps so far taken: deolmutt_step goes on with it. *job is the job's
+   number where it is there, else 0, and *answer its answer or DEOLMUTT_NO_ANSWER. */
+uint32_t deolmutt_call(deolmutt_world *world, uint32_t kind, uint32_t folder, const uint8_t *unique, size_t unique_length, uint32_t to,
+                       const uint8_t *first, size_t first_length, const uint8_t *second, size_t second_length, uint64_t number,
+                       uint64_t now, const uint64_t *own, uint64_t *job, deolmutt_answer *answer);
+
+/* The answer of a job, DEOLMUTT_NO_ANSWER where it has none yet. Refused: DEOLMUTT_NO_JOB. */
+uint32_t deolmutt_job_answer(deolmutt_world *world, uint64_t job, deolmutt_answer *answer);
+
+/* The messages of a folder, in order of unique name. Each is `u32 place, u32 length of the name, u64 bytes of the message`, little-endian,
+   and then the whole name of its file. Refused: DEOLMUTT_NO_FOLDER, NO_MEMORY, ROOM (*length is written). */
+uint32_t deolmutt_list(deolmutt_world *world, uint32_t folder, uint8_t *out, size_t room, size_t *length);
+
+/* The bytes of a message, in new or cur of any folder. Refused: DEOLMUTT_NOT_THERE, ROOM (*length is written). */
+uint32_t deolmutt_read(deolmutt_world *world, const uint8_t *unique, size_t unique_length, uint8_t *out, size_t room, size_t *length);
+
+/* The name at a position, from 0, of the ordered names of a directory, tmp too. Refused: DEOLMUTT_NO_PLACE, NOT_THERE (past the last, or
+   no such folder), ROOM (*length is written). */
+uint32_t deolmutt_names(deolmutt_world *world, uint32_t folder, uint32_t place, uint64_t at, uint8_t *out, size_t room, size_t *length);
+
+/* Many calls in one, each as by deolmutt_call without an own moment, at one moment. `records` has for each call, little-endian,
+   `u32 kind, u32 folder, u32 to, u32 0, u64 length of unique, u64 of first, u64 of second, u64 number`, 48 bytes, and then the bytes of
+   unique, first and second. It stops at the first refused: the calls before it are done, *done says how many, and `answers` has an answer
+   for each of these. Refused: as deolmutt_call; DEOLMUTT_BAD_RECORD where the records end amid one; DEOLMUTT_ROOM where answers, which
+   has room for `room` answers, is full and a record is left. *done is written after each of these. */
+uint32_t deolmutt_calls(deolmutt_world *world, const uint8_t *records, size_t length, uint64_t now, deolmutt_answer *answers, size_t room,
+                        size_t *done);
+
+/* What a whole script prints. Where a line is refused the status is its refusal, *line its number, and out has what was printed before
+   it; else *line is 0. Refused also as DEOLMUTT_NO_MEMORY (*line 0, *length 0) and ROOM (*length and *line are written). */
+uint32_t deolmutt_transcript(const uint8_t *script, size_t length, uint8_t *out, size_t room, size_t *out_length, uint64_t *line);
+
+/* A unique name as "Using maildir format" has it, SEC.MmicroPpidQcount.host. Refused: DEOLMUTT_BAD_MICRO, BAD_HOST, NO_MEMORY,
+   ROOM (*length is written). */
+uint32_t deolmutt_unique(uint64_t sec, uint64_t micro, uint64_t pid, uint64_t count, const uint8_t *host, size_t host_length, uint8_t *out,
+                         size_t room, size_t *length);
+
+/* The parts of a message's file name. *unique_length: its unique part is so many bytes at its front. *info: 0 no info, 1 flags, in *flags
+   as in DEOLMUTT_FLAGS, 2 other info. *flags is 0 where *info is not 1. Refused: DEOLMUTT_NO_MESSAGE_NAME, NO_MEMORY. */
+uint32_t deolmutt_split(const uint8_t *name, size_t length, size_t *unique_length, uint32_t *info, uint64_t *flags);
+
+/* The summary of a message's header, as the command `summary` prints it: lines `subject=`, `from=`, `message-id=`, `date=` and `seconds=`
+   for each that is there, and `end`. Refused: DEOLMUTT_NO_MEMORY, ROOM (*out_length is written). */
+uint32_t deolmutt_summary(const uint8_t *message, size_t length, uint8_t *out, size_t room, size_t *out_length);
+
+#ifdef __cplusplus
+}
+#endif
+
+#endif

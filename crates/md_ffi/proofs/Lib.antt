@@ -1,0 +1,3 @@
+pub mod Refused
+pub mod Slots
+pub mod Values

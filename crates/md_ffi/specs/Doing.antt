@@ -1,0 +1,75 @@
+-- What a call by a handle does to the world behind it.
+use Rattle.std.specs.Prelude.{◌≡◌, ◌⊎◌, ℕ, ◌+◌, ◌==◌, ◌&&◌, List, length, nat_le, nat_lt, Bool, true, false, Option, Some, None, Result, Ok, Err}
+use Rattle.md_core.specs.declared.error.CoreError.{CoreError}
+use Rattle.md_core.specs.declared.error.CoreError.TheVariants.{NoJob}
+use Rattle.md_core.specs.declared.jobs.answer.Answer.{Answer}
+use Rattle.md_core.specs.Machine.{Occurrence, job_at}
+use Rattle.md_core.specs.Runs.{Run, and_call, and_event, answer_of, jobs_of}
+use Rattle.md_core.specs.Submitting.{submit_refusal}
+use Rattle.md_script.specs.Kinds.{core_kind}
+use Rattle.md_script.specs.declared.error.PlayKind.TheVariants.{NoMemory}
+use Rattle.md_ffi.specs.Asking.{and_then, call_at}
+use Rattle.md_ffi.specs.Numbers.{core_number, refusal_number}
+use Rattle.md_ffi.specs.Shown.{answer_number}
+use Rattle.md_ffi.specs.declared.shown.AnswerShown.{AnswerShown}
+use Rattle.md_ffi.specs.declared.shown.StepShown.{StepShown}
+use Rattle.md_ffi.specs.declared.asked.Asked.{Asked}
+use Rattle.md_ffi.specs.declared.held.Held.{Held}
+use Rattle.md_ffi.specs.declared.refusal.Refusal.{Refusal}
+use Rattle.md_ffi.specs.declared.refusal.Refusal.TheVariants.{Kind, Closed}
+
+-- a closed handle stays so and refuses, and this is kept; behind an open one the world goes from one run to another, and this holds of the two
+abbrev pub OnHeld : Option Held → Option Held → ℕ → Type 0 → (Run → Run → Type 0) → Type 0
+OnHeld None after status kept holds = (after ≡ None) × (status ≡ refusal_number Closed) × kept
+OnHeld (Some before) None status kept holds = ⊥
+OnHeld (Some before) (Some after) status kept holds = holds before.world after.world
+
+-- refused by the store, or done
+abbrev pub unless : {X : Type 0} → Option CoreError → X → Result X Refusal
+unless None x = Ok x
+unless (Some error) x = Err (Kind (core_kind error))
+
+-- the run with one more call, and the number of its job
+unfoldable pub submitted : Run → Asked → List ℕ → List ℕ → List ℕ → Result (Run × ℕ) Refusal
+submitted run asked unique first second =
+    and_then (call_at asked unique first second) (λ call. unless (submit_refusal run call) (and_call run call, length run.calls + 1))
+
+-- A function did what is said, or refused with the world as it was: for what is said, or out of memory.
+abbrev pub GivesIn : {X : Type 0} → Result (Run × X) Refusal → Run → Run → Result X Refusal → Type 0
+GivesIn said old new (Ok x) = said ≡ Ok (new, x)
+GivesIn said old new (Err e) = (new ≡ old) × ((e ≡ Kind NoMemory) ⊎ (said ≡ Err e))
+
+-- what a call by C came to: done, with this of what it gave; or refused with the world and this as they were
+abbrev pub Ends : {X : Type 0} → Result (Run × X) Refusal → Run → Run → ℕ → (X → Type 0) → Type 0 → Type 0
+Ends (Ok done) old new status gave kept = ((new ≡ done.0) × (status ≡ 0) × gave done.1) ⊎ ((new ≡ old) × (status ≡ 4) × kept)
+Ends (Err refusal) old new status gave kept = (new ≡ old) × ((status ≡ refusal_number refusal) ⊎ (status ≡ 4)) × kept
+
+-- the number of a free: of a closed handle it is refused
+abbrev pub free_number : Option Held → ℕ
+free_number None = refusal_number Closed
+free_number (Some held) = 0
+
+-- whether a job of that number is there
+abbrev pub is_job : Run → ℕ → Bool
+is_job run job = nat_lt 0 job && nat_le job (length run.calls)
+
+-- the answer of a job is shown where the job is there, and else nothing
+abbrev pub Answers : Bool → Option Answer → AnswerShown → AnswerShown → ℕ → Type 0
+Answers true answer before after status = (status ≡ 0) × (after.kind ≡ answer_number answer)
+Answers false answer before after status = (status ≡ core_number NoJob) × (after ≡ before)
+
+-- the number of a refused step: out of memory where nothing else is against it
+abbrev pub refused_step : Option CoreError → ℕ
+refused_step None = 4
+refused_step (Some error) = core_number error
+
+-- A step was taken, of this event, and is shown; or it was refused, with the world and what was shown before as they were.
+unfoldable pub Steps : Run → Run → (Bool → Occurrence) → Option CoreError → StepShown → StepShown → ℕ → Type 0
+Steps old new event refusal before after status =
+    ((status ≡ 0) × (refusal ≡ None) × (new ≡ and_event old (event (after.reply == 4))))
+    ⊎ ((status ≡ refused_step refusal) × (new ≡ old) × (after ≡ before))
+
+-- A call came to its job's answer, which is shown; or it was refused, and none is.
+abbrev pub Calls : Run → ℕ → AnswerShown → ℕ → Type 0
+Calls new job after status =
+    ((status ≡ 0) × (after.kind ≡ answer_number (answer_of (job_at (jobs_of new) job)))) ⊎ ((after.kind ≡ 0) × (after.value ≡ 0))

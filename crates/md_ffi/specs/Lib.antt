@@ -1,0 +1,10 @@
+-- What the interface of C says: its numbers, what a handle owns, and what each call does to the world behind it.
+pub mod Asking
+pub mod Doing
+pub mod Laying
+pub mod Loads
+pub mod Naming
+pub mod Numbers
+pub mod Reading
+pub mod Shown
+pub mod Slots

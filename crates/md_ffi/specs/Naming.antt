@@ -1,0 +1,51 @@
+-- What names, summaries and scripts give, as C has it.
+use Rattle.std.specs.Prelude.{◌≡◌, ◌⊎◌, ◌≤◌, ◌<◌, ◌++◌, ℕ, List, Option, Some, None, Result, Ok, Err, length, drop}
+use Rattle.md_name.specs.Made.{make_refusal, made_unique}
+use Rattle.md_name.specs.declared.error.NameError.{NameError}
+use Rattle.md_name.specs.declared.info.Info.{Info}
+use Rattle.md_name.specs.declared.info.Info.TheVariants.{Bare, Two, Opaque}
+use Rattle.md_script.specs.Kinds.{name_kind}
+use Rattle.md_script.specs.declared.error.PlayError.{PlayError}
+use Rattle.md_ffi.specs.Numbers.{kind_number, refusal_number}
+use Rattle.md_ffi.specs.declared.refusal.Refusal.{Refusal}
+use Rattle.md_ffi.specs.declared.refusal.Refusal.TheVariants.{Kind, NoMessageName}
+
+-- a name, where nothing is against it
+abbrev pub unless_refused : Option NameError → List ℕ → Result (List ℕ) Refusal
+unless_refused None name = Ok name
+unless_refused (Some error) name = Err (Kind (name_kind error))
+
+-- the unique name of a second, a microsecond, a process, a count and a host, or why there is none
+unfoldable pub made : ℕ → ℕ → ℕ → ℕ → List ℕ → Result (List ℕ) Refusal
+made sec micro pid count host = unless_refused (make_refusal micro host) (made_unique sec micro pid count host)
+
+-- the line that a script is refused at, 0 for none
+abbrev pub line_of : Option PlayError → ℕ
+line_of None = 0
+line_of (Some refused) = refused.line
+
+-- the number of a line's refusal, 0 for none
+abbrev pub number_of : Option PlayError → ℕ
+number_of None = 0
+number_of (Some refused) = kind_number refused.kind
+
+-- A transcript was laid, with its refusal as the status, or there was no room; the whole length and the refused line are said. Or memory ran out.
+abbrev pub Plays : List ℕ → Option PlayError → List ℕ → List ℕ → ℕ → ℕ → ℕ → Type 0
+Plays text refusal old new whole line status =
+    ((whole ≡ length text) × (line ≡ line_of refusal)
+    × (((status ≡ number_of refusal) × (length text ≤ length old) × (new ≡ text ++ drop (length text) old))
+    ⊎ ((status ≡ 3) × (length old < length text) × (new ≡ old))))
+    ⊎ ((status ≡ 4) × (whole ≡ 0) × (line ≡ 0) × (new ≡ old))
+
+-- the number of an info
+abbrev pub info_number : Info → ℕ
+info_number Bare = 0
+info_number (Two flags) = 1
+info_number Opaque = 2
+
+-- the length of a unique part, and which info follows it; a name that is no message's is refused, and nothing is said
+abbrev pub Splits : Option (List ℕ × Info) → ℕ → ℕ → ℕ → ℕ → ℕ → Type 0
+Splits None part_before part info_before info status =
+    (status ≡ refusal_number NoMessageName) × (part ≡ part_before) × (info ≡ info_before)
+Splits (Some parts) part_before part info_before info status =
+    (status ≡ 0) × (part ≡ length parts.0) × (info ≡ info_number parts.1)

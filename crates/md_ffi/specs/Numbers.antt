@@ -1,0 +1,73 @@
+-- The numbers of refusals. Those that a part of the store gives are in a range of that part; want of memory is one number, wherever it was met.
+use Rattle.std.specs.Prelude.{ℕ, Result, Ok, Err}
+use Rattle.md_name.specs.declared.error.NameError.{NameError}
+use Rattle.md_name.specs.declared.error.NameError.TheVariants as name
+use Rattle.md_core.specs.declared.error.CoreError.{CoreError}
+use Rattle.md_core.specs.declared.error.CoreError.TheVariants as core
+use Rattle.md_script.specs.declared.error.PlayKind.{PlayKind}
+use Rattle.md_script.specs.declared.error.PlayKind.TheVariants as play
+use Rattle.md_ffi.specs.declared.refusal.Refusal.{Refusal}
+use Rattle.md_ffi.specs.declared.refusal.Refusal.TheVariants as refusal
+
+-- the number of what the store refuses
+abbrev pub core_number : CoreError → ℕ
+core_number core.NoMemory = 4
+core_number core.BadName = 20
+core_number core.LongUnique = 21
+core_number core.DuplicateUnique = 22
+core_number core.NameUsed = 23
+core_number core.NoFolder = 24
+core_number core.SameFolder = 25
+core_number core.BadUnique = 26
+core_number core.BadTries = 27
+core_number core.BadChunk = 28
+core_number core.TooManyJobs = 29
+core_number core.BodyTooLong = 30
+core_number core.NoJob = 31
+core_number core.Answered = 32
+
+-- the number of why no name is made
+abbrev pub name_number : NameError → ℕ
+name_number name.NoMemory = 4
+name_number name.BadHost = 40
+name_number name.BadMicro = 41
+name_number name.BadFlag = 42
+
+-- the number of why a line is refused
+abbrev pub kind_number : PlayKind → ℕ
+kind_number play.NoMemory = 4
+kind_number (play.Core error) = core_number error
+kind_number (play.Name error) = name_number error
+kind_number play.BadCommand = 50
+kind_number play.BadNumber = 51
+kind_number play.BadEscape = 52
+kind_number play.BadPlace = 53
+kind_number play.BadFolder = 54
+kind_number play.UnknownFolder = 55
+kind_number play.TooLate = 56
+kind_number play.NoFirst = 57
+kind_number play.SamePath = 58
+kind_number play.NotInThisRun = 59
+kind_number play.ReadFault = 60
+kind_number play.WriteFault = 61
+kind_number play.TooLong = 62
+kind_number play.TooManyReads = 63
+
+-- the number of a refusal
+abbrev pub refusal_number : Refusal → ℕ
+refusal_number refusal.Null = 1
+refusal_number refusal.Length = 2
+refusal_number refusal.Room = 3
+refusal_number refusal.BadKind = 5
+refusal_number refusal.NoPlace = 6
+refusal_number refusal.BadRecord = 7
+refusal_number refusal.NotThere = 8
+refusal_number refusal.NoMessageName = 9
+refusal_number refusal.Unanswered = 10
+refusal_number refusal.Closed = 11
+refusal_number (refusal.Kind kind) = kind_number kind
+
+-- 0 where a call is done, else the number of its refusal
+abbrev pub status_number : Result (Unit {0}) Refusal → ℕ
+status_number (Ok done) = 0
+status_number (Err refusal) = refusal_number refusal

@@ -1,0 +1,62 @@
+-- What is read of a world, as C has it.
+use Rattle.std.specs.Prelude.{ℕ, ◌==◌, ◌++◌, List, Option, Some, None, Result, Ok, Err, length, ok_or, flat_map, nat_lt, slice_get, if◌then◌else◌}
+use Rattle.std.specs.Option.{option_map}
+use Rattle.std.specs.FinMap as finmap
+use Rattle.std.specs.Int.{w32, w64, to_le_bytes}
+use Rattle.md_dirs.specs.Rows.{rows_of}
+use Rattle.md_dirs.specs.declared.rows.Row.{Row}
+use Rattle.md_dirs.specs.declared.paths.Place.{Place}
+use Rattle.md_dirs.specs.declared.paths.Place.TheVariants.{Tmp, New, Cur}
+use Rattle.md_core.specs.declared.error.CoreError.TheVariants.{NoFolder}
+use Rattle.md_core.specs.Mailbox.{Entry as Message, mailbox_of}
+use Rattle.md_core.specs.Runs.{Run, dirs_of}
+use Rattle.md_view.specs.Law.{names_at, listing_of}
+use Rattle.md_view.specs.declared.entry.Entry.{Entry}
+use Rattle.md_script.specs.declared.error.PlayKind.TheVariants.{Core}
+use Rattle.md_ffi.specs.declared.refusal.Refusal.{Refusal}
+use Rattle.md_ffi.specs.declared.refusal.Refusal.TheVariants.{Kind, NoPlace, NotThere}
+
+-- the number of a place
+abbrev pub place_number : Place → ℕ
+place_number Tmp = 0
+place_number New = 1
+place_number Cur = 2
+
+-- the place of a number
+abbrev pub place_at : ℕ → Option Place
+place_at n = if n == 0 then Some Tmp else if n == 1 then Some New else if n == 2 then Some Cur else None
+
+-- a number in 4 bytes, little-endian
+unfoldable pub four_bytes : ℕ → List ℕ
+four_bytes n = to_le_bytes w32 n
+
+-- a number in 8 bytes, little-endian
+unfoldable pub eight_bytes : ℕ → List ℕ
+eight_bytes n = to_le_bytes w64 n
+
+-- a message of a listing: its place, the length of its name, its size, and its name
+abbrev pub entry_bytes : Entry → List ℕ
+entry_bytes e = four_bytes (place_number e.place) ++ four_bytes (length e.name) ++ eight_bytes e.size ++ e.name
+
+-- the messages of a folder, one after another
+abbrev pub entries_bytes : List Entry → List ℕ
+entries_bytes entries = flat_map entry_bytes entries
+
+-- the messages of a folder that is there
+unfoldable pub listed : Run → ℕ → Result (List ℕ) Refusal
+listed run folder =
+    if nat_lt folder (dirs_of run).folders then Ok (entries_bytes (listing_of (names_at run) folder (length run.events) (length run.events)))
+    else Err (Kind (Core NoFolder))
+
+-- the bytes of a message, if it is in new or cur of a folder
+unfoldable pub message_at : Run → List ℕ → Result (List ℕ) Refusal
+message_at run unique = ok_or (option_map (λ (m : Message). m.bytes) (finmap.get (mailbox_of (dirs_of run)) unique)) NotThere
+
+-- the name at a position of a directory, if it is there
+abbrev pub name_in : Run → ℕ → ℕ → Option Place → Result (List ℕ) Refusal
+name_in run folder at None = Err NoPlace
+name_in run folder at (Some place) = ok_or (option_map (λ (row : Row). row.name) (slice_get (rows_of (dirs_of run) folder place) at)) NotThere
+
+-- the name at a position of the directory of a number
+unfoldable pub name_at : Run → ℕ → ℕ → ℕ → Result (List ℕ) Refusal
+name_at run folder place at = name_in run folder at (place_at place)

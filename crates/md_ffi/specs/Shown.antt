@@ -1,0 +1,63 @@
+-- What C sees of answers and steps.
+use Rattle.std.specs.Prelude.{◌≡◌, ℕ, Bool, Option, Some, None, if◌then◌else◌}
+use Rattle.md_core.specs.declared.jobs.answer.Answer.{Answer}
+use Rattle.md_core.specs.declared.jobs.answer.Answer.TheVariants as answer
+use Rattle.md_core.specs.declared.jobs.step.DirCall.{DirCall}
+use Rattle.md_core.specs.declared.jobs.step.DirCall.TheVariants.{Create, Append, Link, Rename, Unlink, List}
+use Rattle.md_core.specs.declared.jobs.step.DirReply.{DirReply}
+use Rattle.md_core.specs.declared.jobs.step.DirReply.TheVariants as reply
+use Rattle.md_core.specs.declared.jobs.step.StepOut.{StepOut}
+use Rattle.md_ffi.specs.Reading.{place_number}
+use Rattle.md_ffi.specs.declared.shown.StepShown.{StepShown}
+
+-- the number of an answer, 0 where there is none yet
+abbrev pub answer_number : Option Answer → ℕ
+answer_number None = 0
+answer_number (Some answer.Delivered) = 1
+answer_number (Some (answer.Flags flags)) = 2
+answer_number (Some answer.Moved) = 3
+answer_number (Some answer.Expunged) = 4
+answer_number (Some answer.Copied) = 5
+answer_number (Some (answer.Cleaned count)) = 6
+answer_number (Some answer.NotThere) = 7
+answer_number (Some answer.NotTrashed) = 8
+answer_number (Some answer.OtherInfo) = 9
+answer_number (Some answer.Lost) = 10
+answer_number (Some answer.TimedOut) = 11
+answer_number (Some answer.TmpGone) = 12
+answer_number (Some answer.NameTaken) = 13
+answer_number (Some answer.Fault) = 14
+
+-- the number of a directory call
+abbrev pub call_number : DirCall → ℕ
+call_number Create = 1
+call_number (Append count) = 2
+call_number Link = 3
+call_number Rename = 4
+call_number Unlink = 5
+call_number (List place) = 6
+
+-- the bytes of an append, or the place of a listing, else 0
+abbrev pub call_value : DirCall → ℕ
+call_value (Append count) = count
+call_value (List place) = place_number place
+call_value other = 0
+
+-- the number of what the directories answered
+abbrev pub reply_number : DirReply → ℕ
+reply_number reply.Ok = 1
+reply_number reply.Exists = 2
+reply_number reply.NotFound = 3
+reply_number reply.Fault = 4
+
+-- 1 for a step that is its job's effect
+abbrev pub effect_number : Bool → ℕ
+effect_number is_effect = if is_effect then 1 else 0
+
+-- what is shown of a step
+pub record IsShown (step : StepOut) (shown : StepShown) : Type 0 where
+  pub call : shown.call ≡ call_number step.call
+  pub value : shown.value ≡ call_value step.call
+  pub reply : shown.reply ≡ reply_number step.reply
+  pub effect : shown.effect ≡ effect_number step.effect
+  pub answer : shown.answer.kind ≡ answer_number step.answer

@@ -1,0 +1,231 @@
+//! Jobs: calls that are submitted, their steps and their answers.
+ghost use Rattle.std.specs.Prelude.{◌≡◌, Some, IfOk};
+ghost use Rattle.md_core.specs.Machine.{job_at, occurrence};
+ghost use Rattle.md_core.specs.Runs.{answer_of, jobs_of, step_refusal};
+ghost use Rattle.md_ffi.specs.Asking.{own_at};
+ghost use Rattle.md_ffi.specs.Numbers.{core_number, refusal_number};
+ghost use Rattle.md_ffi.specs.Doing.{is_job, submitted, Answers, Calls, Ends, GivesIn, OnHeld, Steps};
+
+use crate::asked::{Asked, Brought, Own, call_of};
+use crate::handle::Handle;
+use crate::refusal::{NO_MEMORY, Refusal};
+use crate::shown::{AnswerShown, StepShown};
+use md_core::{Answer, CoreError, JobId, World};
+use md_dirs::IndexDirs;
+use md_script::PlayKind;
+use std::alloc::Global;
+
+// The refusal of the store.
+fn refused(error: CoreError) -> Refusal
+    ensures { refusal_number result ≡ core_number error }
+{
+    Refusal::Kind(PlayKind::from(error))
+}
+
+// Submits a call.
+#[tactic(auto, unfolding(crate::specs::Doing::submitted))]
+fn submit(
+    alloc: Global,
+    world: &mut World<IndexDirs>,
+    asked: &Asked,
+    brought: Brought<'_>,
+) -> Result<JobId, Refusal>
+    ensures { GivesIn (submitted world.old asked.now brought.entry.unique.now brought.entry.first.now brought.entry.second.now) world.old world.new result }
+{
+    let call = call_of(alloc, asked, brought)?;
+    match world.submit(call) {
+        Ok(job) => Ok(job),
+        Err(refused) => Err(Refusal::Kind(PlayKind::from(refused.error))),
+    }
+}
+
+/// Submits a call, and sets `job` to the number of its job. Refused `Closed`; then as `call_of` is; then as a world refuses a call. After
+/// a refusal the world is as it was, and so is `job`.
+#[unsafe(no_mangle)]
+pub extern "C" fn md_ffi_submit(
+    alloc: Global,
+    handle: &mut Handle,
+    asked: &Asked,
+    unique: &[u8],
+    first: &[u8],
+    second: &[u8],
+    job: &mut u64,
+) -> u32
+    ensures { OnHeld handle.old.slot.held handle.new.slot.held result (job.new ≡ job.old)
+        (λ old new. Ends (submitted old asked.now unique.now first.now second.now) old new result (λ number. job.new ≡ number)
+        (job.new ≡ job.old)) }
+{
+    let Some(mut held) = handle.take(alloc) else {
+        return Refusal::Closed.number();
+    };
+    let brought = Brought {
+        unique,
+        first,
+        second,
+    };
+    let submitted = submit(alloc, &mut held.world, asked, brought);
+    handle.hold(held);
+    match submitted {
+        Ok(number) => {
+            *job = number;
+            0
+        }
+        Err(refusal) => refusal.number(),
+    }
+}
+
+// Takes one step of a job, and shows it.
+#[tactic(auto, using(crate::proofs::Refused::step_number), unfolding(crate::specs::Doing::Steps))]
+fn take_step(
+    world: &mut World<IndexDirs>,
+    job: JobId,
+    now: u64,
+    own: &Own,
+    step: &mut StepShown,
+) -> u32
+    ensures { Steps world.old world.new (occurrence job now (own_at own.now)) (step_refusal (job_at (jobs_of world.old) job)) step.old step.new result }
+{
+    match world.step(job, now, own.moment()) {
+        Ok(shown) => {
+            *step = StepShown::of(shown);
+            0
+        }
+        Err(error) => refused(error).number(),
+    }
+}
+
+/// Takes one step of a job, at a moment in seconds, and shows it. Refused `Closed`, and as a world refuses a step: `NoJob`, `Answered` and
+/// out of memory, with the world as it was.
+#[unsafe(no_mangle)]
+pub extern "C" fn md_ffi_step(
+    alloc: Global,
+    handle: &mut Handle,
+    job: u64,
+    now: u64,
+    own: &Own,
+    step: &mut StepShown,
+) -> u32
+    ensures { OnHeld handle.old.slot.held handle.new.slot.held result (step.new ≡ step.old)
+        (λ old new. Steps old new (occurrence job now (own_at own.now)) (step_refusal (job_at (jobs_of old) job)) step.old step.new result) }
+{
+    let Some(mut held) = handle.take(alloc) else {
+        return Refusal::Closed.number();
+    };
+    let status = take_step(&mut held.world, job, now, own, step);
+    handle.hold(held);
+    status
+}
+
+// Takes steps of a job at one moment until it is answered.
+fn finish(
+    world: &mut World<IndexDirs>,
+    job: JobId,
+    now: u64,
+    own: Option<u64>,
+) -> Result<Answer, Refusal>
+    ensures { IfOk result (λ answer. answer_of (job_at (jobs_of world.new) job) ≡ Some answer) }
+{
+    for _ in 0..u64::MAX {
+        if let Some(answer) = world.answer(job) {
+            return Ok(answer);
+        }
+        match world.step(job, now, own) {
+            Ok(_) => {}
+            Err(error) => return Err(refused(error)),
+        }
+    }
+    // No job takes so many steps.
+    Err(NO_MEMORY)
+}
+
+/// Submits a call, and takes the steps of its job at one moment, in seconds, until it is answered; sets `job` to its number and `answer` to
+/// its answer.
+///
+/// Refused as `md_ffi_submit`, with the world as it was, `job` 0 and no answer; and out of memory amid the steps, with the job there and
+/// `job` its number.
+#[unsafe(no_mangle)]
+pub extern "C" fn md_ffi_call(
+    alloc: Global,
+    handle: &mut Handle,
+    asked: &Asked,
+    unique: &[u8],
+    first: &[u8],
+    second: &[u8],
+    now: u64,
+    own: &Own,
+    job: &mut u64,
+    answer: &mut AnswerShown,
+) -> u32
+    ensures { OnHeld handle.old.slot.held handle.new.slot.held result (answer.new.kind ≡ 0)
+        (λ _ new. Calls new job.new answer.new result) }
+{
+    *job = 0;
+    *answer = AnswerShown::none();
+    let Some(mut held) = handle.take(alloc) else {
+        return Refusal::Closed.number();
+    };
+    let brought = Brought {
+        unique,
+        first,
+        second,
+    };
+    let called = call(
+        alloc,
+        &mut held.world,
+        asked,
+        brought,
+        now,
+        own.moment(),
+        job,
+    );
+    handle.hold(held);
+    match called {
+        Ok(given) => {
+            *answer = AnswerShown::of(Some(given));
+            0
+        }
+        Err(refusal) => refusal.number(),
+    }
+}
+
+/// Submits a call, sets `job` to its number, and takes the steps of its job until it is answered.
+pub(crate) fn call(
+    alloc: Global,
+    world: &mut World<IndexDirs>,
+    asked: &Asked,
+    brought: Brought<'_>,
+    now: u64,
+    own: Option<u64>,
+    job: &mut u64,
+) -> Result<Answer, Refusal>
+    ensures { IfOk result (λ answer. answer_of (job_at (jobs_of world.new) job.new) ≡ Some answer) }
+{
+    let number = submit(alloc, world, asked, brought)?;
+    *job = number;
+    finish(world, number, now, own)
+}
+
+/// The answer of a job, if it has one. Refused `Closed` and `NoJob`, with `answer` as it was.
+#[unsafe(no_mangle)]
+pub extern "C" fn md_ffi_answer(
+    alloc: Global,
+    handle: &mut Handle,
+    job: u64,
+    answer: &mut AnswerShown,
+) -> u32
+    ensures same { handle.new.slot.held ≡ handle.old.slot.held }
+    ensures answer { OnHeld handle.old.slot.held handle.new.slot.held result (answer.new ≡ answer.old)
+        (λ run _. Answers (is_job run job) (answer_of (job_at (jobs_of run) job)) answer.old answer.new result) }
+{
+    let Some(held) = handle.take(alloc) else {
+        return Refusal::Closed.number();
+    };
+    let is_there = 0 < job && job <= held.world.jobs();
+    let given = held.world.answer(job);
+    handle.hold(held);
+    if !is_there {
+        return refused(CoreError::NoJob).number();
+    }
+    *answer = AnswerShown::of(given);
+    0
+}

@@ -1,0 +1,26 @@
+//! The store for C: worlds behind handles, scripts, names and header summaries. `include/deolmutt.h` has the interface.
+//!
+//! Each exported function here takes references, and `face/deolmutt.c` makes them of C's pointers, which it tests for null first.
+#![tactic(auto)]
+
+mod asked;
+pub mod calls;
+mod handle;
+mod held;
+pub mod jobs;
+pub mod load;
+mod loose;
+pub mod names;
+pub mod reading;
+mod refusal;
+mod room;
+mod shown;
+mod slot;
+pub mod version;
+
+pub use asked::{Asked, Own};
+pub use handle::Handle;
+pub use held::Held;
+pub use refusal::Refusal;
+pub use shown::{AnswerShown, StepShown};
+pub use slot::Slot;

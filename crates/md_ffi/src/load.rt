@@ -1,0 +1,101 @@
+//! Worlds that are loaded and let go.
+ghost use Rattle.std.specs.Prelude.{◌≡◌, ◌⊎◌, ◌≢◌, None, Ok, Err, length, MatchResult};
+ghost use Rattle.md_script.specs.Folders.{names_of};
+ghost use Rattle.md_script.specs.Kinds.{at_no_line};
+ghost use Rattle.md_script.specs.Sessions.{run_over};
+ghost use Rattle.md_script.specs.Words.{Gives};
+ghost use Rattle.md_script.specs.declared.error.PlayKind.TheVariants.{NoMemory};
+ghost use Rattle.md_ffi.specs.Doing.{free_number};
+ghost use Rattle.md_ffi.specs.Loads.{loaded, GivesWorld};
+
+use crate::handle::Handle;
+use crate::held::Held;
+use crate::refusal::Refusal;
+use md_core::World;
+use md_dirs::{ImageFile, IndexDirs};
+use md_script::{PlayError, PlayKind, Setup, image, open_store};
+use std::alloc::Global;
+
+// The store over folders, as many as there are names, and files.
+fn opened(
+    alloc: Global,
+    names: &[Vec<u8>],
+    files: Vec<ImageFile>,
+) -> Result<World<IndexDirs>, PlayKind>
+    ensures { Gives (λ world. world) result (run_over (length (names_of names.now)) files.items) }
+{
+    // No memory holds so many folders.
+    let Ok(count) = u32::try_from(names.len()) else {
+        return Err(PlayKind::NoMemory);
+    };
+    open_store(alloc, count, files)
+}
+
+// The store that lines load.
+#[tactic(auto, unfolding(crate::specs::Loads::loaded))]
+fn world_of(alloc: Global, lines: &[u8]) -> Result<World<IndexDirs>, PlayError>
+    ensures { MatchResult result
+        (λ world. loaded lines.now ≡ Ok world)
+        (λ e. (e ≡ at_no_line NoMemory) ⊎ (loaded lines.now ≡ Err e)) }
+{
+    let Setup {
+        folders,
+        files,
+        calls: _,
+    } = image(alloc, lines, false)?;
+    match opened(alloc, &folders, files) {
+        Ok(world) => Ok(world),
+        Err(kind) => Err(PlayError::from(kind)),
+    }
+}
+
+// The same in a box.
+fn held_of(alloc: Global, lines: &[u8]) -> Result<Box<Held>, PlayError>
+    ensures { MatchResult result
+        (λ held. loaded lines.now ≡ Ok held.value.world)
+        (λ e. (e ≡ at_no_line NoMemory) ⊎ (loaded lines.now ≡ Err e)) }
+{
+    let world = world_of(alloc, lines)?;
+    match Box::new(alloc, Held { world }) {
+        Ok(held) => Ok(held),
+        Err(_) => Err(PlayError::from(PlayKind::NoMemory)),
+    }
+}
+
+/// Opens a handle over the folders and files of `folder` and `file` lines, and sets `line` to 0. What the handle held is let go first.
+///
+/// A refused line is named by its number, from 1; what no line is to blame for has the line 0. The handle is closed then.
+#[unsafe(no_mangle)]
+pub extern "C" fn md_ffi_load(
+    alloc: Global,
+    lines: &[u8],
+    handle: &mut Handle,
+    line: &mut u64,
+) -> u32
+    ensures { GivesWorld lines.now handle.new.slot.held result line.new }
+{
+    let _old = handle.take(alloc);
+    match held_of(alloc, lines) {
+        Ok(held) => {
+            handle.hold(held);
+            *line = 0;
+            0
+        }
+        Err(refused) => {
+            *line = refused.line;
+            Refusal::Kind(refused.kind).number()
+        }
+    }
+}
+
+/// Closes a handle, and lets go what it held. Refused `Closed` where it is closed.
+#[unsafe(no_mangle)]
+pub extern "C" fn md_ffi_free(alloc: Global, handle: &mut Handle) -> u32
+    ensures closed { handle.new.slot.held ≡ None }
+    ensures status { result ≡ free_number handle.old.slot.held }
+{
+    match handle.take(alloc) {
+        Some(_held) => 0,
+        None => Refusal::Closed.number(),
+    }
+}

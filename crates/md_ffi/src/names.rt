@@ -1,0 +1,147 @@
+//! Names, header summaries and scripts, which need no world.
+ghost use Rattle.std.specs.Prelude.{Ok};
+ghost use Rattle.md_name.specs.Names.{split_of};
+ghost use Rattle.md_head.specs.Summaries.{summary_of};
+ghost use Rattle.md_script.specs.Sessions.{transcript};
+ghost use Rattle.md_script.specs.Texts.{summary_text};
+ghost use Rattle.md_ffi.specs.Laying.{Gives};
+ghost use Rattle.md_ffi.specs.Naming.{made, Plays, Splits};
+ghost use Rattle.md_ffi.specs.Numbers.{status_number};
+
+use crate::refusal::{NO_MEMORY, Refusal, status};
+use crate::room::lay;
+use crate::shown::flag_bits;
+use md_head::summary;
+use md_name::{Info, UniqueParts, make_unique, split};
+use md_script::{PlayKind, push_summary, transcript};
+use std::alloc::Global;
+
+#[tactic(auto, unfolding(crate::specs::Naming::made))]
+fn unique(
+    alloc: Global,
+    parts: UniqueParts<'_>,
+    out: &mut [u8],
+    length: &mut usize,
+) -> Result<(), Refusal>
+    ensures { Gives (made parts.entry.sec parts.entry.micro parts.entry.pid parts.entry.count parts.entry.host.now)
+        out.old out.new length.old length.new (status_number result) }
+{
+    match make_unique(alloc, parts) {
+        Ok(name) => lay(&name, out, length),
+        Err(error) => Err(Refusal::Kind(PlayKind::from(error))),
+    }
+}
+
+fn summarize(
+    alloc: Global,
+    message: &[u8],
+    out: &mut [u8],
+    length: &mut usize,
+) -> Result<(), Refusal>
+    ensures { Gives (Ok (summary_text (summary_of message.now))) out.old out.new length.old length.new (status_number result) }
+{
+    let Ok(summary) = summary(alloc, message) else {
+        return Err(NO_MEMORY);
+    };
+    let mut text = Vec::new(alloc);
+    push_summary(&mut text, &summary)?;
+    lay(&text, out, length)
+}
+
+fn play(alloc: Global, script: &[u8], out: &mut [u8], length: &mut usize, line: &mut u64) -> u32
+    ensures { Plays (transcript script.now).text (transcript script.now).refusal out.old out.new length.new line.new result }
+{
+    *length = 0;
+    *line = 0;
+    let Ok(printed) = transcript(alloc, script) else {
+        return NO_MEMORY.number();
+    };
+    let number = match printed.refusal {
+        Some(refused) => {
+            *line = refused.line;
+            Refusal::Kind(refused.kind).number()
+        }
+        None => 0,
+    };
+    match lay(&printed.text, out, length) {
+        Ok(()) => number,
+        Err(refusal) => refusal.number(),
+    }
+}
+
+/// Lays a unique name into `out`, as `make_unique` makes it, and sets `length` to its length. Refused `BadMicro`, `BadHost` and out of
+/// memory, with `length` as it was, and `Room`, with it set.
+#[unsafe(no_mangle)]
+pub extern "C" fn md_ffi_unique(
+    alloc: Global,
+    sec: u64,
+    micro: u64,
+    pid: u64,
+    count: u64,
+    host: &[u8],
+    out: &mut [u8],
+    length: &mut usize,
+) -> u32
+    ensures { Gives (made sec micro pid count host.now) out.old out.new length.old length.new result }
+{
+    let parts = UniqueParts {
+        sec,
+        micro,
+        pid,
+        count,
+        host,
+    };
+    status(unique(alloc, parts, out, length))
+}
+
+/// Splits a message's file name: sets `unique_length` to the length of its unique part, which is at its front, `info` to 0 for no info, 1
+/// for flags and 2 for other info, and `flags` to the flags, or 0. Refused `NoMessageName`, with all three as they were.
+#[unsafe(no_mangle)]
+pub extern "C" fn md_ffi_split(
+    name: &[u8],
+    unique_length: &mut usize,
+    info: &mut u32,
+    flags: &mut u64,
+) -> u32
+    ensures { Splits (split_of name.now) unique_length.old unique_length.new info.old info.new result }
+{
+    let Some((unique, said)) = split(name) else {
+        return Refusal::NoMessageName.number();
+    };
+    *unique_length = unique.len();
+    (*info, *flags) = match said {
+        Info::Bare => (0, 0),
+        Info::Two(of) => (1, flag_bits(of)),
+        Info::Opaque => (2, 0),
+    };
+    0
+}
+
+/// Lays the lines of a message's header summary into `out`, as the command `summary` prints them, and sets `length` to their length.
+/// Refused out of memory, with `length` as it was, and `Room`, with it set.
+#[unsafe(no_mangle)]
+pub extern "C" fn md_ffi_summary(
+    alloc: Global,
+    message: &[u8],
+    out: &mut [u8],
+    length: &mut usize,
+) -> u32
+    ensures { Gives (Ok (summary_text (summary_of message.now))) out.old out.new length.old length.new result }
+{
+    status(summarize(alloc, message, out, length))
+}
+
+/// Lays the transcript of a script into `out`, and sets `length` to its length and `line` to the number of the line that was refused, or
+/// 0. The status is that line's refusal, unless there was no room: `Room`. Refused out of memory, with `line` and `length` 0.
+#[unsafe(no_mangle)]
+pub extern "C" fn md_ffi_transcript(
+    alloc: Global,
+    script: &[u8],
+    out: &mut [u8],
+    length: &mut usize,
+    line: &mut u64,
+) -> u32
+    ensures { Plays (transcript script.now).text (transcript script.now).refusal out.old out.new length.new line.new result }
+{
+    play(alloc, script, out, length, line)
+}

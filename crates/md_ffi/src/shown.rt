@@ -1,0 +1,162 @@
+//! What C sees of answers and steps.
+ghost use Rattle.std.specs.Prelude.{◌≡◌, ◌==◌, Some};
+ghost use Rattle.md_core.specs.Asked.{is_fault};
+ghost use Rattle.md_ffi.specs.Reading.{place_at, place_number};
+ghost use Rattle.md_ffi.specs.Shown.{answer_number, call_number, call_value, reply_number, IsShown};
+
+use md_core::{Answer, DirCall, DirReply, StepOut};
+use md_dirs::Place;
+use md_name::Flags;
+
+/// The letters of flags in ASCII order. The place of a letter here is the place of its bit.
+const LETTERS: &[u8; 52] = b"ABCDEFGHIJKLMNOPQRSTUVWXYZabcdefghijklmnopqrstuvwxyz";
+
+/// How a job ended: a number, 0 for no answer yet, and the flags or the count that the answer has, else 0.
+#[repr(C)]
+#[derive(Clone, Copy)]
+pub struct AnswerShown {
+    pub kind: u64,
+    pub value: u64,
+}
+
+/// What a step did.
+#[repr(C)]
+#[derive(Clone, Copy)]
+pub struct StepShown {
+    pub call: u32,
+    pub reply: u32,
+    /// The bytes of an append, or the place of a listing, else 0.
+    pub value: u64,
+    /// 1 where the step is its job's effect, else 0.
+    pub effect: u64,
+    pub answer: AnswerShown,
+}
+
+/// The number of a place.
+pub(crate) fn place_number(place: Place) -> u32
+    ensures { result ≡ place_number place }
+{
+    match place {
+        Place::Tmp => 0,
+        Place::New => 1,
+        Place::Cur => 2,
+    }
+}
+
+/// The place of a number, if it is one's.
+pub(crate) fn place_of(number: u32) -> Option<Place>
+    ensures { result ≡ place_at number }
+{
+    match number {
+        0 => Some(Place::Tmp),
+        1 => Some(Place::New),
+        2 => Some(Place::Cur),
+        _ => None,
+    }
+}
+
+/// Flags as bits.
+pub(crate) fn flag_bits(flags: Flags) -> u64 {
+    let mut bits = 0;
+    for (place, letter) in LETTERS.iter().enumerate() {
+        if flags.has(*letter) {
+            bits |= 1u64 << place;
+        }
+    }
+    bits
+}
+
+impl AnswerShown {
+    /// No answer yet.
+    pub(crate) fn none() -> AnswerShown
+        ensures { (result.kind ≡ 0) × (result.value ≡ 0) }
+    {
+        plain(0)
+    }
+
+    /// What is shown of an answer, or that there is none yet.
+    pub(crate) fn of(answer: Option<Answer>) -> AnswerShown
+        ensures { result.kind ≡ answer_number answer }
+    {
+        match answer {
+            None => AnswerShown::none(),
+            Some(answer) => given(answer),
+        }
+    }
+}
+
+// An answer that has no more to say than its number.
+fn plain(kind: u64) -> AnswerShown
+    ensures { (result.kind ≡ kind) × (result.value ≡ 0) }
+{
+    AnswerShown { kind, value: 0 }
+}
+
+fn given(answer: Answer) -> AnswerShown
+    ensures { result.kind ≡ answer_number (Some answer) }
+{
+    match answer {
+        Answer::Delivered => plain(1),
+        Answer::Flags(flags) => AnswerShown {
+            kind: 2,
+            value: flag_bits(flags),
+        },
+        Answer::Moved => plain(3),
+        Answer::Expunged => plain(4),
+        Answer::Copied => plain(5),
+        Answer::Cleaned(count) => AnswerShown {
+            kind: 6,
+            value: count,
+        },
+        Answer::NotThere => plain(7),
+        Answer::NotTrashed => plain(8),
+        Answer::OtherInfo => plain(9),
+        Answer::Lost => plain(10),
+        Answer::TimedOut => plain(11),
+        Answer::TmpGone => plain(12),
+        Answer::NameTaken => plain(13),
+        Answer::Fault => plain(14),
+    }
+}
+
+fn call_shown(call: DirCall) -> (u32, u64)
+    ensures { (result.0 ≡ call_number call) × (result.1 ≡ call_value call) }
+{
+    match call {
+        DirCall::Create => (1, 0),
+        DirCall::Append(count) => (2, count),
+        DirCall::Link => (3, 0),
+        DirCall::Rename => (4, 0),
+        DirCall::Unlink => (5, 0),
+        DirCall::List(place) => (6, place_number(place) as u64),
+    }
+}
+
+fn reply_shown(reply: DirReply) -> u32
+    ensures number { result ≡ reply_number reply }
+    ensures fault { (result == 4) ≡ is_fault reply }
+{
+    match reply {
+        DirReply::Ok => 1,
+        DirReply::Exists => 2,
+        DirReply::NotFound => 3,
+        DirReply::Fault => 4,
+    }
+}
+
+impl StepShown {
+    /// What is shown of a step.
+    pub(crate) fn of(step: StepOut) -> StepShown
+        ensures shown { IsShown step result }
+        ensures fault { (result.reply == 4) ≡ is_fault step.reply }
+    {
+        let (call, value) = call_shown(step.call);
+        StepShown {
+            call,
+            reply: reply_shown(step.reply),
+            value,
+            effect: if step.effect { 1 } else { 0 },
+            answer: AnswerShown::of(step.answer),
+        }
+    }
+}

@@ -1,0 +1,376 @@
+/* Every function of deolmutt.h: what it gives, each refusal that a caller can come to, and every null pointer. Ends with a count. */
+#include "deolmutt.h"
+
+#include <stdio.h>
+#include <stdlib.h>
+#include <string.h>
+
+static unsigned long checked;
+
+#define CHECK(what)                                                                     \
+    do {                                                                                \
+        checked++;                                                                      \
+        if (!(what)) {                                                                  \
+            fprintf(stderr, "%s:%d: not so: %s\n", __FILE__, __LINE__, #what);           \
+            exit(1);                                                                    \
+        }                                                                               \
+    } while (0)
+
+#define TEXT(s) (const uint8_t *)(s), strlen(s)
+#define NO_BYTES NULL, 0
+
+static deolmutt_world *loaded(const char *lines) {
+    deolmutt_world *world = NULL;
+    uint64_t line = 7;
+    CHECK(deolmutt_load(TEXT(lines), &world, &line) == DEOLMUTT_OK);
+    CHECK(world != NULL && line == 0);
+    return world;
+}
+
+static uint32_t done(deolmutt_world *world, uint32_t kind, uint32_t folder, const char *unique, uint32_t to, const char *first,
+                     const char *second, uint64_t number, uint64_t now, deolmutt_answer *answer) {
+    uint64_t job = 99;
+    return deolmutt_call(world, kind, folder, TEXT(unique), to, TEXT(first), TEXT(second), number, now, NULL, &job, answer);
+}
+
+static void test_texts(void) {
+    static const uint32_t numbers[] = {1,  2,  3,  4,  5,  6,  7,  8,  9,  10, 11, 20, 21, 22, 23, 24, 25, 26, 27, 28, 29, 30,
+                                       31, 32, 40, 41, 42, 50, 51, 52, 53, 54, 55, 56, 57, 58, 59, 60, 61, 62, 63};
+    uint8_t text[64];
+    uint32_t number, at = 0;
+    CHECK(deolmutt_abi() == DEOLMUTT_ABI);
+    for (number = 0; number < 1000; number++) {
+        size_t length = deolmutt_text(number, text, sizeof text);
+        int is_one = at < sizeof numbers / sizeof *numbers && numbers[at] == number;
+        at += is_one;
+        CHECK((length != 0) == is_one && length <= 32);
+    }
+    CHECK(deolmutt_text(DEOLMUTT_NAME_USED, text, sizeof text) == 9 && memcmp(text, "name used", 9) == 0);
+    memset(text, '.', sizeof text);
+    CHECK(deolmutt_text(DEOLMUTT_NAME_USED, text, 4) == 9 && memcmp(text, "name.", 5) == 0);
+    CHECK(deolmutt_text(DEOLMUTT_NAME_USED, NULL, 0) == 9);
+    CHECK(deolmutt_text(DEOLMUTT_NAME_USED, NULL, 4) == 0);
+}
+
+static void refused_load(const char *lines, uint32_t status, uint64_t line) {
+    deolmutt_world *world = (deolmutt_world *)&checked;
+    uint64_t at = 7;
+    CHECK(deolmutt_load(TEXT(lines), &world, &at) == status);
+    CHECK(world == NULL && at == line);
+}
+
+static void test_loads(void) {
+    uint64_t line = 7;
+    deolmutt_world *world = NULL;
+    refused_load("folder", DEOLMUTT_BAD_COMMAND, 1);
+    refused_load("folder i\nfolder i\n", DEOLMUTT_BAD_FOLDER, 2);
+    refused_load("folder i\nfile j new u 1\n", DEOLMUTT_UNKNOWN_FOLDER, 2);
+    refused_load("folder i\nfile i old u 1\n", DEOLMUTT_BAD_PLACE, 2);
+    refused_load("folder i\nfile i new u x\n", DEOLMUTT_BAD_NUMBER, 2);
+    refused_load("folder i\nfile i new u\\q 1 \\q\n", DEOLMUTT_BAD_ESCAPE, 2);
+    refused_load("folder i\nlist i\n", DEOLMUTT_NOT_IN_THIS_RUN, 2);
+    refused_load("folder i\nfile i new u 1\nfile i new u 2\n", DEOLMUTT_SAME_PATH, 0);
+    refused_load("folder i\nfile i new u 1\nfile i cur u:2, 2\n", DEOLMUTT_DUPLICATE_UNIQUE, 0);
+    CHECK(deolmutt_load(NULL, 0, &world, &line) == DEOLMUTT_OK);
+    CHECK(deolmutt_free(world) == DEOLMUTT_OK);
+    CHECK(deolmutt_load(NULL, 1, &world, &line) == DEOLMUTT_NULL);
+    CHECK(deolmutt_load(NULL, 0, NULL, &line) == DEOLMUTT_NULL);
+    CHECK(deolmutt_load(NULL, 0, &world, NULL) == DEOLMUTT_NULL);
+    CHECK(deolmutt_load((const uint8_t *)"", (size_t)PTRDIFF_MAX + 1, &world, &line) == DEOLMUTT_LENGTH);
+    CHECK(deolmutt_free(NULL) == DEOLMUTT_NULL);
+}
+
+static void test_submits(void) {
+    deolmutt_world *world = loaded("folder a\nfolder b\nfile a cur old:2,F 5 body\n");
+    uint64_t job = 99;
+    const uint8_t *bytes = (const uint8_t *)"x";
+    size_t long_length = (size_t)PTRDIFF_MAX + 1;
+#define SUBMIT(kind, folder, unique, to, first, second, number) \
+    deolmutt_submit(world, kind, folder, TEXT(unique), to, TEXT(first), TEXT(second), number, &job)
+    CHECK(SUBMIT(0, 0, "u", 0, "", "", 1) == DEOLMUTT_BAD_KIND);
+    CHECK(SUBMIT(8, 0, "u", 0, "", "", 1) == DEOLMUTT_BAD_KIND);
+    CHECK(SUBMIT(DEOLMUTT_SEEN, 0, "u", 0, "S1", "", 1) == DEOLMUTT_BAD_FLAG);
+    CHECK(SUBMIT(DEOLMUTT_FLAG, 0, "u", 0, "", "-", 1) == DEOLMUTT_BAD_FLAG);
+    CHECK(SUBMIT(DEOLMUTT_DELIVER, 2, "u", 0, "x", "", 1) == DEOLMUTT_NO_FOLDER);
+    CHECK(SUBMIT(DEOLMUTT_MOVE, 0, "u", 0, "", "", 1) == DEOLMUTT_SAME_FOLDER);
+    CHECK(SUBMIT(DEOLMUTT_MOVE, 0, "u", 9, "", "", 1) == DEOLMUTT_NO_FOLDER);
+    CHECK(SUBMIT(DEOLMUTT_DELIVER, 0, ".u", 0, "x", "", 1) == DEOLMUTT_BAD_UNIQUE);
+    CHECK(SUBMIT(DEOLMUTT_DELIVER, 0, "", 0, "x", "", 1) == DEOLMUTT_BAD_UNIQUE);
+    CHECK(SUBMIT(DEOLMUTT_COPY, 0, "u", 1, "a:b", "", 1) == DEOLMUTT_BAD_UNIQUE);
+    CHECK(SUBMIT(DEOLMUTT_EXPUNGE, 0, "u", 0, "", "", 0) == DEOLMUTT_BAD_TRIES);
+    CHECK(SUBMIT(DEOLMUTT_EXPUNGE, 0, "u", 0, "", "", 17) == DEOLMUTT_BAD_TRIES);
+    CHECK(SUBMIT(DEOLMUTT_DELIVER, 0, "u", 0, "x", "", 0) == DEOLMUTT_BAD_CHUNK);
+    CHECK(SUBMIT(DEOLMUTT_DELIVER, 0, "old", 0, "x", "", 1) == DEOLMUTT_NAME_USED);
+    CHECK(SUBMIT(DEOLMUTT_COPY, 0, "old", 1, "old", "", 1) == DEOLMUTT_NAME_USED);
+    CHECK(job == 99);
+    CHECK(SUBMIT(DEOLMUTT_DELIVER, 0, "u", 0, "x", "", 1) == DEOLMUTT_OK && job == 1);
+    CHECK(SUBMIT(DEOLMUTT_DELIVER, 0, "u", 0, "x", "", 1) == DEOLMUTT_NAME_USED && job == 1);
+    CHECK(SUBMIT(DEOLMUTT_CLEAN, 1, "", 0, "", "", 0) == DEOLMUTT_OK && job == 2);
+#undef SUBMIT
+    CHECK(deolmutt_submit(NULL, 7, 0, NO_BYTES, 0, NO_BYTES, NO_BYTES, 0, &job) == DEOLMUTT_NULL);
+    CHECK(deolmutt_submit(world, 7, 0, NO_BYTES, 0, NO_BYTES, NO_BYTES, 0, NULL) == DEOLMUTT_NULL);
+    CHECK(deolmutt_submit(world, 7, 0, NULL, 1, 0, NO_BYTES, NO_BYTES, 0, &job) == DEOLMUTT_NULL);
+    CHECK(deolmutt_submit(world, 7, 0, NO_BYTES, 0, NULL, 1, NO_BYTES, 0, &job) == DEOLMUTT_NULL);
+    CHECK(deolmutt_submit(world, 7, 0, NO_BYTES, 0, NO_BYTES, NULL, 1, 0, &job) == DEOLMUTT_NULL);
+    CHECK(deolmutt_submit(world, 7, 0, bytes, long_length, 0, NO_BYTES, NO_BYTES, 0, &job) == DEOLMUTT_LENGTH);
+    CHECK(deolmutt_submit(world, 7, 0, NO_BYTES, 0, bytes, long_length, NO_BYTES, 0, &job) == DEOLMUTT_LENGTH);
+    CHECK(deolmutt_submit(world, 7, 0, NO_BYTES, 0, NO_BYTES, bytes, long_length, 0, &job) == DEOLMUTT_LENGTH);
+    CHECK(job == 2);
+    {
+        uint8_t *body = calloc(1, 16777217);
+        CHECK(body != NULL);
+        CHECK(deolmutt_submit(world, DEOLMUTT_DELIVER, 0, TEXT("v"), 0, body, 16777217, NO_BYTES, 4096, &job) ==
+              DEOLMUTT_BODY_TOO_LONG);
+        CHECK(deolmutt_submit(world, DEOLMUTT_DELIVER, 0, TEXT("v"), 0, body, 16777216, NO_BYTES, 4096, &job) == DEOLMUTT_OK);
+        free(body);
+    }
+    CHECK(deolmutt_free(world) == DEOLMUTT_OK);
+}
+
+static void test_steps(void) {
+    deolmutt_world *world = loaded("folder a\n");
+    deolmutt_step_out step;
+    deolmutt_answer answer = {77, 78};
+    uint64_t job = 0, own = 50;
+    memset(&step, 9, sizeof step);
+    CHECK(deolmutt_step(world, 1, 1, NULL, &step) == DEOLMUTT_NO_JOB);
+    CHECK(deolmutt_job_answer(world, 1, &answer) == DEOLMUTT_NO_JOB && answer.kind == 77);
+    CHECK(deolmutt_submit(world, DEOLMUTT_DELIVER, 0, TEXT("u"), 0, TEXT("hello"), NO_BYTES, 3, &job) == DEOLMUTT_OK);
+    CHECK(deolmutt_job_answer(world, job, &answer) == DEOLMUTT_OK && answer.kind == DEOLMUTT_NO_ANSWER && answer.value == 0);
+    CHECK(deolmutt_step(world, job, 50, &own, &step) == DEOLMUTT_OK);
+    CHECK(step.call == DEOLMUTT_CREATE && step.reply == DEOLMUTT_DONE && step.effect == 0 && step.answer.kind == DEOLMUTT_NO_ANSWER);
+    CHECK(deolmutt_step(world, job, 50, &own, &step) == DEOLMUTT_OK && step.call == DEOLMUTT_APPEND && step.value == 3);
+    CHECK(deolmutt_step(world, job, 50, &own, &step) == DEOLMUTT_OK && step.call == DEOLMUTT_APPEND && step.value == 2);
+    CHECK(deolmutt_step(world, job, 50, &own, &step) == DEOLMUTT_OK && step.call == DEOLMUTT_LINK && step.effect == 1);
+    while (step.answer.kind == DEOLMUTT_NO_ANSWER)
+        CHECK(deolmutt_step(world, job, 50, NULL, &step) == DEOLMUTT_OK);
+    CHECK(step.answer.kind == DEOLMUTT_DELIVERED);
+    CHECK(deolmutt_step(world, job, 51, NULL, &step) == DEOLMUTT_ANSWERED);
+    CHECK(deolmutt_job_answer(world, job, &answer) == DEOLMUTT_OK && answer.kind == DEOLMUTT_DELIVERED);
+    CHECK(deolmutt_step(NULL, job, 1, NULL, &step) == DEOLMUTT_NULL);
+    CHECK(deolmutt_step(world, job, 1, NULL, NULL) == DEOLMUTT_NULL);
+    CHECK(deolmutt_job_answer(NULL, job, &answer) == DEOLMUTT_NULL);
+    CHECK(deolmutt_job_answer(world, job, NULL) == DEOLMUTT_NULL);
+    CHECK(deolmutt_free(world) == DEOLMUTT_OK);
+}
+
+/* Each answer that a store in memory, on one clock, can give. */
+static void test_answers(void) {
+    deolmutt_world *world = loaded("folder a\nfolder b\nfile a cur odd:1,x 5 x\nfile b tmp litter 1 x\n");
+    deolmutt_answer answer;
+    uint64_t job = 0, late = 100 + 24 * 3600;
+    deolmutt_step_out step;
+    CHECK(done(world, DEOLMUTT_DELIVER, 0, "u", 0, "mail", "", 2, 100, &answer) == DEOLMUTT_OK && answer.kind == DEOLMUTT_DELIVERED);
+    CHECK(done(world, DEOLMUTT_SEEN, 0, "u", 0, "S", "", 1, 101, &answer) == DEOLMUTT_OK && answer.kind == DEOLMUTT_FLAGS);
+    CHECK(answer.value == (uint64_t)1 << ('S' - 'A'));
+    CHECK(done(world, DEOLMUTT_FLAG, 0, "u", 0, "aFz", "S", 1, 102, &answer) == DEOLMUTT_OK && answer.kind == DEOLMUTT_FLAGS);
+    CHECK(answer.value == ((uint64_t)1 << 5 | (uint64_t)1 << 26 | (uint64_t)1 << 51));
+    CHECK(done(world, DEOLMUTT_EXPUNGE, 0, "u", 0, "", "", 1, 103, &answer) == DEOLMUTT_OK && answer.kind == DEOLMUTT_NOT_TRASHED);
+    CHECK(done(world, DEOLMUTT_COPY, 0, "u", 1, "v", "", 1, 104, &answer) == DEOLMUTT_OK && answer.kind == DEOLMUTT_COPIED);
+    CHECK(done(world, DEOLMUTT_MOVE, 0, "u", 1, "", "", 1, 105, &answer) == DEOLMUTT_OK && answer.kind == DEOLMUTT_MOVED);
+    CHECK(done(world, DEOLMUTT_FLAG, 1, "u", 0, "T", "", 1, 106, &answer) == DEOLMUTT_OK && answer.kind == DEOLMUTT_FLAGS);
+    CHECK(done(world, DEOLMUTT_EXPUNGE, 1, "u", 0, "", "", 1, 107, &answer) == DEOLMUTT_OK && answer.kind == DEOLMUTT_EXPUNGED);
+    CHECK(done(world, DEOLMUTT_EXPUNGE, 1, "u", 0, "", "", 1, 108, &answer) == DEOLMUTT_OK &&
+          answer.kind == DEOLMUTT_MESSAGE_NOT_THERE);
+    CHECK(done(world, DEOLMUTT_FLAG, 0, "odd", 0, "S", "", 1, 109, &answer) == DEOLMUTT_OK && answer.kind == DEOLMUTT_OTHER_INFO);
+    CHECK(done(world, DEOLMUTT_CLEAN, 1, "", 0, "", "", 0, 200000, &answer) == DEOLMUTT_OK && answer.kind == DEOLMUTT_CLEANED &&
+          answer.value == 1);
+    CHECK(deolmutt_submit(world, DEOLMUTT_DELIVER, 0, TEXT("slow"), 0, TEXT("x"), NO_BYTES, 1, &job) == DEOLMUTT_OK);
+    CHECK(deolmutt_step(world, job, 200000, NULL, &step) == DEOLMUTT_OK);
+    do
+        CHECK(deolmutt_step(world, job, 200000 + late, NULL, &step) == DEOLMUTT_OK);
+    while (step.answer.kind == DEOLMUTT_NO_ANSWER);
+    CHECK(step.answer.kind == DEOLMUTT_TIMED_OUT);
+    CHECK(deolmutt_free(world) == DEOLMUTT_OK);
+}
+
+static uint64_t little(const uint8_t *at, int bytes) {
+    uint64_t value = 0;
+    while (bytes-- > 0)
+        value = value << 8 | at[bytes];
+    return value;
+}
+
+static void test_reading(void) {
+    deolmutt_world *world = loaded("folder a\nfolder b\nfile a new v 5 \\\\x00end\nfile a cur u:2,S 6 hello\nfile a tmp t 7 x\n");
+    uint8_t out[256];
+    size_t length = 99;
+    memset(out, '.', sizeof out);
+    CHECK(deolmutt_list(world, 0, NULL, 0, &length) == DEOLMUTT_ROOM && length == 2 * 16 + 5 + 1);
+    CHECK(deolmutt_list(world, 0, out, length - 1, &length) == DEOLMUTT_ROOM && out[0] == '.');
+    CHECK(deolmutt_list(world, 0, out, sizeof out, &length) == DEOLMUTT_OK && length == 38 && out[38] == '.');
+    CHECK(little(out, 4) == DEOLMUTT_CUR && little(out + 4, 4) == 5 && little(out + 8, 8) == 5 && memcmp(out + 16, "u:2,S", 5) == 0);
+    CHECK(little(out + 21, 4) == DEOLMUTT_NEW && little(out + 25, 4) == 1 && memcmp(out + 37, "v", 1) == 0);
+    CHECK(deolmutt_list(world, 1, out, 0, &length) == DEOLMUTT_OK && length == 0);
+    length = 99;
+    CHECK(deolmutt_list(world, 2, out, sizeof out, &length) == DEOLMUTT_NO_FOLDER && length == 99);
+    CHECK(deolmutt_read(world, TEXT("u"), out, sizeof out, &length) == DEOLMUTT_OK && length == 5 && memcmp(out, "hello", 5) == 0);
+    CHECK(deolmutt_read(world, TEXT("u"), out, 4, &length) == DEOLMUTT_ROOM && length == 5);
+    length = 99;
+    CHECK(deolmutt_read(world, TEXT("w"), out, sizeof out, &length) == DEOLMUTT_NOT_THERE && length == 99);
+    CHECK(deolmutt_read(world, NULL, 0, out, sizeof out, &length) == DEOLMUTT_NOT_THERE);
+    CHECK(deolmutt_names(world, 0, DEOLMUTT_TMP, 0, out, sizeof out, &length) == DEOLMUTT_OK && length == 1 && out[0] == 't');
+    CHECK(deolmutt_names(world, 0, DEOLMUTT_CUR, 0, out, 4, &length) == DEOLMUTT_ROOM && length == 5);
+    CHECK(deolmutt_names(world, 0, DEOLMUTT_CUR, 1, out, sizeof out, &length) == DEOLMUTT_NOT_THERE);
+    CHECK(deolmutt_names(world, 2, DEOLMUTT_CUR, 0, out, sizeof out, &length) == DEOLMUTT_NOT_THERE);
+    CHECK(deolmutt_names(world, 0, 3, 0, out, sizeof out, &length) == DEOLMUTT_NO_PLACE);
+    CHECK(deolmutt_list(NULL, 0, out, 9, &length) == DEOLMUTT_NULL);
+    CHECK(deolmutt_list(world, 0, NULL, 9, &length) == DEOLMUTT_NULL);
+    CHECK(deolmutt_list(world, 0, out, 9, NULL) == DEOLMUTT_NULL);
+    CHECK(deolmutt_list(world, 0, out, (size_t)PTRDIFF_MAX + 1, &length) == DEOLMUTT_LENGTH);
+    CHECK(deolmutt_read(NULL, NO_BYTES, out, 9, &length) == DEOLMUTT_NULL);
+    CHECK(deolmutt_read(world, NULL, 1, out, 9, &length) == DEOLMUTT_NULL);
+    CHECK(deolmutt_read(world, NO_BYTES, NULL, 9, &length) == DEOLMUTT_NULL);
+    CHECK(deolmutt_read(world, NO_BYTES, out, 9, NULL) == DEOLMUTT_NULL);
+    CHECK(deolmutt_read(world, out, (size_t)PTRDIFF_MAX + 1, out, 9, &length) == DEOLMUTT_LENGTH);
+    CHECK(deolmutt_read(world, NO_BYTES, out, (size_t)PTRDIFF_MAX + 1, &length) == DEOLMUTT_LENGTH);
+    CHECK(deolmutt_names(NULL, 0, 0, 0, out, 9, &length) == DEOLMUTT_NULL);
+    CHECK(deolmutt_names(world, 0, 0, 0, NULL, 9, &length) == DEOLMUTT_NULL);
+    CHECK(deolmutt_names(world, 0, 0, 0, out, 9, NULL) == DEOLMUTT_NULL);
+    CHECK(deolmutt_names(world, 0, 0, 0, out, (size_t)PTRDIFF_MAX + 1, &length) == DEOLMUTT_LENGTH);
+    CHECK(deolmutt_free(world) == DEOLMUTT_OK);
+}
+
+static size_t put(uint8_t *out, uint64_t value, int bytes) {
+    int at;
+    for (at = 0; at < bytes; at++)
+        out[at] = (uint8_t)(value >> (8 * at));
+    return (size_t)bytes;
+}
+
+static size_t put_record(uint8_t *out, uint32_t kind, uint32_t folder, uint32_t to, const char *unique, const char *first,
+                         const char *second, uint64_t number) {
+    size_t at = 0;
+    at += put(out + at, kind, 4) + put(out + at + 4, folder, 4) + put(out + at + 8, to, 4) + put(out + at + 12, 0, 4);
+    at += put(out + at, strlen(unique), 8) + put(out + at + 8, strlen(first), 8) + put(out + at + 16, strlen(second), 8);
+    at += put(out + at, number, 8);
+    memcpy(out + at, unique, strlen(unique));
+    at += strlen(unique);
+    memcpy(out + at, first, strlen(first));
+    at += strlen(first);
+    memcpy(out + at, second, strlen(second));
+    return at + strlen(second);
+}
+
+static void test_many(void) {
+    deolmutt_world *world = loaded("folder a\n");
+    deolmutt_answer answers[4];
+    uint8_t records[512];
+    size_t length = 0, first, count = 99, cut;
+    length += put_record(records, DEOLMUTT_DELIVER, 0, 0, "u", "mail", "", 4096);
+    first = length;
+    length += put_record(records + length, DEOLMUTT_SEEN, 0, 0, "u", "S", "", 1);
+    length += put_record(records + length, DEOLMUTT_FLAG, 0, 0, "u", "F", "S", 1);
+    memset(answers, 7, sizeof answers);
+    CHECK(deolmutt_calls(world, records, length, 5, answers, 4, &count) == DEOLMUTT_OK && count == 3);
+    CHECK(answers[0].kind == DEOLMUTT_DELIVERED && answers[1].kind == DEOLMUTT_FLAGS && answers[2].kind == DEOLMUTT_FLAGS);
+    CHECK(answers[2].value == (uint64_t)1 << 5 && answers[3].kind == 0x0707070707070707u);
+    CHECK(deolmutt_calls(world, records, length, 5, answers, 4, &count) == DEOLMUTT_NAME_USED && count == 0);
+    CHECK(deolmutt_calls(world, records + first, length - first, 5, answers, 1, &count) == DEOLMUTT_ROOM && count == 1);
+    CHECK(deolmutt_calls(world, NULL, 0, 5, NULL, 0, &count) == DEOLMUTT_OK && count == 0);
+    CHECK(deolmutt_calls(world, records, length, 5, NULL, 0, &count) == DEOLMUTT_ROOM && count == 0);
+    for (cut = 1; cut < first; cut++) {
+        CHECK(deolmutt_calls(world, records, cut, 5, answers, 4, &count) == DEOLMUTT_BAD_RECORD && count == 0);
+    }
+    memset(records + 16, 255, 8);
+    CHECK(deolmutt_calls(world, records, length, 5, answers, 4, &count) == DEOLMUTT_BAD_RECORD && count == 0);
+    put_record(records, 9, 0, 0, "u", "mail", "", 4096);
+    CHECK(deolmutt_calls(world, records, first, 5, answers, 4, &count) == DEOLMUTT_BAD_KIND && count == 0);
+    CHECK(deolmutt_calls(NULL, records, length, 5, answers, 4, &count) == DEOLMUTT_NULL);
+    CHECK(deolmutt_calls(world, NULL, 1, 5, answers, 4, &count) == DEOLMUTT_NULL);
+    CHECK(deolmutt_calls(world, records, length, 5, NULL, 4, &count) == DEOLMUTT_NULL);
+    CHECK(deolmutt_calls(world, records, length, 5, answers, 4, NULL) == DEOLMUTT_NULL);
+    CHECK(deolmutt_calls(world, records, (size_t)PTRDIFF_MAX + 1, 5, answers, 4, &count) == DEOLMUTT_LENGTH);
+    CHECK(deolmutt_calls(world, records, length, 5, answers, PTRDIFF_MAX, &count) == DEOLMUTT_LENGTH);
+    CHECK(deolmutt_free(world) == DEOLMUTT_OK);
+}
+
+static void test_names(void) {
+    uint8_t out[256];
+    size_t length = 99;
+    uint32_t info = 9;
+    uint64_t flags = 9, line = 9;
+    static const char summary[] = "subject=hi\nfrom=a@b\nend\n";
+    CHECK(deolmutt_unique(1000, 5, 7, 1, TEXT("host"), out, sizeof out, &length) == DEOLMUTT_OK);
+    CHECK(length == 16 && memcmp(out, "1000.M5P7Q1.host", 16) == 0);
+    CHECK(deolmutt_unique(1000, 5, 7, 1, TEXT("host"), out, 15, &length) == DEOLMUTT_ROOM && length == 16);
+    CHECK(deolmutt_unique(1000, 1000000, 7, 1, TEXT("host"), out, sizeof out, &length) == DEOLMUTT_BAD_MICRO);
+    CHECK(deolmutt_unique(1000, 5, 7, 1, NO_BYTES, out, sizeof out, &length) == DEOLMUTT_BAD_HOST);
+    CHECK(deolmutt_unique(1000, 5, 7, 1, NULL, 1, out, sizeof out, &length) == DEOLMUTT_NULL);
+    CHECK(deolmutt_unique(1000, 5, 7, 1, NO_BYTES, NULL, 1, &length) == DEOLMUTT_NULL);
+    CHECK(deolmutt_unique(1000, 5, 7, 1, NO_BYTES, out, 1, NULL) == DEOLMUTT_NULL);
+    CHECK(deolmutt_unique(1000, 5, 7, 1, out, (size_t)PTRDIFF_MAX + 1, out, 1, &length) == DEOLMUTT_LENGTH);
+    CHECK(deolmutt_split(TEXT("u.host:2,FS"), &length, &info, &flags) == DEOLMUTT_OK);
+    CHECK(length == 6 && info == 1 && flags == ((uint64_t)1 << 5 | (uint64_t)1 << 18));
+    CHECK(deolmutt_split(TEXT("u"), &length, &info, &flags) == DEOLMUTT_OK && length == 1 && info == 0 && flags == 0);
+    CHECK(deolmutt_split(TEXT("u:1,x"), &length, &info, &flags) == DEOLMUTT_OK && length == 1 && info == 2 && flags == 0);
+    length = 99;
+    CHECK(deolmutt_split(TEXT(".u"), &length, &info, &flags) == DEOLMUTT_NO_MESSAGE_NAME && length == 99);
+    CHECK(deolmutt_split(NO_BYTES, &length, &info, &flags) == DEOLMUTT_NO_MESSAGE_NAME);
+    CHECK(deolmutt_split(NULL, 1, &length, &info, &flags) == DEOLMUTT_NULL);
+    CHECK(deolmutt_split(NO_BYTES, NULL, &info, &flags) == DEOLMUTT_NULL);
+    CHECK(deolmutt_split(NO_BYTES, &length, NULL, &flags) == DEOLMUTT_NULL);
+    CHECK(deolmutt_split(NO_BYTES, &length, &info, NULL) == DEOLMUTT_NULL);
+    CHECK(deolmutt_summary(TEXT("Subject: hi\nFrom: a@b\n\nbody"), out, sizeof out, &length) == DEOLMUTT_OK);
+    CHECK(length == strlen(summary) && memcmp(out, summary, length) == 0);
+    CHECK(deolmutt_summary(TEXT("Subject: hi\nFrom: a@b\n\nbody"), out, 3, &length) == DEOLMUTT_ROOM && length == strlen(summary));
+    CHECK(deolmutt_summary(NULL, 1, out, 3, &length) == DEOLMUTT_NULL);
+    CHECK(deolmutt_summary(NO_BYTES, NULL, 3, &length) == DEOLMUTT_NULL);
+    CHECK(deolmutt_summary(NO_BYTES, out, 3, NULL) == DEOLMUTT_NULL);
+    CHECK(deolmutt_transcript(TEXT("folder i\njob clean i\n"), out, sizeof out, &length, &line) == DEOLMUTT_OK);
+    CHECK(length == 6 && memcmp(out, "job 1\n", 6) == 0 && line == 0);
+    CHECK(deolmutt_transcript(TEXT("folder i\njob clean i\nnone\n"), out, sizeof out, &length, &line) == DEOLMUTT_BAD_COMMAND);
+    CHECK(length == 6 && memcmp(out, "job 1\n", 6) == 0 && line == 3);
+    CHECK(deolmutt_transcript(TEXT("folder i\njob clean i\nnone\n"), out, 5, &length, &line) == DEOLMUTT_ROOM);
+    CHECK(length == 6 && line == 3);
+    CHECK(deolmutt_transcript(NULL, 1, out, 5, &length, &line) == DEOLMUTT_NULL);
+    CHECK(deolmutt_transcript(NO_BYTES, NULL, 5, &length, &line) == DEOLMUTT_NULL);
+    CHECK(deolmutt_transcript(NO_BYTES, out, 5, NULL, &line) == DEOLMUTT_NULL);
+    CHECK(deolmutt_transcript(NO_BYTES, out, 5, &length, NULL) == DEOLMUTT_NULL);
+}
+
+static void test_call(void) {
+    deolmutt_world *world = loaded("folder a\n");
+    deolmutt_answer answer = {77, 78};
+    uint64_t job = 99, own = 4;
+    CHECK(deolmutt_call(world, 9, 0, TEXT("u"), 0, NO_BYTES, NO_BYTES, 1, 1, NULL, &job, &answer) == DEOLMUTT_BAD_KIND);
+    CHECK(job == 0 && answer.kind == DEOLMUTT_NO_ANSWER && answer.value == 0);
+    CHECK(deolmutt_call(world, DEOLMUTT_DELIVER, 0, TEXT("u"), 0, NO_BYTES, NO_BYTES, 1, 1, &own, &job, &answer) == DEOLMUTT_OK);
+    CHECK(job == 1 && answer.kind == DEOLMUTT_DELIVERED);
+    CHECK(deolmutt_call(NULL, 1, 0, NO_BYTES, 0, NO_BYTES, NO_BYTES, 1, 1, NULL, &job, &answer) == DEOLMUTT_NULL);
+    CHECK(deolmutt_call(world, 1, 0, NULL, 1, 0, NO_BYTES, NO_BYTES, 1, 1, NULL, &job, &answer) == DEOLMUTT_NULL);
+    CHECK(deolmutt_call(world, 1, 0, NO_BYTES, 0, NULL, 1, NO_BYTES, 1, 1, NULL, &job, &answer) == DEOLMUTT_NULL);
+    CHECK(deolmutt_call(world, 1, 0, NO_BYTES, 0, NO_BYTES, NULL, 1, 1, 1, NULL, &job, &answer) == DEOLMUTT_NULL);
+    CHECK(deolmutt_call(world, 1, 0, NO_BYTES, 0, NO_BYTES, NO_BYTES, 1, 1, NULL, NULL, &answer) == DEOLMUTT_NULL);
+    CHECK(deolmutt_call(world, 1, 0, NO_BYTES, 0, NO_BYTES, NO_BYTES, 1, 1, NULL, &job, NULL) == DEOLMUTT_NULL);
+    CHECK(deolmutt_free(world) == DEOLMUTT_OK);
+}
+
+/* 10,000 jobs, and one more. */
+static void test_full(void) {
+    deolmutt_world *world = loaded("folder a\n");
+    deolmutt_answer answer;
+    char unique[16];
+    int at;
+    for (at = 0; at < 10000; at++) {
+        sprintf(unique, "u%d", at);
+        CHECK(done(world, DEOLMUTT_DELIVER, 0, unique, 0, "x", "", 1, 1, &answer) == DEOLMUTT_OK && answer.kind == DEOLMUTT_DELIVERED);
+    }
+    CHECK(done(world, DEOLMUTT_DELIVER, 0, "v", 0, "x", "", 1, 1, &answer) == DEOLMUTT_TOO_MANY_JOBS);
+    CHECK(deolmutt_free(world) == DEOLMUTT_OK);
+}
+
+int main(void) {
+    test_texts();
+    test_loads();
+    test_submits();
+    test_steps();
+    test_answers();
+    test_reading();
+    test_many();
+    test_names();
+    test_call();
+    test_full();
+    printf("%lu checks\n", checked);
+    return 0;
+}

@@ -1,0 +1,56 @@
+/* So many calls, given as the argument, in worlds of 1,000 calls each. Prints the peak of the memory in KiB, which is to be the same for
+   any number of calls. */
+#include "deolmutt.h"
+
+#include <stdio.h>
+#include <stdlib.h>
+#include <string.h>
+#include <sys/resource.h>
+
+#define EACH 1000
+
+static void must(int is_so, const char *what) {
+    if (!is_so) {
+        fprintf(stderr, "leaks: %s\n", what);
+        exit(1);
+    }
+}
+
+static void calls_of_a_world(void) {
+    static const char lines[] = "folder a\nfolder b\n";
+    static uint8_t out[1 << 17];
+    deolmutt_world *world = NULL;
+    deolmutt_answer answer;
+    uint64_t line = 0, job = 0;
+    size_t length = 0;
+    char unique[16];
+    int at;
+    must(deolmutt_load((const uint8_t *)lines, sizeof lines - 1, &world, &line) == DEOLMUTT_OK, "load");
+    for (at = 0; at < EACH / 2; at++) {
+        size_t name = (size_t)sprintf(unique, "u%d", at);
+        must(deolmutt_call(world, DEOLMUTT_DELIVER, 0, (const uint8_t *)unique, name, 0, (const uint8_t *)lines, sizeof lines, NULL, 0, 7, 9,
+                           NULL, &job, &answer) == DEOLMUTT_OK, "deliver");
+        must(deolmutt_call(world, DEOLMUTT_SEEN, 0, (const uint8_t *)unique, name, 0, (const uint8_t *)"S", 1, NULL, 0, 1, 9, NULL, &job,
+                           &answer) == DEOLMUTT_OK, "seen");
+        must(deolmutt_call(world, DEOLMUTT_DELIVER, 0, (const uint8_t *)unique, name, 0, NULL, 0, NULL, 0, 7, 9, NULL, &job, &answer) ==
+                 DEOLMUTT_NAME_USED, "used");
+        must(deolmutt_read(world, (const uint8_t *)unique, name, out, sizeof out, &length) == DEOLMUTT_OK, "read");
+    }
+    must(deolmutt_list(world, 0, out, sizeof out, &length) == DEOLMUTT_OK, "list");
+    must(deolmutt_free(world) == DEOLMUTT_OK, "free");
+    must(deolmutt_load((const uint8_t *)"none", 4, &world, &line) == DEOLMUTT_BAD_COMMAND, "refused load");
+    must(deolmutt_summary((const uint8_t *)"Subject: x\n", 11, out, sizeof out, &length) == DEOLMUTT_OK, "summary");
+    must(deolmutt_transcript((const uint8_t *)lines, sizeof lines - 1, out, sizeof out, &length, &line) == DEOLMUTT_OK, "transcript");
+}
+
+int main(int count, char **words) {
+    long left = count > 1 ? atol(words[1]) : EACH;
+    struct rusage used;
+    while (left > 0) {
+        calls_of_a_world();
+        left -= EACH;
+    }
+    getrusage(RUSAGE_SELF, &used);
+    printf("%ld\n", used.ru_maxrss);
+    return 0;
+}

@@ -1,0 +1,93 @@
+/* Each allocation of each call, refused in turn: the call says so or goes on, its world is still of use, and nothing is lost. It is linked
+   with malloc, calloc and realloc wrapped. */
+#include "deolmutt.h"
+
+#include <stdio.h>
+#include <stdlib.h>
+#include <string.h>
+
+void *__real_malloc(size_t size);
+void *__real_calloc(size_t count, size_t size);
+void *__real_realloc(void *at, size_t size);
+
+static long until = -1;
+
+static int is_refused(void) { return until >= 0 && until-- == 0; }
+
+void *__wrap_malloc(size_t size) { return is_refused() ? NULL : __real_malloc(size); }
+void *__wrap_calloc(size_t count, size_t size) { return is_refused() ? NULL : __real_calloc(count, size); }
+void *__wrap_realloc(void *at, size_t size) { return is_refused() ? NULL : __real_realloc(at, size); }
+
+static unsigned long refused;
+
+static void must(int is_so, const char *what) {
+    if (!is_so) {
+        fprintf(stderr, "memory: %s\n", what);
+        exit(1);
+    }
+}
+
+static const char lines[] = "folder a\nfile a cur old:2,S 5 body\n";
+
+static deolmutt_world *loaded(void) {
+    deolmutt_world *world = NULL;
+    uint64_t line = 0;
+    must(deolmutt_load((const uint8_t *)lines, sizeof lines - 1, &world, &line) == DEOLMUTT_OK, "load");
+    return world;
+}
+
+/* One call with its allocation `at` refused: whether there was such an allocation. */
+static int call_without(long at) {
+    static uint8_t out[4096], text[64];
+    deolmutt_world *world = loaded(), *other = NULL;
+    deolmutt_answer answer;
+    deolmutt_step_out step;
+    uint64_t job = 0, line = 9;
+    size_t length = 9, before = 0, after = 0;
+    uint32_t status;
+    int was_met = 0;
+#define WITHOUT(call)                                                           \
+    do {                                                                        \
+        until = at;                                                             \
+        status = (call);                                                        \
+        if (until < 0) {                                                        \
+            was_met = 1;                                                        \
+            refused++;                                                          \
+        }                                                                       \
+        must(status == DEOLMUTT_OK || (status == DEOLMUTT_NO_MEMORY && until < 0), #call); \
+        until = -1;                                                             \
+    } while (0)
+    must(deolmutt_list(world, 0, out, sizeof out, &before) == DEOLMUTT_OK, "list before");
+    WITHOUT(deolmutt_call(world, DEOLMUTT_DELIVER, 0, (const uint8_t *)"u", 1, 0, (const uint8_t *)"mail", 4, NULL, 0, 2, 9, NULL, &job,
+                          &answer));
+    if (status == DEOLMUTT_NO_MEMORY && job == 0) {
+        must(deolmutt_list(world, 0, out, sizeof out, &after) == DEOLMUTT_OK && after == before, "a refused call changes nothing");
+        must(deolmutt_call(world, DEOLMUTT_DELIVER, 0, (const uint8_t *)"u", 1, 0, (const uint8_t *)"mail", 4, NULL, 0, 2, 9, NULL, &job,
+                           &answer) == DEOLMUTT_OK && answer.kind == DEOLMUTT_DELIVERED, "a refused call may come again");
+    } else if (status == DEOLMUTT_NO_MEMORY) {
+        do
+            must(deolmutt_step(world, job, 9, NULL, &step) == DEOLMUTT_OK, "a job that is there goes on");
+        while (step.answer.kind == DEOLMUTT_NO_ANSWER);
+        must(step.answer.kind == DEOLMUTT_DELIVERED, "and is answered");
+    }
+    WITHOUT(deolmutt_submit(world, DEOLMUTT_SEEN, 0, (const uint8_t *)"u", 1, 0, (const uint8_t *)"S", 1, NULL, 0, 1, &job));
+    WITHOUT(deolmutt_list(world, 0, out, sizeof out, &after));
+    WITHOUT(deolmutt_load((const uint8_t *)lines, sizeof lines - 1, &other, &line));
+    must((status == DEOLMUTT_OK) == (other != NULL) && line == 0, "a world or none");
+    if (other != NULL)
+        must(deolmutt_free(other) == DEOLMUTT_OK, "free");
+    WITHOUT(deolmutt_unique(1, 2, 3, 4, (const uint8_t *)"host", 4, text, sizeof text, &length));
+    WITHOUT(deolmutt_summary((const uint8_t *)"Subject: a\nFrom: b\n", 19, out, sizeof out, &length));
+    WITHOUT(deolmutt_transcript((const uint8_t *)"folder i\njob deliver i u 1 x\nfinish 1 1\nlist i\n", 47, out, sizeof out, &length, &line));
+    WITHOUT(deolmutt_free(world));
+    return was_met;
+}
+
+int main(void) {
+    long at = 0;
+    while (call_without(at))
+        at++;
+    must(refused > 0, "some allocation is refused");
+    printf("%lu refused allocations\n", refused);
+    return 0;
+}
