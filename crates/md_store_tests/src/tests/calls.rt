@@ -147,11 +147,7 @@ fn a_refused_call_comes_back(rt: HostRuntime) -> Result<(), Fail> {
 }
 
 // Steps the first job as soon as it is there. Whether this thread was given its answer.
-fn takes_answer<J: Naming, R: Wait>(
-    rt: &R,
-    store: &Store<Gated, J>,
-    pass: &mut Pass<J>,
-) -> bool {
+fn takes_answer<J: Naming, R: Wait>(rt: &R, store: &Store<Gated, J>, pass: &mut Pass<J>) -> bool {
     for _ in 0..MOST_TURNS {
         match store.step(rt, pass, 1, 1000, None) {
             Ok(step) => {
@@ -194,7 +190,9 @@ pub fn call_and_take<J: Naming + Send + Sync, R: Threads + Wait + Sync>(
 ) -> bool {
     match passes {
         [one, two] => {
-            share_a_job(rt, alloc, store, one, two) && lists(alloc, store, one, 0, b"a")
+            share_a_job(rt, alloc, store, one, two)
+                && lists(alloc, store, one, 0, b"a")
+                && lists(alloc, store, two, 0, b"a")
         }
         _ => false,
     }
@@ -297,7 +295,7 @@ fn a_call_has_little_memory(rt: HostRuntime) -> Result<(), Fail> {
         scene: Scene::CallLater,
         folders: 1,
         passes: 1,
-        wanted: (3, 6, 3),
+        wanted: (3, 5, 3),
     };
     let alloc = rt.alloc();
     let refused = stage(
