@@ -39,6 +39,7 @@ uint32_t md_ffi_call(struct deolmutt_world *handle, const struct asked *asked, c
                      const uint8_t *first, size_t first_length, const uint8_t *second, size_t second_length, uint64_t now,
                      const struct own *own, uint64_t *job, deolmutt_answer *answer);
 uint32_t md_ffi_answer(struct deolmutt_world *handle, uint64_t job, deolmutt_answer *answer);
+uint32_t md_ffi_settle(struct deolmutt_world *handle, uint64_t *job);
 uint32_t md_ffi_list(struct deolmutt_world *handle, uint32_t folder, uint8_t *out, size_t room, size_t *length);
 uint32_t md_ffi_read(struct deolmutt_world *handle, const uint8_t *unique, size_t unique_length, uint8_t *out, size_t room,
                      size_t *length);
@@ -153,6 +154,12 @@ uint32_t deolmutt_job_answer(deolmutt_world *world, uint64_t job, deolmutt_answe
     if (world == NULL || answer == NULL)
         return DEOLMUTT_NULL;
     return md_ffi_answer(world, job, answer);
+}
+
+uint32_t deolmutt_settle(deolmutt_world *world, uint64_t *job) {
+    if (world == NULL || job == NULL)
+        return DEOLMUTT_NULL;
+    return md_ffi_settle(world, job);
 }
 
 uint32_t deolmutt_list(deolmutt_world *world, uint32_t folder, uint8_t *out, size_t room, size_t *length) {

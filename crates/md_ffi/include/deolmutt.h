@@ -57,7 +57,7 @@ enum deolmutt_refusal {
     DEOLMUTT_BAD_RECORD = 7,       /* records that end amid one */
     DEOLMUTT_NOT_THERE = 8,        /* no message of that unique name; no name at that position */
     DEOLMUTT_NO_MESSAGE_NAME = 9,  /* a name that begins with a dot or a colon, or is empty */
-    DEOLMUTT_UNANSWERED = 10,      /* a job has no answer yet; no call gives it */
+    DEOLMUTT_UNANSWERED = 10,      /* a job has no answer yet */
     DEOLMUTT_CLOSED = 11,          /* a handle without a world; no call on a world of deolmutt_load gives it */
 
     /* of a world */
@@ -201,6 +201,11 @@ uint32_t deolmutt_call(deolmutt_world *world, uint32_t kind, uint32_t folder, co
 
 /* The answer of a job, DEOLMUTT_NO_ANSWER where it has none yet. Refused: DEOLMUTT_NO_JOB. */
 uint32_t deolmutt_job_answer(deolmutt_world *world, uint64_t job, deolmutt_answer *answer);
+
+/* The world begins again: the same folders, messages and clock, with no job, so that it takes 10,000 calls more. Of the names that were
+   used only those are still used that its files have. *job is 0. Refused: DEOLMUTT_UNANSWERED, with *job the first job that has no answer
+   yet; NO_MEMORY, with *job 0. */
+uint32_t deolmutt_settle(deolmutt_world *world, uint64_t *job);
 
 /* The messages of a folder, in order of unique name. Each is `u32 place, u32 length of the name, u64 bytes of the message`, little-endian,
    and then the whole name of its file. Refused: DEOLMUTT_NO_FOLDER, NO_MEMORY, ROOM (*length is written). */

@@ -5,6 +5,7 @@ use Rattle.md_core.specs.declared.error.CoreError.TheVariants.{NoJob}
 use Rattle.md_core.specs.declared.jobs.answer.Answer.{Answer}
 use Rattle.md_core.specs.Machine.{Occurrence, job_at}
 use Rattle.md_core.specs.Runs.{Run, and_call, and_event, answer_of, jobs_of}
+use Rattle.md_core.specs.Settling.{settled}
 use Rattle.md_core.specs.Submitting.{submit_refusal}
 use Rattle.md_script.specs.Kinds.{core_kind}
 use Rattle.md_script.specs.declared.error.PlayKind.TheVariants.{NoMemory}
@@ -16,7 +17,7 @@ use Rattle.md_ffi.specs.declared.shown.StepShown.{StepShown}
 use Rattle.md_ffi.specs.declared.asked.Asked.{Asked}
 use Rattle.md_ffi.specs.declared.held.Held.{Held}
 use Rattle.md_ffi.specs.declared.refusal.Refusal.{Refusal}
-use Rattle.md_ffi.specs.declared.refusal.Refusal.TheVariants.{Kind, Closed}
+use Rattle.md_ffi.specs.declared.refusal.Refusal.TheVariants.{Kind, Closed, Unanswered}
 
 -- a closed handle stays so and refuses, and this is kept; behind an open one the world goes from one run to another, and this holds of the two
 abbrev pub OnHeld : Option Held → Option Held → ℕ → Type 0 → (Run → Run → Type 0) → Type 0
@@ -73,3 +74,10 @@ Steps old new event refusal before after status =
 abbrev pub Calls : Run → ℕ → AnswerShown → ℕ → Type 0
 Calls new job after status =
     ((status ≡ 0) × (after.kind ≡ answer_number (answer_of (job_at (jobs_of new) job)))) ⊎ ((after.kind ≡ 0) × (after.value ≡ 0))
+
+-- A world settles where each job has its answer, and begins again; or it stays as it was: with the first job that has none, or out of memory,
+-- which may come in place of either.
+unfoldable pub Settles : Run → Run → Option ℕ → ℕ → ℕ → Type 0
+Settles old new None status job = ((new ≡ settled old) × (status ≡ 0) × (job ≡ 0)) ⊎ ((new ≡ old) × (status ≡ 4) × (job ≡ 0))
+Settles old new (Some first) status job =
+    ((new ≡ old) × (status ≡ refusal_number Unanswered) × (job ≡ first)) ⊎ ((new ≡ old) × (status ≡ 4) × (job ≡ 0))

@@ -14,6 +14,7 @@ pub mod names;
 pub mod reading;
 mod refusal;
 mod room;
+pub mod settle;
 mod shown;
 mod slot;
 pub mod version;

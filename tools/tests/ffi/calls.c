@@ -346,10 +346,46 @@ static void test_call(void) {
     CHECK(deolmutt_free(world) == DEOLMUTT_OK);
 }
 
-/* 10,000 jobs, and one more. */
+/* A world that settles: it takes more jobs, and a name that has gone is free again. */
+static void test_settle(void) {
+    deolmutt_world *world = loaded("folder a\nfile a new kept 5 body\n");
+    deolmutt_answer answer;
+    deolmutt_step_out step;
+    uint8_t out[64];
+    size_t length;
+    uint64_t job = 99;
+    CHECK(deolmutt_settle(NULL, &job) == DEOLMUTT_NULL);
+    CHECK(deolmutt_settle(world, NULL) == DEOLMUTT_NULL && job == 99);
+    CHECK(deolmutt_settle(world, &job) == DEOLMUTT_OK && job == 0);
+    CHECK(done(world, DEOLMUTT_DELIVER, 0, "u", 0, "mail", "", 1, 1, &answer) == DEOLMUTT_OK && answer.kind == DEOLMUTT_DELIVERED);
+    CHECK(done(world, DEOLMUTT_SEEN, 0, "u", 0, "T", "", 1, 1, &answer) == DEOLMUTT_OK && answer.kind == DEOLMUTT_FLAGS);
+    CHECK(done(world, DEOLMUTT_EXPUNGE, 0, "u", 0, "", "", 1, 1, &answer) == DEOLMUTT_OK && answer.kind == DEOLMUTT_EXPUNGED);
+    CHECK(done(world, DEOLMUTT_DELIVER, 0, "u", 0, "again", "", 1, 1, &answer) == DEOLMUTT_NAME_USED);
+    CHECK(deolmutt_submit(world, DEOLMUTT_CLEAN, 0, NO_BYTES, 0, NO_BYTES, NO_BYTES, 0, &job) == DEOLMUTT_OK && job == 4);
+    CHECK(deolmutt_submit(world, DEOLMUTT_CLEAN, 0, NO_BYTES, 0, NO_BYTES, NO_BYTES, 0, &job) == DEOLMUTT_OK && job == 5);
+    CHECK(deolmutt_settle(world, &job) == DEOLMUTT_UNANSWERED && job == 4);
+    for (job = 5; job >= 4; job--) {
+        uint64_t first;
+        CHECK(deolmutt_settle(world, &first) == DEOLMUTT_UNANSWERED && first == 4);
+        CHECK(deolmutt_job_answer(world, job, &answer) == DEOLMUTT_OK && answer.kind == DEOLMUTT_NO_ANSWER);
+        do
+            CHECK(deolmutt_step(world, job, 1, NULL, &step) == DEOLMUTT_OK);
+        while (step.answer.kind == DEOLMUTT_NO_ANSWER);
+    }
+    CHECK(deolmutt_settle(world, &job) == DEOLMUTT_OK && job == 0);
+    CHECK(deolmutt_job_answer(world, 1, &answer) == DEOLMUTT_NO_JOB);
+    CHECK(deolmutt_read(world, TEXT("kept"), out, sizeof out, &length) == DEOLMUTT_OK && length == 4 && memcmp(out, "body", 4) == 0);
+    CHECK(done(world, DEOLMUTT_DELIVER, 0, "kept", 0, "x", "", 1, 1, &answer) == DEOLMUTT_NAME_USED);
+    CHECK(done(world, DEOLMUTT_DELIVER, 0, "u", 0, "again", "", 1, 1, &answer) == DEOLMUTT_OK && answer.kind == DEOLMUTT_DELIVERED);
+    CHECK(deolmutt_read(world, TEXT("u"), out, sizeof out, &length) == DEOLMUTT_OK && length == 5 && memcmp(out, "again", 5) == 0);
+    CHECK(deolmutt_free(world) == DEOLMUTT_OK);
+}
+
+/* 10,000 jobs, and one more, which the settled world takes. */
 static void test_full(void) {
     deolmutt_world *world = loaded("folder a\n");
     deolmutt_answer answer;
+    uint64_t job = 99;
     char unique[16];
     int at;
     for (at = 0; at < 10000; at++) {
@@ -357,6 +393,10 @@ static void test_full(void) {
         CHECK(done(world, DEOLMUTT_DELIVER, 0, unique, 0, "x", "", 1, 1, &answer) == DEOLMUTT_OK && answer.kind == DEOLMUTT_DELIVERED);
     }
     CHECK(done(world, DEOLMUTT_DELIVER, 0, "v", 0, "x", "", 1, 1, &answer) == DEOLMUTT_TOO_MANY_JOBS);
+    CHECK(deolmutt_settle(world, &job) == DEOLMUTT_OK && job == 0);
+    CHECK(deolmutt_call(world, DEOLMUTT_DELIVER, 0, TEXT("v"), 0, TEXT("x"), NO_BYTES, 1, 1, NULL, &job, &answer) == DEOLMUTT_OK);
+    CHECK(job == 1 && answer.kind == DEOLMUTT_DELIVERED);
+    CHECK(done(world, DEOLMUTT_DELIVER, 0, "u9999", 0, "x", "", 1, 1, &answer) == DEOLMUTT_NAME_USED);
     CHECK(deolmutt_free(world) == DEOLMUTT_OK);
 }
 
@@ -370,6 +410,7 @@ int main(void) {
     test_many();
     test_names();
     test_call();
+    test_settle();
     test_full();
     printf("%lu checks\n", checked);
     return 0;

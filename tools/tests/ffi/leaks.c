@@ -1,5 +1,5 @@
-/* So many calls, given as the argument, in worlds of 1,000 calls each. Prints the peak of the memory in KiB, which is to be the same for
-   any number of calls. */
+/* So many calls, given as the argument, in worlds of 1,000 calls each, which settle now and then. Prints the peak of the memory in KiB, which
+   is to be the same for any number of calls. */
 #include "deolmutt.h"
 
 #include <stdio.h>
@@ -35,6 +35,8 @@ static void calls_of_a_world(void) {
         must(deolmutt_call(world, DEOLMUTT_DELIVER, 0, (const uint8_t *)unique, name, 0, NULL, 0, NULL, 0, 7, 9, NULL, &job, &answer) ==
                  DEOLMUTT_NAME_USED, "used");
         must(deolmutt_read(world, (const uint8_t *)unique, name, out, sizeof out, &length) == DEOLMUTT_OK, "read");
+        if (at % 100 == 99)
+            must(deolmutt_settle(world, &job) == DEOLMUTT_OK && job == 0, "settle");
     }
     must(deolmutt_list(world, 0, out, sizeof out, &length) == DEOLMUTT_OK, "list");
     must(deolmutt_free(world) == DEOLMUTT_OK, "free");

@@ -70,6 +70,15 @@ static int call_without(long at) {
         while (step.answer.kind == DEOLMUTT_NO_ANSWER);
         must(step.answer.kind == DEOLMUTT_DELIVERED, "and is answered");
     }
+    WITHOUT(deolmutt_settle(world, &job));
+    must(job == 0, "each job has its answer");
+    if (status == DEOLMUTT_OK) {
+        must(deolmutt_step(world, 1, 9, NULL, &step) == DEOLMUTT_NO_JOB, "a settled world has no job");
+    } else {
+        must(deolmutt_step(world, 1, 9, NULL, &step) == DEOLMUTT_ANSWERED, "a world that did not settle has its jobs");
+        must(deolmutt_settle(world, &job) == DEOLMUTT_OK, "a refused settle may come again");
+    }
+    must(deolmutt_list(world, 0, out, sizeof out, &after) == DEOLMUTT_OK && after > before, "and its messages");
     WITHOUT(deolmutt_submit(world, DEOLMUTT_SEEN, 0, (const uint8_t *)"u", 1, 0, (const uint8_t *)"S", 1, NULL, 0, 1, &job));
     WITHOUT(deolmutt_list(world, 0, out, sizeof out, &after));
     WITHOUT(deolmutt_load((const uint8_t *)lines, sizeof lines - 1, &other, &line));
