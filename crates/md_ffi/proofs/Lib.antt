@@ -1,3 +1,4 @@
 pub mod Refused
 pub mod Slots
+pub mod Unanswered
 pub mod Values

@@ -75,9 +75,8 @@ abbrev pub Calls : Run → ℕ → AnswerShown → ℕ → Type 0
 Calls new job after status =
     ((status ≡ 0) × (after.kind ≡ answer_number (answer_of (job_at (jobs_of new) job)))) ⊎ ((after.kind ≡ 0) × (after.value ≡ 0))
 
--- A world settles where each job has its answer, and begins again; or it stays as it was: with the first job that has none, or out of memory,
--- which may come in place of either.
+-- A world settles where each job has its answer, and begins again, or is out of memory and as it was. Else it is as it was, and the first job
+-- that has no answer is named.
 unfoldable pub Settles : Run → Run → Option ℕ → ℕ → ℕ → Type 0
-Settles old new None status job = ((new ≡ settled old) × (status ≡ 0) × (job ≡ 0)) ⊎ ((new ≡ old) × (status ≡ 4) × (job ≡ 0))
-Settles old new (Some first) status job =
-    ((new ≡ old) × (status ≡ refusal_number Unanswered) × (job ≡ first)) ⊎ ((new ≡ old) × (status ≡ 4) × (job ≡ 0))
+Settles old new None status job = (((new ≡ settled old) × (status ≡ 0)) ⊎ ((new ≡ old) × (status ≡ 4))) × (job ≡ 0)
+Settles old new (Some first) status job = (new ≡ old) × (status ≡ refusal_number Unanswered) × (job ≡ first)

@@ -1,23 +1,39 @@
 //! A world that begins again behind its handle.
-ghost use Rattle.std.specs.Prelude.{◌≡◌, ◌⊎◌, None, IfErr, IfOk, OnOk};
+ghost use Rattle.std.specs.Prelude.{◌≡◌, None, IfErr, IfOk, OnOk};
 ghost use Rattle.md_core.specs.Settling.{first_unanswered, settle_error, settled};
-ghost use Rattle.md_core.specs.declared.world.settle.SettleError.TheVariants.{NoMemory};
 ghost use Rattle.md_ffi.specs.Doing.{OnHeld, Settles};
 
 use crate::handle::Handle;
 use crate::refusal::{NO_MEMORY, Refusal};
-use md_core::{SettleError, SettleRefused, World};
+use md_core::{JobId, SettleError, SettleRefused, World};
 use md_dirs::IndexDirs;
 use std::alloc::Global;
 use std::mem;
+
+// The number of the first job that has no answer.
+#[tactic(auto, using(crate::proofs::Unanswered::starts, crate::proofs::Unanswered::goes_on, crate::proofs::Unanswered::found, crate::proofs::Unanswered::ended))]
+fn first_working(world: &World<IndexDirs>) -> Option<JobId>
+    ensures { result ≡ first_unanswered world.now }
+{
+    world.interleaves();
+    for job in 0..world.jobs() {
+        if world.answer(job + 1).is_none() {
+            return Some(job + 1);
+        }
+    }
+    None
+}
 
 // Settles a world in its place. A world of no folders stands in for it meanwhile, which may itself be out of memory.
 fn settle(alloc: Global, world: &mut World<IndexDirs>) -> Result<(), SettleError>
     ensures ok { IfOk result (λ _. world.new ≡ settled world.old) }
     ensures answered { OnOk result (first_unanswered world.old ≡ None) }
     ensures unchanged { IfErr result (λ _. world.new ≡ world.old) }
-    ensures refused { IfErr result (λ e. (e ≡ NoMemory) ⊎ (e ≡ settle_error (first_unanswered world.old))) }
+    ensures refused { IfErr result (λ e. e ≡ settle_error (first_unanswered world.old)) }
 {
+    if let Some(job) = first_working(world) {
+        return Err(SettleError::Unanswered(job));
+    }
     let Ok(empty) = World::load(alloc, IndexDirs::new(alloc, 0)) else {
         return Err(SettleError::NoMemory);
     };
@@ -36,7 +52,7 @@ fn settle(alloc: Global, world: &mut World<IndexDirs>) -> Result<(), SettleError
 
 /// Settles the world of a handle: its directories and its clock stay, and it has no job and an empty log. `job` is set to 0.
 ///
-/// Refused `Closed`; `Unanswered`, with `job` the first job without an answer; and out of memory, which may come in place of `Unanswered`.
+/// Refused `Closed`; `Unanswered`, with `job` the first job without an answer; and out of memory, where each job has its answer.
 /// The world is as it was then. It costs a look at each name, and makes no directory call.
 #[unsafe(no_mangle)]
 #[tactic(auto, unfolding(crate::specs::Doing::Settles))]
