@@ -10,6 +10,7 @@
 #define CALLS 9000
 #define BODY 1000
 #define LISTINGS 20
+#define SETTLED 100000
 
 static uint8_t body[BODY];
 static char names[CALLS][32];
@@ -80,10 +81,29 @@ static void measure_others(void) {
     must(deolmutt_free(world) == DEOLMUTT_OK, "free");
 }
 
+/* A load of many messages, under names that come in no order, and a settle of the same world. */
+static void measure_settle(void) {
+    static char lines[SETTLED * 80 + 64];
+    char *end = lines + sprintf(lines, "folder a\n");
+    for (long at = 0; at < SETTLED; at++) {
+        long second = 1700000000 + at * 7919 % SETTLED;
+        end += sprintf(end, "file a cur %ld.M%06ldP%05ldQ1.mail.example.org:2,S 0 x\n", second, at, at % 999);
+    }
+    double began = now();
+    deolmutt_world *world = load(lines, (size_t)(end - lines));
+    printf("result: a load of 100,000: %.0f ms\n", (now() - began) * 1000);
+    uint64_t job;
+    began = now();
+    must(deolmutt_settle(world, &job) == DEOLMUTT_OK, "settle");
+    printf("result: a settle of 100,000: %.0f ms\n", (now() - began) * 1000);
+    must(deolmutt_free(world) == DEOLMUTT_OK, "free");
+}
+
 int main(void) {
     memset(body, 'x', BODY);
     for (int at = 0; at < CALLS; at++) sprintf(names[at], "%05d.M1P1Q1.host", at);
     measure_deliveries();
     measure_others();
+    measure_settle();
     return 0;
 }
