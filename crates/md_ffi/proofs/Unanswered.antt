@@ -8,8 +8,6 @@ use Rattle.md_core.specs.declared.jobs.answer.Answer.TheVariants.{Delivered}
 use Rattle.md_core.specs.Machine.{Standing, working, answered, is_working, job_at}
 use Rattle.md_core.specs.Runs.{Run, answer_of, jobs_of}
 use Rattle.md_core.specs.Settling.{first_unanswered}
-use Rattle.md_core.specs.Stepping.{IsRun}
-use Rattle.md_core.proofs.Runs.ByEvent.{length-jobs_of}
 
 -- whether the job of this number has its answer
 abbrev pub has : Run → ℕ → Bool
@@ -37,8 +35,8 @@ lacks-at r k within =
     ap (lacks r) e ∙ ap (λ (x : Option Standing). not (is_some (answer_of x))) (slice_get-get_or (jobs_of r) k nothing within)
     ∙ lacks-working (get_or (jobs_of r) k nothing)
 
-pub starts : (r : Run) → IsRun r → AllAnswered r 0
-starts r run = record { as_many = length-jobs_of r run; each = λ k less. absurd (omega arith) }
+pub starts : (r : Run) → length (jobs_of r) ≡ length r.calls → AllAnswered r 0
+starts r as_many = record { as_many = as_many; each = λ k less. absurd (omega arith) }
 
 pub goes_on : (r : Run) (n : ℕ) → AllAnswered r n → has r (n + 1) ≡ true → AllAnswered r (n + 1)
 goes_on r n so_far answered_now = record { as_many = so_far.as_many; each = each }

@@ -16,6 +16,7 @@ fn first_working(world: &World<IndexDirs>) -> Option<JobId>
     ensures { result ≡ first_unanswered world.now }
 {
     world.interleaves();
+    md_core::laws::each_call_has_its_job();
     for job in 0..world.jobs() {
         if world.answer(job + 1).is_none() {
             return Some(job + 1);
