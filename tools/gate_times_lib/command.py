@@ -10,7 +10,7 @@ from .log import Run, check_whole, read_run
 from .page import PAGE, read_page, write_table
 from .refused import Refused
 
-ABOUT = f"""Runs the gate, `rt ci`, and writes how long each part of it takes between the two marker lines of {PAGE}. Each line of the
+ABOUT = f"""Runs the gate from nothing, `rt ci --anew`, and writes how long each part of it takes between the two marker lines of {PAGE}. Each line of the
 gate is printed after the seconds since the start. The prover's processor time is sampled once a second and printed at the end, by crate:
 its proofs, its tests and its must-fail edits. So what is printed is all that --log needs to write the table again. The table is left as it
 was where the gate fails."""

@@ -14,8 +14,9 @@ SECONDS_BETWEEN_SAMPLES = 1.0
 
 
 def gate_command(cores: int | None) -> list[str]:
-    """The gate, on the first so many processors alone where a number is given."""
-    return ["rt", "ci"] if cores is None else ["taskset", "-c", f"0-{cores - 1}", "rt", "ci"]
+    """The gate from nothing, whatever earlier runs on this machine kept, on the first so many processors alone where a number is given."""
+    gate = ["rt", "ci", "--anew"]
+    return gate if cores is None else ["taskset", "-c", f"0-{cores - 1}", *gate]
 
 
 def processor_seconds() -> float:
