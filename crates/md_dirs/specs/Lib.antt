@@ -9,3 +9,4 @@ pub mod Failing
 pub mod Index
 pub mod Files
 pub mod Find
+pub mod NameKey

@@ -5,6 +5,7 @@ ghost use Rattle.md_dirs.specs.Index.{directory_at};
 
 use crate::index::names::Names;
 use crate::index::tree::Tree;
+use crate::name_key::NameKey;
 use crate::paths::{Path, number_of};
 use indexmap::IndexMap;
 use std::alloc::{AllocError, Global};
@@ -13,18 +14,18 @@ use std::marker::Model;
 /// The names of one directory, each with the number of its file, in any order.
 #[derive(Drop)]
 struct LooseNames {
-    rows: IndexMap<Vec<u8>, usize>,
+    rows: IndexMap<NameKey<'static>, usize>,
 }
 
 impl Model for LooseNames {
     ghost use Rattle.std.specs.FinMap.{from_entries};
-    ghost use Rattle.md_dirs.specs.Index.{NameMap, name_code, rows_by_name};
+    ghost use Rattle.md_dirs.specs.Index.{NameMap, name_code};
 
     ghost Value = { NameMap };
 
     ghost coded = { name_code };
 
-    ghost view = { λ d. from_entries (rows_by_name d.rows.entries) };
+    ghost view = { λ d. from_entries d.rows.entries };
 }
 
 // The numbers below one, in turn.
@@ -51,11 +52,12 @@ impl LooseNames {
     fn file_of(&self, name: &[u8]) -> Option<usize>
         ensures { result ≡ finmap.get self.now name.now }
     {
-        self.rows.get(name).copied()
+        let key = NameKey::lent(name);
+        self.rows.get(&key).copied()
     }
 
-    fn put(&mut self, name: Vec<u8>, file: usize) -> Result<(), AllocError>
-        ensures ok { OnOk result (self.new ≡ finmap.insert self.old name.items file) }
+    fn put(&mut self, name: NameKey<'static>, file: usize) -> Result<(), AllocError>
+        ensures ok { OnOk result (self.new ≡ finmap.insert self.old name.entry file) }
         ensures err { OnErr result (self.new ≡ self.old) }
     {
         self.rows.insert(name, file)?;
@@ -137,7 +139,7 @@ impl LooseTree {
         let number = number_of(path.folder, path.place);
         make_directory(&mut self.directories, alloc, number)?;
         let directory = &mut self.directories[number];
-        directory.put(path.name.into_vec(), file)?;
+        directory.put(NameKey::owned(path.name.into_vec()), file)?;
         Ok(())
     }
 

@@ -10,6 +10,7 @@ ghost use Rattle.md_dirs.specs.Index.{name_cmp, order_at, FitsAt, get_name, Rena
 
 use crate::files::{Kept, shown_row};
 use crate::finding::{Edge, InOrder, edge_place};
+use crate::name_key::NameKey;
 use crate::rows::{Row, is_named};
 use indexmap::IndexMap;
 use std::alloc::{AllocError, Global};
@@ -20,34 +21,34 @@ use std::marker::Model;
 /// names.
 #[derive(Drop)]
 pub struct Names {
-    pub(crate) rows: IndexMap<Vec<u8>, usize>,
+    pub(crate) rows: IndexMap<NameKey<'static>, usize>,
     pub(crate) order: Vec<usize>,
 }
 
 impl Model for Names {
     ghost use Rattle.std.specs.FinMap.{from_entries};
-    ghost use Rattle.md_dirs.specs.Index.{NameMap, name_code, rows_by_name, IsOrderOf};
+    ghost use Rattle.md_dirs.specs.Index.{NameMap, name_code, IsOrderOf};
 
     ghost Value = { NameMap };
 
     ghost coded = { name_code };
 
-    ghost view = { λ d. from_entries (rows_by_name d.rows.entries) };
+    ghost view = { λ d. from_entries d.rows.entries };
 
-    ghost invariant = { λ d. IsOrderOf (rows_by_name d.rows.entries) d.order.items };
+    ghost invariant = { λ d. IsOrderOf d.rows.entries d.order.items };
 }
 
 // Puts a row in the place of one, which goes.
 fn replace_row(
-    rows: &mut IndexMap<Vec<u8>, usize>,
+    rows: &mut IndexMap<NameKey<'static>, usize>,
     at: usize,
-    name: Vec<u8>,
+    name: NameKey<'static>,
     file: usize,
 ) -> Result<(), AllocError>
     requires within { at < length rows.old.entries }
-    requires free { get_name rows.old.entries name.items ≡ None }
-    ensures entries { OnOk result (rows.new.entries ≡ slice_set rows.old.entries at (name, file)) }
-    ensures names { OnOk result (Renames rows.old.entries at name.items file rows.new.entries) }
+    requires free { get_name rows.old.entries name ≡ None }
+    ensures entries { OnOk result (rows.new.entries ≡ slice_set rows.old.entries at (name.entry, file)) }
+    ensures names { OnOk result (Renames rows.old.entries at name.entry file rows.new.entries) }
     ensures err { OnErr result (rows.new.entries ≡ rows.old.entries) }
 {
     let last = rows.len();
@@ -123,7 +124,8 @@ impl Names {
     fn hashed_place(&self, name: &[u8]) -> Option<usize>
         ensures { IfSome result (IsAt name_cmp (finmap.entries self.now) name.now) }
     {
-        let (row, _, _) = self.rows.get_full(name)?;
+        let key = NameKey::lent(name);
+        let (row, _, _) = self.rows.get_full(&key)?;
         if row < self.order.len() && self.order[row] == row {
             return Some(row);
         }
@@ -144,13 +146,14 @@ impl Names {
     pub fn file_of(&self, name: &[u8]) -> Option<usize>
         ensures { result ≡ finmap.get self.now name.now }
     {
-        self.rows.get(name).copied()
+        let key = NameKey::lent(name);
+        self.rows.get(&key).copied()
     }
 
     /// Gives a name to a file, also in place of the one that it named. In the order the positions after it move: none where the
     /// name goes at the end.
-    pub fn put(&mut self, name: Vec<u8>, file: usize) -> Result<(), AllocError>
-        ensures ok { OnOk result (self.new ≡ finmap.insert self.old name.items file) }
+    pub fn put(&mut self, name: NameKey<'static>, file: usize) -> Result<(), AllocError>
+        ensures ok { OnOk result (self.new ≡ finmap.insert self.old name.entry file) }
         ensures err { OnErr result (self.new ≡ self.old) }
     {
         let place = self.search(name.as_slice());
@@ -185,9 +188,14 @@ impl Names {
 
     /// Gives the file of a name another name, which is not there yet. Where that keeps the row's place in the order, no
     /// position moves. When out of memory, nothing has changed.
-    pub fn rename(&mut self, old: &[u8], new: Vec<u8>, file: usize) -> Result<(), AllocError>
-        requires { finmap.get self.old new.items ≡ None }
-        ensures ok { OnOk result (self.new ≡ finmap.remove (finmap.insert self.old new.items file) old.now) }
+    pub fn rename(
+        &mut self,
+        old: &[u8],
+        new: NameKey<'static>,
+        file: usize,
+    ) -> Result<(), AllocError>
+        requires { finmap.get self.old new ≡ None }
+        ensures ok { OnOk result (self.new ≡ finmap.remove (finmap.insert self.old new.entry file) old.now) }
         ensures err { OnErr result (self.new ≡ self.old) }
     {
         if let Some(at) = self.hashed_place(old) {
@@ -207,7 +215,9 @@ impl Names {
     pub fn find(&self, unique: &[u8]) -> Option<(&[u8], usize)>
         ensures { option_map (λ r. (r.0.now, r.1)) result ≡ first_with (λ e. is_named_by unique.now e.0) (finmap.entries self.now) }
     {
-        if let Some((name, file)) = self.rows.get_key_value(unique) {
+        let key = NameKey::lent(unique);
+        if let Some((at, _, _)) = self.rows.get_full(&key) {
+            let (name, file) = self.rows.get_index(at).unwrap();
             return Some((name.as_slice(), *file));
         }
         let (name, file) = self.row_at(edge_place(self, unique, Edge::Info))?;

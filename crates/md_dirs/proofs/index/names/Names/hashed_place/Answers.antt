@@ -11,7 +11,7 @@ returns-then-index-row c =
     let within : c.in_ok-row.row < length order = omega (arith, c.if-row-len.true, c.len.ensures, c.self.inside.order.ok.0) in
     let own : get_or order c.in_ok-row.row 0 ≡ c.in_ok-row.row = get_or_default order c.in_ok-row.row 0 c.index.result.now within ∙ sym c.index.ensures
     ∙ c.if-index-row.true in
-    let key = found-key c.args.name.now es c.in_ok-row.field-0-1.now c.in_ok-row.ensures.key in
+    let key = found-key c.lent-key.result es c.in_ok-row.field-0-1.now c.in_ok-row.ensures.key ∙ c.lent-key.ensures in
     rw (← c.self.view_is)
     (at-itself es order c.args.name.now c.in_ok-row.row (c.in_ok-row.field-0-1.now, c.in_ok-row.field-0-2.now) c.self.invariant within own
     c.in_ok-row.ensures.entry key)
