@@ -10,3 +10,4 @@ pub mod Index
 pub mod Files
 pub mod Find
 pub mod NameKey
+pub mod Positions

@@ -2,6 +2,7 @@
 mod load;
 mod loose;
 mod names;
+mod positions;
 mod tree;
 
 use crate::calls::{DirError, Dirs};

@@ -1,9 +1,10 @@
 // Names in the order of their coming, before they are sorted.
-ghost use Rattle.std.specs.Prelude.{◌≡◌, ◌<◌, ◌^◌, ℕ, OnOk, OnErr, IfOk, EachIndex, slice_index, vec_len};
+ghost use Rattle.std.specs.Prelude.{◌≡◌, ◌<◌, ◌^◌, ℕ, OnOk, OnErr, IfOk, EachIndex, slice_index_or, length, vec_len};
 ghost use Rattle.std.specs.FinMap as finmap;
 ghost use Rattle.md_dirs.specs.Index.{directory_at};
 
 use crate::index::names::Names;
+use crate::index::positions::Positions;
 use crate::index::tree::Tree;
 use crate::name_key::NameKey;
 use crate::paths::{Path, number_of};
@@ -29,13 +30,13 @@ impl Model for LooseNames {
 }
 
 // The numbers below one, in turn.
-fn in_turn(alloc: Global, count: usize) -> Result<Vec<usize>, AllocError>
-    ensures long { IfOk result (λ order. vec_len order ≡ count) }
-    ensures each { IfOk result (λ order. EachIndex order.items (λ k. slice_index order.items k ≡ k)) }
+fn in_turn(alloc: Global, count: usize) -> Result<Positions, AllocError>
+    ensures long { IfOk result (λ order. length order ≡ count) }
+    ensures each { IfOk result (λ order. EachIndex order (λ k. slice_index_or order k 0 ≡ k)) }
 {
-    let mut order = Vec::with_capacity(alloc, count)?;
+    let mut order = Positions::new(alloc);
     for at in 0..count {
-        order.push(at)?;
+        order.insert(at, at)?;
     }
     Ok(order)
 }

@@ -10,6 +10,7 @@ ghost use Rattle.md_dirs.specs.Index.{name_cmp, order_at, FitsAt, get_name, Rena
 
 use crate::files::{Kept, shown_row};
 use crate::finding::{Edge, InOrder, edge_place};
+use crate::index::positions::Positions;
 use crate::name_key::NameKey;
 use crate::rows::{Row, is_named};
 use indexmap::IndexMap;
@@ -22,7 +23,7 @@ use std::marker::Model;
 #[derive(Drop)]
 pub struct Names {
     pub(crate) rows: IndexMap<NameKey<'static>, usize>,
-    pub(crate) order: Vec<usize>,
+    pub(crate) order: Positions,
 }
 
 impl Model for Names {
@@ -35,7 +36,7 @@ impl Model for Names {
 
     ghost view = { λ d. from_entries d.rows.entries };
 
-    ghost invariant = { λ d. IsOrderOf d.rows.entries d.order.items };
+    ghost invariant = { λ d. IsOrderOf d.rows.entries d.order };
 }
 
 // Puts a row in the place of one, which goes.
@@ -65,7 +66,7 @@ impl Names {
     {
         Names {
             rows: IndexMap::new(alloc),
-            order: Vec::new(alloc),
+            order: Positions::new(alloc),
         }
     }
 
@@ -74,7 +75,7 @@ impl Names {
         requires { at < length (finmap.entries self.now) }
         ensures { (result.0.now, result.1) ≡ slice_index_or (finmap.entries self.now) at ([], 0) }
     {
-        let (name, file) = self.rows.get_index(self.order[at]).unwrap();
+        let (name, file) = self.rows.get_index(self.order.get(at)).unwrap();
         (name.as_slice(), *file)
     }
 
@@ -126,7 +127,7 @@ impl Names {
     {
         let key = NameKey::lent(name);
         let (row, _, _) = self.rows.get_full(&key)?;
-        if row < self.order.len() && self.order[row] == row {
+        if row < self.order.len() && self.order.get(row) == row {
             return Some(row);
         }
         self.search(name).ok()
@@ -156,13 +157,16 @@ impl Names {
         ensures ok { OnOk result (self.new ≡ finmap.insert self.old name.entry file) }
         ensures err { OnErr result (self.new ≡ self.old) }
     {
-        let place = self.search(name.as_slice());
-        self.order.reserve(1)?;
         let last = self.rows.len();
-        self.rows.insert(name, file)?;
-        if let Err(at) = place {
-            self.order.insert(at, last)?;
-        }
+        let Err(at) = self.search(name.as_slice()) else {
+            self.rows.insert(name, file)?;
+            return Ok(());
+        };
+        self.rows.reserve(1)?;
+        self.order.insert(at, last)?;
+        let Ok(_none) = self.rows.insert(name, file) else {
+            unreachable!();
+        };
         Ok(())
     }
 
@@ -175,12 +179,12 @@ impl Names {
         let Ok(at) = self.search(name) else {
             return None;
         };
-        let gone = self.order[at];
+        let gone = self.order.get(at);
         // The last row of the table goes to the position that comes free.
         let last = self.rows.len() - 1;
         let (key, _) = self.rows.get_index(last).unwrap();
         let moved = self.place_of(key.as_slice());
-        self.order[moved] = gone;
+        self.order.set(moved, gone);
         self.order.remove(at);
         let (_, file) = self.rows.swap_remove_index(gone).unwrap();
         Some(file)
@@ -200,7 +204,7 @@ impl Names {
     {
         if let Some(at) = self.hashed_place(old) {
             if self.keeps_place(at, new.as_slice()) {
-                let row = self.order[at];
+                let row = self.order.get(at);
                 replace_row(&mut self.rows, row, new, file)?;
                 return Ok(());
             }
