@@ -151,8 +151,7 @@ impl Names {
         self.rows.get(&key).copied()
     }
 
-    /// Gives a name to a file, also in place of the one that it named. In the order the positions after it move: none where the
-    /// name goes at the end.
+    /// Gives a name to a file, also in place of the one that it named. In the order the positions after it in its block move.
     pub fn put(&mut self, name: NameKey<'static>, file: usize) -> Result<(), AllocError>
         ensures ok { OnOk result (self.new ≡ finmap.insert self.old name.entry file) }
         ensures err { OnErr result (self.new ≡ self.old) }
@@ -171,7 +170,7 @@ impl Names {
     }
 
     /// Takes a name away, and gives the number of its file. It takes no memory. The last row of the table takes the place that
-    /// comes free there, and in the order the positions after it move: none where the name is at the end.
+    /// comes free there, and in the order the positions after it in its block move.
     pub fn take(&mut self, name: &[u8]) -> Option<usize>
         ensures file { result ≡ finmap.get self.old name.now }
         ensures gone { self.new ≡ finmap.remove self.old name.now }
