@@ -3,6 +3,7 @@ ghost use Rattle.std.specs.Prelude.{◌≡◌, ◌||◌, ◌++◌, [], not, OnOk
 ghost use Rattle.std.specs.Str.{bytes_eq};
 ghost use Rattle.md_core.specs.Used.{is_among};
 
+use md_dirs::NameKey;
 use std::alloc::{AllocError, Global};
 use std::collections::HashSet;
 use std::hash::{BuildHasherDefault, FoldHasher};
@@ -12,15 +13,15 @@ use std::marker::Model;
 #[derive(Drop)]
 pub(crate) struct NameSet {
     alloc: Global,
-    names: HashSet<Vec<u8>, BuildHasherDefault<FoldHasher>, Global>,
+    names: HashSet<NameKey<'static>, BuildHasherDefault<FoldHasher>, Global>,
 }
 
 impl Model for NameSet {
-    ghost use Rattle.std.specs.Prelude.{List, ℕ, map};
+    ghost use Rattle.std.specs.Prelude.{List, ℕ};
 
     ghost Value = { List (List ℕ) };
 
-    ghost view = { λ s. map (λ name. name.items) s.names.keys };
+    ghost view = { λ s. s.names.keys };
 }
 
 impl NameSet {
@@ -38,7 +39,8 @@ impl NameSet {
     pub(crate) fn contains(&self, name: &[u8]) -> bool
         ensures { result ≡ is_among name.now self.now }
     {
-        self.names.contains(name)
+        let key = NameKey::lent(name);
+        self.names.contains(&key)
     }
 
     /// Adds a name, and answers whether it is new. After a refusal nothing has changed.
@@ -48,7 +50,7 @@ impl NameSet {
         ensures err { OnErr result (self.new ≡ self.old) }
     {
         let name = Vec::from_slice(self.alloc, name)?;
-        Ok(self.names.insert(name)?)
+        Ok(self.names.insert(NameKey::owned(name))?)
     }
 }
 

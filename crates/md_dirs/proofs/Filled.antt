@@ -1,12 +1,12 @@
 -- Files of an image that are made in turn: what stays to be made, and what is refused.
-use Rattle.std.proofs.Common.{◌≡◌, ◌⊎◌, inl, inr, ◌+◌, ◌<◌, ◌++◌, List, [], ◌∷◌, Option, Some, None, Err, refl, sym, ap, ◌∙◌, arith, length, take, drop, map, get_or}
+use Rattle.std.proofs.Common.{◌≡◌, ◌⊎◌, inl, inr, ◌+◌, ◌<◌, ◌++◌, List, [], ◌∷◌, Option, Some, None, refl, sym, ap, ◌∙◌, length, take, drop, map, get_or}
 use Rattle.std.specs.Option.{option_or}
 use Rattle.std.proofs.lemmas.List.{take-append-drop, drop_more}
 use Rattle.md_dirs.specs.State.{State}
 use Rattle.md_dirs.specs.Image.{put, state_with, refusal_with}
 use Rattle.md_dirs.specs.declared.image.ImageFile.{ImageFile}
 use Rattle.md_dirs.specs.declared.calls.DirError.{DirError}
-use Rattle.md_dirs.specs.declared.calls.DirError.TheVariants.{Exists, NotFound, Fault, NoMemory}
+use Rattle.md_dirs.specs.declared.calls.DirError.TheVariants.{NoMemory}
 
 pub state_with-append : (s : State) (xs ys : List ImageFile) → state_with s (xs ++ ys) ≡ state_with (state_with s xs) ys
 state_with-append s [] ys = refl

@@ -1,5 +1,5 @@
 -- What the calls leave of rows in order, and of what they mean.
-use Rattle.std.proofs.Common.{◌+◌, ℕ, ◌≡◌, ◌≢◌, List, [], Some, None, cond, not, IsTrue, Ok, Err, insert, remove, refl, sym, ap, subst, ◌∙◌, length}
+use Rattle.std.proofs.Common.{◌+◌, ℕ, ◌≡◌, List, [], Some, None, cond, not, IsTrue, Ok, Err, insert, remove, refl, sym, ap, subst, ◌∙◌, length}
 use Rattle.std.specs.Ordering.{eq_by_cmp}
 use Rattle.std.specs.FinMap as finmap
 use Rattle.std.specs.FinMap.{find, is_sorted, same_map, same_entries_map, get-from_sorted, entries-from_sorted, entries-insert, get-remove, from_sorted, empty_of_len, len-entries}
@@ -9,8 +9,7 @@ use Rattle.md_dirs.specs.Plain.{IsAt, IsGap}
 use Rattle.md_dirs.specs.State.{State}
 use Rattle.md_dirs.specs.Calls.{Ask, Device, Obeys}
 use Rattle.md_dirs.specs.declared.paths.Path.{Path}
-use Rattle.md_dirs.specs.declared.calls.DirError.{DirError}
-use Rattle.md_dirs.specs.declared.calls.DirError.TheVariants.{Exists, NotFound, Fault, NoMemory}
+use Rattle.md_dirs.specs.declared.calls.DirError.TheVariants.{NotFound}
 use Rattle.md_dirs.proofs.PathOrder.{path_total, path_exact}
 use Rattle.lists.proofs.Maps.{find-other}
 use Rattle.md_dirs.proofs.Sorted.{holds, is_true}

@@ -16,3 +16,4 @@ pub mod Zones
 pub mod Directories
 pub mod Sliced
 pub mod Looked
+pub mod Blocked

@@ -7,7 +7,6 @@ use Rattle.std.proofs.lemmas.List.Elements.{All-from_get_or, All-append, All-con
 use Rattle.std.proofs.lemmas.Cmp.{tied_itself}
 use Rattle.std.specs.declared.cmp.Ordering.{Ordering}
 use Rattle.std.specs.declared.cmp.Ordering.TheVariants.{Less, Equal, Greater}
-use Rattle.std.specs.declared.vec.Vec.{Vec}
 use Rattle.std.specs.Ordering.{is_eq, ordering_reverse}
 use Rattle.std.specs.List.{IsDistinct, AllByRecursion}
 use Rattle.std.specs.Map.{keys_of}
@@ -15,12 +14,11 @@ use Rattle.indexmap.specs.IndexMap.{insert_entry}
 use Rattle.std.specs.FinMap as finmap
 use Rattle.std.specs.FinMap.{find, is_sorted, same_map, get-from_entries, get-from_sorted, get-entries, entries-from_sorted, entries-insert, entries_sorted, from_entries_push}
 use Rattle.std.specs.FinMap.Entries.{put, where_key, below_all, by_order}
-use Rattle.md_dirs.specs.Index.{name_cmp, rows_by_name, rows_at, IsOrderOf, FitsAt}
+use Rattle.md_dirs.specs.Index.{name_cmp, rows_at, IsOrderOf, FitsAt}
 use Rattle.md_dirs.specs.Plain.{IsAt, IsGap}
 use Rattle.md_dirs.proofs.Sorted.{first, second, both, less, is_true, other, where-above, at-row}
 use Rattle.md_dirs.proofs.Renamed.{below-at, turned}
-use Rattle.md_dirs.proofs.NameRows.{Row, name_total, name_exact, same, ties, turned-test, length-rows, read-row, get-within, below-trans, is_less}
-use Rattle.md_dirs.proofs.Counted.{map-set}
+use Rattle.md_dirs.proofs.NameRows.{Row, name_total, name_exact, same, ties, turned-test, get-within, below-trans, is_less}
 use Rattle.lists.proofs.Maps.{entries-remove}
 use Rattle.md_dirs.proofs.Steps.{row-file, row-path}
 
@@ -307,127 +305,119 @@ renamed (e ∷ es) (suc i) o n v within h here differ after before =
 alike : (x y : List ℕ) → x ≡ y → same x y ≡ true
 alike x y is = subst (λ (w : List ℕ). same x w ≡ true) is (ties x x ∙ ap is_eq (tied_itself name_total x))
 
-module _ {Z : Type 0} where
-  abbrev pub Differ : List (Row Z) → Type 0
-  Differ es = IsDistinct (λ (x y : Vec ℕ Z). same x.items y.items) (keys_of es)
+abbrev pub Differ : List Row → Type 0
+Differ es = IsDistinct same (keys_of es)
 
-  unlike : (e : Vec ℕ Z) (es : List (Row Z)) (j : ℕ) → AllByRecursion (λ (y : Vec ℕ Z). same e.items y.items ≡ false) (keys_of es) → j < length es →
-      same e.items (get_or (rows_by_name es) j ([], 0)).0 ≡ false
-  unlike e [] j h within = absurd (omega arith)
-  unlike e (f ∷ es) zero h within = h.0
-  unlike e (f ∷ es) (suc j) h within = unlike e es j h.1 (omega arith)
+unlike : (e : List ℕ) (es : List Row) (j : ℕ) → AllByRecursion (λ (y : List ℕ). same e y ≡ false) (keys_of es) → j < length es →
+    same e (get_or es j ([], 0)).0 ≡ false
+unlike e [] j h within = absurd (omega arith)
+unlike e (f ∷ es) zero h within = h.0
+unlike e (f ∷ es) (suc j) h within = unlike e es j h.1 (omega arith)
 
-  one-row : (es : List (Row Z)) (i j : ℕ) → Differ es → i < length es → j < length es →
-      (get_or (rows_by_name es) i ([], 0)).0 ≡ (get_or (rows_by_name es) j ([], 0)).0 → i ≡ j
-  unfolding IsDistinct
-  one-row [] i j d hi hj is = absurd (omega arith)
-  one-row (e ∷ es) zero zero d hi hj is = refl
-  one-row (e ∷ es) zero (suc j) d hi hj is = let differs = unlike e.0 es j d.0 (omega arith) in let equal =
-      alike e.0.items (get_or (rows_by_name es) j ([], 0)).0 is in cc
-  one-row (e ∷ es) (suc i) zero d hi hj is = let differs = unlike e.0 es i d.0 (omega arith) in let equal =
-      alike e.0.items (get_or (rows_by_name es) i ([], 0)).0 (sym is) in cc
-  one-row (e ∷ es) (suc i) (suc j) d hi hj is = ap suc (one-row es i j d.1 (omega arith) (omega arith) is)
+one-row : (es : List Row) (i j : ℕ) → Differ es → i < length es → j < length es →
+    (get_or es i ([], 0)).0 ≡ (get_or es j ([], 0)).0 → i ≡ j
+unfolding IsDistinct
+one-row [] i j d hi hj is = absurd (omega arith)
+one-row (e ∷ es) zero zero d hi hj is = refl
+one-row (e ∷ es) zero (suc j) d hi hj is = let differs = unlike e.0 es j d.0 (omega arith) in let equal =
+    alike e.0 (get_or es j ([], 0)).0 is in cc
+one-row (e ∷ es) (suc i) zero d hi hj is = let differs = unlike e.0 es i d.0 (omega arith) in let equal =
+    alike e.0 (get_or es i ([], 0)).0 (sym is) in cc
+one-row (e ∷ es) (suc i) (suc j) d hi hj is = ap suc (one-row es i j d.1 (omega arith) (omega arith) is)
 
-  -- a row's place has its position
-  place-is : (es : List (Row Z)) (order : List ℕ) (is : IsOrderOf (rows_by_name es) order) (name : List ℕ) (at i : ℕ) → Differ es →
-      IsAt name_cmp (listed (rows_by_name es)) name at → i < length es → (get_or (rows_by_name es) i ([], 0)).0 ≡ name → get_or order at 0 ≡ i
-  place-is es order is name at i differ there within key =
-      let h : at < length order = omega (arith, there.within, long (rows_by_name es) order is) in
-      one-row es (get_or order at 0) i differ (omega (arith, is.within at 0 h, length-rows es)) within (key-at (rows_by_name es) order is name at there ∙
-      sym key)
+-- a row's place has its position
+place-is : (es : List Row) (order : List ℕ) (is : IsOrderOf es order) (name : List ℕ) (at i : ℕ) → Differ es →
+    IsAt name_cmp (listed es) name at → i < length es → (get_or es i ([], 0)).0 ≡ name → get_or order at 0 ≡ i
+place-is es order is name at i differ there within key =
+    let h : at < length order = omega (arith, there.within, long es order is) in
+    one-row es (get_or order at 0) i differ (is.within at 0 h) within (key-at es order is name at there ∙
+    sym key)
 
-  -- a name that is there gets another number
-  renumbered : (es : List (Row Z)) (k : Vec ℕ Z) (v g : ℕ) → Differ es → g < length es → (get_or (rows_by_name es) g ([], 0)).0 ≡ k.items →
-      rows_by_name (insert_entry (λ (x y : Vec ℕ Z). same x.items y.items) es k v) ≡ slice_set (rows_by_name es) g (k.items, v)
-  unfolding IsDistinct
-  renumbered [] k v g d within key = absurd (omega arith)
-  renumbered (e ∷ es) k v zero d within key =
-      ap (λ b. rows_by_name (cond b ((e.0, v) ∷ es) (e ∷ insert_entry (λ (x y : Vec ℕ Z). same x.items y.items) es k v))) (alike k.items e.0.items (sym key))
-      ∙ (λ i. (key i, v) ∷ rows_by_name es)
-  renumbered (e ∷ es) k v (suc g) d within key =
-      let differs : same k.items e.0.items ≡ false = turned-test k.items e.0.items ∙ sym (ties e.0.items k.items)
-      ∙ ap (same e.0.items) (sym key) ∙ unlike e.0 es g d.0 (omega arith) in
-      ap (λ b. rows_by_name (cond b ((e.0, v) ∷ es) (e ∷ insert_entry (λ (x y : Vec ℕ Z). same x.items y.items) es k v))) differs
-      ∙ ap (λ xs. (e.0.items, e.1) ∷ xs) (renumbered es k v g d.1 (omega arith) key)
+-- a name that is there gets another number
+renumbered : (es : List Row) (k : List ℕ) (v g : ℕ) → Differ es → g < length es → (get_or es g ([], 0)).0 ≡ k →
+    insert_entry same es k v ≡ slice_set es g (k, v)
+unfolding IsDistinct
+renumbered [] k v g d within key = absurd (omega arith)
+renumbered (e ∷ es) k v zero d within key =
+    ap (λ b. cond b ((e.0, v) ∷ es) (e ∷ insert_entry same es k v)) (alike k e.0 (sym key))
+    ∙ (λ i. (key i, v) ∷ es)
+renumbered (e ∷ es) k v (suc g) d within key =
+    let differs : same k e.0 ≡ false = turned-test k e.0 ∙ sym (ties e.0 k)
+    ∙ ap (same e.0) (sym key) ∙ unlike e.0 es g d.0 (omega arith) in
+    ap (λ b. cond b ((e.0, v) ∷ es) (e ∷ insert_entry same es k v)) differs
+    ∙ ap (λ xs. e ∷ xs) (renumbered es k v g d.1 (omega arith) key)
 
-  pub renumber : (es fs : List (Row Z)) (order : List ℕ) (k : Vec ℕ Z) (v at : ℕ) → IsOrderOf (rows_by_name es) order → Differ es →
-      IsAt name_cmp (listed (rows_by_name es)) k.items at → fs ≡ insert_entry (λ (x y : Vec ℕ Z). same x.items y.items) es k v
-      → finmap.from_entries {R = name_cmp} (rows_by_name fs) ≡ finmap.insert (finmap.from_entries (rows_by_name es)) k.items v →
-      IsOrderOf (rows_by_name fs) order
-  renumber es fs order k v at is differ there made view =
-      let h : at < length order = omega (arith, there.within, long (rows_by_name es) order is) in
-      let rows : rows_by_name fs ≡ slice_set (rows_by_name es) (get_or order at 0) (k.items, v) =
-      ap rows_by_name made ∙ renumbered es k v (get_or order at 0) differ (omega (arith, is.within at 0 h, length-rows es)) (key-at
-      (rows_by_name es) order is k.items at there) in
-      subst (λ xs. IsOrderOf xs order) (sym rows)
-      (replace (rows_by_name es) order is at (k.items, v) h
-      (sym (there.replaced v) ∙ sym (entries-insert name_total (finmap.from_entries (rows_by_name es)) k.items v) ∙ ap finmap.entries (sym view) ∙
-      ap listed rows))
+pub renumber : (es fs : List Row) (order : List ℕ) (k : List ℕ) (v at : ℕ) → IsOrderOf es order → Differ es →
+    IsAt name_cmp (listed es) k at → fs ≡ insert_entry same es k v
+    → finmap.from_entries {R = name_cmp} fs ≡ finmap.insert (finmap.from_entries es) k v →
+    IsOrderOf fs order
+renumber es fs order k v at is differ there made view =
+    let h : at < length order = omega (arith, there.within, long es order is) in
+    let rows : fs ≡ slice_set es (get_or order at 0) (k, v) =
+    made ∙ renumbered es k v (get_or order at 0) differ (is.within at 0 h) (key-at
+    es order is k at there) in
+    subst (λ xs. IsOrderOf xs order) (sym rows)
+    (replace es order is at (k, v) h
+    (sym (there.replaced v) ∙ sym (entries-insert name_total (finmap.from_entries es) k v) ∙ ap finmap.entries (sym view) ∙
+    ap listed rows))
 
-  -- a new name in the place of the one that goes
-  pub rename-row : (es fs : List (Row Z)) (order : List ℕ) (k : Vec ℕ Z) (v at : ℕ) (old : List ℕ) → IsOrderOf (rows_by_name es) order →
-      IsAt name_cmp (listed (rows_by_name es)) old at → FitsAt (listed (rows_by_name es)) at k.items →
-      finmap.get {R = name_cmp} (finmap.from_entries (rows_by_name es)) k.items ≡ None → fs ≡ slice_set es (get_or order at 0) (k, v)
-      → finmap.from_entries {R = name_cmp} (rows_by_name fs) ≡ finmap.remove (finmap.insert (finmap.from_entries (rows_by_name es)) k.items v) old →
-      IsOrderOf (rows_by_name fs) order
-  rename-row es fs order k v at old is there fits free made view =
-      let m = finmap.from_entries {R = name_cmp} (rows_by_name es) in
-      let h : at < length order = omega (arith, there.within, long (rows_by_name es) order is) in
-      let rows : rows_by_name fs ≡ slice_set (rows_by_name es) (get_or order at 0) (k.items, v) =
-      ap rows_by_name made ∙ map-set (λ (x : Row Z). (x.0.items, x.1)) es (get_or order at 0) (k, v) in
-      let key : (get_or (listed (rows_by_name es)) at ([], 0)).0 ≡ old =
-      ap (λ (e : List ℕ × ℕ). e.0) (at-place (rows_by_name es) order is at h) ∙ key-at (rows_by_name es) order is old at there in
-      let differ : name_cmp k.items old ≢ Equal =
-      (λ tie. let some = ap (finmap.get m) (name_exact k.items old tie) ∙ file-at (rows_by_name es) order is old at there in cc) in
-      subst (λ xs. IsOrderOf xs order) (sym rows)
-      (replace (rows_by_name es) order is at (k.items, v) h
-      (sym (renamed (listed (rows_by_name es)) at old k.items v there.within (entries_sorted m) key differ fits.after fits.before)
-      ∙ ap (where_key name_cmp (other name_cmp old)) (sym (entries-insert name_total m k.items v))
-      ∙ sym (entries-remove name_total name_exact (finmap.insert m k.items v) old) ∙ ap finmap.entries (sym view) ∙ ap listed rows))
+-- a new name in the place of the one that goes
+pub rename-row : (es fs : List Row) (order : List ℕ) (k : List ℕ) (v at : ℕ) (old : List ℕ) → IsOrderOf es order →
+    IsAt name_cmp (listed es) old at → FitsAt (listed es) at k →
+    finmap.get {R = name_cmp} (finmap.from_entries es) k ≡ None → fs ≡ slice_set es (get_or order at 0) (k, v)
+    → finmap.from_entries {R = name_cmp} fs ≡ finmap.remove (finmap.insert (finmap.from_entries es) k v) old →
+    IsOrderOf fs order
+rename-row es fs order k v at old is there fits free made view =
+    let m = finmap.from_entries {R = name_cmp} es in
+    let h : at < length order = omega (arith, there.within, long es order is) in
+    let key : (get_or (listed es) at ([], 0)).0 ≡ old =
+    ap (λ (e : List ℕ × ℕ). e.0) (at-place es order is at h) ∙ key-at es order is old at there in
+    let differ : name_cmp k old ≢ Equal =
+    (λ tie. let some = ap (finmap.get m) (name_exact k old tie) ∙ file-at es order is old at there in cc) in
+    subst (λ xs. IsOrderOf xs order) (sym made)
+    (replace es order is at (k, v) h
+    (sym (renamed (listed es) at old k v there.within (entries_sorted m) key differ fits.after fits.before)
+    ∙ ap (where_key name_cmp (other name_cmp old)) (sym (entries-insert name_total m k v))
+    ∙ sym (entries-remove name_total name_exact (finmap.insert m k v) old) ∙ ap finmap.entries (sym view) ∙ ap listed made))
 
-  -- a row that is read, by its name
-  pub read : (es : List (Row Z)) (i : ℕ) (r : Row Z) → slice_get es i ≡ Some r → get_or (rows_by_name es) i ([], 0) ≡ (r.0.items, r.1)
-  read es i r is =
-      let at = get-within (rows_by_name es) i (r.0.items, r.1) (read-row es i r is) in
-      get_or_default (rows_by_name es) i ([], 0) (r.0.items, r.1) at.0 ∙ at.1
+-- a row that is read, by its name
+pub read : (es : List Row) (i : ℕ) (r : Row) → slice_get es i ≡ Some r → get_or es i ([], 0) ≡ r
+read es i r is =
+    let at = get-within es i r is in
+    get_or_default es i ([], 0) r at.0 ∙ at.1
 
-  -- a row goes, and the last takes its position
-  swapped : (es : List (Row Z)) (g : ℕ) (p : Row Z) → g < length es →
-      rows_by_name (swap_remove es g p) ≡ take (length es - 1) (slice_set (rows_by_name es) g (get_or (rows_by_name es) (length es - 1) ([], 0)))
-  swapped es g p within =
-      sym (take-map row (length es - 1) (slice_set es g (get_or es (length es - 1) p)))
-      ∙ ap (take (length es - 1)) (map-set row es g (get_or es (length es - 1) p)
-      ∙ ap (slice_set (rows_by_name es) g) (sym (get_or-map row es (length es - 1) p ([], 0) (omega (arith, within)))))
-    where
-      row : Row Z → List ℕ × ℕ
-      row e = (e.0.items, e.1)
+-- a row goes, and the last takes its position
+swapped : (es : List Row) (g : ℕ) (p : Row) → g < length es →
+    swap_remove es g p ≡ take (length es - 1) (slice_set es g (get_or es (length es - 1) ([], 0)))
+swapped es g p within =
+    ap (λ x. take (length es - 1) (slice_set es g x)) (get_or_default es (length es - 1) p ([], 0) (omega (arith, within)))
 
-  pub go-row : (es fs : List (Row Z)) (order : List ℕ) (name end : List ℕ) (at moved : ℕ) (p : Row Z) → IsOrderOf (rows_by_name es) order → Differ es →
-      IsAt name_cmp (listed (rows_by_name es)) name at → IsAt name_cmp (listed (rows_by_name es)) end moved →
-      (get_or (rows_by_name es) (length es - 1) ([], 0)).0 ≡ end → fs ≡ swap_remove es (get_or order at 0) p →
-      finmap.from_entries {R = name_cmp} (rows_by_name fs) ≡ finmap.remove (finmap.from_entries (rows_by_name es)) name →
-      IsOrderOf (rows_by_name fs) (remove (slice_set order moved (get_or order at 0)) at)
-  go-row es fs order name end at moved p is differ there there' key made view =
-      let m = finmap.from_entries {R = name_cmp} (rows_by_name es) in
-      let l = long (rows_by_name es) order is in
-      let here : at < length order = omega (arith, there.within, l) in
-      let here' : moved < length order = omega (arith, there'.within, l) in
-      let small : get_or order at 0 < length es = omega (arith, is.within at 0 here, length-rows es) in
-      let rows = ap rows_by_name made ∙ swapped es (get_or order at 0) p small in
-      subst (λ xs. IsOrderOf xs (remove (slice_set order moved (get_or order at 0)) at)) (sym rows)
-      (go (rows_by_name es) order is at moved (length es - 1) here here' (place-is es order is end moved (length es - 1) differ there' (omega
-      (arith, small)) key)
-      (omega (arith, small, length-rows es))
-      (sym there.taken_out ∙ sym (entries-remove name_total name_exact m name) ∙ ap finmap.entries (sym view) ∙ ap listed rows))
+pub go-row : (es fs : List Row) (order : List ℕ) (name end : List ℕ) (at moved : ℕ) (p : Row) → IsOrderOf es order → Differ es →
+    IsAt name_cmp (listed es) name at → IsAt name_cmp (listed es) end moved →
+    (get_or es (length es - 1) ([], 0)).0 ≡ end → fs ≡ swap_remove es (get_or order at 0) p →
+    finmap.from_entries {R = name_cmp} fs ≡ finmap.remove (finmap.from_entries es) name →
+    IsOrderOf fs (remove (slice_set order moved (get_or order at 0)) at)
+go-row es fs order name end at moved p is differ there there' key made view =
+    let m = finmap.from_entries {R = name_cmp} es in
+    let l = long es order is in
+    let here : at < length order = omega (arith, there.within, l) in
+    let here' : moved < length order = omega (arith, there'.within, l) in
+    let small : get_or order at 0 < length es = is.within at 0 here in
+    let rows = made ∙ swapped es (get_or order at 0) p small in
+    subst (λ xs. IsOrderOf xs (remove (slice_set order moved (get_or order at 0)) at)) (sym rows)
+    (go es order is at moved (length es - 1) here here' (place-is es order is end moved (length es - 1) differ there' (omega
+    (arith, small)) key)
+    (omega (arith, small))
+    (sym there.taken_out ∙ sym (entries-remove name_total name_exact m name) ∙ ap finmap.entries (sym view) ∙ ap listed rows))
 
-  -- a row that has its own position in the order
-  pub at-itself : (es : List (Row Z)) (order : List ℕ) (name : List ℕ) (i : ℕ) (r : Row Z) → IsOrderOf (rows_by_name es) order → i < length order →
-      get_or order i 0 ≡ i → slice_get es i ≡ Some r → r.0.items ≡ name → IsAt name_cmp (listed (rows_by_name es)) name i
-  at-itself es order name i r is within own at key =
-      let rows = listed (rows_by_name es) in
-      let row : get_or rows i ([], 0) ≡ (r.0.items, r.1) =
-      at-place (rows_by_name es) order is i within ∙ ap (λ k. get_or (rows_by_name es) k ([], 0)) own ∙ read es i r at in
-      let h : i < length rows = omega (arith, within, long (rows_by_name es) order is) in
-      at-row name_total name_exact rows name i (get_or rows i ([], 0)) (is_true _ (entries_sorted {R = name_cmp} (finmap.from_entries (rows_by_name es)))) h
-      (get_or_default rows i ([], 0) (get_or rows i ([], 0)) h)
-      (ap (λ (e : List ℕ × ℕ). name_cmp e.0 name) row ∙ ap (λ w. name_cmp w name) key ∙ tied_itself name_total name)
+-- a row that has its own position in the order
+pub at-itself : (es : List Row) (order : List ℕ) (name : List ℕ) (i : ℕ) (r : Row) → IsOrderOf es order → i < length order →
+    get_or order i 0 ≡ i → slice_get es i ≡ Some r → r.0 ≡ name → IsAt name_cmp (listed es) name i
+at-itself es order name i r is within own at key =
+    let rows = listed es in
+    let row : get_or rows i ([], 0) ≡ r =
+    at-place es order is i within ∙ ap (λ k. get_or es k ([], 0)) own ∙ read es i r at in
+    let h : i < length rows = omega (arith, within, long es order is) in
+    at-row name_total name_exact rows name i (get_or rows i ([], 0)) (is_true _ (entries_sorted {R = name_cmp} (finmap.from_entries es))) h
+    (get_or_default rows i ([], 0) (get_or rows i ([], 0)) h)
+    (ap (λ (e : List ℕ × ℕ). name_cmp e.0 name) row ∙ ap (λ w. name_cmp w name) key ∙ tied_itself name_total name)

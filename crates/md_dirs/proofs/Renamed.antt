@@ -2,7 +2,6 @@
 use Rattle.std.proofs.Common.{ℕ, zero, suc, ◌≡◌, ◌<◌, ◌++◌, List, [], ◌∷◌, Option, Some, None, Bool, true, false, cond, T, length, refl, sym, ap, ◌∙◌, arith, get_or, slice_set, swap, IsSome}
 use Rattle.std.specs.declared.cmp.Ordering.{Ordering}
 use Rattle.std.specs.declared.cmp.Ordering.TheVariants.{Less, Equal, Greater}
-use Rattle.std.specs.declared.vec.Vec.{Vec}
 use Rattle.std.specs.Ordering.{eq_by_cmp, is_eq, ordering_reverse}
 use Rattle.std.specs.Option.{option_to_list}
 use Rattle.std.specs.Map.{lookup_key}
@@ -10,9 +9,9 @@ use Rattle.std.proofs.lemmas.List.Edits.{swap_is}
 use Rattle.std.specs.FinMap as finmap
 use Rattle.std.specs.FinMap.{from_entries, same_map, get-insert, get-remove}
 use Rattle.std.specs.FinMap.Entries.{below_all}
-use Rattle.md_dirs.specs.Index.{name_cmp, rows_by_name, Renames}
+use Rattle.md_dirs.specs.Index.{name_cmp, Renames}
 use Rattle.md_dirs.proofs.Sorted.{first, second, less}
-use Rattle.md_dirs.proofs.NameRows.{Row, by, same, name_total, name_exact, get-loose, turned-test, renamed-lookups}
+use Rattle.md_dirs.proofs.NameRows.{Row, same, name_total, name_exact, get-loose, turned-test}
 
 -- lists
 set-front : {X : Type 0} (xs : List X) (i : ℕ) (x y : X) → i < length xs → slice_set (xs ++ x ∷ []) i y ≡ slice_set xs i y ++ x ∷ []
@@ -79,29 +78,28 @@ below-at x (e ∷ es) (suc i) d within h = below-at x es i d (omega arith) (seco
 pub turned : (x y : List ℕ) → name_cmp y x ≡ Greater → name_cmp x y ≡ Less
 turned x y is = name_total.antisymm x y ∙ ap ordering_reverse is
 
-module _ {Z : Type 0} where
-  -- the key that was found is the name
-  pub found-key : (q : List ℕ) (es : List (Row Z)) (k : Vec ℕ Z) → Some k ≡ lookup_key (by q) es → k.items ≡ q
-  found-key q [] k is = cc
-  found-key q (e ∷ es) k is = at (found-key q es k) (same q e.0.items) refl is
-    where
-      equal : (o : Ordering) → is_eq o ≡ true → o ≡ Equal
-      equal Less p = cc
-      equal Equal p = refl
-      equal Greater p = cc
+-- the key that was found is the name
+pub found-key : (q : List ℕ) (es : List Row) (k : List ℕ) → Some k ≡ lookup_key (same q) es → k ≡ q
+found-key q [] k is = cc
+found-key q (e ∷ es) k is = at (found-key q es k) (same q e.0) refl is
+  where
+    equal : (o : Ordering) → is_eq o ≡ true → o ≡ Equal
+    equal Less p = cc
+    equal Equal p = refl
+    equal Greater p = cc
 
-      at : (Some k ≡ lookup_key (by q) es → k.items ≡ q) → (b : Bool) → same q e.0.items ≡ b → Some k ≡ cond b (Some e.0) (lookup_key (by q) es) → k.items ≡ q
-      at rest true t h =
-          let key : k ≡ e.0 = cc in
-          let tie : name_cmp e.0.items q ≡ Equal = equal _ (sym (turned-test q e.0.items) ∙ t) in
-          ap (λ (x : Vec ℕ Z). x.items) key ∙ name_exact e.0.items q tie
-      at rest false t h = rest h
+    at : (Some k ≡ lookup_key (same q) es → k ≡ q) → (b : Bool) → same q e.0 ≡ b → Some k ≡ cond b (Some e.0) (lookup_key (same q) es) → k ≡ q
+    at rest true t h =
+        let key : k ≡ e.0 = cc in
+        let tie : name_cmp e.0 q ≡ Equal = equal _ (sym (turned-test q e.0) ∙ t) in
+        key ∙ name_exact e.0 q tie
+    at rest false t h = rest h
 
-  pub renamed-is : (es fs : List (Row Z)) (i : ℕ) (o : List ℕ) (k : Vec ℕ Z) (v : ℕ) → (r : Renames es i k.items v fs) → r.row.0.items ≡ o
-      → from_entries {R = name_cmp} (rows_by_name fs) ≡ finmap.remove (finmap.insert (from_entries (rows_by_name es)) k.items v) o
-  renamed-is es fs i o k v renames key = same_map name_total name_exact _ _ (λ q.
-      get-loose fs q
-      ∙ renamed-lookups es fs renames.row.0 k v renames.names q
-      ∙ (λ j. cond (turned-test (key j) q j) None (cond (turned-test k.items q j) (Some v) (sym (get-loose es q) j)))
-      ∙ sym (get-remove name_total (finmap.insert (from_entries (rows_by_name es)) k.items v) o q ∙
-      ap (λ x. cond (eq_by_cmp name_cmp q o) None x) (get-insert name_total (from_entries (rows_by_name es)) k.items v q)))
+pub renamed-is : (es fs : List Row) (i : ℕ) (o : List ℕ) (k : List ℕ) (v : ℕ) → (r : Renames es i k v fs) → r.row.0 ≡ o
+    → from_entries {R = name_cmp} fs ≡ finmap.remove (finmap.insert (from_entries es) k v) o
+renamed-is es fs i o k v renames key = same_map name_total name_exact _ _ (λ q.
+    get-loose fs q
+    ∙ renames.names q
+    ∙ (λ j. cond (turned-test (key j) q j) None (cond (turned-test k q j) (Some v) (sym (get-loose es q) j)))
+    ∙ sym (get-remove name_total (finmap.insert (from_entries es) k v) o q ∙
+    ap (λ x. cond (eq_by_cmp name_cmp q o) None x) (get-insert name_total (from_entries es) k v q)))

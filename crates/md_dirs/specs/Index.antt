@@ -1,12 +1,12 @@
 -- Directories as finite maps: of the names of each directory, and of the paths of all.
 use Rattle.std.specs.Prelude.{ℕ, suc, ◌≡◌, ◌+◌, ◌-◌, ◌<◌, length, slice_index_or, ◌*◌, ◌/◌, ◌%◌, List}
-use Rattle.std.specs.Prelude.{[], ◌∷◌, ◌++◌, map, filter, slice_get, unwrap_or, Option, Some, None, cond, nat_eq, All}
+use Rattle.std.specs.Prelude.{[], ◌∷◌, ◌++◌, map, filter, slice_get, unwrap_or, Option, Some, None, cond, All}
 use Rattle.std.specs.declared.cmp.Ordering.{Ordering}
 use Rattle.std.specs.declared.cmp.Ordering.TheVariants.{Less, Greater}
-use Rattle.std.specs.declared.vec.Vec.{Vec}
 use Rattle.std.specs.Coded.{Coded, coded_ℕ, coded_list}
 use Rattle.std.specs.Ordering.{nat_cmp}
-use Rattle.std.specs.Cmp.Lexicographic.{slice_cmp, pointwise}
+use Rattle.std.specs.Cmp.Lexicographic.{slice_cmp}
+use Rattle.std.specs.Str.{bytes_eq}
 use Rattle.std.specs.Map.{lookup}
 use Rattle.std.specs.FinMap as finmap
 use Rattle.md_dirs.specs.Path.{path_cmp, path_of, place_index}
@@ -27,10 +27,6 @@ NameMap = finmap.FinMap name_cmp ℕ
 abbrev pub name_code : Coded NameMap
 name_code = finmap.code (coded_list coded_ℕ) coded_ℕ
 
--- rows as names and numbers
-abbrev pub rows_by_name : {Z : Type 0} → List (Vec ℕ Z × ℕ) → List (List ℕ × ℕ)
-rows_by_name es = map (λ e. (e.0.items, e.1)) es
-
 -- rows by their positions
 abbrev pub rows_at : List (List ℕ × ℕ) → List ℕ → List (List ℕ × ℕ)
 rows_at rows order = map (λ i. slice_index_or rows i ([], 0)) order
@@ -41,15 +37,14 @@ pub record IsOrderOf (rows : List (List ℕ × ℕ)) (order : List ℕ) : Type 0
   pub lists : rows_at rows order ≡ finmap.entries {R = name_cmp} (finmap.from_entries rows)
 
 -- the number at a name, as the table looks it up
-abbrev pub get_name : {Z : Type 0} → List (Vec ℕ Z × ℕ) → List ℕ → Option ℕ
-get_name es q = lookup (λ k. pointwise nat_eq q k.items) es
+abbrev pub get_name : List (List ℕ × ℕ) → List ℕ → Option ℕ
+get_name es q = lookup (bytes_eq q) es
 
 -- a name is there with a number, and that of a row is not; any other name has what it had
-pub record Renames {Z : Type 0} (old : List (Vec ℕ Z × ℕ)) (i : ℕ) (name : List ℕ) (file : ℕ) (new : List (Vec ℕ Z × ℕ)) : Type 0 where
-  pub row : Vec ℕ Z × ℕ
+pub record Renames (old : List (List ℕ × ℕ)) (i : ℕ) (name : List ℕ) (file : ℕ) (new : List (List ℕ × ℕ)) : Type 0 where
+  pub row : List ℕ × ℕ
   pub at : slice_get old i ≡ Some row
-  pub names : (q : Vec ℕ Z) → get_name new q.items
-      ≡ cond (pointwise nat_eq row.0.items q.items) None (cond (pointwise nat_eq name q.items) (Some file) (get_name old q.items))
+  pub names : (q : List ℕ) → get_name new q ≡ cond (bytes_eq row.0 q) None (cond (bytes_eq name q) (Some file) (get_name old q))
 
 -- how the row at a position compares with a name
 abbrev pub order_at : List (List ℕ × ℕ) → ℕ → List ℕ → Ordering

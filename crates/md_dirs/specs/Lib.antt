@@ -9,3 +9,5 @@ pub mod Failing
 pub mod Index
 pub mod Files
 pub mod Find
+pub mod NameKey
+pub mod Positions

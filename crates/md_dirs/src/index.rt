@@ -2,6 +2,7 @@
 mod load;
 mod loose;
 mod names;
+mod positions;
 mod tree;
 
 use crate::calls::{DirError, Dirs};
@@ -19,11 +20,11 @@ use tree::Tree;
 
 /// Directories that are hashed: one table for each directory, and the positions of its rows in order of the names.
 ///
-/// A name is looked up by its hash, and a position is an index into the order. A name that comes or goes finds its place in
-/// the order by halving. At the end of the order it moves nothing, and neither does one that takes another's place in it; any
-/// other moves the positions after it, a word each. Where a name goes, the last row of its table takes its row. Each file
-/// knows how many names it has. No call copies the bytes of a file, and room is made before anything is changed. They never
-/// fault.
+/// A name is looked up by its hash, which takes its bytes at once, and a row by its position by halving. A name that comes or
+/// goes finds its place in the order by halving, and moves at most the 256 positions of its block, and a count for each block
+/// after it; one that takes another's place in the order moves nothing. Where a name goes, the last row of its table takes its
+/// row. Each file knows how many names it has. No call copies the bytes of a file, and room is made before anything is changed.
+/// They never fault.
 #[derive(Drop)]
 pub struct IndexDirs {
     alloc: Global,

@@ -1,6 +1,5 @@
 -- Names that are used, as the keys of a set.
 use Rattle.std.proofs.Common.{◌≡◌, ℕ, List, [], ◌∷◌, Bool, true, false, not, ◌||◌, MatchBool, refl, sym, ap, ◌∙◌}
-use Rattle.std.specs.Prelude.{map}
 use Rattle.std.specs.List.{list_any}
 use Rattle.std.specs.List.Sorted.{IsPermutation}
 use Rattle.std.specs.Str.{bytes_eq}
@@ -13,34 +12,24 @@ pub bytes_eq-sym : (a b : List ℕ) → bytes_eq a b ≡ bytes_eq b a
 bytes_eq-sym a b = same_from_decides (bytes_eq a b) (bytes_eq b a) (bytes_eq-Decides a b)
     (λ h. sym ((bytes_eq-Decides b a).0 h), λ e. (bytes_eq-Decides b a).1 (sym e))
 
-module _ {K : Type 0} (items : K → List ℕ) where
-  pub among : (keys : List K) (u : List ℕ) → list_any (λ k. bytes_eq u (items k)) keys ≡ is_among u (map items keys)
-  among [] u = refl
-  among (k ∷ keys) u = (λ i. bytes_eq-sym u (items k) i || among keys u i)
+pub among : (names : List (List ℕ)) (u : List ℕ) → list_any (λ n. bytes_eq u n) names ≡ is_among u names
+among [] u = refl
+among (n ∷ names) u = (λ i. bytes_eq-sym u n i || among names u i)
 
-  by_key : (keys : List K) (u : List ℕ) → is_among u (map items keys) ≡ list_any (λ k. bytes_eq (items k) u) keys
-  by_key [] u = refl
-  by_key (k ∷ keys) u = ap (λ b. bytes_eq (items k) u || b) (by_key keys u)
+-- a name that is there already
+there : (names : List (List ℕ)) (n u : List ℕ) → list_any (λ x. bytes_eq n x) names ≡ true → is_among u names ≡ (bytes_eq n u || is_among u names)
+there names n u is = by (bytes_eq n u) refl
+  where
+    by : (b : Bool) → bytes_eq n u ≡ b → is_among u names ≡ (b || is_among u names)
+    by true same = ap (λ x. is_among x names) (sym ((bytes_eq-Decides n u).0 same)) ∙ sym (among names n) ∙ is
+    by false other = refl
 
-  -- a name that is there already
-  there : (keys : List K) (k : K) (u : List ℕ) → list_any (λ x. bytes_eq (items k) (items x)) keys ≡ true →
-      is_among u (map items keys) ≡ (bytes_eq (items k) u || is_among u (map items keys))
-  there keys k u is = by (bytes_eq (items k) u) refl
-    where
-      by : (b : Bool) → bytes_eq (items k) u ≡ b → is_among u (map items keys) ≡ (b || is_among u (map items keys))
-      by true same =
-          let name : items k ≡ u = (bytes_eq-Decides (items k) u).0 same in
-          ap (λ n. is_among n (map items keys)) (sym name) ∙ sym (among keys (items k)) ∙ is
-      by false other = refl
-
-  -- the keys after a key is put
-  pub among-put : (old new : List K) (k : K) (added : Bool) (u : List ℕ) → added ≡ not (list_any (λ x. bytes_eq (items k) (items x)) old)
-      → MatchBool added (IsPermutation (k ∷ old) new) (new ≡ old)
-      → is_among u (map items new) ≡ (bytes_eq (items k) u || is_among u (map items old))
-  among-put old new k true u is puts = by_key new u ∙ sym (list_any-IsPermutation (λ x. bytes_eq (items x) u) (k ∷ old) new puts) ∙
-      ap (λ b. bytes_eq (items k) u || b) (sym (by_key old u))
-  among-put old new k false u is same = ap (λ ks. is_among u (map items ks)) same ∙ there old k u (by (list_any (λ x. bytes_eq (items k) (items x)) old) is)
-    where
-      by : (b : Bool) → false ≡ not b → b ≡ true
-      by true h = refl
-      by false h = cc
+-- the names after a name is put
+pub among-put : (old new : List (List ℕ)) (n : List ℕ) (added : Bool) (u : List ℕ) → added ≡ not (list_any (λ x. bytes_eq n x) old)
+    → MatchBool added (IsPermutation (n ∷ old) new) (new ≡ old) → is_among u new ≡ (bytes_eq n u || is_among u old)
+among-put old new n true u is puts = sym (list_any-IsPermutation (λ x. bytes_eq x u) (n ∷ old) new puts)
+among-put old new n false u is same = ap (is_among u) same ∙ there old n u (by (list_any (λ x. bytes_eq n x) old) is)
+  where
+    by : (b : Bool) → false ≡ not b → b ≡ true
+    by true h = refl
+    by false h = cc

@@ -1,10 +1,12 @@
 // Names in the order of their coming, before they are sorted.
-ghost use Rattle.std.specs.Prelude.{◌≡◌, ◌<◌, ◌^◌, ℕ, OnOk, OnErr, IfOk, EachIndex, slice_index, vec_len};
+ghost use Rattle.std.specs.Prelude.{◌≡◌, ◌<◌, ◌^◌, ℕ, OnOk, OnErr, IfOk, EachIndex, slice_index_or, length, vec_len};
 ghost use Rattle.std.specs.FinMap as finmap;
 ghost use Rattle.md_dirs.specs.Index.{directory_at};
 
 use crate::index::names::Names;
+use crate::index::positions::Positions;
 use crate::index::tree::Tree;
+use crate::name_key::NameKey;
 use crate::paths::{Path, number_of};
 use indexmap::IndexMap;
 use std::alloc::{AllocError, Global};
@@ -13,28 +15,28 @@ use std::marker::Model;
 /// The names of one directory, each with the number of its file, in any order.
 #[derive(Drop)]
 struct LooseNames {
-    rows: IndexMap<Vec<u8>, usize>,
+    rows: IndexMap<NameKey<'static>, usize>,
 }
 
 impl Model for LooseNames {
     ghost use Rattle.std.specs.FinMap.{from_entries};
-    ghost use Rattle.md_dirs.specs.Index.{NameMap, name_code, rows_by_name};
+    ghost use Rattle.md_dirs.specs.Index.{NameMap, name_code};
 
     ghost Value = { NameMap };
 
     ghost coded = { name_code };
 
-    ghost view = { λ d. from_entries (rows_by_name d.rows.entries) };
+    ghost view = { λ d. from_entries d.rows.entries };
 }
 
 // The numbers below one, in turn.
-fn in_turn(alloc: Global, count: usize) -> Result<Vec<usize>, AllocError>
-    ensures long { IfOk result (λ order. vec_len order ≡ count) }
-    ensures each { IfOk result (λ order. EachIndex order.items (λ k. slice_index order.items k ≡ k)) }
+fn in_turn(alloc: Global, count: usize) -> Result<Positions, AllocError>
+    ensures long { IfOk result (λ order. length order ≡ count) }
+    ensures each { IfOk result (λ order. EachIndex order (λ k. slice_index_or order k 0 ≡ k)) }
 {
-    let mut order = Vec::with_capacity(alloc, count)?;
+    let mut order = Positions::new(alloc);
     for at in 0..count {
-        order.push(at)?;
+        order.insert(at, at)?;
     }
     Ok(order)
 }
@@ -51,11 +53,12 @@ impl LooseNames {
     fn file_of(&self, name: &[u8]) -> Option<usize>
         ensures { result ≡ finmap.get self.now name.now }
     {
-        self.rows.get(name).copied()
+        let key = NameKey::lent(name);
+        self.rows.get(&key).copied()
     }
 
-    fn put(&mut self, name: Vec<u8>, file: usize) -> Result<(), AllocError>
-        ensures ok { OnOk result (self.new ≡ finmap.insert self.old name.items file) }
+    fn put(&mut self, name: NameKey<'static>, file: usize) -> Result<(), AllocError>
+        ensures ok { OnOk result (self.new ≡ finmap.insert self.old name.entry file) }
         ensures err { OnErr result (self.new ≡ self.old) }
     {
         self.rows.insert(name, file)?;
@@ -137,7 +140,7 @@ impl LooseTree {
         let number = number_of(path.folder, path.place);
         make_directory(&mut self.directories, alloc, number)?;
         let directory = &mut self.directories[number];
-        directory.put(path.name.into_vec(), file)?;
+        directory.put(NameKey::owned(path.name.into_vec()), file)?;
         Ok(())
     }
 

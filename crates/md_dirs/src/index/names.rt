@@ -10,6 +10,8 @@ ghost use Rattle.md_dirs.specs.Index.{name_cmp, order_at, FitsAt, get_name, Rena
 
 use crate::files::{Kept, shown_row};
 use crate::finding::{Edge, InOrder, edge_place};
+use crate::index::positions::Positions;
+use crate::name_key::NameKey;
 use crate::rows::{Row, is_named};
 use indexmap::IndexMap;
 use std::alloc::{AllocError, Global};
@@ -20,34 +22,34 @@ use std::marker::Model;
 /// names.
 #[derive(Drop)]
 pub struct Names {
-    pub(crate) rows: IndexMap<Vec<u8>, usize>,
-    pub(crate) order: Vec<usize>,
+    pub(crate) rows: IndexMap<NameKey<'static>, usize>,
+    pub(crate) order: Positions,
 }
 
 impl Model for Names {
     ghost use Rattle.std.specs.FinMap.{from_entries};
-    ghost use Rattle.md_dirs.specs.Index.{NameMap, name_code, rows_by_name, IsOrderOf};
+    ghost use Rattle.md_dirs.specs.Index.{NameMap, name_code, IsOrderOf};
 
     ghost Value = { NameMap };
 
     ghost coded = { name_code };
 
-    ghost view = { λ d. from_entries (rows_by_name d.rows.entries) };
+    ghost view = { λ d. from_entries d.rows.entries };
 
-    ghost invariant = { λ d. IsOrderOf (rows_by_name d.rows.entries) d.order.items };
+    ghost invariant = { λ d. IsOrderOf d.rows.entries d.order };
 }
 
 // Puts a row in the place of one, which goes.
 fn replace_row(
-    rows: &mut IndexMap<Vec<u8>, usize>,
+    rows: &mut IndexMap<NameKey<'static>, usize>,
     at: usize,
-    name: Vec<u8>,
+    name: NameKey<'static>,
     file: usize,
 ) -> Result<(), AllocError>
     requires within { at < length rows.old.entries }
-    requires free { get_name rows.old.entries name.items ≡ None }
-    ensures entries { OnOk result (rows.new.entries ≡ slice_set rows.old.entries at (name, file)) }
-    ensures names { OnOk result (Renames rows.old.entries at name.items file rows.new.entries) }
+    requires free { get_name rows.old.entries name ≡ None }
+    ensures entries { OnOk result (rows.new.entries ≡ slice_set rows.old.entries at (name.entry, file)) }
+    ensures names { OnOk result (Renames rows.old.entries at name.entry file rows.new.entries) }
     ensures err { OnErr result (rows.new.entries ≡ rows.old.entries) }
 {
     let last = rows.len();
@@ -64,7 +66,7 @@ impl Names {
     {
         Names {
             rows: IndexMap::new(alloc),
-            order: Vec::new(alloc),
+            order: Positions::new(alloc),
         }
     }
 
@@ -73,7 +75,7 @@ impl Names {
         requires { at < length (finmap.entries self.now) }
         ensures { (result.0.now, result.1) ≡ slice_index_or (finmap.entries self.now) at ([], 0) }
     {
-        let (name, file) = self.rows.get_index(self.order[at]).unwrap();
+        let (name, file) = self.rows.get_index(self.order.get(at)).unwrap();
         (name.as_slice(), *file)
     }
 
@@ -123,8 +125,9 @@ impl Names {
     fn hashed_place(&self, name: &[u8]) -> Option<usize>
         ensures { IfSome result (IsAt name_cmp (finmap.entries self.now) name.now) }
     {
-        let (row, _, _) = self.rows.get_full(name)?;
-        if row < self.order.len() && self.order[row] == row {
+        let key = NameKey::lent(name);
+        let (row, _, _) = self.rows.get_full(&key)?;
+        if row < self.order.len() && self.order.get(row) == row {
             return Some(row);
         }
         self.search(name).ok()
@@ -144,27 +147,30 @@ impl Names {
     pub fn file_of(&self, name: &[u8]) -> Option<usize>
         ensures { result ≡ finmap.get self.now name.now }
     {
-        self.rows.get(name).copied()
+        let key = NameKey::lent(name);
+        self.rows.get(&key).copied()
     }
 
-    /// Gives a name to a file, also in place of the one that it named. In the order the positions after it move: none where the
-    /// name goes at the end.
-    pub fn put(&mut self, name: Vec<u8>, file: usize) -> Result<(), AllocError>
-        ensures ok { OnOk result (self.new ≡ finmap.insert self.old name.items file) }
+    /// Gives a name to a file, also in place of the one that it named. In the order the positions after it in its block move.
+    pub fn put(&mut self, name: NameKey<'static>, file: usize) -> Result<(), AllocError>
+        ensures ok { OnOk result (self.new ≡ finmap.insert self.old name.entry file) }
         ensures err { OnErr result (self.new ≡ self.old) }
     {
-        let place = self.search(name.as_slice());
-        self.order.reserve(1)?;
         let last = self.rows.len();
-        self.rows.insert(name, file)?;
-        if let Err(at) = place {
-            self.order.insert(at, last)?;
-        }
+        let Err(at) = self.search(name.as_slice()) else {
+            self.rows.insert(name, file)?;
+            return Ok(());
+        };
+        self.rows.reserve(1)?;
+        self.order.insert(at, last)?;
+        let Ok(_none) = self.rows.insert(name, file) else {
+            unreachable!();
+        };
         Ok(())
     }
 
     /// Takes a name away, and gives the number of its file. It takes no memory. The last row of the table takes the place that
-    /// comes free there, and in the order the positions after it move: none where the name is at the end.
+    /// comes free there, and in the order the positions after it in its block move.
     pub fn take(&mut self, name: &[u8]) -> Option<usize>
         ensures file { result ≡ finmap.get self.old name.now }
         ensures gone { self.new ≡ finmap.remove self.old name.now }
@@ -172,12 +178,12 @@ impl Names {
         let Ok(at) = self.search(name) else {
             return None;
         };
-        let gone = self.order[at];
+        let gone = self.order.get(at);
         // The last row of the table goes to the position that comes free.
         let last = self.rows.len() - 1;
         let (key, _) = self.rows.get_index(last).unwrap();
         let moved = self.place_of(key.as_slice());
-        self.order[moved] = gone;
+        self.order.set(moved, gone);
         self.order.remove(at);
         let (_, file) = self.rows.swap_remove_index(gone).unwrap();
         Some(file)
@@ -185,14 +191,19 @@ impl Names {
 
     /// Gives the file of a name another name, which is not there yet. Where that keeps the row's place in the order, no
     /// position moves. When out of memory, nothing has changed.
-    pub fn rename(&mut self, old: &[u8], new: Vec<u8>, file: usize) -> Result<(), AllocError>
-        requires { finmap.get self.old new.items ≡ None }
-        ensures ok { OnOk result (self.new ≡ finmap.remove (finmap.insert self.old new.items file) old.now) }
+    pub fn rename(
+        &mut self,
+        old: &[u8],
+        new: NameKey<'static>,
+        file: usize,
+    ) -> Result<(), AllocError>
+        requires { finmap.get self.old new ≡ None }
+        ensures ok { OnOk result (self.new ≡ finmap.remove (finmap.insert self.old new.entry file) old.now) }
         ensures err { OnErr result (self.new ≡ self.old) }
     {
         if let Some(at) = self.hashed_place(old) {
             if self.keeps_place(at, new.as_slice()) {
-                let row = self.order[at];
+                let row = self.order.get(at);
                 replace_row(&mut self.rows, row, new, file)?;
                 return Ok(());
             }
@@ -207,7 +218,9 @@ impl Names {
     pub fn find(&self, unique: &[u8]) -> Option<(&[u8], usize)>
         ensures { option_map (λ r. (r.0.now, r.1)) result ≡ first_with (λ e. is_named_by unique.now e.0) (finmap.entries self.now) }
     {
-        if let Some((name, file)) = self.rows.get_key_value(unique) {
+        let key = NameKey::lent(unique);
+        if let Some((at, _, _)) = self.rows.get_full(&key) {
+            let (name, file) = self.rows.get_index(at).unwrap();
             return Some((name.as_slice(), *file));
         }
         let (name, file) = self.row_at(edge_place(self, unique, Edge::Info))?;

@@ -12,6 +12,7 @@ use crate::changes::Paths;
 use crate::files::Kept;
 use crate::finding::InOrder;
 use crate::index::names::Names;
+use crate::name_key::NameKey;
 use crate::paths::{Path, Place, number_of};
 use crate::rows::Row;
 use std::alloc::{AllocError, Global};
@@ -165,7 +166,8 @@ impl Tree {
             && number < self.directories.len()
         {
             let directory = &mut self.directories[number];
-            directory.rename(old.name.as_slice(), new.name.into_vec(), file)?;
+            let name = NameKey::owned(new.name.into_vec());
+            directory.rename(old.name.as_slice(), name, file)?;
             return Ok(());
         }
         self.put(alloc, new, file)?;
@@ -181,7 +183,7 @@ impl Paths for Tree {
         let number = number_of(path.folder, path.place);
         make_directory(&mut self.directories, alloc, number)?;
         let directory = &mut self.directories[number];
-        directory.put(path.name.into_vec(), file)?;
+        directory.put(NameKey::owned(path.name.into_vec()), file)?;
         Ok(())
     }
 }

@@ -1,4 +1,4 @@
-use Rattle.std.proofs.Common.{◌≡◌, ◌∙◌, None, cond, sym, ap, subst, length, slice_set, get_or, swap, ◌<◌, Global}
+use Rattle.std.proofs.Common.{◌≡◌, ◌∙◌, None, cond, sym, ap, subst, length, slice_set, get_or, swap, ◌<◌}
 use Rattle.std.proofs.lemmas.Option.{slice_get-get_or}
 use Rattle.indexmap.proofs.CallerLemmas.{insert_entry-new}
 use Rattle.md_dirs.proofs.Renamed.{swapped-last, taken-off}
@@ -8,7 +8,7 @@ use Rattle.md_dirs.proofs.index.names.replace_row.Goals as goal
 pub returns-clause-entries : goal.returns-clause-entries
 returns-clause-entries c =
     let es = c.args.rows.now.entries in
-    let x : Row Global = (c.args.name, c.args.file) in
+    let x : Row = (c.args.name, c.args.file) in
     let pushed = c.in_ok-insert.ensures.entries ∙ insert_entry-new _ c.args.rows.now c.args.name c.args.file c.requires.free in
     let last : c.len-last.result ≡ length es = c.len-last.ensures.len in
     let swapped = c.swap_indices.ensures.entries ∙ (λ i. swap (pushed i) c.args.at (last i)) ∙ swapped-last es c.args.at x c.requires.within in
@@ -19,7 +19,7 @@ returns-clause-entries c =
 pub returns-clause-names : goal.returns-clause-names
 returns-clause-names c =
     let es = c.args.rows.now.entries in
-    let x : Row Global = (c.args.name, c.args.file) in
+    let x : Row = (c.args.name, c.args.file) in
     let pushed = c.in_ok-insert.ensures.entries ∙ insert_entry-new _ c.args.rows.now c.args.name c.args.file c.requires.free in
     let last : c.len-last.result ≡ length es = c.len-last.ensures.len in
     let swapped = c.swap_indices.ensures.entries ∙ (λ i. swap (pushed i) c.args.at (last i)) ∙ swapped-last es c.args.at x c.requires.within in
@@ -30,5 +30,5 @@ returns-clause-names c =
     record {
       row = row;
       at = slice_get-get_or es c.args.at x c.requires.within;
-      names = λ q. gone.0 q ∙ ap (cond (same row.0.items q.items) None) (c.swap_indices.ensures.reordered.2 q ∙ c.in_ok-insert.ensures.updates.0 q);
+      names = λ q. gone.0 q ∙ ap (cond (same row.0 q) None) (c.swap_indices.ensures.reordered.2 q ∙ c.in_ok-insert.ensures.updates.0 q);
     }

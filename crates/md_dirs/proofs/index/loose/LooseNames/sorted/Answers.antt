@@ -1,6 +1,5 @@
 use Rattle.std.proofs.Common.{arith}
-use Rattle.md_dirs.specs.Index.{rows_by_name}
-use Rattle.md_dirs.proofs.NameRows.{rising, reordered-loose, length-rows}
+use Rattle.md_dirs.proofs.NameRows.{rising, reordered-loose}
 use Rattle.md_dirs.proofs.Ordered.{in-turn}
 use Rattle.md_dirs.proofs.index.loose.LooseNames.sorted.Goals as goal
 
@@ -8,8 +7,8 @@ pub invariant_of-result : goal.invariant_of-result
 invariant_of-result c =
     let done = c.in_ok-sort_unstable_keys.ensures in
     let es = c.sort_unstable_keys.new.self.entries in
-    in-turn (rows_by_name es) c.in_ok-order.order.items (rising es done.sorted done.unique)
-    (omega (arith, c.in_ok-order.ensures.long, c.len.ensures.len, length-rows es, c.in_ok-order.order.ok.0)) (λ k h. c.in_ok-order.ensures.each k h)
+    in-turn es c.in_ok-order.order (rising es done.sorted done.unique)
+    (omega (arith, c.in_ok-order.ensures.long, c.len.ensures.len)) (λ k h. c.in_ok-order.ensures.each k h)
 
 pub returns : goal.returns
 returns c =

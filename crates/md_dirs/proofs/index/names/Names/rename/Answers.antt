@@ -1,9 +1,7 @@
-use Rattle.std.proofs.Common.{ℕ, List, [], ◌≡◌, ◌<◌, ◌∙◌, sym, ap, slice_set, get_or, length, arith}
-use Rattle.std.proofs.lemmas.List.{get_or_default}
-use Rattle.md_dirs.specs.Index.{rows_by_name}
+use Rattle.std.proofs.Common.{ℕ, List, [], ◌≡◌, ◌∙◌, sym, ap, slice_set, get_or}
 use Rattle.md_dirs.proofs.NameRows.{get-loose}
 use Rattle.md_dirs.proofs.Renamed.{renamed-is}
-use Rattle.md_dirs.proofs.Ordered.{long, rename-row, key-at, read}
+use Rattle.md_dirs.proofs.Ordered.{rename-row, key-at, read}
 use Rattle.md_dirs.proofs.index.names.Names.rename.Goals as goal
 use Rattle.md_dirs.proofs.index.names.Names.rename.Goals.{In_ok-replace_row}
 
@@ -11,32 +9,28 @@ pub replace_row-requires-clause-free : goal.replace_row-requires-clause-free
 replace_row-requires-clause-free c =
     let es = c.self.inside.rows.entries in
     let none = rw (← c.self.view_is) at c.requires in
-    sym (get-loose es c.args.new.items) ∙ none
+    sym (get-loose es c.args.new) ∙ none
 
 -- the position that was read is that at the name's place
-position : (c : In_ok-replace_row) → c.index-row.result.now ≡ get_or c.self.inside.order.items c.in-Some.at 0
-position c =
-    let order = c.self.inside.order.items in
-    let there = rw (← c.self.view_is) at c.in-Some.ensures in
-    let h : c.in-Some.at < length order = omega (arith, there.within, long (rows_by_name c.self.inside.rows.entries) order c.self.invariant) in
-    c.index-row.ensures ∙ get_or_default order c.in-Some.at c.index-row.result.now 0 h
+position : (c : In_ok-replace_row) → c.get-row.result ≡ get_or c.self.inside.order c.in-Some.at 0
+position c = c.get-row.ensures
 
 pub returns-then-keeps_place-clause-ok : goal.returns-then-keeps_place-clause-ok
 returns-then-keeps_place-clause-ok c =
     let es = c.self.inside.rows.entries in
     let names = c.in_ok-replace_row.ensures.names in
     let there = rw (← c.self.view_is) at c.in-Some.ensures in
-    let key = key-at (rows_by_name es) c.self.inside.order.items c.self.invariant c.args.old.now c.in-Some.at there in
-    let stored : names.row.0.items ≡ c.args.old.now = ap (λ (e : List ℕ × ℕ). e.0) (sym (read es c.index-row.result.now names.row names.at))
-    ∙ ap (λ i. (get_or (rows_by_name es) i ([], 0)).0) (position (goal.at.returns-then-keeps_place-clause-ok c).In_ok-replace_row) ∙ key in
-    rw (← c.self.view_is) (renamed-is es c.replace_row.new.rows.entries c.index-row.result.now c.args.old.now c.args.new c.args.file names stored)
+    let key = key-at es c.self.inside.order c.self.invariant c.args.old.now c.in-Some.at there in
+    let stored : names.row.0 ≡ c.args.old.now = ap (λ (e : List ℕ × ℕ). e.0) (sym (read es c.get-row.result names.row names.at))
+    ∙ ap (λ i. (get_or es i ([], 0)).0) (position (goal.at.returns-then-keeps_place-clause-ok c).In_ok-replace_row) ∙ key in
+    rw (← c.self.view_is) (renamed-is es c.replace_row.new.rows.entries c.get-row.result c.args.old.now c.args.new c.args.file names stored)
 
 pub invariant_of-self-then-keeps_place : goal.invariant_of-self-then-keeps_place
 invariant_of-self-then-keeps_place c =
     let es = c.self.inside.rows.entries in
     let there = rw (← c.self.view_is) at c.in-Some.ensures in
     let none = rw (← c.self.view_is) at c.requires in
-    let fits = rw (c.as_slice.ensures.value, ← c.self.view_is) at (c.keeps_place.ensures c.if-keeps_place.true) in
+    let fits = rw (c.as_slice.ensures, ← c.self.view_is) at (c.keeps_place.ensures c.if-keeps_place.true) in
     let view = rw (← c.self.view_is) at (returns-then-keeps_place-clause-ok c) in
-    rename-row es c.replace_row.new.rows.entries c.self.inside.order.items c.args.new c.args.file c.in-Some.at c.args.old.now c.self.invariant there fits none
+    rename-row es c.replace_row.new.rows.entries c.self.inside.order c.args.new c.args.file c.in-Some.at c.args.old.now c.self.invariant there fits none
     (c.in_ok-replace_row.ensures.entries ∙ ap (λ i. slice_set es i (c.args.new, c.args.file)) (position c)) view

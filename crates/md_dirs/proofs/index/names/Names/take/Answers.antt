@@ -1,15 +1,14 @@
-use Rattle.std.proofs.Common.{ℕ, List, [], ◌≡◌, ◌<◌, ◌-◌, ◌∙◌, Some, refl, sym, ap, slice_set, swap_remove, remove, get_or, length, arith}
-use Rattle.std.proofs.lemmas.List.{get_or_default}
+use Rattle.std.proofs.Common.{ℕ, List, [], ◌≡◌, ◌-◌, ◌∙◌, Some, refl, sym, ap, slice_set, swap_remove, remove, get_or}
 use Rattle.std.specs.Option.{option_map}
 use Rattle.std.specs.Map.Iter.{deref_pair}
 use Rattle.std.specs.FinMap as finmap
 use Rattle.std.specs.FinMap.{from_entries, get-entries}
-use Rattle.md_dirs.specs.Index.{name_cmp, rows_by_name}
+use Rattle.md_dirs.specs.Index.{name_cmp}
 use Rattle.lists.proofs.Maps.{drop-absent}
 use Rattle.md_dirs.proofs.NameRows.{name_total, name_exact, get-loose, taken-loose}
-use Rattle.md_dirs.proofs.Ordered.{long, key-at, file-at, read, go-row}
+use Rattle.md_dirs.proofs.Ordered.{key-at, file-at, read, go-row}
 use Rattle.md_dirs.proofs.index.names.Names.take.Goals as goal
-use Rattle.md_dirs.proofs.index.names.Names.take.Goals.{After-drop-unwrap}
+use Rattle.md_dirs.proofs.index.names.Names.take.Goals.{Joined-unwrap}
 
 pub returns-in_default-clause-file : goal.returns-in_default-clause-file
 returns-in_default-clause-file c = sym (get-entries c.args.self.now c.args.name.now ∙ c.in_default.ensures.absent.absent)
@@ -22,41 +21,37 @@ pub place_of-moved-requires : goal.place_of-moved-requires
 place_of-moved-requires c =
     let es = c.self.inside.rows.entries in
     let some = rw c.unwrap.ensures at c.get_index.ensures.value in
-    rw (← c.self.view_is, c.as_slice.ensures.value, get-loose es c.unwrap.result.0.now.items, some) refl
+    rw (← c.self.view_is, c.as_slice.ensures, get-loose es c.unwrap.result.0.now, some) refl
 
 -- the position that was read is that at the name's place
-position : (c : After-drop-unwrap) → c.index-gone.result.now ≡ get_or c.self.inside.order.items c.in-Ok.at 0
-position c =
-    let order = c.self.inside.order.items in
-    let there = rw (← c.self.view_is) at c.in-Ok.ensures.found in
-    let h : c.in-Ok.at < length order = omega (arith, there.within, long (rows_by_name c.self.inside.rows.entries) order c.self.invariant) in
-    c.index-gone.ensures ∙ get_or_default order c.in-Ok.at c.index-gone.result.now 0 h
+position : (c : Joined-unwrap) → c.get-gone.result ≡ get_or c.self.inside.order c.in-Ok.at 0
+position c = c.get-gone.ensures
 
 -- the row that was taken off is that at the name's place
-taken : (c : After-drop-unwrap) → get_or (rows_by_name c.self.inside.rows.entries) (get_or c.self.inside.order.items c.in-Ok.at 0) ([], 0)
-    ≡ (c.unwrap-file.result.0.items, c.unwrap-file.result.1)
+taken : (c : Joined-unwrap) → get_or c.self.inside.rows.entries (get_or c.self.inside.order c.in-Ok.at 0) ([], 0)
+    ≡ c.unwrap-file.result
 taken c =
     let es = c.self.inside.rows.entries in
-    ap (λ i. get_or (rows_by_name es) i ([], 0)) (sym (position c)) ∙
-    read es c.index-gone.result.now c.unwrap-file.result (sym c.swap_remove_index.ensures.entry ∙ c.unwrap-file.ensures)
+    ap (λ i. get_or es i ([], 0)) (sym (position c)) ∙
+    read es c.get-gone.result c.unwrap-file.result (sym c.swap_remove_index.ensures.entry ∙ c.unwrap-file.ensures)
 
 pub returns-clause-file : goal.returns-clause-file
 returns-clause-file c =
     let es = c.self.inside.rows.entries in
     let there = rw (← c.self.view_is) at c.in-Ok.ensures.found in
-    rw (← c.self.view_is) (sym (file-at (rows_by_name es) c.self.inside.order.items c.self.invariant c.args.name.now c.in-Ok.at there ∙
+    rw (← c.self.view_is) (sym (file-at es c.self.inside.order c.self.invariant c.args.name.now c.in-Ok.at there ∙
     ap (λ (e : List ℕ × ℕ). Some e.1) (taken c)))
 
 -- the names that are left
-left : (c : After-drop-unwrap) → from_entries {R = name_cmp} (rows_by_name c.swap_remove_index.new.self.entries)
-    ≡ finmap.remove (from_entries (rows_by_name c.self.inside.rows.entries)) c.args.name.now
+left : (c : Joined-unwrap) → from_entries {R = name_cmp} c.swap_remove_index.new.self.entries
+    ≡ finmap.remove (from_entries c.self.inside.rows.entries) c.args.name.now
 left c =
     let es = c.self.inside.rows.entries in
     let there = rw (← c.self.view_is) at c.in-Ok.ensures.found in
     let gone = rw c.unwrap-file.ensures at c.swap_remove_index.ensures.updates in
-    let key : c.unwrap-file.result.0.items ≡ c.args.name.now = ap (λ (e : List ℕ × ℕ). e.0) (sym (taken c)) ∙
-    key-at (rows_by_name es) c.self.inside.order.items c.self.invariant c.args.name.now c.in-Ok.at there in
-    taken-loose es c.swap_remove_index.new.self.entries c.unwrap-file.result.0.items gone.0 ∙ ap (finmap.remove (from_entries (rows_by_name es))) key
+    let key : c.unwrap-file.result.0 ≡ c.args.name.now = ap (λ (e : List ℕ × ℕ). e.0) (sym (taken c)) ∙
+    key-at es c.self.inside.order c.self.invariant c.args.name.now c.in-Ok.at there in
+    taken-loose es c.swap_remove_index.new.self.entries c.unwrap-file.result.0 gone.0 ∙ ap (finmap.remove (from_entries es)) key
 
 pub returns-clause-gone : goal.returns-clause-gone
 returns-clause-gone c = rw (← c.self.view_is) (left c)
@@ -64,14 +59,14 @@ returns-clause-gone c = rw (← c.self.view_is) (left c)
 pub invariant_of-self : goal.invariant_of-self
 invariant_of-self c =
     let es = c.self.inside.rows.entries in
-    let order = c.self.inside.order.items in
+    let order = c.self.inside.order in
     let there = rw (← c.self.view_is) at c.in-Ok.ensures.found in
-    let there' = rw (c.as_slice.ensures.value, ← c.self.view_is) at c.place_of-moved.ensures in
-    let end = ap (λ n. get_or (rows_by_name es) (n - 1) ([], 0)) (sym c.len-last.ensures.len) ∙
+    let there' = rw (c.as_slice.ensures, ← c.self.view_is) at c.place_of-moved.ensures in
+    let end = ap (λ n. get_or es (n - 1) ([], 0)) (sym c.len-last.ensures.len) ∙
     read es (c.len-last.result - 1) (c.unwrap.result.0.now, c.unwrap.result.1.now) (sym c.get_index.ensures.entry ∙
     ap (option_map deref_pair) c.unwrap.ensures) in
     let swapped = rw c.unwrap-file.ensures at c.swap_remove_index.ensures.entries in
     let made = swapped ∙ ap (λ i. swap_remove es i c.unwrap-file.result) (position c) in
-    let rest = c.remove.ensures.items ∙ ap (λ i. remove (slice_set order c.place_of-moved.result i) c.in-Ok.at) (position c) in
-    rw rest (go-row es c.swap_remove_index.new.self.entries order c.args.name.now c.unwrap.result.0.now.items c.in-Ok.at c.place_of-moved.result
+    let rest = c.remove.ensures ∙ (λ i. remove ((c.set.ensures ∙ ap (slice_set order c.place_of-moved.result) (position c)) i) c.in-Ok.at) in
+    rw rest (go-row es c.swap_remove_index.new.self.entries order c.args.name.now c.unwrap.result.0.now c.in-Ok.at c.place_of-moved.result
     c.unwrap-file.result c.self.invariant c.len-last.ensures.unique there there' (ap (λ (e : List ℕ × ℕ). e.0) end) made (left c))

@@ -12,7 +12,7 @@ rename-requires c =
     let free = rw (← c.self.view_is) at (c.requires c.if-is_free.true) in
     let same : n.result ≡ directory_number c.args.new.folder c.args.new.place = c.if-number-number_of.true ∙ c.number_of.ensures.number in
     (λ i. finmap.get (sym (read-directory t.items n.result c.index_mut-directory.result.now within c.index_mut-directory.ensures.value) i)
-    (c.into_vec.ensures i))
+    ((c.owned-name.ensures ∙ c.into_vec.ensures) i))
     ∙ ap (λ k. finmap.get (directory_at t.items k) c.args.new.name) same ∙ sym (get-names t.items c.args.new) ∙ free
 
 pub returns-then-number-len-clause-ok : goal.returns-then-number-len-clause-ok
@@ -26,5 +26,5 @@ returns-then-number-len-clause-ok c =
     let d = c.rename.new.self in
     let read = read-directory t.items n.result c.index_mut-directory.result.now within c.index_mut-directory.ensures.value in
     let written : d ≡ finmap.remove (finmap.insert (directory_at t.items n.result) p.name c.args.file) o.name =
-    c.in_ok-rename.ensures.ok ∙ (λ i. finmap.remove (finmap.insert (sym read i) (c.into_vec.ensures i) c.args.file) (c.as_slice.ensures i)) in
+    c.in_ok-rename.ensures.ok ∙ (λ i. finmap.remove (finmap.insert (sym read i) ((c.owned-name.ensures ∙ c.into_vec.ensures) i) c.args.file) (c.as_slice.ensures i)) in
     rw (← c.self.view_is) (rename-names t.items n.result d o p c.args.file within n.ensures.number same written)

@@ -41,7 +41,7 @@ returns-clause-ok c =
     let written : d ≡ finmap.insert (directory_at t.items n.result) p.name c.args.file =
     c.in_ok-put.ensures.ok ∙
     (λ i. finmap.insert ((sym (read-directory u.items n.result c.index_mut-directory.result.now within c.index_mut-directory.ensures.value) ∙
-    grown.same n.result) i) (c.into_vec.ensures i) c.args.file) in
+    grown.same n.result) i) ((c.owned.ensures ∙ c.into_vec.ensures) i) c.args.file) in
     rw (← c.self.view_is)
     (put-names t.items _ p
     (λ k differ. beside-set u.items n.result k d (λ is. differ (is ∙ n.ensures.number)) ∙ grown.same k)

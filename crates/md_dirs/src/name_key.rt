@@ -1,0 +1,114 @@
+// Names as keys of a hash table.
+ghost use Rattle.std.specs.Prelude.{◌≡◌, ◌∷◌, [], Some, List, ℕ};
+ghost use Rattle.std.specs.Cmp.{partial_equiv_from_equiv};
+ghost use Rattle.std.specs.Cmp.Lexicographic.{nat_list_eq_equiv, nat_list_cmp_total, texts_ties, texts_po, bytes_decides};
+ghost use Rattle.std.specs.Str.{bytes_eq};
+ghost use Rattle.std.proofs.Common.{ap, refl};
+ghost use Rattle.md_dirs.specs.Index.{name_cmp};
+
+use std::cmp::Ordering;
+use std::hash::{Hash, Hasher};
+use std::marker::Model;
+
+/// How a key has its bytes.
+#[derive(Drop)]
+pub(crate) enum Held<'a> {
+    Owned(Vec<u8>),
+    Lent(&'a [u8]),
+}
+
+/// A name as the key of a hash table: owned in the table, lent to look one up.
+///
+/// Its bytes go to the hasher at once, where `Vec<u8>` and `&[u8]` write each alone. A table of `NameKey<'static>` is asked for
+/// `&NameKey::lent(name)`, which takes no memory.
+#[derive(Drop)]
+pub struct NameKey<'a> {
+    held: Held<'a>,
+}
+
+impl<'a> Model for NameKey<'a> {
+    ghost use Rattle.std.specs.Prelude.{List, ℕ};
+    ghost use Rattle.md_dirs.specs.NameKey.{held_bytes};
+
+    ghost Value = { List ℕ };
+
+    ghost view = { λ k. held_bytes k.held };
+}
+
+impl<'a> NameKey<'a> {
+    /// A key whose bytes are moved in. It takes no memory.
+    pub fn owned(name: Vec<u8>) -> Self
+        ensures { result ≡ name.items }
+    {
+        NameKey {
+            held: Held::Owned(name),
+        }
+    }
+
+    /// A key whose bytes are lent. It takes no memory.
+    pub fn lent(name: &'a [u8]) -> Self
+        ensures { result ≡ name.now }
+    {
+        NameKey {
+            held: Held::Lent(name),
+        }
+    }
+
+    /// The bytes, lent.
+    pub fn as_slice(&self) -> &[u8]
+        ensures { result.now ≡ self.now }
+    {
+        match &self.held {
+            Held::Owned(name) => name.as_slice(),
+            Held::Lent(name) => *name,
+        }
+    }
+}
+
+impl<'a> PartialEq for NameKey<'a> {
+    ghost eq = { bytes_eq };
+
+    ghost laws = { partial_equiv_from_equiv nat_list_eq_equiv };
+
+    fn eq(&self, other: &Self) -> bool {
+        self.as_slice() == other.as_slice()
+    }
+}
+
+impl<'a> Eq for NameKey<'a> {
+    ghost laws = { nat_list_eq_equiv };
+}
+
+impl<'a> Hash for NameKey<'a> {
+    ghost hash_input = { λ name. name ∷ [] };
+
+    ghost respects_eq = { λ x y h. ap (λ name. name ∷ []) ((bytes_decides x y).0 h) };
+
+    fn hash<H: Hasher>(&self, state: &mut H) {
+        state.write(self.as_slice());
+    }
+}
+
+impl<'a> PartialOrd for NameKey<'a> {
+    ghost partial_cmp = { λ x y. Some (name_cmp x y) };
+
+    ghost laws = { texts_po };
+
+    fn partial_cmp(&self, other: &Self) -> Option<Ordering> {
+        Some(self.cmp(other))
+    }
+}
+
+impl<'a> Ord for NameKey<'a> {
+    ghost cmp = { name_cmp };
+
+    ghost total = { nat_list_cmp_total };
+
+    ghost matches_partial_cmp = { λ x y. refl };
+
+    ghost matches_eq = { texts_ties };
+
+    fn cmp(&self, other: &Self) -> Ordering {
+        self.as_slice().cmp(other.as_slice())
+    }
+}
