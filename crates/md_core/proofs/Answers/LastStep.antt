@@ -97,13 +97,8 @@ new-there calls (suc i) s r is = new_at calls i s is
 
 -- a new job has no answer
 new-works : (c : Call) (a : Answer) → new_job c ≡ answered a → ⊥
-new-works (call.Deliver folder u body chunk) a is = cc
-new-works (call.Seen folder u flags tries) a is = cc
-new-works (call.Flag folder u add remove tries) a is = cc
-new-works (call.Move folder u to tries) a is = cc
-new-works (call.Expunge folder u tries) a is = cc
-new-works (call.Copy folder u to fresh tries) a is = cc
 new-works (call.Clean folder) a is = cc
+new-works c a is = cc
 
 module _ (r : Run) (run : IsRun r) where
   -- each event is the turn of its job

@@ -16,8 +16,9 @@ use Rattle.md_core.specs.Machine.{Machine, Standing, working, Occurrence, step_o
 use Rattle.md_core.specs.Trace.{Step, call_at}
 use Rattle.md_core.specs.Runs.{Run, machine_at, done_at, first_step}
 use Rattle.md_core.specs.Stepping.{IsRun}
+use Rattle.md_core.specs.Accepting.{MakesMessage}
 use Rattle.md_core.proofs.Answers.OfRun.{IsStep}
-use Rattle.md_core.proofs.Induction.Good.{IsGood, TaskFits, Makes}
+use Rattle.md_core.proofs.Induction.Good.{IsGood, TaskFits}
 use Rattle.md_core.proofs.Machines.EachTurn.{each-turn}
 use Rattle.md_core.proofs.Runs.Events.{happens-turned}
 use Rattle.md_core.proofs.Induction.Going.{AllApart}
@@ -123,7 +124,7 @@ module _ (r : Run) (run : IsRun r) (P : ℕ → Type 0) (start : P 0) (step : (k
 
 -- two jobs whose calls make one name are one
 pub one-maker : (calls : List Call) → AllApart calls → (i j : ℕ) (a b : Call) (u : List ℕ) → call_at calls i ≡ Some a →
-    call_at calls j ≡ Some b → Makes a u → Makes b u → i ≡ j
+    call_at calls j ≡ Some b → MakesMessage a u → MakesMessage b u → i ≡ j
 one-maker calls apart zero j a b u ata atb ma mb = cc
 one-maker calls apart (suc i) zero a b u ata atb ma mb = cc
 one-maker calls apart (suc i) (suc j) a b u ata atb ma mb =

@@ -13,17 +13,18 @@ use Rattle.md_core.specs.declared.jobs.step.DirReply.{DirReply}
 use Rattle.md_core.specs.declared.jobs.step.DirReply.TheVariants as reply
 use Rattle.md_core.specs.Tasks.Task.{Task, Deliver, Errand, Clean}
 use Rattle.md_core.specs.Turn.{After}
-use Rattle.md_core.specs.Machine.{Standing, working, answered, job_at, new_job}
+use Rattle.md_core.specs.Machine.{working, job_at, new_job}
 use Rattle.md_core.specs.Runs.{Run, machine_at}
 use Rattle.md_core.specs.Trace.{call_at}
 use Rattle.md_core.specs.Stepping.{IsRun}
 use Rattle.md_core.proofs.Answers.OfRun.{IsFaulted}
 use Rattle.md_core.proofs.Answers.LastStep.{IsTurn, LastStep, reply_in, left_by, is-step, is_within, holds}
-use Rattle.md_core.proofs.Answers.Turns.OneMessage.{TriesOn, errand_trying, trying_of, idle, sought, Tells}
+use Rattle.md_core.proofs.Answers.Turns.OneMessage.{TriesOn, errand_trying, trying_of, idle, Tells}
 use Rattle.md_core.proofs.Answers.Turns.OfDeliver.{DeliveryTells, Undoes}
 use Rattle.md_core.proofs.Answers.Turns.OfClean.{CleanTells}
 use Rattle.md_core.proofs.Answers.Turns.Told.{at-none, Told, told, IsOfLook}
 use Rattle.md_core.proofs.Answers.Turns.EachSays.{TaskSays, UndoesTask, IsClean, turn-says}
+use Rattle.md_core.proofs.Machines.Errand.Table.Calls.{IfWorking, new-task, sought}
 
 -- a job that acts on one message goes on as one
 module _ (s s' : State) (u : List ℕ) where
@@ -46,11 +47,6 @@ Pending r job (Clean c) = Unit {0}
 -- the same of a job of any call
 abbrev IsPending : Run → ℕ → ℕ → Task → Type 0
 IsPending r k job task = (c : Call) → call_at r.calls job ≡ Some c → Pending r job task
-
--- how a job stands that is pending so, if it works
-abbrev AtWork : Run → ℕ → Standing → Type 0
-AtWork r job (working task) = Pending r job task
-AtWork r job (answered a) = Unit {0}
 
 module _ (r : Run) (job : ℕ) where
   -- a job that has tries takes no file away
@@ -86,16 +82,11 @@ module _ (r : Run) (job : ℕ) where
       clean task is = absurd is
 
   pending-new : (c : Call) (task : Task) → new_job c ≡ working task → Pending r job task
-  pending-new c task is = subst (AtWork r job) is (by c)
+  pending-new c task is = new-task (Pending r job) c task (by c) is
     where
-      by : (c : Call) → AtWork r job (new_job c)
-      by (call.Deliver folder u body chunk) = tt
-      by (call.Seen folder u flags tries) = tt
-      by (call.Flag folder u add remove tries) = tt
-      by (call.Move folder u to tries) = tt
-      by (call.Expunge folder u tries) = tt
-      by (call.Copy folder u to fresh tries) = tt
+      by : (c : Call) → IfWorking (Pending r job) (new_job c)
       by (call.Clean folder) = tt
+      by c = tt
 
 module _ (r : Run) (run : IsRun r) where
   faulted-at : (k job : ℕ) (t : IsTurn r k job) → reply_in (machine_at r k) t.event t.task ≡ reply.Fault → IsFaulted r job

@@ -1,5 +1,5 @@
 -- A directory call that obeys, and that is the one of a turn, takes the turn.
-use Rattle.std.proofs.Common.{ℕ, ◌≡◌, ◌+◌, Option, Some, None, Result, Ok, Err, cond, refl, sym, ap, subst, ◌∙◌, OnOk, OnErr, IsErrOf, is_some}
+use Rattle.std.proofs.Common.{◌≡◌, ◌+◌, Option, Some, Result, Ok, Err, cond, refl, sym, ap, subst, ◌∙◌, is_some}
 use Rattle.md_dirs.specs.Calls.{Ask, Device, Obeys}
 use Rattle.md_dirs.specs.declared.calls.DirError.{DirError}
 use Rattle.md_dirs.specs.declared.calls.DirError.TheVariants.{Exists, NotFound, Fault, NoMemory}

@@ -1,7 +1,6 @@
 -- What holds of directories at each moment of a run: no name has a fault by itself, and no file has a stamp past the clock. Where also each
 -- message has one path, they load.
-use Rattle.std.proofs.Common.{ℕ, ◌≡◌, ◌≤◌, inl, inr, List, [], ◌∷◌, Option, Some, None, Bool, true, false, cond, T, ◌&&◌, ◌||◌, nat_lt, max, fold, length, refl, sym, ap, ◌∙◌, arith}
-use Rattle.std.specs.declared.cmp.Ordering.{Ordering}
+use Rattle.std.proofs.Common.{ℕ, ◌≡◌, ◌≤◌, inl, inr, List, [], ◌∷◌, Option, Some, None, Bool, true, false, cond, T, ◌&&◌, ◌||◌, nat_lt, max, fold, length, refl, ap, ◌∙◌, arith}
 use Rattle.std.specs.declared.cmp.Ordering.TheVariants.{Less, Equal}
 use Rattle.std.specs.Option.{option_or}
 use Rattle.std.specs.List.{list_any}

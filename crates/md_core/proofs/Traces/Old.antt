@@ -22,7 +22,7 @@ use Rattle.md_core.specs.Turn.{Turn, rows_for}
 use Rattle.md_core.specs.Asked.{Asked, create, append, link, rename, unlink, list, ask_of, state_by}
 use Rattle.md_core.specs.Trace.{Step, call_at, Trace, IsStepOf, step_at, state, file_in}
 use Rattle.md_core.specs.Machine.{working, new_job, job_at}
-use Rattle.md_core.specs.Machines.Clean.{new_cleaning, is_old, old_rows, after_next, at_stage, tmp, stage_turn}
+use Rattle.md_core.specs.Machines.Clean.{is_old, old_rows, after_next, at_stage, tmp, stage_turn}
 use Rattle.md_core.specs.Runs.{Run, machine_at}
 use Rattle.md_core.specs.Stepping.{IsRun}
 use Rattle.md_core.specs.Interleaving.{IsTmpOf, HasSeenOld, MayChange, KeepsTmp}
@@ -37,6 +37,7 @@ use Rattle.md_core.proofs.Answers.Files.Tmp.{Touches, LeavesTmp, touches}
 use Rattle.md_core.proofs.Traces.Same.{state-same, done-step}
 use Rattle.md_core.proofs.Traces.Stands.{turn-of}
 use Rattle.md_core.proofs.Traces.Files.{Away, file-kept, tmp-of, delivery-unlinks, next-state, sound-at, writes}
+use Rattle.md_core.proofs.Machines.Errand.Table.Calls.{new-looks}
 
 -- an element of a list has a place there
 has-at : {X : Type 0} (xs : List X) (x : X) → Has xs x → (i : ℕ) × (slice_get xs i ≡ Some x)
@@ -136,16 +137,7 @@ module _ (r : Run) (run : IsRun r) where
   new-at : (job : ℕ) (c : Call) (task : Task) → new_job c ≡ working task → AtTask 0 job task
   new-at job c (Deliver d) is = tt
   new-at job c (Errand e) is = tt
-  new-at job c (Clean x) is = subst (AtStage 0 job x.folder) (sym (looks c is)) tt
-    where
-      looks : (c : Call) → new_job c ≡ working (Clean x) → x.stage ≡ Look
-      looks (call.Deliver a b c d) is = cc
-      looks (call.Seen a b c d) is = cc
-      looks (call.Flag a b c d e) is = cc
-      looks (call.Move a b c d) is = cc
-      looks (call.Expunge a b c) is = cc
-      looks (call.Copy a b c d e) is = cc
-      looks (call.Clean a) is = let same : new_cleaning a ≡ x = cc in ap (λ (y : Cleaning). y.stage) (sym same)
+  new-at job c (Clean x) is = subst (AtStage 0 job x.folder) (sym (new-looks x c is)) tt
 
   old-task : (k job : ℕ) (task : Task) → k ≤ length r.events → job_at (machine_at r k).jobs job ≡ Some (working task) → AtTask k job task
   old-task = holds r run AtTask (λ n c task of-c is. new-at n c task is) own-turn (λ k n task e at-k differ is h. other-turn k n task h)
@@ -196,13 +188,8 @@ module _ (r : Run) (run : IsRun r) where
 
     -- a path of a delivery in tmp may be changed by it
     may-own : (c : Call) → IsTmpOf p c → MayHere c
-    may-own (call.Deliver a b c d) h = h
-    may-own (call.Seen a b c d) h = h
-    may-own (call.Flag a b c d e) h = h
-    may-own (call.Move a b c d) h = h
-    may-own (call.Expunge a b c) h = h
-    may-own (call.Copy a b c d e) h = h
     may-own (call.Clean a) h = absurd h
+    may-own c h = h
 
     within : k ≤ length r.events
     within = let less = is_within r k x.job u in omega (arith, less)

@@ -1,10 +1,10 @@
 -- Which tasks ask what of a path in tmp: only a delivery of its name makes it, and only that or a clean takes it away.
 use Rattle.md_core.specs.Machines.Errand.{errand_turn}
-use Rattle.md_core.proofs.Machines.Errand.Asks.{IsOfMail, errand-of-mail, no-create, no-unlink}
-use Rattle.std.proofs.Common.{ℕ, ◌≡◌, ◌⊎◌, inl, inr, Bool, true, false, cond, nat_lt, length, refl, ap, subst, ◌∙◌}
+use Rattle.md_core.proofs.Machines.Errand.Asks.{errand-of-mail, no-create, no-unlink}
+use Rattle.std.proofs.Common.{ℕ, ◌≡◌, ◌⊎◌, inl, inr, Bool, true, false, cond, nat_lt, length, refl, subst}
 use Rattle.md_dirs.specs.State.{State}
 use Rattle.md_dirs.specs.declared.paths.Path.{Path}
-use Rattle.md_dirs.specs.declared.paths.Place.TheVariants.{Tmp, Cur}
+use Rattle.md_dirs.specs.declared.paths.Place.TheVariants.{Tmp}
 use Rattle.md_core.specs.declared.jobs.answer.Answer.TheVariants as answer
 use Rattle.md_core.specs.declared.jobs.call.Call.{Call}
 use Rattle.md_core.specs.declared.jobs.call.Call.TheVariants as call
@@ -13,15 +13,16 @@ use Rattle.md_core.specs.Tasks.Cleaning as cleaning
 use Rattle.md_core.specs.Tasks.Delivery.{Delivery, Stage, Start, Writing, Linked, Undo}
 use Rattle.md_core.specs.declared.jobs.step.Moment.{Moment}
 use Rattle.md_core.specs.Tasks.Task.{Task, Deliver, Errand, Clean}
-use Rattle.md_core.specs.Mailbox.{is_tmp}
 use Rattle.md_core.specs.Machine.{turn_of}
 use Rattle.md_core.specs.Machines.Deliver as delivered_by
 use Rattle.md_core.specs.Machines.Deliver.{append_turn, link_turn, unlink_turn, is_in_time}
 use Rattle.md_core.specs.Machines.Clean as cleaned_by
 use Rattle.md_core.specs.Asked.{Asked, create, append, link, rename, unlink, list}
-use Rattle.md_core.proofs.Induction.Good.{TaskFits, DeliveryFits, Makes}
+use Rattle.md_core.specs.Accepting.{MakesMessage}
+use Rattle.md_core.proofs.Induction.Good.{TaskFits, DeliveryFits}
 use Rattle.md_core.proofs.Directories.Frames.{makes-delivery}
 use Rattle.md_core.proofs.Answers.Files.Tmp.{LeavesTmp}
+use Rattle.md_core.proofs.Machines.Errand.Table.Deeds.{IsOfMail}
 
 -- what a delivery asks, by its stage: a path of tmp is made at its start alone, and taken away later
 module _ (number : ℕ) (d : Delivery) (at : Moment) where
@@ -80,13 +81,13 @@ cleaning-creates c own p cleaning.Look is = cc
 cleaning-creates c own p (cleaning.Remove name rest files) is = cc
 
 -- the name of a path that a delivery asks for is one that its call makes
-delivery-makes : (s : State) (asked : Call) (d : Delivery) (p : Path) → DeliveryFits s asked d → d.tmp ≡ p → Makes asked p.name
-delivery-makes s asked d p fits is = subst (λ (q : Path). Makes asked q.name) is (makes-delivery s asked d fits)
+delivery-makes : (s : State) (asked : Call) (d : Delivery) (p : Path) → DeliveryFits s asked d → d.tmp ≡ p → MakesMessage asked p.name
+delivery-makes s asked d p fits is = subst (λ (q : Path). MakesMessage asked q.name) is (makes-delivery s asked d fits)
 
 module _ (s : State) (asked : Call) (number : ℕ) (at : Moment) (p : Path) (in_tmp : p.place ≡ Tmp) where
   -- a delivery at its start made the path
   pub creates : (task : Task) → TaskFits s asked task → (turn_of number task at).asked ≡ create p →
-      Makes asked p.name × ((d : Delivery) × (task ≡ Deliver d) × (d.stage ≡ Start) × (d.tmp ≡ p))
+      MakesMessage asked p.name × ((d : Delivery) × (task ≡ Deliver d) × (d.stage ≡ Start) × (d.tmp ≡ p))
   creates (Deliver d) fits is =
       let h = delivery-creates number d at p d.stage is in (delivery-makes s asked d p fits h.1, (d, refl, h.0, h.1))
   creates (Errand e) fits is = absurd (no-create (errand_turn number e).asked p (errand-of-mail number e fits.stage) is)
@@ -94,7 +95,7 @@ module _ (s : State) (asked : Call) (number : ℕ) (at : Moment) (p : Path) (in_
 
   -- a delivery of its name or a clean took it away
   pub unlinks : (task : Task) → TaskFits s asked task → (turn_of number task at).asked ≡ unlink p →
-      Makes asked p.name ⊎ ((folder : ℕ) × (asked ≡ call.Clean folder))
+      MakesMessage asked p.name ⊎ ((folder : ℕ) × (asked ≡ call.Clean folder))
   unlinks (Deliver d) fits is = inl (delivery-makes s asked d p fits (delivery-unlinks number d at p d.stage is))
   unlinks (Errand e) fits is = absurd (no-unlink (errand_turn number e).asked p in_tmp (errand-of-mail number e fits.stage) is)
   unlinks (Clean c) fits is = inr (c.folder, fits)

@@ -1,5 +1,5 @@
 -- What a clean still has to take away was old when it looked: of a delivery's file, the delivery had begun long before.
-use Rattle.md_core.proofs.Machines.Errand.Table.{no-clean}
+use Rattle.md_core.proofs.Machines.Errand.Table.Rows.{no-clean}
 use Rattle.std.proofs.Common.{ℕ, ◌≡◌, ◌≤◌, ◌⊎◌, ◌+◌, ◌-◌, inl, inr, List, [], ◌∷◌, Some, None, length, refl, sym, ap, subst, ◌∙◌, arith}
 use Rattle.std.proofs.lemmas.Bool.Decides.{nat_tests}
 use Rattle.md_dirs.specs.State.{State, file_at}
@@ -16,7 +16,7 @@ use Rattle.md_core.specs.declared.jobs.step.DirReply.TheVariants as reply
 use Rattle.md_core.specs.Tasks.Task.{Task, Deliver, Errand, Clean}
 use Rattle.md_core.specs.Trace.{Step, call_at}
 use Rattle.md_core.specs.Machine.{working, job_at, new_job}
-use Rattle.md_core.specs.Machines.Clean.{least_seconds, new_cleaning, is_old, old_rows, after_next, at_stage, tmp, stage_turn}
+use Rattle.md_core.specs.Machines.Clean.{least_seconds, is_old, old_rows, after_next, at_stage, tmp, stage_turn}
 use Rattle.md_core.specs.Turn.{Turn, rows_for}
 use Rattle.md_core.specs.Asked.{unlink}
 use Rattle.md_core.specs.Runs.{Run, machine_at, first_step}
@@ -29,6 +29,7 @@ use Rattle.md_core.proofs.Answers.LastStep.{IsTurn, is_within, left_by, turn-at,
 use Rattle.md_core.proofs.Answers.Moments.{its-fits, at, asked_by, after_task, next-clock, clock-grows, turn-done}
 use Rattle.md_core.proofs.Answers.Files.Stamps.{stamped-at}
 use Rattle.md_core.proofs.Answers.Files.Listed.{has-filter, listed-file}
+use Rattle.md_core.proofs.Machines.Errand.Table.Calls.{new-looks}
 
 -- a job has begun, and its first step was 36 hours less these seconds before the clock of moment k
 pub record IsLate (r : Run) (seconds job k : ℕ) : Type 0 where
@@ -142,16 +143,7 @@ module _ (r : Run) (run : IsRun r) (seconds : ℕ) (apart : AreApart r seconds) 
   new-at : (n : ℕ) (c : Call) (task : Task) → new_job c ≡ working task → AtTask 0 n task
   new-at n c (Deliver d) is = tt
   new-at n c (Errand e) is = tt
-  new-at n c (Clean x) is = λ in_folder left. absurd (subst (IsLeft u) (looks c is) left)
-    where
-      looks : (c : Call) → new_job c ≡ working (Clean x) → x.stage ≡ Look
-      looks (call.Deliver a b c d) is = cc
-      looks (call.Seen a b c d) is = cc
-      looks (call.Flag a b c d e) is = cc
-      looks (call.Move a b c d) is = cc
-      looks (call.Expunge a b c) is = cc
-      looks (call.Copy a b c d e) is = cc
-      looks (call.Clean a) is = let same : new_cleaning a ≡ x = cc in ap (λ (y : Cleaning). y.stage) (sym same)
+  new-at n c (Clean x) is = λ in_folder left. absurd (subst (IsLeft u) (new-looks x c is) left)
 
   late-task : (k n : ℕ) (task : Task) → k ≤ length r.events → job_at (machine_at r k).jobs n ≡ Some (working task) → AtTask k n task
   late-task = holds r run AtTask (λ n c task of-c is. new-at n c task is) own-turn

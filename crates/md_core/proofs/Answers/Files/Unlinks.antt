@@ -1,6 +1,6 @@
 -- A delivery ends by the unlink of its name in tmp, whether it is done, out of time or faulted, but where its create faulted or its file
 -- in tmp is gone.
-use Rattle.md_core.proofs.Machines.Errand.Table.{no-delivery}
+use Rattle.md_core.proofs.Machines.Errand.Table.Rows.{no-delivery}
 use Rattle.std.proofs.Common.{ℕ, ◌≡◌, ◌∙◌, ◌⊎◌, inl, inr, List, Some, Bool, true, false, cond, nat_lt, length, refl, ap, subst}
 use Rattle.md_dirs.specs.State.{State}
 use Rattle.md_dirs.specs.Path.{path_of as path}
@@ -181,21 +181,11 @@ module _ (r : Run) (run : IsRun r) (job : ℕ) where
       let last = last-step r run job answer.Delivered is in
       let asked = asks-unlink folder u body chunk answer.Delivered tt of last in
       record { k = last.k; step = is-step r last.k job last.turn; asked = asked; answer = last.answer }
-  is-delivered (call.Seen folder u flags tries) of is = tt
-  is-delivered (call.Flag folder u add remove tries) of is = tt
-  is-delivered (call.Move folder u to tries) of is = tt
-  is-delivered (call.Expunge folder u tries) of is = tt
-  is-delivered (call.Copy folder u to fresh tries) of is = tt
-  is-delivered (call.Clean folder) of is = tt
+  is-delivered c of is = tt
 
   pub is-undone : (c : Call) → call_at r.calls job ≡ Some c → job_at (jobs_of r) job ≡ Some (answered answer.Fault) → IsUndone r job c
   is-undone (call.Deliver folder u body chunk) of is = undone folder u body chunk of (last-step r run job answer.Fault is)
-  is-undone (call.Seen folder u flags tries) of is = tt
-  is-undone (call.Flag folder u add remove tries) of is = tt
-  is-undone (call.Move folder u to tries) of is = tt
-  is-undone (call.Expunge folder u tries) of is = tt
-  is-undone (call.Copy folder u to fresh tries) of is = tt
-  is-undone (call.Clean folder) of is = tt
+  is-undone c of is = tt
 
   pub is-faulted : (c : Call) → call_at r.calls job ≡ Some c → job_at (jobs_of r) job ≡ Some (answered answer.Fault) → IsFaulted r job
   is-faulted c of is = says-fault r run job c of answer.Fault (last-step r run job answer.Fault is) refl

@@ -1,6 +1,4 @@
 -- A delivery that writes has begun, at the moment of its own clock that it keeps, and has its file in tmp, or a clean took that away since.
-use Rattle.md_core.specs.Tasks.Purpose as purpose
-use Rattle.md_core.specs.Machines.Errand.{new_errand}
 use Rattle.std.proofs.Common.{ℕ, ◌≡◌, ◌≢◌, ◌<◌, ◌≤◌, ◌⊎◌, ◌+◌, inl, inr, List, Some, None, Bool, true, false, cond, length, nat_lt, slice_get, refl, sym, ap, subst, ◌∙◌, arith}
 use Rattle.md_dirs.specs.State.{State, file_at}
 use Rattle.md_dirs.specs.declared.paths.Path.{Path}
@@ -17,8 +15,7 @@ use Rattle.md_core.specs.declared.jobs.step.DirReply.{DirReply}
 use Rattle.md_core.specs.declared.jobs.step.DirReply.TheVariants as reply
 use Rattle.md_core.specs.Tasks.Task.{Task, Deliver, Errand, Clean}
 use Rattle.md_core.specs.Machine.{Occurrence, working, job_at, new_job}
-use Rattle.md_core.specs.Machines.Deliver.{new_delivery, at_stage, piece, append_turn, link_turn, unlink_turn, stage_turn, is_in_time}
-use Rattle.md_core.specs.Machines.Clean.{new_cleaning}
+use Rattle.md_core.specs.Machines.Deliver.{at_stage, piece, append_turn, link_turn, unlink_turn, stage_turn, is_in_time}
 use Rattle.md_core.specs.Turn.{Turn}
 use Rattle.md_core.specs.Asked.{append, ask_of, state_by}
 use Rattle.md_core.specs.Runs.{Run, machine_at, first_step}
@@ -31,6 +28,7 @@ use Rattle.md_core.proofs.Answers.LastStep.{IsTurn, left_by, turn-at, holds, rep
 use Rattle.md_core.proofs.Answers.Moments.{its-call, its-fits, sound-now, at, asked_by, after_task, next-dirs, not-yet, is-first, first-is}
 use Rattle.md_core.proofs.Answers.Files.Tmp.{KeepsPath, touches}
 use Rattle.md_core.proofs.Answers.Files.Touched.{touched}
+use Rattle.md_core.proofs.Machines.Errand.Table.Calls.{IfWorking, new-task}
 
 -- between the first step of a job and a moment, a clean took a path away
 pub record IsTaken (r : Run) (job k : ℕ) (p : Path) : Type 0 where
@@ -142,15 +140,11 @@ module _ (r : Run) (run : IsRun r) (k job : ℕ) (t : IsTurn r k job) (d : Deliv
 
 -- a new delivery has not begun
 new-at : (r : Run) (job : ℕ) (c : Call) (task : Task) → call_at r.calls job ≡ Some c → new_job c ≡ working task → AtTask r 0 job task
-new-at r job (call.Deliver a b c d) task of is =
-    subst (AtTask r 0 job) (let e : Deliver (new_delivery a b c d) ≡ task = cc in e) (omega arith)
-new-at r job (call.Seen a b c d) task of is = subst (AtTask r 0 job) (let e : Errand (new_errand a b (purpose.Seen c) d) ≡ task = cc in e) tt
-new-at r job (call.Flag a b c d x) task of is =
-    subst (AtTask r 0 job) (let e : Errand (new_errand a b (purpose.Flag c d) x) ≡ task = cc in e) tt
-new-at r job (call.Move a b c d) task of is = subst (AtTask r 0 job) (let e : Errand (new_errand a b (purpose.Move c) d) ≡ task = cc in e) tt
-new-at r job (call.Expunge a b c) task of is = subst (AtTask r 0 job) (let e : Errand (new_errand a b purpose.Expunge c) ≡ task = cc in e) tt
-new-at r job (call.Copy a b c d x) task of is = subst (AtTask r 0 job) (let e : Errand (new_errand a b (purpose.Copy c d) x) ≡ task = cc in e) tt
-new-at r job (call.Clean a) task of is = subst (AtTask r 0 job) (let e : Clean (new_cleaning a) ≡ task = cc in e) tt
+new-at r job c task of is = new-task (AtTask r 0 job) c task (by c) is
+  where
+    by : (c : Call) → IfWorking (AtTask r 0 job) (new_job c)
+    by (call.Deliver folder u body chunk) = omega arith
+    by c = tt
 
 module _ (r : Run) (run : IsRun r) where
   -- the turn of the job

@@ -1,7 +1,7 @@
 -- What a turn of a job that acts on one message says: of the answer that it gives, or of how the job goes on.
 use Rattle.md_core.specs.Tasks.Errand.{Stage, Look, Act}
 use Rattle.md_core.specs.Machines.Purposes.{searches, place_after}
-use Rattle.std.proofs.Common.{ℕ, ◌≡◌, ◌+◌, ◌≤◌, List, [], Some, None, Bool, true, MatchOption}
+use Rattle.std.proofs.Common.{ℕ, ◌≡◌, ◌+◌, ◌≤◌, List, Some, None, Bool, true, MatchOption}
 use Rattle.std.specs.FinMap.{get}
 use Rattle.md_dirs.specs.State.{State, file_at}
 use Rattle.md_dirs.specs.Path.{path_of}
@@ -11,13 +11,13 @@ use Rattle.md_name.specs.Names.{unique_of}
 use Rattle.md_core.specs.declared.jobs.answer.Answer.{Answer}
 use Rattle.md_core.specs.declared.jobs.answer.Answer.TheVariants as answer
 use Rattle.md_core.specs.declared.jobs.call.Call.{Call}
-use Rattle.md_core.specs.declared.jobs.call.Call.TheVariants as call
 use Rattle.md_core.specs.declared.jobs.step.DirReply.{DirReply}
 use Rattle.md_core.specs.declared.jobs.step.DirReply.TheVariants as reply
 use Rattle.md_core.specs.Tasks.Task.{Task, Deliver, Errand, Clean}
 use Rattle.md_core.specs.Mailbox.{mailbox_of, is_message}
 use Rattle.md_core.specs.Alone.{alone, entry_if, is_in_place}
 use Rattle.md_core.specs.Turn.{After}
+use Rattle.md_core.proofs.Machines.Errand.Table.Calls.{sought}
 
 -- How far a job is with its tries: it looks for its message, or it acts on a path of it. Deliveries and cleans have none.
 pub data Trying : Type 0 where
@@ -33,16 +33,6 @@ abbrev pub trying_of : Task → Trying
 trying_of (Deliver d) = idle
 trying_of (Errand e) = errand_trying e.folder e.stage
 trying_of (Clean c) = idle
-
--- the unique name of the message that a call looks for
-abbrev pub sought : Call → List ℕ
-sought (call.Deliver folder u body chunk) = u
-sought (call.Seen folder u flags tries) = u
-sought (call.Flag folder u add remove tries) = u
-sought (call.Move folder u to tries) = u
-sought (call.Expunge folder u tries) = u
-sought (call.Copy folder u to fresh tries) = u
-sought (call.Clean folder) = []
 
 -- a message of the unique name is at the path
 pub record IsPathOf (s : State) (u : List ℕ) (p : Path) : Type 0 where

@@ -1,5 +1,5 @@
 -- What an unlink does that is the effect of an expunge: the message is gone.
-use Rattle.std.proofs.Common.{ℕ, ◌≡◌, List, Option, Some, None, true, false, cond, refl, sym, ap, ◌∙◌, not}
+use Rattle.std.proofs.Common.{ℕ, ◌≡◌, List, Some, true, false, cond, refl, sym, ap, ◌∙◌, not}
 use Rattle.std.proofs.lemmas.Bool.{and_from}
 use Rattle.std.specs.FinMap as finmap
 use Rattle.std.specs.FinMap.{get}
@@ -38,7 +38,7 @@ use Rattle.md_core.proofs.Mailbox.Shown.{shows-mailbox}
 use Rattle.md_core.proofs.Looking.LookUps.{info-in}
 use Rattle.md_core.proofs.Directories.Frames.{task-stays}
 use Rattle.md_core.proofs.Directories.Calls.Remove.{remove-drops, remove-frame, remove-sound, remove-spares}
-use Rattle.md_core.proofs.Machines.Errand.Table.{not-tmp, one-place, acts-trashed, left-some}
+use Rattle.md_core.proofs.Machines.Errand.Table.Rows.{not-tmp, one-place, acts-trashed, steps_left-some}
 use Rattle.md_core.proofs.Machines.Errand.Marked.{such-there}
 
 module _ (s : State) (number : ℕ) (asked : Call) (folder : ℕ) (v : List ℕ) (place : Place) (row : Row) (tries k : ℕ) (sound : IsSound s) (one : HasOnePath s)
@@ -115,6 +115,6 @@ module _ (s : State) (number : ℕ) (asked : Call) (folder : ℕ) (v : List ℕ)
       allowed = (fits.in_folder, cur, listed-there (mailbox_of s) s o k before, shown);
     };
     settles = (effect, refl, refl);
-    nearer = left-some false x.stage;
+    nearer = steps_left-some false x.stage;
     fixed = λ is a b. refl;
   }

@@ -1,5 +1,5 @@
 -- What a Seen and a Flag do that take effect: the message gets its flags by another name, or it had them.
-use Rattle.std.proofs.Common.{ℕ, ◌≡◌, ◌<◌, List, Option, Some, None, true, false, cond, not, is_some, unwrap_or, refl, sym, ap, subst, ◌∙◌, length}
+use Rattle.std.proofs.Common.{ℕ, ◌≡◌, List, Option, Some, None, true, false, cond, not, refl, sym, ap, subst, ◌∙◌, length}
 use Rattle.std.specs.Option.{option_map, option_map_or}
 use Rattle.std.specs.FinMap as finmap
 use Rattle.std.specs.FinSet as set
@@ -23,10 +23,9 @@ use Rattle.md_core.specs.declared.jobs.step.DirReply.TheVariants as reply
 use Rattle.md_core.specs.Tasks.Task.{Errand}
 use Rattle.md_core.specs.Mailbox.{Entry, Mailbox, mailbox_of, entry_of, is_message, is_tmp, HasOnePath}
 use Rattle.md_core.specs.Alone.{Outcome, alone, seen_alone, seen_by, flag_alone, flag_by, entry_if, is_in_place, flags_in, is_same_set, info_with, refuse}
-use Rattle.md_core.specs.History.{Listed, as_listed, names_of, name_of, names_after_change, size_in, IsThere, ShowsFlags, MayGetFlags}
+use Rattle.md_core.specs.History.{Listed, as_listed, names_of, name_of, names_after_change, size_in, IsThere, MayGetFlags}
 use Rattle.md_core.specs.Asked.{list, rename}
 use Rattle.md_core.specs.Machines.Errand.{kept, done_by}
-use Rattle.md_core.specs.Stepping.{AsAlone}
 use Rattle.md_core.specs.Interleaving.{is_effect_at}
 use Rattle.md_core.proofs.Induction.Good.{bytes_at, HasNoMessage, ErrandFits, Does}
 use Rattle.md_core.proofs.Mailbox.Changes.{one-puts, mailbox-puts}
@@ -36,7 +35,7 @@ use Rattle.md_core.proofs.Directories.Frames.{Frame, task-stays}
 use Rattle.md_core.proofs.Looking.LookUps.{unique-part, message-name}
 use Rattle.md_core.proofs.Mailbox.WholeName.{whole-name}
 use Rattle.md_core.proofs.Machines.Errand.Moves.{Moves, moves, put_again, info-flagged}
-use Rattle.md_core.proofs.Machines.Errand.Table.{left-some}
+use Rattle.md_core.proofs.Machines.Errand.Table.Rows.{steps_left-some}
 
 -- ---- what the two do alone
 
@@ -135,7 +134,7 @@ module _ (s : State) (number : ℕ) (asked : Call) (e : ErrandOf) (sound : IsSou
       );
     };
     settles = (kept number (answer.Flags flags), refl, refl);
-    nearer = left-some _ e.stage;
+    nearer = steps_left-some _ e.stage;
     fixed = λ none a b. refl;
   }
 
@@ -207,6 +206,6 @@ module _ (s : State) (number : ℕ) (asked : Call) (e : ErrandOf) (sound : IsSou
         allowed = (fits.in_folder, refl, refl, ap (λ (u : List ℕ). flagged u flags) (sym unique), is_there, may);
       };
       settles = (effect, refl, refl);
-      nearer = left-some _ e.stage;
+      nearer = steps_left-some _ e.stage;
       fixed = λ none a b. refl;
     }
