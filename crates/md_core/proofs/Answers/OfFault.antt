@@ -34,15 +34,12 @@ module _ (s s' : State) (u : List ℕ) where
 
 -- a delivery that takes its file away again does so for a fault of its own
 abbrev PendingAt : Run → ℕ → Stage → Type 0
-PendingAt r job Start = Unit {0}
-PendingAt r job (Writing start k) = Unit {0}
-PendingAt r job Linked = Unit {0}
 PendingAt r job (Undo a) = (refused_by a ≡ answer.Fault) × IsFaulted r job
+PendingAt r job other = Unit {0}
 
 abbrev Pending : Run → ℕ → Task → Type 0
 Pending r job (Deliver d) = PendingAt r job d.stage
-Pending r job (Errand e) = Unit {0}
-Pending r job (Clean c) = Unit {0}
+Pending r job other = Unit {0}
 
 -- the same of a job of any call
 abbrev IsPending : Run → ℕ → ℕ → Task → Type 0
@@ -52,14 +49,11 @@ module _ (r : Run) (job : ℕ) where
   -- a job that has tries takes no file away
   not-idle : (task : Task) → (trying_of task ≡ idle → ⊥) → Pending r job task
   not-idle (Deliver d) tries = absurd (tries refl)
-  not-idle (Errand e) tries = tt
-  not-idle (Clean c) tries = tt
+  not-idle other tries = tt
 
   pending-stage : (stage : Stage) (given : DirReply) → Undoes given stage → (given ≡ reply.Fault → IsFaulted r job) → PendingAt r job stage
-  pending-stage Start given h faulted = tt
-  pending-stage (Writing start k) given h faulted = tt
-  pending-stage Linked given h faulted = tt
   pending-stage (Undo a) given h faulted = (h.0, faulted h.1)
+  pending-stage other given h faulted = tt
 
   pending-delivery : (task : Task) (given : DirReply) → UndoesTask given task → (given ≡ reply.Fault → IsFaulted r job) → Pending r job task
   pending-delivery (Deliver d) given h faulted = pending-stage d.stage given h faulted
@@ -132,17 +126,15 @@ module _ (r : Run) (run : IsRun r) where
   delivery-looks job given Start answer.NotTrashed look told was = told
   delivery-looks job given Start answer.OtherInfo look told was = told
   delivery-looks job given Start answer.Lost look told was = told
-  delivery-looks job given Start a look told was = absurd look
   delivery-looks job given (Writing start k) answer.NotThere look told was = told
   delivery-looks job given (Writing start k) answer.NotTrashed look told was = told
   delivery-looks job given (Writing start k) answer.OtherInfo look told was = told
   delivery-looks job given (Writing start k) answer.Lost look told was = told
-  delivery-looks job given (Writing start k) a look told was = absurd look
   delivery-looks job given Linked answer.NotThere look told was = told
   delivery-looks job given Linked answer.NotTrashed look told was = told
   delivery-looks job given Linked answer.OtherInfo look told was = told
   delivery-looks job given Linked answer.Lost look told was = told
-  delivery-looks job given Linked a look told was = absurd look
+  delivery-looks job given other a look told was = absurd look
 
   clean-looks : (given : DirReply) (a : Answer) → IsOfLook a → CleanTells given a → ⊥
   clean-looks given answer.NotThere look told = told

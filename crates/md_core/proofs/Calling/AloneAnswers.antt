@@ -330,11 +330,6 @@ module _ (r r' : Run) (run : IsRun r) (asked : Call) (accepted : submit_refusal 
 
   -- all answers
   pub as-alone : (a : Answer) → HasAnswer r' job a → AnswersAsAlone asked (mailbox_of (dirs_of r)) (mailbox_of (dirs_of r')) a
-  as-alone answer.Delivered has = done answer.Delivered has refl
-  as-alone (answer.Flags s) has = done (answer.Flags s) has refl
-  as-alone answer.Moved has = done answer.Moved has refl
-  as-alone answer.Expunged has = done answer.Expunged has refl
-  as-alone answer.Copied has = done answer.Copied has refl
   as-alone (answer.Cleaned n) has = undone (answer.Cleaned n) has refl
   as-alone answer.NotThere has = refused answer.NotThere has refl (said answer.NotThere has)
   as-alone answer.NotTrashed has = refused answer.NotTrashed has refl (said answer.NotTrashed has)
@@ -344,3 +339,4 @@ module _ (r r' : Run) (run : IsRun r) (asked : Call) (accepted : submit_refusal 
   as-alone answer.TmpGone has = absurd (never-gone asked refl (said answer.TmpGone has))
   as-alone answer.NameTaken has = absurd (said answer.NameTaken has)
   as-alone answer.Fault has = undone answer.Fault has refl
+  as-alone a has = done a has refl

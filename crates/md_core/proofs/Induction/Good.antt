@@ -115,9 +115,8 @@ FoundAt unique (Act place row tries) u size = (unique ≡ u) × (row.size ≡ si
 
 -- the size of a message that a task has found
 abbrev pub Found : Task → List ℕ → ℕ → Type 0
-Found (Deliver d) u size = ⊥
 Found (Errand e) u size = FoundAt e.unique e.stage u size
-Found (Clean c) u size = ⊥
+Found other u size = ⊥
 
 -- the message of the unique name has this size, where it is there
 abbrev pub HasSize : Mailbox → List ℕ → ℕ → Type 0
@@ -134,8 +133,7 @@ IsApart a b = (u : List ℕ) → MakesMessage a u → MakesMessage b u → ⊥
 -- the effect that a task has had
 abbrev pub own_effect : ℕ → Task → Option Effect
 own_effect number (Deliver d) = if is_linked d.stage then Some (delivery_effect number d) else None
-own_effect number (Errand e) = None
-own_effect number (Clean c) = None
+own_effect number other = None
 
 -- What is known of a message that was found: where it is there it has this size, and no job without an effect makes its name.
 pub record Known (calls : List Call) (m : Machine) (u : List ℕ) (size : ℕ) : Type 0 where

@@ -144,12 +144,11 @@ same-place : (a b : Place) → nat_eq (place_index a) (place_index b) ≡ true �
 same-place Tmp Tmp is = refl
 same-place New New is = refl
 same-place Cur Cur is = refl
-same-place Tmp New is = cc
 same-place Tmp Cur is = cc
 same-place New Tmp is = cc
 same-place New Cur is = cc
 same-place Cur Tmp is = cc
-same-place Cur New is = cc
+same-place other New is = cc
 
 -- a path in a directory is that of its name there
 pub path-in : (folder : ℕ) (place : Place) (p : Path) → is_in folder place p ≡ true → p ≡ path_of folder place p.name

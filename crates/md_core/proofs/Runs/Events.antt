@@ -26,9 +26,8 @@ job_at-none jobs (suc i) h = let past : length jobs ≤ i = (let more : length j
 
 -- an event goes on exactly where its job is there and has no answer
 pub goes_on-exact : (o : Option Standing) → (step_refusal o ≡ None) ↔ ((task : Task) × (o ≡ Some (working task)))
-goes_on-exact None = (λ h. cc, λ h. cc)
 goes_on-exact (Some (working task)) = (λ h. (task, refl), λ h. refl)
-goes_on-exact (Some (answered a)) = (λ h. cc, λ h. cc)
+goes_on-exact other = (λ h. cc, λ h. cc)
 
 -- of a job that is there and has no answer, an event is its turn
 module _ (m : Machine) (e : Occurrence) (task : Task) (is : job_at m.jobs e.event.job ≡ Some (working task)) where

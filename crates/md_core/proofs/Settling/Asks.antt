@@ -29,8 +29,7 @@ module _ (s : State) (clock : ℕ) (h : IsLoadable s clock) where
   delivery-good : (number : ℕ) (d : Delivery) (at : Moment) → is_unique_name d.tmp.name ≡ true → (stage : Stage) → MakesGood s (asked_at number d at stage)
   delivery-good number d at valid Start = unique-good d.tmp valid
   delivery-good number d at valid (Writing start k) = writing-by number d at (MakesGood s) start k tt (unique-good (target d) valid) tt
-  delivery-good number d at valid Linked = tt
-  delivery-good number d at valid (Undo refusal) = tt
+  delivery-good number d at valid other = tt
 
   errand-good : (number : ℕ) (e : errand.Errand) → is_unique_name e.unique ≡ true → IsFor e.folder e.purpose → (stage : errand.Stage) →
       MakesGood s (errands_by.stage_turn number e stage).asked

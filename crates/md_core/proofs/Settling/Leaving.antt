@@ -17,11 +17,9 @@ use Rattle.md_core.proofs.Settling.Loadable.{IsGoodPath, IsLoadable}
 -- the path that a call makes has no fault by itself; a rename makes one only where there is something to rename
 abbrev pub MakesGood : State → Asked → Type 0
 MakesGood s (create p) = IsGoodPath p
-MakesGood s (append p bytes) = Unit {0}
 MakesGood s (link old new) = IsGoodPath new
 MakesGood s (rename old new) = (n : ℕ) → file_at s old ≡ Some n → IsGoodPath new
-MakesGood s (unlink p) = Unit {0}
-MakesGood s (list folder place) = Unit {0}
+MakesGood s other = Unit {0}
 
 -- ---- of names alone
 
@@ -130,6 +128,4 @@ module _ (s : State) (sound : IsSound s) (before clock : ℕ) (later : before �
 
   pub leaves : (asked : Asked) (r : DirReply) → MakesGood s asked → IsLoadable (state_by (ask_of asked clock) s r) clock
   leaves asked reply.Ok good = done asked good
-  leaves asked reply.Exists good = stays
-  leaves asked reply.NotFound good = stays
-  leaves asked reply.Fault good = stays
+  leaves asked other good = stays

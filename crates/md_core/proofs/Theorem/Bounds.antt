@@ -69,9 +69,8 @@ steps_left-some s (Clean c) = by c.stage
 
 -- a step is refused exactly where nothing is left
 pub steps_left-exact : (s : State) (o : Option Standing) → (step_refusal o ≡ None) ↔ (0 < steps_left s o)
-steps_left-exact s None = (λ h. cc, λ h. absurd (omega arith))
 steps_left-exact s (Some (working task)) = (λ h. steps_left-some s task, λ h. refl)
-steps_left-exact s (Some (answered a)) = (λ h. cc, λ h. absurd (omega arith))
+steps_left-exact s other = (λ h. cc, λ h. absurd (omega arith))
 
 -- how many events are of a job, with one more
 abbrev of_job : ℕ → List Occurrence → ℕ

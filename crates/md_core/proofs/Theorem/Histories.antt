@@ -19,7 +19,8 @@ use Rattle.md_core.specs.Accepting.{MakesMessage}
 use Rattle.md_core.proofs.Induction.Good.{IsGood, own_effect, Affects, Settles}
 use Rattle.md_core.proofs.Lists.Places.{at_end}
 use Rattle.md_core.proofs.Induction.Going.{Goes, AllApart, goes-cases, goes-as_many, still-working}
-use Rattle.md_core.proofs.Theorem.Effects.{allowed-fresh, nowhere-kept, after-push, now-nowhere, was_nowhere-push}
+use Rattle.md_core.proofs.Theorem.Effects.{nowhere-kept, after-push, now-nowhere, was_nowhere-push}
+use Rattle.md_core.proofs.Mailbox.Allowed.{allowed-fresh, allowed-fits}
 
 -- the effects that a job has had, by how it stands
 abbrev pub Has : ℕ → Standing → List Effect → Type 0
@@ -165,7 +166,7 @@ module _ (folders : ℕ) (opening : Names) (calls : List Call) (apart : AllApart
     fresh u makes = tells.nowhere g.place g.asked g.task u g.of g.there (ap (λ n. own_effect n g.task) at_number ∙ first) makes
 
     allowed : IsAllowedAfter folders opening m.effects e
-    allowed = allowed-fresh folders (names_after opening m.effects) (MakesMessage g.asked) (WasNowhere opening m.effects) fresh e.answer e.change allowed-now
+    allowed = allowed-fresh folders (names_after opening m.effects) (MakesMessage g.asked) (WasNowhere opening m.effects) e.answer e.change (λ u _. fresh u) allowed-now
 
     legal-more : IsLegal folders opening (m.effects ++ e ∷ [])
     legal-more = record {
@@ -210,7 +211,8 @@ module _ (folders : ℕ) (opening : Names) (calls : List Call) (apart : AllApart
           let other : j ≢ g.place = (λ same. let h = mine same in cc) in
           subst (λ (es : List Effect). WasNowhere opening es u) (sym effects-more)
           (was_nowhere-push opening m.effects e u nowhere
-          (nowhere-kept folders (names_after opening m.effects) (MakesMessage g.asked) e.answer e.change u allowed-now
+          (nowhere-kept (names_after opening m.effects) (MakesMessage g.asked) e.change u
+          (allowed-fits folders (names_after opening m.effects) (MakesMessage g.asked) e.answer e.change allowed-now)
           (λ its. apart g.place j g.asked asked (λ same. other (sym same)) g.of of u its makes) (now-nowhere opening m.effects u nowhere))));
       own = λ j job at. goes-cases calls m m' what g j job at
           (λ same is. own-here m'.effects j job same is (ap (filter (λ (x : Effect). x.job == number)) effects-more ∙ mine-after ∙

@@ -64,8 +64,7 @@ is_linked stage = false
 -- a delivery past its link
 abbrev pub is_past_link : Task → Bool
 is_past_link (task.Deliver d) = is_linked d.stage
-is_past_link (task.Errand e) = false
-is_past_link (task.Clean c) = false
+is_past_link other = false
 
 -- how many steps a job has taken
 abbrev pub steps_of : Run → ℕ → ℕ

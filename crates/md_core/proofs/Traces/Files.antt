@@ -40,11 +40,7 @@ use Rattle.md_core.proofs.Traces.Headline.{theorem}
 -- the call writes to no file that the path names
 abbrev pub Away : State → Path → Asked → Type 0
 Away s q (append p bytes) = (n : ℕ) → file_at s q ≡ Some n → file_at s p ≡ Some n → ⊥
-Away s q (create p) = Unit {0}
-Away s q (link old new) = Unit {0}
-Away s q (rename old new) = Unit {0}
-Away s q (unlink p) = Unit {0}
-Away s q (list folder place) = Unit {0}
+Away s q other = Unit {0}
 
 module _ (s : State) (sound : IsSound s) (clock : ℕ) (q : Path) (n : ℕ) (here : file_at s q ≡ Some n) where
   abbrev After : Asked → DirReply → State
@@ -74,8 +70,7 @@ module _ (s : State) (sound : IsSound s) (clock : ℕ) (q : Path) (n : ℕ) (her
   kept (unlink p) reply.Ok away there = swept-kept (file_at s p) (without_path p s) q n there
   kept (list folder place) reply.Ok away there = refl
   kept asked reply.Exists away there = refl
-  kept asked reply.NotFound away there = refl
-  kept asked reply.Fault away there = refl
+  kept asked other away there = refl
 
 -- a path that names what it named has the same file, where nothing is written to it
 pub file-kept : (s : State) (sound : IsSound s) (clock : ℕ) (q : Path) (asked : Asked) (r : DirReply) → Away s q asked →
@@ -128,10 +123,8 @@ module _ (s : State) (number : ℕ) (d : Delivery) (at : Moment) where
   delivery-appends p bytes (Undo a) fits is = cc
 
   pub delivery-unlinks : (p : Path) (stage : Stage) → asked_at stage ≡ unlink p → d.tmp ≡ p
-  delivery-unlinks p Start is = cc
   delivery-unlinks p (Writing start k) is = writing-by (λ asked. asked ≡ unlink p → d.tmp ≡ p) start k (λ h. cc) (λ h. cc) (λ h. cc) is
-  delivery-unlinks p Linked is = cc
-  delivery-unlinks p (Undo a) is = cc
+  delivery-unlinks p other is = cc
 
 pub appends : (s : State) (asked : Call) (number : ℕ) (at : Moment) (task : Task) → TaskFits s asked task → (p : Path) (bytes : List ℕ) →
     (turn_of number task at).asked ≡ append p bytes → Writes s asked p
@@ -185,11 +178,7 @@ module _ (r : Run) (run : IsRun r) where
         let w = writes k x is q bytes asks in
         let same : p ≡ q = w.2.only n p there here in
         let tmp : is_tmp p.place ≡ true = ap (λ (y : Path). is_tmp y.place) same ∙ ap is_tmp w.2.in_tmp in cc
-    away k x is (create q) asks = tt
-    away k x is (link old new) asks = tt
-    away k x is (rename old new) asks = tt
-    away k x is (unlink q) asks = tt
-    away k x is (list folder place) asks = tt
+    away k x is other asks = tt
 
     stays-one : (k : ℕ) → file_in (state t (k + 1)) p ≡ file_in (state t k) p
     stays-one k = at_place t.steps k

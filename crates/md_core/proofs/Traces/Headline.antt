@@ -161,8 +161,7 @@ module _ (r : Run) (run : IsRun r) where
   -- a job with an effect and no answer is a delivery
   delivers : (s : State) (c : Call) (n : ℕ) (e : Effect) (had : Task) → TaskFits s c had → own_effect n had ≡ Some e → IsDelivery c
   delivers s c n e (task.Deliver d) fits is = subst IsDelivery (sym fits.of) tt
-  delivers s c n e (task.Errand x) fits is = cc
-  delivers s c n e (task.Clean m) fits is = cc
+  delivers s c n e other fits is = cc
 
   early : (k : ℕ) (x : Step) (at : step_at t k ≡ Some x) (e : Effect) → x.effect ≡ Some e → x.answer ≡ None →
       (c : Call) → call_at t.calls x.job ≡ Some c → IsDelivery c

@@ -62,9 +62,8 @@ module _ (r : Run) (run : IsRun r) where
   AtStage k job folder (Remove name rest files) = (row : Row) × (row.name ≡ name) × SawOld k job folder (row ∷ rest)
 
   abbrev AtTask : ℕ → ℕ → Task → Type 0
-  AtTask k job (Deliver d) = Unit {0}
-  AtTask k job (Errand e) = Unit {0}
   AtTask k job (Clean c) = AtStage k job c.folder c.stage
+  AtTask k job other = Unit {0}
 
   saw-more : (k job folder : ℕ) (rows : List Row) → SawOld k job folder rows → SawOld (k + 1) job folder rows
   saw-more k job folder rows h =
@@ -106,15 +105,13 @@ module _ (r : Run) (run : IsRun r) where
     stage-leads c Look before reply.Ok asked replied none =
         let old = old_rows (at r k job u).own (rows_of s c.folder Tmp) in
         next-saw (k + 1) job (at_stage c Look) old (length old) (looked c asked replied) none
-    stage-leads c Look before reply.Exists asked replied none = cc
-    stage-leads c Look before reply.NotFound asked replied none = cc
-    stage-leads c Look before reply.Fault asked replied none = cc
     stage-leads c (Remove name rest files) before reply.Ok asked replied none =
         next-saw (k + 1) job (at_stage c (Remove name rest files)) rest files (saw-rest k job c.folder before.0 rest before.2) none
     stage-leads c (Remove name rest files) before reply.Exists asked replied none = cc
     stage-leads c (Remove name rest files) before reply.NotFound asked replied none =
         next-saw (k + 1) job (at_stage c (Remove name rest files)) rest (files - 1) (saw-rest k job c.folder before.0 rest before.2) none
     stage-leads c (Remove name rest files) before reply.Fault asked replied none = cc
+    stage-leads c Look before other asked replied none = cc
 
     own-turn : (left_by r k job u).answer ≡ None → AtTask k job u.task → AtTask (k + 1) job (left_by r k job u).task
     own-turn none h = by u.task h (reply_in (machine_at r k) u.event u.task) refl refl none
@@ -130,14 +127,12 @@ module _ (r : Run) (run : IsRun r) where
   stage-more k job folder (Remove name rest files) h = (h.0, h.1, saw-more k job folder (h.0 ∷ rest) h.2)
 
   other-turn : (k job : ℕ) (task : Task) → AtTask k job task → AtTask (k + 1) job task
-  other-turn k job (Deliver d) h = tt
-  other-turn k job (Errand e) h = tt
   other-turn k job (Clean c) h = stage-more k job c.folder c.stage h
+  other-turn k job other h = tt
 
   new-at : (job : ℕ) (c : Call) (task : Task) → new_job c ≡ working task → AtTask 0 job task
-  new-at job c (Deliver d) is = tt
-  new-at job c (Errand e) is = tt
   new-at job c (Clean x) is = subst (AtStage 0 job x.folder) (sym (new-looks x c is)) tt
+  new-at job c other is = tt
 
   old-task : (k job : ℕ) (task : Task) → k ≤ length r.events → job_at (machine_at r k).jobs job ≡ Some (working task) → AtTask k job task
   old-task = holds r run AtTask (λ n c task of-c is. new-at n c task is) own-turn (λ k n task e at-k differ is h. other-turn k n task h)
@@ -222,16 +217,11 @@ module _ (r : Run) (run : IsRun r) where
         by_path p q
         (λ same. inr (may-own its.0 (subst (λ (c : Call). IsTmpOf p c) called (subst (λ (y : Path). IsTmpOf y w.0) (sym same) w.2.own))))
         (λ differ. inl (λ n here there. differ (w.2.only n p there here)))
-    away-or (create q) asks = inl tt
-    away-or (link old new) asks = inl tt
-    away-or (rename old new) asks = inl tt
-    away-or (unlink q) asks = inl tt
-    away-or (list folder place) asks = inl tt
+    away-or other asks = inl tt
 
     tmp-place : (q : Place) → is_tmp q ≡ true → q ≡ Tmp
     tmp-place place.Tmp h = refl
-    tmp-place place.New h = cc
-    tmp-place place.Cur h = cc
+    tmp-place other h = cc
 
     changes : p.place ≡ Tmp → Touches (state t k) (state_by (ask_of x.asked x.at.clock) (state t k) x.reply) p x.asked x.reply x.at.clock
     changes in_tmp = touches (state t k) p in_tmp (sound-at r run k) x.at.clock x.asked x.reply

@@ -39,32 +39,26 @@ module _ (number : ℕ) (d : Delivery) (at : Moment) where
       by false more = unlinks
 
   delivery-leaves : (stage : Stage) → LeavesTmp (asked_at stage)
-  delivery-leaves Start = tt
   delivery-leaves (Writing start k) = writing-by LeavesTmp start k tt refl tt
-  delivery-leaves Linked = tt
-  delivery-leaves (Undo a) = tt
+  delivery-leaves other = tt
 
   delivery-creates : (p : Path) (stage : Stage) → asked_at stage ≡ create p → (stage ≡ Start) × (d.tmp ≡ p)
   delivery-creates p Start is = (refl, cc)
   delivery-creates p (Writing start k) is =
       writing-by (λ asked. asked ≡ create p → (Writing start k ≡ Start) × (d.tmp ≡ p)) start k (λ h. cc) (λ h. cc) (λ h. cc) is
-  delivery-creates p Linked is = cc
-  delivery-creates p (Undo a) is = cc
+  delivery-creates p other is = cc
 
   delivery-unlinks : (p : Path) (stage : Stage) → asked_at stage ≡ unlink p → d.tmp ≡ p
-  delivery-unlinks p Start is = cc
   delivery-unlinks p (Writing start k) is = writing-by (λ asked. asked ≡ unlink p → d.tmp ≡ p) start k (λ h. cc) (λ h. cc) (λ h. cc) is
-  delivery-unlinks p Linked is = cc
-  delivery-unlinks p (Undo a) is = cc
+  delivery-unlinks p other is = cc
 
 -- what other tasks ask leaves tmp alone, but for the unlinks of a clean
 mail-leaves : (asked : Asked) → IsOfMail asked → LeavesTmp asked
-mail-leaves (list folder place) mail = tt
 mail-leaves (rename old new) mail = mail
 mail-leaves (link old new) mail = mail
-mail-leaves (unlink old) mail = tt
 mail-leaves (create p) mail = absurd mail
 mail-leaves (append p bytes) mail = absurd mail
+mail-leaves other mail = tt
 
 cleaning-leaves : (c : Cleaning) (own : ℕ) (stage : cleaning.Stage) → LeavesTmp (cleaned_by.stage_turn c own stage).asked
 cleaning-leaves c own cleaning.Look = tt

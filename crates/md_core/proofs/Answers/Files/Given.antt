@@ -63,13 +63,11 @@ next-says c (row ∷ rest) files a is = cc
 clean-says : (c : Cleaning) (own : ℕ) (stage : cleaning.Stage) (rep : DirReply) (rows : List Row) (a : Answer) →
     ((cleaned_by.stage_turn c own stage).follows rep rows).answer ≡ Some a → CleanSays a
 clean-says c own cleaning.Look reply.Ok rows a is = next-says c _ _ a is
-clean-says c own cleaning.Look reply.Exists rows a is = inl cc
-clean-says c own cleaning.Look reply.NotFound rows a is = inl cc
-clean-says c own cleaning.Look reply.Fault rows a is = inl cc
 clean-says c own (cleaning.Remove name rest files) reply.Ok rows a is = next-says c _ _ a is
 clean-says c own (cleaning.Remove name rest files) reply.Exists rows a is = inl cc
 clean-says c own (cleaning.Remove name rest files) reply.NotFound rows a is = next-says c _ _ a is
 clean-says c own (cleaning.Remove name rest files) reply.Fault rows a is = inl cc
+clean-says c own cleaning.Look other rows a is = inl cc
 
 module _ (r : Run) (run : IsRun r) (k job : ℕ) (t : IsTurn r k job) where
   abbrev s : State
@@ -91,9 +89,7 @@ module _ (r : Run) (run : IsRun r) (k job : ℕ) (t : IsTurn r k job) where
 
     create-says : (rep : DirReply) → Says (create_turn (at_stage d Start) own) rep
     create-says reply.Ok is = tt
-    create-says reply.Exists is = tt
-    create-says reply.NotFound is = tt
-    create-says reply.Fault is = tt
+    create-says other is = tt
 
     module _ (start i : ℕ) (h : HasBegun r job k start d.tmp) where
       abbrev x : Delivery
@@ -104,11 +100,9 @@ module _ (r : Run) (run : IsRun r) (k job : ℕ) (t : IsTurn r k job) where
       cleaned-away gone = elim h.there [ inl file ↦ (let there = file.1 in cc) | inr taken ↦ taken ]
 
       append-says : is_in_time start own ≡ true → (rep : DirReply) → Says (append_turn x start i) rep
-      append-says in_time reply.Ok is = tt
-      append-says in_time reply.Exists is = tt
       append-says in_time reply.NotFound is =
           (start, h, in_time, cleaned-away (no-file (file_at s d.tmp) None t.event.faulted is (λ e. cc)))
-      append-says in_time reply.Fault is = tt
+      append-says in_time other is = tt
 
       found-folder : (b c : Bool) → b ≡ true → reply.NotFound ≡ reply_by (cond b (cond c (Some Exists) None) (Some NotFound)) → ⊥
       found-folder true true within is = cc
@@ -116,8 +110,6 @@ module _ (r : Run) (run : IsRun r) (k job : ℕ) (t : IsTurn r k job) where
       found-folder false c within is = cc
 
       link-says : is_in_time start own ≡ true → (rep : DirReply) → Says (link_turn n x) rep
-      link-says in_time reply.Ok is = tt
-      link-says in_time reply.Exists is = tt
       link-says in_time reply.NotFound is =
           let inside = fits.in_folder in
           let within : has_folder s (target d) ≡ true = grind (arith, nat_tests) in
@@ -130,7 +122,7 @@ module _ (r : Run) (run : IsRun r) (k job : ℕ) (t : IsTurn r k job) where
                 (cond (has_folder s (target d)) (cond (is_some (file_at s (target d))) (Some Exists) None)
                 (Some NotFound)) t.event.faulted is other),
           )
-      link-says in_time reply.Fault is = tt
+      link-says in_time other is = tt
 
       writing-says : (b : Bool) → is_in_time start own ≡ b → (more : Bool) (rep : DirReply) →
           Says (cond b (cond more (append_turn x start i) (link_turn n x)) (unlink_turn x answer.TimedOut)) rep

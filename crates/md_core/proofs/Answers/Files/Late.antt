@@ -62,9 +62,8 @@ cleans s f (Clean c) fits = (c, refl)
 
 -- what is left to a clean of the folder, at moment k
 abbrev LateTask : Run → ℕ → ℕ → ℕ → List ℕ → ℕ → Task → Type 0
-LateTask r seconds job folder u k (Deliver d) = Unit {0}
-LateTask r seconds job folder u k (Errand e) = Unit {0}
 LateTask r seconds job folder u k (Clean c) = c.folder ≡ folder → IsLeft u c.stage → IsLate r seconds job k
+LateTask r seconds job folder u k other = Unit {0}
 
 module _ (r : Run) (run : IsRun r) (seconds : ℕ) (apart : AreApart r seconds) (job folder : ℕ) (u body : List ℕ) (chunk : ℕ)
     (of : call_at r.calls job ≡ Some (call.Deliver folder u body chunk)) where
@@ -113,9 +112,6 @@ module _ (r : Run) (run : IsRun r) (seconds : ℕ) (apart : AreApart r seconds) 
         let old = old_rows (at r k n t).own (rows_of s c.folder Tmp) in
         late-look c (sym (folder-next u (at_stage c Look) old (length old)) ∙ in_folder)
         (left-next u (at_stage c Look) old (length old) unanswered left)
-    stage-leads c Look before reply.Exists unanswered in_folder left = cc
-    stage-leads c Look before reply.NotFound unanswered in_folder left = cc
-    stage-leads c Look before reply.Fault unanswered in_folder left = cc
     stage-leads c (Remove name rest files) before reply.Ok unanswered in_folder left =
         let x = at_stage c (Remove name rest files) in
         late-more (before (sym (folder-next u x rest files) ∙ in_folder) (inr (left-next u x rest files unanswered left)))
@@ -124,6 +120,7 @@ module _ (r : Run) (run : IsRun r) (seconds : ℕ) (apart : AreApart r seconds) 
         let x = at_stage c (Remove name rest files) in
         late-more (before (sym (folder-next u x rest (files - 1)) ∙ in_folder) (inr (left-next u x rest (files - 1) unanswered left)))
     stage-leads c (Remove name rest files) before reply.Fault unanswered in_folder left = cc
+    stage-leads c Look before other unanswered in_folder left = cc
 
     own-turn : (left_by r k n t).answer ≡ None → AtTask k n t.task → AtTask (k + 1) n (left_by r k n t).task
     own-turn unanswered h = by t.task h (reply_in (machine_at r k) t.event t.task) unanswered
@@ -135,15 +132,13 @@ module _ (r : Run) (run : IsRun r) (seconds : ℕ) (apart : AreApart r seconds) 
         by (Clean c) now rep none = stage-leads c c.stage now rep none
 
     other-turn : (task : Task) → AtTask k n task → AtTask (k + 1) n task
-    other-turn (Deliver d) h = tt
-    other-turn (Errand e) h = tt
     other-turn (Clean c) h = λ in_folder left. late-more (h in_folder left)
+    other-turn other h = tt
 
   -- a new clean has nothing to take away yet
   new-at : (n : ℕ) (c : Call) (task : Task) → new_job c ≡ working task → AtTask 0 n task
-  new-at n c (Deliver d) is = tt
-  new-at n c (Errand e) is = tt
   new-at n c (Clean x) is = λ in_folder left. absurd (subst (IsLeft u) (new-looks x c is) left)
+  new-at n c other is = tt
 
   late-task : (k n : ℕ) (task : Task) → k ≤ length r.events → job_at (machine_at r k).jobs n ≡ Some (working task) → AtTask k n task
   late-task = holds r run AtTask (λ n c task of-c is. new-at n c task is) own-turn

@@ -24,10 +24,7 @@ stamp_at s n = stamp_of (file_by s.files n)
 abbrev pub LeavesTmp : Asked → Type 0
 LeavesTmp (link old new) = is_tmp new.place ≡ false
 LeavesTmp (rename old new) = (is_tmp old.place ≡ false) × (is_tmp new.place ≡ false)
-LeavesTmp (create q) = Unit {0}
-LeavesTmp (append q bytes) = Unit {0}
-LeavesTmp (unlink q) = Unit {0}
-LeavesTmp (list folder place) = Unit {0}
+LeavesTmp other = Unit {0}
 
 -- a path names what it did, and that file has the stamp that it had or that of the call
 pub record KeepsPath (s s' : State) (p : Path) (clock : ℕ) : Type 0 where
@@ -133,6 +130,4 @@ module _ (s : State) (p : Path) (in_tmp : p.place ≡ Tmp) (sound : IsSound s) (
 
   pub touches : (asked : Asked) (r : DirReply) → LeavesTmp asked → Touches s (state_by (ask_of asked clock) s r) p asked r clock
   touches asked reply.Ok leaves = done asked leaves
-  touches asked reply.Exists leaves = inl stays
-  touches asked reply.NotFound leaves = inl stays
-  touches asked reply.Fault leaves = inl stays
+  touches asked other leaves = inl stays

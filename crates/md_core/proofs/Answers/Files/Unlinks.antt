@@ -47,16 +47,13 @@ module _ (n : ℕ) (d : Delivery) (rows : List Row) (a : Answer) (its : IsOfUnli
   Unlinks turn rep = (turn.follows rep rows).answer ≡ Some a → turn.asked ≡ unlink d.tmp
 
   append-unlinks : (start i : ℕ) (rep : DirReply) → Unlinks (append_turn d start i) rep
-  append-unlinks start i reply.Ok is = cc
   append-unlinks start i reply.Exists is = absurd (differs a answer.Fault its (λ h. h) is)
   append-unlinks start i reply.NotFound is = absurd (differs a answer.TmpGone its (λ h. h) is)
-  append-unlinks start i reply.Fault is = cc
+  append-unlinks start i other is = cc
 
   link-unlinks : (rep : DirReply) → Unlinks (link_turn n d) rep
-  link-unlinks reply.Ok is = cc
-  link-unlinks reply.Exists is = cc
   link-unlinks reply.NotFound is = absurd (differs a answer.TmpGone its (λ h. h) is)
-  link-unlinks reply.Fault is = cc
+  link-unlinks other is = cc
 
   writing-unlinks : (b more : Bool) (start i : ℕ) (rep : DirReply) →
       Unlinks (cond b (cond more (append_turn d start i) (link_turn n d)) (unlink_turn d answer.TimedOut)) rep
@@ -70,8 +67,7 @@ module _ (n : ℕ) (d : Delivery) (rows : List Row) (a : Answer) (its : IsOfUnli
   stage-unlinks at Start reply.NotFound is = absurd (differs a answer.Fault its (λ h. h) is)
   stage-unlinks at Start reply.Fault is = absurd (differs a answer.Fault its (λ h. h) is)
   stage-unlinks at (Writing start i) rep is = writing-unlinks (is_in_time start at.own) (nat_lt i (length d.body)) start i rep is
-  stage-unlinks at Linked rep is = refl
-  stage-unlinks at (Undo b) rep is = refl
+  stage-unlinks at other rep is = refl
 
 module _ (n : ℕ) (d : Delivery) (rows : List Row) where
   -- where a turn gives Fault it is a create that faulted, or that unlink
@@ -83,15 +79,11 @@ module _ (n : ℕ) (d : Delivery) (rows : List Row) where
 
   append-undoes : (start i : ℕ) (rep : DirReply) → Undoes (append_turn d start i) rep
   append-undoes start i reply.Ok is told = cc
-  append-undoes start i reply.Exists is told = cc
-  append-undoes start i reply.NotFound is told = cc
-  append-undoes start i reply.Fault is told = cc
+  append-undoes start i other is told = cc
 
   link-undoes : (rep : DirReply) → Undoes (link_turn n d) rep
   link-undoes reply.Ok is told = cc
-  link-undoes reply.Exists is told = cc
-  link-undoes reply.NotFound is told = cc
-  link-undoes reply.Fault is told = cc
+  link-undoes other is told = cc
 
   writing-undoes : (b more : Bool) (start i : ℕ) (rep : DirReply) →
       Undoes (cond b (cond more (append_turn d start i) (link_turn n d)) (unlink_turn d answer.TimedOut)) rep
@@ -104,8 +96,7 @@ module _ (n : ℕ) (d : Delivery) (rows : List Row) where
   stage-undoes at Start rep is told = inl (refl, told)
   stage-undoes at (Writing start i) rep is told =
       writing-undoes (is_in_time start at.own) (nat_lt i (length d.body)) start i rep is told
-  stage-undoes at Linked rep is told = inr refl
-  stage-undoes at (Undo b) rep is told = inr refl
+  stage-undoes at other rep is told = inr refl
 
 module _ (folder : ℕ) (u body : List ℕ) (chunk : ℕ) (s : State) where
   abbrev asked : Call

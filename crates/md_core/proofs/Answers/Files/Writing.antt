@@ -52,8 +52,7 @@ AtStage r k job p (Undo a) = (refused_by a ≡ answer.Fault) ⊎ (refused_by a �
 
 abbrev pub AtTask : Run → ℕ → ℕ → Task → Type 0
 AtTask r k job (Deliver d) = AtStage r k job d.tmp d.stage
-AtTask r k job (Errand e) = Unit {0}
-AtTask r k job (Clean c) = Unit {0}
+AtTask r k job other = Unit {0}
 
 -- the path stays there, or is taken away now, or has been
 module _ (r : Run) (job k start : ℕ) (p : Path) (h : HasBegun r job k start p) where
@@ -102,9 +101,7 @@ module _ (r : Run) (run : IsRun r) (k job : ℕ) (t : IsTurn r k job) (d : Deliv
               ∙ maps.at_put path_total path_exact s.names d.tmp d.tmp (length s.files) refl,
         );
       }
-  start-leads none reply.Exists dirs unanswered = cc
-  start-leads none reply.NotFound dirs unanswered = cc
-  start-leads none reply.Fault dirs unanswered = cc
+  start-leads none other dirs unanswered = cc
 
   module _ (start i : ℕ) (h : HasBegun r job k start d.tmp) where
     abbrev x : Delivery
@@ -135,8 +132,7 @@ module _ (r : Run) (run : IsRun r) (k job : ℕ) (t : IsTurn r k job) (d : Deliv
       Leads (stage_turn n (at_stage d stage) (at r k job t) stage) rep
   stage-leads Start h rep = start-leads h rep
   stage-leads (Writing start i) h rep = writing-leads start i h (is_in_time start (at r k job t).own) (nat_lt i (length d.body)) rep
-  stage-leads Linked h rep = λ dirs unanswered. cc
-  stage-leads (Undo a) h rep = λ dirs unanswered. cc
+  stage-leads other h rep = λ dirs unanswered. cc
 
 -- a new delivery has not begun
 new-at : (r : Run) (job : ℕ) (c : Call) (task : Task) → call_at r.calls job ≡ Some c → new_job c ≡ working task → AtTask r 0 job task
@@ -189,8 +185,7 @@ module _ (r : Run) (run : IsRun r) where
     other-turn (Deliver d) is h =
         let asked = its-call r run k job _ is in
         still-stage d asked.0 asked.1 (its-fits r run k job asked.0 (Deliver d) asked.1 is) d.stage h
-    other-turn (Errand e) is h = tt
-    other-turn (Clean c) is h = tt
+    other-turn other is h = tt
 
   pub at-task : (k job : ℕ) (task : Task) → k ≤ length r.events → job_at (machine_at r k).jobs job ≡ Some (working task) → AtTask r k job task
   at-task = holds r run (AtTask r) (new-at r) own-turn (λ k job task e at-k differ is h. other-turn k job e at-k differ task is h)

@@ -57,9 +57,8 @@ SearchedAt r k job folder u both (Look place tries) = both ≡ true → place �
 SearchedAt r k job folder u both (Act place row tries) = Unit {0}
 
 abbrev SearchedBy : Run → ℕ → ℕ → Task → Type 0
-SearchedBy r k job (Deliver d) = Unit {0}
 SearchedBy r k job (Errand e) = SearchedAt r k job e.folder e.unique (searches e.purpose) e.stage
-SearchedBy r k job (Clean c) = Unit {0}
+SearchedBy r k job other = Unit {0}
 
 abbrev Searched : Run → ℕ → ℕ → Task → Type 0
 Searched r k job task = (c : Call) → call_at r.calls job ≡ Some c → SearchedBy r k job task
@@ -104,9 +103,8 @@ module _ (r : Run) (k job : ℕ) where
   later folder u both (Act place row tries) h = tt
 
   still-searched : (task : Task) → SearchedBy r k job task → SearchedBy r (k + 1) job task
-  still-searched (Deliver d) h = tt
   still-searched (Errand e) h = later e.folder e.unique (searches e.purpose) e.stage h
-  still-searched (Clean c) h = tt
+  still-searched other h = tt
 
 module _ (r : Run) (run : IsRun r) where
   searched-at : (k job : ℕ) (task : Task) → k ≤ length r.events → job_at (machine_at r k).jobs job ≡ Some (working task) → Searched r k job task

@@ -22,6 +22,7 @@ use Rattle.md_core.proofs.Theorem.Placed.{placed-kept}
 use Rattle.md_core.proofs.Lists.Places.{at_place}
 use Rattle.md_core.proofs.Runs.ByEvent.{moment-over}
 use Rattle.md_core.proofs.Answers.Turns.EachSays.{is-good}
+use Rattle.md_core.proofs.Mailbox.Allowed.{allowed-fits}
 
 -- a turn leaves a known name in cur, or takes it away
 cur-kept : (r : Run) (m m' : Machine) (what : Step) (g : Goes r.calls m m' what) (u : List ℕ) (size : ℕ) → Known r.calls m u size →
@@ -35,8 +36,8 @@ cur-kept r m m' what g u size known was = by what.effect g.does.as_alone g.does.
         let unmade : MakesMessage g.asked u → ⊥ =
         known.unmade g.place g.asked g.task g.of g.there (ap (λ n. own_effect n g.task) (sym g.number_is) ∙ first) in
         subst (λ (n : Names). IsInCur (get n u)) (sym affects.changes)
-        (placed-kept (λ p. p ≡ Cur) refl m.dirs.folders (names_of (box_in m)) (MakesMessage g.asked) u
-        (λ p not_tmp makes. absurd (unmade makes)) e.answer e.change affects.allowed was)
+        (placed-kept (λ p. p ≡ Cur) refl (names_of (box_in m)) (MakesMessage g.asked) u (λ p not_tmp makes. absurd (unmade makes)) e.change
+        (allowed-fits m.dirs.folders (names_of (box_in m)) (MakesMessage g.asked) e.answer e.change affects.allowed) was)
 
 module _ (r : Run) (run : IsRun r) (i : ℕ) (u : List ℕ) (x : Entry) (there : get (box_in (machine_at r i)) u ≡ Some x) (at : x.place ≡ Cur) where
   abbrev Stays : ℕ → Type 0

@@ -30,9 +30,8 @@ errand_trying folder (Look place tries) = looking tries
 errand_trying folder (Act place row tries) = acting (path_of folder place row.name) tries
 
 abbrev pub trying_of : Task → Trying
-trying_of (Deliver d) = idle
 trying_of (Errand e) = errand_trying e.folder e.stage
-trying_of (Clean c) = idle
+trying_of other = idle
 
 -- a message of the unique name is at the path
 pub record IsPathOf (s : State) (u : List ℕ) (p : Path) : Type 0 where
@@ -54,9 +53,8 @@ TriesOn s s' u (acting p tries) (acting q left) = ⊥
 
 -- the last try is over, and the path was gone
 abbrev pub IsOver : State → Trying → Type 0
-IsOver s idle = ⊥
-IsOver s (looking tries) = ⊥
 IsOver s (acting p tries) = (tries ≤ 1) × (file_at s p ≡ None)
+IsOver s other = ⊥
 
 -- what an errand has seen that goes on to cur, and what it sees where it ends after its last place
 abbrev pub IsPastNew : State → ℕ → List ℕ → Bool → Stage → Type 0
@@ -68,9 +66,8 @@ IsPastLast s folder u both (Look place tries) = (entry_if (is_in_place place fol
 IsPastLast s folder u both (Act place row tries) = ⊥
 
 abbrev pub HasLooked : State → Task → Type 0
-HasLooked s (Deliver d) = Unit {0}
 HasLooked s (Errand e) = IsPastNew s e.folder e.unique (searches e.purpose) e.stage
-HasLooked s (Clean c) = Unit {0}
+HasLooked s other = Unit {0}
 
 -- a job that goes on
 pub record GoesOn (s s' : State) (asked : Call) (task task' : Task) : Type 0 where
@@ -83,9 +80,8 @@ IsAlone s asked a = (alone asked (mailbox_of s)).answer ≡ a
 
 -- nothing was found in the last place
 abbrev pub FindsNone : State → Call → Task → Type 0
-FindsNone s asked (Deliver d) = ⊥
 FindsNone s asked (Errand e) = IsPastLast s e.folder e.unique (searches e.purpose) e.stage
-FindsNone s asked (Clean c) = ⊥
+FindsNone s asked other = ⊥
 
 -- what an answer says of the turn that gave it
 abbrev pub Tells : State → Call → Task → DirReply → Answer → Type 0
@@ -98,11 +94,7 @@ Tells s asked task r answer.NameTaken = ⊥
 Tells s asked task r answer.TimedOut = ⊥
 Tells s asked task r answer.TmpGone = ⊥
 Tells s asked task r (answer.Cleaned n) = ⊥
-Tells s asked task r answer.Delivered = Unit {0}
-Tells s asked task r (answer.Flags flags) = Unit {0}
-Tells s asked task r answer.Moved = Unit {0}
-Tells s asked task r answer.Expunged = Unit {0}
-Tells s asked task r answer.Copied = Unit {0}
+Tells s asked task r other = Unit {0}
 
 abbrev pub TurnSays : State → State → Call → Task → DirReply → After Task → Type 0
 TurnSays s s' asked task r after = MatchOption after.answer (GoesOn s s' asked task after.task) (Tells s asked task r)

@@ -36,5 +36,4 @@ Told s asked (Clean c) given a = CleanTells given a
 pub told : (s s' : State) (asked : Call) (task : Task) (given : DirReply) (after : After Task) (a : Answer) →
     TaskSays s s' asked given task after → after.answer ≡ Some a → Told s asked task given a
 told s s' asked (Deliver d) given after a says is = at-some after.answer _ _ a is says
-told s s' asked (Errand e) given after a says is = at-some after.answer _ _ a is says
-told s s' asked (Clean c) given after a says is = at-some after.answer _ _ a is says
+told s s' asked other given after a says is = at-some after.answer _ _ a is says

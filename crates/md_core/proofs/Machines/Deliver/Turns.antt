@@ -60,9 +60,7 @@ module _ (s : State) (number : ℕ) (asked : Call) (at : Moment) (sound : IsSoun
       0 < steps_left d d.stage →
       (r : DirReply) → DoesBy s number asked d at.clock (unlink_turn d a) r
   unlink-does d a fits settles some reply.Ok = ends s _ number asked d one fits _ _ a (quiet-unlink s d.tmp fits.in_tmp sound) refl settles some
-  unlink-does d a fits settles some reply.Exists = ends s s number asked d one fits _ _ a (quiet-stays s d.tmp.name sound) refl settles some
-  unlink-does d a fits settles some reply.NotFound = ends s s number asked d one fits _ _ a (quiet-stays s d.tmp.name sound) refl settles some
-  unlink-does d a fits settles some reply.Fault = ends s s number asked d one fits _ _ a (quiet-stays s d.tmp.name sound) refl settles some
+  unlink-does d a fits settles some other = ends s s number asked d one fits _ _ a (quiet-stays s d.tmp.name sound) refl settles some
 
   -- while the file holds the first k bytes
   module _ (d : Delivery) (start k : ℕ) (fits : DeliveryFits s asked (at_stage d (Writing start k))) (faulted : Bool) where

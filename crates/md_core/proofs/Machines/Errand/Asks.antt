@@ -21,28 +21,20 @@ errand-of-mail number e = by e.stage
 
 -- such a call makes no file, writes to none, and takes none of tmp away
 pub no-create : (asked : Asked) (p : Path) → IsOfMail asked → asked ≡ create p → ⊥
-no-create (list folder place) p mail is = cc
-no-create (rename old new) p mail is = cc
-no-create (link old new) p mail is = cc
-no-create (unlink old) p mail is = cc
 no-create (create q) p mail is = absurd mail
 no-create (append q bytes) p mail is = absurd mail
+no-create other p mail is = cc
 
 pub no-append : (asked : Asked) (p : Path) (bytes : List ℕ) → IsOfMail asked → asked ≡ append p bytes → ⊥
-no-append (list folder place) p bytes mail is = cc
-no-append (rename old new) p bytes mail is = cc
-no-append (link old new) p bytes mail is = cc
-no-append (unlink old) p bytes mail is = cc
 no-append (create q) p bytes mail is = absurd mail
 no-append (append q more) p bytes mail is = absurd mail
+no-append other p bytes mail is = cc
 
 pub no-unlink : (asked : Asked) (p : Path) → p.place ≡ Tmp → IsOfMail asked → asked ≡ unlink p → ⊥
-no-unlink (list folder place) p in_tmp mail is = cc
-no-unlink (rename old new) p in_tmp mail is = cc
-no-unlink (link old new) p in_tmp mail is = cc
 no-unlink (unlink old) p in_tmp mail is =
     let same : old ≡ p = cc in
     let hit : is_tmp old.place ≡ true = ap (λ (q : Path). is_tmp q.place) same ∙ ap is_tmp in_tmp in
     cc
 no-unlink (create q) p in_tmp mail is = absurd mail
 no-unlink (append q bytes) p in_tmp mail is = absurd mail
+no-unlink other p in_tmp mail is = cc

@@ -28,8 +28,7 @@ second false b p = absurd p
 
 pub less : (o : Ordering) → T (is_lt o) → o ≡ Less
 less Less p = refl
-less Equal p = absurd p
-less Greater p = absurd p
+less other p = absurd p
 
 pub same_filter : {X : Type 0} (p q : X → Bool) (es : List X) → ((x : X) → Has es x → p x ≡ q x) → filter p es ≡ filter q es
 same_filter p q [] same = refl
@@ -116,8 +115,7 @@ below_folders a b f within = grind (arith, nat_tests)
 
 place_within : (p : Place) → place_index p < 3
 place_within Tmp = omega arith
-place_within New = omega arith
-place_within Cur = omega arith
+place_within other = omega arith
 
 turned : (b : Bool) → not b ≡ true → b ≡ false
 turned true h = cc

@@ -46,14 +46,13 @@ numbers a b h = grind (arith, nat_tests)
 
 same_place : (a b : Place) → (place_index a == place_index b) ≡ true → a ≡ b
 same_place Tmp Tmp h = refl
-same_place Tmp New h = cc
 same_place Tmp Cur h = cc
 same_place New Tmp h = cc
 same_place New New h = refl
 same_place New Cur h = cc
 same_place Cur Tmp h = cc
-same_place Cur New h = cc
 same_place Cur Cur h = refl
+same_place other New h = cc
 
 both_true : (a b : Bool) → (a && b) ≡ true → (a ≡ true) × (b ≡ true)
 both_true true b h = (refl, h)
