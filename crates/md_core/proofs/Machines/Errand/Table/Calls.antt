@@ -49,10 +49,7 @@ sought (call.Clean folder) = []
 
 pub sought-by : (p : Purpose) (folder : ℕ) (u : List ℕ) (tries : ℕ) → sought (call_by folder u p tries) ≡ u
 sought-by (Seen given) folder u tries = refl
-sought-by (Flag add remove) folder u tries = refl
-sought-by (Move to) folder u tries = refl
-sought-by (Copy to fresh) folder u tries = refl
-sought-by Expunge folder u tries = refl
+sought-by other folder u tries = refl
 
 -- the tries that a call has
 abbrev pub tries_in : Call → ℕ

@@ -110,15 +110,11 @@ pub record IsAcceptedErrand (image : State) (folder : ℕ) (u : List ℕ) (p : P
 
 pub accepted-errand : (image : State) (earlier : List Call) (folder : ℕ) (u : List ℕ) (p : Purpose) (tries : ℕ) →
     IsAccepted image earlier (call_by folder u p tries) → IsAcceptedErrand image folder u p tries
-accepted-errand image earlier folder u (purpose.Seen given) tries a =
-    record { in_folder = a.0; to_folder = a.0; valid = a.1; tried = a.2; is_for = tt }
-accepted-errand image earlier folder u (purpose.Flag add remove) tries a =
-    record { in_folder = a.0; to_folder = a.0; valid = a.1; tried = a.2; is_for = tt }
 accepted-errand image earlier folder u (purpose.Move to) tries a =
     record { in_folder = a.2.0; to_folder = a.0; valid = a.2.1; tried = a.2.2; is_for = a.1 }
 accepted-errand image earlier folder u (purpose.Copy to name) tries a =
     record { in_folder = a.2.0; to_folder = a.0; valid = a.2.1; tried = a.2.2; is_for = a.1.valid }
-accepted-errand image earlier folder u purpose.Expunge tries a =
+accepted-errand image earlier folder u other tries a =
     record { in_folder = a.0; to_folder = a.0; valid = a.1; tried = a.2; is_for = tt }
 
 -- a call that looks for a message has a try

@@ -52,7 +52,6 @@ module _ (s : State) (number : ℕ) (asked : Call) (sound : IsSound s) (one : Ha
         decide p (info_in row.name) ≡ decision.Keep →
         Does s s number asked (Errand (on folder u p (Look place tries))) (list folder place) reply.Ok
         (as_after Errand (ends_by (on folder u p (Look place tries)) (kept number (answer_by p (info_in row.name)))))
-    keep-does (Seen given) fits row h is = absurd (test-keeps _ _ is)
     keep-does (Flag add remove) fits row h is =
         let keeps = keeps-flag (Flag add remove) (flags_of (info_in row.name)) is in
         let had : Set = shown (info_in row.name) in
@@ -66,8 +65,7 @@ module _ (s : State) (number : ℕ) (asked : Call) (sound : IsSound s) (one : Ha
         add remove fits.tries at keeps.1)
         (ap (λ (c : Call). is_effect_at c (list folder place) reply.Ok (Some (answer.Flags (wanted (Flag add remove) had)))) fits.of)
     keep-does (Move to) fits row h is = cc
-    keep-does (Copy to fresh) fits row h is = absurd (test-keeps _ _ is)
-    keep-does Expunge fits row h is = absurd (test-keeps _ _ is)
+    keep-does other fits row h is = absurd (test-keeps _ _ is)
 
 module _ (s : State) (number : ℕ) (asked : Call) (sound : IsSound s) (one : HasOnePath s) (folder : ℕ) (u : List ℕ) (place : Place) (row : Row) (tries : ℕ)
     (clock : ℕ) (faulted : Bool) (sized : HasSize (mailbox_of s) u row.size) where

@@ -12,8 +12,8 @@ use Rattle.md_core.specs.declared.jobs.call.Call.TheVariants as call
 use Rattle.md_core.specs.Tasks.Errand.{Stage}
 use Rattle.md_core.specs.Tasks.Errand as stage
 use Rattle.md_core.specs.Tasks.Decision.{Keep, Act}
-use Rattle.md_core.specs.Tasks.Purpose.{Purpose, Seen, Flag, Move, Copy, Expunge}
-use Rattle.md_core.specs.Tasks.Refusal.{Refusal, NotThere, NotTrashed, OtherInfo, NameTaken, Lost, TimedOut, TmpGone, Fault}
+use Rattle.md_core.specs.Tasks.Purpose.{Purpose, Seen, Flag, Move, Copy}
+use Rattle.md_core.specs.Tasks.Refusal.{Refusal, NotThere, NotTrashed, OtherInfo}
 use Rattle.md_core.specs.declared.jobs.step.DirReply.{DirReply}
 use Rattle.md_core.specs.declared.jobs.step.DirReply.TheVariants as reply
 use Rattle.md_core.specs.Alone.{is_same_set}
@@ -35,10 +35,7 @@ not-tmp p place at = elim at [ inl is ↦ ap is_tmp is ∙ by p | inr is ↦ ap 
   where
     by : (p : Purpose) → is_tmp (first p) ≡ false
     by (Seen given) = refl
-    by (Flag add remove) = refl
-    by (Move to) = refl
-    by (Copy to fresh) = refl
-    by Expunge = refl
+    by other = refl
 
 -- one that doesn't search looks in its first place alone
 pub one-place : (p : Purpose) (place : Place) → searches p ≡ false → IsPlaceOf p place → place ≡ first p
@@ -46,11 +43,9 @@ one-place p place one at = elim at [ inl is ↦ is | inr is ↦ (let both = is.0
 
 -- one that searches looks in new first
 pub new-first : (p : Purpose) → searches p ≡ true → first p ≡ New
-new-first (Seen given) both = cc
-new-first (Flag add remove) both = cc
 new-first (Move to) both = refl
 new-first (Copy to fresh) both = refl
-new-first Expunge both = cc
+new-first other both = cc
 
 -- a search ends after cur
 pub last-place : (p : Purpose) (place : Place) → searches p ≡ true → IsPlaceOf p place → place_after true place ≡ None → place ≡ Cur
@@ -63,22 +58,17 @@ last-place p place both at last = elim at [
 
 pub steps_left-some : (both : Bool) (s : Stage) → 0 < steps_left both s
 steps_left-some true (stage.Look Tmp tries) = omega arith
-steps_left-some true (stage.Look New tries) = omega arith
-steps_left-some true (stage.Look Cur tries) = omega arith
-steps_left-some true (stage.Act place row tries) = omega arith
 steps_left-some false (stage.Look Tmp tries) = omega arith
 steps_left-some false (stage.Look New tries) = omega arith
 steps_left-some false (stage.Look Cur tries) = omega arith
 steps_left-some false (stage.Act place row tries) = omega arith
+steps_left-some true other = omega arith
 
 -- before its first step, what the call takes at most
 pub all-tries : (s : State) (p : Purpose) (folder : ℕ) (u : List ℕ) (tries : ℕ) → 0 < tries →
     steps_left (searches p) (stage.Look (first p) tries) ≡ most_over s (call_by folder u p tries)
 all-tries s (Seen given) folder u tries some = omega arith
-all-tries s (Flag add remove) folder u tries some = omega arith
-all-tries s (Move to) folder u tries some = omega arith
-all-tries s (Copy to fresh) folder u tries some = omega arith
-all-tries s Expunge folder u tries some = omega arith
+all-tries s other folder u tries some = omega arith
 
 -- after new comes cur, which leaves less
 pub next-left : (both : Bool) (place next : Place) (tries : ℕ) → place_after both place ≡ Some next →
@@ -89,26 +79,23 @@ next-left true New Tmp tries is = cc
 next-left true Tmp next tries is = cc
 next-left true Cur next tries is = cc
 next-left false Tmp next tries is = cc
-next-left false New next tries is = cc
-next-left false Cur next tries is = cc
+next-left false other next tries is = cc
 
 pub act-left : (both : Bool) (place at : Place) (row : Row) (tries : ℕ) →
     steps_left both (stage.Act at row tries) < steps_left both (stage.Look place tries)
 act-left true Tmp at row tries = omega arith
-act-left true New at row tries = omega arith
-act-left true Cur at row tries = omega arith
 act-left false Tmp at row tries = omega arith
 act-left false New at row tries = omega arith
 act-left false Cur at row tries = omega arith
+act-left true other at row tries = omega arith
 
 pub again-left : (both : Bool) (place at : Place) (row : Row) (tries : ℕ) → 1 < tries →
     steps_left both (stage.Look place (tries - 1)) < steps_left both (stage.Act at row tries)
 again-left true Tmp at row tries more = omega (arith, more)
-again-left true New at row tries more = omega (arith, more)
-again-left true Cur at row tries more = omega (arith, more)
 again-left false Tmp at row tries more = omega (arith, more)
 again-left false New at row tries more = omega (arith, more)
 again-left false Cur at row tries more = omega (arith, more)
+again-left true other at row tries more = omega (arith, more)
 
 -- ---- what is decided
 
@@ -151,47 +138,18 @@ keeps-flag p (Some had) is = (refl, by (is_same_set had (wanted p had)) refl)
 
 pub refusal-fails : (refusal : Refusal) → is_success (refused_by refusal) ≡ false
 refusal-fails NotThere = refl
-refusal-fails NotTrashed = refl
-refusal-fails OtherInfo = refl
-refusal-fails NameTaken = refl
-refusal-fails Lost = refl
-refusal-fails TimedOut = refl
-refusal-fails TmpGone = refl
-refusal-fails Fault = refl
+refusal-fails other = refl
 
 -- a look that goes on, and one that is refused
 pub look-goes : (p : Purpose) (folder : ℕ) (u : List ℕ) (tries f : ℕ) (place : Place) (r : DirReply) →
     is_effect_at (call_by folder u p tries) (list f place) r None ≡ false
-look-goes (Seen given) folder u tries f place r = refl
 look-goes (Flag add remove) folder u tries f place reply.Ok = refl
-look-goes (Flag add remove) folder u tries f place reply.Exists = refl
-look-goes (Flag add remove) folder u tries f place reply.NotFound = refl
-look-goes (Flag add remove) folder u tries f place reply.Fault = refl
-look-goes (Move to) folder u tries f place r = refl
-look-goes (Copy to fresh) folder u tries f place r = refl
-look-goes Expunge folder u tries f place r = refl
-
-flag-refused : (f g : ℕ) (u : List ℕ) (add remove : Set) (tries : ℕ) (place : Place) (r : DirReply) (refusal : Refusal) →
-    is_effect_at (call_by f u (Flag add remove) tries) (list g place) r (Some (refused_by refusal)) ≡ false
-flag-refused f g u add remove tries place reply.Ok NotThere = refl
-flag-refused f g u add remove tries place reply.Ok NotTrashed = refl
-flag-refused f g u add remove tries place reply.Ok OtherInfo = refl
-flag-refused f g u add remove tries place reply.Ok NameTaken = refl
-flag-refused f g u add remove tries place reply.Ok Lost = refl
-flag-refused f g u add remove tries place reply.Ok TimedOut = refl
-flag-refused f g u add remove tries place reply.Ok TmpGone = refl
-flag-refused f g u add remove tries place reply.Ok Fault = refl
-flag-refused f g u add remove tries place reply.Exists refusal = refl
-flag-refused f g u add remove tries place reply.NotFound refusal = refl
-flag-refused f g u add remove tries place reply.Fault refusal = refl
+look-goes p folder u tries f place r = refl
 
 pub look-refused : (p : Purpose) (folder : ℕ) (u : List ℕ) (tries f : ℕ) (place : Place) (r : DirReply) (refusal : Refusal) →
     is_effect_at (call_by folder u p tries) (list f place) r (Some (refused_by refusal)) ≡ false
-look-refused (Seen given) folder u tries f place r refusal = refl
-look-refused (Flag add remove) folder u tries f place r refusal = flag-refused folder f u add remove tries place r refusal
-look-refused (Move to) folder u tries f place r refusal = refl
-look-refused (Copy to fresh) folder u tries f place r refusal = refl
-look-refused Expunge folder u tries f place r refusal = refl
+look-refused (Flag add remove) folder u tries f place reply.Ok NotThere = refl
+look-refused p folder u tries f place r refusal = refl
 
 -- a reply that the call was not done
 abbrev pub IsRefusal : DirReply → Type 0
@@ -202,44 +160,22 @@ IsRefusal r = Unit {0}
 module _ (folder : ℕ) (u : List ℕ) (tries : ℕ) (place : Place) (name : List ℕ) (info : Info) (a : Option Answer) where
   pub deed-acts : (p : Purpose) → is_effect_at (call_by folder u p tries) (asked_of (deed_by p folder u place name info)) reply.Ok a ≡ true
   deed-acts (Seen given) = refl
-  deed-acts (Flag add remove) = refl
-  deed-acts (Move to) = refl
-  deed-acts (Copy to fresh) = refl
-  deed-acts Expunge = refl
+  deed-acts other = refl
 
   pub deed-none : (p : Purpose) (r : DirReply) → IsRefusal r →
       is_effect_at (call_by folder u p tries) (asked_of (deed_by p folder u place name info)) r a ≡ false
   deed-none p reply.Ok failed = absurd failed
-  deed-none (Seen given) reply.Exists failed = refl
-  deed-none (Seen given) reply.NotFound failed = refl
-  deed-none (Seen given) reply.Fault failed = refl
-  deed-none (Flag add remove) reply.Exists failed = refl
-  deed-none (Flag add remove) reply.NotFound failed = refl
-  deed-none (Flag add remove) reply.Fault failed = refl
-  deed-none (Move to) reply.Exists failed = refl
-  deed-none (Move to) reply.NotFound failed = refl
-  deed-none (Move to) reply.Fault failed = refl
-  deed-none (Copy to fresh) reply.Exists failed = refl
-  deed-none (Copy to fresh) reply.NotFound failed = refl
-  deed-none (Copy to fresh) reply.Fault failed = refl
-  deed-none Expunge reply.Exists failed = refl
-  deed-none Expunge reply.NotFound failed = refl
-  deed-none Expunge reply.Fault failed = refl
+  deed-none (Seen given) r failed = refl
+  deed-none p r failed = refl
 
 -- ---- calls
 
 -- no errand is of the call of a clean, or of a delivery
 pub no-clean : (p : Purpose) (folder : ℕ) (u : List ℕ) (tries f : ℕ) → call.Clean f ≡ call_by folder u p tries → ⊥
 no-clean (Seen given) folder u tries f is = cc
-no-clean (Flag add remove) folder u tries f is = cc
-no-clean (Move to) folder u tries f is = cc
-no-clean (Copy to fresh) folder u tries f is = cc
-no-clean Expunge folder u tries f is = cc
+no-clean other folder u tries f is = cc
 
 pub no-delivery : (p : Purpose) (folder : ℕ) (u : List ℕ) (tries f : ℕ) (v body : List ℕ) (chunk : ℕ) →
     call.Deliver f v body chunk ≡ call_by folder u p tries → ⊥
 no-delivery (Seen given) folder u tries f v body chunk is = cc
-no-delivery (Flag add remove) folder u tries f v body chunk is = cc
-no-delivery (Move to) folder u tries f v body chunk is = cc
-no-delivery (Copy to fresh) folder u tries f v body chunk is = cc
-no-delivery Expunge folder u tries f v body chunk is = cc
+no-delivery other folder u tries f v body chunk is = cc

@@ -35,10 +35,7 @@ use Rattle.md_core.proofs.Machines.Errand.Table.Calls.{call_by, on}
 -- a success says nothing here
 pub success-tells : (s : State) (asked : Call) (e : ErrandOf) (r : DirReply) (p : Purpose) (info : Info) → Tells s asked (Errand e) r (answer_by p info)
 success-tells s asked e r (Seen given) info = tt
-success-tells s asked e r (Flag add remove) info = tt
-success-tells s asked e r (Move to) info = tt
-success-tells s asked e r (Copy to fresh) info = tt
-success-tells s asked e r Expunge info = tt
+success-tells s asked e r other info = tt
 
 no-flags : (o : Option Set) → is_some o ≡ false → o ≡ None
 no-flags None is = refl
