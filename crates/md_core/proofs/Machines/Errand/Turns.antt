@@ -4,11 +4,12 @@ use Rattle.std.proofs.lemmas.Bool.Decides.{nat_tests}
 use Rattle.std.specs.FinMap.{get}
 use Rattle.md_dirs.specs.Path.{path_of}
 use Rattle.md_dirs.specs.Rows.{rows_of, row_by, row_named}
-use Rattle.md_dirs.specs.State.{State, IsSound, file_by}
+use Rattle.md_dirs.specs.State.{State, IsSound, file_by, file_at}
 use Rattle.md_dirs.specs.declared.calls.DirError.TheVariants.{NotFound}
 use Rattle.md_dirs.specs.declared.paths.File.{File}
 use Rattle.md_dirs.specs.declared.paths.Place.{Place}
 use Rattle.md_dirs.specs.declared.rows.Row.{Row}
+use Rattle.md_dirs.specs.declared.paths.Path.{Path}
 use Rattle.md_name.specs.declared.info.Info.{Info}
 use Rattle.md_core.specs.declared.jobs.call.Call.{Call}
 use Rattle.md_core.specs.Tasks.Errand.{Errand as ErrandOf, Stage, Look, Act}
@@ -28,12 +29,15 @@ use Rattle.md_core.specs.Asked.{Asked, list, ask_of}
 use Rattle.md_core.specs.Machines.Purposes.{first, searches, place_after, info_in, decide, deed_by}
 use Rattle.md_core.specs.Machines.Errand.{at_stage, asked_of, taken_by, after_none, after_decision, after_row, look_turn, stage_turn, errand_turn, steps_left}
 use Rattle.md_core.specs.Machines.Refusals.{refused_by, refuses}
+use Rattle.md_core.specs.Tasks.Deed.{Deed, Rename, Link, Unlink}
 use Rattle.md_core.proofs.Induction.Good.{bytes_at, FoundAt, HasSize, IsOfSize, IsAtStage, ErrandFits, Does}
 use Rattle.md_core.proofs.Looking.LookUps.{IsRow, found-row, row-entry}
 use Rattle.md_core.proofs.Machines.Stays.{as_after, stays-does}
 use Rattle.md_core.proofs.Machines.Errand.Table.Rows.{not-tmp, steps_left-some, next-left, act-left, again-left, refusal-fails, look-goes, look-refused, IsRefusal, deed-none}
 use Rattle.md_core.proofs.Machines.Errand.Table.Calls.{call_by, on}
 use Rattle.md_core.proofs.Machines.Errand.Table.Does.{keep-does, done-does, DoesBy}
+use Rattle.md_core.proofs.Machines.Errand.Table.Deeds.{FitsDeed, deed-fits}
+use Rattle.md_core.proofs.Machines.Deliver.Replies.{accepted, there}
 
 -- ---- a turn at which nothing changes
 
@@ -122,6 +126,19 @@ module _ (s : State) (number : ℕ) (asked : Call) (sound : IsSound s) (one : Ha
 
 -- ---- the act
 
+-- where a deed is done its path was there
+module _ (s : State) (clock : ℕ) (faulted : Bool) (p : Path) where
+  deed-there : (d : Deed) → FitsDeed s p d → reply.Ok ≡ reply_of (ask_of (asked_of d) clock) s faulted → (k : ℕ) × (file_at s p ≡ Some k)
+  deed-there (Rename old new) fits replied =
+      let h = there (file_at s old) _ NotFound (accepted _ faulted (sym replied)) in
+      (h.0, ap (file_at s) (sym fits.0) ∙ h.1)
+  deed-there (Link old new) fits replied =
+      let h = there (file_at s old) _ NotFound (accepted _ faulted (sym replied)) in
+      (h.0, ap (file_at s) (sym fits.0) ∙ h.1)
+  deed-there (Unlink old) fits replied =
+      let h = there (file_at s old) _ NotFound (accepted _ faulted (sym replied)) in
+      (h.0, ap (file_at s) (sym fits) ∙ h.1)
+
 module _ (s : State) (number : ℕ) (asked : Call) (sound : IsSound s) (one : HasOnePath s) (folder : ℕ) (u : List ℕ) (place : Place) (row : Row) (tries : ℕ)
     (clock : ℕ) (faulted : Bool) (sized : HasSize (mailbox_of s) u row.size) where
   abbrev info : Info
@@ -151,7 +168,10 @@ module _ (s : State) (number : ℕ) (asked : Call) (sound : IsSound s) (one : Ha
         (λ v size its. absurd its)
 
     act-does : (r : DirReply) → r ≡ reply_of (ask_of made clock) s faulted → DoesAct p r
-    act-does reply.Ok replied = done-does s number asked sound one folder u place row tries clock faulted sized p fits replied
+    act-does reply.Ok replied =
+        let here = deed-there s clock faulted (path_of folder place row.name) (deed_by p folder u place row.name info)
+        (deed-fits s asked folder u place row tries p fits) replied in
+        done-does s number asked sound one folder u place row tries clock sized p fits here.0 here.1
     act-does reply.Exists replied = stops-does reply.Exists (taken_by (deed_by p folder u place row.name info)) tt
     act-does reply.NotFound replied = again-does (nat_le tries 1) refl
     act-does reply.Fault replied = stops-does reply.Fault refusal.Fault tt

@@ -4,7 +4,6 @@ use Rattle.std.proofs.lemmas.Bool.{and_from}
 use Rattle.std.specs.FinMap.{get}
 use Rattle.md_dirs.specs.Path.{path_of}
 use Rattle.md_dirs.specs.State.{State, IsSound, file_at}
-use Rattle.md_dirs.specs.declared.calls.DirError.TheVariants.{NotFound}
 use Rattle.md_dirs.specs.declared.paths.Place.{Place}
 use Rattle.md_dirs.specs.declared.rows.Row.{Row}
 use Rattle.md_name.specs.Letters.{Set}
@@ -22,7 +21,7 @@ use Rattle.md_core.specs.Alone.{alone}
 use Rattle.md_core.specs.History.{MayGetFlags}
 use Rattle.md_core.specs.Mailbox.{Entry, mailbox_of, entry_of, HasOnePath}
 use Rattle.md_core.specs.Interleaving.{is_effect_at}
-use Rattle.md_core.specs.Turn.{Turn, ends_by, rows_for, reply_of}
+use Rattle.md_core.specs.Turn.{Turn, ends_by, rows_for}
 use Rattle.md_core.specs.Asked.{list, ask_of, state_by}
 use Rattle.md_core.specs.Machine.{as_task}
 use Rattle.md_core.specs.Machines.Purposes.{info_in, wanted, decide, answer_by, deed_by, shown}
@@ -30,14 +29,14 @@ use Rattle.md_core.specs.Machines.Errand.{asked_of, kept, stage_turn}
 use Rattle.md_core.proofs.Induction.Good.{HasSize, ErrandFits, Does}
 use Rattle.md_core.proofs.Looking.LookUps.{IsRow, row-entry, info-in}
 use Rattle.md_core.proofs.Mailbox.Shown.{shows-mailbox}
-use Rattle.md_core.proofs.Machines.Deliver.Replies.{accepted, there}
+use Rattle.md_core.proofs.Machines.Deliver.Replies.{there}
 use Rattle.md_core.proofs.Machines.Stays.{as_after}
 use Rattle.md_core.proofs.Machines.Errand.Sets.{same-sets, subset-union}
-use Rattle.md_core.proofs.Machines.Errand.Table.Rows.{not-tmp, one-place, acts-flags, acts-flag, keeps-flag, test-keeps}
+use Rattle.md_core.proofs.Machines.Errand.Table.Rows.{not-tmp, one-place, acts-flags, acts-flag, keeps-flag, test-keeps, acts-trashed}
 use Rattle.md_core.proofs.Machines.Errand.Marked.{alone-seen, alone-flags, alone-keeps, keeps-it, gives-flags}
 use Rattle.md_core.proofs.Machines.Errand.Moved.{rename-does}
 use Rattle.md_core.proofs.Machines.Errand.Copied.{link-does}
-use Rattle.md_core.proofs.Machines.Errand.Expunged.{unlink-does}
+use Rattle.md_core.proofs.Machines.Errand.Expunged.{unlink-does, alone-expunges, is_there}
 use Rattle.md_core.proofs.Machines.Errand.Table.Calls.{on}
 
 -- what a turn of an errand does at a reply
@@ -68,7 +67,7 @@ module _ (s : State) (number : ℕ) (asked : Call) (sound : IsSound s) (one : Ha
     keep-does other fits row h is = absurd (test-keeps _ _ is)
 
 module _ (s : State) (number : ℕ) (asked : Call) (sound : IsSound s) (one : HasOnePath s) (folder : ℕ) (u : List ℕ) (place : Place) (row : Row) (tries : ℕ)
-    (clock : ℕ) (faulted : Bool) (sized : HasSize (mailbox_of s) u row.size) where
+    (clock : ℕ) (sized : HasSize (mailbox_of s) u row.size) where
   abbrev info : Info
   info = info_in row.name
 
@@ -99,37 +98,38 @@ module _ (s : State) (number : ℕ) (asked : Call) (sound : IsSound s) (one : Ha
     shows-had : flags_of info ≡ Some had → flags_of (info_of row.name) ≡ Some had
     shows-had is = ap flags_of (sym (info-in row.name fits.stage.named)) ∙ is
 
-  pub done-does : (p : Purpose) → ErrandFits s asked (acting p) →
-      reply.Ok ≡ reply_of (ask_of (asked_of (deed_by p folder u place row.name info)) clock) s faulted → DoesAct p reply.Ok
-  done-does (Seen given) fits replied =
-      let here = there (file_at s (path_of folder place row.name)) _ NotFound (accepted _ faulted (sym replied)) in
-      let shows = shows-had (Seen given) fits here.0 here.1 (acts-flags (flags_of info) fits.stage.acts) in
+  pub done-does : (p : Purpose) → ErrandFits s asked (acting p) → (k : ℕ) → file_at s (path_of folder place row.name) ≡ Some k → DoesAct p reply.Ok
+  done-does (Seen given) fits k at =
+      let shows = shows-had (Seen given) fits k at (acts-flags (flags_of info) fits.stage.acts) in
       let new = one-place (Seen given) place refl fits.stage.at in
-      gives-flags s number asked (acting (Seen given)) sound one fits place row.name here.0 had (not-tmp (Seen given) place fits.stage.at) fits.stage.named
-      fits.stage.unique shows here.1 (wanted (Seen given) had) row.size
+      gives-flags s number asked (acting (Seen given)) sound one fits place row.name k had (not-tmp (Seen given) place fits.stage.at) fits.stage.named
+      fits.stage.unique shows at (wanted (Seen given) had) row.size
       (ap (λ (c : Call). alone c (mailbox_of s)) fits.of
-      ∙ alone-seen (mailbox_of s) folder u (entry (Seen given) fits here.0 here.1) had (before (Seen given) fits here.0 here.1) refl shows given fits.tries new)
+      ∙ alone-seen (mailbox_of s) folder u (entry (Seen given) fits k at) had (before (Seen given) fits k at) refl shows given fits.tries new)
       (ap (λ (c : Call). is_effect_at c (asked_of (deed_by (Seen given) folder u place row.name info)) reply.Ok (Some (answer_by (Seen given) info))) fits.of)
       (subst (λ (q : Place). MayGetFlags q row.name (wanted (Seen given) had)) (sym new) (had, shows, subset-union had given))
-  done-does (Flag add remove) fits replied =
-      let here = there (file_at s (path_of folder place row.name)) _ NotFound (accepted _ faulted (sym replied)) in
+  done-does (Flag add remove) fits k at =
       let acts = acts-flag (Flag add remove) (flags_of info) fits.stage.acts in
-      let shows = shows-had (Flag add remove) fits here.0 here.1 acts.0 in
+      let shows = shows-had (Flag add remove) fits k at acts.0 in
       let cur = one-place (Flag add remove) place refl fits.stage.at in
-      gives-flags s number asked (acting (Flag add remove)) sound one fits place row.name here.0 had (not-tmp (Flag add remove) place fits.stage.at)
-      fits.stage.named fits.stage.unique shows here.1 (wanted (Flag add remove) had) row.size
+      gives-flags s number asked (acting (Flag add remove)) sound one fits place row.name k had (not-tmp (Flag add remove) place fits.stage.at)
+      fits.stage.named fits.stage.unique shows at (wanted (Flag add remove) had) row.size
       (ap (λ (c : Call). alone c (mailbox_of s)) fits.of
-      ∙ alone-flags (mailbox_of s) folder u (entry (Flag add remove) fits here.0 here.1) had (before (Flag add remove) fits here.0 here.1) refl shows add
+      ∙ alone-flags (mailbox_of s) folder u (entry (Flag add remove) fits k at) had (before (Flag add remove) fits k at) refl shows add
       remove fits.tries cur acts.1)
       (ap (λ (c : Call). is_effect_at c (asked_of (deed_by (Flag add remove) folder u place row.name info)) reply.Ok
       (Some (answer_by (Flag add remove) info))) fits.of)
       (subst (λ (q : Place). MayGetFlags q row.name (wanted (Flag add remove) had)) (sym cur) (had, shows))
-  done-does (Move to) fits replied =
-      let here = there (file_at s (path_of folder place row.name)) _ NotFound (accepted _ faulted (sym replied)) in
-      rename-does s number asked folder u to place row tries here.0 sound one fits here.1
-  done-does (Copy to fresh) fits replied =
-      let here = there (file_at s (path_of folder place row.name)) _ NotFound (accepted _ faulted (sym replied)) in
-      link-does s number asked folder u to fresh place row tries here.0 sound one fits sized here.1
-  done-does Expunge fits replied =
-      let here = there (file_at s (path_of folder place row.name)) _ NotFound (accepted _ faulted (sym replied)) in
-      unlink-does s number asked folder u place row tries here.0 sound one fits here.1
+  done-does (Move to) fits k at =
+      rename-does s number asked folder u to place row tries k sound one fits at
+  done-does (Copy to fresh) fits k at =
+      link-does s number asked folder u to fresh place row tries k sound one fits sized at
+  done-does Expunge fits k at =
+      let trashed = acts-trashed (flags_of info) fits.stage.acts in
+      let cur = one-place Expunge place refl fits.stage.at in
+      let shows = ap flags_of (sym (info-in row.name fits.stage.named)) ∙ trashed.1 in
+      unlink-does s number asked folder u place row tries k sound one Expunge fits at answer.Expunged refl
+      (ap (λ (c : Call). alone c (mailbox_of s)) fits.of
+      ∙ alone-expunges (mailbox_of s) folder u (entry Expunge fits k at) trashed.0 fits.tries (before Expunge fits k at) refl cur shows trashed.2)
+      (ap (λ (c : Call). is_effect_at c (asked_of (deed_by Expunge folder u place row.name info)) reply.Ok (Some answer.Expunged)) fits.of)
+      (fits.in_folder, cur, is_there s number asked folder u place row tries k sound one Expunge fits at answer.Expunged refl, (trashed.0, shows, trashed.2))
