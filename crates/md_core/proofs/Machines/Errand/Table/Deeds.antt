@@ -7,7 +7,7 @@ use Rattle.md_dirs.specs.Path.{path_of}
 use Rattle.md_dirs.specs.declared.rows.Row.{Row}
 use Rattle.md_name.specs.declared.info.Info.{Info}
 use Rattle.md_core.specs.Tasks.Errand.{Act}
-use Rattle.md_core.specs.Tasks.Purpose.{Purpose, Move, Copy, Expunge}
+use Rattle.md_core.specs.Tasks.Purpose.{Purpose, Move, Copy, Seen, Flag}
 use Rattle.md_core.specs.Asked.{Asked, link, rename, unlink, list}
 use Rattle.md_core.specs.Mailbox.{is_tmp}
 use Rattle.md_core.specs.Machines.Purposes.{deed_by, info_in}
@@ -28,10 +28,10 @@ IsOfMail other = ⊥
 
 pub deed-of-mail : (p : Purpose) (folder : ℕ) (u : List ℕ) (place : Place) (name : List ℕ) (info : Info) → is_tmp place ≡ false →
     IsOfMail (asked_of (deed_by p folder u place name info))
+deed-of-mail (Seen given) folder u place name info at = (at, refl)
+deed-of-mail (Flag add remove) folder u place name info at = (at, refl)
 deed-of-mail (Move to) folder u place name info at = (at, at)
-deed-of-mail (Copy to fresh) folder u place name info at = at
-deed-of-mail Expunge folder u place name info at = at
-deed-of-mail other folder u place name info at = (at, refl)
+deed-of-mail other folder u place name info at = at
 
 -- what the directories have of a deed on a path
 abbrev pub FitsDeed : State → Path → Deed → Type 0
@@ -42,7 +42,8 @@ FitsDeed s p (deed.Unlink old) = old ≡ p
 module _ (s : State) (asked : Call) (folder : ℕ) (u : List ℕ) (place : Place) (row : Row) (tries : ℕ) where
   pub deed-fits : (p : Purpose) → ErrandFits s asked (record { folder = folder; unique = u; purpose = p; stage = Act place row tries }) →
       FitsDeed s (path_of folder place row.name) (deed_by p folder u place row.name (info_in row.name))
+  deed-fits (Seen given) fits = (refl, fits.in_folder)
+  deed-fits (Flag add remove) fits = (refl, fits.in_folder)
   deed-fits (Move to) fits = (refl, fits.to_folder)
   deed-fits (Copy to fresh) fits = (refl, fits.to_folder, unused s asked folder u to fresh place row tries fits)
-  deed-fits Expunge fits = refl
-  deed-fits other fits = (refl, fits.in_folder)
+  deed-fits other fits = refl

@@ -9,7 +9,7 @@ use Rattle.md_name.specs.declared.info.Info.{Info}
 use Rattle.md_name.specs.declared.info.Info.TheVariants.{Two}
 use Rattle.md_core.specs.Machines.Errand.{asked_of}
 use Rattle.md_core.specs.Machines.Purposes.{deed_by, name_copied}
-use Rattle.md_core.specs.Tasks.Purpose.{Purpose, Move, Copy, Expunge}
+use Rattle.md_core.specs.Tasks.Purpose.{Purpose, Move, Copy, Seen, Flag}
 use Rattle.md_core.proofs.Settling.Loadable.{IsGoodPath, IsLoadable}
 use Rattle.md_core.proofs.Settling.Leaving.{MakesGood}
 use Rattle.md_core.proofs.Settling.Names.{unique-good, flagged-good}
@@ -22,8 +22,9 @@ module _ (s : State) (clock : ℕ) (h : IsLoadable s clock) where
 
   pub deed-good : (p : Purpose) (folder : ℕ) (u : List ℕ) (place : Place) (name : List ℕ) (info : Info) → is_unique_name u ≡ true → IsFor folder p →
       MakesGood s (asked_of (deed_by p folder u place name info))
+  deed-good (Seen given) folder u place name info valid for = λ n there. flagged-good _ u _ valid refl
+  deed-good (Flag add remove) folder u place name info valid for = λ n there. flagged-good _ u _ valid refl
   deed-good (Move to) folder u place name info valid for = λ n there.
       let old = h.good (path folder place name) n there in record { name = old.name; short = old.short }
   deed-good (Copy to fresh) folder u place name info valid for = copied-good to place fresh info for
-  deed-good Expunge folder u place name info valid for = tt
-  deed-good other folder u place name info valid for = λ n there. flagged-good _ u _ valid refl
+  deed-good other folder u place name info valid for = tt

@@ -90,7 +90,6 @@ module _ (s : State) (asked : Call) (one : HasOnePath s) (folder : ℕ) (u : Lis
       (subst (λ (c : Call). IsAlone s c answer.OtherInfo) (sym fits.of)
       (ap (λ (o : Option Entry). (flag_alone (mailbox_of s) u add remove o).answer) (such-there Cur folder (get (mailbox_of s) u) entry there refl cur)
       ∙ ap (λ (o : Option Set). (flag_by (mailbox_of s) u add remove entry o).answer) (shown ∙ r.0)))
-  refuse-says (Move to) fits a is = cc
   refuse-says (Copy to fresh) fits a is =
       let r = refused-test (is_some (flags_of (info_in row.name))) refusal.OtherInfo a is in
       let there = row-entry s folder place u row (not-tmp (Copy to fresh) place fits.stage) one h in
@@ -107,6 +106,7 @@ module _ (s : State) (asked : Call) (one : HasOnePath s) (folder : ℕ) (u : Lis
       (subst (λ (c : Call). IsAlone s c answer.NotTrashed) (sym fits.of)
       (ap (λ (o : Option Entry). (expunge_alone (mailbox_of s) u o).answer) (such-there Cur folder (get (mailbox_of s) u) entry there refl cur)
       ∙ not_trashed (mailbox_of s) u (flags_in entry) (ap has_trashed shown ∙ r.0)))
+  refuse-says other fits a is = cc
 
 -- whether a message is where an errand looks
 abbrev pub is_looked_in : ℕ → Purpose → Entry → Bool
