@@ -1,8 +1,7 @@
 -- Every answer of a run says what happened.
 use Rattle.std.proofs.Common.{ℕ, ◌≡◌, Some}
-use Rattle.md_core.specs.declared.jobs.answer.Answer.{Answer}
 use Rattle.md_core.specs.declared.jobs.answer.Answer.TheVariants as answer
-use Rattle.md_core.specs.declared.jobs.call.Call.{Call}
+use Rattle.md_core.proofs.Values.{Call, Answer}
 use Rattle.md_core.specs.Machine.{answered, job_at}
 use Rattle.md_core.specs.Runs.{Run, jobs_of}
 use Rattle.md_core.specs.Trace.{call_at}

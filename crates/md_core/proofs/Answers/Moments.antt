@@ -4,12 +4,8 @@ use Rattle.std.specs.List.{position_or_len}
 use Rattle.std.specs.Option.{option_and_then}
 use Rattle.std.proofs.lemmas.Bool.Decides.{nat_tests}
 use Rattle.std.proofs.lemmas.Option.{slice_get_within, slice_get_past}
-use Rattle.md_dirs.specs.State.{IsSound}
+use Rattle.md_core.proofs.Values.{IsSound, Call, DirReply, Moment, Task}
 use Rattle.md_dirs.proofs.Sound.{by_number}
-use Rattle.md_core.specs.declared.jobs.call.Call.{Call}
-use Rattle.md_core.specs.declared.jobs.step.DirReply.{DirReply}
-use Rattle.md_core.specs.declared.jobs.step.Moment.{Moment}
-use Rattle.md_core.specs.Tasks.Task.{Task}
 use Rattle.md_core.specs.Asked.{Asked, ask_of, state_by}
 use Rattle.md_core.specs.Turn.{After, rows_for}
 use Rattle.md_core.specs.Machine.{Machine, Standing, working, Occurrence, step_of, job_at, moment_of, turn_of, after_turn}

@@ -7,13 +7,10 @@ use Rattle.std.proofs.lemmas.Bool.{cases_lt}
 use Rattle.std.proofs.lemmas.List.{take_all, drop_all, append-nil}
 use Rattle.std.proofs.lemmas.List.Elements.{filter_map-append}
 use Rattle.std.proofs.lemmas.Option.{slice_get_within, slice_get-map}
-use Rattle.md_dirs.specs.declared.paths.Path.{Path}
+use Rattle.md_core.proofs.Values.{Path, Call, Effect, Event}
 use Rattle.md_core.specs.declared.jobs.answer.Answer.{Answer}
 use Rattle.md_core.specs.declared.jobs.answer.Answer.TheVariants as answer
-use Rattle.md_core.specs.declared.jobs.call.Call.{Call}
 use Rattle.md_core.specs.declared.jobs.call.Call.TheVariants as call
-use Rattle.md_core.specs.declared.jobs.effect.Effect.{Effect}
-use Rattle.md_core.specs.declared.jobs.step.Event.{Event}
 use Rattle.md_core.specs.Accepting.{IsAccepted}
 use Rattle.md_core.specs.Alone.{alone}
 use Rattle.md_core.specs.Answering.{is_touch, IsOfSpan, IsTouched, IsLost, IsOutOfTime, IsTimedOut, IsTmpGone, Says}

@@ -1,26 +1,17 @@
 -- What holds of a machine at each moment, and what one turn does. No contract speaks of these: they are the induction.
 use Rattle.std.proofs.Common.{ℕ, suc, ◌⊎◌, ◌≡◌, ◌<◌, ◌≤◌, List, Option, Some, None, Bool, true, false, if◌then◌else◌, take, length, slice_get, is_some, MatchBool, IfSome, MatchOption}
 use Rattle.std.specs.Option.{option_or}
-use Rattle.md_dirs.specs.State.{State, file_at, file_by, IsSound}
+use Rattle.md_core.proofs.Values.{State, file_at, file_by, IsSound, Place, Tmp, Cur, Row, Call, Answer, Effect, DirReply, Moment, Task, Deliver, Errand, Clean}
 use Rattle.md_dirs.specs.declared.paths.Path.{Path}
-use Rattle.md_dirs.specs.declared.paths.Place.{Place}
-use Rattle.md_dirs.specs.declared.paths.Place.TheVariants.{Tmp, Cur}
-use Rattle.md_dirs.specs.declared.rows.Row.{Row}
 use Rattle.md_name.specs.Names.{unique_of, info_text, is_message_name, is_unique_name}
-use Rattle.md_core.specs.declared.jobs.answer.Answer.{Answer}
-use Rattle.md_core.specs.declared.jobs.call.Call.{Call}
 use Rattle.md_core.specs.declared.jobs.call.Call.TheVariants as call
 use Rattle.md_core.specs.Tasks.Cleaning.{Cleaning}
 use Rattle.md_core.specs.Machines.Refusals.{refused_by}
 use Rattle.md_core.specs.Tasks.Delivery.{Delivery, Stage, Start, Writing, Linked, Undo}
-use Rattle.md_core.specs.declared.jobs.effect.Effect.{Effect}
 use Rattle.md_core.specs.Tasks.Errand.{Errand as ErrandOf, Look, Act}
 use Rattle.md_core.specs.Tasks.Errand as errand
 use Rattle.md_core.specs.Tasks.Decision as decision
 use Rattle.md_core.specs.Tasks.Purpose.{Purpose}
-use Rattle.md_core.specs.declared.jobs.step.DirReply.{DirReply}
-use Rattle.md_core.specs.declared.jobs.step.Moment.{Moment}
-use Rattle.md_core.specs.Tasks.Task.{Task, Deliver, Errand, Clean}
 use Rattle.std.specs.FinMap as finmap
 use Rattle.md_core.specs.Mailbox.{Entry, Mailbox, mailbox_of, bytes_of, is_tmp, is_message, HasOnePath}
 use Rattle.md_core.specs.History.{names_of, names_after_change, IsAllowed}

@@ -2,10 +2,9 @@
 use Rattle.std.proofs.Common.{ℕ, zero, suc, ◌+◌, ◌≡◌, ◌<◌, ◌++◌, inl, inr, List, [], ◌∷◌, Some, refl, sym, ap, subst, ◌∙◌, length, take, map, slice_get}
 use Rattle.std.proofs.lemmas.Bool.{cases_order}
 use Rattle.std.proofs.lemmas.List.{length-map}
-use Rattle.md_core.specs.declared.jobs.call.Call.{Call}
+use Rattle.md_core.proofs.Values.{Call, Task}
 use Rattle.md_core.specs.declared.jobs.call.Call.TheVariants.{Deliver, Clean}
 use Rattle.md_core.specs.Tasks.Purpose.{Purpose}
-use Rattle.md_core.specs.Tasks.Task.{Task}
 use Rattle.md_core.specs.Tasks.Task as task
 use Rattle.md_core.specs.Machines.Deliver.{new_delivery}
 use Rattle.md_core.specs.Machines.Errand.{new_errand}

@@ -1,11 +1,7 @@
 -- A turn that changes nothing: the job goes on, or ends without an effect.
 use Rattle.std.proofs.Common.{ℕ, ◌≡◌, ◌<◌, ◌⊎◌, List, Option, Some, None, Bool, true, false, refl, sym, ◌∙◌, MatchBool, MatchOption}
-use Rattle.md_dirs.specs.State.{State, IsSound}
+use Rattle.md_core.proofs.Values.{State, IsSound, Call, Effect, DirReply, Task}
 use Rattle.md_core.specs.declared.jobs.answer.Answer.{Answer}
-use Rattle.md_core.specs.declared.jobs.call.Call.{Call}
-use Rattle.md_core.specs.declared.jobs.effect.Effect.{Effect}
-use Rattle.md_core.specs.declared.jobs.step.DirReply.{DirReply}
-use Rattle.md_core.specs.Tasks.Task.{Task}
 use Rattle.md_core.specs.Mailbox.{mailbox_of, HasOnePath}
 use Rattle.md_core.specs.Machine.{steps_left, working}
 use Rattle.md_core.specs.Asked.{Asked}

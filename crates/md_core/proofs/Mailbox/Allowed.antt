@@ -6,11 +6,9 @@ use Rattle.std.specs.FinMap as finmap
 use Rattle.lists.proofs.Maps.{beside_put, beside_drop}
 use Rattle.md_name.specs.Names.{unique_of}
 use Rattle.md_name.proofs.Flagged.{unique_of-flagged, colonless-unique_of}
-use Rattle.md_dirs.specs.declared.paths.Place.{Place}
+use Rattle.md_core.proofs.Values.{Place, Answer, Change}
 use Rattle.md_dirs.specs.declared.paths.Place.TheVariants.{Tmp, New, Cur}
-use Rattle.md_core.specs.declared.jobs.answer.Answer.{Answer}
 use Rattle.md_core.specs.declared.jobs.answer.Answer.TheVariants as answer
-use Rattle.md_core.specs.declared.jobs.effect.Change.{Change}
 use Rattle.md_core.specs.declared.jobs.effect.Change.TheVariants.{Add, Rename, Remove, Same}
 use Rattle.md_core.specs.History.{Listed, Names, IsThere, IsAllowed}
 use Rattle.md_core.specs.Joining.{AddsName}

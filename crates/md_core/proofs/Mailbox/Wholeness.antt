@@ -4,10 +4,9 @@ use Rattle.std.specs.FinMap as finmap
 use Rattle.std.proofs.lemmas.Cmp.{nat_list_cmp_total}
 use Rattle.std.proofs.lemmas.Map.Lookups.{exact_bytes}
 use Rattle.lists.proofs.Maps.{by_key, at_put, beside_put, at_drop, beside_drop}
-use Rattle.md_core.specs.declared.jobs.call.Call.{Call}
+use Rattle.md_core.proofs.Values.{Call, Effect}
 use Rattle.md_core.specs.Mailbox.{Entry, Mailbox}
 use Rattle.md_core.specs.Alone.{Outcome, alone}
-use Rattle.md_core.specs.declared.jobs.effect.Effect.{Effect}
 use Rattle.md_core.specs.Stepping.{AsAlone}
 use Rattle.md_core.proofs.Machines.Errand.Table.Alone.{Had, Gives, IsOutcome, keeps, puts, drops, outcome}
 

@@ -1,10 +1,8 @@
 -- The path that the directory call of a task makes has no fault by itself: a delivery and a copy make one of a fresh unique name, a change
 -- of flags one of the message's, and a move keeps the name.
 use Rattle.std.proofs.Common.{ℕ, ◌≡◌, List, true}
-use Rattle.md_dirs.specs.State.{State}
+use Rattle.md_core.proofs.Values.{State, Call, Moment, Task, Deliver, Errand, Clean}
 use Rattle.md_name.specs.Names.{is_unique_name}
-use Rattle.md_core.specs.declared.jobs.call.Call.{Call}
-use Rattle.md_core.specs.declared.jobs.step.Moment.{Moment}
 use Rattle.md_core.specs.Machine.{turn_of}
 use Rattle.md_core.specs.Machines.Clean as cleaned_by
 use Rattle.md_core.specs.Machines.Deliver.{target}
@@ -14,7 +12,6 @@ use Rattle.md_core.specs.Tasks.Cleaning.{Cleaning}
 use Rattle.md_core.specs.Tasks.Cleaning as cleaning
 use Rattle.md_core.specs.Tasks.Delivery.{Delivery, Stage, Start, Writing, Linked, Undo}
 use Rattle.md_core.specs.Tasks.Errand as errand
-use Rattle.md_core.specs.Tasks.Task.{Task, Deliver, Errand, Clean}
 use Rattle.md_core.specs.Accepting.{MakesMessage}
 use Rattle.md_core.proofs.Answers.Files.Asking.{asked_at, writing-by}
 use Rattle.md_core.proofs.Induction.Good.{TaskFits}

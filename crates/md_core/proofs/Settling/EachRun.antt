@@ -1,8 +1,7 @@
 -- The directories of a run load at each moment, and none of their stamps is past the clock; so a run may begin again with them.
 use Rattle.std.proofs.Common.{ℕ, zero, suc, ◌≡◌, ◌≤◌, ◌+◌, List, Some, None, true, sym, subst, length, take, arith}
-use Rattle.md_dirs.specs.State.{State}
+use Rattle.md_core.proofs.Values.{State, Call}
 use Rattle.md_name.specs.Names.{is_unique_name}
-use Rattle.md_core.specs.declared.jobs.call.Call.{Call}
 use Rattle.md_core.specs.Loading.{load_refusal}
 use Rattle.md_core.specs.Machine.{Machine}
 use Rattle.md_core.specs.Mailbox.{HasOnePath}

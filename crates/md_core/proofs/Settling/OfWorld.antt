@@ -4,10 +4,8 @@ use Rattle.std.specs.List.{list_any, position_or_len}
 use Rattle.std.proofs.lemmas.List.{length-map}
 use Rattle.std.specs.FinMap as finmap
 use Rattle.md_dirs.specs.Calls.{Device}
-use Rattle.md_core.specs.declared.error.CoreError.{CoreError}
+use Rattle.md_core.proofs.Values.{CoreError, Effect, Event}
 use Rattle.md_core.specs.declared.error.CoreError.TheVariants as core
-use Rattle.md_core.specs.declared.jobs.effect.Effect.{Effect}
-use Rattle.md_core.specs.declared.jobs.step.Event.{Event}
 use Rattle.md_core.specs.Loading.{load_refusal}
 use Rattle.md_core.specs.Looking.{IsFault}
 use Rattle.md_core.specs.Machine.{Machine, is_working}

@@ -5,11 +5,9 @@ use Rattle.std.specs.Prelude.{count_by}
 use Rattle.std.proofs.lemmas.Bool.Decides.{nat_tests}
 use Rattle.std.proofs.lemmas.List.{take_all, take-append-le}
 use Rattle.std.proofs.lemmas.List.Sums.{sum_by-append}
-use Rattle.md_dirs.specs.State.{State}
+use Rattle.md_core.proofs.Values.{State, Call, Task, Deliver, Errand, Clean}
 use Rattle.md_core.specs.declared.jobs.answer.Answer.{Answer}
-use Rattle.md_core.specs.declared.jobs.call.Call.{Call}
 use Rattle.md_core.specs.Tasks.Delivery.{Stage, Start, Writing, Linked, Undo}
-use Rattle.md_core.specs.Tasks.Task.{Task, Deliver, Errand, Clean}
 use Rattle.md_core.specs.Tasks.Cleaning as cleaning
 use Rattle.md_core.specs.Machines.Deliver as delivered_by
 use Rattle.md_core.specs.Machines.Clean as cleaned_by

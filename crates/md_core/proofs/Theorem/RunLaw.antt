@@ -1,11 +1,8 @@
 -- What holds of every run, by its machine. The interleaving theorem says it of the trace of the run, without a machine.
 use Rattle.std.specs.Prelude.{ℕ, ◌≡◌, ◌≢◌, ◌+◌, ◌≤◌, ◌<◌, ◌∷◌, ◌⊎◌, ◌==◌, List, [], Some, Bool, true, false, length, slice_get, is_some, count_by}
 use Rattle.std.specs.FinMap as finmap
-use Rattle.md_dirs.specs.State.{IsSound, file_at}
+use Rattle.md_core.proofs.Values.{IsSound, file_at, Call, Answer, Effect, Task}
 use Rattle.md_dirs.specs.declared.paths.Path.{Path}
-use Rattle.md_core.specs.declared.jobs.answer.Answer.{Answer}
-use Rattle.md_core.specs.declared.jobs.call.Call.{Call}
-use Rattle.md_core.specs.declared.jobs.effect.Effect.{Effect}
 use Rattle.md_core.specs.Mailbox.{Entry, mailbox_of, is_tmp, is_message, HasOnePath}
 use Rattle.md_core.specs.History.{names_of, names_after, IsLegal}
 use Rattle.md_core.specs.Bounds.{most_over}
@@ -13,7 +10,6 @@ use Rattle.md_core.specs.Trace.{Step, call_at}
 use Rattle.md_core.specs.Machine.{Standing, working, answered, job_at, steps_left}
 use Rattle.md_core.specs.Runs.{Run, machine_at, dirs_of, done_at, jobs_of, effects_of, box_in, dirs_at_first}
 use Rattle.md_core.specs.Tasks.Delivery.{Stage, Linked}
-use Rattle.md_core.specs.Tasks.Task.{Task}
 use Rattle.md_core.specs.Tasks.Task as task
 use Rattle.md_core.specs.Stepping.{Simulates, effects_by}
 use Rattle.md_core.specs.Interleaving.{is_success, NoneOverwritten, IsDeliveryOf, IsCopyTo}

@@ -3,9 +3,8 @@ use Rattle.std.proofs.Common.{ℕ, ◌≡◌, ◌≤◌, ◌+◌, ◌==◌, ◌�
 use Rattle.std.specs.Prelude.{count_by}
 use Rattle.std.specs.List.{position_or_len}
 use Rattle.std.specs.FinMap as finmap
-use Rattle.md_dirs.specs.State.{State, IsSound}
+use Rattle.md_core.proofs.Values.{State, IsSound, Call}
 use Rattle.md_core.specs.declared.jobs.answer.Answer.{Answer}
-use Rattle.md_core.specs.declared.jobs.call.Call.{Call}
 use Rattle.md_core.specs.declared.jobs.step.DirReply.TheVariants.{Fault}
 use Rattle.md_core.specs.Mailbox.{Entry, Mailbox, mailbox_of, HasOnePath}
 use Rattle.md_core.specs.History.{names_of, names_after, IsLegal}

@@ -2,16 +2,11 @@
 use Rattle.std.proofs.Common.{ℕ, ◌≡◌, ◌≤◌, ◌+◌, ◌==◌, inl, inr, List, Some, Bool, true, sym, ap, subst, ◌∙◌, length, map, filter, drop, arith}
 use Rattle.std.specs.Prelude.{count_by}
 use Rattle.std.proofs.lemmas.Bool.Decides.{nat_tests}
-use Rattle.md_dirs.specs.State.{State}
+use Rattle.md_core.proofs.Values.{State, Path, Tmp, Call, Answer, Effect}
 use Rattle.md_dirs.specs.Path.{path_of as path}
 use Rattle.md_dirs.specs.Rows.{rows_of}
-use Rattle.md_dirs.specs.declared.paths.Path.{Path}
-use Rattle.md_dirs.specs.declared.paths.Place.TheVariants.{Tmp}
-use Rattle.md_core.specs.declared.jobs.answer.Answer.{Answer}
 use Rattle.md_core.specs.declared.jobs.answer.Answer.TheVariants as answer
-use Rattle.md_core.specs.declared.jobs.call.Call.{Call}
 use Rattle.md_core.specs.declared.jobs.call.Call.TheVariants as call
-use Rattle.md_core.specs.declared.jobs.effect.Effect.{Effect}
 use Rattle.md_core.specs.Mailbox.{Mailbox}
 use Rattle.md_core.specs.Alone.{alone}
 use Rattle.md_core.specs.Asked.{unlink}
@@ -155,7 +150,4 @@ module _ (r : Run) (run : IsRun r) (job : ℕ) where
       by answer.NameTaken h = h
       by (answer.Cleaned n) h = cleaned c n answers.k answers.last h
       by answer.Delivered h = delivered c h
-      by (answer.Flags s) h = tt
-      by answer.Moved h = tt
-      by answer.Expunged h = tt
-      by answer.Copied h = tt
+      by other h = tt

@@ -1,12 +1,9 @@
 -- A file at the path in tmp of a delivery is its own: the delivery has begun, and the file's stamp is at least the clock of its first step.
 use Rattle.std.proofs.Common.{ℕ, zero, suc, ◌≡◌, ◌≤◌, ◌+◌, inl, inr, List, Some, None, refl, sym, ap, subst, ◌∙◌, length, arith}
-use Rattle.md_dirs.specs.State.{State, file_at}
+use Rattle.md_core.proofs.Values.{State, file_at, Path, Tmp, Task}
 use Rattle.md_dirs.specs.Path.{path_of as path}
-use Rattle.md_dirs.specs.declared.paths.Path.{Path}
-use Rattle.md_dirs.specs.declared.paths.Place.TheVariants.{Tmp}
 use Rattle.md_core.specs.declared.jobs.call.Call.TheVariants.{Deliver}
 use Rattle.md_core.specs.Tasks.Delivery.{Stage}
-use Rattle.md_core.specs.Tasks.Task.{Task}
 use Rattle.md_core.specs.Machine.{Machine}
 use Rattle.md_core.specs.Runs.{Run, machine_at, first_step}
 use Rattle.md_core.specs.Trace.{call_at}

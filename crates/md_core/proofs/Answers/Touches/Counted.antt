@@ -12,9 +12,8 @@ use Rattle.std.proofs.lemmas.Map.Lookups.{exact_bytes}
 use Rattle.md_name.specs.Names.{unique_of}
 use Rattle.md_dirs.specs.Rows.{is_named}
 use Rattle.lists.proofs.Maps.{beside_put, beside_drop}
-use Rattle.md_core.specs.declared.jobs.effect.Change.{Change}
+use Rattle.md_core.proofs.Values.{Change, Effect}
 use Rattle.md_core.specs.declared.jobs.effect.Change.TheVariants as change
-use Rattle.md_core.specs.declared.jobs.effect.Effect.{Effect}
 use Rattle.md_core.specs.Mailbox.{Mailbox}
 use Rattle.md_core.specs.History.{Names, names_of, names_after_change}
 use Rattle.md_core.specs.Machine.{Machine, Occurrence}

@@ -2,14 +2,11 @@
 -- or its file in tmp is gone, or its time is over.
 use Rattle.std.proofs.Common.{ℕ, ◌≡◌, [], None, Bool, true, false, cond, length, nat_lt, refl, MatchOption}
 use Rattle.md_dirs.specs.Calls as dirs
-use Rattle.md_dirs.specs.State.{State, file_at}
+use Rattle.md_core.proofs.Values.{State, file_at, Call, DirReply, Moment}
 use Rattle.md_core.specs.declared.jobs.answer.Answer.{Answer}
 use Rattle.md_core.specs.declared.jobs.answer.Answer.TheVariants as answer
-use Rattle.md_core.specs.declared.jobs.call.Call.{Call}
 use Rattle.md_core.specs.Machines.Refusals.{refused_by}
 use Rattle.md_core.specs.Tasks.Delivery.{Delivery, Stage, Start, Writing, Linked, Undo}
-use Rattle.md_core.specs.declared.jobs.step.Moment.{Moment}
-use Rattle.md_core.specs.declared.jobs.step.DirReply.{DirReply}
 use Rattle.md_core.specs.declared.jobs.step.DirReply.TheVariants as reply
 use Rattle.md_core.specs.Turn.{After, Turn, rows_for, reply_of}
 use Rattle.md_core.specs.Asked.{ask_of}

@@ -3,23 +3,15 @@ use Rattle.std.proofs.Common.{ℕ, ◌≡◌, ◌-◌, ◌<◌, List, Option, So
 use Rattle.std.proofs.lemmas.Bool.Decides.{nat_tests}
 use Rattle.std.specs.FinMap.{get}
 use Rattle.md_dirs.specs.Calls as dirs
-use Rattle.md_dirs.specs.Path.{path_of}
 use Rattle.md_dirs.specs.Rows.{rows_of, row_named}
-use Rattle.md_dirs.specs.State.{State, file_at}
+use Rattle.md_core.proofs.Values.{State, file_at, path_of, Path, New, Cur, Row, Call, DirReply, Moment, Errand}
 use Rattle.md_dirs.specs.declared.paths.Place.{Place}
-use Rattle.md_dirs.specs.declared.paths.Place.TheVariants.{New, Cur}
-use Rattle.md_dirs.specs.declared.rows.Row.{Row}
-use Rattle.md_dirs.specs.declared.paths.Path.{Path}
-use Rattle.md_core.specs.declared.jobs.call.Call.{Call}
 use Rattle.md_core.specs.Tasks.Errand.{Errand as ErrandOf, Stage, Look, Act}
 use Rattle.md_core.specs.Tasks.Decision.{Decision}
 use Rattle.md_core.specs.Tasks.Decision as decision
 use Rattle.md_core.specs.Tasks.Purpose.{Purpose}
 use Rattle.md_core.specs.Tasks.Refusal as refusal
-use Rattle.md_core.specs.declared.jobs.step.Moment.{Moment}
-use Rattle.md_core.specs.declared.jobs.step.DirReply.{DirReply}
 use Rattle.md_core.specs.declared.jobs.step.DirReply.TheVariants as reply
-use Rattle.md_core.specs.Tasks.Task.{Errand}
 use Rattle.md_core.specs.Mailbox.{mailbox_of, HasOnePath}
 use Rattle.md_core.specs.Alone.{entry_if, is_in_place}
 use Rattle.md_core.specs.Turn.{Turn, After, goes_on, rows_for, reply_of}

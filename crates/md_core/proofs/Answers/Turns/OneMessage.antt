@@ -3,17 +3,11 @@ use Rattle.md_core.specs.Tasks.Errand.{Stage, Look, Act}
 use Rattle.md_core.specs.Machines.Purposes.{searches, place_after}
 use Rattle.std.proofs.Common.{ℕ, ◌≡◌, ◌+◌, ◌≤◌, List, Some, None, Bool, true, MatchOption}
 use Rattle.std.specs.FinMap.{get}
-use Rattle.md_dirs.specs.State.{State, file_at}
+use Rattle.md_core.proofs.Values.{State, file_at, Path, New, Cur, Call, Answer, DirReply, Task, Deliver, Errand, Clean}
 use Rattle.md_dirs.specs.Path.{path_of}
-use Rattle.md_dirs.specs.declared.paths.Path.{Path}
-use Rattle.md_dirs.specs.declared.paths.Place.TheVariants.{New, Cur}
 use Rattle.md_name.specs.Names.{unique_of}
-use Rattle.md_core.specs.declared.jobs.answer.Answer.{Answer}
 use Rattle.md_core.specs.declared.jobs.answer.Answer.TheVariants as answer
-use Rattle.md_core.specs.declared.jobs.call.Call.{Call}
-use Rattle.md_core.specs.declared.jobs.step.DirReply.{DirReply}
 use Rattle.md_core.specs.declared.jobs.step.DirReply.TheVariants as reply
-use Rattle.md_core.specs.Tasks.Task.{Task, Deliver, Errand, Clean}
 use Rattle.md_core.specs.Mailbox.{mailbox_of, is_message}
 use Rattle.md_core.specs.Alone.{alone, entry_if, is_in_place}
 use Rattle.md_core.specs.Turn.{After}

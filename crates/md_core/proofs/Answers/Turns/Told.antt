@@ -1,11 +1,8 @@
 -- What the answer of a turn tells, whatever its task.
 use Rattle.std.proofs.Common.{◌≡◌, Option, Some, None, subst, MatchOption}
-use Rattle.md_dirs.specs.State.{State}
+use Rattle.md_core.proofs.Values.{State, Call, DirReply, Task, Deliver, Errand, Clean}
 use Rattle.md_core.specs.declared.jobs.answer.Answer.{Answer}
 use Rattle.md_core.specs.declared.jobs.answer.Answer.TheVariants as answer
-use Rattle.md_core.specs.declared.jobs.call.Call.{Call}
-use Rattle.md_core.specs.declared.jobs.step.DirReply.{DirReply}
-use Rattle.md_core.specs.Tasks.Task.{Task, Deliver, Errand, Clean}
 use Rattle.md_core.specs.Turn.{After}
 use Rattle.md_core.proofs.Answers.Turns.OneMessage.{Tells}
 use Rattle.md_core.proofs.Answers.Turns.OfDeliver.{DeliveryTells}

@@ -1,9 +1,8 @@
 -- A message moved to another path of its unique name, whatever call did it.
 use Rattle.std.proofs.Common.{ℕ, ◌≡◌, ◌≢◌, ◌<◌, inl, inr, List, Option, Some, None, true, false, cond, refl, sym, ap, subst, ◌∙◌}
 use Rattle.std.specs.FinMap as finmap
-use Rattle.md_dirs.specs.State.{State, file_at, IsSound}
+use Rattle.md_core.proofs.Values.{State, file_at, IsSound, Path}
 use Rattle.md_dirs.specs.Calls.{after_rename, with_path, without_path, with_files_still_named, is_one_file}
-use Rattle.md_dirs.specs.declared.paths.Path.{Path}
 use Rattle.md_dirs.proofs.PathOrder.{path_total, path_exact}
 use Rattle.lists.proofs.Maps as maps
 use Rattle.md_dirs.proofs.Sound.{by_path, sound-moved}

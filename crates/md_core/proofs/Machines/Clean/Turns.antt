@@ -4,17 +4,11 @@ use Rattle.std.proofs.lemmas.List.Filters.{length-filter_both}
 use Rattle.md_dirs.specs.Calls as dirs
 use Rattle.md_dirs.specs.Calls.{after_unlink}
 use Rattle.md_dirs.specs.Rows.{rows_of}
-use Rattle.md_dirs.specs.State.{State, IsSound}
+use Rattle.md_core.proofs.Values.{State, IsSound, Row, Call, Answer, DirReply, Moment, Clean}
 use Rattle.md_dirs.specs.declared.paths.Place.TheVariants.{Tmp}
-use Rattle.md_dirs.specs.declared.rows.Row.{Row}
-use Rattle.md_core.specs.declared.jobs.answer.Answer.{Answer}
 use Rattle.md_core.specs.declared.jobs.answer.Answer.TheVariants as answer
-use Rattle.md_core.specs.declared.jobs.call.Call.{Call}
 use Rattle.md_core.specs.Tasks.Cleaning.{Cleaning, Stage, Look, Remove}
-use Rattle.md_core.specs.declared.jobs.step.DirReply.{DirReply}
 use Rattle.md_core.specs.declared.jobs.step.DirReply.TheVariants as reply
-use Rattle.md_core.specs.declared.jobs.step.Moment.{Moment}
-use Rattle.md_core.specs.Tasks.Task.{Clean}
 use Rattle.md_core.specs.Mailbox.{HasOnePath}
 use Rattle.md_core.specs.Interleaving.{is_effect_at, is_success}
 use Rattle.md_core.specs.Machine.{as_task}

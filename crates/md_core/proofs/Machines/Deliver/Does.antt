@@ -1,16 +1,11 @@
 -- What a turn of a delivery does, by what its call does: it goes on, ends, or takes effect.
 use Rattle.std.proofs.Common.{ℕ, ◌≡◌, ◌<◌, List, Option, Some, None, true, false, cond, length, refl, sym, ap, subst, ◌∙◌, MatchOption}
 use Rattle.std.specs.FinMap as finmap
-use Rattle.md_dirs.specs.State.{State}
+use Rattle.md_core.proofs.Values.{State, Call, Answer, Effect, DirReply, Deliver}
 use Rattle.md_dirs.specs.declared.paths.Place.TheVariants.{New}
-use Rattle.md_core.specs.declared.jobs.answer.Answer.{Answer}
 use Rattle.md_core.specs.declared.jobs.answer.Answer.TheVariants as answer
-use Rattle.md_core.specs.declared.jobs.call.Call.{Call}
 use Rattle.md_core.specs.declared.jobs.call.Call.TheVariants as call
 use Rattle.md_core.specs.Tasks.Delivery.{Delivery, Stage, Linked}
-use Rattle.md_core.specs.declared.jobs.effect.Effect.{Effect}
-use Rattle.md_core.specs.declared.jobs.step.DirReply.{DirReply}
-use Rattle.md_core.specs.Tasks.Task.{Deliver}
 use Rattle.md_core.specs.Mailbox.{Entry, mailbox_of, HasOnePath}
 use Rattle.md_core.specs.Alone.{alone, deliver_alone}
 use Rattle.md_core.specs.History.{names_of, names_after_change}

@@ -3,19 +3,14 @@ use Rattle.std.proofs.Common.{ℕ, ◌≡◌, ◌<◌, ◌≤◌, ◌+◌, ◌-�
 use Rattle.std.proofs.lemmas.Bool.Decides.{nat_tests}
 use Rattle.std.proofs.lemmas.List.{take_all}
 use Rattle.md_dirs.specs.Calls as dirs
-use Rattle.md_dirs.specs.State.{State, IsSound, file_at}
+use Rattle.md_core.proofs.Values.{State, IsSound, file_at, Call, Answer, DirReply, Moment, Task, Deliver}
 use Rattle.md_dirs.specs.declared.calls.DirError.TheVariants.{NotFound}
-use Rattle.md_core.specs.declared.jobs.answer.Answer.{Answer}
 use Rattle.md_core.specs.declared.jobs.answer.Answer.TheVariants as answer
 use Rattle.md_core.specs.Machines.Refusals.{refused_by}
 use Rattle.md_core.specs.Tasks.Refusal.{Refusal}
 use Rattle.md_core.specs.Tasks.Refusal as refusal
 use Rattle.md_core.specs.Tasks.Delivery.{Delivery, Stage, Start, Writing, Linked, Undo}
-use Rattle.md_core.specs.declared.jobs.call.Call.{Call}
-use Rattle.md_core.specs.declared.jobs.step.Moment.{Moment}
-use Rattle.md_core.specs.declared.jobs.step.DirReply.{DirReply}
 use Rattle.md_core.specs.declared.jobs.step.DirReply.TheVariants as reply
-use Rattle.md_core.specs.Tasks.Task.{Task, Deliver}
 use Rattle.md_core.specs.Mailbox.{HasOnePath}
 use Rattle.md_core.specs.Turn.{Turn, After, rows_for, reply_of}
 use Rattle.md_core.specs.Asked.{ask_of, state_by, Asked, append, link}

@@ -4,23 +4,14 @@ use Rattle.std.proofs.lemmas.Bool.{and_from}
 use Rattle.std.specs.FinMap as finmap
 use Rattle.std.specs.FinMap.{get}
 use Rattle.std.specs.FinSet as set
-use Rattle.md_dirs.specs.Path.{path_of}
-use Rattle.md_dirs.specs.State.{State, IsSound, file_at}
+use Rattle.md_core.proofs.Values.{State, IsSound, file_at, path_of, Path, Place, Cur, Row, Set, Call, Answer, Effect, Errand}
 use Rattle.md_dirs.specs.Calls.{after_unlink}
-use Rattle.md_dirs.specs.declared.paths.Path.{Path}
-use Rattle.md_dirs.specs.declared.paths.Place.{Place}
-use Rattle.md_dirs.specs.declared.paths.Place.TheVariants.{Cur}
-use Rattle.md_dirs.specs.declared.rows.Row.{Row}
-use Rattle.md_name.specs.Letters.{Set}
 use Rattle.md_name.specs.Names.{unique_of}
 use Rattle.md_core.specs.declared.jobs.answer.Answer.TheVariants as answer
-use Rattle.md_core.specs.declared.jobs.call.Call.{Call}
 use Rattle.md_core.specs.declared.jobs.call.Call.TheVariants as call
-use Rattle.md_core.specs.declared.jobs.effect.Effect.{Effect}
 use Rattle.md_core.specs.Tasks.Errand.{Errand as ErrandOf, Act}
 use Rattle.md_core.specs.Tasks.Deed as deed
 use Rattle.md_core.specs.declared.jobs.step.DirReply.TheVariants as reply
-use Rattle.md_core.specs.Tasks.Task.{Errand}
 use Rattle.md_core.specs.Mailbox.{mailbox_of, entry_of, is_message, HasOnePath, Mailbox, Entry}
 use Rattle.md_core.specs.Alone.{alone, expunge_alone, expunge_by, refuse, flags_in}
 use Rattle.md_core.specs.History.{names_of, IsAllowed, IsThere}
@@ -28,7 +19,6 @@ use Rattle.md_core.specs.Asked.{unlink}
 use Rattle.md_core.specs.Machines.Purposes.{searches}
 use Rattle.md_core.specs.Machines.Errand.{done_by}
 use Rattle.md_core.specs.Interleaving.{is_effect_at, is_success}
-use Rattle.md_core.specs.declared.jobs.answer.Answer.{Answer}
 use Rattle.md_core.specs.Tasks.Purpose.{Purpose}
 use Rattle.md_core.specs.Accepting.{MakesMessage}
 use Rattle.md_core.proofs.Induction.Good.{HasNoMessage, ErrandFits, Does}

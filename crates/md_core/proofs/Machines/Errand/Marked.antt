@@ -4,23 +4,16 @@ use Rattle.std.specs.Option.{option_map, option_map_or}
 use Rattle.std.specs.FinMap as finmap
 use Rattle.std.specs.FinSet as set
 use Rattle.std.proofs.lemmas.Bool.{and_from, eq-eqb}
-use Rattle.md_dirs.specs.State.{State, IsSound, file_at}
+use Rattle.md_core.proofs.Values.{State, IsSound, file_at, Path, Place, New, Cur, Set, Call, Effect, Errand}
 use Rattle.md_dirs.specs.Calls.{after_rename}
 use Rattle.md_dirs.specs.Path.{place_index, path_of}
-use Rattle.md_dirs.specs.declared.paths.Path.{Path}
-use Rattle.md_dirs.specs.declared.paths.Place.{Place}
-use Rattle.md_dirs.specs.declared.paths.Place.TheVariants.{New, Cur}
-use Rattle.md_name.specs.Letters.{Set}
 use Rattle.md_name.specs.Names.{unique_of, info_text, info_of, flags_of, flagged, is_message_name}
 use Rattle.md_name.proofs.Flagged.{IsUniquePart, unique_of-flagged}
 use Rattle.md_core.specs.declared.jobs.answer.Answer.TheVariants as answer
-use Rattle.md_core.specs.declared.jobs.call.Call.{Call}
 use Rattle.md_core.specs.declared.jobs.call.Call.TheVariants as call
-use Rattle.md_core.specs.declared.jobs.effect.Effect.{Effect}
 use Rattle.md_core.specs.Tasks.Errand.{Errand as ErrandOf}
 use Rattle.md_core.specs.Tasks.Deed as deed
 use Rattle.md_core.specs.declared.jobs.step.DirReply.TheVariants as reply
-use Rattle.md_core.specs.Tasks.Task.{Errand}
 use Rattle.md_core.specs.Mailbox.{Entry, Mailbox, mailbox_of, entry_of, is_message, is_tmp, HasOnePath}
 use Rattle.md_core.specs.Alone.{Outcome, alone, seen_alone, seen_by, flag_alone, flag_by, entry_if, is_in_place, flags_in, is_same_set, info_with, refuse}
 use Rattle.md_core.specs.History.{Listed, as_listed, names_of, name_of, names_after_change, size_in, IsThere, MayGetFlags}

@@ -2,26 +2,17 @@
 use Rattle.std.proofs.Common.{ℕ, ◌≡◌, ◌<◌, ◌-◌, inl, inr, List, Option, Some, None, Bool, true, false, cond, length, nat_le, refl, sym, ap, ◌∙◌, arith}
 use Rattle.std.proofs.lemmas.Bool.Decides.{nat_tests}
 use Rattle.std.specs.FinMap.{get}
-use Rattle.md_dirs.specs.Path.{path_of}
 use Rattle.md_dirs.specs.Rows.{rows_of, row_by, row_named}
-use Rattle.md_dirs.specs.State.{State, IsSound, file_by, file_at}
+use Rattle.md_core.proofs.Values.{State, IsSound, file_by, file_at, path_of, Path, Place, Row, Info, Call, DirReply, Moment, Errand}
 use Rattle.md_dirs.specs.declared.calls.DirError.TheVariants.{NotFound}
 use Rattle.md_dirs.specs.declared.paths.File.{File}
-use Rattle.md_dirs.specs.declared.paths.Place.{Place}
-use Rattle.md_dirs.specs.declared.rows.Row.{Row}
-use Rattle.md_dirs.specs.declared.paths.Path.{Path}
-use Rattle.md_name.specs.declared.info.Info.{Info}
-use Rattle.md_core.specs.declared.jobs.call.Call.{Call}
 use Rattle.md_core.specs.Tasks.Errand.{Errand as ErrandOf, Stage, Look, Act}
 use Rattle.md_core.specs.Tasks.Decision.{Decision}
 use Rattle.md_core.specs.Tasks.Decision as decision
 use Rattle.md_core.specs.Tasks.Purpose.{Purpose}
 use Rattle.md_core.specs.Tasks.Refusal.{Refusal}
 use Rattle.md_core.specs.Tasks.Refusal as refusal
-use Rattle.md_core.specs.declared.jobs.step.Moment.{Moment}
-use Rattle.md_core.specs.declared.jobs.step.DirReply.{DirReply}
 use Rattle.md_core.specs.declared.jobs.step.DirReply.TheVariants as reply
-use Rattle.md_core.specs.Tasks.Task.{Errand}
 use Rattle.md_core.specs.Mailbox.{mailbox_of, entry_of, bytes_of, HasOnePath}
 use Rattle.md_core.specs.Interleaving.{is_effect_at}
 use Rattle.md_core.specs.Turn.{After, goes_on, reply_of}

@@ -6,11 +6,10 @@ use Rattle.std.specs.Str.{bytes_eq}
 use Rattle.std.specs.FinMap.{entries}
 use Rattle.std.proofs.lemmas.Bool.Decides.{nat_tests}
 use Rattle.std.proofs.lemmas.Slice.Eq.{bytes_eq-Decides}
-use Rattle.md_dirs.specs.State.{State, file_at, file_by}
+use Rattle.md_core.proofs.Values.{State, file_at, file_by, CoreError}
 use Rattle.md_dirs.specs.declared.paths.Path.{Path}
 use Rattle.md_dirs.proofs.PathOrder.{path_total, path_exact}
 use Rattle.md_name.specs.Names.{is_colon, begins_with_dot, unique_of, is_message_name, is_maildir_unique, is_unique_name}
-use Rattle.md_core.specs.declared.error.CoreError.{CoreError}
 use Rattle.md_core.specs.declared.error.CoreError.TheVariants as core
 use Rattle.md_core.specs.Mailbox.{is_message, is_tmp, HasOnePath}
 use Rattle.md_core.specs.Loading.{is_bad_name, is_long_unique, is_same_message, fault_of, first_fault, load_refusal}

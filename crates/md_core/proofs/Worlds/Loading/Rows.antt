@@ -5,16 +5,11 @@ use Rattle.std.specs.FinMap.{entries}
 use Rattle.std.proofs.Common.{append_assoc}
 use Rattle.std.proofs.lemmas.List.{take-append-drop}
 use Rattle.md_dirs.specs.Path.{path_of, place_index}
-use Rattle.md_dirs.specs.State.{State, file_by}
+use Rattle.md_core.proofs.Values.{State, file_by, Path, Place, Tmp, New, Cur, Row, CoreError}
 use Rattle.md_dirs.specs.Rows.{is_in, row_by, row_of, rows_of}
-use Rattle.md_dirs.specs.declared.paths.Path.{Path}
-use Rattle.md_dirs.specs.declared.paths.Place.{Place}
-use Rattle.md_dirs.specs.declared.paths.Place.TheVariants.{Tmp, New, Cur}
 use Rattle.md_dirs.specs.declared.paths.File.{File}
-use Rattle.md_dirs.specs.declared.rows.Row.{Row}
 use Rattle.md_dirs.proofs.Rowed.{get-map}
 use Rattle.std.proofs.lemmas.Bool.Decides.{nat_tests}
-use Rattle.md_core.specs.declared.error.CoreError.{CoreError}
 use Rattle.md_core.specs.declared.world.looking.Seen.{Seen}
 use Rattle.md_core.specs.Loading.{first_fault, load_refusal}
 use Rattle.md_core.specs.Looking.{IsLookOf, fault_after, is_message_of, is_tmp_of, is_before, entries_before}

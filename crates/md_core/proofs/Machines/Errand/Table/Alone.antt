@@ -3,11 +3,9 @@
 use Rattle.std.proofs.Common.{ℕ, ◌≡◌, ◌⊎◌, inl, inr, List, Option, Some, None, Bool, true, false, cond, refl}
 use Rattle.std.specs.FinMap as finmap
 use Rattle.std.specs.FinSet as set
-use Rattle.md_name.specs.Letters.{Set}
-use Rattle.md_dirs.specs.declared.paths.Place.TheVariants.{New, Cur}
+use Rattle.md_core.proofs.Values.{New, Cur, Set, Call}
 use Rattle.md_core.specs.declared.jobs.answer.Answer.{Answer}
 use Rattle.md_core.specs.declared.jobs.answer.Answer.TheVariants as answer
-use Rattle.md_core.specs.declared.jobs.call.Call.{Call}
 use Rattle.md_core.specs.declared.jobs.call.Call.TheVariants.{Deliver, Seen, Flag, Move, Expunge, Copy, Clean}
 use Rattle.md_core.specs.Mailbox.{Entry, Mailbox}
 use Rattle.md_core.specs.Alone.{Outcome, alone, entry_if, is_in_place, is_in_folder, is_same_set, info_with, flags_in, deliver_alone, seen_alone, seen_by, flag_alone, flag_by, move_alone, expunge_alone, expunge_by, copy_alone, copy_by, refuse}

@@ -1,7 +1,7 @@
 -- The kinds of calls: a delivery, the call of an errand of some purpose, and a clean.
 use Rattle.std.proofs.Common.{ℕ, ◌≡◌, ◌≢◌, List, [], true, refl, sym, ap, subst}
 use Rattle.md_name.specs.Names.{is_unique_name}
-use Rattle.md_core.specs.declared.jobs.call.Call.{Call}
+use Rattle.md_core.proofs.Values.{Call, Deliver, Errand, Clean, Task}
 use Rattle.md_core.specs.declared.jobs.call.Call.TheVariants as call
 use Rattle.md_core.specs.Machine.{Standing, working, answered, new_job}
 use Rattle.md_core.specs.Machines.Clean.{new_cleaning}
@@ -10,7 +10,6 @@ use Rattle.md_core.specs.Machines.Errand.{new_errand}
 use Rattle.md_core.specs.Tasks.Errand as errand
 use Rattle.md_core.specs.Tasks.Errand.{Stage}
 use Rattle.md_core.specs.Tasks.Purpose.{Purpose, Seen, Flag, Move, Copy, Expunge}
-use Rattle.md_core.specs.Tasks.Task.{Deliver, Errand, Clean, Task}
 use Rattle.md_core.specs.Tasks.Cleaning.{Cleaning, Look}
 
 -- the call of an errand

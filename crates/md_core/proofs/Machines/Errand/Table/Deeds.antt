@@ -1,18 +1,13 @@
 -- What each row of the table acts on: paths in new and cur, in folders that are there; and what a link makes is not there.
 use Rattle.std.proofs.Common.{ℕ, ◌≡◌, List, false, refl, ◌<◌, None}
-use Rattle.md_dirs.specs.declared.paths.Path.{Path}
-use Rattle.md_dirs.specs.declared.paths.Place.{Place}
-use Rattle.md_dirs.specs.State.{State, file_at}
+use Rattle.md_core.proofs.Values.{State, file_at, Path, Place, Row, Info, Call}
 use Rattle.md_dirs.specs.Path.{path_of}
-use Rattle.md_dirs.specs.declared.rows.Row.{Row}
-use Rattle.md_name.specs.declared.info.Info.{Info}
 use Rattle.md_core.specs.Tasks.Errand.{Act}
 use Rattle.md_core.specs.Tasks.Purpose.{Purpose, Move, Copy, Seen, Flag}
 use Rattle.md_core.specs.Asked.{Asked, link, rename, unlink, list}
 use Rattle.md_core.specs.Mailbox.{is_tmp}
 use Rattle.md_core.specs.Machines.Purposes.{deed_by, info_in}
 use Rattle.md_core.specs.Machines.Errand.{asked_of}
-use Rattle.md_core.specs.declared.jobs.call.Call.{Call}
 use Rattle.md_core.specs.Tasks.Deed.{Deed}
 use Rattle.md_core.specs.Tasks.Deed as deed
 use Rattle.md_core.proofs.Induction.Good.{ErrandFits}

@@ -2,10 +2,9 @@
 -- one of a fresh name.
 use Rattle.std.proofs.Common.{ℕ, ◌≡◌, List, true, refl}
 use Rattle.md_dirs.specs.Path.{path_of as path}
-use Rattle.md_dirs.specs.State.{State}
+use Rattle.md_core.proofs.Values.{State, Info}
 use Rattle.md_dirs.specs.declared.paths.Place.{Place}
 use Rattle.md_name.specs.Names.{is_unique_name}
-use Rattle.md_name.specs.declared.info.Info.{Info}
 use Rattle.md_name.specs.declared.info.Info.TheVariants.{Two}
 use Rattle.md_core.specs.Machines.Errand.{asked_of}
 use Rattle.md_core.specs.Machines.Purposes.{deed_by, name_copied}

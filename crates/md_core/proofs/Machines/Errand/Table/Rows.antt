@@ -1,20 +1,14 @@
 -- What the table of errands says, row by row: where they look, what they act on, and at which turns their calls take effect.
 use Rattle.std.proofs.Common.{ℕ, ◌≡◌, ◌<◌, ◌-◌, inl, inr, List, Option, Some, None, Bool, true, false, is_some, unwrap_or, refl, sym, ap, ◌∙◌, arith}
 use Rattle.std.specs.FinSet as set
-use Rattle.md_dirs.specs.declared.paths.Place.{Place}
-use Rattle.md_dirs.specs.declared.paths.Place.TheVariants.{Tmp, New, Cur}
-use Rattle.md_dirs.specs.declared.rows.Row.{Row}
-use Rattle.md_dirs.specs.State.{State}
+use Rattle.md_core.proofs.Values.{State, Place, Tmp, New, Cur, Row, Info, Answer, DirReply}
 use Rattle.md_name.specs.Letters.{Set}
-use Rattle.md_name.specs.declared.info.Info.{Info}
-use Rattle.md_core.specs.declared.jobs.answer.Answer.{Answer}
 use Rattle.md_core.specs.declared.jobs.call.Call.TheVariants as call
 use Rattle.md_core.specs.Tasks.Errand.{Stage}
 use Rattle.md_core.specs.Tasks.Errand as stage
 use Rattle.md_core.specs.Tasks.Decision.{Keep, Act}
 use Rattle.md_core.specs.Tasks.Purpose.{Purpose, Seen, Flag, Move, Copy}
 use Rattle.md_core.specs.Tasks.Refusal.{Refusal, NotThere, NotTrashed, OtherInfo}
-use Rattle.md_core.specs.declared.jobs.step.DirReply.{DirReply}
 use Rattle.md_core.specs.declared.jobs.step.DirReply.TheVariants as reply
 use Rattle.md_core.specs.Alone.{is_same_set}
 use Rattle.md_core.specs.Asked.{list}
@@ -158,10 +152,6 @@ IsRefusal r = Unit {0}
 
 -- a deed that is done, and one that isn't
 module _ (folder : ℕ) (u : List ℕ) (tries : ℕ) (place : Place) (name : List ℕ) (info : Info) (a : Option Answer) where
-  pub deed-acts : (p : Purpose) → is_effect_at (call_by folder u p tries) (asked_of (deed_by p folder u place name info)) reply.Ok a ≡ true
-  deed-acts (Seen given) = refl
-  deed-acts other = refl
-
   pub deed-none : (p : Purpose) (r : DirReply) → IsRefusal r →
       is_effect_at (call_by folder u p tries) (asked_of (deed_by p folder u place name info)) r a ≡ false
   deed-none p reply.Ok failed = absurd failed

@@ -3,24 +3,16 @@ use Rattle.std.proofs.Common.{ℕ, ◌≡◌, ◌-◌, List, Option, Some, None,
 use Rattle.std.proofs.lemmas.Bool.{eq-eqb}
 use Rattle.std.specs.FinMap as finmap
 use Rattle.std.specs.FinMap.{get}
-use Rattle.md_dirs.specs.Path.{path_of}
-use Rattle.md_dirs.specs.State.{State}
+use Rattle.md_core.proofs.Values.{State, path_of, New, Cur, Row, Set, Info, Call, DirReply, Errand}
 use Rattle.md_dirs.specs.declared.paths.Place.{Place}
-use Rattle.md_dirs.specs.declared.paths.Place.TheVariants.{New, Cur}
-use Rattle.md_dirs.specs.declared.rows.Row.{Row}
-use Rattle.md_name.specs.Letters.{Set}
 use Rattle.md_name.specs.Names.{flags_of}
-use Rattle.md_name.specs.declared.info.Info.{Info}
 use Rattle.md_core.specs.declared.jobs.answer.Answer.TheVariants as answer
-use Rattle.md_core.specs.declared.jobs.call.Call.{Call}
 use Rattle.md_core.specs.Tasks.Errand.{Errand as ErrandOf, Look, Act}
 use Rattle.md_core.specs.Tasks.Decision as decision
 use Rattle.md_core.specs.Tasks.Purpose.{Purpose, Seen, Flag, Move, Copy, Expunge}
 use Rattle.md_core.specs.Tasks.Refusal.{Refusal}
 use Rattle.md_core.specs.Tasks.Refusal as refusal
-use Rattle.md_core.specs.declared.jobs.step.DirReply.{DirReply}
 use Rattle.md_core.specs.declared.jobs.step.DirReply.TheVariants as reply
-use Rattle.md_core.specs.Tasks.Task.{Errand}
 use Rattle.md_core.specs.Mailbox.{Entry, Mailbox, mailbox_of, entry_of, HasOnePath}
 use Rattle.md_core.specs.Alone.{Outcome, seen_alone, seen_by, flag_alone, flag_by, copy_alone, copy_by, expunge_alone, expunge_by, refuse, entry_if, is_in_place, is_in_folder, flags_in, move_alone}
 use Rattle.md_core.specs.Machines.Purposes.{first, searches, info_in, has_trashed, act_if, decide_flag, decide, answer_by}
