@@ -1,7 +1,6 @@
 pub mod LastStep
 pub mod OfFault
 pub mod Moments
-pub mod Plain
 pub mod AllSay
 pub mod Turns
 pub mod Touches

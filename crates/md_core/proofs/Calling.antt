@@ -1,4 +1,3 @@
 pub mod Going
 pub mod Begun
-pub mod AloneRefused
 pub mod AloneAnswers

@@ -4,4 +4,5 @@ pub mod Naming
 pub mod Renamed
 pub mod Paths
 pub mod WholeName
+pub mod Allowed
 pub mod Wholeness

@@ -1,6 +1,6 @@
 pub mod NoMemory
 pub mod UsedLemmas
-pub mod Accepted
+pub mod UniqueNames
 pub mod Loading
 pub mod Checking
 pub mod Submitted

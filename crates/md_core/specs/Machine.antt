@@ -5,9 +5,13 @@ use Rattle.md_dirs.specs.State.{State}
 use Rattle.md_core.specs.Trace.{Step}
 use Rattle.md_core.specs.Asked.{Asked, ask_of, shown_call, state_by}
 use Rattle.md_core.specs.Turn.{Turn, rows_for, reply_of}
-use Rattle.md_core.specs.Machines.Deliver.{new_delivery, delivery_turn, delivery_left}
-use Rattle.md_core.specs.Machines.Errand.{new_errand, errand_turn, errand_left}
-use Rattle.md_core.specs.Machines.Clean.{new_cleaning, cleaning_turn, cleaning_left}
+use Rattle.md_core.specs.Machines.Deliver.{new_delivery, delivery_turn}
+use Rattle.md_core.specs.Machines.Deliver as delivered_by
+use Rattle.md_core.specs.Machines.Errand.{new_errand, errand_turn}
+use Rattle.md_core.specs.Machines.Errand as run_by
+use Rattle.md_core.specs.Machines.Clean.{new_cleaning, cleaning_turn}
+use Rattle.md_core.specs.Machines.Clean as cleaned_by
+use Rattle.md_core.specs.Machines.Purposes.{searches}
 use Rattle.md_core.specs.declared.jobs.call.Call.{Call}
 use Rattle.md_core.specs.declared.jobs.call.Call.TheVariants as call
 use Rattle.md_core.specs.declared.jobs.answer.Answer.{Answer}
@@ -32,13 +36,6 @@ turn_of job (Deliver d) at = as_task Deliver (delivery_turn job d at)
 turn_of job (Errand e) at = as_task Errand (errand_turn job e)
 turn_of job (Clean c) at = as_task Clean (cleaning_turn c at.own)
 
--- How many turns a task takes at most from here to its answer, if no other job takes one. A clean that has not begun goes by the names
--- of tmp that are there.
-abbrev pub task_left : State → Task → ℕ
-task_left s (Deliver d) = delivery_left d
-task_left s (Errand e) = errand_left e
-task_left s (Clean c) = cleaning_left s c
-
 -- How far a job is: at work, or answered. One that is answered holds nothing but its answer.
 pub data Standing : Type 0 where
   working : (task : Task) → Standing
@@ -59,10 +56,13 @@ new_job (call.Expunge folder unique tries) = working (Errand (new_errand folder 
 new_job (call.Copy folder unique to fresh tries) = working (Errand (new_errand folder unique (purpose.Copy to fresh) tries))
 new_job (call.Clean folder) = working (Clean (new_cleaning folder))
 
--- how many turns a job takes at most from here to its answer
-abbrev pub job_left : State → Standing → ℕ
-job_left s (working task) = task_left s task
-job_left s (answered a) = 0
+-- How many steps a job takes at most from here to its answer, if no other job takes one: by its task, and none where it is not there or has
+-- its answer. A clean that has not begun goes by the names of tmp that are there.
+abbrev pub steps_left : State → Option Standing → ℕ
+steps_left s (Some (working (Deliver d))) = delivered_by.steps_left d d.stage
+steps_left s (Some (working (Errand e))) = run_by.steps_left (searches e.purpose) e.stage
+steps_left s (Some (working (Clean c))) = cleaned_by.steps_left s c.folder c.stage
+steps_left s job = 0
 
 -- the directories, the clock, how far each job is, and the effects so far
 pub record Machine : Type 0 where

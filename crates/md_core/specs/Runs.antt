@@ -15,7 +15,8 @@ use Rattle.md_core.specs.declared.jobs.answer.Answer.{Answer}
 use Rattle.md_core.specs.declared.jobs.call.Call.{Call}
 use Rattle.md_core.specs.declared.jobs.effect.Effect.{Effect}
 use Rattle.md_core.specs.declared.jobs.step.Event.{Event}
-use Rattle.md_core.specs.Machine.{Machine, Standing, working, answered, Occurrence, after_event, step_of, new_job, job_at, job_left}
+use Rattle.md_core.specs.Machine.{Machine, Standing, working, answered, Occurrence, after_event, step_of, new_job, job_at}
+use Rattle.md_core.specs.Machine as machine
 use Rattle.md_core.specs.Trace.{Step}
 
 -- directories, their clock, calls and marked events: a world's whole history
@@ -130,14 +131,9 @@ answer_of None = None
 answer_of (Some (working task)) = None
 answer_of (Some (answered a)) = Some a
 
--- how many steps a job takes at most from here to its answer, if no other job takes one
-abbrev pub left_of : State → Option Standing → ℕ
-left_of s None = 0
-left_of s (Some job) = job_left s job
-
 -- how many steps the job of a number takes at most from here to its answer, if no other job takes one
 abbrev pub steps_left : Run → ℕ → ℕ
-steps_left r job = left_of (dirs_of r) (job_at (jobs_of r) job)
+steps_left r job = machine.steps_left (dirs_of r) (job_at (jobs_of r) job)
 
 -- where a step of a job is refused, out of memory aside: no such job, or it has its answer
 abbrev pub step_refusal : Option Standing → Option CoreError

@@ -1,8 +1,7 @@
 -- Every answer of a run says what happened.
 use Rattle.std.proofs.Common.{ℕ, ◌≡◌, Some}
-use Rattle.md_core.specs.declared.jobs.answer.Answer.{Answer}
 use Rattle.md_core.specs.declared.jobs.answer.Answer.TheVariants as answer
-use Rattle.md_core.specs.declared.jobs.call.Call.{Call}
+use Rattle.md_core.proofs.Values.{Call, Answer}
 use Rattle.md_core.specs.Machine.{answered, job_at}
 use Rattle.md_core.specs.Runs.{Run, jobs_of}
 use Rattle.md_core.specs.Trace.{call_at}
@@ -24,7 +23,4 @@ all-say r run job c answer.Lost of is = says_of_mailbox r run job c answer.Lost 
 all-say r run job c answer.Fault of is = (is-faulted r run job c of is, is-undone r run job c of is)
 all-say r run job c answer.NameTaken of is = says_of_mailbox r run job c answer.NameTaken of is tt
 all-say r run job c answer.Delivered of is = is-delivered r run job c of is
-all-say r run job c (answer.Flags s) of is = tt
-all-say r run job c answer.Moved of is = tt
-all-say r run job c answer.Expunged of is = tt
-all-say r run job c answer.Copied of is = tt
+all-say r run job c other of is = tt

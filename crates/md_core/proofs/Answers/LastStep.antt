@@ -3,11 +3,8 @@ use Rattle.std.proofs.Common.{ℕ, zero, suc, ◌≡◌, ◌≢◌, ◌<◌, ◌
 use Rattle.std.proofs.lemmas.Option.{slice_get_within}
 use Rattle.std.specs.Option.{option_and_then}
 use Rattle.md_dirs.proofs.Sound.{by_number, get-set_same, get-set_other}
-use Rattle.md_core.specs.declared.jobs.answer.Answer.{Answer}
-use Rattle.md_core.specs.declared.jobs.call.Call.{Call}
+use Rattle.md_core.proofs.Values.{Call, Answer, DirReply, Task}
 use Rattle.md_core.specs.declared.jobs.call.Call.TheVariants as call
-use Rattle.md_core.specs.declared.jobs.step.DirReply.{DirReply}
-use Rattle.md_core.specs.Tasks.Task.{Task}
 use Rattle.md_core.specs.Turn.{After, Turn, rows_for}
 use Rattle.md_core.specs.Machine.{Machine, Standing, working, answered, Occurrence, job_at, new_job, moment_of, turn_of, reply_to, standing_of, step_of, step_by}
 use Rattle.md_core.specs.Trace.{Step, call_at}
@@ -97,13 +94,8 @@ new-there calls (suc i) s r is = new_at calls i s is
 
 -- a new job has no answer
 new-works : (c : Call) (a : Answer) → new_job c ≡ answered a → ⊥
-new-works (call.Deliver folder u body chunk) a is = cc
-new-works (call.Seen folder u flags tries) a is = cc
-new-works (call.Flag folder u add remove tries) a is = cc
-new-works (call.Move folder u to tries) a is = cc
-new-works (call.Expunge folder u tries) a is = cc
-new-works (call.Copy folder u to fresh tries) a is = cc
 new-works (call.Clean folder) a is = cc
+new-works c a is = cc
 
 module _ (r : Run) (run : IsRun r) where
   -- each event is the turn of its job

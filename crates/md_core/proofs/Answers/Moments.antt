@@ -4,20 +4,17 @@ use Rattle.std.specs.List.{position_or_len}
 use Rattle.std.specs.Option.{option_and_then}
 use Rattle.std.proofs.lemmas.Bool.Decides.{nat_tests}
 use Rattle.std.proofs.lemmas.Option.{slice_get_within, slice_get_past}
-use Rattle.md_dirs.specs.State.{IsSound}
+use Rattle.md_core.proofs.Values.{IsSound, Call, DirReply, Moment, Task}
 use Rattle.md_dirs.proofs.Sound.{by_number}
-use Rattle.md_core.specs.declared.jobs.call.Call.{Call}
-use Rattle.md_core.specs.declared.jobs.step.DirReply.{DirReply}
-use Rattle.md_core.specs.declared.jobs.step.Moment.{Moment}
-use Rattle.md_core.specs.Tasks.Task.{Task}
 use Rattle.md_core.specs.Asked.{Asked, ask_of, state_by}
 use Rattle.md_core.specs.Turn.{After, rows_for}
 use Rattle.md_core.specs.Machine.{Machine, Standing, working, Occurrence, step_of, job_at, moment_of, turn_of, after_turn}
 use Rattle.md_core.specs.Trace.{Step, call_at}
 use Rattle.md_core.specs.Runs.{Run, machine_at, done_at, first_step}
 use Rattle.md_core.specs.Stepping.{IsRun}
+use Rattle.md_core.specs.Accepting.{MakesMessage}
 use Rattle.md_core.proofs.Answers.OfRun.{IsStep}
-use Rattle.md_core.proofs.Induction.Good.{IsGood, TaskFits, Makes}
+use Rattle.md_core.proofs.Induction.Good.{IsGood, TaskFits}
 use Rattle.md_core.proofs.Machines.EachTurn.{each-turn}
 use Rattle.md_core.proofs.Runs.Events.{happens-turned}
 use Rattle.md_core.proofs.Induction.Going.{AllApart}
@@ -123,7 +120,7 @@ module _ (r : Run) (run : IsRun r) (P : ℕ → Type 0) (start : P 0) (step : (k
 
 -- two jobs whose calls make one name are one
 pub one-maker : (calls : List Call) → AllApart calls → (i j : ℕ) (a b : Call) (u : List ℕ) → call_at calls i ≡ Some a →
-    call_at calls j ≡ Some b → Makes a u → Makes b u → i ≡ j
+    call_at calls j ≡ Some b → MakesMessage a u → MakesMessage b u → i ≡ j
 one-maker calls apart zero j a b u ata atb ma mb = cc
 one-maker calls apart (suc i) zero a b u ata atb ma mb = cc
 one-maker calls apart (suc i) (suc j) a b u ata atb ma mb =

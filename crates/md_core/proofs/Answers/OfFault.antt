@@ -2,28 +2,26 @@
 use Rattle.md_core.specs.Tasks.Errand as errand
 use Rattle.md_core.specs.Tasks.Errand.{Look, Act}
 use Rattle.std.proofs.Common.{ℕ, ◌≡◌, ◌+◌, ◌≤◌, List, Some, None, refl, subst, ◌∙◌, length, arith}
-use Rattle.md_dirs.specs.State.{State}
+use Rattle.md_core.proofs.Values.{State, Call, DirReply, Task, Deliver, Errand, Clean}
 use Rattle.md_core.specs.declared.jobs.answer.Answer.{Answer}
 use Rattle.md_core.specs.declared.jobs.answer.Answer.TheVariants as answer
-use Rattle.md_core.specs.declared.jobs.call.Call.{Call}
 use Rattle.md_core.specs.declared.jobs.call.Call.TheVariants as call
 use Rattle.md_core.specs.Machines.Refusals.{refused_by}
 use Rattle.md_core.specs.Tasks.Delivery.{Stage, Start, Writing, Linked, Undo}
-use Rattle.md_core.specs.declared.jobs.step.DirReply.{DirReply}
 use Rattle.md_core.specs.declared.jobs.step.DirReply.TheVariants as reply
-use Rattle.md_core.specs.Tasks.Task.{Task, Deliver, Errand, Clean}
 use Rattle.md_core.specs.Turn.{After}
-use Rattle.md_core.specs.Machine.{Standing, working, answered, job_at, new_job}
+use Rattle.md_core.specs.Machine.{working, job_at, new_job}
 use Rattle.md_core.specs.Runs.{Run, machine_at}
 use Rattle.md_core.specs.Trace.{call_at}
 use Rattle.md_core.specs.Stepping.{IsRun}
 use Rattle.md_core.proofs.Answers.OfRun.{IsFaulted}
 use Rattle.md_core.proofs.Answers.LastStep.{IsTurn, LastStep, reply_in, left_by, is-step, is_within, holds}
-use Rattle.md_core.proofs.Answers.Turns.OneMessage.{TriesOn, errand_trying, trying_of, idle, sought, Tells}
+use Rattle.md_core.proofs.Answers.Turns.OneMessage.{TriesOn, errand_trying, trying_of, idle, Tells}
 use Rattle.md_core.proofs.Answers.Turns.OfDeliver.{DeliveryTells, Undoes}
 use Rattle.md_core.proofs.Answers.Turns.OfClean.{CleanTells}
 use Rattle.md_core.proofs.Answers.Turns.Told.{at-none, Told, told, IsOfLook}
 use Rattle.md_core.proofs.Answers.Turns.EachSays.{TaskSays, UndoesTask, IsClean, turn-says}
+use Rattle.md_core.proofs.Machines.Errand.Table.Calls.{IfWorking, new-task, sought}
 
 -- a job that acts on one message goes on as one
 module _ (s s' : State) (u : List ℕ) where
@@ -33,37 +31,26 @@ module _ (s s' : State) (u : List ℕ) where
 
 -- a delivery that takes its file away again does so for a fault of its own
 abbrev PendingAt : Run → ℕ → Stage → Type 0
-PendingAt r job Start = Unit {0}
-PendingAt r job (Writing start k) = Unit {0}
-PendingAt r job Linked = Unit {0}
 PendingAt r job (Undo a) = (refused_by a ≡ answer.Fault) × IsFaulted r job
+PendingAt r job other = Unit {0}
 
 abbrev Pending : Run → ℕ → Task → Type 0
 Pending r job (Deliver d) = PendingAt r job d.stage
-Pending r job (Errand e) = Unit {0}
-Pending r job (Clean c) = Unit {0}
+Pending r job other = Unit {0}
 
 -- the same of a job of any call
 abbrev IsPending : Run → ℕ → ℕ → Task → Type 0
 IsPending r k job task = (c : Call) → call_at r.calls job ≡ Some c → Pending r job task
 
--- how a job stands that is pending so, if it works
-abbrev AtWork : Run → ℕ → Standing → Type 0
-AtWork r job (working task) = Pending r job task
-AtWork r job (answered a) = Unit {0}
-
 module _ (r : Run) (job : ℕ) where
   -- a job that has tries takes no file away
   not-idle : (task : Task) → (trying_of task ≡ idle → ⊥) → Pending r job task
   not-idle (Deliver d) tries = absurd (tries refl)
-  not-idle (Errand e) tries = tt
-  not-idle (Clean c) tries = tt
+  not-idle other tries = tt
 
   pending-stage : (stage : Stage) (given : DirReply) → Undoes given stage → (given ≡ reply.Fault → IsFaulted r job) → PendingAt r job stage
-  pending-stage Start given h faulted = tt
-  pending-stage (Writing start k) given h faulted = tt
-  pending-stage Linked given h faulted = tt
   pending-stage (Undo a) given h faulted = (h.0, faulted h.1)
+  pending-stage other given h faulted = tt
 
   pending-delivery : (task : Task) (given : DirReply) → UndoesTask given task → (given ≡ reply.Fault → IsFaulted r job) → Pending r job task
   pending-delivery (Deliver d) given h faulted = pending-stage d.stage given h faulted
@@ -86,16 +73,11 @@ module _ (r : Run) (job : ℕ) where
       clean task is = absurd is
 
   pending-new : (c : Call) (task : Task) → new_job c ≡ working task → Pending r job task
-  pending-new c task is = subst (AtWork r job) is (by c)
+  pending-new c task is = new-task (Pending r job) c task (by c) is
     where
-      by : (c : Call) → AtWork r job (new_job c)
-      by (call.Deliver folder u body chunk) = tt
-      by (call.Seen folder u flags tries) = tt
-      by (call.Flag folder u add remove tries) = tt
-      by (call.Move folder u to tries) = tt
-      by (call.Expunge folder u tries) = tt
-      by (call.Copy folder u to fresh tries) = tt
+      by : (c : Call) → IfWorking (Pending r job) (new_job c)
       by (call.Clean folder) = tt
+      by c = tt
 
 module _ (r : Run) (run : IsRun r) where
   faulted-at : (k job : ℕ) (t : IsTurn r k job) → reply_in (machine_at r k) t.event t.task ≡ reply.Fault → IsFaulted r job
@@ -141,17 +123,15 @@ module _ (r : Run) (run : IsRun r) where
   delivery-looks job given Start answer.NotTrashed look told was = told
   delivery-looks job given Start answer.OtherInfo look told was = told
   delivery-looks job given Start answer.Lost look told was = told
-  delivery-looks job given Start a look told was = absurd look
   delivery-looks job given (Writing start k) answer.NotThere look told was = told
   delivery-looks job given (Writing start k) answer.NotTrashed look told was = told
   delivery-looks job given (Writing start k) answer.OtherInfo look told was = told
   delivery-looks job given (Writing start k) answer.Lost look told was = told
-  delivery-looks job given (Writing start k) a look told was = absurd look
   delivery-looks job given Linked answer.NotThere look told was = told
   delivery-looks job given Linked answer.NotTrashed look told was = told
   delivery-looks job given Linked answer.OtherInfo look told was = told
   delivery-looks job given Linked answer.Lost look told was = told
-  delivery-looks job given Linked a look told was = absurd look
+  delivery-looks job given other a look told was = absurd look
 
   clean-looks : (given : DirReply) (a : Answer) → IsOfLook a → CleanTells given a → ⊥
   clean-looks given answer.NotThere look told = told

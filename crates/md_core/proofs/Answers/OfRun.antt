@@ -3,21 +3,18 @@ use Rattle.std.specs.Prelude.{ℕ, ◌≡◌, ◌+◌, ◌-◌, ◌≤◌, ◌�
 use Rattle.std.specs.List.{All}
 use Rattle.md_dirs.specs.Path.{path_of as path}
 use Rattle.md_dirs.specs.Rows.{rows_of}
-use Rattle.md_dirs.specs.declared.paths.Path.{Path}
+use Rattle.md_core.proofs.Values.{Path, Call, Answer, Effect}
 use Rattle.md_dirs.specs.declared.paths.Place.TheVariants.{Tmp}
-use Rattle.md_core.specs.declared.jobs.answer.Answer.{Answer}
 use Rattle.md_core.specs.declared.jobs.answer.Answer.TheVariants as answer
-use Rattle.md_core.specs.declared.jobs.call.Call.{Call}
 use Rattle.md_core.specs.declared.jobs.call.Call.TheVariants as call
-use Rattle.md_core.specs.declared.jobs.effect.Effect.{Effect}
 use Rattle.md_core.specs.declared.jobs.step.DirReply.TheVariants as reply
 use Rattle.md_core.specs.Alone.{alone}
-use Rattle.md_core.specs.History.{names_after}
 use Rattle.md_core.specs.Asked.{create, unlink, list}
 use Rattle.md_core.specs.Trace.{Step, call_at}
 use Rattle.md_core.specs.Runs.{Run, beginning, machine_at, done_at, box_in, first_step, dirs_at_first}
 use Rattle.md_core.specs.Answering.{is_touch, is_ok, is_unused}
 use Rattle.md_core.specs.Tracing.{deeds_from}
+use Rattle.md_core.proofs.Machines.Errand.Table.Calls.{sought, tries_in}
 
 -- event k is a step of the job, and this is what it did
 pub record IsStep (r : Run) (job k : ℕ) : Type 0 where
@@ -56,12 +53,8 @@ pub record IsTouched (r : Run) (job : ℕ) (u : List ℕ) (times : ℕ) : Type 0
 -- a call is lost whose message was touched once for each of its tries
 abbrev pub IsLost : Run → ℕ → Call → Type 0
 IsLost r job (call.Deliver folder u body chunk) = ⊥
-IsLost r job (call.Seen folder u flags tries) = IsTouched r job u tries
-IsLost r job (call.Flag folder u add remove tries) = IsTouched r job u tries
-IsLost r job (call.Move folder u to tries) = IsTouched r job u tries
-IsLost r job (call.Expunge folder u tries) = IsTouched r job u tries
-IsLost r job (call.Copy folder u to fresh tries) = IsTouched r job u tries
 IsLost r job (call.Clean folder) = ⊥
+IsLost r job c = IsTouched r job (sought c) (tries_in c)
 
 -- the step of a job that gave its answer was to unlink a path
 pub record HasUnlinked (r : Run) (job : ℕ) (p : Path) (a : Answer) : Type 0 where
@@ -158,7 +151,4 @@ Says r job c answer.Fault = IsFaulted r job × IsUndone r job c
 Says r job c answer.NameTaken = ⊥
 Says r job c (answer.Cleaned n) = IsCleaned r job c n
 Says r job c answer.Delivered = IsDelivered r job c
-Says r job c (answer.Flags s) = Unit {0}
-Says r job c answer.Moved = Unit {0}
-Says r job c answer.Expunged = Unit {0}
-Says r job c answer.Copied = Unit {0}
+Says r job c other = Unit {0}

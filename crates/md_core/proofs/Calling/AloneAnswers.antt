@@ -7,13 +7,10 @@ use Rattle.std.proofs.lemmas.Bool.{cases_lt}
 use Rattle.std.proofs.lemmas.List.{take_all, drop_all, append-nil}
 use Rattle.std.proofs.lemmas.List.Elements.{filter_map-append}
 use Rattle.std.proofs.lemmas.Option.{slice_get_within, slice_get-map}
-use Rattle.md_dirs.specs.declared.paths.Path.{Path}
+use Rattle.md_core.proofs.Values.{Path, Call, Effect, Event}
 use Rattle.md_core.specs.declared.jobs.answer.Answer.{Answer}
 use Rattle.md_core.specs.declared.jobs.answer.Answer.TheVariants as answer
-use Rattle.md_core.specs.declared.jobs.call.Call.{Call}
 use Rattle.md_core.specs.declared.jobs.call.Call.TheVariants as call
-use Rattle.md_core.specs.declared.jobs.effect.Effect.{Effect}
-use Rattle.md_core.specs.declared.jobs.step.Event.{Event}
 use Rattle.md_core.specs.Accepting.{IsAccepted}
 use Rattle.md_core.specs.Alone.{alone}
 use Rattle.md_core.specs.Answering.{is_touch, IsOfSpan, IsTouched, IsLost, IsOutOfTime, IsTimedOut, IsTmpGone, Says}
@@ -39,7 +36,9 @@ use Rattle.md_core.proofs.Traces.Kept.{steps-keep, call-keeps}
 use Rattle.md_core.proofs.Traces.Plain.{is-trace}
 use Rattle.md_core.proofs.Traces.Headline.{acts as acts_of, quiet, theorem}
 use Rattle.md_core.proofs.Traces.Telling.{says}
-use Rattle.md_core.proofs.Calling.AloneRefused.{alone-refused}
+use Rattle.md_core.proofs.Machines.Errand.Table.Calls.{sought, tries_in}
+use Rattle.md_core.proofs.Machines.Errand.Table.Checks.{tried}
+use Rattle.md_core.proofs.Machines.Errand.Table.Alone.{alone-refused}
 
 module _ (r r' : Run) (run : IsRun r) (asked : Call) (accepted : submit_refusal r asked ≡ None) (now : ℕ) (own : Option ℕ)
     (g : StepsAlone asked now own r r') (run' : IsRun r') where
@@ -200,12 +199,7 @@ module _ (r r' : Run) (run : IsRun r) (asked : Call) (accepted : submit_refusal 
 
   never-timed-out : (c : Call) → IsTimedOut t job c → ⊥
   never-timed-out (call.Deliver folder u body chunk) h = in-time _ h
-  never-timed-out (call.Seen folder u flags tries) h = h
-  never-timed-out (call.Flag folder u add remove tries) h = h
-  never-timed-out (call.Move folder u to tries) h = h
-  never-timed-out (call.Expunge folder u tries) h = h
-  never-timed-out (call.Copy folder u to fresh tries) h = h
-  never-timed-out (call.Clean folder) h = h
+  never-timed-out c h = h
 
   -- no clean stepped
   never-gone : (c : Call) → asked ≡ c → IsTmpGone t job c → ⊥
@@ -216,12 +210,7 @@ module _ (r r' : Run) (run : IsRun r) (asked : Call) (accepted : submit_refusal 
       let clean : Some asked ≡ Some (call.Clean h.cleaned.folder) = sym call-of ∙ ap (call_at t.calls) (sym own) ∙ h.cleaned.by in
       let both : Some (call.Deliver folder u body chunk) ≡ Some (call.Clean h.cleaned.folder) = ap Some (sym is) ∙ clean in
       cc
-  never-gone (call.Seen folder u flags tries) is h = h
-  never-gone (call.Flag folder u add remove tries) is h = h
-  never-gone (call.Move folder u to tries) is h = h
-  never-gone (call.Expunge folder u tries) is h = h
-  never-gone (call.Copy folder u to fresh tries) is h = h
-  never-gone (call.Clean folder) is h = h
+  never-gone c is h = h
 
   accepted-call : IsAccepted t.image (take (length r.calls) t.calls) asked
   accepted-call = (is-trace r' run').accepted (length r.calls) asked
@@ -286,12 +275,8 @@ module _ (r r' : Run) (run : IsRun r) (asked : Call) (accepted : submit_refusal 
 
       never-lost : (c : Call) → IsAccepted t.image (take (length r.calls) t.calls) c → IsLost t job c → ⊥
       never-lost (call.Deliver folder u body chunk) accepts lost = lost
-      never-lost (call.Seen folder u flags tries) accepts lost = untouched u tries accepts.2 lost
-      never-lost (call.Flag folder u add remove tries) accepts lost = untouched u tries accepts.2 lost
-      never-lost (call.Move folder u to tries) accepts lost = untouched u tries accepts.2.2 lost
-      never-lost (call.Expunge folder u tries) accepts lost = untouched u tries accepts.2 lost
-      never-lost (call.Copy folder u to fresh tries) accepts lost = untouched u tries accepts.2.2 lost
       never-lost (call.Clean folder) accepts lost = lost
+      never-lost c accepts lost = untouched (sought c) (tries_in c) (tried t.image (take (length r.calls) t.calls) c accepts) lost
 
     module _ (success : is_success a ≡ true) where
       taken : TakesEffect t job asked a
@@ -342,11 +327,6 @@ module _ (r r' : Run) (run : IsRun r) (asked : Call) (accepted : submit_refusal 
 
   -- all answers
   pub as-alone : (a : Answer) → HasAnswer r' job a → AnswersAsAlone asked (mailbox_of (dirs_of r)) (mailbox_of (dirs_of r')) a
-  as-alone answer.Delivered has = done answer.Delivered has refl
-  as-alone (answer.Flags s) has = done (answer.Flags s) has refl
-  as-alone answer.Moved has = done answer.Moved has refl
-  as-alone answer.Expunged has = done answer.Expunged has refl
-  as-alone answer.Copied has = done answer.Copied has refl
   as-alone (answer.Cleaned n) has = undone (answer.Cleaned n) has refl
   as-alone answer.NotThere has = refused answer.NotThere has refl (said answer.NotThere has)
   as-alone answer.NotTrashed has = refused answer.NotTrashed has refl (said answer.NotTrashed has)
@@ -356,3 +336,4 @@ module _ (r r' : Run) (run : IsRun r) (asked : Call) (accepted : submit_refusal 
   as-alone answer.TmpGone has = absurd (never-gone asked refl (said answer.TmpGone has))
   as-alone answer.NameTaken has = absurd (said answer.NameTaken has)
   as-alone answer.Fault has = undone answer.Fault has refl
+  as-alone a has = done a has refl

@@ -1,19 +1,17 @@
 -- A call that acts on the paths of one name leaves what fits the deliveries of others.
 use Rattle.std.proofs.Common.{ℕ, ◌≡◌, ◌≢◌, ◌⊎◌, inl, inr, List, Option, Some, None, true, cond, refl, sym, ap, subst, ◌∙◌, not, ◌&&◌, ◌<◌, take}
-use Rattle.md_dirs.specs.State.{State, file_at}
+use Rattle.md_core.proofs.Values.{State, file_at, Place, Tmp, New, Cur, Call, Task, Deliver, Errand, Clean}
 use Rattle.md_dirs.specs.declared.paths.Path.{Path}
-use Rattle.md_dirs.specs.declared.paths.Place.{Place}
-use Rattle.md_dirs.specs.declared.paths.Place.TheVariants.{Tmp, New, Cur}
 use Rattle.md_name.specs.Names.{unique_of, is_message_name}
 use Rattle.md_core.specs.Mailbox.{is_message, is_tmp}
-use Rattle.md_core.proofs.Induction.Good.{key_of, bytes_at, IsUnused, HasNoMessage, IsAlone, StageFits, DeliveryFits, ErrandFits, folder_to, TaskFits, Makes}
+use Rattle.md_core.proofs.Induction.Good.{bytes_at, IsUnused, HasNoMessage, IsAlone, StageFits, DeliveryFits, ErrandFits, TaskFits}
 use Rattle.md_core.proofs.Mailbox.Changes.{by_name}
-use Rattle.md_core.specs.declared.jobs.call.Call.{Call}
+use Rattle.md_core.proofs.Machines.Errand.Table.Calls.{folder_to}
 use Rattle.md_core.specs.Tasks.Delivery.{Delivery, Stage, Start, Writing, Linked, Undo}
 use Rattle.md_core.specs.Tasks.Errand.{Errand as ErrandOf}
-use Rattle.md_core.specs.Tasks.Task.{Task, Deliver, Errand, Clean}
+use Rattle.md_core.specs.Accepting.{MakesMessage, name_used}
 
-pub message-key : (p : Path) → is_message p ≡ true → key_of p ≡ unique_of p.name
+pub message-key : (p : Path) → is_message p ≡ true → name_used p ≡ unique_of p.name
 message-key p m = by p.place m
   where
     by : (x : Place) → (not (is_tmp x) && is_message_name p.name) ≡ true → cond (is_tmp x) p.name (unique_of p.name) ≡ unique_of p.name
@@ -21,7 +19,7 @@ message-key p m = by p.place m
     by New h = refl
     by Cur h = refl
 
-pub tmp-key : (p : Path) → p.place ≡ Tmp → key_of p ≡ p.name
+pub tmp-key : (p : Path) → p.place ≡ Tmp → name_used p ≡ p.name
 tmp-key p is = ap (λ (x : Place). cond (is_tmp x) p.name (unique_of p.name)) is
 
 pub not_tmp : (q p : Path) → p.place ≡ Tmp → is_message q ≡ true → q ≢ p
@@ -29,18 +27,18 @@ not_tmp q p in_tmp m is =
     let no : is_message (record p { place = Tmp }) ≡ true = ap (λ (x : Place). is_message (record p { place = x })) (sym in_tmp) ∙ ap is_message (sym is) ∙ m in
     cc
 
-pub other_key : (q p : Path) (u : List ℕ) → key_of p ≡ u → key_of q ≢ u → q ≢ p
-other_key q p u is not same = not (ap key_of same ∙ is)
+pub other_key : (q p : Path) (u : List ℕ) → name_used p ≡ u → name_used q ≢ u → q ≢ p
+other_key q p u is not same = not (ap name_used same ∙ is)
 
 -- only paths of the name v change, and only bytes of their files; a file of such a path is new, or was one's before, or a message's
 pub record Frame (s s' : State) (v : List ℕ) : Type 0 where
-  pub names : (q : Path) → key_of q ≢ v → file_at s' q ≡ file_at s q
-  pub bytes : (q : Path) (m : ℕ) → key_of q ≢ v → file_at s q ≡ Some m → bytes_at s' m ≡ bytes_at s m
-  pub origin : (q : Path) (m : ℕ) → key_of q ≡ v → file_at s' q ≡ Some m →
-      ((r : Path) → file_at s r ≢ Some m) ⊎ ((r : Path) × ((key_of r ≡ v) ⊎ (is_message r ≡ true)) × (file_at s r ≡ Some m))
+  pub names : (q : Path) → name_used q ≢ v → file_at s' q ≡ file_at s q
+  pub bytes : (q : Path) (m : ℕ) → name_used q ≢ v → file_at s q ≡ Some m → bytes_at s' m ≡ bytes_at s m
+  pub origin : (q : Path) (m : ℕ) → name_used q ≡ v → file_at s' q ≡ Some m →
+      ((r : Path) → file_at s r ≢ Some m) ⊎ ((r : Path) × ((name_used r ≡ v) ⊎ (is_message r ≡ true)) × (file_at s r ≡ Some m))
 
 module _ (s s' : State) (u v : List ℕ) (differ : u ≢ v) (f : Frame s s' v) where
-  mine : (p : Path) → key_of p ≡ u → key_of p ≢ v
+  mine : (p : Path) → name_used p ≡ u → name_used p ≢ v
   mine p is other = differ (sym is ∙ other)
 
   pub unused-frame : IsUnused s u → IsUnused s' u
@@ -49,16 +47,16 @@ module _ (s s' : State) (u v : List ℕ) (differ : u ≢ v) (f : Frame s s' v) w
   pub no_message-frame : HasNoMessage s u → HasNoMessage s' u
   no_message-frame h p m is = f.names p (mine p (message-key p m ∙ is)) ∙ h p m is
 
-  pub alone-frame : (p : Path) (bytes : List ℕ) → p.place ≡ Tmp → key_of p ≡ u → IsAlone s p bytes → IsAlone s' p bytes
+  pub alone-frame : (p : Path) (bytes : List ℕ) → p.place ≡ Tmp → name_used p ≡ u → IsAlone s p bytes → IsAlone s' p bytes
   alone-frame p bytes in_tmp is h = record {
     holds = λ n there. let before = sym (f.names p (mine p is)) ∙ there in f.bytes p n (mine p is) before ∙ h.holds n before;
     only = λ n q there at.
         let before = sym (f.names p (mine p is)) ∙ there in
-        by_name (key_of q) v
+        by_name (name_used q) v
         (λ same. elim (f.origin q n same at) [
           | inl none ↦ absurd (none p before)
           | inr one ↦ let itself : one.0 ≡ p = h.only n one.0 before one.2 in elim one.1 [
-            | inl key ↦ absurd (mine p is (ap key_of (sym itself) ∙ key))
+            | inl key ↦ absurd (mine p is (ap name_used (sym itself) ∙ key))
             | inr message ↦ absurd (not_tmp one.0 p in_tmp message itself)
           ]
         ])
@@ -114,7 +112,7 @@ module _ (s s' : State) (d : Delivery) (v : List ℕ) (f : Frame s s' v) (some :
 
 -- an errand, where a name that it makes has no message still
 pub errand-refit : (s s' : State) (e : ErrandOf) (asked : Call) → s'.folders ≡ s.folders →
-    ((u : List ℕ) → Makes asked u → HasNoMessage s u → HasNoMessage s' u) → ErrandFits s asked e → ErrandFits s' asked e
+    ((u : List ℕ) → MakesMessage asked u → HasNoMessage s u → HasNoMessage s' u) → ErrandFits s asked e → ErrandFits s' asked e
 errand-refit s s' e asked folders none h = record {
   tries = h.tries;
   of = h.of;
@@ -127,16 +125,16 @@ errand-refit s s' e asked folders none h = record {
 }
 
 -- the name of a delivery is one that its call makes
-pub makes-delivery : (s : State) (asked : Call) (d : Delivery) → DeliveryFits s asked d → Makes asked d.tmp.name
-makes-delivery s asked d fits = subst (λ (c : Call). Makes c d.tmp.name) (sym fits.of) refl
+pub makes-delivery : (s : State) (asked : Call) (d : Delivery) → DeliveryFits s asked d → MakesMessage asked d.tmp.name
+makes-delivery s asked d fits = subst (λ (c : Call). MakesMessage c d.tmp.name) (sym fits.of) refl
 
 -- a task of a call that doesn't make the name
-pub task-frame : (s s' : State) (v : List ℕ) → Frame s s' v → s'.folders ≡ s.folders → (asked : Call) (task : Task) → (Makes asked v → ⊥) →
+pub task-frame : (s s' : State) (v : List ℕ) → Frame s s' v → s'.folders ≡ s.folders → (asked : Call) (task : Task) → (MakesMessage asked v → ⊥) →
     TaskFits s asked task → TaskFits s' asked task
 task-frame s s' v f folders asked (Deliver d) apart h =
-    delivery-frame s s' d v (λ is. apart (subst (Makes asked) is (makes-delivery s asked d h))) f asked folders h
+    delivery-frame s s' d v (λ is. apart (subst (MakesMessage asked) is (makes-delivery s asked d h))) f asked folders h
 task-frame s s' v f folders asked (Errand e) apart h =
-    errand-refit s s' e asked folders (λ u makes. no_message-frame s s' u v (λ is. apart (subst (Makes asked) is makes)) f) h
+    errand-refit s s' e asked folders (λ u makes. no_message-frame s s' u v (λ is. apart (subst (MakesMessage asked) is makes)) f) h
 task-frame s s' v f folders asked (Clean c) apart h = h
 
 -- a task of any call, where a message has the name

@@ -1,9 +1,7 @@
 -- A call that changes no message: all that it does to directories, by the name whose paths it acts on.
 use Rattle.std.proofs.Common.{ℕ, ◌≡◌, ◌<◌, inl, inr, List, Some, refl}
-use Rattle.md_dirs.specs.State.{State, IsSound, file_at}
+use Rattle.md_core.proofs.Values.{State, IsSound, file_at, Path, Tmp}
 use Rattle.md_dirs.specs.Calls.{after_create, after_append, after_unlink}
-use Rattle.md_dirs.specs.declared.paths.Path.{Path}
-use Rattle.md_dirs.specs.declared.paths.Place.TheVariants.{Tmp}
 use Rattle.md_core.proofs.Induction.Good.{IsUnused, IsAlone}
 use Rattle.md_core.proofs.Mailbox.Changes.{Keeps}
 use Rattle.md_core.proofs.Directories.Frames.{Frame}

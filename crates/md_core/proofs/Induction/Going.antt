@@ -3,8 +3,7 @@ use Rattle.std.proofs.Common.{ℕ, suc, ◌≡◌, ◌≢◌, ◌-◌, ◌++◌,
 use Rattle.std.specs.Option.{option_to_list}
 use Rattle.std.proofs.lemmas.Option.{slice_get_within}
 use Rattle.md_dirs.proofs.Sound.{by_number, get-set_same, get-set_other}
-use Rattle.md_core.specs.declared.jobs.answer.Answer.{Answer}
-use Rattle.md_core.specs.declared.jobs.call.Call.{Call}
+use Rattle.md_core.proofs.Values.{Call, Answer}
 use Rattle.md_core.specs.Tasks.Task.{Task}
 use Rattle.md_core.specs.Turn.{rows_for}
 use Rattle.md_core.specs.Machine.{Machine, Standing, working, Occurrence, job_at, standing_of, after_event, step_by, reply_to}

@@ -1,27 +1,17 @@
 -- What holds of a machine at each moment, and what one turn does. No contract speaks of these: they are the induction.
-use Rattle.std.proofs.Common.{ℕ, suc, ◌⊎◌, ◌≡◌, ◌≢◌, ◌<◌, ◌≤◌, List, Option, Some, None, Bool, true, false, if◌then◌else◌, take, length, slice_get, is_some, MatchBool, IfSome, MatchOption}
+use Rattle.std.proofs.Common.{ℕ, suc, ◌⊎◌, ◌≡◌, ◌<◌, ◌≤◌, List, Option, Some, None, Bool, true, false, if◌then◌else◌, take, length, slice_get, is_some, MatchBool, IfSome, MatchOption}
 use Rattle.std.specs.Option.{option_or}
-use Rattle.md_dirs.specs.State.{State, file_at, file_by, IsSound}
+use Rattle.md_core.proofs.Values.{State, file_at, file_by, IsSound, Place, Tmp, Cur, Row, Call, Answer, Effect, DirReply, Moment, Task, Deliver, Errand, Clean}
 use Rattle.md_dirs.specs.declared.paths.Path.{Path}
-use Rattle.md_dirs.specs.declared.paths.Place.{Place}
-use Rattle.md_dirs.specs.declared.paths.Place.TheVariants.{Tmp, Cur}
-use Rattle.md_dirs.specs.declared.rows.Row.{Row}
 use Rattle.md_name.specs.Names.{unique_of, info_text, is_message_name, is_unique_name}
-use Rattle.md_core.specs.declared.jobs.answer.Answer.{Answer}
-use Rattle.md_core.specs.declared.jobs.call.Call.{Call}
 use Rattle.md_core.specs.declared.jobs.call.Call.TheVariants as call
 use Rattle.md_core.specs.Tasks.Cleaning.{Cleaning}
 use Rattle.md_core.specs.Machines.Refusals.{refused_by}
 use Rattle.md_core.specs.Tasks.Delivery.{Delivery, Stage, Start, Writing, Linked, Undo}
-use Rattle.md_core.specs.declared.jobs.effect.Effect.{Effect}
 use Rattle.md_core.specs.Tasks.Errand.{Errand as ErrandOf, Look, Act}
 use Rattle.md_core.specs.Tasks.Errand as errand
 use Rattle.md_core.specs.Tasks.Decision as decision
 use Rattle.md_core.specs.Tasks.Purpose.{Purpose}
-use Rattle.md_core.specs.Tasks.Purpose as purpose
-use Rattle.md_core.specs.declared.jobs.step.DirReply.{DirReply}
-use Rattle.md_core.specs.declared.jobs.step.Moment.{Moment}
-use Rattle.md_core.specs.Tasks.Task.{Task, Deliver, Errand, Clean}
 use Rattle.std.specs.FinMap as finmap
 use Rattle.md_core.specs.Mailbox.{Entry, Mailbox, mailbox_of, bytes_of, is_tmp, is_message, HasOnePath}
 use Rattle.md_core.specs.History.{names_of, names_after_change, IsAllowed}
@@ -29,21 +19,19 @@ use Rattle.md_core.specs.Asked.{Asked, ask_of, state_by}
 use Rattle.md_core.specs.Turn.{After, rows_for, reply_of}
 use Rattle.md_core.specs.Machines.Deliver.{delivery_effect}
 use Rattle.md_core.specs.Machines.Purposes.{first, searches, info_in, decide}
-use Rattle.md_core.specs.Machine.{Machine, working, turn_of, task_left}
+use Rattle.md_core.specs.Machine.{Machine, working, turn_of, steps_left}
 use Rattle.md_core.specs.Stepping.{AsAlone}
 use Rattle.md_core.specs.Interleaving.{NoneOverwritten, is_success, is_effect_at}
+use Rattle.md_core.specs.Accepting.{name_used, MakesMessage}
 use Rattle.md_core.proofs.Theorem.RunLaw.{is_linked}
-
--- the name that a path uses: all of it in tmp, and else the unique part
-abbrev pub key_of : Path → List ℕ
-key_of p = if is_tmp p.place then p.name else unique_of p.name
+use Rattle.md_core.proofs.Machines.Errand.Table.Calls.{call_by, folder_to, IsFor}
 
 abbrev pub bytes_at : State → ℕ → List ℕ
 bytes_at s n = bytes_of (file_by s.files n)
 
 -- no path uses the name
 abbrev pub IsUnused : State → List ℕ → Type 0
-IsUnused s u = (p : Path) → key_of p ≡ u → file_at s p ≡ None
+IsUnused s u = (p : Path) → name_used p ≡ u → file_at s p ≡ None
 
 -- no message has the name
 abbrev pub HasNoMessage : State → List ℕ → Type 0
@@ -75,32 +63,6 @@ pub record DeliveryFits (s : State) (asked : Call) (d : Delivery) : Type 0 where
   pub chunked : 0 < d.chunk
   pub stage : StageFits s d d.stage
 
--- the name that a call makes, if it makes one
-abbrev pub Makes : Call → List ℕ → Type 0
-Makes (call.Deliver folder unique body chunk) u = unique ≡ u
-Makes (call.Copy folder unique to fresh tries) u = fresh ≡ u
-Makes other u = ⊥
-
--- the call of an errand
-abbrev pub call_by : ℕ → List ℕ → Purpose → ℕ → Call
-call_by folder unique (purpose.Seen given) tries = call.Seen folder unique given tries
-call_by folder unique (purpose.Flag add remove) tries = call.Flag folder unique add remove tries
-call_by folder unique (purpose.Move to) tries = call.Move folder unique to tries
-call_by folder unique (purpose.Copy to fresh) tries = call.Copy folder unique to fresh tries
-call_by folder unique purpose.Expunge tries = call.Expunge folder unique tries
-
--- the folder that the message is in then
-abbrev pub folder_to : ℕ → Purpose → ℕ
-folder_to folder (purpose.Move to) = to
-folder_to folder (purpose.Copy to fresh) = to
-folder_to folder other = folder
-
--- what the call of a purpose was accepted with: a move goes to another folder, and the fresh name of a copy is one
-abbrev pub IsFor : ℕ → Purpose → Type 0
-IsFor folder (purpose.Move to) = folder ≢ to
-IsFor folder (purpose.Copy to fresh) = is_unique_name fresh ≡ true
-IsFor folder other = Unit {0}
-
 -- a place that an errand looks in
 abbrev pub IsPlaceOf : Purpose → Place → Type 0
 IsPlaceOf p place = (place ≡ first p) ⊎ ((searches p ≡ true) × (place ≡ Cur))
@@ -124,7 +86,7 @@ pub record ErrandFits (s : State) (asked : Call) (e : ErrandOf) : Type 0 where
   pub to_folder : folder_to e.folder e.purpose < s.folders
   pub valid : is_unique_name e.unique ≡ true
   pub is_for : IsFor e.folder e.purpose
-  pub none : (u : List ℕ) → Makes asked u → HasNoMessage s u
+  pub none : (u : List ℕ) → MakesMessage asked u → HasNoMessage s u
   pub stage : IsAtStage e.unique e.purpose e.stage
 
 -- a clean asks nothing of the directories
@@ -144,9 +106,8 @@ FoundAt unique (Act place row tries) u size = (unique ≡ u) × (row.size ≡ si
 
 -- the size of a message that a task has found
 abbrev pub Found : Task → List ℕ → ℕ → Type 0
-Found (Deliver d) u size = ⊥
 Found (Errand e) u size = FoundAt e.unique e.stage u size
-Found (Clean c) u size = ⊥
+Found other u size = ⊥
 
 -- the message of the unique name has this size, where it is there
 abbrev pub HasSize : Mailbox → List ℕ → ℕ → Type 0
@@ -158,19 +119,18 @@ IsOfSize m u size = (e : Entry) × (finmap.get m u ≡ Some e) × (length e.byte
 
 -- the two calls make no one name
 abbrev pub IsApart : Call → Call → Type 0
-IsApart a b = (u : List ℕ) → Makes a u → Makes b u → ⊥
+IsApart a b = (u : List ℕ) → MakesMessage a u → MakesMessage b u → ⊥
 
 -- the effect that a task has had
 abbrev pub own_effect : ℕ → Task → Option Effect
 own_effect number (Deliver d) = if is_linked d.stage then Some (delivery_effect number d) else None
-own_effect number (Errand e) = None
-own_effect number (Clean c) = None
+own_effect number other = None
 
 -- What is known of a message that was found: where it is there it has this size, and no job without an effect makes its name.
 pub record Known (calls : List Call) (m : Machine) (u : List ℕ) (size : ℕ) : Type 0 where
   pub has_size : HasSize (mailbox_of m.dirs) u size
   pub unmade : (j : ℕ) (asked : Call) (task : Task) → slice_get calls j ≡ Some asked → slice_get m.jobs j ≡ Some (working task) →
-      own_effect (suc j) task ≡ None → Makes asked u → ⊥
+      own_effect (suc j) task ≡ None → MakesMessage asked u → ⊥
 
 -- What holds of a machine of these calls at each moment.
 pub record IsGood (calls : List Call) (m : Machine) : Type 0 where
@@ -184,11 +144,11 @@ pub record IsGood (calls : List Call) (m : Machine) : Type 0 where
 pub record Affects (number : ℕ) (asked : Call) (folders : ℕ) (m m' : Mailbox) (e : Effect) : Type 0 where
   pub of : e.job ≡ number
   pub changes : names_of m' ≡ names_after_change (names_of m) e.change
-  pub allowed : IsAllowed folders (names_of m) (Makes asked) e.answer e.change
+  pub allowed : IsAllowed folders (names_of m) (MakesMessage asked) e.answer e.change
 
--- how many turns a task takes at most is for it alone to say, whatever others do to the directories
+-- how many steps a task takes at most is for it alone to say, whatever others do to the directories
 abbrev pub IsFixed : Task → Type 0
-IsFixed task = (s s' : State) → task_left s task ≡ task_left s' task
+IsFixed task = (s s' : State) → steps_left s (Some (working task)) ≡ steps_left s' (Some (working task))
 
 -- a job is answered as the effect says that it has had, or has had none
 abbrev pub Settles : Option Effect → Answer → Type 0
@@ -215,7 +175,7 @@ pub record Does (s s' : State) (number : ℕ) (asked : Call) (task : Task) (made
   -- the task keeps the effect that it has had, and its answer is of that
   pub settles : MatchOption after.answer (own_effect number after.task ≡ option_or after.effect (own_effect number task))
       (Settles (option_or after.effect (own_effect number task)))
-  pub nearer : MatchOption after.answer (task_left s' after.task < task_left s task) (λ a. 0 < task_left s task)
+  pub nearer : MatchOption after.answer (steps_left s' (Some (working after.task)) < steps_left s (Some (working task))) (λ a. 0 < steps_left s (Some (working task)))
   pub fixed : after.answer ≡ None → IsFixed after.task
 
 -- what a turn at a moment does to directories, by whether its directory call faults

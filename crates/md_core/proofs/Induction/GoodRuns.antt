@@ -1,32 +1,30 @@
 -- All is good at each moment of a run.
-use Rattle.std.proofs.Common.{ℕ, zero, suc, ◌+◌, ◌≡◌, ◌<◌, ◌++◌, inl, inr, List, [], ◌∷◌, Some, None, true, refl, sym, ap, subst, ◌∙◌, length, take, map, slice_get}
+use Rattle.std.proofs.Common.{ℕ, zero, suc, ◌+◌, ◌≡◌, ◌<◌, ◌++◌, inl, inr, List, [], ◌∷◌, Some, refl, sym, ap, subst, ◌∙◌, length, take, map, slice_get}
 use Rattle.std.proofs.lemmas.Bool.{cases_order}
 use Rattle.std.proofs.lemmas.List.{length-map}
-use Rattle.md_core.specs.declared.jobs.call.Call.{Call}
-use Rattle.md_core.specs.declared.jobs.call.Call.TheVariants.{Deliver, Seen, Flag, Move, Expunge, Copy, Clean}
-use Rattle.md_name.specs.Names.{is_unique_name}
+use Rattle.md_core.proofs.Values.{Call, Task}
+use Rattle.md_core.specs.declared.jobs.call.Call.TheVariants.{Deliver, Clean}
 use Rattle.md_core.specs.Tasks.Purpose.{Purpose}
-use Rattle.md_core.specs.Tasks.Purpose as purpose
-use Rattle.md_core.specs.Tasks.Task.{Task}
 use Rattle.md_core.specs.Tasks.Task as task
 use Rattle.md_core.specs.Machines.Deliver.{new_delivery}
 use Rattle.md_core.specs.Machines.Errand.{new_errand}
-use Rattle.md_core.specs.Machines.Clean.{new_cleaning}
-use Rattle.md_core.specs.Machine.{Machine, Standing, working, Occurrence, job_at, new_job, after_event, step_of, step_by}
+use Rattle.md_core.specs.Machine.{Machine, Standing, working, answered, Occurrence, job_at, new_job, after_event, step_of, step_by}
 use Rattle.md_core.specs.Trace.{Step}
 use Rattle.md_core.specs.Runs.{Run, beginning, machine_at, machine_of, done_at}
 use Rattle.std.specs.Option.{option_and_then}
-use Rattle.md_core.specs.Submitting.{submit_refusal}
 use Rattle.md_core.specs.Stepping.{IsRun}
-use Rattle.md_core.proofs.Induction.Good.{IsGood, Makes, EachTurn, DeliveryFits, ErrandFits, CleaningFits, HasNoMessage, IsFor, folder_to, TaskFits, Found, call_by}
+use Rattle.md_core.specs.Accepting.{MakesMessage, IsAccepted}
+use Rattle.md_core.proofs.Induction.Good.{IsGood, EachTurn, TaskFits, Found}
 use Rattle.md_core.proofs.Lists.Places.{get-take}
 use Rattle.md_core.proofs.Runs.Events.{goes_on-exact, done-turned}
 use Rattle.md_core.proofs.Runs.ByEvent.{at_moment, at_last, moment-end, moment-more}
-use Rattle.md_core.proofs.Worlds.Accepted.{accepted, accepted-look_up, accepted-move, accepted-copy, unmade-at}
-use Rattle.md_core.proofs.Worlds.Loading.Loaded.{loaded-one_path, unused-path}
+use Rattle.md_core.proofs.Worlds.Loading.Loaded.{loaded-one_path}
 use Rattle.md_core.proofs.Induction.Going.{Goes, AllApart, goes}
 use Rattle.md_core.proofs.Induction.Keeping.{good-kept}
 use Rattle.md_core.proofs.Directories.Frames.{unused-no_message}
+use Rattle.md_core.proofs.Machines.Errand.Table.Calls.{call_by, each-new}
+use Rattle.md_core.proofs.Worlds.UniqueNames.{unique_name}
+use Rattle.md_core.proofs.Machines.Errand.Table.Checks.{accepted, makes-fresh, accepted-errand}
 
 -- a job at the beginning is a new job of the call of its place
 pub new_at : (calls : List Call) (i : ℕ) (job : Standing) → slice_get (map new_job calls) i ≡ Some job →
@@ -36,86 +34,57 @@ new_at (call ∷ calls) zero job at = (call, refl, cc)
 new_at (call ∷ calls) (suc i) job at = new_at calls i job at
 
 module _ (r : Run) (run : IsRun r) where
-  -- a new errand fits the directories at the beginning
-  fits-errand : (folder : ℕ) (u : List ℕ) (p : Purpose) (tries : ℕ) (job : Task) → working (task.Errand (new_errand folder u p tries)) ≡ working job →
-      folder < r.image.folders → folder_to folder p < r.image.folders → is_unique_name u ≡ true → IsFor folder p →
-      ((v : List ℕ) → Makes (call_by folder u p tries) v → HasNoMessage r.image v) → TaskFits r.image (call_by folder u p tries) job
-  fits-errand folder u p tries job is within to valid for none =
-      let fits : ErrandFits r.image (call_by folder u p tries) (new_errand folder u p tries) = record {
-        tries = tries;
-        of = refl;
-        in_folder = within;
-        to_folder = to;
-        valid = valid;
-        is_for = for;
-        none = none;
-        stage = inl refl;
-      } in
-      subst (TaskFits r.image (call_by folder u p tries)) (let e : task.Errand (new_errand folder u p tries) ≡ job = cc in e) fits
+  -- what the call of a place was accepted with
+  pub accepted-at : (i : ℕ) (asked : Call) → slice_get r.calls i ≡ Some asked → IsAccepted r.image (take i r.calls) asked
+  accepted-at i asked at = accepted (record r { calls = take i r.calls }) asked (run.accepted i asked at)
 
-  -- a new task fits them
-  fits-new : (i : ℕ) (asked : Call) (job : Task) → slice_get r.calls i ≡ Some asked → new_job asked ≡ working job → TaskFits r.image asked job
-  fits-new i asked job at new = by asked (run.accepted i asked at) new
-    where
-      by : (c : Call) → submit_refusal (record r { calls = take i r.calls }) c ≡ None → new_job c ≡ working job → TaskFits r.image c job
-      by (Deliver folder u body chunk) none is =
-          let a = accepted (record r { calls = take i r.calls }) folder u body chunk none in
-          let fits : DeliveryFits r.image (Deliver folder u body chunk) (new_delivery folder u body chunk) = record {
-            of = refl;
-            in_tmp = refl;
-            in_folder = a.in_folder;
-            name = a.name;
-            chunked = a.chunked;
-            stage = unused-path r.image u a.valid a.unused;
-          } in
-          subst (TaskFits r.image (Deliver folder u body chunk)) (let e : task.Deliver (new_delivery folder u body chunk) ≡ job = cc in e) fits
-      by (Seen folder u given tries) none is =
-          let a = accepted-look_up (record r { calls = take i r.calls }) folder u tries none in
-          fits-errand folder u (purpose.Seen given) tries job is a.in_folder a.in_folder a.valid tt (λ v its. absurd its)
-      by (Flag folder u add remove tries) none is =
-          let a = accepted-look_up (record r { calls = take i r.calls }) folder u tries none in
-          fits-errand folder u (purpose.Flag add remove) tries job is a.in_folder a.in_folder a.valid tt (λ v its. absurd its)
-      by (Move folder u to tries) none is =
-          let a = accepted-move (record r { calls = take i r.calls }) folder u to tries none in
-          fits-errand folder u (purpose.Move to) tries job is a.in_folder a.to_folder a.valid a.differ (λ v its. absurd its)
-      by (Expunge folder u tries) none is =
-          let a = accepted-look_up (record r { calls = take i r.calls }) folder u tries none in
-          fits-errand folder u purpose.Expunge tries job is a.in_folder a.in_folder a.valid tt (λ v its. absurd its)
-      by (Copy folder u to fresh tries) none is =
-          let a = accepted-copy (record r { calls = take i r.calls }) folder u to fresh tries none in
-          fits-errand folder u (purpose.Copy to fresh) tries job is a.in_folder a.to_folder a.valid a.fresh_valid
-          (λ v its. subst (HasNoMessage r.image) its (unused-no_message r.image fresh (unused-path r.image fresh a.fresh_valid a.unused)))
-      by (Clean folder) none is =
-          let fits : CleaningFits (Clean folder) (new_cleaning folder) = refl in
-          subst (TaskFits r.image (Clean folder)) (let e : task.Clean (new_cleaning folder) ≡ job = cc in e) fits
+  -- a new task fits the directories at the beginning
+  module _ (earlier : List Call) where
+    abbrev Fits : Call → Standing → Type 0
+    Fits c job = IsAccepted r.image earlier c → (task : Task) → job ≡ working task → TaskFits r.image c task
+
+    as-new : (c : Call) (new task : Task) → TaskFits r.image c new → working new ≡ working task → TaskFits r.image c task
+    as-new c new task fits is = subst (TaskFits r.image c) (let e : new ≡ task = cc in e) fits
+
+    fits-delivery : (folder : ℕ) (u body : List ℕ) (chunk : ℕ) → Fits (Deliver folder u body chunk) (working (task.Deliver (new_delivery folder u body chunk)))
+    fits-delivery folder u body chunk a task = as-new (Deliver folder u body chunk) _ task (record {
+      of = refl;
+      in_tmp = refl;
+      in_folder = a.0;
+      name = unique_name u a.2.valid;
+      chunked = a.1;
+      stage = a.2.unused;
+    })
+
+    fits-errand : (folder : ℕ) (u : List ℕ) (p : Purpose) (tries : ℕ) → Fits (call_by folder u p tries) (working (task.Errand (new_errand folder u p tries)))
+    fits-errand folder u p tries a task = let e = accepted-errand r.image earlier folder u p tries a in
+        as-new (call_by folder u p tries) _ task (record {
+          tries = tries;
+          of = refl;
+          in_folder = e.in_folder;
+          to_folder = e.to_folder;
+          valid = e.valid;
+          is_for = e.is_for;
+          none = λ v its. unused-no_message r.image v (makes-fresh r.image earlier (call_by folder u p tries) v a its).unused;
+          stage = inl refl;
+        })
+
+    fits-new : (c : Call) → Fits c (new_job c)
+    fits-new = each-new Fits fits-delivery fits-errand (λ folder a task. as-new (Clean folder) _ task refl)
 
   -- of two calls, the later doesn't make the name of the earlier
-  not_again : (i j : ℕ) (a b : Call) (u : List ℕ) → i < j → slice_get r.calls i ≡ Some a → slice_get r.calls j ≡ Some b → Makes a u → Makes b u → ⊥
-  not_again i j a b u less ata atb mine = by b (run.accepted j b atb)
-    where
-      by : (c : Call) → submit_refusal (record r { calls = take j r.calls }) c ≡ None → Makes c u → ⊥
-      by (Deliver folder v body chunk) none its =
-          let ok = accepted (record r { calls = take j r.calls }) folder v body chunk none in
-          unmade-at v (take j r.calls) i a ok.unmade (get-take j r.calls i less ∙ ata) (subst (Makes a) (sym its) mine)
-      by (Copy folder v to fresh tries) none its =
-          let ok = accepted-copy (record r { calls = take j r.calls }) folder v to fresh tries none in
-          unmade-at fresh (take j r.calls) i a ok.unmade (get-take j r.calls i less ∙ ata) (subst (Makes a) (sym its) mine)
-      by (Seen a b c d) none its = absurd its
-      by (Flag a b c d e) none its = absurd its
-      by (Move a b c d) none its = absurd its
-      by (Expunge a b c) none its = absurd its
-      by (Clean a) none its = absurd its
+  not_again : (i j : ℕ) (a b : Call) (u : List ℕ) → i < j → slice_get r.calls i ≡ Some a → slice_get r.calls j ≡ Some b → MakesMessage a u →
+      MakesMessage b u → ⊥
+  not_again i j a b u less ata atb mine its =
+      (makes-fresh r.image (take j r.calls) b u (accepted-at j b atb) its).unmade i a (get-take j r.calls i less ∙ ata) mine
 
   -- a new task has found nothing
-  none-found : (asked : Call) (job : Task) (u : List ℕ) (size : ℕ) → new_job asked ≡ working job → Found job u size → ⊥
-  none-found (Deliver a b c d) job u size is its = subst (λ (t : Task). Found t u size) (let e : job ≡ task.Deliver (new_delivery a b c d) = cc in e) its
-  none-found (Seen a b c d) job u size is its = subst (λ (t : Task). Found t u size) (let e : job ≡ task.Errand (new_errand a b (purpose.Seen c) d) = cc in e) its
-  none-found (Flag a b c d e) job u size is its =
-      subst (λ (t : Task). Found t u size) (let h : job ≡ task.Errand (new_errand a b (purpose.Flag c d) e) = cc in h) its
-  none-found (Move a b c d) job u size is its = subst (λ (t : Task). Found t u size) (let e : job ≡ task.Errand (new_errand a b (purpose.Move c) d) = cc in e) its
-  none-found (Expunge a b c) job u size is its = subst (λ (t : Task). Found t u size) (let e : job ≡ task.Errand (new_errand a b purpose.Expunge c) = cc in e) its
-  none-found (Copy a b c d e) job u size is its = subst (λ (t : Task). Found t u size) (let h : job ≡ task.Errand (new_errand a b (purpose.Copy c d) e) = cc in h) its
-  none-found (Clean a) job u size is its = subst (λ (t : Task). Found t u size) (let e : job ≡ task.Clean (new_cleaning a) = cc in e) its
+  abbrev NoneFound : Standing → Type 0
+  NoneFound (working task) = (u : List ℕ) (size : ℕ) → Found task u size → ⊥
+  NoneFound (answered a) = Unit {0}
+
+  none-found : (asked : Call) → NoneFound (new_job asked)
+  none-found = each-new (λ c job. NoneFound job) (λ _ _ _ _ u size its. its) (λ _ _ _ _ u size its. its) (λ _ u size its. its)
 
   pub all-apart : AllApart r.calls
   all-apart i j a b differ ata atb u mine its = elim (cases_order i j) [
@@ -133,8 +102,8 @@ module _ (r : Run) (run : IsRun r) where
     fits = λ i asked job of at.
         let new = new_at r.calls i (working job) at in
         let same : new.0 ≡ asked = (let e : Some new.0 ≡ Some asked = sym new.1 ∙ of in cc) in
-        fits-new i asked job of (ap new_job (sym same) ∙ sym new.2);
-    found = λ i job u size at its. let new = new_at r.calls i (working job) at in absurd (none-found new.0 job u size (sym new.2) its);
+        fits-new (take i r.calls) asked (accepted-at i asked of) job (ap new_job (sym same) ∙ sym new.2);
+    found = λ i job u size at its. let new = new_at r.calls i (working job) at in absurd (subst NoneFound (sym new.2) (none-found new.0) u size its);
     as_many = length-map r.calls new_job;
   }
 

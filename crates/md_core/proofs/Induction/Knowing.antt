@@ -2,40 +2,28 @@
 use Rattle.std.proofs.Common.{ℕ, suc, ◌≡◌, inl, inr, List, Option, Some, None, cond, MatchOption, IfSome, sym, ap, subst, ◌∙◌, length, slice_get}
 use Rattle.std.specs.Option.{option_or}
 use Rattle.std.specs.FinMap as finmap
-use Rattle.md_dirs.specs.State.{State}
+use Rattle.md_core.proofs.Values.{State, Call, Effect, Task, Deliver, Errand, Clean}
 use Rattle.md_core.specs.declared.jobs.answer.Answer.{Answer}
-use Rattle.md_core.specs.declared.jobs.call.Call.{Call}
-use Rattle.md_core.specs.declared.jobs.call.Call.TheVariants as call
 use Rattle.md_core.specs.Tasks.Delivery.{Stage, Start, Writing, Linked, Undo}
-use Rattle.md_core.specs.declared.jobs.effect.Effect.{Effect}
-use Rattle.md_core.specs.Tasks.Task.{Task, Deliver, Errand, Clean}
 use Rattle.md_core.specs.Mailbox.{Entry, Mailbox, mailbox_of}
 use Rattle.md_core.specs.Machines.Deliver.{delivery_effect}
 use Rattle.md_core.specs.Machine.{Machine, working}
 use Rattle.md_core.specs.Trace.{Step}
 use Rattle.md_core.specs.Stepping.{AsAlone}
+use Rattle.md_core.specs.Accepting.{MakesMessage}
 use Rattle.md_core.proofs.Theorem.RunLaw.{is_linked}
-use Rattle.md_core.proofs.Induction.Good.{HasNoMessage, StageFits, TaskFits, IsGood, Makes, Found, HasSize, IsOfSize, Known, Settles, own_effect}
+use Rattle.md_core.proofs.Induction.Good.{HasNoMessage, StageFits, TaskFits, IsGood, Found, HasSize, IsOfSize, Known, Settles, own_effect}
 use Rattle.md_core.proofs.Directories.Frames.{unused-no_message}
 use Rattle.md_core.proofs.Induction.Going.{Goes, goes-cases, still-working}
 use Rattle.md_core.proofs.Mailbox.Shown.{mailbox-shows}
-use Rattle.md_core.proofs.Mailbox.Wholeness.{Gives, as_alone-after}
-
--- what gives a message bytes makes its name
-gives-makes : (asked : Call) (m : Mailbox) (u bytes : List ℕ) → Gives asked m u bytes → Makes asked u
-gives-makes (call.Deliver folder v body chunk) m u bytes gives = gives.0
-gives-makes (call.Seen folder v flags tries) m u bytes gives = gives
-gives-makes (call.Flag folder v add remove tries) m u bytes gives = gives
-gives-makes (call.Move folder v to tries) m u bytes gives = gives
-gives-makes (call.Expunge folder v tries) m u bytes gives = gives
-gives-makes (call.Copy folder v to fresh tries) m u bytes gives = gives.0
-gives-makes (call.Clean folder) m u bytes gives = gives
+use Rattle.md_core.proofs.Mailbox.Wholeness.{as_alone-after}
+use Rattle.md_core.proofs.Machines.Errand.Table.Alone.{gives-makes}
 
 -- a job that has had no effect makes only names that no message has
 pub makes-none : (s : State) (number : ℕ) (asked : Call) (task : Task) (u : List ℕ) → TaskFits s asked task → own_effect number task ≡ None →
-    Makes asked u → HasNoMessage s u
+    MakesMessage asked u → HasNoMessage s u
 makes-none s number asked (Deliver d) u fits without makes =
-    subst (HasNoMessage s) (subst (λ (c : Call). Makes c u) fits.of makes) (by d.stage fits.stage without)
+    subst (HasNoMessage s) (subst (λ (c : Call). MakesMessage c u) fits.of makes) (by d.stage fits.stage without)
   where
     by : (stage : Stage) → StageFits s d stage → cond {A = Option Effect} (is_linked stage) (Some (delivery_effect number d)) None ≡ None →
         HasNoMessage s d.tmp.name
@@ -44,7 +32,7 @@ makes-none s number asked (Deliver d) u fits without makes =
     by Linked h is = cc
     by (Undo a) h is = h.0
 makes-none s number asked (Errand e) u fits without makes = fits.none u makes
-makes-none s number asked (Clean c) u fits without makes = absurd (subst (λ (x : Call). Makes x u) fits makes)
+makes-none s number asked (Clean c) u fits without makes = absurd (subst (λ (x : Call). MakesMessage x u) fits makes)
 
 -- a message that is there is known
 pub known-there : (calls : List Call) (m : Machine) (u : List ℕ) (size : ℕ) → IsGood calls m → IsOfSize (mailbox_of m.dirs) u size → Known calls m u size
@@ -59,7 +47,7 @@ known-there calls m u size good is = record {
 
 module _ (calls : List Call) (m m' : Machine) (what : Step) (g : Goes calls m m' what) (u : List ℕ) (size : ℕ) (known : Known calls m u size) where
   -- the job that took its turn, if it has had no effect by then
-  mine : own_effect what.job g.task ≡ None → Makes g.asked u → ⊥
+  mine : own_effect what.job g.task ≡ None → MakesMessage g.asked u → ⊥
   mine without = known.unmade g.place g.asked g.task g.of g.there (ap (λ n. own_effect n g.task) (sym g.number_is) ∙ without)
 
   size-after : HasSize (mailbox_of m'.dirs) u size
@@ -74,7 +62,7 @@ module _ (calls : List Call) (m m' : Machine) (what : Step) (g : Goes calls m m'
       ]
 
   unmade-after : (j : ℕ) (asked : Call) (task : Task) → slice_get calls j ≡ Some asked → slice_get m'.jobs j ≡ Some (working task) →
-      own_effect (suc j) task ≡ None → Makes asked u → ⊥
+      own_effect (suc j) task ≡ None → MakesMessage asked u → ⊥
   unmade-after j asked task of at without makes = goes-cases calls m m' what g j (working task) at
       (λ same now.
       let on = still-working task g.task' what.answer now in
@@ -85,7 +73,7 @@ module _ (calls : List Call) (m m' : Machine) (what : Step) (g : Goes calls m m'
       let number : suc j ≡ what.job = ap suc same ∙ sym g.number_is in
       let none : option_or what.effect (own_effect what.job g.task) ≡ None = sym kept ∙ ap (own_effect what.job) (sym on.1) ∙
       ap (λ n. own_effect n task) (sym number) ∙ without in
-      mine (neither what.effect (own_effect what.job g.task) none) (subst (λ (c : Call). Makes c u) its makes))
+      mine (neither what.effect (own_effect what.job g.task) none) (subst (λ (c : Call). MakesMessage c u) its makes))
       (λ differ was. known.unmade j asked task of was without makes)
     where
       neither : (a b : Option Effect) → option_or a b ≡ None → b ≡ None

@@ -1,34 +1,19 @@
 -- What a look-up of one message tells of directories and their mailbox, and the turn that made it.
-use Rattle.std.proofs.Common.{ℕ, ◌≡◌, ◌≢◌, ◌+◌, inl, inr, List, [], ◌∷◌, Option, Some, None, Bool, true, false, cond, not, ◌&&◌, length, map, filter, drop, is_some, nat_lt, nat_eq, refl, sym, ap, subst, ◌∙◌}
+use Rattle.std.proofs.Common.{ℕ, ◌≡◌, ◌≢◌, inl, inr, List, [], ◌∷◌, Option, Some, None, Bool, true, false, cond, not, ◌&&◌, length, map, filter, drop, nat_lt, nat_eq, refl, sym, ap, ◌∙◌}
 use Rattle.std.specs.List.{list_any, before_first, starts_with}
 use Rattle.std.specs.FinMap.{entries, get}
 use Rattle.std.proofs.lemmas.Bool.{eqb-true, eq-eqb, or_parts, and_from}
-use Rattle.md_dirs.specs.State.{State, file_at}
+use Rattle.md_core.proofs.Values.{State, file_at, Path, Place, Tmp, New, Cur, Row, Info}
 use Rattle.md_dirs.specs.Path.{path_of, place_index}
-use Rattle.md_dirs.specs.Calls as dirs
 use Rattle.md_dirs.specs.Rows.{rows_of, row_named, row_of, row_by, is_in, is_named, ends_unique}
 use Rattle.md_dirs.specs.declared.paths.File.{File}
-use Rattle.md_dirs.specs.declared.paths.Path.{Path}
-use Rattle.md_dirs.specs.declared.paths.Place.{Place}
-use Rattle.md_dirs.specs.declared.paths.Place.TheVariants.{Tmp, New, Cur}
-use Rattle.md_dirs.specs.declared.rows.Row.{Row}
 use Rattle.md_dirs.proofs.PathOrder.{path_total, path_exact}
 use Rattle.md_name.specs.Names.{is_colon, unique_of, info_of, begins_with_dot, is_message_name, is_unique_name}
-use Rattle.md_name.specs.declared.info.Info.{Info}
 use Rattle.md_name.proofs.Digits.{and_first, and_second}
 use Rattle.md_name.proofs.Flagged.{IsUniquePart, IsUniquePart-maildir}
-use Rattle.md_core.specs.declared.jobs.effect.Effect.{Effect}
-use Rattle.md_core.specs.declared.jobs.step.DirReply.{DirReply}
-use Rattle.md_core.specs.declared.jobs.step.DirReply.TheVariants as reply
-use Rattle.md_core.specs.declared.jobs.step.DirCall.TheVariants as call
-use Rattle.md_core.specs.declared.jobs.step.Moment.{Moment}
-use Rattle.md_core.specs.declared.jobs.step.StepOut.{StepOut}
 use Rattle.md_core.specs.Mailbox.{Entry, mailbox_of, entry_of, is_message, is_tmp, HasOnePath}
 use Rattle.md_core.specs.Alone.{entry_if, is_in_place}
 use Rattle.md_core.specs.Machines.Purposes.{info_in, info_in_parts}
-use Rattle.md_dirs.specs.Calls.{Device}
-use Rattle.md_core.specs.Turn.{After, Looks, Takes, reply_of}
-use Rattle.md_core.specs.Asked.{list, state_by, is_fault}
 use Rattle.lists.proofs.Members.{Has, get-has, has-get}
 use Rattle.md_core.proofs.Mailbox.Shown.{mailbox-shows, shows-mailbox}
 use Rattle.md_core.proofs.Mailbox.WholeName.{before}
@@ -144,12 +129,11 @@ same-place : (a b : Place) → nat_eq (place_index a) (place_index b) ≡ true �
 same-place Tmp Tmp is = refl
 same-place New New is = refl
 same-place Cur Cur is = refl
-same-place Tmp New is = cc
 same-place Tmp Cur is = cc
 same-place New Tmp is = cc
 same-place New Cur is = cc
 same-place Cur Tmp is = cc
-same-place Cur New is = cc
+same-place other New is = cc
 
 -- a path in a directory is that of its name there
 pub path-in : (folder : ℕ) (place : Place) (p : Path) → is_in folder place p ≡ true → p ≡ path_of folder place p.name
@@ -237,28 +221,3 @@ no-entry s folder place u none = by (get (mailbox_of s) u) refl
             absurd (no-row s folder place u none h.path.name h.file (ap (file_at s) (sym path) ∙ h.there) h.unique)
 
 -- ---- the turn
-
--- A turn that asks for a listing was taken where the look-up was made, if the job then stands as the turn says of every list of rows in which
--- the look-up finds what was found.
-pub takes-look : {T : Type 0} (folder : ℕ) (place : Place) (u : List ℕ) (follows : DirReply → List Row → After T) (at : Moment) (old new : Device)
-    (r : DirReply) (row : Option Row) (out : StepOut) (effect : Option Effect) (task : T) →
-    Looks folder place u old r row new → out.call ≡ call.List place → out.reply ≡ r → out.effect ≡ is_some effect →
-    ((rows : List Row) → (r ≡ reply.Ok → row ≡ row_named u rows) → follows r rows ≡ record { task = task; answer = out.answer; effect = effect }) →
-    Takes (record { asked = list folder place; follows = follows }) at old out effect task new
-takes-look folder place u follows at old new r row out effect task looks called replied is_effect after =
-    let back : r ≡ out.reply = sym replied in
-    record {
-      call = called;
-      replied = subst (λ (x : DirReply). x ≡ reply_of (dirs.list folder place) old.state (is_fault x)) back looks.replied;
-      state = looks.state ∙ stays out.reply;
-      failed = subst (λ (x : DirReply). new.failures ≡ cond (is_fault x) (old.failures + 1) old.failures) back looks.failed;
-      called = looks.called;
-      after = ap (λ (x : DirReply). follows x (rows_of old.state folder place)) replied ∙ after (rows_of old.state folder place) looks.found;
-      is_effect = is_effect;
-    }
-  where
-    stays : (x : DirReply) → old.state ≡ state_by (dirs.list folder place) old.state x
-    stays reply.Ok = refl
-    stays reply.Exists = refl
-    stays reply.NotFound = refl
-    stays reply.Fault = refl

@@ -9,11 +9,9 @@ use Rattle.md_dirs.specs.Path.{path_of, place_index}
 use Rattle.md_dirs.specs.State.{State, IsSound, file_by, bytes_at_path}
 use Rattle.md_dirs.specs.Rows.{rows_of, row_named}
 use Rattle.md_dirs.specs.declared.paths.File.{File}
-use Rattle.md_dirs.specs.declared.paths.Place.{Place}
+use Rattle.md_core.proofs.Values.{Place, Row, Info}
 use Rattle.md_dirs.specs.declared.paths.Place.TheVariants.{Tmp, New, Cur}
-use Rattle.md_dirs.specs.declared.rows.Row.{Row}
 use Rattle.md_name.specs.Names.{unique_of, is_message_name}
-use Rattle.md_name.specs.declared.info.Info.{Info}
 use Rattle.md_name.proofs.Digits.{and_first, and_second}
 use Rattle.md_name.proofs.Flagged.{IsUniquePart, IsUniquePart-unique_of, split_of-bare}
 use Rattle.md_core.specs.Alone.{entry_if, is_in_place}

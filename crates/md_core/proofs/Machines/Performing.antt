@@ -1,15 +1,13 @@
 -- A directory call that obeys, and that is the one of a turn, takes the turn.
-use Rattle.std.proofs.Common.{ℕ, ◌≡◌, ◌+◌, Option, Some, None, Result, Ok, Err, cond, refl, sym, ap, subst, ◌∙◌, OnOk, OnErr, IsErrOf, is_some}
+use Rattle.std.proofs.Common.{◌≡◌, ◌+◌, Option, Some, Result, Ok, Err, cond, refl, sym, ap, subst, ◌∙◌, is_some}
 use Rattle.md_dirs.specs.Calls.{Ask, Device, Obeys}
 use Rattle.md_dirs.specs.declared.calls.DirError.{DirError}
 use Rattle.md_dirs.specs.declared.calls.DirError.TheVariants.{Exists, NotFound, Fault, NoMemory}
 use Rattle.md_core.specs.Turn.{Turn, After, Takes, rows_for, reply_from, reply_of}
 use Rattle.md_core.specs.Asked.{ask_of, shown_call, reply_by, state_by, is_fault}
-use Rattle.md_core.specs.declared.jobs.step.Moment.{Moment}
-use Rattle.md_core.specs.declared.jobs.effect.Effect.{Effect}
+use Rattle.md_core.proofs.Values.{Effect, Moment, StepOut}
 use Rattle.md_core.specs.declared.jobs.step.DirReply.{DirReply}
 use Rattle.md_core.specs.declared.jobs.step.DirReply.TheVariants as reply
-use Rattle.md_core.specs.declared.jobs.step.StepOut.{StepOut}
 
 -- what a call that obeys says of its reply
 pub record Answers (ask : Ask) (old : Device) (r : DirReply) (new : Device) : Type 0 where

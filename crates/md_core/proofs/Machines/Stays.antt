@@ -1,13 +1,9 @@
 -- A turn that changes nothing: the job goes on, or ends without an effect.
 use Rattle.std.proofs.Common.{ℕ, ◌≡◌, ◌<◌, ◌⊎◌, List, Option, Some, None, Bool, true, false, refl, sym, ◌∙◌, MatchBool, MatchOption}
-use Rattle.md_dirs.specs.State.{State, IsSound}
+use Rattle.md_core.proofs.Values.{State, IsSound, Call, Effect, DirReply, Task}
 use Rattle.md_core.specs.declared.jobs.answer.Answer.{Answer}
-use Rattle.md_core.specs.declared.jobs.call.Call.{Call}
-use Rattle.md_core.specs.declared.jobs.effect.Effect.{Effect}
-use Rattle.md_core.specs.declared.jobs.step.DirReply.{DirReply}
-use Rattle.md_core.specs.Tasks.Task.{Task}
 use Rattle.md_core.specs.Mailbox.{mailbox_of, HasOnePath}
-use Rattle.md_core.specs.Machine.{task_left}
+use Rattle.md_core.specs.Machine.{steps_left, working}
 use Rattle.md_core.specs.Asked.{Asked}
 use Rattle.md_core.specs.Turn.{After}
 use Rattle.md_core.specs.Interleaving.{is_effect_at, is_success}
@@ -29,7 +25,7 @@ as_after wrap a = record { task = wrap a.task; answer = a.answer; effect = a.eff
 module _ (s : State) (number : ℕ) (asked : Call) (task task' : Task) (made : Asked) (r : DirReply) (o : Option Answer) where
   pub stays-does : IsSound s → HasOnePath s → (o ≡ None → TaskFits s asked task') → is_effect_at asked made r o ≡ false →
       own_effect number task ≡ None → own_effect number task' ≡ None → MatchOption o (Unit {0}) (λ a. is_success a ≡ false) →
-      MatchOption o (task_left s task' < task_left s task) (λ a. 0 < task_left s task) → (o ≡ None → IsFixed task') →
+      MatchOption o (steps_left s (Some (working task')) < steps_left s (Some (working task))) (λ a. 0 < steps_left s (Some (working task))) → (o ≡ None → IsFixed task') →
       ((u : List ℕ) (size : ℕ) → o ≡ None → Found task' u size → Found task u size ⊎ IsOfSize (mailbox_of s) u size) →
       Does s s number asked task made r (record { task = task'; answer = o; effect = None })
   stays-does sound one fits no_effect none none' failure nearer fixed found = record {

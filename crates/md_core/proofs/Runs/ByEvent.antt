@@ -4,7 +4,7 @@ use Rattle.std.proofs.lemmas.List.{map-append, length-map, take_all, take-append
 use Rattle.md_core.specs.declared.jobs.call.Call.{Call}
 use Rattle.md_core.specs.Tasks.Task.{Task}
 use Rattle.md_core.specs.Machine.{Machine, working, Occurrence, job_at, new_job, after_event}
-use Rattle.md_core.specs.Runs.{Run, beginning, run_from, machine_at, machine_of, jobs_of, and_event, and_events, and_call}
+use Rattle.md_core.specs.Runs.{Run, beginning, run_from, machine_at, machine_of, jobs_of, and_event, and_call}
 use Rattle.md_core.specs.Stepping.{IsRun}
 use Rattle.md_core.proofs.Lists.Places.{at_place, take-one_more, length-changed}
 use Rattle.md_core.proofs.Runs.Events.{goes_on-exact, happens-turned, with_job, happens-with_job}
@@ -44,14 +44,8 @@ moment-over r k past = moment-past r (k + 1) (omega arith) ∙ sym (moment-past 
 pub machine-and_event : (r : Run) (e : Occurrence) → machine_of (and_event r e) ≡ after_event (machine_of r) e
 machine-and_event r e = run_from-more_event (beginning r.image r.clock r.calls) r.events e
 
-pub machine-and_events : (r : Run) (es : List Occurrence) → machine_of (and_events r es) ≡ run_from (machine_of r) es
-machine-and_events r es = run_from-append (beginning r.image r.clock r.calls) r.events es
-
 pub moment-and_event : (r : Run) (e : Occurrence) (k : ℕ) → k ≤ length r.events → machine_at (and_event r e) k ≡ machine_at r k
 moment-and_event r e k within = ap (run_from (beginning r.image r.clock r.calls)) (take-append-le k r.events (e ∷ []) within)
-
-pub moment-and_events : (r : Run) (es : List Occurrence) (k : ℕ) → k ≤ length r.events → machine_at (and_events r es) k ≡ machine_at r k
-moment-and_events r es k within = ap (run_from (beginning r.image r.clock r.calls)) (take-append-le k r.events es within)
 
 -- What holds at the beginning, and is kept by each event of a job that is there and has no answer, holds at each moment.
 module _ (r : Run) (run : IsRun r) (P : List Occurrence → Machine → Type 0) (start : P [] (beginning r.image r.clock r.calls))

@@ -1,12 +1,11 @@
 -- One event: which job it is of, where it is refused, and that it would go the same with one more job.
 use Rattle.std.proofs.Common.{ℕ, zero, suc, ◌≡◌, ◌<◌, ◌≤◌, ◌-◌, ◌++◌, ◌↔◌, List, [], ◌∷◌, Option, Some, None, refl, sym, ap, ◌∙◌, length, slice_get, arith}
 use Rattle.std.specs.Option.{option_map}
-use Rattle.std.proofs.lemmas.Option.{slice_get_within, slice_get_past}
-use Rattle.md_core.specs.declared.jobs.step.DirReply.{DirReply}
+use Rattle.std.proofs.lemmas.Option.{slice_get_within}
+use Rattle.md_core.proofs.Values.{DirReply, Task}
 use Rattle.md_core.specs.declared.jobs.step.Moment.{Moment}
-use Rattle.md_core.specs.Tasks.Task.{Task}
 use Rattle.md_core.specs.Turn.{Turn, rows_for}
-use Rattle.md_core.specs.Machine.{Machine, Standing, working, answered, Occurrence, job_at, task_of, turn_of, moment_of, standing_of, after_turn, reply_to, after_turn_of, after_event, step_of, step_by}
+use Rattle.md_core.specs.Machine.{Machine, Standing, working, Occurrence, job_at, task_of, turn_of, moment_of, standing_of, after_turn, reply_to, after_turn_of, after_event, step_of, step_by}
 use Rattle.md_core.specs.Runs.{step_refusal}
 use Rattle.md_core.proofs.Lists.Places.{get-more, set-more}
 
@@ -19,16 +18,10 @@ pub job_at-within : (jobs : List Standing) (number : ℕ) (job : Standing) → j
 job_at-within jobs zero job is = cc
 job_at-within jobs (suc i) job is = let h = slice_get_within jobs i job is in (omega arith, omega arith)
 
--- there is no job 0, and none past the last
-pub job_at-none : (jobs : List Standing) (number : ℕ) → (0 < number → length jobs < number) → job_at jobs number ≡ None
-job_at-none jobs zero h = refl
-job_at-none jobs (suc i) h = let past : length jobs ≤ i = (let more : length jobs < suc i = h (omega arith) in omega arith) in slice_get_past jobs i past
-
 -- an event goes on exactly where its job is there and has no answer
 pub goes_on-exact : (o : Option Standing) → (step_refusal o ≡ None) ↔ ((task : Task) × (o ≡ Some (working task)))
-goes_on-exact None = (λ h. cc, λ h. cc)
 goes_on-exact (Some (working task)) = (λ h. (task, refl), λ h. refl)
-goes_on-exact (Some (answered a)) = (λ h. cc, λ h. cc)
+goes_on-exact other = (λ h. cc, λ h. cc)
 
 -- of a job that is there and has no answer, an event is its turn
 module _ (m : Machine) (e : Occurrence) (task : Task) (is : job_at m.jobs e.event.job ≡ Some (working task)) where
@@ -80,8 +73,3 @@ module _ (m : Machine) (new job : Standing) (e : Occurrence) (at : job_at m.jobs
       ap (λ o. after_turn_of (with_job m new) e (task_of o)) (job_at-more m.jobs (new ∷ []) n job at)
       ∙ met-with_job (task_of (Some job))
       ∙ ap (λ (x : Machine). with_job x new) (sym (ap (λ o. after_turn_of m e (task_of o)) at))
-
-  -- and it does the same
-  pub done-with_job : step_of (with_job m new) e ≡ step_of m e
-  done-with_job = ap (λ o. option_map (step_by m e) (task_of o)) (job_at-more m.jobs (new ∷ []) n job at) ∙
-      sym (ap (λ o. option_map (step_by m e) (task_of o)) at)

@@ -1,66 +1,44 @@
 -- The path that the directory call of a task makes has no fault by itself: a delivery and a copy make one of a fresh unique name, a change
 -- of flags one of the message's, and a move keeps the name.
-use Rattle.std.proofs.Common.{ℕ, ◌≡◌, List, true, refl}
-use Rattle.md_dirs.specs.Path.{path_of as path}
-use Rattle.md_dirs.specs.State.{State}
-use Rattle.md_dirs.specs.declared.paths.Place.{Place}
+use Rattle.std.proofs.Common.{ℕ, ◌≡◌, List, true}
+use Rattle.md_core.proofs.Values.{State, Call, Moment, Task, Deliver, Errand, Clean}
 use Rattle.md_name.specs.Names.{is_unique_name}
-use Rattle.md_name.specs.declared.info.Info.{Info}
-use Rattle.md_name.specs.declared.info.Info.TheVariants.{Bare, Two, Opaque}
-use Rattle.md_core.specs.declared.jobs.answer.Answer.TheVariants as answer
-use Rattle.md_core.specs.declared.jobs.call.Call.{Call}
-use Rattle.md_core.specs.declared.jobs.step.Moment.{Moment}
 use Rattle.md_core.specs.Machine.{turn_of}
 use Rattle.md_core.specs.Machines.Clean as cleaned_by
-use Rattle.md_core.specs.Machines.Deliver.{append_turn, link_turn, unlink_turn, target}
+use Rattle.md_core.specs.Machines.Deliver.{target}
 use Rattle.md_core.specs.Machines.Errand as errands_by
-use Rattle.md_core.specs.Machines.Errand.{asked_of}
-use Rattle.md_core.specs.Machines.Purposes.{deed_by, info_in, name_copied}
+use Rattle.md_core.specs.Machines.Purposes.{info_in}
 use Rattle.md_core.specs.Tasks.Cleaning.{Cleaning}
 use Rattle.md_core.specs.Tasks.Cleaning as cleaning
 use Rattle.md_core.specs.Tasks.Delivery.{Delivery, Stage, Start, Writing, Linked, Undo}
 use Rattle.md_core.specs.Tasks.Errand as errand
-use Rattle.md_core.specs.Tasks.Purpose.{Purpose, Seen, Flag, Move, Copy, Expunge}
-use Rattle.md_core.specs.Tasks.Task.{Task, Deliver, Errand, Clean}
+use Rattle.md_core.specs.Accepting.{MakesMessage}
 use Rattle.md_core.proofs.Answers.Files.Asking.{asked_at, writing-by}
-use Rattle.md_core.proofs.Induction.Good.{TaskFits, IsFor, Makes}
+use Rattle.md_core.proofs.Induction.Good.{TaskFits}
 use Rattle.md_core.proofs.Directories.Frames.{makes-delivery}
-use Rattle.md_core.proofs.Settling.Loadable.{IsGoodPath, IsLoadable}
+use Rattle.md_core.proofs.Settling.Loadable.{IsLoadable}
 use Rattle.md_core.proofs.Settling.Leaving.{MakesGood}
-use Rattle.md_core.proofs.Settling.Names.{unique-good, flagged-good}
+use Rattle.md_core.proofs.Settling.Names.{unique-good}
+use Rattle.md_core.proofs.Machines.Errand.Table.Calls.{IsFor}
+use Rattle.md_core.proofs.Machines.Errand.Table.Loads.{deed-good}
 
 module _ (s : State) (clock : ℕ) (h : IsLoadable s clock) where
   delivery-good : (number : ℕ) (d : Delivery) (at : Moment) → is_unique_name d.tmp.name ≡ true → (stage : Stage) → MakesGood s (asked_at number d at stage)
   delivery-good number d at valid Start = unique-good d.tmp valid
   delivery-good number d at valid (Writing start k) = writing-by number d at (MakesGood s) start k tt (unique-good (target d) valid) tt
-  delivery-good number d at valid Linked = tt
-  delivery-good number d at valid (Undo refusal) = tt
-
-  copied-good : (to : ℕ) (place : Place) (fresh : List ℕ) (info : Info) → is_unique_name fresh ≡ true → IsGoodPath (path to place (name_copied fresh info))
-  copied-good to place fresh Bare valid = unique-good (path to place fresh) valid
-  copied-good to place fresh (Two flags) valid = flagged-good (path to place (name_copied fresh (Two flags))) fresh flags valid refl
-  copied-good to place fresh Opaque valid = unique-good (path to place fresh) valid
-
-  deed-good : (p : Purpose) (folder : ℕ) (u : List ℕ) (place : Place) (name : List ℕ) (info : Info) → is_unique_name u ≡ true → IsFor folder p →
-      MakesGood s (asked_of (deed_by p folder u place name info))
-  deed-good (Seen given) folder u place name info valid for = λ n there. flagged-good _ u _ valid refl
-  deed-good (Flag add remove) folder u place name info valid for = λ n there. flagged-good _ u _ valid refl
-  deed-good (Move to) folder u place name info valid for = λ n there.
-      let old = h.good (path folder place name) n there in record { name = old.name; short = old.short }
-  deed-good (Copy to fresh) folder u place name info valid for = copied-good to place fresh info for
-  deed-good Expunge folder u place name info valid for = tt
+  delivery-good number d at valid other = tt
 
   errand-good : (number : ℕ) (e : errand.Errand) → is_unique_name e.unique ≡ true → IsFor e.folder e.purpose → (stage : errand.Stage) →
       MakesGood s (errands_by.stage_turn number e stage).asked
   errand-good number e valid for (errand.Look place tries) = tt
   errand-good number e valid for (errand.Act place row tries) =
-      deed-good e.purpose e.folder e.unique place row.name (info_in row.name) valid for
+      deed-good s clock h e.purpose e.folder e.unique place row.name (info_in row.name) valid for
 
   cleaning-good : (c : Cleaning) (own : ℕ) (stage : cleaning.Stage) → MakesGood s (cleaned_by.stage_turn c own stage).asked
   cleaning-good c own cleaning.Look = tt
   cleaning-good c own (cleaning.Remove name rest files) = tt
 
-  pub asks-good : (asked : Call) → ((u : List ℕ) → Makes asked u → is_unique_name u ≡ true) → (number : ℕ) (task : Task) (at : Moment) →
+  pub asks-good : (asked : Call) → ((u : List ℕ) → MakesMessage asked u → is_unique_name u ≡ true) → (number : ℕ) (task : Task) (at : Moment) →
       TaskFits s asked task → MakesGood s (turn_of number task at).asked
   asks-good asked valid number (Deliver d) at fits = delivery-good number d at (valid d.tmp.name (makes-delivery s asked d fits)) d.stage
   asks-good asked valid number (Errand e) at fits = errand-good number e fits.valid fits.is_for e.stage

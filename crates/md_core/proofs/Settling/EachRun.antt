@@ -1,43 +1,31 @@
 -- The directories of a run load at each moment, and none of their stamps is past the clock; so a run may begin again with them.
-use Rattle.std.proofs.Common.{ℕ, zero, suc, ◌≡◌, ◌≤◌, ◌+◌, List, Some, None, true, sym, ap, subst, ◌∙◌, length, take, slice_get, arith}
-use Rattle.md_dirs.specs.State.{State}
+use Rattle.std.proofs.Common.{ℕ, zero, suc, ◌≡◌, ◌≤◌, ◌+◌, List, Some, None, true, sym, subst, length, take, arith}
+use Rattle.md_core.proofs.Values.{State, Call}
 use Rattle.md_name.specs.Names.{is_unique_name}
-use Rattle.md_core.specs.declared.jobs.call.Call.{Call}
-use Rattle.md_core.specs.declared.jobs.call.Call.TheVariants.{Deliver, Seen, Flag, Move, Expunge, Copy, Clean}
 use Rattle.md_core.specs.Loading.{load_refusal}
 use Rattle.md_core.specs.Machine.{Machine}
 use Rattle.md_core.specs.Mailbox.{HasOnePath}
 use Rattle.md_core.specs.Runs.{Run, first_clock, machine_at, machine_of, dirs_of, failures_of, calls_made_of}
 use Rattle.md_core.specs.Settling.{settled}
 use Rattle.md_core.specs.Stepping.{IsRun}
-use Rattle.md_core.specs.Submitting.{submit_refusal}
 use Rattle.md_core.specs.Trace.{call_at}
+use Rattle.md_core.specs.Accepting.{MakesMessage}
 use Rattle.md_core.proofs.Answers.LastStep.{IsTurn, turn_by, reply_in}
 use Rattle.md_core.proofs.Answers.Moments.{at, its-call, its-fits, sound-now, next-dirs, next-clock, clock-grows, each-moment}
-use Rattle.md_core.proofs.Induction.Good.{Makes}
-use Rattle.md_core.proofs.Induction.GoodRuns.{good-machine}
+use Rattle.md_core.proofs.Induction.GoodRuns.{good-machine, accepted-at}
 use Rattle.md_core.proofs.Machines.EachTurn.{each-turn}
 use Rattle.md_core.proofs.Runs.ByEvent.{moment-start, moment-end}
 use Rattle.md_core.proofs.Runs.Extended.{is_run-begun}
-use Rattle.md_core.proofs.Worlds.Accepted.{accepted, accepted-copy}
 use Rattle.md_core.proofs.Settling.Loadable.{IsLoadable, loaded-loadable, loadable-loads, loadable-clock}
 use Rattle.md_core.proofs.Settling.Leaving.{leaves}
 use Rattle.md_core.proofs.Settling.Asks.{asks-good}
-
--- a call that was accepted makes only a unique name
-made-valid : (r : Run) (call : Call) → submit_refusal r call ≡ None → (u : List ℕ) → Makes call u → is_unique_name u ≡ true
-made-valid r (Deliver folder v body chunk) none u is = ap is_unique_name (sym is) ∙ (accepted r folder v body chunk none).valid
-made-valid r (Copy folder v to fresh tries) none u is = ap is_unique_name (sym is) ∙ (accepted-copy r folder v to fresh tries none).fresh_valid
-made-valid r (Seen folder v flags tries) none u is = absurd is
-made-valid r (Flag folder v add remove tries) none u is = absurd is
-made-valid r (Move folder v to tries) none u is = absurd is
-made-valid r (Expunge folder v tries) none u is = absurd is
-made-valid r (Clean folder) none u is = absurd is
+use Rattle.md_core.proofs.Machines.Errand.Table.Checks.{makes-fresh}
 
 module _ (r : Run) (run : IsRun r) where
-  valid-at : (job : ℕ) (call : Call) → call_at r.calls job ≡ Some call → (u : List ℕ) → Makes call u → is_unique_name u ≡ true
+  -- a call that was accepted makes only a unique name
+  valid-at : (job : ℕ) (call : Call) → call_at r.calls job ≡ Some call → (u : List ℕ) → MakesMessage call u → is_unique_name u ≡ true
   valid-at zero call of = cc
-  valid-at (suc i) call of = made-valid (record r { calls = take i r.calls }) call (run.accepted i call of)
+  valid-at (suc i) call of = λ u is. (makes-fresh r.image (take i r.calls) call u (accepted-at r run i call of) is).valid
 
   abbrev Loads : ℕ → Type 0
   Loads k = IsLoadable (machine_at r k).dirs (machine_at r k).clock

@@ -1,14 +1,11 @@
 -- What a directory call leaves can be loaded, where what it found could, and the path that it makes has no fault by itself.
 use Rattle.std.proofs.Common.{ℕ, ◌≡◌, ◌≢◌, ◌≤◌, List, Option, Some, None, Bool, true, false, cond, refl, sym, ap, subst, ◌∙◌, slice_set, length, IsSome, arith}
-use Rattle.std.specs.FinMap as finmap
-use Rattle.md_dirs.specs.State.{State, IsSound, file_at, file_by}
-use Rattle.md_dirs.specs.Calls.{after_create, empty_file, after_append, file_with_more, with_path, without_path, after_unlink, with_files_still_named, is_one_file}
-use Rattle.md_dirs.specs.declared.paths.Path.{Path}
+use Rattle.md_core.proofs.Values.{State, IsSound, file_at, file_by, Path, DirReply}
+use Rattle.md_dirs.specs.Calls.{after_create, empty_file, after_append, file_with_more, with_path, without_path, with_files_still_named, is_one_file}
 use Rattle.md_dirs.specs.declared.paths.File.{File}
 use Rattle.md_dirs.proofs.PathOrder.{path_total, path_exact}
 use Rattle.lists.proofs.Maps as maps
 use Rattle.md_dirs.proofs.Sound.{by_path, by_number, file_by-push, file_by-last, file_by-set_same, file_by-set_other, number-within, swept-kept}
-use Rattle.md_core.specs.declared.jobs.step.DirReply.{DirReply}
 use Rattle.md_core.specs.declared.jobs.step.DirReply.TheVariants as reply
 use Rattle.md_core.specs.Runs.{stamp_of}
 use Rattle.md_core.specs.Asked.{Asked, create, append, link, rename, unlink, list, ask_of, state_by}
@@ -18,11 +15,9 @@ use Rattle.md_core.proofs.Settling.Loadable.{IsGoodPath, IsLoadable}
 -- the path that a call makes has no fault by itself; a rename makes one only where there is something to rename
 abbrev pub MakesGood : State → Asked → Type 0
 MakesGood s (create p) = IsGoodPath p
-MakesGood s (append p bytes) = Unit {0}
 MakesGood s (link old new) = IsGoodPath new
 MakesGood s (rename old new) = (n : ℕ) → file_at s old ≡ Some n → IsGoodPath new
-MakesGood s (unlink p) = Unit {0}
-MakesGood s (list folder place) = Unit {0}
+MakesGood s other = Unit {0}
 
 -- ---- of names alone
 
@@ -131,6 +126,4 @@ module _ (s : State) (sound : IsSound s) (before clock : ℕ) (later : before �
 
   pub leaves : (asked : Asked) (r : DirReply) → MakesGood s asked → IsLoadable (state_by (ask_of asked clock) s r) clock
   leaves asked reply.Ok good = done asked good
-  leaves asked reply.Exists good = stays
-  leaves asked reply.NotFound good = stays
-  leaves asked reply.Fault good = stays
+  leaves asked other good = stays

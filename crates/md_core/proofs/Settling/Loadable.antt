@@ -1,7 +1,6 @@
 -- What holds of directories at each moment of a run: no name has a fault by itself, and no file has a stamp past the clock. Where also each
 -- message has one path, they load.
-use Rattle.std.proofs.Common.{ℕ, ◌≡◌, ◌≤◌, inl, inr, List, [], ◌∷◌, Option, Some, None, Bool, true, false, cond, T, ◌&&◌, ◌||◌, nat_lt, max, fold, length, refl, sym, ap, ◌∙◌, arith}
-use Rattle.std.specs.declared.cmp.Ordering.{Ordering}
+use Rattle.std.proofs.Common.{ℕ, ◌≡◌, ◌≤◌, inl, inr, List, [], ◌∷◌, Option, Some, None, Bool, true, false, cond, T, ◌&&◌, ◌||◌, nat_lt, max, fold, length, refl, ap, ◌∙◌, arith}
 use Rattle.std.specs.declared.cmp.Ordering.TheVariants.{Less, Equal}
 use Rattle.std.specs.Option.{option_or}
 use Rattle.std.specs.List.{list_any}
@@ -13,11 +12,10 @@ use Rattle.std.proofs.lemmas.Bool.Decides.{nat_tests}
 use Rattle.std.proofs.lemmas.Cmp.{tied_itself}
 use Rattle.std.proofs.lemmas.Slice.Eq.{bytes_eq-Decides}
 use Rattle.md_dirs.specs.Path.{path_cmp}
-use Rattle.md_dirs.specs.State.{State, file_at, file_by}
+use Rattle.md_core.proofs.Values.{State, file_at, file_by, CoreError}
 use Rattle.md_dirs.specs.declared.paths.Path.{Path}
 use Rattle.md_dirs.proofs.PathOrder.{path_total, path_exact}
 use Rattle.md_name.specs.Names.{unique_of}
-use Rattle.md_core.specs.declared.error.CoreError.{CoreError}
 use Rattle.md_core.specs.declared.error.CoreError.TheVariants as core
 use Rattle.md_core.specs.Mailbox.{is_message, HasOnePath}
 use Rattle.md_core.specs.Loading.{is_bad_name, is_long_unique, is_same_message, fault_of, first_fault, load_refusal}

@@ -8,8 +8,8 @@ use Rattle.md_name.specs.Letters.{Set, spelling}
 use Rattle.md_name.specs.Names.{is_colon, is_slash, is_terminator, begins_with_dot, unique_of, is_maildir_unique, is_unique_name, flagged}
 use Rattle.md_name.proofs.Flagged.{unique_of-flagged, length-flagged-le, slash-flagged, terminator-flagged}
 use Rattle.md_core.specs.Loading.{is_bad_name}
-use Rattle.md_core.proofs.Worlds.Accepted.{no_colon-unique}
 use Rattle.md_core.proofs.Settling.Loadable.{IsGoodPath}
+use Rattle.md_core.proofs.Worlds.UniqueNames.{no_colon-unique}
 
 -- what a unique name is, by its bytes
 record IsPlain (u : List ℕ) : Type 0 where

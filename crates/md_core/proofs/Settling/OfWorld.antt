@@ -1,16 +1,14 @@
 -- What a settled world keeps, and that only memory can be wanting to it. And which job has no answer, by what a world keeps of its jobs.
-use Rattle.std.proofs.Common.{ℕ, ◌≡◌, ◌⊎◌, ◌+◌, inl, inr, List, [], ◌∷◌, Option, Some, None, Bool, cond, not, nat_lt, option_map, position, refl, sym, ap, subst, ◌∙◌}
+use Rattle.std.proofs.Common.{ℕ, ◌≡◌, ◌+◌, inl, inr, List, [], ◌∷◌, Some, None, Bool, cond, not, nat_lt, option_map, position, refl, sym, ap, subst, ◌∙◌}
 use Rattle.std.specs.List.{list_any, position_or_len}
 use Rattle.std.proofs.lemmas.List.{length-map}
 use Rattle.std.specs.FinMap as finmap
 use Rattle.md_dirs.specs.Calls.{Device}
-use Rattle.md_core.specs.declared.error.CoreError.{CoreError}
+use Rattle.md_core.proofs.Values.{CoreError, Effect, Event}
 use Rattle.md_core.specs.declared.error.CoreError.TheVariants as core
-use Rattle.md_core.specs.declared.jobs.effect.Effect.{Effect}
-use Rattle.md_core.specs.declared.jobs.step.Event.{Event}
 use Rattle.md_core.specs.Loading.{load_refusal}
 use Rattle.md_core.specs.Looking.{IsFault}
-use Rattle.md_core.specs.Machine.{Machine, Standing, is_working}
+use Rattle.md_core.specs.Machine.{Machine, is_working}
 use Rattle.md_core.specs.Runs.{Run}
 use Rattle.md_core.specs.Settling.{first_unanswered, settled}
 use Rattle.md_core.specs.Standing.{JobView, standings}
@@ -19,7 +17,7 @@ use Rattle.md_core.specs.Submitting.{uses}
 use Rattle.md_core.specs.Used.{is_among}
 use Rattle.md_core.specs.Worlds.{IsWorld, run_of, machine_by}
 use Rattle.md_core.proofs.Worlds.Submitted.{begun-world}
-use Rattle.md_core.proofs.Settling.EachRun.{run-loads, is_run-settled}
+use Rattle.md_core.proofs.Settling.EachRun.{is_run-settled}
 
 place-standings : (jobs : List JobView) → position_or_len is_working (standings jobs) ≡ position_or_len (λ job. is_working job.standing) jobs
 place-standings [] = refl

@@ -5,17 +5,16 @@ use Rattle.std.specs.Prelude.{count_by}
 use Rattle.std.proofs.lemmas.Bool.Decides.{nat_tests}
 use Rattle.std.proofs.lemmas.List.{take_all, take-append-le}
 use Rattle.std.proofs.lemmas.List.Sums.{sum_by-append}
-use Rattle.md_dirs.specs.State.{State}
+use Rattle.md_core.proofs.Values.{State, Call, Task, Deliver, Errand, Clean}
 use Rattle.md_core.specs.declared.jobs.answer.Answer.{Answer}
-use Rattle.md_core.specs.declared.jobs.call.Call.{Call}
 use Rattle.md_core.specs.Tasks.Delivery.{Stage, Start, Writing, Linked, Undo}
-use Rattle.md_core.specs.Tasks.Task.{Task, Deliver, Errand, Clean}
 use Rattle.md_core.specs.Tasks.Cleaning as cleaning
-use Rattle.md_core.specs.Machines.Deliver.{stage_left}
+use Rattle.md_core.specs.Machines.Deliver as delivered_by
 use Rattle.md_core.specs.Machines.Clean as cleaned_by
-use Rattle.md_core.specs.Machine.{Machine, Standing, working, answered, Occurrence, job_at, job_left, task_left, standing_of, new_job, after_event, step_by}
+use Rattle.md_core.specs.Machine.{Machine, Standing, working, answered, Occurrence, job_at, steps_left, standing_of, new_job, after_event, step_by}
 use Rattle.md_core.specs.Trace.{Step, call_at}
-use Rattle.md_core.specs.Runs.{Run, beginning, run_from, machine_of, dirs_of, jobs_of, and_event, step_refusal, steps_left, left_of, dirs_at_first}
+use Rattle.md_core.specs.Runs.{Run, beginning, run_from, machine_of, dirs_of, jobs_of, and_event, step_refusal, dirs_at_first}
+use Rattle.md_core.specs.Runs as runs
 use Rattle.md_core.specs.Stepping.{IsRun}
 use Rattle.md_core.proofs.Theorem.RunLaw.{steps_of}
 use Rattle.md_core.proofs.Induction.Good.{EachTurn, IsGood, IsFixed}
@@ -26,21 +25,21 @@ use Rattle.md_core.proofs.Runs.ByEvent.{at_last, machine-and_event, run_from-non
 use Rattle.md_core.proofs.Induction.Going.{Goes, goes, goes-cases, goes-here, goes-others}
 use Rattle.md_core.proofs.Induction.GoodRuns.{new_at, all-apart, good-beginning, good-machine}
 use Rattle.md_core.specs.Machines.Purposes.{searches}
-use Rattle.md_core.proofs.Machines.Errand.Table.{left-some as errand_left-some}
+use Rattle.md_core.proofs.Machines.Errand.Table.Rows.{steps_left-some as errand-some}
 
 -- a turn leaves less to its job
 pub nearer : (calls : List Call) (m m' : Machine) (what : Step) (g : Goes calls m m' what) →
-    job_left m'.dirs (standing_of g.task' what.answer) < task_left m.dirs g.task
+    steps_left m'.dirs (Some (standing_of g.task' what.answer)) < steps_left m.dirs (Some (working g.task))
 nearer calls m m' what g = by what.answer g.does.nearer
   where
-    by : (a : Option Answer) → MatchOption a (task_left m'.dirs g.task' < task_left m.dirs g.task) (λ _. 0 < task_left m.dirs g.task) →
-        job_left m'.dirs (standing_of g.task' a) < task_left m.dirs g.task
+    by : (a : Option Answer) → MatchOption a (steps_left m'.dirs (Some (working g.task')) < steps_left m.dirs (Some (working g.task))) (λ _. 0 < steps_left m.dirs (Some (working g.task))) →
+        steps_left m'.dirs (Some (standing_of g.task' a)) < steps_left m.dirs (Some (working g.task))
     by None less = less
     by (Some a) some = some
 
 -- how many steps are left to a job, whatever others do to the directories
 abbrev StaysFixed : Standing → Type 0
-StaysFixed job = (s s' : State) → job_left s job ≡ job_left s' job
+StaysFixed job = (s s' : State) → steps_left s (Some job) ≡ steps_left s' (Some job)
 
 -- a job that took its turn
 fixed-then : (calls : List Call) (m m' : Machine) (what : Step) (g : Goes calls m m' what) → StaysFixed (standing_of g.task' what.answer)
@@ -51,26 +50,25 @@ fixed-then calls m m' what g = by what.answer g.does.fixed
     by (Some a) fixed = λ s s'. refl
 
 -- something is left to each task
-pub left-some : (s : State) (task : Task) → 0 < task_left s task
-left-some s (Deliver d) = by d.stage
+pub steps_left-some : (s : State) (task : Task) → 0 < steps_left s (Some (working task))
+steps_left-some s (Deliver d) = by d.stage
   where
-    by : (stage : Stage) → 0 < stage_left d stage
+    by : (stage : Stage) → 0 < delivered_by.steps_left d stage
     by Start = omega arith
     by (Writing start k) = omega arith
     by Linked = omega arith
     by (Undo a) = omega arith
-left-some s (Errand e) = errand_left-some (searches e.purpose) e.stage
-left-some s (Clean c) = by c.stage
+steps_left-some s (Errand e) = errand-some (searches e.purpose) e.stage
+steps_left-some s (Clean c) = by c.stage
   where
-    by : (stage : cleaning.Stage) → 0 < cleaned_by.stage_left s c.folder stage
+    by : (stage : cleaning.Stage) → 0 < cleaned_by.steps_left s c.folder stage
     by cleaning.Look = omega arith
     by (cleaning.Remove name rest files) = omega arith
 
 -- a step is refused exactly where nothing is left
-pub left-exact : (s : State) (o : Option Standing) → (step_refusal o ≡ None) ↔ (0 < left_of s o)
-left-exact s None = (λ h. cc, λ h. absurd (omega arith))
-left-exact s (Some (working task)) = (λ h. left-some s task, λ h. refl)
-left-exact s (Some (answered a)) = (λ h. cc, λ h. absurd (omega arith))
+pub steps_left-exact : (s : State) (o : Option Standing) → (step_refusal o ≡ None) ↔ (0 < steps_left s o)
+steps_left-exact s (Some (working task)) = (λ h. steps_left-some s task, λ h. refl)
+steps_left-exact s other = (λ h. cc, λ h. absurd (omega arith))
 
 -- how many events are of a job, with one more
 abbrev of_job : ℕ → List Occurrence → ℕ
@@ -124,7 +122,7 @@ module _ (r : Run) where
   record IsBegun (es : List Occurrence) (m : Machine) (number : ℕ) (job : Standing) (asked : Call) : Type 0 where
     some : 0 < of_job number es
     fixed : StaysFixed job
-    bounded : of_job number es + job_left m.dirs job ≤ job_left (at_first number es) (new_job asked)
+    bounded : of_job number es + steps_left m.dirs (Some job) ≤ steps_left (at_first number es) (Some (new_job asked))
 
   abbrev Bounded : List Occurrence → Machine → Type 0
   Bounded es m = (j : ℕ) (job : Standing) (asked : Call) → slice_get m.jobs j ≡ Some job → slice_get r.calls j ≡ Some asked →
@@ -144,21 +142,21 @@ module _ (r : Run) where
     own-more j job asked number is before =
         let count = of_job-same (suc j) es e (sym number) in
         let less = nearer r.calls m m' what g in
-        let left : job_left m'.dirs job ≡ job_left m'.dirs (standing_of g.task' what.answer) = ap (job_left m'.dirs) is in
+        let left : steps_left m'.dirs (Some job) ≡ steps_left m'.dirs (Some (standing_of g.task' what.answer)) = ap (λ (x : Standing). steps_left m'.dirs (Some x)) is in
         record {
           some = omega (arith, count);
           fixed = subst StaysFixed (sym is) (fixed-then r.calls m m' what g);
           bounded = elim before [
             | inl new ↦
-                let whole : task_left m.dirs g.task ≡ job_left m.dirs (new_job asked) = ap (job_left m.dirs) new.1 in
+                let whole : steps_left m.dirs (Some (working g.task)) ≡ steps_left m.dirs (Some (new_job asked)) = ap (λ (x : Standing). steps_left m.dirs (Some x)) new.1 in
                 let at : at_first (suc j) (es ++ e ∷ []) ≡ m.dirs = first-own (suc j) es e new.0 (sym number) ∙ ap (λ (x : Machine). x.dirs) (sym now) in
-                let same : job_left (at_first (suc j) (es ++ e ∷ [])) (new_job asked) ≡ job_left m.dirs (new_job asked) =
-                ap (λ (s : State). job_left s (new_job asked)) at in
+                let same : steps_left (at_first (suc j) (es ++ e ∷ [])) (Some (new_job asked)) ≡ steps_left m.dirs (Some (new_job asked)) =
+                ap (λ (s : State). steps_left s (Some (new_job asked))) at in
                 let none = new.0 in
                 omega (arith, count, less, left, whole, same, none)
             | inr begun ↦
-                let same : job_left (at_first (suc j) (es ++ e ∷ [])) (new_job asked) ≡ job_left (at_first (suc j) es) (new_job asked) =
-                ap (λ (s : State). job_left s (new_job asked)) (first-kept (suc j) es e begun.some) in
+                let same : steps_left (at_first (suc j) (es ++ e ∷ [])) (Some (new_job asked)) ≡ steps_left (at_first (suc j) es) (Some (new_job asked)) =
+                ap (λ (s : State). steps_left s (Some (new_job asked))) (first-kept (suc j) es e begun.some) in
                 let bound = begun.bounded in
                 omega (arith, count, less, left, same, bound)
           ];
@@ -175,8 +173,8 @@ module _ (r : Run) where
               let some = begun.some in
               let bound = begun.bounded in
               let left = begun.fixed m'.dirs m.dirs in
-              let same : job_left (at_first (suc j) (es ++ e ∷ [])) (new_job asked) ≡ job_left (at_first (suc j) es) (new_job asked) =
-              ap (λ (s : State). job_left s (new_job asked)) (first-kept (suc j) es e some) in
+              let same : steps_left (at_first (suc j) (es ++ e ∷ [])) (Some (new_job asked)) ≡ steps_left (at_first (suc j) es) (Some (new_job asked)) =
+              ap (λ (s : State). steps_left s (Some (new_job asked))) (first-kept (suc j) es e some) in
               inr (record { some = omega (arith, count, some); fixed = begun.fixed; bounded = omega (arith, count, bound, left, same) })
         ]
 
@@ -212,14 +210,14 @@ module _ (r : Run) (run : IsRun r) (turns : EachTurn) where
   }) there-more
 
   pub bounded-machine : (number : ℕ) (asked : Call) (job : Standing) → call_at r.calls number ≡ Some asked → job_at (jobs_of r) number ≡ Some job →
-      steps_of r number + job_left (dirs_of r) job ≤ job_left (dirs_at_first r number) (new_job asked)
+      steps_of r number + steps_left (dirs_of r) (Some job) ≤ steps_left (dirs_at_first r number) (Some (new_job asked))
   bounded-machine zero asked job from at = cc
   bounded-machine (suc j) asked job from at = elim (there.bounded j job asked at from) [
     | inl new ↦
         let none = new.0 in
-        let left : job_left (dirs_of r) job ≡ job_left (dirs_of r) (new_job asked) = ap (job_left (dirs_of r)) new.1 in
-        let same : job_left (dirs_at_first r (suc j)) (new_job asked) ≡ job_left (dirs_of r) (new_job asked) =
-        ap (λ (s : State). job_left s (new_job asked)) (first-none r (suc j) r.events none) in
+        let left : steps_left (dirs_of r) (Some job) ≡ steps_left (dirs_of r) (Some (new_job asked)) = ap (λ (x : Standing). steps_left (dirs_of r) (Some x)) new.1 in
+        let same : steps_left (dirs_at_first r (suc j)) (Some (new_job asked)) ≡ steps_left (dirs_of r) (Some (new_job asked)) =
+        ap (λ (s : State). steps_left s (Some (new_job asked))) (first-none r (suc j) r.events none) in
         omega (arith, none, left, same)
     | inr begun ↦ begun.bounded
   ]
@@ -235,16 +233,16 @@ module _ (r : Run) (run : IsRun r) (turns : EachTurn) where
     going : Goes r.calls (machine_of r) (after_event (machine_of r) e) what
     going = goes turns r.calls (machine_of r) e waits.0 (good-machine r run turns) waits.1
 
-    after-is : (number : ℕ) → steps_left (and_event r e) number ≡ left_of (after_event (machine_of r) e).dirs (job_at (after_event (machine_of r) e).jobs number)
-    after-is number = ap (λ (m : Machine). left_of m.dirs (job_at m.jobs number)) (machine-and_event r e)
+    after-is : (number : ℕ) → runs.steps_left (and_event r e) number ≡ steps_left (after_event (machine_of r) e).dirs (job_at (after_event (machine_of r) e).jobs number)
+    after-is number = ap (λ (m : Machine). steps_left m.dirs (job_at m.jobs number)) (machine-and_event r e)
 
-    pub steps_left-less : steps_left (and_event r e) e.event.job < steps_left r e.event.job
+    pub steps_left-less : runs.steps_left (and_event r e) e.event.job < runs.steps_left r e.event.job
     steps_left-less =
         let m' = after_event (machine_of r) e in
-        let after = after-is e.event.job ∙ ap (λ n. left_of m'.dirs (job_at m'.jobs n)) going.number_is ∙
-        ap (left_of m'.dirs) (goes-here r.calls (machine_of r) m' what going) in
-        let before : steps_left r e.event.job ≡ task_left (dirs_of r) going.task =
-        ap (λ n. left_of (dirs_of r) (job_at (jobs_of r) n)) going.number_is ∙ ap (left_of (dirs_of r)) going.there in
+        let after = after-is e.event.job ∙ ap (λ n. steps_left m'.dirs (job_at m'.jobs n)) going.number_is ∙
+        ap (steps_left m'.dirs) (goes-here r.calls (machine_of r) m' what going) in
+        let before : runs.steps_left r e.event.job ≡ steps_left (dirs_of r) (Some (working going.task)) =
+        ap (λ n. steps_left (dirs_of r) (job_at (jobs_of r) n)) going.number_is ∙ ap (steps_left (dirs_of r)) going.there in
         let less = nearer r.calls (machine_of r) m' what going in
         omega (arith, after, before, less)
 

@@ -2,7 +2,6 @@
 use Rattle.std.proofs.Common.{ℕ, zero, suc, ◌≡◌, ◌≤◌, ◌+◌, ◌⊎◌, inl, inr, List, Option, Some, None, true, is_some, refl, sym, ap, subst, ◌∙◌, slice_get, arith}
 use Rattle.std.specs.FinMap as finmap
 use Rattle.md_core.specs.declared.jobs.call.Call.{Call}
-use Rattle.md_core.specs.declared.jobs.call.Call.TheVariants.{Deliver, Seen, Flag, Move, Expunge, Copy, Clean}
 use Rattle.md_core.specs.declared.jobs.effect.Effect.{Effect}
 use Rattle.md_core.specs.Mailbox.{Entry, Mailbox}
 use Rattle.md_core.specs.Machine.{Machine, Occurrence}
@@ -15,7 +14,8 @@ use Rattle.md_core.proofs.Induction.Going.{Goes}
 use Rattle.md_core.proofs.Induction.GoodRuns.{what-at, going-at, done-what}
 use Rattle.md_core.proofs.Lists.Places.{at_place}
 use Rattle.md_core.proofs.Runs.ByEvent.{moment-start, moment-over}
-use Rattle.md_core.proofs.Mailbox.Wholeness.{Had, Gives, as_alone-after}
+use Rattle.md_core.proofs.Mailbox.Wholeness.{as_alone-after}
+use Rattle.md_core.proofs.Machines.Errand.Table.Alone.{Had, Gives}
 
 -- a message after a step has its bytes from before, or from an effect
 given-or-had : (asked : Call) (effect : Option Effect) (m m' : Mailbox) → AsAlone asked effect m m' → (u : List ℕ) (e : Entry) → finmap.get m' u ≡ Some e →
@@ -57,26 +57,21 @@ module _ (r : Run) (run : IsRun r) (turns : EachTurn) where
     -- what an effect gives is whole
     given-whole : (asked : Call) (u bytes : List ℕ) → slice_get r.calls going.place ≡ Some asked → is_some what.effect ≡ true →
         Gives asked (box_in (machine_at r k)) u bytes → IsWhole r (k + 1) u bytes
-    given-whole (Deliver folder v body chunk) u bytes of effect gives = inl (going.place, Deliver folder v body chunk, of, gives)
-    given-whole (Copy folder v to fresh tries) u bytes of effect gives = inr (inr (record {
+    given-whole asked u bytes of effect (inl delivers) = inl (going.place, asked, of, delivers)
+    given-whole asked u bytes of effect (inr copies) = inr (inr (record {
       event = k;
       before = omega arith;
       what = what;
       at = done-what r run turns k e at;
       is_effect = effect;
-      call = Copy folder v to fresh tries;
+      call = asked;
       of = ap (call_at r.calls) going.number_is ∙ of;
-      unique = v;
-      copies = (refl, gives.0);
-      source = gives.1.0;
-      had = gives.1.1;
-      same = gives.1.2;
+      unique = copies.0;
+      copies = copies.1;
+      source = copies.2.0;
+      had = copies.2.1;
+      same = copies.2.2;
     }))
-    given-whole (Seen a b c d) u bytes of effect gives = absurd gives
-    given-whole (Flag a b c d f) u bytes of effect gives = absurd gives
-    given-whole (Move a b c d) u bytes of effect gives = absurd gives
-    given-whole (Expunge a b c) u bytes of effect gives = absurd gives
-    given-whole (Clean a) u bytes of effect gives = absurd gives
 
     wholes-more : Wholes r k → Wholes r (k + 1)
     wholes-more wholes u entry there =

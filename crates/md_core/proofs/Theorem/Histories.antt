@@ -5,20 +5,20 @@ use Rattle.std.proofs.lemmas.Bool.Decides.{nat_tests}
 use Rattle.std.proofs.lemmas.List.{append-nil, take-append-le, take_at}
 use Rattle.std.proofs.lemmas.List.Elements.{filter-append}
 use Rattle.std.proofs.lemmas.Option.{slice_get_within}
-use Rattle.md_core.specs.declared.jobs.answer.Answer.{Answer}
-use Rattle.md_core.specs.declared.jobs.call.Call.{Call}
+use Rattle.md_core.proofs.Values.{Call, Answer, Task}
 use Rattle.md_core.specs.declared.jobs.effect.Effect.{Effect}
-use Rattle.md_core.specs.Tasks.Task.{Task}
 use Rattle.md_core.specs.Mailbox.{mailbox_of}
 use Rattle.md_core.specs.History.{Names, names_of, names_after_change, names_after, WasNowhere, IsAllowed, IsAllowedAfter, IsLegal}
 use Rattle.md_core.specs.Machine.{Machine, Standing, working, answered, standing_of}
 use Rattle.md_core.specs.Trace.{Step}
 use Rattle.md_core.specs.Stepping.{AsAlone}
 use Rattle.md_core.specs.Interleaving.{is_success}
-use Rattle.md_core.proofs.Induction.Good.{IsGood, Makes, own_effect, Affects, Settles}
+use Rattle.md_core.specs.Accepting.{MakesMessage}
+use Rattle.md_core.proofs.Induction.Good.{IsGood, own_effect, Affects, Settles}
 use Rattle.md_core.proofs.Lists.Places.{at_end}
 use Rattle.md_core.proofs.Induction.Going.{Goes, AllApart, goes-cases, goes-as_many, still-working}
-use Rattle.md_core.proofs.Theorem.Effects.{allowed-fresh, nowhere-kept, after-push, now-nowhere, was_nowhere-push}
+use Rattle.md_core.proofs.Theorem.Effects.{nowhere-kept, after-push, now-nowhere, was_nowhere-push}
+use Rattle.md_core.proofs.Mailbox.Allowed.{allowed-fresh, allowed-fits}
 
 -- the effects that a job has had, by how it stands
 abbrev pub Has : ℕ → Standing → List Effect → Type 0
@@ -32,7 +32,7 @@ pub record Tells (folders : ℕ) (opening : Names) (calls : List Call) (m : Mach
   pub names : names_after opening m.effects ≡ names_of (mailbox_of m.dirs)
   -- a name that a job without an effect makes was nowhere
   pub nowhere : (j : ℕ) (asked : Call) (task : Task) (u : List ℕ) → slice_get calls j ≡ Some asked → slice_get m.jobs j ≡ Some (working task) →
-      own_effect (suc j) task ≡ None → Makes asked u → WasNowhere opening m.effects u
+      own_effect (suc j) task ≡ None → MakesMessage asked u → WasNowhere opening m.effects u
   -- a job has the one effect that it had, or none
   pub own : (j : ℕ) (job : Standing) → slice_get m.jobs j ≡ Some job → Has (suc j) job (filter (λ e. e.job == suc j) m.effects)
   -- each effect is of a job that is there
@@ -156,15 +156,15 @@ module _ (folders : ℕ) (opening : Names) (calls : List Call) (apart : AllApart
         none_passes (λ (y : Effect). y.job == number) m.effects i x no_earlier at (ap (λ n. n == number) (same ∙ affects.of) ∙ same_number number)
 
     -- it is allowed among the names of the history so far, and its job makes only names that were nowhere
-    allowed-now : IsAllowed folders (names_after opening m.effects) (Makes g.asked) e.answer e.change
-    allowed-now = subst (λ (n : Names). IsAllowed folders n (Makes g.asked) e.answer e.change) (sym tells.names)
-        (subst (λ (n : ℕ). IsAllowed n (names_of (mailbox_of m.dirs)) (Makes g.asked) e.answer e.change) tells.folders_stay affects.allowed)
+    allowed-now : IsAllowed folders (names_after opening m.effects) (MakesMessage g.asked) e.answer e.change
+    allowed-now = subst (λ (n : Names). IsAllowed folders n (MakesMessage g.asked) e.answer e.change) (sym tells.names)
+        (subst (λ (n : ℕ). IsAllowed n (names_of (mailbox_of m.dirs)) (MakesMessage g.asked) e.answer e.change) tells.folders_stay affects.allowed)
 
-    fresh : (u : List ℕ) → Makes g.asked u → WasNowhere opening m.effects u
+    fresh : (u : List ℕ) → MakesMessage g.asked u → WasNowhere opening m.effects u
     fresh u makes = tells.nowhere g.place g.asked g.task u g.of g.there (ap (λ n. own_effect n g.task) at_number ∙ first) makes
 
     allowed : IsAllowedAfter folders opening m.effects e
-    allowed = allowed-fresh folders (names_after opening m.effects) (Makes g.asked) (WasNowhere opening m.effects) fresh e.answer e.change allowed-now
+    allowed = allowed-fresh folders (names_after opening m.effects) (MakesMessage g.asked) (WasNowhere opening m.effects) e.answer e.change (λ u _. fresh u) allowed-now
 
     legal-more : IsLegal folders opening (m.effects ++ e ∷ [])
     legal-more = record {
@@ -209,7 +209,8 @@ module _ (folders : ℕ) (opening : Names) (calls : List Call) (apart : AllApart
           let other : j ≢ g.place = (λ same. let h = mine same in cc) in
           subst (λ (es : List Effect). WasNowhere opening es u) (sym effects-more)
           (was_nowhere-push opening m.effects e u nowhere
-          (nowhere-kept folders (names_after opening m.effects) (Makes g.asked) e.answer e.change u allowed-now
+          (nowhere-kept (names_after opening m.effects) (MakesMessage g.asked) e.change u
+          (allowed-fits folders (names_after opening m.effects) (MakesMessage g.asked) e.answer e.change allowed-now)
           (λ its. apart g.place j g.asked asked (λ same. other (sym same)) g.of of u its makes) (now-nowhere opening m.effects u nowhere))));
       own = λ j job at. goes-cases calls m m' what g j job at
           (λ same is. own-here m'.effects j job same is (ap (filter (λ (x : Effect). x.job == number)) effects-more ∙ mine-after ∙

@@ -6,36 +6,17 @@ use Rattle.std.proofs.lemmas.Bool.{cases_lt}
 use Rattle.std.proofs.lemmas.List.{take_all, take-append-le, take-map}
 use Rattle.std.proofs.lemmas.Option.{slice_get_within, slice_get-map}
 use Rattle.std.proofs.Math.Seq.{take-append-add}
-use Rattle.md_name.specs.Names.{unique_of}
-use Rattle.md_core.specs.declared.jobs.answer.Answer.{Answer}
-use Rattle.md_core.specs.declared.jobs.answer.Answer.TheVariants as answer
-use Rattle.md_core.specs.declared.jobs.effect.Change.{Change}
+use Rattle.md_core.proofs.Values.{Change, Effect}
 use Rattle.md_core.specs.declared.jobs.effect.Change.TheVariants as change
-use Rattle.md_core.specs.declared.jobs.effect.Effect.{Effect}
 use Rattle.md_core.specs.History.{Listed, Names, names_after_change, names_after, IsNowhere, WasNowhere, IsAllowed, IsAllowedAfter, IsLegal}
 use Rattle.md_core.specs.Joining.{job_after, numbered_after, joined, AddsName, UsesAgain, HasJobsTo, HasJobsFromOne}
 use Rattle.md_core.proofs.Lists.Places.{at_joint, get-second}
-
--- an effect is allowed where the name that it adds is fresh
-allowed-added : (folders : ℕ) (m : Names) (P Q : List ℕ → Type 0) (a : Answer) (c : Change) → ((u : List ℕ) → AddsName c u → P u → Q u) →
-    IsAllowed folders m P a c → IsAllowed folders m Q a c
-allowed-added folders m P Q answer.Delivered (change.Add folder place name size) more h = (h.0, h.1, h.2, h.3, h.4, more name h.3 h.5)
-allowed-added folders m P Q answer.Copied (change.Add folder place name size) more h = (h.0, h.1, h.2, h.3, more (unique_of name) refl h.4)
-allowed-added folders m P Q (answer.Flags s) (change.Rename folder place name to_folder to_place to_name) more h = h
-allowed-added folders m P Q (answer.Flags s) change.Same more h = h
-allowed-added folders m P Q answer.Moved (change.Rename folder place name to_folder to_place to_name) more h = h
-allowed-added folders m P Q answer.Expunged (change.Remove folder place name) more h = h
-allowed-added folders m P Q a c more h = absurd h
+use Rattle.md_core.proofs.Mailbox.Allowed.{FitsNames, allowed-fits, allowed-fresh}
 
 -- the name that an allowed effect adds is fresh
-added-fresh : (folders : ℕ) (m : Names) (P : List ℕ → Type 0) (a : Answer) (c : Change) (u : List ℕ) → IsAllowed folders m P a c → AddsName c u → P u
-added-fresh folders m P answer.Delivered (change.Add folder place name size) u h adds = subst P (sym h.3 ∙ adds) h.5
-added-fresh folders m P answer.Copied (change.Add folder place name size) u h adds = subst P adds h.4
-added-fresh folders m P (answer.Flags s) (change.Rename folder place name to_folder to_place to_name) u h adds = absurd adds
-added-fresh folders m P (answer.Flags s) change.Same u h adds = absurd adds
-added-fresh folders m P answer.Moved (change.Rename folder place name to_folder to_place to_name) u h adds = absurd adds
-added-fresh folders m P answer.Expunged (change.Remove folder place name) u h adds = absurd adds
-added-fresh folders m P a c u h adds = absurd h
+added-fresh : (m : Names) (P : List ℕ → Type 0) (c : Change) (u : List ℕ) → FitsNames m P c → AddsName c u → P u
+added-fresh m P (change.Add folder place name size) u fits adds = subst P adds fits.1
+added-fresh m P c u fits adds = absurd adds
 
 names-joined : (m : Names) (es fs : List Effect) → names_after m (es ++ fs) ≡ names_after (names_after m es) fs
 names-joined m [] fs = refl
@@ -142,7 +123,7 @@ module _ (opening : Names) (earlier later : List Effect) (jobs : ℕ) where
           let before = second.each j x.0 x.1 in
           let now = names_after middle (take j later) in
           let allowed : IsAllowed folders now (WasNowhere opening (joined jobs earlier (take j later))) x.0.answer x.0.change =
-          allowed-added folders now (WasNowhere middle (take j later)) (WasNowhere opening (joined jobs earlier (take j later)))
+          allowed-fresh folders now (WasNowhere middle (take j later)) (WasNowhere opening (joined jobs earlier (take j later)))
           x.0.answer x.0.change (λ u adds was. nowhere-joined j u (nowhere-earlier never j x.0 x.1 u adds) was) before in
           let here : IsAllowedAfter folders opening (joined jobs earlier (take j later)) x.0 =
           subst (λ (m : Names). IsAllowed folders m (WasNowhere opening (joined jobs earlier (take j later))) x.0.answer x.0.change)
@@ -162,9 +143,11 @@ module _ (opening : Names) (earlier later : List Effect) (jobs : ℕ) where
 
         fresh : WasNowhere opening (joined jobs earlier (take again.i later)) again.unique
         fresh =
+            let before = take (length earlier + again.i) all in
             let allowed = legal.each (length earlier + again.i) (job_after jobs e) (get-late again.i e again.at) in
             subst (λ (es : List Effect). WasNowhere opening es again.unique) (first-joined again.i)
-            (added-fresh folders _ _ e.answer e.change again.unique allowed again.adds)
+            (added-fresh (names_after opening before) (WasNowhere opening before) e.change again.unique
+            (allowed-fits folders (names_after opening before) (WasNowhere opening before) e.answer e.change allowed) again.adds)
 
         none-within : (k : ℕ) → k ≤ length earlier → IsNowhere (names_after opening (take k earlier)) again.unique
         none-within k within = subst (λ (es : List Effect). IsNowhere (names_after opening es) again.unique)

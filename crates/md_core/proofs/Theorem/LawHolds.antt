@@ -3,37 +3,35 @@ use Rattle.std.proofs.Common.{ℕ, zero, suc, ◌≡◌, ◌≢◌, ◌<◌, ◌
 use Rattle.std.specs.Option.{option_to_list, option_map}
 use Rattle.std.specs.FinMap as finmap
 use Rattle.std.proofs.lemmas.List.{take_all}
-use Rattle.md_dirs.specs.State.{State, file_at}
+use Rattle.md_core.proofs.Values.{State, file_at, Call, Answer, Effect, Task, Deliver, Errand, Clean}
 use Rattle.md_dirs.specs.declared.paths.Path.{Path}
-use Rattle.md_core.specs.declared.jobs.answer.Answer.{Answer}
-use Rattle.md_core.specs.declared.jobs.call.Call.{Call}
 use Rattle.md_core.specs.declared.jobs.call.Call.TheVariants as call
-use Rattle.md_core.specs.declared.jobs.effect.Effect.{Effect}
-use Rattle.md_core.specs.Tasks.Task.{Task, Deliver, Errand, Clean}
 use Rattle.md_core.specs.Mailbox.{Entry, mailbox_of, is_tmp, is_message}
 use Rattle.md_core.specs.History.{Names, names_of, as_listed, names_after, IsNowhere}
-use Rattle.md_core.specs.Machine.{Machine, Standing, working, answered, Occurrence, job_at, job_left, new_job}
+use Rattle.md_core.specs.Machine.{Machine, Standing, working, answered, Occurrence, job_at, steps_left, new_job}
+use Rattle.md_core.specs.Bounds.{most_over}
 use Rattle.md_core.specs.Trace.{Step, call_at}
 use Rattle.md_core.specs.Machines.Deliver.{delivery_effect}
 use Rattle.md_core.specs.Runs.{Run, beginning, machine_at, machine_of, jobs_of, dirs_of, dirs_at_first}
-use Rattle.md_core.specs.Submitting.{submit_refusal}
 use Rattle.md_core.specs.Stepping.{IsRun, Simulates, effects_by}
-use Rattle.md_core.proofs.Theorem.RunLaw.{Happened, IsSafe, is_linked, is_past_link, steps_of, most_from, JobLaw, RunLaw}
+use Rattle.md_core.proofs.Theorem.RunLaw.{Happened, IsSafe, is_linked, is_past_link, steps_of, JobLaw, RunLaw}
 use Rattle.md_core.specs.Interleaving.{NoneOverwritten, is_success}
-use Rattle.md_core.proofs.Induction.Good.{EachTurn, IsGood, Makes, HasNoMessage, Affects, own_effect}
+use Rattle.md_core.specs.Accepting.{MakesMessage, IsAccepted}
+use Rattle.md_core.proofs.Induction.Good.{EachTurn, IsGood, HasNoMessage, Affects, own_effect}
 use Rattle.md_core.proofs.Lists.Places.{at_place}
 use Rattle.md_core.proofs.Directories.Frames.{message-key}
 use Rattle.md_core.proofs.Mailbox.Shown.{mailbox-shows}
 use Rattle.md_core.proofs.Mailbox.Naming.{get-names}
-use Rattle.md_core.proofs.Worlds.Accepted.{accepted, accepted-look_up, accepted-move, accepted-copy}
-use Rattle.md_core.proofs.Worlds.Loading.Loaded.{unused-path}
 use Rattle.md_core.proofs.Runs.ByEvent.{moment-over}
 use Rattle.md_core.proofs.Induction.Going.{Goes}
-use Rattle.md_core.proofs.Induction.GoodRuns.{new_at, all-apart, good-moment, what-at, going-at, done-what, kept-moment, kept-machine}
+use Rattle.md_core.proofs.Induction.GoodRuns.{new_at, all-apart, good-moment, what-at, going-at, done-what, kept-moment, kept-machine, accepted-at}
 use Rattle.md_core.proofs.Theorem.Histories.{Has, Tells, tells-more}
 use Rattle.md_core.proofs.Theorem.Comes.{wholes-moment}
-use Rattle.md_core.proofs.Theorem.Bounds.{bounded-machine, left-some}
+use Rattle.md_core.proofs.Theorem.Bounds.{bounded-machine, steps_left-some}
 use Rattle.md_core.proofs.Answers.AllSay.{all-say}
+use Rattle.md_core.proofs.Machines.Errand.Table.Calls.{each-new}
+use Rattle.md_core.proofs.Machines.Errand.Table.Rows.{all-tries}
+use Rattle.md_core.proofs.Machines.Errand.Table.Checks.{makes-fresh, accepted-errand}
 
 -- what goes on simulates its call
 pub simulates : (calls : List Call) (m m' : Machine) (what : Step) (g : Goes calls m m' what) → Simulates g.asked what m m'
@@ -82,18 +80,15 @@ by_link number (Errand e) es own some = absurd (some own)
 by_link number (Clean c) es own some = absurd (some own)
 
 -- what a job of an accepted call may take at its beginning is the most that its call takes
-left-most : (r : Run) (s : State) (asked : Call) → submit_refusal r asked ≡ None → job_left s (new_job asked) ≡ most_from s asked
-left-most r s (call.Deliver a b c d) none = refl
-left-most r s (call.Seen a b c tries) none = let some = (accepted-look_up r a b tries none).some in omega arith
-left-most r s (call.Flag a b c d tries) none = let some = (accepted-look_up r a b tries none).some in omega arith
-left-most r s (call.Move a b c tries) none = let some = (accepted-move r a b c tries none).tried in omega arith
-left-most r s (call.Expunge a b tries) none = let some = (accepted-look_up r a b tries none).some in omega arith
-left-most r s (call.Copy a b c d tries) none = let some = (accepted-copy r a b c d tries none).tried in omega arith
-left-most r s (call.Clean a) none = refl
+steps_left-most : (s image : State) (earlier : List Call) (c : Call) → IsAccepted image earlier c → steps_left s (Some (new_job c)) ≡ most_over s c
+steps_left-most s image earlier = each-new (λ c job. IsAccepted image earlier c → steps_left s (Some job) ≡ most_over s c)
+    (λ folder u body chunk a. refl)
+    (λ folder u p tries a. all-tries s p folder u tries (accepted-errand image earlier folder u p tries a).tried)
+    (λ folder a. refl)
 
 -- a job with no step left has its answer
-ends-by : (s : State) (job : Standing) → job_left s job ≤ 0 → (a : Answer) × (job ≡ answered a)
-ends-by s (working task) none = let some = left-some s task in absurd (omega arith)
+ends-by : (s : State) (job : Standing) → steps_left s (Some job) ≤ 0 → (a : Answer) × (job ≡ answered a)
+ends-by s (working task) none = let some = steps_left-some s task in absurd (omega arith)
 ends-by s (answered a) none = (a, refl)
 
 module _ (turns : EachTurn) (r : Run) (run : IsRun r) where
@@ -138,27 +133,14 @@ module _ (turns : EachTurn) (r : Run) (run : IsRun r) where
   }
 
   -- a name that a call makes is nowhere at the beginning
-  fresh-name : (i : ℕ) (asked : Call) (u : List ℕ) → slice_get r.calls i ≡ Some asked → Makes asked u → IsNowhere opening u
-  fresh-name i asked u at makes = by asked (run.accepted i asked at) makes
+  fresh-name : (i : ℕ) (asked : Call) (u : List ℕ) → slice_get r.calls i ≡ Some asked → MakesMessage asked u → IsNowhere opening u
+  fresh-name i asked u at makes =
+      let unused = (makes-fresh r.image (take i r.calls) asked u (accepted-at r run i asked at) makes).unused in
+      get-names (mailbox_of r.image) u ∙ ap (option_map (as_listed u)) (no_entry (λ p message same. unused p (message-key p message ∙ same)) _ refl)
     where
       no_entry : HasNoMessage r.image u → (o : Option Entry) → finmap.get (mailbox_of r.image) u ≡ o → finmap.get (mailbox_of r.image) u ≡ None
       no_entry none None is = is
       no_entry none (Some e) is = let h = mailbox-shows r.image u e is in let gone = none h.path h.message h.unique in let there = h.there in cc
-
-      by : (c : Call) → submit_refusal (record r { calls = take i r.calls }) c ≡ None → Makes c u → IsNowhere opening u
-      by (call.Deliver folder v body chunk) none its =
-          let a = accepted (record r { calls = take i r.calls }) folder v body chunk none in
-          let unused = unused-path r.image v a.valid a.unused in
-          get-names (mailbox_of r.image) u ∙ ap (option_map (as_listed u)) (no_entry (λ p message same. unused p (message-key p message ∙ same ∙ sym its)) _ refl)
-      by (call.Copy folder v to fresh tries) none its =
-          let a = accepted-copy (record r { calls = take i r.calls }) folder v to fresh tries none in
-          let unused = unused-path r.image fresh a.fresh_valid a.unused in
-          get-names (mailbox_of r.image) u ∙ ap (option_map (as_listed u)) (no_entry (λ p message same. unused p (message-key p message ∙ same ∙ sym its)) _ refl)
-      by (call.Seen a b c d) none its = absurd its
-      by (call.Flag a b c d e) none its = absurd its
-      by (call.Move a b c d) none its = absurd its
-      by (call.Expunge a b c) none its = absurd its
-      by (call.Clean a) none its = absurd its
 
   tells-start : Tells r.image.folders opening r.calls (beginning r.image r.clock r.calls)
   tells-start = record {
@@ -173,12 +155,7 @@ module _ (turns : EachTurn) (r : Run) (run : IsRun r) where
     where
       new-has : (number : ℕ) (asked : Call) → Has number (new_job asked) []
       new-has number (call.Deliver folder u body chunk) = refl
-      new-has number (call.Seen a b c d) = refl
-      new-has number (call.Flag a b c d e) = refl
-      new-has number (call.Move a b c d) = refl
-      new-has number (call.Expunge a b c) = refl
-      new-has number (call.Copy a b c d e) = refl
-      new-has number (call.Clean a) = refl
+      new-has number c = refl
 
   abbrev Told : List Occurrence → Machine → Type 0
   Told es m = Tells r.image.folders opening r.calls m
@@ -198,14 +175,14 @@ module _ (turns : EachTurn) (r : Run) (run : IsRun r) where
   keeps (suc j) asked job from at =
       let own : Has (suc j) job (effects_by r (suc j)) = tells.own j job at in
       let most = bounded-machine r run turns (suc j) asked job from at in
-      let whole = left-most (record r { calls = take j r.calls }) (dirs_at_first r (suc j)) asked (run.accepted j asked from) in
+      let whole = steps_left-most (dirs_at_first r (suc j)) r.image (take j r.calls) asked (accepted-at r run j asked from) in
       record {
         once = at_most_one (suc j) job (effects_by r (suc j)) own;
         success = λ a is success. by_success (suc j) a (effects_by r (suc j)) (subst (λ (x : Standing). Has (suc j) x (effects_by r (suc j))) is own) success;
         failure = λ a is failure. by_failure (suc j) a (effects_by r (suc j)) (subst (λ (x : Standing). Has (suc j) x (effects_by r (suc j))) is own) failure;
         unanswered = λ t is some. by_link (suc j) t (effects_by r (suc j)) (subst (λ (x : Standing). Has (suc j) x (effects_by r (suc j))) is own) some;
         says = λ a is. all-say r run (suc j) asked a from (at ∙ ap Some is);
-        bounded = subst (λ (n : ℕ). steps_of r (suc j) + job_left (dirs_of r) job ≤ n) whole most;
+        bounded = subst (λ (n : ℕ). steps_of r (suc j) + steps_left (dirs_of r) (Some job) ≤ n) whole most;
         ends = λ all. ends-by (dirs_of r) job (omega (arith, most, whole, all));
       }
 

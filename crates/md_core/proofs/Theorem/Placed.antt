@@ -1,22 +1,20 @@
 -- The places that an effect leaves a unique name in: none goes back from cur to new.
-use Rattle.std.proofs.Common.{◌≡◌, ◌≢◌, ℕ, List, Option, Some, sym, ap, subst, ◌∙◌}
+use Rattle.std.proofs.Common.{◌≡◌, ◌≢◌, ℕ, List, Option, Some, sym, ap, subst, ◌∙◌, inl, inr}
 use Rattle.std.proofs.lemmas.Cmp.{nat_list_cmp_total}
 use Rattle.std.proofs.lemmas.Map.Lookups.{exact_bytes}
 use Rattle.std.specs.FinMap as finmap
 use Rattle.md_name.specs.Names.{unique_of}
-use Rattle.md_dirs.specs.declared.paths.Place.{Place}
-use Rattle.md_dirs.specs.declared.paths.Place.TheVariants.{Tmp, New, Cur}
+use Rattle.md_core.proofs.Values.{Place, Change}
+use Rattle.md_dirs.specs.declared.paths.Place.TheVariants.{Tmp, Cur}
 use Rattle.lists.proofs.Maps.{at_put, beside_put, at_drop, beside_drop}
-use Rattle.md_core.specs.declared.jobs.answer.Answer.{Answer}
-use Rattle.md_core.specs.declared.jobs.answer.Answer.TheVariants as answer
-use Rattle.md_core.specs.declared.jobs.effect.Change.{Change}
 use Rattle.md_core.specs.declared.jobs.effect.Change.TheVariants as change
-use Rattle.md_core.specs.History.{Listed, Names, names_after_change, IsAllowed}
+use Rattle.md_core.specs.History.{Listed, Names, names_after_change}
 use Rattle.md_core.specs.Laws.{IsPlaced}
 use Rattle.md_core.proofs.Mailbox.Changes.{by_name}
+use Rattle.md_core.proofs.Mailbox.Allowed.{FitsNames}
 
 -- An effect leaves a unique name placed so, where cur is such a place, and each place is that may get the name if it is fresh.
-module _ (P : Place → Type 0) (cur : P Cur) (folders : ℕ) (m : Names) (IsFresh : List ℕ → Type 0) (u : List ℕ)
+module _ (P : Place → Type 0) (cur : P Cur) (m : Names) (IsFresh : List ℕ → Type 0) (u : List ℕ)
     (fresh : (p : Place) → p ≢ Tmp → IsFresh u → P p) where
   placed : (o : Option Listed) (x : Listed) → o ≡ Some x → IsPlaced P o → P x.place
   placed o x is h = subst (IsPlaced P) is h
@@ -33,23 +31,15 @@ module _ (P : Place → Type 0) (cur : P Cur) (folders : ℕ) (m : Names) (IsFre
       (λ is. subst (IsPlaced P) (sym (at_put nat_list_cmp_total exact_bytes n name u x is)) (there is))
       (λ not. subst (IsPlaced P) (sym (beside_put nat_list_cmp_total exact_bytes n name u x not)) was)
 
-  new_not_tmp : (p : Place) → p ≡ New → p ≢ Tmp
-  new_not_tmp p is tmp = let e : New ≡ Tmp = sym is ∙ tmp in cc
-
-  pub placed-kept : (a : Answer) (c : Change) → IsAllowed folders m IsFresh a c → IsPlaced P (finmap.get m u) →
-      IsPlaced P (finmap.get (names_after_change m c) u)
-  placed-kept answer.Delivered (change.Add folder place name size) h was =
-      put-in m (unique_of name) _ (λ is. fresh place (new_not_tmp place h.1) (subst IsFresh (sym h.3 ∙ sym is) h.5)) was
-  placed-kept answer.Copied (change.Add folder place name size) h was =
-      put-in m (unique_of name) _ (λ is. fresh place h.1 (subst IsFresh (sym is) h.4)) was
-  placed-kept (answer.Flags s) (change.Rename folder place name to_folder to_place to_name) h was =
-      put-in (finmap.remove m (unique_of name)) (unique_of to_name) _ (λ is. subst P (sym h.2) cur) (dropped (unique_of name) was)
-  placed-kept (answer.Flags s) change.Same h was = was
-  placed-kept answer.Moved (change.Rename folder place name to_folder to_place to_name) h was =
+  pub placed-kept : (c : Change) → FitsNames m IsFresh c → IsPlaced P (finmap.get m u) → IsPlaced P (finmap.get (names_after_change m c) u)
+  placed-kept (change.Add folder place name size) fits was =
+      put-in m (unique_of name) _ (λ is. fresh place fits.0 (subst IsFresh (sym is) fits.1)) was
+  placed-kept (change.Rename folder place name to_folder to_place to_name) fits was =
       put-in (finmap.remove m (unique_of name)) (unique_of to_name) _
-      (λ is.
-      let same : u ≡ unique_of name = is ∙ ap unique_of h.4 in
-      subst P (sym h.3) (placed (finmap.get m u) _ (ap (finmap.get m) same ∙ h.5.at) was))
+      (λ is. elim fits.2 [
+        | inl to_cur ↦ subst P (sym to_cur) cur
+        | inr stays ↦ subst P (sym stays) (placed (finmap.get m u) _ (ap (finmap.get m) (is ∙ fits.0) ∙ fits.1.at) was)
+      ])
       (dropped (unique_of name) was)
-  placed-kept answer.Expunged (change.Remove folder place name) h was = dropped (unique_of name) was
-  placed-kept a c h was = absurd h
+  placed-kept (change.Remove folder place name) fits was = dropped (unique_of name) was
+  placed-kept change.Same fits was = was

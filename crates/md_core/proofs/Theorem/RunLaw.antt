@@ -1,23 +1,16 @@
 -- What holds of every run, by its machine. The interleaving theorem says it of the trace of the run, without a machine.
-use Rattle.std.specs.Prelude.{ℕ, ◌≡◌, ◌≢◌, ◌+◌, ◌*◌, ◌≤◌, ◌<◌, ◌∷◌, ◌⊎◌, ◌==◌, List, [], Some, Bool, true, false, length, slice_get, is_some, count_by}
+use Rattle.std.specs.Prelude.{ℕ, ◌≡◌, ◌≢◌, ◌+◌, ◌≤◌, ◌<◌, ◌∷◌, ◌⊎◌, ◌==◌, List, [], Some, Bool, true, false, length, slice_get, is_some, count_by}
 use Rattle.std.specs.FinMap as finmap
-use Rattle.md_dirs.specs.State.{State, IsSound, file_at}
-use Rattle.md_dirs.specs.Rows.{rows_of}
+use Rattle.md_core.proofs.Values.{IsSound, file_at, Call, Answer, Effect, Task}
 use Rattle.md_dirs.specs.declared.paths.Path.{Path}
-use Rattle.md_dirs.specs.declared.paths.Place.TheVariants.{Tmp}
-use Rattle.md_core.specs.declared.jobs.answer.Answer.{Answer}
-use Rattle.md_core.specs.declared.jobs.call.Call.{Call}
-use Rattle.md_core.specs.declared.jobs.call.Call.TheVariants as call
-use Rattle.md_core.specs.declared.jobs.effect.Effect.{Effect}
 use Rattle.md_core.specs.Mailbox.{Entry, mailbox_of, is_tmp, is_message, HasOnePath}
 use Rattle.md_core.specs.History.{names_of, names_after, IsLegal}
+use Rattle.md_core.specs.Bounds.{most_over}
 use Rattle.md_core.specs.Trace.{Step, call_at}
-use Rattle.md_core.specs.Machine.{Standing, working, answered, job_at, job_left}
+use Rattle.md_core.specs.Machine.{Standing, working, answered, job_at, steps_left}
 use Rattle.md_core.specs.Runs.{Run, machine_at, dirs_of, done_at, jobs_of, effects_of, box_in, dirs_at_first}
 use Rattle.md_core.specs.Tasks.Delivery.{Stage, Linked}
-use Rattle.md_core.specs.Tasks.Task.{Task}
 use Rattle.md_core.specs.Tasks.Task as task
-use Rattle.md_core.specs.Machines.Deliver.{pieces}
 use Rattle.md_core.specs.Stepping.{Simulates, effects_by}
 use Rattle.md_core.specs.Interleaving.{is_success, NoneOverwritten, IsDeliveryOf, IsCopyTo}
 use Rattle.md_core.proofs.Answers.OfRun.{Says}
@@ -67,26 +60,14 @@ is_linked stage = false
 -- a delivery past its link
 abbrev pub is_past_link : Task → Bool
 is_past_link (task.Deliver d) = is_linked d.stage
-is_past_link (task.Errand e) = false
-is_past_link (task.Clean c) = false
+is_past_link other = false
 
 -- how many steps a job has taken
 abbrev pub steps_of : Run → ℕ → ℕ
 steps_of r job = count_by (λ e. e.event.job == job) r.events
 
--- The most steps that a call takes which begins over these directories: a delivery takes one for each piece of its body, and three more;
--- a seen, a flag and an expunge take two for each try, a move and a copy three; a clean takes one, and one for each name of tmp.
-abbrev pub most_from : State → Call → ℕ
-most_from s (call.Deliver folder unique body chunk) = pieces (length body) chunk + 3
-most_from s (call.Seen folder unique flags tries) = 2 * tries
-most_from s (call.Flag folder unique add remove tries) = 2 * tries
-most_from s (call.Move folder unique to tries) = 3 * tries
-most_from s (call.Expunge folder unique tries) = 2 * tries
-most_from s (call.Copy folder unique to fresh tries) = 3 * tries
-most_from s (call.Clean folder) = 1 + length (rows_of s folder Tmp)
-
 abbrev pub most_steps : Run → ℕ → Call → ℕ
-most_steps r job call = most_from (dirs_at_first r job) call
+most_steps r job call = most_over (dirs_at_first r job) call
 
 -- What is promised of each job and its call, by how the job stands.
 pub record JobLaw (r : Run) (number : ℕ) (call : Call) (job : Standing) : Type 0 where
@@ -97,7 +78,7 @@ pub record JobLaw (r : Run) (number : ℕ) (call : Call) (job : Standing) : Type
   -- an answer that came without an effect says what happened
   pub says : (a : Answer) → job ≡ answered a → Says r number call a
   -- the steps that it has taken, and those that it may still take, are together no more than its call takes
-  pub bounded : steps_of r number + job_left (dirs_of r) job ≤ most_steps r number call
+  pub bounded : steps_of r number + steps_left (dirs_of r) (Some job) ≤ most_steps r number call
   -- given that many steps it has its answer, whatever the replies were
   pub ends : most_steps r number call ≤ steps_of r number → (a : Answer) × (job ≡ answered a)
 

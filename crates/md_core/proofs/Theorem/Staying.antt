@@ -2,14 +2,14 @@
 use Rattle.std.proofs.Common.{ℕ, zero, suc, ◌≡◌, ◌≢◌, ◌≤◌, ◌+◌, ◌-◌, List, Some, None, refl, sym, ap, subst, ◌∙◌, take, arith}
 use Rattle.std.proofs.lemmas.List.{take_all, take-take}
 use Rattle.std.specs.FinMap as finmap
-use Rattle.md_dirs.specs.declared.paths.Place.{Place}
+use Rattle.md_core.proofs.Values.{Place, Effect}
 use Rattle.md_dirs.specs.declared.paths.Place.TheVariants.{Tmp, Cur}
-use Rattle.md_core.specs.declared.jobs.effect.Effect.{Effect}
 use Rattle.md_core.specs.History.{Listed, Names, names_after, IsLegal, WasNowhere}
 use Rattle.md_core.specs.Laws.{IsPlaced, IsInCur, IsNotInTmp, KeepsPlaces}
 use Rattle.md_core.proofs.Lists.Places.{at_place, take-one_more}
 use Rattle.md_core.proofs.Theorem.Effects.{after-push}
 use Rattle.md_core.proofs.Theorem.Placed.{placed-kept}
+use Rattle.md_core.proofs.Mailbox.Allowed.{allowed-fits}
 
 module _ (folders : ℕ) (opening : Names) (history : List Effect) (legal : IsLegal folders opening history) where
   abbrev names : ℕ → Names
@@ -20,7 +20,8 @@ module _ (folders : ℕ) (opening : Names) (history : List Effect) (legal : IsLe
   next P cur u k fresh was = at_place history k
       (λ e at.
       subst (λ (m : Names). IsPlaced P (finmap.get m u)) (sym (ap (names_after opening) (take-one_more history k e at) ∙ after-push opening (take k history) e))
-      (placed-kept P cur folders (names k) (WasNowhere opening (take k history)) u fresh e.answer e.change (legal.each k e at) was))
+      (placed-kept P cur (names k) (WasNowhere opening (take k history)) u fresh e.change
+      (allowed-fits folders (names k) (WasNowhere opening (take k history)) e.answer e.change (legal.each k e at)) was))
       (λ past.
       subst (λ (es : List Effect). IsPlaced P (finmap.get (names_after opening es) u)) (take_all k history past ∙ sym (take_all (k + 1) history (omega arith))) was)
 

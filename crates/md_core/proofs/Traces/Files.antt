@@ -5,20 +5,14 @@ use Rattle.md_core.proofs.Machines.Errand.Asks.{errand-of-mail, no-append}
 use Rattle.std.proofs.Common.{ℕ, zero, suc, ◌≡◌, ◌≤◌, ◌+◌, List, Option, Some, None, Bool, true, false, cond, refl, sym, ap, subst, ◌∙◌, length, take, arith, nat_lt}
 use Rattle.std.specs.Option.{option_and_then}
 use Rattle.std.proofs.lemmas.List.{take_all}
-use Rattle.md_dirs.specs.State.{State, IsSound, file_at, file_by}
+use Rattle.md_core.proofs.Values.{State, IsSound, file_at, file_by, Path, Tmp, Call, DirReply, Moment, Task, Deliver, Errand, Clean}
 use Rattle.md_dirs.specs.Calls.{after_append, file_with_more, with_path, without_path, with_files_still_named, is_one_file}
 use Rattle.md_dirs.specs.declared.paths.File.{File}
-use Rattle.md_dirs.specs.declared.paths.Path.{Path}
-use Rattle.md_dirs.specs.declared.paths.Place.TheVariants.{Tmp}
 use Rattle.md_dirs.proofs.Sound.{file_by-push, file_by-set_other, number-within, swept-kept}
 use Rattle.md_core.specs.declared.jobs.answer.Answer.TheVariants as answer
-use Rattle.md_core.specs.declared.jobs.call.Call.{Call}
 use Rattle.md_core.specs.Tasks.Delivery.{Delivery, Stage, Start, Writing, Linked, Undo}
 use Rattle.md_core.specs.Tasks.Cleaning as cleaning
-use Rattle.md_core.specs.declared.jobs.step.DirReply.{DirReply}
 use Rattle.md_core.specs.declared.jobs.step.DirReply.TheVariants as reply
-use Rattle.md_core.specs.declared.jobs.step.Moment.{Moment}
-use Rattle.md_core.specs.Tasks.Task.{Task, Deliver, Errand, Clean}
 use Rattle.md_core.specs.Mailbox.{is_tmp, is_message}
 use Rattle.md_core.specs.Asked.{Asked, create, append, link, rename, unlink, list, ask_of, state_by}
 use Rattle.md_core.specs.Trace.{Step, call_at, Trace, step_at, state, state_after, file_in}
@@ -40,11 +34,7 @@ use Rattle.md_core.proofs.Traces.Headline.{theorem}
 -- the call writes to no file that the path names
 abbrev pub Away : State → Path → Asked → Type 0
 Away s q (append p bytes) = (n : ℕ) → file_at s q ≡ Some n → file_at s p ≡ Some n → ⊥
-Away s q (create p) = Unit {0}
-Away s q (link old new) = Unit {0}
-Away s q (rename old new) = Unit {0}
-Away s q (unlink p) = Unit {0}
-Away s q (list folder place) = Unit {0}
+Away s q other = Unit {0}
 
 module _ (s : State) (sound : IsSound s) (clock : ℕ) (q : Path) (n : ℕ) (here : file_at s q ≡ Some n) where
   abbrev After : Asked → DirReply → State
@@ -74,8 +64,7 @@ module _ (s : State) (sound : IsSound s) (clock : ℕ) (q : Path) (n : ℕ) (her
   kept (unlink p) reply.Ok away there = swept-kept (file_at s p) (without_path p s) q n there
   kept (list folder place) reply.Ok away there = refl
   kept asked reply.Exists away there = refl
-  kept asked reply.NotFound away there = refl
-  kept asked reply.Fault away there = refl
+  kept asked other away there = refl
 
 -- a path that names what it named has the same file, where nothing is written to it
 pub file-kept : (s : State) (sound : IsSound s) (clock : ℕ) (q : Path) (asked : Asked) (r : DirReply) → Away s q asked →
@@ -128,10 +117,8 @@ module _ (s : State) (number : ℕ) (d : Delivery) (at : Moment) where
   delivery-appends p bytes (Undo a) fits is = cc
 
   pub delivery-unlinks : (p : Path) (stage : Stage) → asked_at stage ≡ unlink p → d.tmp ≡ p
-  delivery-unlinks p Start is = cc
   delivery-unlinks p (Writing start k) is = writing-by (λ asked. asked ≡ unlink p → d.tmp ≡ p) start k (λ h. cc) (λ h. cc) (λ h. cc) is
-  delivery-unlinks p Linked is = cc
-  delivery-unlinks p (Undo a) is = cc
+  delivery-unlinks p other is = cc
 
 pub appends : (s : State) (asked : Call) (number : ℕ) (at : Moment) (task : Task) → TaskFits s asked task → (p : Path) (bytes : List ℕ) →
     (turn_of number task at).asked ≡ append p bytes → Writes s asked p
@@ -185,11 +172,7 @@ module _ (r : Run) (run : IsRun r) where
         let w = writes k x is q bytes asks in
         let same : p ≡ q = w.2.only n p there here in
         let tmp : is_tmp p.place ≡ true = ap (λ (y : Path). is_tmp y.place) same ∙ ap is_tmp w.2.in_tmp in cc
-    away k x is (create q) asks = tt
-    away k x is (link old new) asks = tt
-    away k x is (rename old new) asks = tt
-    away k x is (unlink q) asks = tt
-    away k x is (list folder place) asks = tt
+    away k x is other asks = tt
 
     stays-one : (k : ℕ) → file_in (state t (k + 1)) p ≡ file_in (state t k) p
     stays-one k = at_place t.steps k

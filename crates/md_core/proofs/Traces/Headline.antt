@@ -5,11 +5,8 @@ use Rattle.std.specs.Option.{option_or}
 use Rattle.std.proofs.lemmas.Bool.Decides.{nat_tests}
 use Rattle.std.proofs.lemmas.List.{take_all}
 use Rattle.std.proofs.lemmas.Option.{slice_get_within}
-use Rattle.md_dirs.specs.State.{State}
+use Rattle.md_core.proofs.Values.{State, Call, Effect, Task}
 use Rattle.md_core.specs.declared.jobs.answer.Answer.{Answer}
-use Rattle.md_core.specs.declared.jobs.call.Call.{Call}
-use Rattle.md_core.specs.declared.jobs.effect.Effect.{Effect}
-use Rattle.md_core.specs.Tasks.Task.{Task}
 use Rattle.md_core.specs.Tasks.Task as task
 use Rattle.md_core.specs.Mailbox.{Mailbox, mailbox_of}
 use Rattle.md_core.specs.Alone.{alone}
@@ -161,8 +158,7 @@ module _ (r : Run) (run : IsRun r) where
   -- a job with an effect and no answer is a delivery
   delivers : (s : State) (c : Call) (n : ℕ) (e : Effect) (had : Task) → TaskFits s c had → own_effect n had ≡ Some e → IsDelivery c
   delivers s c n e (task.Deliver d) fits is = subst IsDelivery (sym fits.of) tt
-  delivers s c n e (task.Errand x) fits is = cc
-  delivers s c n e (task.Clean m) fits is = cc
+  delivers s c n e other fits is = cc
 
   early : (k : ℕ) (x : Step) (at : step_at t k ≡ Some x) (e : Effect) → x.effect ≡ Some e → x.answer ≡ None →
       (c : Call) → call_at t.calls x.job ≡ Some c → IsDelivery c

@@ -3,26 +3,19 @@ use Rattle.md_core.specs.Machines.Errand.{errand_turn}
 use Rattle.md_core.proofs.Machines.Errand.Asks.{errand-of-mail, no-unlink}
 use Rattle.std.proofs.Common.{ℕ, zero, suc, ◌≡◌, ◌<◌, ◌≤◌, ◌+◌, ◌-◌, ◌⊎◌, inl, inr, List, [], ◌∷◌, Some, None, true, refl, sym, ap, subst, ◌∙◌, length, slice_get, arith}
 use Rattle.std.proofs.lemmas.Bool.Decides.{nat_tests}
-use Rattle.md_dirs.specs.State.{State}
+use Rattle.md_core.proofs.Values.{State, Path, Place, Tmp, Row, Call, DirReply, Task, Deliver, Errand, Clean}
 use Rattle.md_dirs.specs.Rows.{rows_of}
-use Rattle.md_dirs.specs.declared.paths.Path.{Path}
-use Rattle.md_dirs.specs.declared.paths.Place.{Place}
 use Rattle.md_dirs.specs.declared.paths.Place.TheVariants as place
-use Rattle.md_dirs.specs.declared.paths.Place.TheVariants.{Tmp}
-use Rattle.md_dirs.specs.declared.rows.Row.{Row}
 use Rattle.md_dirs.proofs.Sound.{by_path}
-use Rattle.md_core.specs.declared.jobs.call.Call.{Call}
 use Rattle.md_core.specs.declared.jobs.call.Call.TheVariants as call
 use Rattle.md_core.specs.Tasks.Cleaning.{Cleaning, Stage, Look, Remove}
-use Rattle.md_core.specs.declared.jobs.step.DirReply.{DirReply}
 use Rattle.md_core.specs.declared.jobs.step.DirReply.TheVariants as reply
-use Rattle.md_core.specs.Tasks.Task.{Task, Deliver, Errand, Clean}
 use Rattle.md_core.specs.Mailbox.{is_tmp}
 use Rattle.md_core.specs.Turn.{Turn, rows_for}
 use Rattle.md_core.specs.Asked.{Asked, create, append, link, rename, unlink, list, ask_of, state_by}
 use Rattle.md_core.specs.Trace.{Step, call_at, Trace, IsStepOf, step_at, state, file_in}
 use Rattle.md_core.specs.Machine.{working, new_job, job_at}
-use Rattle.md_core.specs.Machines.Clean.{new_cleaning, is_old, old_rows, after_next, at_stage, tmp, stage_turn}
+use Rattle.md_core.specs.Machines.Clean.{is_old, old_rows, after_next, at_stage, tmp, stage_turn}
 use Rattle.md_core.specs.Runs.{Run, machine_at}
 use Rattle.md_core.specs.Stepping.{IsRun}
 use Rattle.md_core.specs.Interleaving.{IsTmpOf, HasSeenOld, MayChange, KeepsTmp}
@@ -37,6 +30,7 @@ use Rattle.md_core.proofs.Answers.Files.Tmp.{Touches, LeavesTmp, touches}
 use Rattle.md_core.proofs.Traces.Same.{state-same, done-step}
 use Rattle.md_core.proofs.Traces.Stands.{turn-of}
 use Rattle.md_core.proofs.Traces.Files.{Away, file-kept, tmp-of, delivery-unlinks, next-state, sound-at, writes}
+use Rattle.md_core.proofs.Machines.Errand.Table.Calls.{new-looks}
 
 -- an element of a list has a place there
 has-at : {X : Type 0} (xs : List X) (x : X) → Has xs x → (i : ℕ) × (slice_get xs i ≡ Some x)
@@ -61,9 +55,8 @@ module _ (r : Run) (run : IsRun r) where
   AtStage k job folder (Remove name rest files) = (row : Row) × (row.name ≡ name) × SawOld k job folder (row ∷ rest)
 
   abbrev AtTask : ℕ → ℕ → Task → Type 0
-  AtTask k job (Deliver d) = Unit {0}
-  AtTask k job (Errand e) = Unit {0}
   AtTask k job (Clean c) = AtStage k job c.folder c.stage
+  AtTask k job other = Unit {0}
 
   saw-more : (k job folder : ℕ) (rows : List Row) → SawOld k job folder rows → SawOld (k + 1) job folder rows
   saw-more k job folder rows h =
@@ -105,15 +98,13 @@ module _ (r : Run) (run : IsRun r) where
     stage-leads c Look before reply.Ok asked replied none =
         let old = old_rows (at r k job u).own (rows_of s c.folder Tmp) in
         next-saw (k + 1) job (at_stage c Look) old (length old) (looked c asked replied) none
-    stage-leads c Look before reply.Exists asked replied none = cc
-    stage-leads c Look before reply.NotFound asked replied none = cc
-    stage-leads c Look before reply.Fault asked replied none = cc
     stage-leads c (Remove name rest files) before reply.Ok asked replied none =
         next-saw (k + 1) job (at_stage c (Remove name rest files)) rest files (saw-rest k job c.folder before.0 rest before.2) none
     stage-leads c (Remove name rest files) before reply.Exists asked replied none = cc
     stage-leads c (Remove name rest files) before reply.NotFound asked replied none =
         next-saw (k + 1) job (at_stage c (Remove name rest files)) rest (files - 1) (saw-rest k job c.folder before.0 rest before.2) none
     stage-leads c (Remove name rest files) before reply.Fault asked replied none = cc
+    stage-leads c Look before other asked replied none = cc
 
     own-turn : (left_by r k job u).answer ≡ None → AtTask k job u.task → AtTask (k + 1) job (left_by r k job u).task
     own-turn none h = by u.task h (reply_in (machine_at r k) u.event u.task) refl refl none
@@ -129,23 +120,12 @@ module _ (r : Run) (run : IsRun r) where
   stage-more k job folder (Remove name rest files) h = (h.0, h.1, saw-more k job folder (h.0 ∷ rest) h.2)
 
   other-turn : (k job : ℕ) (task : Task) → AtTask k job task → AtTask (k + 1) job task
-  other-turn k job (Deliver d) h = tt
-  other-turn k job (Errand e) h = tt
   other-turn k job (Clean c) h = stage-more k job c.folder c.stage h
+  other-turn k job other h = tt
 
   new-at : (job : ℕ) (c : Call) (task : Task) → new_job c ≡ working task → AtTask 0 job task
-  new-at job c (Deliver d) is = tt
-  new-at job c (Errand e) is = tt
-  new-at job c (Clean x) is = subst (AtStage 0 job x.folder) (sym (looks c is)) tt
-    where
-      looks : (c : Call) → new_job c ≡ working (Clean x) → x.stage ≡ Look
-      looks (call.Deliver a b c d) is = cc
-      looks (call.Seen a b c d) is = cc
-      looks (call.Flag a b c d e) is = cc
-      looks (call.Move a b c d) is = cc
-      looks (call.Expunge a b c) is = cc
-      looks (call.Copy a b c d e) is = cc
-      looks (call.Clean a) is = let same : new_cleaning a ≡ x = cc in ap (λ (y : Cleaning). y.stage) (sym same)
+  new-at job c (Clean x) is = subst (AtStage 0 job x.folder) (sym (new-looks x c is)) tt
+  new-at job c other is = tt
 
   old-task : (k job : ℕ) (task : Task) → k ≤ length r.events → job_at (machine_at r k).jobs job ≡ Some (working task) → AtTask k job task
   old-task = holds r run AtTask (λ n c task of-c is. new-at n c task is) own-turn (λ k n task e at-k differ is h. other-turn k n task h)
@@ -196,13 +176,8 @@ module _ (r : Run) (run : IsRun r) where
 
     -- a path of a delivery in tmp may be changed by it
     may-own : (c : Call) → IsTmpOf p c → MayHere c
-    may-own (call.Deliver a b c d) h = h
-    may-own (call.Seen a b c d) h = h
-    may-own (call.Flag a b c d e) h = h
-    may-own (call.Move a b c d) h = h
-    may-own (call.Expunge a b c) h = h
-    may-own (call.Copy a b c d e) h = h
     may-own (call.Clean a) h = absurd h
+    may-own c h = h
 
     within : k ≤ length r.events
     within = let less = is_within r k x.job u in omega (arith, less)
@@ -235,16 +210,11 @@ module _ (r : Run) (run : IsRun r) where
         by_path p q
         (λ same. inr (may-own its.0 (subst (λ (c : Call). IsTmpOf p c) called (subst (λ (y : Path). IsTmpOf y w.0) (sym same) w.2.own))))
         (λ differ. inl (λ n here there. differ (w.2.only n p there here)))
-    away-or (create q) asks = inl tt
-    away-or (link old new) asks = inl tt
-    away-or (rename old new) asks = inl tt
-    away-or (unlink q) asks = inl tt
-    away-or (list folder place) asks = inl tt
+    away-or other asks = inl tt
 
     tmp-place : (q : Place) → is_tmp q ≡ true → q ≡ Tmp
     tmp-place place.Tmp h = refl
-    tmp-place place.New h = cc
-    tmp-place place.Cur h = cc
+    tmp-place other h = cc
 
     changes : p.place ≡ Tmp → Touches (state t k) (state_by (ask_of x.asked x.at.clock) (state t k) x.reply) p x.asked x.reply x.at.clock
     changes in_tmp = touches (state t k) p in_tmp (sound-at r run k) x.at.clock x.asked x.reply

@@ -1,11 +1,8 @@
 -- What the clauses refuse: of a trace of which the theorem holds none of these can be so.
 use Rattle.std.proofs.Common.{ℕ, ◌≡◌, ◌≢◌, ◌<◌, ◌+◌, ◌-◌, inl, inr, List, Some, None, true, false, sym, ap, subst, ◌∙◌, is_some, slice_get, arith}
 use Rattle.md_dirs.specs.Rows.{rows_of}
-use Rattle.md_dirs.specs.declared.paths.Path.{Path}
+use Rattle.md_core.proofs.Values.{Path, Row, Call, Answer}
 use Rattle.md_dirs.specs.declared.paths.Place.TheVariants.{Tmp}
-use Rattle.md_dirs.specs.declared.rows.Row.{Row}
-use Rattle.md_core.specs.declared.jobs.answer.Answer.{Answer}
-use Rattle.md_core.specs.declared.jobs.call.Call.{Call}
 use Rattle.md_core.specs.declared.jobs.call.Call.TheVariants.{Clean, Expunge}
 use Rattle.md_core.specs.Mailbox.{is_tmp, is_message}
 use Rattle.md_core.specs.Asked.{list}

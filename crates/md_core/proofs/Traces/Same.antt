@@ -4,9 +4,8 @@ use Rattle.std.specs.List.{filter_map}
 use Rattle.std.specs.Option.{option_to_list, option_map, option_and_then}
 use Rattle.std.proofs.lemmas.List.{append-nil, append_assoc, map-append, take_all, take_at}
 use Rattle.std.proofs.lemmas.Option.{slice_get_within, slice_get_past}
-use Rattle.md_dirs.specs.State.{State}
+use Rattle.md_core.proofs.Values.{State, Task}
 use Rattle.md_core.specs.declared.jobs.effect.Effect.{Effect}
-use Rattle.md_core.specs.Tasks.Task.{Task}
 use Rattle.md_core.specs.Asked.{ask_of, state_by}
 use Rattle.md_core.specs.Machine.{Machine, working, Occurrence, job_at, after_event, step_of, step_by}
 use Rattle.md_core.specs.Trace.{Step, Trace, step_at, state_after, state, effects}
@@ -49,9 +48,6 @@ pub state-more : (s : State) (xs : List Step) (x : Step) →
 unfolding state_after
 state-more s [] x = refl
 state-more s (y ∷ xs) x = state-more (state_by (ask_of y.asked y.at.clock) s y.reply) xs x
-
-effect-of : Step → Option Effect
-effect-of x = x.effect
 
 effects-more : (xs : List Step) (x : Step) → filter_map (λ (y : Step). y.effect) (xs ++ x ∷ [])
     ≡ filter_map (λ (y : Step). y.effect) xs ++ option_to_list x.effect

@@ -1,8 +1,7 @@
 -- Steps and answers of a trace are those of its run.
 use Rattle.std.proofs.Common.{ℕ, zero, suc, ◌≡◌, ◌<◌, ◌+◌, ◌-◌, Option, Some, sym, ap, subst, ◌∙◌, length, arith}
 use Rattle.std.proofs.lemmas.Option.{slice_get_within}
-use Rattle.md_core.specs.declared.jobs.answer.Answer.{Answer}
-use Rattle.md_core.specs.declared.jobs.call.Call.{Call}
+use Rattle.md_core.proofs.Values.{Call, Answer}
 use Rattle.md_core.specs.Machine.{Machine, Standing, working, answered, job_at, standing_of}
 use Rattle.md_core.specs.Trace.{Step, call_at, Trace, IsStepOf, IsAnswered}
 use Rattle.md_core.specs.Runs.{Run, machine_at, jobs_of}
@@ -22,9 +21,6 @@ module _ (r : Run) (run : IsRun r) where
   -- steps of a job
   abbrev pub to-step : (job k : ℕ) → IsStep r job k → IsStepOf t job k
   to-step job k x = record { step = x.what; at = done-step r run k x.what x.at; own = x.own }
-
-  abbrev pub from-step : (job k : ℕ) → IsStepOf t job k → IsStep r job k
-  from-step job k x = record { what = x.step; at = step-done r run k x.step x.at; own = x.own }
 
   -- a step is a turn of its job
   pub turn-of : (job k : ℕ) (x : IsStepOf t job k) → (u : IsTurn r k job) × (x.step ≡ done_in r k job u)

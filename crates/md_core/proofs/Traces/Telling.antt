@@ -2,16 +2,11 @@
 use Rattle.std.proofs.Common.{ℕ, ◌≡◌, ◌≤◌, ◌+◌, ◌==◌, inl, inr, List, Some, Bool, true, sym, ap, subst, ◌∙◌, length, map, filter, drop, arith}
 use Rattle.std.specs.Prelude.{count_by}
 use Rattle.std.proofs.lemmas.Bool.Decides.{nat_tests}
-use Rattle.md_dirs.specs.State.{State}
+use Rattle.md_core.proofs.Values.{State, Path, Tmp, Call, Answer, Effect}
 use Rattle.md_dirs.specs.Path.{path_of as path}
 use Rattle.md_dirs.specs.Rows.{rows_of}
-use Rattle.md_dirs.specs.declared.paths.Path.{Path}
-use Rattle.md_dirs.specs.declared.paths.Place.TheVariants.{Tmp}
-use Rattle.md_core.specs.declared.jobs.answer.Answer.{Answer}
 use Rattle.md_core.specs.declared.jobs.answer.Answer.TheVariants as answer
-use Rattle.md_core.specs.declared.jobs.call.Call.{Call}
 use Rattle.md_core.specs.declared.jobs.call.Call.TheVariants as call
-use Rattle.md_core.specs.declared.jobs.effect.Effect.{Effect}
 use Rattle.md_core.specs.Mailbox.{Mailbox}
 use Rattle.md_core.specs.Alone.{alone}
 use Rattle.md_core.specs.Asked.{unlink}
@@ -28,6 +23,7 @@ use Rattle.md_core.proofs.Traces.Stands.{to-step, answered-at}
 use Rattle.md_core.proofs.Traces.Headline.{box-same}
 use Rattle.md_core.proofs.Traces.Plain.{begins_at, begins-same}
 use Rattle.md_core.proofs.Traces.Few.{place-before, at-place}
+use Rattle.md_core.proofs.Machines.Errand.Table.Calls.{sought, tries_in}
 
 module _ (r : Run) (run : IsRun r) (job : ℕ) where
   abbrev t : Trace
@@ -63,13 +59,9 @@ module _ (r : Run) (run : IsRun r) (job : ℕ) where
   }
 
   lost : (c : Call) → runs.IsLost r job c → IsLost t job c
-  lost (call.Deliver a b c d) h = h
-  lost (call.Seen folder u flags tries) h = touched u tries h
-  lost (call.Flag folder u add remove tries) h = touched u tries h
-  lost (call.Move folder u to tries) h = touched u tries h
-  lost (call.Expunge folder u tries) h = touched u tries h
-  lost (call.Copy folder u to fresh tries) h = touched u tries h
-  lost (call.Clean a) h = h
+  lost (call.Deliver folder u body chunk) h = h
+  lost (call.Clean folder) h = h
+  lost c h = touched (sought c) (tries_in c) h
 
   abbrev unlinked : (p : Path) (a : Answer) → runs.HasUnlinked r job p a → HasUnlinked t job p a
   unlinked p a h = record { k = h.k; last = step h.k h.step; asked = h.asked; answer = h.answer }
@@ -86,12 +78,7 @@ module _ (r : Run) (run : IsRun r) (job : ℕ) where
 
   timed-out : (c : Call) → runs.IsTimedOut r job c → IsTimedOut t job c
   timed-out (call.Deliver folder u body chunk) h = out-of-time (path folder Tmp u) h
-  timed-out (call.Seen a b c d) h = h
-  timed-out (call.Flag a b c d e) h = h
-  timed-out (call.Move a b c d) h = h
-  timed-out (call.Expunge a b c) h = h
-  timed-out (call.Copy a b c d e) h = h
-  timed-out (call.Clean a) h = h
+  timed-out c h = h
 
   pub cleaned-away : (k : ℕ) (p : Path) → runs.IsCleanedAway r k p → IsCleanedAway t k p
   cleaned-away k p h = record { step = h.what; at = done-step r run k h.what h.at; asked = h.asked; ok = h.ok; folder = h.folder; by = h.by }
@@ -103,12 +90,7 @@ module _ (r : Run) (run : IsRun r) (job : ℕ) where
     before = in-span h.k h.before;
     after = in-span (h.k + 1) h.after;
   }
-  gone (call.Seen a b c d) h = h
-  gone (call.Flag a b c d e) h = h
-  gone (call.Move a b c d) h = h
-  gone (call.Expunge a b c) h = h
-  gone (call.Copy a b c d e) h = h
-  gone (call.Clean a) h = h
+  gone c h = h
 
   faulted : runs.IsFaulted r job → IsFaulted t job
   faulted h = record { k = h.k; at = step h.k h.step; faulted = h.faulted }
@@ -118,21 +100,11 @@ module _ (r : Run) (run : IsRun r) (job : ℕ) where
     | inl none ↦ inl (record { k = none.k; at = step none.k none.step; asked = none.asked; faulted = none.faulted })
     | inr done ↦ inr (unlinked (path folder Tmp u) answer.Fault done)
   ]
-  undone (call.Seen a b c d) h = tt
-  undone (call.Flag a b c d e) h = tt
-  undone (call.Move a b c d) h = tt
-  undone (call.Expunge a b c) h = tt
-  undone (call.Copy a b c d e) h = tt
-  undone (call.Clean a) h = tt
+  undone c h = tt
 
   delivered : (c : Call) → runs.IsDelivered r job c → IsDelivered t job c
   delivered (call.Deliver folder u body chunk) h = unlinked (path folder Tmp u) answer.Delivered h
-  delivered (call.Seen a b c d) h = tt
-  delivered (call.Flag a b c d e) h = tt
-  delivered (call.Move a b c d) h = tt
-  delivered (call.Expunge a b c) h = tt
-  delivered (call.Copy a b c d e) h = tt
-  delivered (call.Clean a) h = tt
+  delivered c h = tt
 
   -- a job with a step begins with one
   abbrev begins-some : (i : ℕ) → IsStepOf t job i → Begins t job
@@ -162,12 +134,7 @@ module _ (r : Run) (run : IsRun r) (job : ℕ) where
 
   cleaned : (c : Call) (n i : ℕ) → IsStepOf t job i → runs.IsCleaned r job c n → IsCleaned t job c n
   cleaned (call.Clean folder) n i x h = has-cleaned folder n i x h
-  cleaned (call.Deliver a b c d) n i x h = h
-  cleaned (call.Seen a b c d) n i x h = h
-  cleaned (call.Flag a b c d e) n i x h = h
-  cleaned (call.Move a b c d) n i x h = h
-  cleaned (call.Expunge a b c) n i x h = h
-  cleaned (call.Copy a b c d e) n i x h = h
+  cleaned c n i x h = h
 
   pub says : (c : Call) (a : Answer) → call_at t.calls job ≡ Some c → IsAnswered t job a → Says t job c a
   says c a of answers = by a (all-say r run job c a of (answered-at r run job a answers))
@@ -183,7 +150,4 @@ module _ (r : Run) (run : IsRun r) (job : ℕ) where
       by answer.NameTaken h = h
       by (answer.Cleaned n) h = cleaned c n answers.k answers.last h
       by answer.Delivered h = delivered c h
-      by (answer.Flags s) h = tt
-      by answer.Moved h = tt
-      by answer.Expunged h = tt
-      by answer.Copied h = tt
+      by other h = tt

@@ -1,13 +1,11 @@
 -- What a world's fields say of the checks of its run.
-use Rattle.std.proofs.Common.{ℕ, suc, ◌≡◌, ◌∙◌, List, [], ◌∷◌, Bool, refl, sym, ap, length, map}
+use Rattle.std.proofs.Common.{ℕ, ◌≡◌, ◌∙◌, List, Bool, ap}
 use Rattle.md_core.specs.declared.jobs.effect.Effect.{Effect}
 use Rattle.md_core.specs.declared.jobs.step.Event.{Event}
 use Rattle.md_dirs.specs.Calls.{Device}
 use Rattle.md_core.specs.Machine.{Machine}
 use Rattle.md_core.specs.Standing.{JobView}
 use Rattle.md_core.specs.Runs.{Run}
-use Rattle.md_core.specs.Submitting.{is_used}
-use Rattle.md_core.specs.Used.{is_among}
 use Rattle.md_core.specs.Worlds.{IsWorld, run_of, machine_by}
 use Rattle.md_core.proofs.Machines.EachTurn.{each-turn}
 use Rattle.md_core.proofs.Theorem.LawHolds.{folders-stay}
@@ -19,13 +17,3 @@ module _ (first : Device) (began : ℕ) (jobs : List JobView) (events : List Eve
   pub folders-are : held.state.folders ≡ r.image.folders
   folders-are = ap (λ (m : Machine). m.dirs.folders) world.now ∙ folders-stay each-turn (run_of first began jobs events marks) world.run ∙
       ap (λ (x : Run). x.image.folders) view
-
-  pub calls-are : length r.calls ≡ length jobs
-  calls-are = ap (λ (x : Run). length x.calls) (sym view) ∙ count jobs
-    where
-      count : (js : List JobView) → length (map (λ job. job.call) js) ≡ length js
-      count [] = refl
-      count (j ∷ js) = ap suc (count js)
-
-  pub used-are : (u : List ℕ) → is_used r u ≡ is_among u used
-  used-are u = ap (λ (x : Run). is_used x u) (sym view) ∙ sym (world.names u)

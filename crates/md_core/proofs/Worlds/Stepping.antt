@@ -4,13 +4,8 @@ use Rattle.std.specs.Prelude.{count_by}
 use Rattle.std.specs.Option.{option_to_list, option_map}
 use Rattle.std.proofs.lemmas.List.Sums.{sum_by_push}
 use Rattle.md_core.specs.declared.error.CoreError.TheVariants.{Answered}
-use Rattle.md_core.specs.declared.jobs.answer.Answer.{Answer}
+use Rattle.md_core.proofs.Values.{Answer, DirReply, Event, Moment, StepOut, Task}
 use Rattle.md_core.specs.declared.jobs.effect.Effect.{Effect}
-use Rattle.md_core.specs.declared.jobs.step.Event.{Event}
-use Rattle.md_core.specs.declared.jobs.step.Moment.{Moment}
-use Rattle.md_core.specs.declared.jobs.step.DirReply.{DirReply}
-use Rattle.md_core.specs.declared.jobs.step.StepOut.{StepOut}
-use Rattle.md_core.specs.Tasks.Task.{Task}
 use Rattle.md_dirs.specs.Calls.{Device}
 use Rattle.md_core.specs.Turn.{Turn, After, rows_for}
 use Rattle.md_core.specs.Asked.{is_fault}

@@ -80,11 +80,7 @@ stage_turn c own (Remove name rest files) = unlink_turn c name rest files
 abbrev pub cleaning_turn : Cleaning → ℕ → Turn Cleaning
 cleaning_turn c own = stage_turn c own c.stage
 
--- How many turns it takes at most from here to the answer: the listing, and one for each name of tmp.
-abbrev pub stage_left : State → ℕ → Stage → ℕ
-stage_left s folder Look = 1 + length (rows_of s folder Tmp)
-stage_left s folder (Remove name rest files) = 1 + length rest
-
--- how many turns a clean takes at most from here to its answer
-abbrev pub cleaning_left : State → Cleaning → ℕ
-cleaning_left s c = stage_left s c.folder c.stage
+-- How many steps a clean takes at most from a stage to its answer: the listing, and one for each name of tmp.
+abbrev pub steps_left : State → ℕ → Stage → ℕ
+steps_left s folder Look = 1 + length (rows_of s folder Tmp)
+steps_left s folder (Remove name rest files) = 1 + length rest

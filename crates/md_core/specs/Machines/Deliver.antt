@@ -1,11 +1,12 @@
 -- The machine of a delivery: "Using maildir format", steps 3 to 6. It makes tmp/unique, writes it piece by piece, links it to
 -- new/unique, which is where the message is delivered, and then takes tmp/unique away. It gives up 24 hours after its first step.
-use Rattle.std.specs.Prelude.{ℕ, ◌+◌, ◌-◌, ◌/◌, List, Bool, nat_lt, min, take, drop, length, if◌then◌else◌}
+use Rattle.std.specs.Prelude.{ℕ, ◌+◌, ◌-◌, List, Bool, nat_lt, min, take, drop, length, if◌then◌else◌}
 use Rattle.md_dirs.specs.declared.paths.Path.{Path}
 use Rattle.md_dirs.specs.declared.paths.Place.TheVariants.{Tmp, New}
 use Rattle.md_dirs.specs.Path.{path_of as path}
 use Rattle.md_core.specs.Turn.{Turn, After, goes_on, ends, acts}
 use Rattle.md_core.specs.Asked.{create, append, link, unlink}
+use Rattle.md_core.specs.Bounds.{pieces_of}
 use Rattle.md_core.specs.declared.jobs.answer.Answer.{Answer}
 use Rattle.md_core.specs.declared.jobs.answer.Answer.TheVariants as answer
 use Rattle.md_core.specs.declared.jobs.effect.Change.TheVariants.{Add}
@@ -103,17 +104,9 @@ stage_turn job d at (Undo refusal) = unlink_turn d (refused_by refusal)
 abbrev pub delivery_turn : ℕ → Delivery → Moment → Turn Delivery
 delivery_turn job d at = stage_turn job d at d.stage
 
--- the number of pieces of n bytes
-abbrev pub pieces : ℕ → ℕ → ℕ
-pieces n chunk = (n + (chunk - 1)) / chunk
-
--- how many turns a delivery takes at most from here to its answer
-abbrev pub stage_left : Delivery → Stage → ℕ
-stage_left d Start = pieces (length d.body) d.chunk + 3
-stage_left d (Writing start k) = pieces (length d.body - k) d.chunk + 2
-stage_left d Linked = 1
-stage_left d (Undo refusal) = 1
-
--- how many turns a delivery takes at most from here to its answer
-abbrev pub delivery_left : Delivery → ℕ
-delivery_left d = stage_left d d.stage
+-- how many steps a delivery takes at most from a stage to its answer
+abbrev pub steps_left : Delivery → Stage → ℕ
+steps_left d Start = pieces_of (length d.body) d.chunk + 3
+steps_left d (Writing start k) = pieces_of (length d.body - k) d.chunk + 2
+steps_left d Linked = 1
+steps_left d (Undo refusal) = 1

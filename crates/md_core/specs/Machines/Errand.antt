@@ -121,12 +121,8 @@ stage_turn job e (Act place row tries) =
 abbrev pub errand_turn : ℕ → Errand → Turn Errand
 errand_turn job e = stage_turn job e e.stage
 
--- How many turns it takes at most from here to the answer: for each try one look in each place, and the act.
-abbrev pub stage_left : Bool → Stage → ℕ
-stage_left both (Look New tries) = (if both then 3 else 2) * max tries 1
-stage_left both (Look place tries) = (if both then 3 else 2) * max tries 1 - (if both then 1 else 0)
-stage_left both (Act place row tries) = (if both then 3 else 2) * max tries 1 - (if both then 2 else 1)
-
--- how many turns an errand takes at most from here to its answer
-abbrev pub errand_left : Errand → ℕ
-errand_left e = stage_left (searches e.purpose) e.stage
+-- How many steps an errand takes at most from a stage to its answer: for each try one look in each place, and the act.
+abbrev pub steps_left : Bool → Stage → ℕ
+steps_left both (Look New tries) = (if both then 3 else 2) * max tries 1
+steps_left both (Look place tries) = (if both then 3 else 2) * max tries 1 - (if both then 1 else 0)
+steps_left both (Act place row tries) = (if both then 3 else 2) * max tries 1 - (if both then 2 else 1)

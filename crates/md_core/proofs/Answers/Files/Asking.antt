@@ -1,27 +1,24 @@
 -- Which tasks ask what of a path in tmp: only a delivery of its name makes it, and only that or a clean takes it away.
 use Rattle.md_core.specs.Machines.Errand.{errand_turn}
-use Rattle.md_core.proofs.Machines.Errand.Asks.{IsOfMail, errand-of-mail, no-create, no-unlink}
-use Rattle.std.proofs.Common.{ℕ, ◌≡◌, ◌⊎◌, inl, inr, Bool, true, false, cond, nat_lt, length, refl, ap, subst, ◌∙◌}
-use Rattle.md_dirs.specs.State.{State}
+use Rattle.md_core.proofs.Machines.Errand.Asks.{errand-of-mail, no-create, no-unlink}
+use Rattle.std.proofs.Common.{ℕ, ◌≡◌, ◌⊎◌, inl, inr, Bool, true, false, cond, nat_lt, length, refl, subst}
+use Rattle.md_core.proofs.Values.{State, Tmp, Call, Moment, Task, Deliver, Errand, Clean}
 use Rattle.md_dirs.specs.declared.paths.Path.{Path}
-use Rattle.md_dirs.specs.declared.paths.Place.TheVariants.{Tmp, Cur}
 use Rattle.md_core.specs.declared.jobs.answer.Answer.TheVariants as answer
-use Rattle.md_core.specs.declared.jobs.call.Call.{Call}
 use Rattle.md_core.specs.declared.jobs.call.Call.TheVariants as call
 use Rattle.md_core.specs.Tasks.Cleaning.{Cleaning}
 use Rattle.md_core.specs.Tasks.Cleaning as cleaning
 use Rattle.md_core.specs.Tasks.Delivery.{Delivery, Stage, Start, Writing, Linked, Undo}
-use Rattle.md_core.specs.declared.jobs.step.Moment.{Moment}
-use Rattle.md_core.specs.Tasks.Task.{Task, Deliver, Errand, Clean}
-use Rattle.md_core.specs.Mailbox.{is_tmp}
 use Rattle.md_core.specs.Machine.{turn_of}
 use Rattle.md_core.specs.Machines.Deliver as delivered_by
 use Rattle.md_core.specs.Machines.Deliver.{append_turn, link_turn, unlink_turn, is_in_time}
 use Rattle.md_core.specs.Machines.Clean as cleaned_by
 use Rattle.md_core.specs.Asked.{Asked, create, append, link, rename, unlink, list}
-use Rattle.md_core.proofs.Induction.Good.{TaskFits, DeliveryFits, Makes}
+use Rattle.md_core.specs.Accepting.{MakesMessage}
+use Rattle.md_core.proofs.Induction.Good.{TaskFits, DeliveryFits}
 use Rattle.md_core.proofs.Directories.Frames.{makes-delivery}
 use Rattle.md_core.proofs.Answers.Files.Tmp.{LeavesTmp}
+use Rattle.md_core.proofs.Machines.Errand.Table.Deeds.{IsOfMail}
 
 -- what a delivery asks, by its stage: a path of tmp is made at its start alone, and taken away later
 module _ (number : ℕ) (d : Delivery) (at : Moment) where
@@ -38,32 +35,26 @@ module _ (number : ℕ) (d : Delivery) (at : Moment) where
       by false more = unlinks
 
   delivery-leaves : (stage : Stage) → LeavesTmp (asked_at stage)
-  delivery-leaves Start = tt
   delivery-leaves (Writing start k) = writing-by LeavesTmp start k tt refl tt
-  delivery-leaves Linked = tt
-  delivery-leaves (Undo a) = tt
+  delivery-leaves other = tt
 
   delivery-creates : (p : Path) (stage : Stage) → asked_at stage ≡ create p → (stage ≡ Start) × (d.tmp ≡ p)
   delivery-creates p Start is = (refl, cc)
   delivery-creates p (Writing start k) is =
       writing-by (λ asked. asked ≡ create p → (Writing start k ≡ Start) × (d.tmp ≡ p)) start k (λ h. cc) (λ h. cc) (λ h. cc) is
-  delivery-creates p Linked is = cc
-  delivery-creates p (Undo a) is = cc
+  delivery-creates p other is = cc
 
   delivery-unlinks : (p : Path) (stage : Stage) → asked_at stage ≡ unlink p → d.tmp ≡ p
-  delivery-unlinks p Start is = cc
   delivery-unlinks p (Writing start k) is = writing-by (λ asked. asked ≡ unlink p → d.tmp ≡ p) start k (λ h. cc) (λ h. cc) (λ h. cc) is
-  delivery-unlinks p Linked is = cc
-  delivery-unlinks p (Undo a) is = cc
+  delivery-unlinks p other is = cc
 
 -- what other tasks ask leaves tmp alone, but for the unlinks of a clean
 mail-leaves : (asked : Asked) → IsOfMail asked → LeavesTmp asked
-mail-leaves (list folder place) mail = tt
 mail-leaves (rename old new) mail = mail
 mail-leaves (link old new) mail = mail
-mail-leaves (unlink old) mail = tt
 mail-leaves (create p) mail = absurd mail
 mail-leaves (append p bytes) mail = absurd mail
+mail-leaves other mail = tt
 
 cleaning-leaves : (c : Cleaning) (own : ℕ) (stage : cleaning.Stage) → LeavesTmp (cleaned_by.stage_turn c own stage).asked
 cleaning-leaves c own cleaning.Look = tt
@@ -80,13 +71,13 @@ cleaning-creates c own p cleaning.Look is = cc
 cleaning-creates c own p (cleaning.Remove name rest files) is = cc
 
 -- the name of a path that a delivery asks for is one that its call makes
-delivery-makes : (s : State) (asked : Call) (d : Delivery) (p : Path) → DeliveryFits s asked d → d.tmp ≡ p → Makes asked p.name
-delivery-makes s asked d p fits is = subst (λ (q : Path). Makes asked q.name) is (makes-delivery s asked d fits)
+delivery-makes : (s : State) (asked : Call) (d : Delivery) (p : Path) → DeliveryFits s asked d → d.tmp ≡ p → MakesMessage asked p.name
+delivery-makes s asked d p fits is = subst (λ (q : Path). MakesMessage asked q.name) is (makes-delivery s asked d fits)
 
 module _ (s : State) (asked : Call) (number : ℕ) (at : Moment) (p : Path) (in_tmp : p.place ≡ Tmp) where
   -- a delivery at its start made the path
   pub creates : (task : Task) → TaskFits s asked task → (turn_of number task at).asked ≡ create p →
-      Makes asked p.name × ((d : Delivery) × (task ≡ Deliver d) × (d.stage ≡ Start) × (d.tmp ≡ p))
+      MakesMessage asked p.name × ((d : Delivery) × (task ≡ Deliver d) × (d.stage ≡ Start) × (d.tmp ≡ p))
   creates (Deliver d) fits is =
       let h = delivery-creates number d at p d.stage is in (delivery-makes s asked d p fits h.1, (d, refl, h.0, h.1))
   creates (Errand e) fits is = absurd (no-create (errand_turn number e).asked p (errand-of-mail number e fits.stage) is)
@@ -94,7 +85,7 @@ module _ (s : State) (asked : Call) (number : ℕ) (at : Moment) (p : Path) (in_
 
   -- a delivery of its name or a clean took it away
   pub unlinks : (task : Task) → TaskFits s asked task → (turn_of number task at).asked ≡ unlink p →
-      Makes asked p.name ⊎ ((folder : ℕ) × (asked ≡ call.Clean folder))
+      MakesMessage asked p.name ⊎ ((folder : ℕ) × (asked ≡ call.Clean folder))
   unlinks (Deliver d) fits is = inl (delivery-makes s asked d p fits (delivery-unlinks number d at p d.stage is))
   unlinks (Errand e) fits is = absurd (no-unlink (errand_turn number e).asked p in_tmp (errand-of-mail number e fits.stage) is)
   unlinks (Clean c) fits is = inr (c.folder, fits)

@@ -7,18 +7,14 @@ use Rattle.std.proofs.lemmas.Bool.Decides.{nat_tests}
 use Rattle.std.proofs.lemmas.List.{append-nil, append_assoc, length-map, map-append, take_all}
 use Rattle.std.proofs.lemmas.List.Elements.{filter-append, All-nil, All-cons, All-append}
 use Rattle.std.proofs.lemmas.List.Sums.{sum_by-append}
-use Rattle.md_dirs.specs.State.{State}
+use Rattle.md_core.proofs.Values.{State, Tmp, Row, DirReply, Task, Deliver, Errand, Clean}
 use Rattle.md_dirs.specs.Path.{path_of as path}
 use Rattle.md_dirs.specs.Rows.{rows_of}
-use Rattle.md_dirs.specs.declared.paths.Place.TheVariants.{Tmp}
-use Rattle.md_dirs.specs.declared.rows.Row.{Row}
 use Rattle.md_dirs.proofs.Sound.{by_number}
 use Rattle.md_core.specs.declared.jobs.answer.Answer.TheVariants as answer
 use Rattle.md_core.specs.declared.jobs.call.Call.TheVariants as call
 use Rattle.md_core.specs.Tasks.Cleaning.{Cleaning, Stage, Look, Remove}
-use Rattle.md_core.specs.declared.jobs.step.DirReply.{DirReply}
 use Rattle.md_core.specs.declared.jobs.step.DirReply.TheVariants as reply
-use Rattle.md_core.specs.Tasks.Task.{Task, Deliver, Errand, Clean}
 use Rattle.md_core.specs.Machine.{Machine, Standing, working, answered, Occurrence, after_event, step_of, job_at, new_job, standing_of}
 use Rattle.md_core.specs.Trace.{Step, call_at}
 use Rattle.md_core.specs.Machines.Clean.{old_rows, after_next, at_stage, tmp, stage_turn}
@@ -113,23 +109,9 @@ module _ (r : Run) (job : ℕ) where
     AtStage k (Remove name rest files) = HasTaken k (name ∷ map (λ row. row.name) rest) files
 
     abbrev Stands : ℕ → Standing → Type 0
-    Stands k (working (Deliver d)) = Unit {0}
-    Stands k (working (Errand e)) = Unit {0}
     Stands k (working (Clean c)) = AtStage k c.stage
-    Stands k (answered answer.TimedOut) = Unit {0}
-    Stands k (answered answer.TmpGone) = Unit {0}
     Stands k (answered (answer.Cleaned n)) = HasTaken k [] n
-    Stands k (answered answer.NotThere) = Unit {0}
-    Stands k (answered answer.NotTrashed) = Unit {0}
-    Stands k (answered answer.OtherInfo) = Unit {0}
-    Stands k (answered answer.Lost) = Unit {0}
-    Stands k (answered answer.Fault) = Unit {0}
-    Stands k (answered answer.NameTaken) = Unit {0}
-    Stands k (answered answer.Delivered) = Unit {0}
-    Stands k (answered (answer.Flags s)) = Unit {0}
-    Stands k (answered answer.Moved) = Unit {0}
-    Stands k (answered answer.Expunged) = Unit {0}
-    Stands k (answered answer.Copied) = Unit {0}
+    Stands k other = Unit {0}
 
     -- the next of the names that are left, or the answer
     next-stands : (k : ℕ) (c : Cleaning) (rows : List Row) (files : ℕ) → HasTaken k (map (λ row. row.name) rows) files →
@@ -216,9 +198,6 @@ module _ (r : Run) (job : ℕ) where
       stage-stands c in_folder Look now reply.Ok asked replied =
           let old = old_rows (at r k job t).own (rows_of s c.folder Tmp) in
           next-stands (k + 1) (at_stage c Look) old (length old) (look-taken c in_folder now.0 now.1 asked replied)
-      stage-stands c in_folder Look now reply.Exists asked replied = tt
-      stage-stands c in_folder Look now reply.NotFound asked replied = tt
-      stage-stands c in_folder Look now reply.Fault asked replied = tt
       stage-stands c in_folder (Remove name rest files) now reply.Ok asked replied =
           next-taken (at_stage c (Remove name rest files)) in_folder name rest files files now asked (inl replied)
           (sym (ap (λ x. cond (is_ok x) files (files - 1)) replied))
@@ -227,6 +206,7 @@ module _ (r : Run) (job : ℕ) where
           next-taken (at_stage c (Remove name rest files)) in_folder name rest files (files - 1) now asked (inr replied)
           (sym (ap (λ x. cond (is_ok x) files (files - 1)) replied))
       stage-stands c in_folder (Remove name rest files) now reply.Fault asked replied = tt
+      stage-stands c in_folder Look now other asked replied = tt
 
       own-stands : call_at r.calls job ≡ Some (call.Clean folder) → IsRun r → Stands k (working t.task) →
           Stands (k + 1) (standing_of (left_by r k job t).task (left_by r k job t).answer)
@@ -266,23 +246,9 @@ module _ (r : Run) (job : ℕ) where
       stage-still (Remove name rest files) now = taken-still k (name ∷ map (λ row. row.name) rest) files (deeds-other k n t differ) now
 
       other-stands : (st : Standing) → Stands k st → Stands (k + 1) st
-      other-stands (working (Deliver d)) now = tt
-      other-stands (working (Errand e)) now = tt
       other-stands (working (Clean c)) now = stage-still c.stage now
-      other-stands (answered answer.TimedOut) now = tt
-      other-stands (answered answer.TmpGone) now = tt
       other-stands (answered (answer.Cleaned x)) now = taken-still k [] x (deeds-other k n t differ) now
-      other-stands (answered answer.NotThere) now = tt
-      other-stands (answered answer.NotTrashed) now = tt
-      other-stands (answered answer.OtherInfo) now = tt
-      other-stands (answered answer.Lost) now = tt
-      other-stands (answered answer.Fault) now = tt
-      other-stands (answered answer.NameTaken) now = tt
-      other-stands (answered answer.Delivered) now = tt
-      other-stands (answered (answer.Flags x)) now = tt
-      other-stands (answered answer.Moved) now = tt
-      other-stands (answered answer.Expunged) now = tt
-      other-stands (answered answer.Copied) now = tt
+      other-stands other now = tt
 
 -- how a clean stands at each moment
 module _ (r : Run) (run : IsRun r) (job folder : ℕ) (of : call_at r.calls job ≡ Some (call.Clean folder)) where

@@ -1,22 +1,16 @@
 -- What a clean still has to take away was old when it looked: of a delivery's file, the delivery had begun long before.
-use Rattle.md_core.proofs.Machines.Errand.Table.{no-clean}
+use Rattle.md_core.proofs.Machines.Errand.Table.Rows.{no-clean}
 use Rattle.std.proofs.Common.{ℕ, ◌≡◌, ◌≤◌, ◌⊎◌, ◌+◌, ◌-◌, inl, inr, List, [], ◌∷◌, Some, None, length, refl, sym, ap, subst, ◌∙◌, arith}
 use Rattle.std.proofs.lemmas.Bool.Decides.{nat_tests}
-use Rattle.md_dirs.specs.State.{State, file_at}
+use Rattle.md_core.proofs.Values.{State, file_at, Path, Tmp, Row, Call, DirReply, Task, Deliver, Errand, Clean}
 use Rattle.md_dirs.specs.Path.{path_of as path}
 use Rattle.md_dirs.specs.Rows.{rows_of}
-use Rattle.md_dirs.specs.declared.paths.Path.{Path}
-use Rattle.md_dirs.specs.declared.paths.Place.TheVariants.{Tmp}
-use Rattle.md_dirs.specs.declared.rows.Row.{Row}
-use Rattle.md_core.specs.declared.jobs.call.Call.{Call}
 use Rattle.md_core.specs.declared.jobs.call.Call.TheVariants as call
 use Rattle.md_core.specs.Tasks.Cleaning.{Cleaning, Stage, Look, Remove}
-use Rattle.md_core.specs.declared.jobs.step.DirReply.{DirReply}
 use Rattle.md_core.specs.declared.jobs.step.DirReply.TheVariants as reply
-use Rattle.md_core.specs.Tasks.Task.{Task, Deliver, Errand, Clean}
 use Rattle.md_core.specs.Trace.{Step, call_at}
 use Rattle.md_core.specs.Machine.{working, job_at, new_job}
-use Rattle.md_core.specs.Machines.Clean.{least_seconds, new_cleaning, is_old, old_rows, after_next, at_stage, tmp, stage_turn}
+use Rattle.md_core.specs.Machines.Clean.{least_seconds, is_old, old_rows, after_next, at_stage, tmp, stage_turn}
 use Rattle.md_core.specs.Turn.{Turn, rows_for}
 use Rattle.md_core.specs.Asked.{unlink}
 use Rattle.md_core.specs.Runs.{Run, machine_at, first_step}
@@ -29,6 +23,7 @@ use Rattle.md_core.proofs.Answers.LastStep.{IsTurn, is_within, left_by, turn-at,
 use Rattle.md_core.proofs.Answers.Moments.{its-fits, at, asked_by, after_task, next-clock, clock-grows, turn-done}
 use Rattle.md_core.proofs.Answers.Files.Stamps.{stamped-at}
 use Rattle.md_core.proofs.Answers.Files.Listed.{has-filter, listed-file}
+use Rattle.md_core.proofs.Machines.Errand.Table.Calls.{new-looks}
 
 -- a job has begun, and its first step was 36 hours less these seconds before the clock of moment k
 pub record IsLate (r : Run) (seconds job k : ℕ) : Type 0 where
@@ -61,9 +56,8 @@ cleans s f (Clean c) fits = (c, refl)
 
 -- what is left to a clean of the folder, at moment k
 abbrev LateTask : Run → ℕ → ℕ → ℕ → List ℕ → ℕ → Task → Type 0
-LateTask r seconds job folder u k (Deliver d) = Unit {0}
-LateTask r seconds job folder u k (Errand e) = Unit {0}
 LateTask r seconds job folder u k (Clean c) = c.folder ≡ folder → IsLeft u c.stage → IsLate r seconds job k
+LateTask r seconds job folder u k other = Unit {0}
 
 module _ (r : Run) (run : IsRun r) (seconds : ℕ) (apart : AreApart r seconds) (job folder : ℕ) (u body : List ℕ) (chunk : ℕ)
     (of : call_at r.calls job ≡ Some (call.Deliver folder u body chunk)) where
@@ -112,9 +106,6 @@ module _ (r : Run) (run : IsRun r) (seconds : ℕ) (apart : AreApart r seconds) 
         let old = old_rows (at r k n t).own (rows_of s c.folder Tmp) in
         late-look c (sym (folder-next u (at_stage c Look) old (length old)) ∙ in_folder)
         (left-next u (at_stage c Look) old (length old) unanswered left)
-    stage-leads c Look before reply.Exists unanswered in_folder left = cc
-    stage-leads c Look before reply.NotFound unanswered in_folder left = cc
-    stage-leads c Look before reply.Fault unanswered in_folder left = cc
     stage-leads c (Remove name rest files) before reply.Ok unanswered in_folder left =
         let x = at_stage c (Remove name rest files) in
         late-more (before (sym (folder-next u x rest files) ∙ in_folder) (inr (left-next u x rest files unanswered left)))
@@ -123,6 +114,7 @@ module _ (r : Run) (run : IsRun r) (seconds : ℕ) (apart : AreApart r seconds) 
         let x = at_stage c (Remove name rest files) in
         late-more (before (sym (folder-next u x rest (files - 1)) ∙ in_folder) (inr (left-next u x rest (files - 1) unanswered left)))
     stage-leads c (Remove name rest files) before reply.Fault unanswered in_folder left = cc
+    stage-leads c Look before other unanswered in_folder left = cc
 
     own-turn : (left_by r k n t).answer ≡ None → AtTask k n t.task → AtTask (k + 1) n (left_by r k n t).task
     own-turn unanswered h = by t.task h (reply_in (machine_at r k) t.event t.task) unanswered
@@ -134,24 +126,13 @@ module _ (r : Run) (run : IsRun r) (seconds : ℕ) (apart : AreApart r seconds) 
         by (Clean c) now rep none = stage-leads c c.stage now rep none
 
     other-turn : (task : Task) → AtTask k n task → AtTask (k + 1) n task
-    other-turn (Deliver d) h = tt
-    other-turn (Errand e) h = tt
     other-turn (Clean c) h = λ in_folder left. late-more (h in_folder left)
+    other-turn other h = tt
 
   -- a new clean has nothing to take away yet
   new-at : (n : ℕ) (c : Call) (task : Task) → new_job c ≡ working task → AtTask 0 n task
-  new-at n c (Deliver d) is = tt
-  new-at n c (Errand e) is = tt
-  new-at n c (Clean x) is = λ in_folder left. absurd (subst (IsLeft u) (looks c is) left)
-    where
-      looks : (c : Call) → new_job c ≡ working (Clean x) → x.stage ≡ Look
-      looks (call.Deliver a b c d) is = cc
-      looks (call.Seen a b c d) is = cc
-      looks (call.Flag a b c d e) is = cc
-      looks (call.Move a b c d) is = cc
-      looks (call.Expunge a b c) is = cc
-      looks (call.Copy a b c d e) is = cc
-      looks (call.Clean a) is = let same : new_cleaning a ≡ x = cc in ap (λ (y : Cleaning). y.stage) (sym same)
+  new-at n c (Clean x) is = λ in_folder left. absurd (subst (IsLeft u) (new-looks x c is) left)
+  new-at n c other is = tt
 
   late-task : (k n : ℕ) (task : Task) → k ≤ length r.events → job_at (machine_at r k).jobs n ≡ Some (working task) → AtTask k n task
   late-task = holds r run AtTask (λ n c task of-c is. new-at n c task is) own-turn

@@ -1,12 +1,10 @@
 -- A row of a listing shows the file at the path of its name.
 use Rattle.std.proofs.Common.{ℕ, ◌≡◌, inl, inr, List, [], ◌∷◌, Option, Some, None, Bool, true, false, cond, map, filter, refl, sym, ap, ◌∙◌}
 use Rattle.std.specs.FinMap.{entries}
-use Rattle.md_dirs.specs.State.{State, file_at, file_by}
+use Rattle.md_core.proofs.Values.{State, file_at, file_by, Place, Row}
 use Rattle.md_dirs.specs.Path.{path_of}
 use Rattle.md_dirs.specs.Rows.{rows_of, row_of, row_by, is_in}
 use Rattle.md_dirs.specs.declared.paths.File.{File}
-use Rattle.md_dirs.specs.declared.paths.Place.{Place}
-use Rattle.md_dirs.specs.declared.rows.Row.{Row}
 use Rattle.md_dirs.proofs.PathOrder.{path_total, path_exact}
 use Rattle.md_core.specs.Runs.{stamp_of}
 use Rattle.lists.proofs.Members.{Has, has-get}

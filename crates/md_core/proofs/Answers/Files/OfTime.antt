@@ -2,11 +2,9 @@
 use Rattle.std.proofs.Common.{ℕ, ◌≡◌, ◌≤◌, ◌-◌, Some, sym, ap, subst, ◌∙◌, arith}
 use Rattle.std.proofs.lemmas.Bool.Decides.{nat_tests}
 use Rattle.md_dirs.specs.Path.{path_of as path}
-use Rattle.md_dirs.specs.declared.paths.Path.{Path}
+use Rattle.md_core.proofs.Values.{Path, Call, Answer}
 use Rattle.md_dirs.specs.declared.paths.Place.TheVariants.{Tmp}
-use Rattle.md_core.specs.declared.jobs.answer.Answer.{Answer}
 use Rattle.md_core.specs.declared.jobs.answer.Answer.TheVariants as answer
-use Rattle.md_core.specs.declared.jobs.call.Call.{Call}
 use Rattle.md_core.specs.declared.jobs.call.Call.TheVariants as call
 use Rattle.md_core.specs.Tasks.Delivery.{Delivery}
 use Rattle.md_core.specs.Machine.{answered, job_at}
@@ -28,17 +26,7 @@ abbrev pub IsOfTime : Answer → Type 0
 IsOfTime answer.TimedOut = Unit {0}
 IsOfTime answer.TmpGone = Unit {0}
 IsOfTime (answer.Cleaned n) = Unit {0}
-IsOfTime answer.NotThere = ⊥
-IsOfTime answer.NotTrashed = ⊥
-IsOfTime answer.OtherInfo = ⊥
-IsOfTime answer.Lost = ⊥
-IsOfTime answer.Fault = ⊥
-IsOfTime answer.NameTaken = ⊥
-IsOfTime answer.Delivered = ⊥
-IsOfTime (answer.Flags s) = ⊥
-IsOfTime answer.Moved = ⊥
-IsOfTime answer.Expunged = ⊥
-IsOfTime answer.Copied = ⊥
+IsOfTime other = ⊥
 
 module _ (r : Run) (run : IsRun r) (job : ℕ) (c : Call) (of : call_at r.calls job ≡ Some c) where
   -- the call of a delivery
@@ -120,14 +108,4 @@ pub says_of_time : (r : Run) → IsRun r → (job : ℕ) (c : Call) (a : Answer)
 says_of_time r run job c answer.TimedOut of is which = is-timed-out r run job c of is
 says_of_time r run job c answer.TmpGone of is which = is-tmp-gone r run job c of is
 says_of_time r run job c (answer.Cleaned n) of is which = is-cleaned r run job c of n is
-says_of_time r run job c answer.NotThere of is which = absurd which
-says_of_time r run job c answer.NotTrashed of is which = absurd which
-says_of_time r run job c answer.OtherInfo of is which = absurd which
-says_of_time r run job c answer.Lost of is which = absurd which
-says_of_time r run job c answer.Fault of is which = absurd which
-says_of_time r run job c answer.NameTaken of is which = absurd which
-says_of_time r run job c answer.Delivered of is which = absurd which
-says_of_time r run job c (answer.Flags s) of is which = absurd which
-says_of_time r run job c answer.Moved of is which = absurd which
-says_of_time r run job c answer.Expunged of is which = absurd which
-says_of_time r run job c answer.Copied of is which = absurd which
+says_of_time r run job c other of is which = absurd which

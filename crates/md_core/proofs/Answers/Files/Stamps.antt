@@ -1,26 +1,22 @@
 -- A file at the path in tmp of a delivery is its own: the delivery has begun, and the file's stamp is at least the clock of its first step.
-use Rattle.std.proofs.Common.{ℕ, zero, suc, ◌≡◌, ◌≤◌, ◌+◌, inl, inr, List, Some, None, refl, sym, ap, subst, ◌∙◌, length, take, arith}
-use Rattle.md_dirs.specs.State.{State, file_at}
+use Rattle.std.proofs.Common.{ℕ, zero, suc, ◌≡◌, ◌≤◌, ◌+◌, inl, inr, List, Some, None, refl, sym, ap, subst, ◌∙◌, length, arith}
+use Rattle.md_core.proofs.Values.{State, file_at, Path, Tmp, Task}
 use Rattle.md_dirs.specs.Path.{path_of as path}
-use Rattle.md_dirs.specs.declared.paths.Path.{Path}
-use Rattle.md_dirs.specs.declared.paths.Place.TheVariants.{Tmp}
 use Rattle.md_core.specs.declared.jobs.call.Call.TheVariants.{Deliver}
 use Rattle.md_core.specs.Tasks.Delivery.{Stage}
-use Rattle.md_core.specs.Tasks.Task.{Task}
 use Rattle.md_core.specs.Machine.{Machine}
 use Rattle.md_core.specs.Runs.{Run, machine_at, first_step}
 use Rattle.md_core.specs.Trace.{call_at}
 use Rattle.md_core.specs.Stepping.{IsRun}
 use Rattle.md_core.proofs.Answers.OfRun.{IsStep}
 use Rattle.md_core.proofs.Induction.Good.{IsUnused}
-use Rattle.md_core.proofs.Worlds.Accepted.{accepted}
-use Rattle.md_core.proofs.Worlds.Loading.Loaded.{unused-path}
 use Rattle.md_core.proofs.Runs.ByEvent.{moment-start}
 use Rattle.md_core.proofs.Answers.LastStep.{IsTurn, is_within}
 use Rattle.md_core.proofs.Answers.Moments.{at, next-clock, clock-grows, each-moment, first-is}
 use Rattle.md_core.proofs.Answers.Files.Tmp.{KeepsPath, stamp_at}
 use Rattle.md_core.proofs.Answers.Files.Touched.{IsMade, touched}
 use Rattle.md_core.proofs.Answers.Files.Writing.{AtStage, AtTask, at-task}
+use Rattle.md_core.proofs.Induction.GoodRuns.{accepted-at}
 
 -- a job has begun, and the clock and the stamp of a file are at least the clock of its first step
 pub record IsStamped (r : Run) (job k n : ℕ) : Type 0 where
@@ -32,9 +28,7 @@ pub record IsStamped (r : Run) (job k n : ℕ) : Type 0 where
 unused-at : (r : Run) → IsRun r → (job folder : ℕ) (u body : List ℕ) (chunk : ℕ) →
     call_at r.calls job ≡ Some (Deliver folder u body chunk) → IsUnused r.image u
 unused-at r run zero folder u body chunk of = cc
-unused-at r run (suc i) folder u body chunk of =
-    let a = accepted (record r { calls = take i r.calls }) folder u body chunk (run.accepted i (Deliver folder u body chunk) of) in
-    unused-path r.image u a.valid a.unused
+unused-at r run (suc i) folder u body chunk of = (accepted-at r run i (Deliver folder u body chunk) of).2.unused
 
 module _ (r : Run) (run : IsRun r) (job folder : ℕ) (u body : List ℕ) (chunk : ℕ)
     (of : call_at r.calls job ≡ Some (Deliver folder u body chunk)) where

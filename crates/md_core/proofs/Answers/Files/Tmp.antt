@@ -2,15 +2,12 @@
 -- away.
 use Rattle.std.proofs.Common.{ℕ, ◌≡◌, ◌≢◌, ◌⊎◌, inl, inr, List, Option, Some, None, Bool, true, false, cond, refl, sym, ap, ◌∙◌, slice_set, length, IsSome}
 use Rattle.std.specs.FinMap as finmap
-use Rattle.md_dirs.specs.State.{State, IsSound, file_at, file_by}
+use Rattle.md_core.proofs.Values.{State, IsSound, file_at, file_by, Path, Tmp, DirReply}
 use Rattle.md_dirs.specs.Calls.{after_create, empty_file, after_append, file_with_more, with_path, without_path, after_unlink, with_files_still_named, is_one_file}
-use Rattle.md_dirs.specs.declared.paths.Path.{Path}
 use Rattle.md_dirs.specs.declared.paths.File.{File}
-use Rattle.md_dirs.specs.declared.paths.Place.TheVariants.{Tmp}
 use Rattle.md_dirs.proofs.PathOrder.{path_total, path_exact}
 use Rattle.lists.proofs.Maps as maps
 use Rattle.md_dirs.proofs.Sound.{by_path, by_number, file_by-push, file_by-last, file_by-set_same, file_by-set_other, number-within, swept-kept}
-use Rattle.md_core.specs.declared.jobs.step.DirReply.{DirReply}
 use Rattle.md_core.specs.declared.jobs.step.DirReply.TheVariants as reply
 use Rattle.md_core.specs.Mailbox.{is_tmp}
 use Rattle.md_core.specs.Runs.{stamp_of}
@@ -24,10 +21,7 @@ stamp_at s n = stamp_of (file_by s.files n)
 abbrev pub LeavesTmp : Asked → Type 0
 LeavesTmp (link old new) = is_tmp new.place ≡ false
 LeavesTmp (rename old new) = (is_tmp old.place ≡ false) × (is_tmp new.place ≡ false)
-LeavesTmp (create q) = Unit {0}
-LeavesTmp (append q bytes) = Unit {0}
-LeavesTmp (unlink q) = Unit {0}
-LeavesTmp (list folder place) = Unit {0}
+LeavesTmp other = Unit {0}
 
 -- a path names what it did, and that file has the stamp that it had or that of the call
 pub record KeepsPath (s s' : State) (p : Path) (clock : ℕ) : Type 0 where
@@ -133,6 +127,4 @@ module _ (s : State) (p : Path) (in_tmp : p.place ≡ Tmp) (sound : IsSound s) (
 
   pub touches : (asked : Asked) (r : DirReply) → LeavesTmp asked → Touches s (state_by (ask_of asked clock) s r) p asked r clock
   touches asked reply.Ok leaves = done asked leaves
-  touches asked reply.Exists leaves = inl stays
-  touches asked reply.NotFound leaves = inl stays
-  touches asked reply.Fault leaves = inl stays
+  touches asked other leaves = inl stays

@@ -1,18 +1,15 @@
 -- What the turn at an event does to a path in tmp whose name the call of a job makes.
 use Rattle.std.proofs.Common.{ℕ, ◌≡◌, ◌⊎◌, ◌+◌, inl, inr, Some, None, sym, ap, subst, ◌∙◌}
-use Rattle.md_dirs.specs.State.{State, file_at}
+use Rattle.md_core.proofs.Values.{State, file_at, Tmp, Call, DirReply, Deliver}
 use Rattle.md_dirs.specs.declared.paths.Path.{Path}
-use Rattle.md_dirs.specs.declared.paths.Place.TheVariants.{Tmp}
-use Rattle.md_core.specs.declared.jobs.call.Call.{Call}
 use Rattle.md_core.specs.Tasks.Delivery.{Delivery, Start}
-use Rattle.md_core.specs.declared.jobs.step.DirReply.{DirReply}
-use Rattle.md_core.specs.Tasks.Task.{Deliver}
 use Rattle.md_core.specs.Asked.{Asked}
 use Rattle.md_core.specs.Runs.{Run, machine_at}
 use Rattle.md_core.specs.Trace.{call_at}
 use Rattle.md_core.specs.Stepping.{IsRun}
+use Rattle.md_core.specs.Accepting.{MakesMessage}
 use Rattle.md_core.proofs.Answers.OfRun.{IsCleanedAway}
-use Rattle.md_core.proofs.Induction.Good.{TaskFits, Makes}
+use Rattle.md_core.proofs.Induction.Good.{TaskFits}
 use Rattle.md_core.proofs.Induction.GoodRuns.{all-apart}
 use Rattle.md_core.proofs.Answers.LastStep.{IsTurn, turn_by, reply_in, done_in, done-in}
 use Rattle.md_core.proofs.Answers.Moments.{its-call, its-fits, sound-now, at, next-dirs, one-maker}
@@ -28,7 +25,7 @@ pub record IsMade (r : Run) (k n job : ℕ) (t : IsTurn r k n) (p : Path) : Type
   pub makes : MakesPath (machine_at r (k + 1)).dirs p (turn_by (machine_at r k) t.event t.task).asked (at r k n t).clock
 
 module _ (r : Run) (run : IsRun r) (k n : ℕ) (t : IsTurn r k n) (job : ℕ) (asked : Call) (of : call_at r.calls job ≡ Some asked)
-    (p : Path) (in_tmp : p.place ≡ Tmp) (makes : Makes asked p.name) where
+    (p : Path) (in_tmp : p.place ≡ Tmp) (makes : MakesMessage asked p.name) where
   abbrev s' : State
   s' = (machine_at r (k + 1)).dirs
 
@@ -52,7 +49,7 @@ module _ (r : Run) (run : IsRun r) (k n : ℕ) (t : IsTurn r k n) (job : ℕ) (a
   fits : TaskFits (machine_at r k).dirs its t.task
   fits = its-fits r run k n its t.task of-its t.there
 
-  same-job : Makes its p.name → job ≡ n
+  same-job : MakesMessage its p.name → job ≡ n
   same-job also = one-maker r.calls (all-apart r run) job n asked its p.name of of-its makes also
 
   changed : Touches (machine_at r k).dirs s' p made replied (at r k n t).clock

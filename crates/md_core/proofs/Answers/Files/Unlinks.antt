@@ -1,21 +1,13 @@
 -- A delivery ends by the unlink of its name in tmp, whether it is done, out of time or faulted, but where its create faulted or its file
 -- in tmp is gone.
-use Rattle.md_core.proofs.Machines.Errand.Table.{no-delivery}
+use Rattle.md_core.proofs.Machines.Errand.Table.Rows.{no-delivery}
 use Rattle.std.proofs.Common.{ℕ, ◌≡◌, ◌∙◌, ◌⊎◌, inl, inr, List, Some, Bool, true, false, cond, nat_lt, length, refl, ap, subst}
-use Rattle.md_dirs.specs.State.{State}
+use Rattle.md_core.proofs.Values.{State, Path, Tmp, Row, Call, Answer, DirReply, Moment, Task, Deliver, Errand, Clean}
 use Rattle.md_dirs.specs.Path.{path_of as path}
-use Rattle.md_dirs.specs.declared.paths.Path.{Path}
-use Rattle.md_dirs.specs.declared.paths.Place.TheVariants.{Tmp}
-use Rattle.md_dirs.specs.declared.rows.Row.{Row}
-use Rattle.md_core.specs.declared.jobs.answer.Answer.{Answer}
 use Rattle.md_core.specs.declared.jobs.answer.Answer.TheVariants as answer
-use Rattle.md_core.specs.declared.jobs.call.Call.{Call}
 use Rattle.md_core.specs.declared.jobs.call.Call.TheVariants as call
 use Rattle.md_core.specs.Tasks.Delivery.{Delivery, Stage, Start, Writing, Linked, Undo}
-use Rattle.md_core.specs.declared.jobs.step.DirReply.{DirReply}
 use Rattle.md_core.specs.declared.jobs.step.DirReply.TheVariants as reply
-use Rattle.md_core.specs.declared.jobs.step.Moment.{Moment}
-use Rattle.md_core.specs.Tasks.Task.{Task, Deliver, Errand, Clean}
 use Rattle.md_core.specs.Machine.{Machine, answered, job_at, turn_of}
 use Rattle.md_core.specs.Machines.Deliver.{append_turn, link_turn, unlink_turn, stage_turn, is_in_time}
 use Rattle.md_core.specs.Turn.{Turn}
@@ -47,16 +39,13 @@ module _ (n : ℕ) (d : Delivery) (rows : List Row) (a : Answer) (its : IsOfUnli
   Unlinks turn rep = (turn.follows rep rows).answer ≡ Some a → turn.asked ≡ unlink d.tmp
 
   append-unlinks : (start i : ℕ) (rep : DirReply) → Unlinks (append_turn d start i) rep
-  append-unlinks start i reply.Ok is = cc
   append-unlinks start i reply.Exists is = absurd (differs a answer.Fault its (λ h. h) is)
   append-unlinks start i reply.NotFound is = absurd (differs a answer.TmpGone its (λ h. h) is)
-  append-unlinks start i reply.Fault is = cc
+  append-unlinks start i other is = cc
 
   link-unlinks : (rep : DirReply) → Unlinks (link_turn n d) rep
-  link-unlinks reply.Ok is = cc
-  link-unlinks reply.Exists is = cc
   link-unlinks reply.NotFound is = absurd (differs a answer.TmpGone its (λ h. h) is)
-  link-unlinks reply.Fault is = cc
+  link-unlinks other is = cc
 
   writing-unlinks : (b more : Bool) (start i : ℕ) (rep : DirReply) →
       Unlinks (cond b (cond more (append_turn d start i) (link_turn n d)) (unlink_turn d answer.TimedOut)) rep
@@ -70,8 +59,7 @@ module _ (n : ℕ) (d : Delivery) (rows : List Row) (a : Answer) (its : IsOfUnli
   stage-unlinks at Start reply.NotFound is = absurd (differs a answer.Fault its (λ h. h) is)
   stage-unlinks at Start reply.Fault is = absurd (differs a answer.Fault its (λ h. h) is)
   stage-unlinks at (Writing start i) rep is = writing-unlinks (is_in_time start at.own) (nat_lt i (length d.body)) start i rep is
-  stage-unlinks at Linked rep is = refl
-  stage-unlinks at (Undo b) rep is = refl
+  stage-unlinks at other rep is = refl
 
 module _ (n : ℕ) (d : Delivery) (rows : List Row) where
   -- where a turn gives Fault it is a create that faulted, or that unlink
@@ -83,15 +71,11 @@ module _ (n : ℕ) (d : Delivery) (rows : List Row) where
 
   append-undoes : (start i : ℕ) (rep : DirReply) → Undoes (append_turn d start i) rep
   append-undoes start i reply.Ok is told = cc
-  append-undoes start i reply.Exists is told = cc
-  append-undoes start i reply.NotFound is told = cc
-  append-undoes start i reply.Fault is told = cc
+  append-undoes start i other is told = cc
 
   link-undoes : (rep : DirReply) → Undoes (link_turn n d) rep
   link-undoes reply.Ok is told = cc
-  link-undoes reply.Exists is told = cc
-  link-undoes reply.NotFound is told = cc
-  link-undoes reply.Fault is told = cc
+  link-undoes other is told = cc
 
   writing-undoes : (b more : Bool) (start i : ℕ) (rep : DirReply) →
       Undoes (cond b (cond more (append_turn d start i) (link_turn n d)) (unlink_turn d answer.TimedOut)) rep
@@ -104,8 +88,7 @@ module _ (n : ℕ) (d : Delivery) (rows : List Row) where
   stage-undoes at Start rep is told = inl (refl, told)
   stage-undoes at (Writing start i) rep is told =
       writing-undoes (is_in_time start at.own) (nat_lt i (length d.body)) start i rep is told
-  stage-undoes at Linked rep is told = inr refl
-  stage-undoes at (Undo b) rep is told = inr refl
+  stage-undoes at other rep is told = inr refl
 
 module _ (folder : ℕ) (u body : List ℕ) (chunk : ℕ) (s : State) where
   abbrev asked : Call
@@ -181,21 +164,11 @@ module _ (r : Run) (run : IsRun r) (job : ℕ) where
       let last = last-step r run job answer.Delivered is in
       let asked = asks-unlink folder u body chunk answer.Delivered tt of last in
       record { k = last.k; step = is-step r last.k job last.turn; asked = asked; answer = last.answer }
-  is-delivered (call.Seen folder u flags tries) of is = tt
-  is-delivered (call.Flag folder u add remove tries) of is = tt
-  is-delivered (call.Move folder u to tries) of is = tt
-  is-delivered (call.Expunge folder u tries) of is = tt
-  is-delivered (call.Copy folder u to fresh tries) of is = tt
-  is-delivered (call.Clean folder) of is = tt
+  is-delivered c of is = tt
 
   pub is-undone : (c : Call) → call_at r.calls job ≡ Some c → job_at (jobs_of r) job ≡ Some (answered answer.Fault) → IsUndone r job c
   is-undone (call.Deliver folder u body chunk) of is = undone folder u body chunk of (last-step r run job answer.Fault is)
-  is-undone (call.Seen folder u flags tries) of is = tt
-  is-undone (call.Flag folder u add remove tries) of is = tt
-  is-undone (call.Move folder u to tries) of is = tt
-  is-undone (call.Expunge folder u tries) of is = tt
-  is-undone (call.Copy folder u to fresh tries) of is = tt
-  is-undone (call.Clean folder) of is = tt
+  is-undone c of is = tt
 
   pub is-faulted : (c : Call) → call_at r.calls job ≡ Some c → job_at (jobs_of r) job ≡ Some (answered answer.Fault) → IsFaulted r job
   is-faulted c of is = says-fault r run job c of answer.Fault (last-step r run job answer.Fault is) refl

@@ -1,24 +1,16 @@
 -- A delivery that writes has begun, at the moment of its own clock that it keeps, and has its file in tmp, or a clean took that away since.
-use Rattle.md_core.specs.Tasks.Purpose as purpose
-use Rattle.md_core.specs.Machines.Errand.{new_errand}
 use Rattle.std.proofs.Common.{ℕ, ◌≡◌, ◌≢◌, ◌<◌, ◌≤◌, ◌⊎◌, ◌+◌, inl, inr, List, Some, None, Bool, true, false, cond, length, nat_lt, slice_get, refl, sym, ap, subst, ◌∙◌, arith}
-use Rattle.md_dirs.specs.State.{State, file_at}
+use Rattle.md_core.proofs.Values.{State, file_at, Tmp, Row, Call, DirReply, Task, Deliver, Errand, Clean}
 use Rattle.md_dirs.specs.declared.paths.Path.{Path}
-use Rattle.md_dirs.specs.declared.rows.Row.{Row}
-use Rattle.md_dirs.specs.declared.paths.Place.TheVariants.{Tmp}
 use Rattle.md_dirs.proofs.PathOrder.{path_total, path_exact}
 use Rattle.lists.proofs.Maps as maps
 use Rattle.md_core.specs.declared.jobs.answer.Answer.TheVariants as answer
-use Rattle.md_core.specs.declared.jobs.call.Call.{Call}
 use Rattle.md_core.specs.declared.jobs.call.Call.TheVariants as call
 use Rattle.md_core.specs.Machines.Refusals.{refused_by}
 use Rattle.md_core.specs.Tasks.Delivery.{Delivery, Stage, Start, Writing, Linked, Undo}
-use Rattle.md_core.specs.declared.jobs.step.DirReply.{DirReply}
 use Rattle.md_core.specs.declared.jobs.step.DirReply.TheVariants as reply
-use Rattle.md_core.specs.Tasks.Task.{Task, Deliver, Errand, Clean}
 use Rattle.md_core.specs.Machine.{Occurrence, working, job_at, new_job}
-use Rattle.md_core.specs.Machines.Deliver.{new_delivery, at_stage, piece, append_turn, link_turn, unlink_turn, stage_turn, is_in_time}
-use Rattle.md_core.specs.Machines.Clean.{new_cleaning}
+use Rattle.md_core.specs.Machines.Deliver.{at_stage, piece, append_turn, link_turn, unlink_turn, stage_turn, is_in_time}
 use Rattle.md_core.specs.Turn.{Turn}
 use Rattle.md_core.specs.Asked.{append, ask_of, state_by}
 use Rattle.md_core.specs.Runs.{Run, machine_at, first_step}
@@ -31,6 +23,7 @@ use Rattle.md_core.proofs.Answers.LastStep.{IsTurn, left_by, turn-at, holds, rep
 use Rattle.md_core.proofs.Answers.Moments.{its-call, its-fits, sound-now, at, asked_by, after_task, next-dirs, not-yet, is-first, first-is}
 use Rattle.md_core.proofs.Answers.Files.Tmp.{KeepsPath, touches}
 use Rattle.md_core.proofs.Answers.Files.Touched.{touched}
+use Rattle.md_core.proofs.Machines.Errand.Table.Calls.{IfWorking, new-task}
 
 -- between the first step of a job and a moment, a clean took a path away
 pub record IsTaken (r : Run) (job k : ℕ) (p : Path) : Type 0 where
@@ -54,8 +47,7 @@ AtStage r k job p (Undo a) = (refused_by a ≡ answer.Fault) ⊎ (refused_by a �
 
 abbrev pub AtTask : Run → ℕ → ℕ → Task → Type 0
 AtTask r k job (Deliver d) = AtStage r k job d.tmp d.stage
-AtTask r k job (Errand e) = Unit {0}
-AtTask r k job (Clean c) = Unit {0}
+AtTask r k job other = Unit {0}
 
 -- the path stays there, or is taken away now, or has been
 module _ (r : Run) (job k start : ℕ) (p : Path) (h : HasBegun r job k start p) where
@@ -104,9 +96,7 @@ module _ (r : Run) (run : IsRun r) (k job : ℕ) (t : IsTurn r k job) (d : Deliv
               ∙ maps.at_put path_total path_exact s.names d.tmp d.tmp (length s.files) refl,
         );
       }
-  start-leads none reply.Exists dirs unanswered = cc
-  start-leads none reply.NotFound dirs unanswered = cc
-  start-leads none reply.Fault dirs unanswered = cc
+  start-leads none other dirs unanswered = cc
 
   module _ (start i : ℕ) (h : HasBegun r job k start d.tmp) where
     abbrev x : Delivery
@@ -137,20 +127,15 @@ module _ (r : Run) (run : IsRun r) (k job : ℕ) (t : IsTurn r k job) (d : Deliv
       Leads (stage_turn n (at_stage d stage) (at r k job t) stage) rep
   stage-leads Start h rep = start-leads h rep
   stage-leads (Writing start i) h rep = writing-leads start i h (is_in_time start (at r k job t).own) (nat_lt i (length d.body)) rep
-  stage-leads Linked h rep = λ dirs unanswered. cc
-  stage-leads (Undo a) h rep = λ dirs unanswered. cc
+  stage-leads other h rep = λ dirs unanswered. cc
 
 -- a new delivery has not begun
 new-at : (r : Run) (job : ℕ) (c : Call) (task : Task) → call_at r.calls job ≡ Some c → new_job c ≡ working task → AtTask r 0 job task
-new-at r job (call.Deliver a b c d) task of is =
-    subst (AtTask r 0 job) (let e : Deliver (new_delivery a b c d) ≡ task = cc in e) (omega arith)
-new-at r job (call.Seen a b c d) task of is = subst (AtTask r 0 job) (let e : Errand (new_errand a b (purpose.Seen c) d) ≡ task = cc in e) tt
-new-at r job (call.Flag a b c d x) task of is =
-    subst (AtTask r 0 job) (let e : Errand (new_errand a b (purpose.Flag c d) x) ≡ task = cc in e) tt
-new-at r job (call.Move a b c d) task of is = subst (AtTask r 0 job) (let e : Errand (new_errand a b (purpose.Move c) d) ≡ task = cc in e) tt
-new-at r job (call.Expunge a b c) task of is = subst (AtTask r 0 job) (let e : Errand (new_errand a b purpose.Expunge c) ≡ task = cc in e) tt
-new-at r job (call.Copy a b c d x) task of is = subst (AtTask r 0 job) (let e : Errand (new_errand a b (purpose.Copy c d) x) ≡ task = cc in e) tt
-new-at r job (call.Clean a) task of is = subst (AtTask r 0 job) (let e : Clean (new_cleaning a) ≡ task = cc in e) tt
+new-at r job c task of is = new-task (AtTask r 0 job) c task (by c) is
+  where
+    by : (c : Call) → IfWorking (AtTask r 0 job) (new_job c)
+    by (call.Deliver folder u body chunk) = omega arith
+    by c = tt
 
 module _ (r : Run) (run : IsRun r) where
   -- the turn of the job
@@ -195,8 +180,7 @@ module _ (r : Run) (run : IsRun r) where
     other-turn (Deliver d) is h =
         let asked = its-call r run k job _ is in
         still-stage d asked.0 asked.1 (its-fits r run k job asked.0 (Deliver d) asked.1 is) d.stage h
-    other-turn (Errand e) is h = tt
-    other-turn (Clean c) is h = tt
+    other-turn other is h = tt
 
   pub at-task : (k job : ℕ) (task : Task) → k ≤ length r.events → job_at (machine_at r k).jobs job ≡ Some (working task) → AtTask r k job task
   at-task = holds r run (AtTask r) (new-at r) own-turn (λ k job task e at-k differ is h. other-turn k job e at-k differ task is h)

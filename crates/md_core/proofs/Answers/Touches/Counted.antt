@@ -2,7 +2,7 @@
 use Rattle.std.proofs.Common.{ℕ, ◌≡◌, ◌≢◌, ◌≤◌, ◌+◌, ◌++◌, ◌⊎◌, inl, inr, List, [], ◌∷◌, Option, Some, None, Bool, true, false, cond, not, ◌&&◌, IfSome, refl, sym, ap, ◌∙◌, length, drop, slice_get, arith, ◌==◌}
 use Rattle.std.specs.Prelude.{count_by}
 use Rattle.std.specs.Option.{option_to_list}
-use Rattle.std.specs.FinMap.{get, remove}
+use Rattle.std.specs.FinMap.{get}
 use Rattle.std.proofs.Math.Seq.{drop-append_seam}
 use Rattle.std.proofs.lemmas.Bool.Decides.{nat_tests}
 use Rattle.std.proofs.lemmas.Cmp.{nat_list_cmp_total}
@@ -10,21 +10,18 @@ use Rattle.std.proofs.lemmas.List.{append-nil}
 use Rattle.std.proofs.lemmas.List.Sums.{sum_by-append}
 use Rattle.std.proofs.lemmas.Map.Lookups.{exact_bytes}
 use Rattle.md_name.specs.Names.{unique_of}
-use Rattle.md_name.proofs.Flagged.{unique_of-flagged, colonless-unique_of}
 use Rattle.md_dirs.specs.Rows.{is_named}
 use Rattle.lists.proofs.Maps.{beside_put, beside_drop}
-use Rattle.md_core.specs.declared.jobs.answer.Answer.{Answer}
-use Rattle.md_core.specs.declared.jobs.answer.Answer.TheVariants as answer
-use Rattle.md_core.specs.declared.jobs.effect.Change.{Change}
+use Rattle.md_core.proofs.Values.{Change, Effect}
 use Rattle.md_core.specs.declared.jobs.effect.Change.TheVariants as change
-use Rattle.md_core.specs.declared.jobs.effect.Effect.{Effect}
 use Rattle.md_core.specs.Mailbox.{Mailbox}
-use Rattle.md_core.specs.History.{Names, names_of, names_after_change, IsAllowed}
+use Rattle.md_core.specs.History.{Names, names_of, names_after_change}
 use Rattle.md_core.specs.Machine.{Machine, Occurrence}
 use Rattle.md_core.specs.Trace.{Step}
 use Rattle.md_core.specs.Runs.{Run, machine_at, box_in}
 use Rattle.md_core.specs.Stepping.{IsRun, AsAlone}
 use Rattle.md_core.specs.Answering.{is_on, is_touch}
+use Rattle.md_core.specs.Accepting.{MakesMessage}
 use Rattle.md_core.proofs.Answers.OfRun.{effects_between}
 use Rattle.md_core.proofs.Induction.Good.{Affects}
 use Rattle.md_core.proofs.Machines.EachTurn.{each-turn}
@@ -34,6 +31,7 @@ use Rattle.md_core.proofs.Induction.GoodRuns.{what-at, going-at}
 use Rattle.md_core.proofs.Looking.LookUps.{unique-named}
 use Rattle.md_core.proofs.Lists.Places.{at_place}
 use Rattle.md_core.proofs.Runs.ByEvent.{moment-over}
+use Rattle.md_core.proofs.Mailbox.Allowed.{FitsNames, allowed-fits, renamed-beside}
 
 -- ---- one effect
 
@@ -42,24 +40,15 @@ not-named : (u name : List ℕ) → is_named u name ≡ false → u ≢ unique_o
 not-named u name none is = let yes = unique-named u name (sym is) in cc
 
 -- a change that is not on a unique name leaves it as it is
-pub stays-beside : (folders : ℕ) (n : Names) (P : List ℕ → Type 0) (a : Answer) (c : Change) (u : List ℕ) → IsAllowed folders n P a c →
-    is_on u c ≡ false → get (names_after_change n c) u ≡ get n u
-stays-beside folders n P answer.Delivered (change.Add folder place name size) u h none =
+pub stays-beside : (n : Names) (P : List ℕ → Type 0) (c : Change) (u : List ℕ) → FitsNames n P c → is_on u c ≡ false →
+    get (names_after_change n c) u ≡ get n u
+stays-beside n P (change.Add folder place name size) u fits none =
     beside_put nat_list_cmp_total exact_bytes n (unique_of name) u _ (not-named u name none)
-stays-beside folders n P answer.Copied (change.Add folder place name size) u h none =
-    beside_put nat_list_cmp_total exact_bytes n (unique_of name) u _ (not-named u name none)
-stays-beside folders n P (answer.Flags s) (change.Rename folder place name to_folder to_place to_name) u h none =
-    let same : unique_of to_name ≡ unique_of name = ap unique_of h.3 ∙ unique_of-flagged (unique_of name) s (colonless-unique_of name) in
-    beside_put nat_list_cmp_total exact_bytes (remove n (unique_of name)) (unique_of to_name) u _ (λ is. not-named u name none (is ∙ same))
-    ∙ beside_drop nat_list_cmp_total exact_bytes n (unique_of name) u (not-named u name none)
-stays-beside folders n P (answer.Flags s) change.Same u h none = refl
-stays-beside folders n P answer.Moved (change.Rename folder place name to_folder to_place to_name) u h none =
-    beside_put nat_list_cmp_total exact_bytes (remove n (unique_of name)) (unique_of to_name) u _
-    (λ is. not-named u name none (is ∙ ap unique_of h.4))
-    ∙ beside_drop nat_list_cmp_total exact_bytes n (unique_of name) u (not-named u name none)
-stays-beside folders n P answer.Expunged (change.Remove folder place name) u h none =
+stays-beside n P (change.Rename folder place name to_folder to_place to_name) u fits none =
+    renamed-beside n (unique_of name) (unique_of to_name) u _ fits.0 (not-named u name none)
+stays-beside n P (change.Remove folder place name) u fits none =
     beside_drop nat_list_cmp_total exact_bytes n (unique_of name) u (not-named u name none)
-stays-beside folders n P a c u h none = absurd h
+stays-beside n P change.Same u fits none = refl
 
 -- ---- the effects by a moment
 
@@ -123,4 +112,6 @@ module _ (r : Run) (run : IsRun r) where
             on : (b : Bool) → is_on u x.change ≡ b → TouchesOr
             on true touch = inl (one-more x is ((λ i. other-job x affects.of i && touch i)))
             on false none = inr (ap (λ (n : Names). get n u) affects.changes
-                ∙ stays-beside (machine_at r k).dirs.folders (names_of (box_in (machine_at r k))) _ x.answer x.change u affects.allowed none)
+                ∙ stays-beside (names_of (box_in (machine_at r k))) (MakesMessage (going k e at).asked) x.change u
+                (allowed-fits (machine_at r k).dirs.folders (names_of (box_in (machine_at r k))) (MakesMessage (going k e at).asked) x.answer x.change
+                affects.allowed) none)

@@ -1,8 +1,7 @@
 -- What each answer says that isn't of a delivery that is done, of a fault, of time or of a clean.
 use Rattle.std.proofs.Common.{ℕ, ◌≡◌, Some, refl}
-use Rattle.md_core.specs.declared.jobs.answer.Answer.{Answer}
 use Rattle.md_core.specs.declared.jobs.answer.Answer.TheVariants as answer
-use Rattle.md_core.specs.declared.jobs.call.Call.{Call}
+use Rattle.md_core.proofs.Values.{Call, Answer}
 use Rattle.md_core.specs.Machine.{answered, job_at}
 use Rattle.md_core.specs.Runs.{Run, jobs_of}
 use Rattle.md_core.specs.Trace.{call_at}
@@ -39,7 +38,4 @@ says_of_mailbox r run job c a of is its = by a (last-step r run job a is) its
     by answer.TmpGone last its = absurd its
     by (answer.Cleaned n) last its = absurd its
     by answer.Delivered last its = absurd its
-    by (answer.Flags s) last its = tt
-    by answer.Moved last its = tt
-    by answer.Expunged last its = tt
-    by answer.Copied last its = tt
+    by other last its = tt

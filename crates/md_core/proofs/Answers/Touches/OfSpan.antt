@@ -1,26 +1,20 @@
 -- What one look-up says is so at its moment; and what a search says that looked in new and then in cur is so at one of the two moments.
 use Rattle.md_core.specs.Tasks.Errand.{Stage, Look, Act}
 use Rattle.md_core.specs.Tasks.Purpose.{Purpose}
-use Rattle.md_core.specs.Tasks.Purpose as purpose
-use Rattle.md_core.specs.Machines.Purposes.{searches}
+use Rattle.md_core.specs.Machines.Purposes.{searches, place_after, first}
 use Rattle.md_core.specs.Machines.Errand.{at_stage}
-use Rattle.md_core.proofs.Machines.Errand.Table.{one-place, last-place}
-use Rattle.std.proofs.Common.{ℕ, ◌≡◌, ◌<◌, ◌≤◌, ◌+◌, ◌⊎◌, inl, inr, List, Option, Some, None, Bool, true, false, cond, not, refl, sym, ap, subst, ◌∙◌, length, arith}
+use Rattle.md_core.proofs.Machines.Errand.Table.Rows.{one-place, last-place}
+use Rattle.std.proofs.Common.{ℕ, ◌≡◌, ◌<◌, ◌≤◌, ◌+◌, ◌⊎◌, inl, inr, List, Option, Some, None, Bool, true, false, cond, not, refl, sym, ap, subst, ◌∙◌, length, arith, if◌then◌else◌}
 use Rattle.std.proofs.lemmas.Bool.{eq-eqb, and_from, and_parts, not-true}
 use Rattle.std.specs.FinMap.{get}
 use Rattle.md_dirs.specs.Path.{place_index}
-use Rattle.md_dirs.specs.State.{State}
+use Rattle.md_core.proofs.Values.{State, Tmp, New, Cur, Call, Answer, DirReply, Task, Deliver, Errand, Clean}
 use Rattle.md_dirs.specs.declared.paths.Place.{Place}
-use Rattle.md_dirs.specs.declared.paths.Place.TheVariants.{Tmp, New, Cur}
-use Rattle.md_core.specs.declared.jobs.answer.Answer.{Answer}
 use Rattle.md_core.specs.declared.jobs.answer.Answer.TheVariants as answer
-use Rattle.md_core.specs.declared.jobs.call.Call.{Call}
 use Rattle.md_core.specs.declared.jobs.call.Call.TheVariants as call
-use Rattle.md_core.specs.declared.jobs.step.DirReply.{DirReply}
-use Rattle.md_core.specs.Tasks.Task.{Task, Deliver, Errand, Clean}
 use Rattle.md_core.specs.Mailbox.{Entry, is_tmp}
-use Rattle.md_core.specs.Alone.{seen_alone, flag_alone, move_alone, copy_alone, expunge_alone, entry_if, is_in_place, is_in_folder}
-use Rattle.md_core.specs.Machine.{Standing, working, answered, job_at, new_job}
+use Rattle.md_core.specs.Alone.{entry_if, is_in_place, is_in_folder}
+use Rattle.md_core.specs.Machine.{working, job_at, new_job}
 use Rattle.md_core.specs.Runs.{Run, machine_at, box_in}
 use Rattle.md_core.specs.Trace.{call_at}
 use Rattle.md_core.specs.Turn.{After}
@@ -33,6 +27,8 @@ use Rattle.md_core.proofs.Answers.Turns.OneMessage.{IsAlone, IsPastNew, IsPastLa
 use Rattle.md_core.proofs.Answers.Turns.EachSays.{TaskSays, UndoesTask, IsClean, turn-says, fits-at}
 use Rattle.md_core.proofs.Answers.Turns.Told.{at-none}
 use Rattle.md_core.proofs.Answers.Touches.StaysInCur.{stays-in_cur}
+use Rattle.md_core.proofs.Machines.Errand.Table.Calls.{IfWorking, new-task}
+use Rattle.md_core.proofs.Machines.Errand.Table.Says.{alone-none}
 
 -- what a call would be answered alone at a step of its job
 pub at-step : (r : Run) (job k : ℕ) (c : Call) (a : Answer) → IsStep r job k → IsAlone (machine_at r k).dirs c a → IsOfSpan r job c a
@@ -56,25 +52,16 @@ SearchedAt r k job folder u both (Look place tries) = both ≡ true → place �
 SearchedAt r k job folder u both (Act place row tries) = Unit {0}
 
 abbrev SearchedBy : Run → ℕ → ℕ → Task → Type 0
-SearchedBy r k job (Deliver d) = Unit {0}
 SearchedBy r k job (Errand e) = SearchedAt r k job e.folder e.unique (searches e.purpose) e.stage
-SearchedBy r k job (Clean c) = Unit {0}
+SearchedBy r k job other = Unit {0}
 
 abbrev Searched : Run → ℕ → ℕ → Task → Type 0
 Searched r k job task = (c : Call) → call_at r.calls job ≡ Some c → SearchedBy r k job task
 
-abbrev AtWork : Run → ℕ → Standing → Type 0
-AtWork r job (working task) = SearchedBy r 0 job task
-AtWork r job (answered a) = Unit {0}
-
-new-searched : (r : Run) (job : ℕ) (c : Call) → AtWork r job (new_job c)
+new-searched : (r : Run) (job : ℕ) (c : Call) → IfWorking (SearchedBy r 0 job) (new_job c)
 new-searched r job (call.Deliver folder u body chunk) = tt
-new-searched r job (call.Seen folder u flags tries) = λ both cur. cc
-new-searched r job (call.Flag folder u add remove tries) = λ both cur. cc
-new-searched r job (call.Move folder u to tries) = λ both cur. cc
-new-searched r job (call.Expunge folder u tries) = λ both cur. cc
-new-searched r job (call.Copy folder u to fresh tries) = λ both cur. cc
 new-searched r job (call.Clean folder) = tt
+new-searched r job c = λ both cur. cc
 
 module _ (r : Run) (k job : ℕ) where
   -- the step at which the job looked in new
@@ -111,14 +98,13 @@ module _ (r : Run) (k job : ℕ) where
   later folder u both (Act place row tries) h = tt
 
   still-searched : (task : Task) → SearchedBy r k job task → SearchedBy r (k + 1) job task
-  still-searched (Deliver d) h = tt
   still-searched (Errand e) h = later e.folder e.unique (searches e.purpose) e.stage h
-  still-searched (Clean c) h = tt
+  still-searched other h = tt
 
 module _ (r : Run) (run : IsRun r) where
   searched-at : (k job : ℕ) (task : Task) → k ≤ length r.events → job_at (machine_at r k).jobs job ≡ Some (working task) → Searched r k job task
   searched-at = holds r run (Searched r)
-      (λ job c task of new c' of'. subst (AtWork r job) new (new-searched r job c))
+      (λ job c task of new c' of'. new-task (SearchedBy r 0 job) c task (new-searched r job c) new)
       (λ k job t none was c of.
       searched-on r k job (machine_at r (k + 1)).dirs c (is-step r k job t) t.task (reply_in (machine_at r k) t.event t.task) (left_by r k job t)
       (turn-says r run k job c of t) none)
@@ -195,29 +181,24 @@ module _ (r : Run) (run : IsRun r) where
     errand-none : (p : Purpose) (fits : ErrandFits (machine_at r k).dirs c (record { folder = folder; unique = u; purpose = p; stage = Look place tries })) →
         IsPastLast (machine_at r k).dirs folder u (searches p) (Look place tries) → SearchedAt r k job folder u (searches p) (Look place tries) →
         IsOfSpan r job c answer.NotThere
-    errand-none (purpose.Seen given) fits h was =
-        let new = one-place (purpose.Seen given) place refl fits.stage in
-        at-step r job k c answer.NotThere step (subst (λ (x : Call). IsAlone (machine_at r k).dirs x answer.NotThere) (sym fits.of)
-        (ap (λ (o : Option Entry). (seen_alone (box_in (machine_at r k)) u given o).answer)
-        (subst (λ (q : Place). entry_if (is_in_place q folder) (get (box_in (machine_at r k)) u) ≡ None) new h.0)))
-    errand-none (purpose.Flag add remove) fits h was =
-        let cur = one-place (purpose.Flag add remove) place refl fits.stage in
-        at-step r job k c answer.NotThere step (subst (λ (x : Call). IsAlone (machine_at r k).dirs x answer.NotThere) (sym fits.of)
-        (ap (λ (o : Option Entry). (flag_alone (box_in (machine_at r k)) u add remove o).answer)
-        (subst (λ (q : Place). entry_if (is_in_place q folder) (get (box_in (machine_at r k)) u) ≡ None) cur h.0)))
-    errand-none (purpose.Move to) fits h was =
-        let cur = last-place (purpose.Move to) place refl fits.stage h.1 in
-        search-none (λ i none. subst (λ (x : Call). IsAlone (machine_at r i).dirs x answer.NotThere) (sym fits.of)
-        (ap (λ (o : Option Entry). (move_alone (box_in (machine_at r i)) u to o).answer) none)) cur h.0 (was refl cur)
-    errand-none (purpose.Copy to fresh) fits h was =
-        let cur = last-place (purpose.Copy to fresh) place refl fits.stage h.1 in
-        search-none (λ i none. subst (λ (x : Call). IsAlone (machine_at r i).dirs x answer.NotThere) (sym fits.of)
-        (ap (λ (o : Option Entry). (copy_alone (box_in (machine_at r i)) to fresh o).answer) none)) cur h.0 (was refl cur)
-    errand-none purpose.Expunge fits h was =
-        let cur = one-place purpose.Expunge place refl fits.stage in
-        at-step r job k c answer.NotThere step (subst (λ (x : Call). IsAlone (machine_at r k).dirs x answer.NotThere) (sym fits.of)
-        (ap (λ (o : Option Entry). (expunge_alone (box_in (machine_at r k)) u o).answer)
-        (subst (λ (q : Place). entry_if (is_in_place q folder) (get (box_in (machine_at r k)) u) ≡ None) cur h.0)))
+    errand-none p fits h was = by (searches p) refl
+      where
+        alone-then : (b : Bool) → searches p ≡ b → (i : ℕ) →
+            entry_if (if b then is_in_folder folder else is_in_place (first p) folder) (get (box_in (machine_at r i)) u) ≡ None →
+            IsAlone (machine_at r i).dirs c answer.NotThere
+        alone-then b is i none = subst (λ (x : Call). IsAlone (machine_at r i).dirs x answer.NotThere) (sym fits.of)
+            (alone-none (machine_at r i).dirs p folder u fits.tries
+            (ap (λ (both : Bool). entry_if (if both then is_in_folder folder else is_in_place (first p) folder) (get (box_in (machine_at r i)) u)) is
+            ∙ none))
+
+        by : (b : Bool) → searches p ≡ b → IsOfSpan r job c answer.NotThere
+        by true both =
+            let cur = last-place p place both fits.stage (ap (λ (b : Bool). place_after b place) (sym both) ∙ h.1) in
+            search-none (alone-then true both) cur h.0 (was both cur)
+        by false one =
+            let first-is = one-place p place one fits.stage in
+            at-step r job k c answer.NotThere step
+            (alone-then false one k (subst (λ (q : Place). entry_if (is_in_place q folder) (get (box_in (machine_at r k)) u) ≡ None) first-is h.0))
 
   -- nothing was found at the last turn of a job
   pub says-none : (k job : ℕ) (c : Call) → call_at r.calls job ≡ Some c → (t : IsTurn r k job) → FindsNone (machine_at r k).dirs c t.task →

@@ -10,17 +10,19 @@ use Rattle.md_core.specs.Machine.{Machine}
 use Rattle.md_core.specs.Trace.{Step}
 use Rattle.md_core.specs.Runs.{Run, machine_at, box_in}
 use Rattle.md_core.specs.Stepping.{IsRun, AsAlone}
-use Rattle.md_core.proofs.Induction.Good.{Affects, Makes, Known, own_effect}
+use Rattle.md_core.proofs.Induction.Good.{Affects, Known, own_effect}
 use Rattle.md_core.proofs.Machines.EachTurn.{each-turn}
 use Rattle.md_core.proofs.Induction.Going.{Goes}
 use Rattle.md_core.proofs.Induction.GoodRuns.{going-at, what-at}
 use Rattle.md_core.proofs.Induction.Knowing.{known-there, known-more}
 use Rattle.md_core.proofs.Mailbox.Naming.{get-names}
 use Rattle.md_core.specs.Laws.{IsInCur}
+use Rattle.md_core.specs.Accepting.{MakesMessage}
 use Rattle.md_core.proofs.Theorem.Placed.{placed-kept}
 use Rattle.md_core.proofs.Lists.Places.{at_place}
 use Rattle.md_core.proofs.Runs.ByEvent.{moment-over}
 use Rattle.md_core.proofs.Answers.Turns.EachSays.{is-good}
+use Rattle.md_core.proofs.Mailbox.Allowed.{allowed-fits}
 
 -- a turn leaves a known name in cur, or takes it away
 cur-kept : (r : Run) (m m' : Machine) (what : Step) (g : Goes r.calls m m' what) (u : List ℕ) (size : ℕ) → Known r.calls m u size →
@@ -31,11 +33,11 @@ cur-kept r m m' what g u size known was = by what.effect g.does.as_alone g.does.
         IfSome o (Affects what.job g.asked m.dirs.folders (box_in m) (box_in m')) → IsInCur (get (names_of (box_in m')) u)
     by None same first affects = subst (λ (b : Mailbox). IsInCur (get (names_of b) u)) (sym same) was
     by (Some e) alone first affects =
-        let unmade : Makes g.asked u → ⊥ =
+        let unmade : MakesMessage g.asked u → ⊥ =
         known.unmade g.place g.asked g.task g.of g.there (ap (λ n. own_effect n g.task) (sym g.number_is) ∙ first) in
         subst (λ (n : Names). IsInCur (get n u)) (sym affects.changes)
-        (placed-kept (λ p. p ≡ Cur) refl m.dirs.folders (names_of (box_in m)) (Makes g.asked) u
-        (λ p not_tmp makes. absurd (unmade makes)) e.answer e.change affects.allowed was)
+        (placed-kept (λ p. p ≡ Cur) refl (names_of (box_in m)) (MakesMessage g.asked) u (λ p not_tmp makes. absurd (unmade makes)) e.change
+        (allowed-fits m.dirs.folders (names_of (box_in m)) (MakesMessage g.asked) e.answer e.change affects.allowed) was)
 
 module _ (r : Run) (run : IsRun r) (i : ℕ) (u : List ℕ) (x : Entry) (there : get (box_in (machine_at r i)) u ≡ Some x) (at : x.place ≡ Cur) where
   abbrev Stays : ℕ → Type 0

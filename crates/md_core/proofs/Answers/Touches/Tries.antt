@@ -1,39 +1,26 @@
 -- A try is over only where another job touched the message since it began: so a call that is lost was touched once for each of its tries.
-use Rattle.md_core.specs.Tasks.Purpose.{Purpose}
-use Rattle.md_core.specs.Tasks.Purpose as purpose
 use Rattle.std.proofs.Common.{ℕ, ◌≡◌, ◌≢◌, ◌≤◌, ◌+◌, ◌⊎◌, inl, inr, List, Some, None, refl, sym, ap, subst, ◌∙◌, length, slice_get, arith}
 use Rattle.std.specs.FinMap.{get}
-use Rattle.md_dirs.specs.State.{State}
+use Rattle.md_core.proofs.Values.{State, Call, DirReply, Task, Deliver, Errand, Clean}
 use Rattle.md_dirs.specs.declared.paths.Path.{Path}
 use Rattle.md_name.specs.Names.{unique_of}
-use Rattle.md_core.specs.declared.jobs.call.Call.{Call}
 use Rattle.md_core.specs.declared.jobs.call.Call.TheVariants as call
-use Rattle.md_core.specs.declared.jobs.step.DirReply.{DirReply}
-use Rattle.md_core.specs.Tasks.Task.{Task, Deliver, Errand, Clean}
 use Rattle.md_core.specs.History.{names_of}
-use Rattle.md_core.specs.Machine.{Standing, working, answered, Occurrence, job_at, new_job}
+use Rattle.md_core.specs.Machine.{working, Occurrence, job_at, new_job}
 use Rattle.md_core.specs.Runs.{Run, machine_at, box_in}
 use Rattle.md_core.specs.Trace.{call_at}
 use Rattle.md_core.specs.Turn.{After}
 use Rattle.md_core.specs.Stepping.{IsRun}
 use Rattle.md_core.proofs.Answers.OfRun.{IsStep, IsTouched, IsLost}
-use Rattle.md_core.proofs.Induction.Good.{TaskFits, call_by}
+use Rattle.md_core.proofs.Induction.Good.{TaskFits}
 use Rattle.md_core.proofs.Answers.LastStep.{IsTurn, reply_in, left_by, is-step, is_within, holds}
-use Rattle.md_core.proofs.Answers.Turns.OneMessage.{Trying, idle, looking, acting, trying_of, sought, TriesOn, IsOver}
+use Rattle.md_core.proofs.Answers.Turns.OneMessage.{Trying, idle, looking, acting, trying_of, TriesOn, IsOver}
 use Rattle.md_core.proofs.Answers.Turns.EachSays.{TaskSays, UndoesTask, IsClean, is-good, turn-says, fits-at}
 use Rattle.md_core.proofs.Answers.Turns.Told.{at-none}
 use Rattle.md_core.proofs.Answers.Touches.Paths.{IsListed, path-listed, listed-path}
 use Rattle.md_core.proofs.Answers.Touches.Counted.{touches, touches-between, touches-rise, touched-or_not}
-
--- the tries that a call has
-abbrev tries_in : Call → ℕ
-tries_in (call.Deliver folder u body chunk) = 0
-tries_in (call.Seen folder u flags tries) = tries
-tries_in (call.Flag folder u add remove tries) = tries
-tries_in (call.Move folder u to tries) = tries
-tries_in (call.Expunge folder u tries) = tries
-tries_in (call.Copy folder u to fresh tries) = tries
-tries_in (call.Clean folder) = 0
+use Rattle.md_core.proofs.Machines.Errand.Table.Calls.{call_by, sought, tries_in, IfWorking, new-task}
+use Rattle.md_core.proofs.Machines.Errand.Table.Rows.{no-delivery, no-clean}
 
 -- Since a step of the job the name was touched so often that with the tries that are left these are at least so many.
 record Since (r : Run) (job : ℕ) (u : List ℕ) (all left k : ℕ) : Type 0 where
@@ -163,19 +150,10 @@ module _ (r : Run) (run : IsRun r) (job : ℕ) (u : List ℕ) (all : ℕ) where
 
 -- ---- at each moment
 
--- how a job stands that has such tries, if it works
-abbrev AtWork : Run → ℕ → List ℕ → ℕ → Standing → Type 0
-AtWork r job u all (working task) = IsTrying r job u all 0 (trying_of task)
-AtWork r job u all (answered a) = Unit {0}
-
-new-tries : (r : Run) (job : ℕ) (c : Call) → AtWork r job (sought c) (tries_in c) (new_job c)
+new-tries : (r : Run) (job : ℕ) (c : Call) → IfWorking (λ task. IsTrying r job (sought c) (tries_in c) 0 (trying_of task)) (new_job c)
 new-tries r job (call.Deliver folder u body chunk) = tt
-new-tries r job (call.Seen folder u flags tries) = inl refl
-new-tries r job (call.Flag folder u add remove tries) = inl refl
-new-tries r job (call.Move folder u to tries) = inl refl
-new-tries r job (call.Expunge folder u tries) = inl refl
-new-tries r job (call.Copy folder u to fresh tries) = inl refl
 new-tries r job (call.Clean folder) = tt
+new-tries r job c = inl refl
 
 module _ (r : Run) (run : IsRun r) where
   -- a delivery and a clean go on with no tries
@@ -205,34 +183,29 @@ module _ (r : Run) (run : IsRun r) where
       (λ job c task of new c' of'.
       let same : c ≡ c' = (let e : Some c ≡ Some c' = sym of ∙ of' in cc) in
       subst (λ (x : Call). IsTrying r job (sought x) (tries_in x) 0 (trying_of task)) same
-      (subst (AtWork r job (sought c) (tries_in c)) new (new-tries r job c)))
+      (new-task (λ task. IsTrying r job (sought c) (tries_in c) 0 (trying_of task)) c task (new-tries r job c) new))
       (λ k job t none was c of.
       tries-on k job c (is-step r k job t) t.task (reply_in (machine_at r k) t.event t.task) (left_by r k job t)
       (turn-says r run k job c of t) none (was c of))
       (λ k job task e at differ there was c of. other-tries r run job (sought c) (tries_in c) k e at differ (trying_of task) (was c of))
 
   -- a touched call of a task that has tries is lost
-  lost-call : (s s' : State) (job : ℕ) (c : Call) (task : Task) → TaskFits s c task → IsOver s' (trying_of task) →
+  lost-call : (s : State) (job : ℕ) (c : Call) (task : Task) → TaskFits s c task → IsOver s (trying_of task) →
       IsTouched r job (sought c) (tries_in c) → IsLost r job c
-  lost-call s s' job c (Deliver d) fits over = absurd over
-  lost-call s s' job c (Errand e) fits over =
-      subst (λ (x : Call). IsTouched r job (sought x) (tries_in x) → IsLost r job x) (sym fits.of) (by e.purpose)
+  lost-call s job c (Deliver d) fits over touched = absurd over
+  lost-call s job c (Errand e) fits over touched = by c fits.of touched
     where
-      by : (p : Purpose) →
-          IsTouched r job (sought (call_by e.folder e.unique p fits.tries)) (tries_in (call_by e.folder e.unique p fits.tries)) →
-          IsLost r job (call_by e.folder e.unique p fits.tries)
-      by (purpose.Seen given) h = h
-      by (purpose.Flag add remove) h = h
-      by (purpose.Move to) h = h
-      by (purpose.Copy to fresh) h = h
-      by purpose.Expunge h = h
-  lost-call s s' job c (Clean x) fits over = absurd over
+      by : (x : Call) → x ≡ call_by e.folder e.unique e.purpose fits.tries → IsTouched r job (sought x) (tries_in x) → IsLost r job x
+      by (call.Deliver folder u body chunk) is h = absurd (no-delivery e.purpose e.folder e.unique fits.tries folder u body chunk is)
+      by (call.Clean folder) is h = absurd (no-clean e.purpose e.folder e.unique fits.tries folder is)
+      by x is h = h
+  lost-call s job c (Clean x) fits over touched = absurd over
 
   -- a job that ends with its last try
   pub says-lost : (k job : ℕ) (c : Call) → call_at r.calls job ≡ Some c → (t : IsTurn r k job) →
       IsOver (machine_at r k).dirs (trying_of t.task) → IsLost r job c
   says-lost k job c of t over =
       let within = is_within r k job t in
-      lost-call (machine_at r k).dirs (machine_at r k).dirs job c t.task (fits-at r run k job c of t.task t.there) over
+      lost-call (machine_at r k).dirs job c t.task (fits-at r run k job c of t.task t.there) over
       (over-touched r run job (sought c) (tries_in c) k (is-step r k job t) (trying_of t.task) over
       (tries-at k job t.task (omega (arith, within)) t.there c of))

@@ -1,24 +1,18 @@
 -- What each turn of a run says, whatever its task.
-use Rattle.std.proofs.Common.{ℕ, zero, suc, ◌≡◌, ◌<◌, ◌+◌, Some, None, Bool, true, false, cond, refl, sym, ap, subst, ◌∙◌, arith, take, MatchOption}
-use Rattle.std.proofs.lemmas.Bool.Decides.{nat_tests}
-use Rattle.md_dirs.specs.State.{State}
-use Rattle.md_core.specs.declared.error.CoreError.TheVariants as core
+use Rattle.std.proofs.Common.{ℕ, zero, suc, ◌≡◌, ◌<◌, ◌+◌, Some, refl, sym, ap, subst, ◌∙◌, MatchOption}
+use Rattle.md_core.proofs.Values.{State, DirReply, Moment, Task, Deliver, Errand, Clean}
 use Rattle.md_core.specs.declared.jobs.call.Call.{Call}
 use Rattle.md_core.specs.declared.jobs.call.Call.TheVariants as call
-use Rattle.md_core.specs.declared.jobs.step.DirReply.{DirReply}
-use Rattle.md_core.specs.declared.jobs.step.Moment.{Moment}
-use Rattle.md_core.specs.Tasks.Task.{Task, Deliver, Errand, Clean}
 use Rattle.md_core.specs.Machine.{Machine, working, job_at, moment_of}
 use Rattle.md_core.specs.Runs.{Run, machine_at}
 use Rattle.md_core.specs.Trace.{call_at}
-use Rattle.md_core.specs.Submitting.{submit_refusal, no_folder, too_many}
 use Rattle.md_core.specs.Turn.{After}
 use Rattle.md_core.specs.Asked.{ask_of, state_by}
 use Rattle.md_core.specs.Stepping.{IsRun}
 use Rattle.md_core.proofs.Induction.Good.{IsGood, TaskFits}
 use Rattle.md_core.proofs.Machines.EachTurn.{each-turn}
 use Rattle.md_core.proofs.Runs.Events.{happens-turned}
-use Rattle.md_core.proofs.Induction.GoodRuns.{good-moment, kept-moment}
+use Rattle.md_core.proofs.Induction.GoodRuns.{good-moment, kept-moment, accepted-at}
 use Rattle.md_core.proofs.Runs.ByEvent.{moment-more}
 use Rattle.md_core.proofs.Answers.LastStep.{IsTurn, turn_by, reply_in, after_in, left_by}
 use Rattle.md_core.proofs.Answers.Turns.OneMessage.{TurnSays}
@@ -50,15 +44,6 @@ module _ (r : Run) (run : IsRun r) where
   folders-at =
       kept-moment r run each-turn (λ es m. m.dirs.folders ≡ r.image.folders) refl (λ es m m' e what of good g was. g.does.folders ∙ was)
 
-  -- a clean is of a folder that is there
-  clean-within : (o : Run) (folder : ℕ) → submit_refusal o (call.Clean folder) ≡ None → folder < o.image.folders
-  clean-within o folder none = by (no_folder o folder) refl none
-    where
-      by : (b : Bool) → no_folder o folder ≡ b → cond b (Some core.NoFolder) (cond (too_many o) (Some core.TooManyJobs) None) ≡ None →
-          folder < o.image.folders
-      by true is refused = cc
-      by false is refused = grind (arith, nat_tests)
-
   -- a call, and the task of its job at a moment
   module _ (k job : ℕ) (asked : Call) (of : call_at r.calls job ≡ Some asked) (task : Task) where
     pub fits-at : job_at (machine_at r k).jobs job ≡ Some (working task) → TaskFits (machine_at r k).dirs asked task
@@ -69,9 +54,10 @@ module _ (r : Run) (run : IsRun r) where
         by zero from at = cc
         by (suc i) from at = (is-good k).fits i asked task from at
 
+  -- a clean is of a folder that is there
   clean-folder : (job : ℕ) (folder : ℕ) → call_at r.calls job ≡ Some (call.Clean folder) → folder < r.image.folders
   clean-folder zero folder of = cc
-  clean-folder (suc i) folder of = clean-within (record r { calls = take i r.calls }) folder (run.accepted i (call.Clean folder) of)
+  clean-folder (suc i) folder of = accepted-at r run i (call.Clean folder) of
 
   -- what event k says, if it is a turn of this job
   module _ (k job : ℕ) (asked : Call) (of : call_at r.calls job ≡ Some asked) (t : IsTurn r k job) where

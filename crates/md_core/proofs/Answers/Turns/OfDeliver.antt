@@ -2,14 +2,11 @@
 -- or its file in tmp is gone, or its time is over.
 use Rattle.std.proofs.Common.{ℕ, ◌≡◌, [], None, Bool, true, false, cond, length, nat_lt, refl, MatchOption}
 use Rattle.md_dirs.specs.Calls as dirs
-use Rattle.md_dirs.specs.State.{State, file_at}
+use Rattle.md_core.proofs.Values.{State, file_at, Call, DirReply, Moment}
 use Rattle.md_core.specs.declared.jobs.answer.Answer.{Answer}
 use Rattle.md_core.specs.declared.jobs.answer.Answer.TheVariants as answer
-use Rattle.md_core.specs.declared.jobs.call.Call.{Call}
 use Rattle.md_core.specs.Machines.Refusals.{refused_by}
 use Rattle.md_core.specs.Tasks.Delivery.{Delivery, Stage, Start, Writing, Linked, Undo}
-use Rattle.md_core.specs.declared.jobs.step.Moment.{Moment}
-use Rattle.md_core.specs.declared.jobs.step.DirReply.{DirReply}
 use Rattle.md_core.specs.declared.jobs.step.DirReply.TheVariants as reply
 use Rattle.md_core.specs.Turn.{After, Turn, rows_for, reply_of}
 use Rattle.md_core.specs.Asked.{ask_of}
@@ -29,10 +26,8 @@ DeliveryTells stage r a = ⊥
 
 -- a delivery that takes its file away again did so for a fault
 abbrev pub Undoes : DirReply → Stage → Type 0
-Undoes r Start = Unit {0}
-Undoes r (Writing start k) = Unit {0}
-Undoes r Linked = Unit {0}
 Undoes r (Undo a) = (refused_by a ≡ answer.Fault) × (r ≡ reply.Fault)
+Undoes r other = Unit {0}
 
 abbrev pub DeliverySays : Stage → DirReply → After Delivery → Type 0
 DeliverySays stage r after = MatchOption after.answer (Undoes r after.task.stage) (DeliveryTells stage r)
@@ -57,20 +52,18 @@ module _ (s : State) (number : ℕ) (asked : Call) (at : Moment) (faulted : Bool
 
     append-says : (r : DirReply) → r ≡ reply_of (dirs.append d.tmp (piece d k) at.clock) s faulted →
         DeliverySays (Writing start k) r ((append_turn x start k).follows r [])
-    append-says reply.Ok replied = tt
     append-says reply.Exists replied = absurd (append-exists s faulted d.tmp (piece d k) at.clock replied)
-    append-says reply.NotFound replied = tt
     append-says reply.Fault replied = (refl, refl)
+    append-says other replied = tt
 
     unused : file_at s (target d) ≡ None
     unused = fits.stage.1 (target d) fits.name.message fits.name.plain
 
     link-says : (r : DirReply) → r ≡ reply_of (dirs.link d.tmp (target d)) s faulted →
         DeliverySays (Writing start k) r ((link_turn number x).follows r [])
-    link-says reply.Ok replied = tt
     link-says reply.Exists replied = absurd (link-exists s faulted d.tmp (target d) unused replied)
-    link-says reply.NotFound replied = tt
     link-says reply.Fault replied = (refl, refl)
+    link-says other replied = tt
 
     writing-says : (in_time more : Bool) →
         SaysOne (Writing start k) (cond in_time (cond more (append_turn x start k) (link_turn number x)) (unlink_turn x answer.TimedOut))

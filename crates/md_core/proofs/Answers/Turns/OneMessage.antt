@@ -1,23 +1,17 @@
 -- What a turn of a job that acts on one message says: of the answer that it gives, or of how the job goes on.
 use Rattle.md_core.specs.Tasks.Errand.{Stage, Look, Act}
 use Rattle.md_core.specs.Machines.Purposes.{searches, place_after}
-use Rattle.std.proofs.Common.{ℕ, ◌≡◌, ◌+◌, ◌≤◌, List, [], Some, None, Bool, true, MatchOption}
+use Rattle.std.proofs.Common.{ℕ, ◌≡◌, ◌+◌, ◌≤◌, List, Some, None, Bool, true, MatchOption}
 use Rattle.std.specs.FinMap.{get}
-use Rattle.md_dirs.specs.State.{State, file_at}
+use Rattle.md_core.proofs.Values.{State, file_at, Path, New, Cur, Call, Answer, DirReply, Task, Deliver, Errand, Clean}
 use Rattle.md_dirs.specs.Path.{path_of}
-use Rattle.md_dirs.specs.declared.paths.Path.{Path}
-use Rattle.md_dirs.specs.declared.paths.Place.TheVariants.{New, Cur}
 use Rattle.md_name.specs.Names.{unique_of}
-use Rattle.md_core.specs.declared.jobs.answer.Answer.{Answer}
 use Rattle.md_core.specs.declared.jobs.answer.Answer.TheVariants as answer
-use Rattle.md_core.specs.declared.jobs.call.Call.{Call}
-use Rattle.md_core.specs.declared.jobs.call.Call.TheVariants as call
-use Rattle.md_core.specs.declared.jobs.step.DirReply.{DirReply}
 use Rattle.md_core.specs.declared.jobs.step.DirReply.TheVariants as reply
-use Rattle.md_core.specs.Tasks.Task.{Task, Deliver, Errand, Clean}
 use Rattle.md_core.specs.Mailbox.{mailbox_of, is_message}
 use Rattle.md_core.specs.Alone.{alone, entry_if, is_in_place}
 use Rattle.md_core.specs.Turn.{After}
+use Rattle.md_core.proofs.Machines.Errand.Table.Calls.{sought}
 
 -- How far a job is with its tries: it looks for its message, or it acts on a path of it. Deliveries and cleans have none.
 pub data Trying : Type 0 where
@@ -30,19 +24,8 @@ errand_trying folder (Look place tries) = looking tries
 errand_trying folder (Act place row tries) = acting (path_of folder place row.name) tries
 
 abbrev pub trying_of : Task → Trying
-trying_of (Deliver d) = idle
 trying_of (Errand e) = errand_trying e.folder e.stage
-trying_of (Clean c) = idle
-
--- the unique name of the message that a call looks for
-abbrev pub sought : Call → List ℕ
-sought (call.Deliver folder u body chunk) = u
-sought (call.Seen folder u flags tries) = u
-sought (call.Flag folder u add remove tries) = u
-sought (call.Move folder u to tries) = u
-sought (call.Expunge folder u tries) = u
-sought (call.Copy folder u to fresh tries) = u
-sought (call.Clean folder) = []
+trying_of other = idle
 
 -- a message of the unique name is at the path
 pub record IsPathOf (s : State) (u : List ℕ) (p : Path) : Type 0 where
@@ -64,9 +47,8 @@ TriesOn s s' u (acting p tries) (acting q left) = ⊥
 
 -- the last try is over, and the path was gone
 abbrev pub IsOver : State → Trying → Type 0
-IsOver s idle = ⊥
-IsOver s (looking tries) = ⊥
 IsOver s (acting p tries) = (tries ≤ 1) × (file_at s p ≡ None)
+IsOver s other = ⊥
 
 -- what an errand has seen that goes on to cur, and what it sees where it ends after its last place
 abbrev pub IsPastNew : State → ℕ → List ℕ → Bool → Stage → Type 0
@@ -78,9 +60,8 @@ IsPastLast s folder u both (Look place tries) = (entry_if (is_in_place place fol
 IsPastLast s folder u both (Act place row tries) = ⊥
 
 abbrev pub HasLooked : State → Task → Type 0
-HasLooked s (Deliver d) = Unit {0}
 HasLooked s (Errand e) = IsPastNew s e.folder e.unique (searches e.purpose) e.stage
-HasLooked s (Clean c) = Unit {0}
+HasLooked s other = Unit {0}
 
 -- a job that goes on
 pub record GoesOn (s s' : State) (asked : Call) (task task' : Task) : Type 0 where
@@ -93,9 +74,8 @@ IsAlone s asked a = (alone asked (mailbox_of s)).answer ≡ a
 
 -- nothing was found in the last place
 abbrev pub FindsNone : State → Call → Task → Type 0
-FindsNone s asked (Deliver d) = ⊥
 FindsNone s asked (Errand e) = IsPastLast s e.folder e.unique (searches e.purpose) e.stage
-FindsNone s asked (Clean c) = ⊥
+FindsNone s asked other = ⊥
 
 -- what an answer says of the turn that gave it
 abbrev pub Tells : State → Call → Task → DirReply → Answer → Type 0
@@ -108,11 +88,7 @@ Tells s asked task r answer.NameTaken = ⊥
 Tells s asked task r answer.TimedOut = ⊥
 Tells s asked task r answer.TmpGone = ⊥
 Tells s asked task r (answer.Cleaned n) = ⊥
-Tells s asked task r answer.Delivered = Unit {0}
-Tells s asked task r (answer.Flags flags) = Unit {0}
-Tells s asked task r answer.Moved = Unit {0}
-Tells s asked task r answer.Expunged = Unit {0}
-Tells s asked task r answer.Copied = Unit {0}
+Tells s asked task r other = Unit {0}
 
 abbrev pub TurnSays : State → State → Call → Task → DirReply → After Task → Type 0
 TurnSays s s' asked task r after = MatchOption after.answer (GoesOn s s' asked task after.task) (Tells s asked task r)

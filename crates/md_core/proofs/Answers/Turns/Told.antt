@@ -1,11 +1,8 @@
 -- What the answer of a turn tells, whatever its task.
 use Rattle.std.proofs.Common.{◌≡◌, Option, Some, None, subst, MatchOption}
-use Rattle.md_dirs.specs.State.{State}
+use Rattle.md_core.proofs.Values.{State, Call, DirReply, Task, Deliver, Errand, Clean}
 use Rattle.md_core.specs.declared.jobs.answer.Answer.{Answer}
 use Rattle.md_core.specs.declared.jobs.answer.Answer.TheVariants as answer
-use Rattle.md_core.specs.declared.jobs.call.Call.{Call}
-use Rattle.md_core.specs.declared.jobs.step.DirReply.{DirReply}
-use Rattle.md_core.specs.Tasks.Task.{Task, Deliver, Errand, Clean}
 use Rattle.md_core.specs.Turn.{After}
 use Rattle.md_core.proofs.Answers.Turns.OneMessage.{Tells}
 use Rattle.md_core.proofs.Answers.Turns.OfDeliver.{DeliveryTells}
@@ -36,5 +33,4 @@ Told s asked (Clean c) given a = CleanTells given a
 pub told : (s s' : State) (asked : Call) (task : Task) (given : DirReply) (after : After Task) (a : Answer) →
     TaskSays s s' asked given task after → after.answer ≡ Some a → Told s asked task given a
 told s s' asked (Deliver d) given after a says is = at-some after.answer _ _ a is says
-told s s' asked (Errand e) given after a says is = at-some after.answer _ _ a is says
-told s s' asked (Clean c) given after a says is = at-some after.answer _ _ a is says
+told s s' asked other given after a says is = at-some after.answer _ _ a is says

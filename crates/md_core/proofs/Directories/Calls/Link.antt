@@ -1,14 +1,14 @@
 -- A file in tmp linked to a message of its name, or a message's to a message of another, where no message has the name.
 use Rattle.std.proofs.Common.{ℕ, ◌≡◌, ◌≢◌, ◌<◌, ◌⊎◌, inl, inr, List, Some, None, true, refl, sym, ap, ◌∙◌}
-use Rattle.md_dirs.specs.State.{State, file_at, IsSound}
+use Rattle.md_core.proofs.Values.{State, file_at, IsSound, Path}
 use Rattle.md_dirs.specs.Calls.{with_path}
-use Rattle.md_dirs.specs.declared.paths.Path.{Path}
 use Rattle.md_dirs.proofs.PathOrder.{path_total, path_exact}
 use Rattle.lists.proofs.Maps as maps
 use Rattle.md_dirs.proofs.Sound.{by_path, sound-named}
 use Rattle.md_name.specs.Names.{unique_of}
 use Rattle.md_core.specs.Mailbox.{is_message}
-use Rattle.md_core.proofs.Induction.Good.{key_of, bytes_at, HasNoMessage}
+use Rattle.md_core.specs.Accepting.{name_used}
+use Rattle.md_core.proofs.Induction.Good.{bytes_at, HasNoMessage}
 use Rattle.md_core.proofs.Mailbox.Changes.{Puts}
 use Rattle.md_core.proofs.Directories.Frames.{Frame, message-key, other_key}
 use Rattle.md_core.proofs.Directories.Spares.{Spares, spares-one}
@@ -22,7 +22,7 @@ pub record Lands (s s' : State) (u : List ℕ) (new : Path) (n : ℕ) (bytes : L
   pub holds : bytes_at s' n ≡ bytes
 
 -- the old path is one of the name, or of a message
-module _ (s : State) (old new : Path) (u bytes : List ℕ) (n : ℕ) (from : (key_of old ≡ u) ⊎ (is_message old ≡ true)) (sound : IsSound s)
+module _ (s : State) (old new : Path) (u bytes : List ℕ) (n : ℕ) (from : (name_used old ≡ u) ⊎ (is_message old ≡ true)) (sound : IsSound s)
     (within : new.folder < s.folders) (there : file_at s old ≡ Some n) (holds : bytes_at s n ≡ bytes)
     (none : HasNoMessage s u) (message : is_message new ≡ true) (name : unique_of new.name ≡ u) where
   abbrev after : State

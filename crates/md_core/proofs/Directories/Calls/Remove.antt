@@ -1,8 +1,7 @@
 -- A message taken away.
 use Rattle.std.proofs.Common.{ℕ, ◌≡◌, ◌≢◌, inl, inr, Option, Some, None, true, refl, sym, ap, ◌∙◌}
-use Rattle.md_dirs.specs.State.{State, file_at, IsSound}
+use Rattle.md_core.proofs.Values.{State, file_at, IsSound, Path}
 use Rattle.md_dirs.specs.Calls.{without_path, after_unlink}
-use Rattle.md_dirs.specs.declared.paths.Path.{Path}
 use Rattle.md_dirs.proofs.PathOrder.{path_total, path_exact}
 use Rattle.lists.proofs.Maps as maps
 use Rattle.md_dirs.proofs.Sound.{by_path, swept-kept, sound-without}

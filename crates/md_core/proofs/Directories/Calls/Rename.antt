@@ -1,15 +1,14 @@
 -- A message moved to another path of its unique name, whatever call did it.
 use Rattle.std.proofs.Common.{ℕ, ◌≡◌, ◌≢◌, ◌<◌, inl, inr, List, Option, Some, None, true, false, cond, refl, sym, ap, subst, ◌∙◌}
 use Rattle.std.specs.FinMap as finmap
-use Rattle.md_dirs.specs.State.{State, file_at, IsSound}
+use Rattle.md_core.proofs.Values.{State, file_at, IsSound, Path}
 use Rattle.md_dirs.specs.Calls.{after_rename, with_path, without_path, with_files_still_named, is_one_file}
-use Rattle.md_dirs.specs.declared.paths.Path.{Path}
 use Rattle.md_dirs.proofs.PathOrder.{path_total, path_exact}
 use Rattle.lists.proofs.Maps as maps
 use Rattle.md_dirs.proofs.Sound.{by_path, sound-moved}
 use Rattle.md_name.specs.Names.{unique_of}
 use Rattle.md_core.specs.Mailbox.{is_message, HasOnePath}
-use Rattle.md_core.proofs.Induction.Good.{key_of}
+use Rattle.md_core.specs.Accepting.{name_used}
 use Rattle.md_core.proofs.Mailbox.Changes.{Puts}
 use Rattle.md_core.proofs.Directories.Frames.{Frame, message-key, other_key}
 use Rattle.md_core.proofs.Directories.Spares.{Spares, spares-by}
@@ -60,10 +59,10 @@ module _ (s : State) (o n : Path) (k : ℕ) (one : HasOnePath s) (mo : is_messag
     bytes = λ q _ m there. refl;
   }
 
-  key_n : key_of n ≡ unique_of n.name
+  key_n : name_used n ≡ unique_of n.name
   key_n = message-key n mn
 
-  key_o : key_of o ≡ unique_of n.name
+  key_o : name_used o ≡ unique_of n.name
   key_o = message-key o mo ∙ same
 
   pub rename-frame : Frame s after (unique_of n.name)

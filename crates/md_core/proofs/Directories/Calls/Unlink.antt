@@ -1,14 +1,12 @@
 -- A name in tmp taken away.
 use Rattle.std.proofs.Common.{ℕ, ◌≡◌, ◌≢◌, inl, inr, Some, None, refl, sym, ap, ◌∙◌}
-use Rattle.md_dirs.specs.State.{State, file_at, IsSound}
+use Rattle.md_core.proofs.Values.{State, file_at, IsSound, Path, Tmp}
 use Rattle.md_dirs.specs.Calls.{without_path, after_unlink}
-use Rattle.md_dirs.specs.declared.paths.Path.{Path}
-use Rattle.md_dirs.specs.declared.paths.Place.TheVariants.{Tmp}
 use Rattle.md_dirs.proofs.PathOrder.{path_total, path_exact}
 use Rattle.lists.proofs.Maps as maps
 use Rattle.md_dirs.proofs.Sound.{by_path, swept-kept, sound-without}
 use Rattle.md_core.specs.Mailbox.{is_tmp, bytes_of}
-use Rattle.md_core.proofs.Induction.Good.{bytes_at, HasNoMessage}
+use Rattle.md_core.proofs.Induction.Good.{bytes_at}
 use Rattle.md_core.proofs.Mailbox.Changes.{Keeps}
 use Rattle.md_core.proofs.Directories.Frames.{Frame, Shrinks, tmp-key, not_tmp, other_key}
 use Rattle.md_core.proofs.Directories.Spares.{Spares, spares-one}
@@ -54,6 +52,3 @@ module _ (s : State) (tmp : Path) (in_tmp : tmp.place ≡ Tmp) (sound : IsSound 
 
   pub unlink-sound : IsSound after
   unlink-sound = sound-without s sound tmp
-
-  pub unlink-no_message : HasNoMessage s tmp.name → HasNoMessage after tmp.name
-  unlink-no_message h q m is = beside q (not_tmp q tmp in_tmp m) ∙ h q m is

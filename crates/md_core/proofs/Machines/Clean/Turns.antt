@@ -4,21 +4,15 @@ use Rattle.std.proofs.lemmas.List.Filters.{length-filter_both}
 use Rattle.md_dirs.specs.Calls as dirs
 use Rattle.md_dirs.specs.Calls.{after_unlink}
 use Rattle.md_dirs.specs.Rows.{rows_of}
-use Rattle.md_dirs.specs.State.{State, IsSound}
+use Rattle.md_core.proofs.Values.{State, IsSound, Row, Call, Answer, DirReply, Moment, Clean}
 use Rattle.md_dirs.specs.declared.paths.Place.TheVariants.{Tmp}
-use Rattle.md_dirs.specs.declared.rows.Row.{Row}
-use Rattle.md_core.specs.declared.jobs.answer.Answer.{Answer}
 use Rattle.md_core.specs.declared.jobs.answer.Answer.TheVariants as answer
-use Rattle.md_core.specs.declared.jobs.call.Call.{Call}
 use Rattle.md_core.specs.Tasks.Cleaning.{Cleaning, Stage, Look, Remove}
-use Rattle.md_core.specs.declared.jobs.step.DirReply.{DirReply}
 use Rattle.md_core.specs.declared.jobs.step.DirReply.TheVariants as reply
-use Rattle.md_core.specs.declared.jobs.step.Moment.{Moment}
-use Rattle.md_core.specs.Tasks.Task.{Clean}
 use Rattle.md_core.specs.Mailbox.{HasOnePath}
 use Rattle.md_core.specs.Interleaving.{is_effect_at, is_success}
 use Rattle.md_core.specs.Machine.{as_task}
-use Rattle.md_core.specs.Machines.Clean.{at_stage, tmp, is_old, old_rows, after_next, look_turn, unlink_turn, stage_turn, cleaning_turn, cleaning_left}
+use Rattle.md_core.specs.Machines.Clean.{at_stage, tmp, is_old, old_rows, after_next, look_turn, unlink_turn, stage_turn, cleaning_turn, steps_left}
 use Rattle.md_core.specs.Asked.{Asked, list, unlink, ask_of, state_by}
 use Rattle.md_core.specs.Turn.{Turn, After, ends, rows_for, reply_of}
 use Rattle.md_core.proofs.Induction.Good.{CleaningFits, Does}
@@ -43,7 +37,7 @@ module _ (s s' : State) (number : ℕ) (asked : Call) (one : HasOnePath s) (c : 
   no_effect : (o : Option Answer) → false ≡ is_effect_at asked made r o
   no_effect o = sym (ap (λ (a : Call). is_effect_at a made r o) fits)
 
-  ends-does : (a : Answer) → is_success a ≡ false → 0 < cleaning_left s c → DoesQuietly (ends c a)
+  ends-does : (a : Answer) → is_success a ≡ false → 0 < steps_left s c.folder c.stage → DoesQuietly (ends c a)
   ends-does a failure some = record {
     sound = quiet.sound;
     one_path = one-keeps s s' one quiet.keeps;
@@ -63,7 +57,7 @@ module _ (s s' : State) (number : ℕ) (asked : Call) (one : HasOnePath s) (c : 
   }
 
   -- the next of the names that are left, or the answer
-  next-does : (rest : List Row) (files : ℕ) → length rest < cleaning_left s c → DoesQuietly (after_next c rest files)
+  next-does : (rest : List Row) (files : ℕ) → length rest < steps_left s c.folder c.stage → DoesQuietly (after_next c rest files)
   next-does [] files less = ends-does (answer.Cleaned files) refl (omega arith)
   next-does (row ∷ rest) files less = record {
     sound = quiet.sound;
@@ -89,10 +83,10 @@ shrinks-stays s = record { folders = refl; names = λ q n is. is; bytes = λ q n
 module _ (s : State) (number : ℕ) (asked : Call) (clock : ℕ) (sound : IsSound s) (one : HasOnePath s) (c : Cleaning) where
   -- nothing changes
   module _ (x : Cleaning) (fits : CleaningFits asked x) (made : Asked) (r : DirReply) where
-    still-ends : (a : Answer) → is_success a ≡ false → 0 < cleaning_left s x → Does s s number asked (Clean x) made r (as_after Clean (ends x a))
+    still-ends : (a : Answer) → is_success a ≡ false → 0 < steps_left s x.folder x.stage → Does s s number asked (Clean x) made r (as_after Clean (ends x a))
     still-ends a failure some = ends-does s s number asked one x fits made r [] (quiet-stays s [] sound) (shrinks-stays s) a failure some
 
-    still-next : (rest : List Row) (files : ℕ) → length rest < cleaning_left s x →
+    still-next : (rest : List Row) (files : ℕ) → length rest < steps_left s x.folder x.stage →
         Does s s number asked (Clean x) made r (as_after Clean (after_next x rest files))
     still-next rest files less = next-does s s number asked one x fits made r [] (quiet-stays s [] sound) (shrinks-stays s) rest files less
 

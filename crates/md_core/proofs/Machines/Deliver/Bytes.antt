@@ -1,6 +1,7 @@
 -- The bytes that are written so far, with the next piece.
 use Rattle.std.proofs.Common.{ℕ, zero, suc, ◌≡◌, ◌+◌, ◌-◌, ◌<◌, ◌≤◌, ◌++◌, List, [], ◌∷◌, length, take, drop, refl, sym, ap, subst, ◌∙◌, arith}
-use Rattle.md_core.specs.Machines.Deliver.{piece_len, piece, pieces}
+use Rattle.md_core.specs.Machines.Deliver.{piece_len, piece}
+use Rattle.md_core.specs.Bounds.{pieces_of}
 use Rattle.md_core.specs.Tasks.Delivery.{Delivery}
 use Rattle.md_core.proofs.Lists.Pieces.{pieces-less}
 
@@ -22,8 +23,8 @@ module _ (d : Delivery) (k : ℕ) where
   pub piece-within : k ≤ length d.body → k + piece_len d k ≤ length d.body
   piece-within within = omega arith
 
-  pub piece-less : 0 < d.chunk → k < length d.body → pieces (length d.body - (k + piece_len d k)) d.chunk < pieces (length d.body - k) d.chunk
+  pub piece-less : 0 < d.chunk → k < length d.body → pieces_of (length d.body - (k + piece_len d k)) d.chunk < pieces_of (length d.body - k) d.chunk
   piece-less chunked more =
       let left : length d.body - k - piece_len d k ≡ length d.body - (k + piece_len d k) = omega arith in
       let some : 0 < length d.body - k = omega arith in
-      subst (λ (n : ℕ). pieces n d.chunk < pieces (length d.body - k) d.chunk) left (pieces-less (length d.body - k) d.chunk some chunked)
+      subst (λ (n : ℕ). pieces_of n d.chunk < pieces_of (length d.body - k) d.chunk) left (pieces-less (length d.body - k) d.chunk some chunked)

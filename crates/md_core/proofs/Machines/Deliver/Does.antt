@@ -1,21 +1,16 @@
 -- What a turn of a delivery does, by what its call does: it goes on, ends, or takes effect.
 use Rattle.std.proofs.Common.{ℕ, ◌≡◌, ◌<◌, List, Option, Some, None, true, false, cond, length, refl, sym, ap, subst, ◌∙◌, MatchOption}
 use Rattle.std.specs.FinMap as finmap
-use Rattle.md_dirs.specs.State.{State}
+use Rattle.md_core.proofs.Values.{State, Call, Answer, Effect, DirReply, Deliver}
 use Rattle.md_dirs.specs.declared.paths.Place.TheVariants.{New}
-use Rattle.md_core.specs.declared.jobs.answer.Answer.{Answer}
 use Rattle.md_core.specs.declared.jobs.answer.Answer.TheVariants as answer
-use Rattle.md_core.specs.declared.jobs.call.Call.{Call}
 use Rattle.md_core.specs.declared.jobs.call.Call.TheVariants as call
 use Rattle.md_core.specs.Tasks.Delivery.{Delivery, Stage, Linked}
-use Rattle.md_core.specs.declared.jobs.effect.Effect.{Effect}
-use Rattle.md_core.specs.declared.jobs.step.DirReply.{DirReply}
-use Rattle.md_core.specs.Tasks.Task.{Deliver}
 use Rattle.md_core.specs.Mailbox.{Entry, mailbox_of, HasOnePath}
 use Rattle.md_core.specs.Alone.{alone, deliver_alone}
 use Rattle.md_core.specs.History.{names_of, names_after_change}
 use Rattle.md_core.specs.Asked.{Asked}
-use Rattle.md_core.specs.Machines.Deliver.{at_stage, target, delivery_effect, stage_left, delivery_left}
+use Rattle.md_core.specs.Machines.Deliver.{at_stage, target, delivery_effect, steps_left}
 use Rattle.md_core.specs.Stepping.{AsAlone}
 use Rattle.md_core.proofs.Theorem.RunLaw.{is_linked}
 use Rattle.md_core.specs.Interleaving.{is_effect_at, is_success}
@@ -57,7 +52,7 @@ module _ (s s' : State) (number : ℕ) (asked : Call) (d : Delivery) (one : HasO
   -- the mailbox stays
   quiet-does : (stage : Stage) (o : Option Answer) → Quiet s s' d.tmp.name → (o ≡ None → StageFits s' d stage) → is_linked stage ≡ is_linked d.stage →
       IsNoEffect o → MatchOption o (Unit {0}) (Settles (had_by number d d.stage)) →
-      MatchOption o (stage_left d stage < delivery_left d) (λ a. 0 < delivery_left d) →
+      MatchOption o (steps_left d stage < steps_left d d.stage) (λ a. 0 < steps_left d d.stage) →
       Does s s' number asked (Deliver d) made r (record { task = Deliver (at_stage d stage); answer = o; effect = None })
   quiet-does stage o quiet stage_fits linked none settles nearer = record {
     sound = quiet.sound;
@@ -84,17 +79,17 @@ module _ (s s' : State) (number : ℕ) (asked : Call) (d : Delivery) (one : HasO
 
   -- it goes on at another stage
   pub goes-on : (stage : Stage) → Quiet s s' d.tmp.name → StageFits s' d stage → is_linked stage ≡ is_linked d.stage → IsNoEffect None →
-      stage_left d stage < delivery_left d →
+      steps_left d stage < steps_left d d.stage →
       Does s s' number asked (Deliver d) made r (record { task = Deliver (at_stage d stage); answer = None; effect = None })
   goes-on stage quiet stage_fits linked none less = quiet-does stage None quiet (λ _. stage_fits) linked none tt less
 
   -- it ends with an answer
-  pub ends : (a : Answer) → Quiet s s' d.tmp.name → IsNoEffect (Some a) → Settles (had_by number d d.stage) a → 0 < delivery_left d →
+  pub ends : (a : Answer) → Quiet s s' d.tmp.name → IsNoEffect (Some a) → Settles (had_by number d d.stage) a → 0 < steps_left d d.stage →
       Does s s' number asked (Deliver d) made r (record { task = Deliver d; answer = Some a; effect = None })
   ends a quiet none settles some = quiet-does d.stage (Some a) quiet (λ h. cc) refl none settles some
 
   -- an answer that says that it failed, before the link
-  pub fails : (a : Answer) → Quiet s s' d.tmp.name → IsNoEffect (Some a) → is_linked d.stage ≡ false → is_success a ≡ false → 0 < delivery_left d →
+  pub fails : (a : Answer) → Quiet s s' d.tmp.name → IsNoEffect (Some a) → is_linked d.stage ≡ false → is_success a ≡ false → 0 < steps_left d d.stage →
       Does s s' number asked (Deliver d) made r (record { task = Deliver d; answer = Some a; effect = None })
   fails a quiet none unlinked failure some = ends a quiet none (settles a failure) some
     where
@@ -129,7 +124,7 @@ module _ (s s' : State) (number : ℕ) (asked : Call) (d : Delivery) (one : HasO
       ∙ sym (λ i. record { answer = answer.Delivered; after = added n puts bytes i })
 
   -- it takes effect: the message is in new
-  pub takes-effect : (n : ℕ) → Lands s s' d.tmp.name (target d) n d.body → HasNoMessage s d.tmp.name → is_linked d.stage ≡ false → 1 < delivery_left d →
+  pub takes-effect : (n : ℕ) → Lands s s' d.tmp.name (target d) n d.body → HasNoMessage s d.tmp.name → is_linked d.stage ≡ false → 1 < steps_left d d.stage →
       is_effect_at (call_by d) made r None ≡ true →
       Does s s' number asked (Deliver d) made r (record { task = Deliver (at_stage d Linked); answer = None; effect = Some (delivery_effect number d) })
   takes-effect n lands none unlinked more is_effect = record {

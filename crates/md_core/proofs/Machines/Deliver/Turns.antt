@@ -3,26 +3,22 @@ use Rattle.std.proofs.Common.{ℕ, ◌≡◌, ◌<◌, ◌≤◌, ◌+◌, ◌-�
 use Rattle.std.proofs.lemmas.Bool.Decides.{nat_tests}
 use Rattle.std.proofs.lemmas.List.{take_all}
 use Rattle.md_dirs.specs.Calls as dirs
-use Rattle.md_dirs.specs.State.{State, IsSound, file_at}
+use Rattle.md_core.proofs.Values.{State, IsSound, file_at, Call, Answer, DirReply, Moment, Task, Deliver}
 use Rattle.md_dirs.specs.declared.calls.DirError.TheVariants.{NotFound}
-use Rattle.md_core.specs.declared.jobs.answer.Answer.{Answer}
 use Rattle.md_core.specs.declared.jobs.answer.Answer.TheVariants as answer
 use Rattle.md_core.specs.Machines.Refusals.{refused_by}
 use Rattle.md_core.specs.Tasks.Refusal.{Refusal}
 use Rattle.md_core.specs.Tasks.Refusal as refusal
 use Rattle.md_core.specs.Tasks.Delivery.{Delivery, Stage, Start, Writing, Linked, Undo}
-use Rattle.md_core.specs.declared.jobs.call.Call.{Call}
-use Rattle.md_core.specs.declared.jobs.step.Moment.{Moment}
-use Rattle.md_core.specs.declared.jobs.step.DirReply.{DirReply}
 use Rattle.md_core.specs.declared.jobs.step.DirReply.TheVariants as reply
-use Rattle.md_core.specs.Tasks.Task.{Task, Deliver}
 use Rattle.md_core.specs.Mailbox.{HasOnePath}
 use Rattle.md_core.specs.Turn.{Turn, After, rows_for, reply_of}
 use Rattle.md_core.specs.Asked.{ask_of, state_by, Asked, append, link}
 use Rattle.md_core.specs.Machine.{as_task}
 use Rattle.md_core.specs.Interleaving.{is_success, is_effect_at}
 use Rattle.md_core.proofs.Theorem.RunLaw.{is_linked}
-use Rattle.md_core.specs.Machines.Deliver.{at_stage, target, piece, piece_len, pieces, create_turn, append_turn, link_turn, unlink_turn, stage_turn, delivery_turn, delivery_effect, delivery_left, is_in_time}
+use Rattle.md_core.specs.Bounds.{pieces_of}
+use Rattle.md_core.specs.Machines.Deliver.{at_stage, target, piece, piece_len, create_turn, append_turn, link_turn, unlink_turn, stage_turn, delivery_turn, delivery_effect, steps_left, is_in_time}
 use Rattle.md_core.proofs.Induction.Good.{IsAlone, DeliveryFits, Settles, Does}
 use Rattle.md_core.proofs.Directories.Frames.{tmp-key}
 use Rattle.md_core.proofs.Directories.Quiet.{quiet-stays, quiet-create, quiet-append, quiet-unlink}
@@ -44,7 +40,7 @@ module _ (s : State) (number : ℕ) (asked : Call) (at : Moment) (sound : IsSoun
       DoesBy s number asked (at_stage d Start) at.clock (create_turn (at_stage d Start) at.own) r
   create-does d fits reply.Ok =
       let same : length d.body - 0 ≡ length d.body = omega arith in
-      let less : pieces (length d.body - 0) d.chunk + 2 < pieces (length d.body) d.chunk + 3 = rw same (omega arith) in
+      let less : pieces_of (length d.body - 0) d.chunk + 2 < pieces_of (length d.body) d.chunk + 3 = rw same (omega arith) in
       goes-on s _ number asked (at_stage d Start) one fits _ _ (Writing at.own 0) (quiet-create s d.tmp fits.in_tmp sound at.clock fits.in_folder fits.stage)
       (omega arith, create-no_message s d.tmp at.clock fits.in_tmp sound fits.stage, create-alone s d.tmp at.clock fits.in_tmp sound fits.stage) refl refl less
   create-does d fits reply.Exists =
@@ -56,12 +52,10 @@ module _ (s : State) (number : ℕ) (asked : Call) (at : Moment) (sound : IsSoun
 
   -- the name in tmp is taken away, whatever the reply is
   unlink-does : (d : Delivery) (a : Answer) → DeliveryFits s asked d → Settles (cond (is_linked d.stage) (Some (delivery_effect number d)) None) a →
-      0 < delivery_left d →
+      0 < steps_left d d.stage →
       (r : DirReply) → DoesBy s number asked d at.clock (unlink_turn d a) r
   unlink-does d a fits settles some reply.Ok = ends s _ number asked d one fits _ _ a (quiet-unlink s d.tmp fits.in_tmp sound) refl settles some
-  unlink-does d a fits settles some reply.Exists = ends s s number asked d one fits _ _ a (quiet-stays s d.tmp.name sound) refl settles some
-  unlink-does d a fits settles some reply.NotFound = ends s s number asked d one fits _ _ a (quiet-stays s d.tmp.name sound) refl settles some
-  unlink-does d a fits settles some reply.Fault = ends s s number asked d one fits _ _ a (quiet-stays s d.tmp.name sound) refl settles some
+  unlink-does d a fits settles some other = ends s s number asked d one fits _ _ a (quiet-stays s d.tmp.name sound) refl settles some
 
   -- while the file holds the first k bytes
   module _ (d : Delivery) (start k : ℕ) (fits : DeliveryFits s asked (at_stage d (Writing start k))) (faulted : Bool) where

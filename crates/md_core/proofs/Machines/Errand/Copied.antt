@@ -3,23 +3,14 @@ use Rattle.std.proofs.Common.{ℕ, ◌≡◌, ◌≢◌, inr, List, Option, Some
 use Rattle.std.proofs.lemmas.Bool.{and_from, eq-eqb}
 use Rattle.std.specs.FinMap as finmap
 use Rattle.std.specs.FinMap.{get}
-use Rattle.md_dirs.specs.Path.{path_of}
-use Rattle.md_dirs.specs.State.{State, IsSound, file_at}
+use Rattle.md_core.proofs.Values.{State, IsSound, file_at, path_of, Path, Place, Tmp, Row, Set, Call, Effect, Errand}
 use Rattle.md_dirs.specs.Calls as dirs
-use Rattle.md_dirs.specs.declared.paths.Path.{Path}
-use Rattle.md_dirs.specs.declared.paths.Place.{Place}
-use Rattle.md_dirs.specs.declared.paths.Place.TheVariants.{Tmp}
-use Rattle.md_dirs.specs.declared.rows.Row.{Row}
-use Rattle.md_name.specs.Letters.{Set}
 use Rattle.md_name.specs.Names.{unique_of, flags_of}
 use Rattle.md_core.specs.declared.jobs.answer.Answer.TheVariants as answer
-use Rattle.md_core.specs.declared.jobs.call.Call.{Call}
-use Rattle.md_core.specs.declared.jobs.effect.Effect.{Effect}
 use Rattle.md_core.specs.Tasks.Errand.{Errand as ErrandOf, Act}
 use Rattle.md_core.specs.Tasks.Deed as deed
 use Rattle.md_core.specs.Tasks.Purpose as purpose
 use Rattle.md_core.specs.declared.jobs.step.DirReply.TheVariants as reply
-use Rattle.md_core.specs.Tasks.Task.{Errand}
 use Rattle.md_core.specs.Mailbox.{Entry, Mailbox, mailbox_of, entry_of, is_message, is_tmp, HasOnePath}
 use Rattle.md_core.specs.Alone.{alone, copy_alone, copy_by, entry_if, is_in_folder, info_copied}
 use Rattle.md_core.specs.History.{names_of, names_after_change}
@@ -28,7 +19,8 @@ use Rattle.md_core.specs.Machines.Purposes.{info_in, name_copied}
 use Rattle.md_core.specs.Machines.Errand.{done_by}
 use Rattle.md_core.specs.Stepping.{AsAlone}
 use Rattle.md_core.specs.Interleaving.{is_effect_at}
-use Rattle.md_core.proofs.Induction.Good.{bytes_at, HasSize, HasNoMessage, ErrandFits, Makes, Does}
+use Rattle.md_core.specs.Accepting.{MakesMessage}
+use Rattle.md_core.proofs.Induction.Good.{bytes_at, HasSize, HasNoMessage, ErrandFits, Does}
 use Rattle.md_core.proofs.Mailbox.Changes.{one-puts, mailbox-puts}
 use Rattle.md_core.proofs.Mailbox.Naming.{names-insert}
 use Rattle.md_core.proofs.Mailbox.Renamed.{listed-entry}
@@ -36,7 +28,7 @@ use Rattle.md_core.proofs.Mailbox.Shown.{mailbox-shows, shows-mailbox}
 use Rattle.md_core.proofs.Directories.Frames.{task-frame}
 use Rattle.md_core.proofs.Directories.Calls.Link.{Lands, link-lands}
 use Rattle.md_core.proofs.Machines.Errand.Names.{IsCopyName, copy-name}
-use Rattle.md_core.proofs.Machines.Errand.Table.{not-tmp, left-some, acts-flags}
+use Rattle.md_core.proofs.Machines.Errand.Table.Rows.{not-tmp, steps_left-some, acts-flags}
 
 no-tmp : (place : Place) → is_tmp place ≡ false → place ≢ Tmp
 no-tmp place new_or_cur is = let yes : is_tmp place ≡ true = ap is_tmp is in cc
@@ -44,8 +36,8 @@ no-tmp place new_or_cur is = let yes : is_tmp place ≡ true = ap is_tmp is in c
 module _ (s : State) (asked : Call) (folder : ℕ) (v : List ℕ) (to : ℕ) (fresh : List ℕ) (place : Place) (row : Row) (tries : ℕ)
     (fits : ErrandFits s asked (record { folder = folder; unique = v; purpose = purpose.Copy to fresh; stage = Act place row tries })) where
   -- the call makes the fresh name, and no message has it
-  pub makes-copy : Makes asked fresh
-  makes-copy = subst (λ (x : Call). Makes x fresh) (sym fits.of) refl
+  pub makes-copy : MakesMessage asked fresh
+  makes-copy = subst (λ (x : Call). MakesMessage x fresh) (sym fits.of) refl
 
   pub no-message : HasNoMessage s fresh
   no-message = fits.none fresh makes-copy
@@ -92,7 +84,7 @@ module _ (s : State) (number : ℕ) (asked : Call) (folder : ℕ) (v : List ℕ)
   none : HasNoMessage s fresh
   none = no-message s asked folder v to fresh place row tries fits
 
-  makes : Makes asked fresh
+  makes : MakesMessage asked fresh
   makes = makes-copy s asked folder v to fresh place row tries fits
 
   message : is_message o ≡ true
@@ -156,11 +148,11 @@ module _ (s : State) (number : ℕ) (asked : Call) (folder : ℕ) (v : List ℕ)
         no-tmp place not_tmp,
         name.message,
         (name.shown, name.shows),
-        subst (Makes asked) (sym name.unique) makes,
+        subst (MakesMessage asked) (sym name.unique) makes,
       );
     };
     settles = (effect, refl, refl);
-    nearer = left-some true x.stage;
+    nearer = steps_left-some true x.stage;
     fixed = λ is a b. refl;
   }
 

@@ -5,13 +5,10 @@ use Rattle.md_dirs.specs.declared.calls.DirError.{DirError}
 use Rattle.md_core.specs.Asked.{ask_of, shown_call}
 use Rattle.md_core.specs.Turn.{Takes, After, reply_from}
 use Rattle.md_core.specs.Machines.Errand.{asked_of, after_act, act_turn}
-use Rattle.md_core.specs.declared.jobs.answer.Answer.{Answer}
+use Rattle.md_core.proofs.Values.{Answer, DirReply, Moment, StepOut}
 use Rattle.md_core.specs.declared.jobs.effect.Effect.{Effect}
 use Rattle.md_core.specs.Tasks.Errand.{Errand}
 use Rattle.md_core.specs.Tasks.Deed.{Deed, Rename, Link, Unlink}
-use Rattle.md_core.specs.declared.jobs.step.DirReply.{DirReply}
-use Rattle.md_core.specs.declared.jobs.step.Moment.{Moment}
-use Rattle.md_core.specs.declared.jobs.step.StepOut.{StepOut}
 use Rattle.md_core.proofs.Machines.Performing.{takes}
 
 pub takes-deed : {X : Type 0} (job : ℕ) (e : Errand) (d : Deed) (a : Answer) (size tries : ℕ) (at : Moment) (old : Device) (answer : Result X DirError)

@@ -1,32 +1,24 @@
 -- What a Seen and a Flag do that take effect: the message gets its flags by another name, or it had them.
-use Rattle.std.proofs.Common.{ℕ, ◌≡◌, ◌<◌, List, Option, Some, None, true, false, cond, not, is_some, unwrap_or, refl, sym, ap, subst, ◌∙◌, length}
+use Rattle.std.proofs.Common.{ℕ, ◌≡◌, List, Option, Some, None, true, false, cond, not, refl, sym, ap, subst, ◌∙◌, length}
 use Rattle.std.specs.Option.{option_map, option_map_or}
 use Rattle.std.specs.FinMap as finmap
 use Rattle.std.specs.FinSet as set
 use Rattle.std.proofs.lemmas.Bool.{and_from, eq-eqb}
-use Rattle.md_dirs.specs.State.{State, IsSound, file_at}
+use Rattle.md_core.proofs.Values.{State, IsSound, file_at, Path, Place, New, Cur, Set, Call, Effect, Errand}
 use Rattle.md_dirs.specs.Calls.{after_rename}
 use Rattle.md_dirs.specs.Path.{place_index, path_of}
-use Rattle.md_dirs.specs.declared.paths.Path.{Path}
-use Rattle.md_dirs.specs.declared.paths.Place.{Place}
-use Rattle.md_dirs.specs.declared.paths.Place.TheVariants.{New, Cur}
-use Rattle.md_name.specs.Letters.{Set}
 use Rattle.md_name.specs.Names.{unique_of, info_text, info_of, flags_of, flagged, is_message_name}
 use Rattle.md_name.proofs.Flagged.{IsUniquePart, unique_of-flagged}
 use Rattle.md_core.specs.declared.jobs.answer.Answer.TheVariants as answer
-use Rattle.md_core.specs.declared.jobs.call.Call.{Call}
 use Rattle.md_core.specs.declared.jobs.call.Call.TheVariants as call
-use Rattle.md_core.specs.declared.jobs.effect.Effect.{Effect}
 use Rattle.md_core.specs.Tasks.Errand.{Errand as ErrandOf}
 use Rattle.md_core.specs.Tasks.Deed as deed
 use Rattle.md_core.specs.declared.jobs.step.DirReply.TheVariants as reply
-use Rattle.md_core.specs.Tasks.Task.{Errand}
 use Rattle.md_core.specs.Mailbox.{Entry, Mailbox, mailbox_of, entry_of, is_message, is_tmp, HasOnePath}
 use Rattle.md_core.specs.Alone.{Outcome, alone, seen_alone, seen_by, flag_alone, flag_by, entry_if, is_in_place, flags_in, is_same_set, info_with, refuse}
-use Rattle.md_core.specs.History.{Listed, as_listed, names_of, name_of, names_after_change, size_in, IsThere, ShowsFlags, MayGetFlags}
+use Rattle.md_core.specs.History.{Listed, as_listed, names_of, name_of, names_after_change, size_in, IsThere, MayGetFlags}
 use Rattle.md_core.specs.Asked.{list, rename}
 use Rattle.md_core.specs.Machines.Errand.{kept, done_by}
-use Rattle.md_core.specs.Stepping.{AsAlone}
 use Rattle.md_core.specs.Interleaving.{is_effect_at}
 use Rattle.md_core.proofs.Induction.Good.{bytes_at, HasNoMessage, ErrandFits, Does}
 use Rattle.md_core.proofs.Mailbox.Changes.{one-puts, mailbox-puts}
@@ -36,7 +28,7 @@ use Rattle.md_core.proofs.Directories.Frames.{Frame, task-stays}
 use Rattle.md_core.proofs.Looking.LookUps.{unique-part, message-name}
 use Rattle.md_core.proofs.Mailbox.WholeName.{whole-name}
 use Rattle.md_core.proofs.Machines.Errand.Moves.{Moves, moves, put_again, info-flagged}
-use Rattle.md_core.proofs.Machines.Errand.Table.{left-some}
+use Rattle.md_core.proofs.Machines.Errand.Table.Rows.{steps_left-some}
 
 -- ---- what the two do alone
 
@@ -135,7 +127,7 @@ module _ (s : State) (number : ℕ) (asked : Call) (e : ErrandOf) (sound : IsSou
       );
     };
     settles = (kept number (answer.Flags flags), refl, refl);
-    nearer = left-some _ e.stage;
+    nearer = steps_left-some _ e.stage;
     fixed = λ none a b. refl;
   }
 
@@ -207,6 +199,6 @@ module _ (s : State) (number : ℕ) (asked : Call) (e : ErrandOf) (sound : IsSou
         allowed = (fits.in_folder, refl, refl, ap (λ (u : List ℕ). flagged u flags) (sym unique), is_there, may);
       };
       settles = (effect, refl, refl);
-      nearer = left-some _ e.stage;
+      nearer = steps_left-some _ e.stage;
       fixed = λ none a b. refl;
     }

@@ -3,26 +3,18 @@ use Rattle.std.proofs.Common.{ℕ, ◌≡◌, ◌≢◌, List, Some, None, true,
 use Rattle.std.proofs.lemmas.Bool.{and_from, eq-eqb}
 use Rattle.std.specs.FinMap as finmap
 use Rattle.std.specs.FinMap.{get}
-use Rattle.md_dirs.specs.Path.{path_of}
-use Rattle.md_dirs.specs.State.{State, IsSound, file_at}
+use Rattle.md_core.proofs.Values.{State, IsSound, file_at, path_of, Path, Place, Row, Call, Effect, Errand}
 use Rattle.md_dirs.specs.Calls as dirs
-use Rattle.md_dirs.specs.declared.paths.Path.{Path}
-use Rattle.md_dirs.specs.declared.paths.Place.{Place}
-use Rattle.md_dirs.specs.declared.rows.Row.{Row}
 use Rattle.md_name.specs.Names.{unique_of}
 use Rattle.md_core.specs.declared.jobs.answer.Answer.TheVariants as answer
-use Rattle.md_core.specs.declared.jobs.call.Call.{Call}
-use Rattle.md_core.specs.declared.jobs.effect.Effect.{Effect}
 use Rattle.md_core.specs.Tasks.Errand.{Errand as ErrandOf, Act}
 use Rattle.md_core.specs.Tasks.Deed as deed
 use Rattle.md_core.specs.Tasks.Purpose as purpose
 use Rattle.md_core.specs.declared.jobs.step.DirReply.TheVariants as reply
-use Rattle.md_core.specs.Tasks.Task.{Errand}
 use Rattle.md_core.specs.Mailbox.{mailbox_of, entry_of, is_message, HasOnePath}
 use Rattle.md_core.specs.Alone.{alone, move_alone, entry_if, is_in_folder}
 use Rattle.md_core.specs.History.{names_of, names_after_change, as_listed}
 use Rattle.md_core.specs.Asked.{rename}
-use Rattle.md_core.specs.Machines.Purposes.{info_in}
 use Rattle.md_core.specs.Machines.Errand.{done_by}
 use Rattle.md_core.specs.Stepping.{AsAlone}
 use Rattle.md_core.specs.Interleaving.{is_effect_at}
@@ -33,7 +25,7 @@ use Rattle.md_core.proofs.Mailbox.Renamed.{put-again, listed-entry, listed-there
 use Rattle.md_core.proofs.Mailbox.Shown.{shows-mailbox}
 use Rattle.md_core.proofs.Directories.Frames.{task-stays}
 use Rattle.md_core.proofs.Directories.Calls.Rename.{shifted, moved-is, rename-puts, rename-frame, rename-sound, rename-spares}
-use Rattle.md_core.proofs.Machines.Errand.Table.{not-tmp, left-some}
+use Rattle.md_core.proofs.Machines.Errand.Table.Rows.{not-tmp, steps_left-some}
 
 module _ (s : State) (number : ℕ) (asked : Call) (folder : ℕ) (v : List ℕ) (to : ℕ) (place : Place) (row : Row) (tries k : ℕ) (sound : IsSound s)
     (one : HasOnePath s)
@@ -116,7 +108,7 @@ module _ (s : State) (number : ℕ) (asked : Call) (folder : ℕ) (v : List ℕ)
       allowed = (fits.in_folder, fits.to_folder, fits.is_for, refl, refl, listed-there (mailbox_of s) s o k before);
     };
     settles = (effect, refl, refl);
-    nearer = left-some true x.stage;
+    nearer = steps_left-some true x.stage;
     fixed = λ is a b. refl;
   }
 

@@ -6,9 +6,8 @@ use Rattle.std.proofs.lemmas.Bool.{or_parts, eq-eqb}
 use Rattle.std.proofs.lemmas.List.Folds.{list_any-append}
 use Rattle.std.proofs.lemmas.Cmp.{nat_list_cmp_total}
 use Rattle.std.proofs.lemmas.Map.Lookups.{exact_bytes}
-use Rattle.md_dirs.specs.State.{State, IsSound, file_at}
+use Rattle.md_core.proofs.Values.{State, IsSound, file_at, Path}
 use Rattle.md_dirs.specs.Calls.{after_rename, with_path, without_path, with_files_still_named, is_one_file}
-use Rattle.md_dirs.specs.declared.paths.Path.{Path}
 use Rattle.lists.proofs.Maps as maps
 use Rattle.md_dirs.proofs.Sound.{by_path}
 use Rattle.md_name.specs.Letters.{Set, spelling}

@@ -1,65 +1,34 @@
 -- What each turn of an errand does, by its stage, the reply and what is decided.
-use Rattle.std.proofs.Common.{ℕ, ◌≡◌, ◌<◌, ◌-◌, inl, inr, List, Option, Some, None, Bool, true, false, cond, length, is_some, not, unwrap_or, nat_le, refl, sym, ap, subst, ◌∙◌, arith}
+use Rattle.std.proofs.Common.{ℕ, ◌≡◌, ◌<◌, ◌-◌, inl, inr, List, Option, Some, None, Bool, true, false, cond, length, nat_le, refl, sym, ap, ◌∙◌, arith}
 use Rattle.std.proofs.lemmas.Bool.Decides.{nat_tests}
-use Rattle.std.proofs.lemmas.Bool.{and_from}
 use Rattle.std.specs.FinMap.{get}
-use Rattle.std.specs.FinSet as set
-use Rattle.md_dirs.specs.Calls as dirs
-use Rattle.md_dirs.specs.Path.{path_of}
 use Rattle.md_dirs.specs.Rows.{rows_of, row_by, row_named}
-use Rattle.md_dirs.specs.State.{State, IsSound, file_at, file_by}
+use Rattle.md_core.proofs.Values.{State, IsSound, file_by, file_at, path_of, Path, Place, Row, Info, Call, DirReply, Moment, Errand}
 use Rattle.md_dirs.specs.declared.calls.DirError.TheVariants.{NotFound}
 use Rattle.md_dirs.specs.declared.paths.File.{File}
-use Rattle.md_dirs.specs.declared.paths.Place.{Place}
-use Rattle.md_dirs.specs.declared.paths.Place.TheVariants.{New, Cur}
-use Rattle.md_dirs.specs.declared.rows.Row.{Row}
-use Rattle.md_name.specs.Letters.{Set}
-use Rattle.md_name.specs.Names.{info_of, flags_of}
-use Rattle.md_name.specs.declared.info.Info.{Info}
-use Rattle.md_core.specs.declared.jobs.answer.Answer.{Answer}
-use Rattle.md_core.specs.declared.jobs.answer.Answer.TheVariants as answer
-use Rattle.md_core.specs.declared.jobs.call.Call.{Call}
-use Rattle.md_core.specs.declared.jobs.effect.Effect.{Effect}
 use Rattle.md_core.specs.Tasks.Errand.{Errand as ErrandOf, Stage, Look, Act}
 use Rattle.md_core.specs.Tasks.Decision.{Decision}
 use Rattle.md_core.specs.Tasks.Decision as decision
-use Rattle.md_core.specs.Tasks.Purpose.{Purpose, Seen, Flag, Move, Copy, Expunge}
+use Rattle.md_core.specs.Tasks.Purpose.{Purpose}
 use Rattle.md_core.specs.Tasks.Refusal.{Refusal}
 use Rattle.md_core.specs.Tasks.Refusal as refusal
-use Rattle.md_core.specs.declared.jobs.step.Moment.{Moment}
-use Rattle.md_core.specs.declared.jobs.step.DirReply.{DirReply}
 use Rattle.md_core.specs.declared.jobs.step.DirReply.TheVariants as reply
-use Rattle.md_core.specs.Tasks.Task.{Errand}
-use Rattle.md_core.specs.Alone.{alone}
-use Rattle.md_core.specs.History.{MayGetFlags}
-use Rattle.md_core.specs.Mailbox.{Entry, mailbox_of, entry_of, bytes_of, HasOnePath}
+use Rattle.md_core.specs.Mailbox.{mailbox_of, entry_of, bytes_of, HasOnePath}
 use Rattle.md_core.specs.Interleaving.{is_effect_at}
-use Rattle.md_core.specs.Turn.{Turn, After, goes_on, ends_by, rows_for, reply_of}
-use Rattle.md_core.specs.Asked.{Asked, list, ask_of, state_by}
-use Rattle.md_core.specs.Machine.{as_task}
-use Rattle.md_core.specs.Machines.Purposes.{first, searches, place_after, info_in, wanted, decide, answer_by, deed_by, shown}
-use Rattle.md_core.specs.Machines.Errand.{at_stage, asked_of, taken_by, after_none, kept, after_decision, after_row, lost_or_again, done_by, look_turn, act_turn, stage_turn, errand_turn, stage_left, errand_left}
+use Rattle.md_core.specs.Turn.{After, goes_on, reply_of}
+use Rattle.md_core.specs.Asked.{Asked, list, ask_of}
+use Rattle.md_core.specs.Machines.Purposes.{first, searches, place_after, info_in, decide, deed_by}
+use Rattle.md_core.specs.Machines.Errand.{at_stage, asked_of, taken_by, after_none, after_decision, after_row, look_turn, stage_turn, errand_turn, steps_left}
 use Rattle.md_core.specs.Machines.Refusals.{refused_by, refuses}
-use Rattle.md_core.proofs.Induction.Good.{bytes_at, FoundAt, HasSize, IsOfSize, IsPlaceOf, IsAtStage, IsFound, ErrandFits, call_by, Does}
-use Rattle.md_core.proofs.Looking.LookUps.{IsRow, found-row, row-entry, info-in}
-use Rattle.md_core.proofs.Mailbox.Shown.{shows-mailbox}
-use Rattle.md_core.proofs.Machines.Deliver.Replies.{accepted, there}
+use Rattle.md_core.specs.Tasks.Deed.{Deed, Rename, Link, Unlink}
+use Rattle.md_core.proofs.Induction.Good.{bytes_at, FoundAt, HasSize, IsOfSize, IsAtStage, ErrandFits, Does}
+use Rattle.md_core.proofs.Looking.LookUps.{IsRow, found-row, row-entry}
 use Rattle.md_core.proofs.Machines.Stays.{as_after, stays-does}
-use Rattle.md_core.proofs.Machines.Errand.Sets.{same-sets, subset-union}
-use Rattle.md_core.proofs.Machines.Errand.Table.{not-tmp, one-place, left-some, next-left, act-left, again-left, acts-flags, acts-flag, keeps-flag, test-keeps, refusal-fails, look-goes, look-refused, IsRefusal, deed-none}
-use Rattle.md_core.proofs.Machines.Errand.Marked.{alone-seen, alone-flags, alone-keeps, keeps-it, gives-flags}
-use Rattle.md_core.proofs.Machines.Errand.Moved.{rename-does}
-use Rattle.md_core.proofs.Machines.Errand.Copied.{link-does}
-use Rattle.md_core.proofs.Machines.Errand.Expunged.{unlink-does}
-
--- what a turn of an errand does at a reply
-abbrev pub DoesBy : State → ℕ → Call → ErrandOf → ℕ → Turn ErrandOf → DirReply → Type 0
-DoesBy s number asked e clock turn r =
-    Does s (state_by (ask_of turn.asked clock) s r) number asked (Errand e) turn.asked r ((as_task Errand turn).follows r (rows_for turn.asked s))
-
--- an errand at a stage
-abbrev on : ℕ → List ℕ → Purpose → Stage → ErrandOf
-on folder u p stage = record { folder = folder; unique = u; purpose = p; stage = stage }
+use Rattle.md_core.proofs.Machines.Errand.Table.Rows.{not-tmp, steps_left-some, next-left, act-left, again-left, refusal-fails, look-goes, look-refused, IsRefusal, deed-none}
+use Rattle.md_core.proofs.Machines.Errand.Table.Calls.{call_by, on}
+use Rattle.md_core.proofs.Machines.Errand.Table.Does.{keep-does, done-does, DoesBy}
+use Rattle.md_core.proofs.Machines.Errand.Table.Deeds.{FitsDeed, deed-fits}
+use Rattle.md_core.proofs.Machines.Deliver.Replies.{accepted, there}
 
 -- ---- a turn at which nothing changes
 
@@ -73,11 +42,11 @@ module _ (s : State) (number : ℕ) (asked : Call) (sound : IsSound s) (one : Ha
   refuses-does a none =
       stays-does s number asked (Errand e) (Errand e) made r (Some (refused_by a)) sound one (λ is. cc)
       (ap (λ (c : Call). is_effect_at c made r (Some (refused_by a))) fits.of ∙ none) refl refl (refusal-fails a)
-      (left-some (searches e.purpose) e.stage) (λ is. cc) (λ v size unanswered its. cc)
+      (steps_left-some (searches e.purpose) e.stage) (λ is. cc) (λ v size unanswered its. cc)
 
   goes-does : (stage : Stage) → IsAtStage e.unique e.purpose stage →
       is_effect_at (call_by e.folder e.unique e.purpose fits.tries) made r None ≡ false →
-      stage_left (searches e.purpose) stage < errand_left e →
+      steps_left (searches e.purpose) stage < steps_left (searches e.purpose) e.stage →
       ((v : List ℕ) (size : ℕ) → FoundAt e.unique stage v size → IsOfSize (mailbox_of s) v size) → DoesNothing (goes_on (at_stage e stage))
   goes-does stage h none less sees =
       stays-does s number asked (Errand e) (Errand (at_stage e stage)) made r None sound one
@@ -102,28 +71,6 @@ row-size name (Some file) = refl
 
 module _ (s : State) (number : ℕ) (asked : Call) (sound : IsSound s) (one : HasOnePath s) (folder : ℕ) (u : List ℕ) (place : Place) (tries : ℕ)
   where
-    -- only a Flag keeps
-    keep-does : (p : Purpose) (fits : ErrandFits s asked (on folder u p (Look place tries))) (row : Row) (h : IsRow s folder place u row) →
-        decide p (info_in row.name) ≡ decision.Keep →
-        Does s s number asked (Errand (on folder u p (Look place tries))) (list folder place) reply.Ok
-        (as_after Errand (ends_by (on folder u p (Look place tries)) (kept number (answer_by p (info_in row.name)))))
-    keep-does (Seen given) fits row h is = absurd (test-keeps _ _ is)
-    keep-does (Flag add remove) fits row h is =
-        let keeps = keeps-flag (Flag add remove) (flags_of (info_in row.name)) is in
-        let had : Set = shown (info_in row.name) in
-        let at = one-place (Flag add remove) place refl fits.stage in
-        let shows : flags_of (info_of row.name) ≡ Some had = ap flags_of (sym (info-in row.name h.named)) ∙ keeps.0 in
-        let no_tmp = not-tmp (Flag add remove) place fits.stage in
-        keeps-it s number asked (on folder u (Flag add remove) (Look place tries)) sound one fits place row.name h.file had no_tmp h.named h.unique shows h.there
-        (wanted (Flag add remove) had) at (same-sets had (wanted (Flag add remove) had) keeps.1)
-        (ap (λ (c : Call). alone c (mailbox_of s)) fits.of
-        ∙ alone-keeps (mailbox_of s) folder u (entry_of s (path_of folder place row.name) h.file) had (row-entry s folder place u row no_tmp one h) refl shows
-        add remove fits.tries at keeps.1)
-        (ap (λ (c : Call). is_effect_at c (list folder place) reply.Ok (Some (answer.Flags (wanted (Flag add remove) had)))) fits.of)
-    keep-does (Move to) fits row h is = cc
-    keep-does (Copy to fresh) fits row h is = absurd (test-keeps _ _ is)
-    keep-does Expunge fits row h is = absurd (test-keeps _ _ is)
-
     module _ (p : Purpose) (fits : ErrandFits s asked (on folder u p (Look place tries))) where
       abbrev x : ErrandOf
       x = on folder u p (Look place tries)
@@ -146,7 +93,7 @@ module _ (s : State) (number : ℕ) (asked : Call) (sound : IsSound s) (one : Ha
       decision-does : (row : Row) (h : IsRow s folder place u row) (d : Decision) → decide p (info_in row.name) ≡ d →
           DoesLook reply.Ok (after_decision number x place tries row d)
       decision-does row h (decision.Refuse a) is = ends-does reply.Ok a
-      decision-does row h decision.Keep is = keep-does p fits row h is
+      decision-does row h decision.Keep is = keep-does s number asked sound one folder u place tries p fits row h is
       decision-does row h decision.Act is =
           let size : length (bytes_at s h.file) ≡ row.size = sym (row-size row.name (file_by s.files h.file)) ∙ ap (λ (x : Row). x.size) h.shows in
           goes-does s number asked sound one x fits (list folder place) reply.Ok (Act place row tries)
@@ -170,6 +117,19 @@ module _ (s : State) (number : ℕ) (asked : Call) (sound : IsSound s) (one : Ha
 
 -- ---- the act
 
+-- where a deed is done its path was there
+module _ (s : State) (clock : ℕ) (faulted : Bool) (p : Path) where
+  deed-there : (d : Deed) → FitsDeed s p d → reply.Ok ≡ reply_of (ask_of (asked_of d) clock) s faulted → (k : ℕ) × (file_at s p ≡ Some k)
+  deed-there (Rename old new) fits replied =
+      let h = there (file_at s old) _ NotFound (accepted _ faulted (sym replied)) in
+      (h.0, ap (file_at s) (sym fits.0) ∙ h.1)
+  deed-there (Link old new) fits replied =
+      let h = there (file_at s old) _ NotFound (accepted _ faulted (sym replied)) in
+      (h.0, ap (file_at s) (sym fits.0) ∙ h.1)
+  deed-there (Unlink old) fits replied =
+      let h = there (file_at s old) _ NotFound (accepted _ faulted (sym replied)) in
+      (h.0, ap (file_at s) (sym fits) ∙ h.1)
+
 module _ (s : State) (number : ℕ) (asked : Call) (sound : IsSound s) (one : HasOnePath s) (folder : ℕ) (u : List ℕ) (place : Place) (row : Row) (tries : ℕ)
     (clock : ℕ) (faulted : Bool) (sized : HasSize (mailbox_of s) u row.size) where
   abbrev info : Info
@@ -180,62 +140,6 @@ module _ (s : State) (number : ℕ) (asked : Call) (sound : IsSound s) (one : Ha
 
   abbrev DoesAct : Purpose → DirReply → Type 0
   DoesAct p r = DoesBy s number asked (acting p) clock (stage_turn number (acting p) (Act place row tries)) r
-
-  abbrev had : Set
-  had = shown info
-
-  -- the message that a mark acts on
-  module _ (p : Purpose) (fits : ErrandFits s asked (acting p)) (k : ℕ) (at : file_at s (path_of folder place row.name) ≡ Some k) where
-    abbrev entry : Entry
-    entry = entry_of s (path_of folder place row.name) k
-
-    before : get (mailbox_of s) u ≡ Some entry
-    before = shows-mailbox s u entry one (record {
-      path = path_of folder place row.name;
-      file = k;
-      there = at;
-      message = and_from _ _ (ap not (not-tmp p place fits.stage.at)) fits.stage.named;
-      unique = fits.stage.unique;
-      entry = refl;
-    })
-
-    shows-had : flags_of info ≡ Some had → flags_of (info_of row.name) ≡ Some had
-    shows-had is = ap flags_of (sym (info-in row.name fits.stage.named)) ∙ is
-
-  done-does : (p : Purpose) → ErrandFits s asked (acting p) →
-      reply.Ok ≡ reply_of (ask_of (asked_of (deed_by p folder u place row.name info)) clock) s faulted → DoesAct p reply.Ok
-  done-does (Seen given) fits replied =
-      let here = there (file_at s (path_of folder place row.name)) _ NotFound (accepted _ faulted (sym replied)) in
-      let shows = shows-had (Seen given) fits here.0 here.1 (acts-flags (flags_of info) fits.stage.acts) in
-      let new = one-place (Seen given) place refl fits.stage.at in
-      gives-flags s number asked (acting (Seen given)) sound one fits place row.name here.0 had (not-tmp (Seen given) place fits.stage.at) fits.stage.named
-      fits.stage.unique shows here.1 (wanted (Seen given) had) row.size
-      (ap (λ (c : Call). alone c (mailbox_of s)) fits.of
-      ∙ alone-seen (mailbox_of s) folder u (entry (Seen given) fits here.0 here.1) had (before (Seen given) fits here.0 here.1) refl shows given fits.tries new)
-      (ap (λ (c : Call). is_effect_at c (asked_of (deed_by (Seen given) folder u place row.name info)) reply.Ok (Some (answer_by (Seen given) info))) fits.of)
-      (subst (λ (q : Place). MayGetFlags q row.name (wanted (Seen given) had)) (sym new) (had, shows, subset-union had given))
-  done-does (Flag add remove) fits replied =
-      let here = there (file_at s (path_of folder place row.name)) _ NotFound (accepted _ faulted (sym replied)) in
-      let acts = acts-flag (Flag add remove) (flags_of info) fits.stage.acts in
-      let shows = shows-had (Flag add remove) fits here.0 here.1 acts.0 in
-      let cur = one-place (Flag add remove) place refl fits.stage.at in
-      gives-flags s number asked (acting (Flag add remove)) sound one fits place row.name here.0 had (not-tmp (Flag add remove) place fits.stage.at)
-      fits.stage.named fits.stage.unique shows here.1 (wanted (Flag add remove) had) row.size
-      (ap (λ (c : Call). alone c (mailbox_of s)) fits.of
-      ∙ alone-flags (mailbox_of s) folder u (entry (Flag add remove) fits here.0 here.1) had (before (Flag add remove) fits here.0 here.1) refl shows add
-      remove fits.tries cur acts.1)
-      (ap (λ (c : Call). is_effect_at c (asked_of (deed_by (Flag add remove) folder u place row.name info)) reply.Ok
-      (Some (answer_by (Flag add remove) info))) fits.of)
-      (subst (λ (q : Place). MayGetFlags q row.name (wanted (Flag add remove) had)) (sym cur) (had, shows))
-  done-does (Move to) fits replied =
-      let here = there (file_at s (path_of folder place row.name)) _ NotFound (accepted _ faulted (sym replied)) in
-      rename-does s number asked folder u to place row tries here.0 sound one fits here.1
-  done-does (Copy to fresh) fits replied =
-      let here = there (file_at s (path_of folder place row.name)) _ NotFound (accepted _ faulted (sym replied)) in
-      link-does s number asked folder u to fresh place row tries here.0 sound one fits sized here.1
-  done-does Expunge fits replied =
-      let here = there (file_at s (path_of folder place row.name)) _ NotFound (accepted _ faulted (sym replied)) in
-      unlink-does s number asked folder u place row tries here.0 sound one fits here.1
 
   module _ (p : Purpose) (fits : ErrandFits s asked (acting p)) where
     abbrev made : Asked
@@ -255,7 +159,10 @@ module _ (s : State) (number : ℕ) (asked : Call) (sound : IsSound s) (one : Ha
         (λ v size its. absurd its)
 
     act-does : (r : DirReply) → r ≡ reply_of (ask_of made clock) s faulted → DoesAct p r
-    act-does reply.Ok replied = done-does p fits replied
+    act-does reply.Ok replied =
+        let here = deed-there s clock faulted (path_of folder place row.name) (deed_by p folder u place row.name info)
+        (deed-fits s asked folder u place row tries p fits) replied in
+        done-does s number asked sound one folder u place row tries clock sized p fits here.0 here.1
     act-does reply.Exists replied = stops-does reply.Exists (taken_by (deed_by p folder u place row.name info)) tt
     act-does reply.NotFound replied = again-does (nat_le tries 1) refl
     act-does reply.Fault replied = stops-does reply.Fault refusal.Fault tt

@@ -5,10 +5,9 @@ use Rattle.std.specs.List.{list_any}
 use Rattle.std.specs.Str.{bytes_eq}
 use Rattle.std.proofs.lemmas.List.Folds.{list_any-append}
 use Rattle.std.proofs.lemmas.List.Sums.{fold-append}
-use Rattle.md_dirs.specs.State.{State, file_by}
+use Rattle.md_core.proofs.Values.{State, file_by, CoreError}
 use Rattle.md_dirs.specs.declared.paths.Path.{Path}
 use Rattle.md_name.specs.Names.{unique_of}
-use Rattle.md_core.specs.declared.error.CoreError.{CoreError}
 use Rattle.md_core.specs.declared.error.CoreError.TheVariants as core
 use Rattle.md_core.specs.declared.world.looking.Seen.{Seen}
 use Rattle.md_core.specs.Mailbox.{is_message}

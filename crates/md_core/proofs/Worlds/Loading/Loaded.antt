@@ -6,17 +6,17 @@ use Rattle.std.specs.Str.{bytes_eq}
 use Rattle.std.specs.FinMap.{entries}
 use Rattle.std.proofs.lemmas.Bool.Decides.{nat_tests}
 use Rattle.std.proofs.lemmas.Slice.Eq.{bytes_eq-Decides}
-use Rattle.md_dirs.specs.State.{State, file_at, file_by}
+use Rattle.md_core.proofs.Values.{State, file_at, file_by, CoreError}
 use Rattle.md_dirs.specs.declared.paths.Path.{Path}
 use Rattle.md_dirs.proofs.PathOrder.{path_total, path_exact}
 use Rattle.md_name.specs.Names.{is_colon, begins_with_dot, unique_of, is_message_name, is_maildir_unique, is_unique_name}
-use Rattle.md_core.specs.declared.error.CoreError.{CoreError}
 use Rattle.md_core.specs.declared.error.CoreError.TheVariants as core
 use Rattle.md_core.specs.Mailbox.{is_message, is_tmp, HasOnePath}
 use Rattle.md_core.specs.Loading.{is_bad_name, is_long_unique, is_same_message, fault_of, first_fault, load_refusal}
 use Rattle.md_core.specs.Runs.{stamp_of, first_clock}
 use Rattle.md_core.specs.Submitting.{uses}
-use Rattle.md_core.proofs.Induction.Good.{key_of, IsUnused}
+use Rattle.md_core.specs.Accepting.{name_used}
+use Rattle.md_core.proofs.Induction.Good.{IsUnused}
 use Rattle.lists.proofs.Members.{Has, get-has}
 use Rattle.md_core.proofs.Worlds.UsedLemmas.{bytes_eq-sym}
 
@@ -164,7 +164,7 @@ none-has q (e ∷ es) x none has = elim has [
 ]
 
 -- a path whose name is one that may be delivered under uses it
-key-used : (u : List ℕ) (p : Path) → is_unique_name u ≡ true → key_of p ≡ u → uses u p ≡ true
+key-used : (u : List ℕ) (p : Path) → is_unique_name u ≡ true → name_used p ≡ u → uses u p ≡ true
 key-used u p unique = by (is_tmp p.place)
   where
     by : (b : Bool) → cond b p.name (unique_of p.name) ≡ u →

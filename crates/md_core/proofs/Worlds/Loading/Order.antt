@@ -7,11 +7,8 @@ use Rattle.std.specs.FinMap.{is_sorted, entries, entries_sorted}
 use Rattle.std.specs.FinMap.Entries.{below_all}
 use Rattle.std.proofs.lemmas.Bool.Decides.{nat_tests}
 use Rattle.md_dirs.specs.Path.{path_cmp, place_index}
-use Rattle.md_dirs.specs.State.{State, IsSound}
+use Rattle.md_core.proofs.Values.{State, IsSound, Path, Place, Tmp, New, Cur}
 use Rattle.md_dirs.specs.Rows.{is_in}
-use Rattle.md_dirs.specs.declared.paths.Path.{Path}
-use Rattle.md_dirs.specs.declared.paths.Place.{Place}
-use Rattle.md_dirs.specs.declared.paths.Place.TheVariants.{Tmp, New, Cur}
 use Rattle.md_dirs.proofs.PathOrder.{path_total, path_exact}
 use Rattle.md_core.specs.Looking.{is_before, entries_before}
 use Rattle.lists.proofs.Members.{Has, has-get}
@@ -28,8 +25,7 @@ second false b p = absurd p
 
 pub less : (o : Ordering) → T (is_lt o) → o ≡ Less
 less Less p = refl
-less Equal p = absurd p
-less Greater p = absurd p
+less other p = absurd p
 
 pub same_filter : {X : Type 0} (p q : X → Bool) (es : List X) → ((x : X) → Has es x → p x ≡ q x) → filter p es ≡ filter q es
 same_filter p q [] same = refl
@@ -116,8 +112,7 @@ below_folders a b f within = grind (arith, nat_tests)
 
 place_within : (p : Place) → place_index p < 3
 place_within Tmp = omega arith
-place_within New = omega arith
-place_within Cur = omega arith
+place_within other = omega arith
 
 turned : (b : Bool) → not b ≡ true → b ≡ false
 turned true h = cc

@@ -5,16 +5,11 @@ use Rattle.std.specs.FinMap.{entries}
 use Rattle.std.proofs.Common.{append_assoc}
 use Rattle.std.proofs.lemmas.List.{take-append-drop}
 use Rattle.md_dirs.specs.Path.{path_of, place_index}
-use Rattle.md_dirs.specs.State.{State, file_by}
+use Rattle.md_core.proofs.Values.{State, file_by, Path, Place, Tmp, New, Cur, Row, CoreError}
 use Rattle.md_dirs.specs.Rows.{is_in, row_by, row_of, rows_of}
-use Rattle.md_dirs.specs.declared.paths.Path.{Path}
-use Rattle.md_dirs.specs.declared.paths.Place.{Place}
-use Rattle.md_dirs.specs.declared.paths.Place.TheVariants.{Tmp, New, Cur}
 use Rattle.md_dirs.specs.declared.paths.File.{File}
-use Rattle.md_dirs.specs.declared.rows.Row.{Row}
 use Rattle.md_dirs.proofs.Rowed.{get-map}
 use Rattle.std.proofs.lemmas.Bool.Decides.{nat_tests}
-use Rattle.md_core.specs.declared.error.CoreError.{CoreError}
 use Rattle.md_core.specs.declared.world.looking.Seen.{Seen}
 use Rattle.md_core.specs.Loading.{first_fault, load_refusal}
 use Rattle.md_core.specs.Looking.{IsLookOf, fault_after, is_message_of, is_tmp_of, is_before, entries_before}
@@ -46,14 +41,13 @@ numbers a b h = grind (arith, nat_tests)
 
 same_place : (a b : Place) → (place_index a == place_index b) ≡ true → a ≡ b
 same_place Tmp Tmp h = refl
-same_place Tmp New h = cc
 same_place Tmp Cur h = cc
 same_place New Tmp h = cc
 same_place New New h = refl
 same_place New Cur h = cc
 same_place Cur Tmp h = cc
-same_place Cur New h = cc
 same_place Cur Cur h = refl
+same_place other New h = cc
 
 both_true : (a b : Bool) → (a && b) ≡ true → (a ≡ true) × (b ≡ true)
 both_true true b h = (refl, h)

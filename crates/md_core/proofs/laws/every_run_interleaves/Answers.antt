@@ -1,6 +1,5 @@
 use Rattle.md_core.proofs.Traces.All.{interleaves}
 use Rattle.md_core.proofs.Traces.Plain.{is-trace}
-use Rattle.md_core.proofs.Traces.Refused.{twice, idle, denied, loud, spoiled, young, stray, endless}
 use Rattle.md_core.proofs.laws.every_run_interleaves.Goals as goal
 
 pub returns-clause-trace : goal.returns-clause-trace
