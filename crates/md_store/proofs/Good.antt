@@ -41,7 +41,7 @@ module _ (opening : Named) (now : List Effect) (keeps : KeepsPlaces opening.name
 
 -- what a second reading gives
 pub finishes : LegalKeepPlaces → {V : Type 0} (items : V → List Entry) (opening : Named) (first : Reading) (now : List Effect)
-    → (res : Result V ListError) → OnOk res (IsLegalFrom opening now) → OnOk res (AreMessages opening)
+    → (res : Result V ListError) → IsLegalFrom opening now → OnOk res (AreMessages opening)
     → IfOk res (λ v. items v ≡ join_of first.entries (read_at first.folder Cur opening now)) → IfOk res (λ v. Finishes opening first now (items v))
 finishes keep items opening first now (Ok v) legal are is = record {
   entries_are = is;

@@ -5,14 +5,12 @@ use Rattle.md_core.specs.declared.error.CoreError.{CoreError}
 use Rattle.md_core.specs.declared.error.CoreError.TheVariants as core
 use Rattle.md_core.specs.declared.jobs.call.Call.{Call}
 use Rattle.md_core.specs.declared.world.submit.SubmitRefused.{SubmitRefused}
-use Rattle.md_core.specs.Stepping.{IsRun, ShowsStep}
-use Rattle.md_core.specs.Machine.{Standing, working, answered, Occurrence, occurrence, job_at}
+use Rattle.md_core.specs.Stepping.{IsRun}
+use Rattle.md_core.specs.Machine.{Standing, working, answered, Occurrence, job_at}
 use Rattle.md_core.specs.Runs.{Run, jobs_of, and_call, and_event, step_refusal, IsRefusal}
 use Rattle.md_core.specs.Submitting.{submit_refusal}
-use Rattle.md_core.specs.Asked.{is_fault}
-use Rattle.md_store.specs.declared.step.StoreStep.{StoreStep}
 use Rattle.md_store.specs.Calling.{RefusesSince}
-use Rattle.md_store.specs.Locks.{IsSince, SubmitsSince, StepsSince}
+use Rattle.md_store.specs.Locks.{IsSince, SubmitsSince}
 
 pub since_itself : (begun run : Run) → run ≡ begun → IsSince begun run
 since_itself begun run is = record {
@@ -45,15 +43,6 @@ module _ (begun r s : Run) (since : IsSince begun r) (run : IsRun r) where
       → IfOk res (λ job. (s ≡ and_call r call) × (job ≡ length r.calls + 1)) → IfOk res (λ job. SubmitsSince begun call job)
   submits-since call (Ok job) Why accepted is = record { run = r; since = since; is_run = run; accepted = accepted; number = is.1 }
   submits-since call (Err e) Why accepted is = tt
-
-  pub steps-since : (job now : ℕ) (own : Option ℕ) (res : Result StoreStep CoreError) (Why : CoreError → Type 0)
-      → MatchResult res (λ _. step_refusal (job_at (jobs_of r) job) ≡ None) Why
-      → IfOk res (λ x. s ≡ and_event r (occurrence job now own (is_fault x.out.reply)))
-      → IfOk res (λ x. ShowsStep r s (occurrence job now own (is_fault x.out.reply)) x.out) → IfOk res (λ x. StepsSince begun job now own x.out)
-  steps-since job now own (Ok x) Why taken is shows =
-      let e : Occurrence = occurrence job now own (is_fault x.out.reply) in
-      record { run = r; since = since; is_run = run; taken = taken; shows = subst (λ (t : Run). ShowsStep r t e x.out) is shows }
-  steps-since job now own (Err e) Why taken is shows = tt
 
 -- a job that is there stands somehow
 stands-somehow : (x : Standing) → step_refusal (Some x) ≡ Some core.NoJob → {A : Type 0} → A

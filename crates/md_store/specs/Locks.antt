@@ -67,3 +67,10 @@ pub record StepsSince (begun : Run) (job now : ℕ) (own : Option ℕ) (out : St
   pub is_run : IsRun run
   pub taken : step_refusal (job_at (jobs_of run) job) ≡ None
   pub shows : ShowsStep run (and_event run (occurrence job now own (is_fault out.reply))) (occurrence job now own (is_fault out.reply)) out
+
+-- a pass holds just the effects that there were at some moment since the store was opened
+pub record HoldsSince (begun : Run) (held : List Effect) : Type 0 where
+  pub run : Run
+  pub since : IsSince begun run
+  pub is_run : IsRun run
+  pub all : held ≡ effects_of run

@@ -9,9 +9,9 @@ ghost use Rattle.md_store.specs.declared.error.ListError.TheVariants as refusal;
 ghost use Rattle.md_store.specs.Calling.{RefusesSince};
 ghost use Rattle.md_store.specs.Histories.{IsLegalFrom, read_at};
 ghost use Rattle.md_store.specs.Listing.{Lists, Finishes, ShowsLast};
-ghost use Rattle.md_store.specs.Locks.{IsSince, SubmitsSince, StepsSince};
+ghost use Rattle.md_store.specs.Locks.{IsSince, SubmitsSince};
 ghost use Rattle.md_store.specs.Refusals.{plain_refusal, IsWhy};
-ghost use Rattle.md_store.specs.Telling.{IsNews, IsTold};
+ghost use Rattle.md_store.specs.Telling.{IsNews, IsTold, TellsSince};
 
 use crate::error::{ListError, StoreError};
 use crate::locked::Locked;
@@ -50,8 +50,8 @@ impl<D: Dirs, J: Naming> Store<D, J> {
         made
     }
 
-    /// Makes the next directory call of a job, publishes its effect, and tells the pass of all that is published; where memory for that
-    /// runs out, the news is `Later`.
+    /// Makes the next directory call of a job, publishes its effect, and tells the pass of all effects so far; where memory for publishing
+    /// runs out, the news is `Later`, and the pass is told nothing.
     ///
     /// `now` and `own` are in seconds. The store's clock becomes `now` where that is greater; `own` is the moment by the clock of the job's
     /// host, and a job without one goes by the store's. Refused `NoJob`, `Answered`, or `NoMemory`: then no directory call was made, the
@@ -64,10 +64,11 @@ impl<D: Dirs, J: Naming> Store<D, J> {
         now: u64,
         own: Option<u64>,
     ) -> Result<StoreStep, CoreError>
-        ensures step { IfOk result (λ s. StepsSince J.begun job now own s.out) }
+        ensures step { IfOk result (λ s. TellsSince J.begun job now own s pass.old pass.new) }
         ensures held { IsPrefix pass.old pass.new }
         ensures news { IfOk result (λ s. IsNews s.news s.out.effect pass.old pass.new) }
-        ensures told { IfOk result (λ s. IsTold s.news s.out.answer job pass.new) }
+        ensures told { IfOk result (λ s. IsTold s.news s.out.answer job pass.old pass.new) }
+        ensures legal { IsLegalFrom J.opening pass.new }
         ensures refused { OnErr result (pass.new ≡ pass.old) }
         ensures no_job { IfErr result (λ e. e ≡ core.NoJob → (job ≡ 0) ⊎ (length J.begun.calls < job)) }
         ensures error { IfErr result (λ e. (e ≡ core.NoJob) ⊎ (e ≡ core.Answered) ⊎ (e ≡ core.NoMemory)) }
@@ -122,7 +123,7 @@ impl<D: Dirs, J: Naming> Store<D, J> {
         folder: u32,
     ) -> Result<FirstReading<J>, ListError>
         ensures held { IsPrefix pass.old pass.new }
-        ensures legal { OnOk result (IsLegalFrom J.opening pass.new) }
+        ensures legal { IsLegalFrom J.opening pass.new }
         ensures folder { OnOk result (folder < J.opening.folders) }
         ensures no_folder { IfErr result (λ e. e ≡ refusal.NoFolder → J.opening.folders ≤ folder) }
         ensures no_memory { IfErr result (λ e. e ≡ refusal.NoMemory → folder < J.opening.folders) }
@@ -141,7 +142,7 @@ impl<D: Dirs, J: Naming> Store<D, J> {
         first: &FirstReading<J>,
     ) -> Result<Vec<Entry>, ListError>
         ensures held { IsPrefix pass.old pass.new }
-        ensures legal { OnOk result (IsLegalFrom J.opening pass.new) }
+        ensures legal { IsLegalFrom J.opening pass.new }
         ensures folder { OnOk result (first.now.folder < J.opening.folders) }
         ensures no_folder { IfErr result (λ e. e ≡ refusal.NoFolder → J.opening.folders ≤ first.now.folder) }
         ensures no_memory { IfErr result (λ e. e ≡ refusal.NoMemory → first.now.folder < J.opening.folders) }

@@ -6,6 +6,7 @@ mod gated;
 mod later;
 mod scene;
 mod seen;
+mod sent;
 mod small;
 mod stampede;
 mod threads;

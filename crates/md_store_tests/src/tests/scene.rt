@@ -8,6 +8,7 @@ use super::calls::{call_and_take, call_at_once, call_twice, call_with_little_mem
 use super::gated::{Gate, Gated, look_at_gate};
 use super::later::flag_later;
 use super::seen::look_by_two;
+use super::sent::{drop_amid, send_word};
 use super::small::refuse_calls;
 use super::stampede::{Stampede, are_beginnings, run_all};
 use super::threads::{deliver_beside_flags, deliver_by_all, deliver_to_another};
@@ -36,6 +37,8 @@ pub enum Scene<'a> {
     CallsTwice,
     CallTaken,
     CallLater,
+    Word,
+    Dropped,
     Stampede(&'a Stampede),
 }
 
@@ -145,7 +148,7 @@ fn is_played<J: Naming + Send + Sync, R: Threads + Wait + Sync>(
     rt: &R,
     alloc: Global,
     store: &Store<Gated, J>,
-    passes: &mut [Pass<J>],
+    passes: &mut Vec<Pass<J>>,
     gate: &Gate,
     plan: &Plan<'_>,
 ) -> bool {
@@ -156,7 +159,7 @@ fn play_scene<J: Naming + Send + Sync, R: Threads + Wait + Sync>(
     rt: &R,
     alloc: Global,
     store: &Store<Gated, J>,
-    passes: &mut [Pass<J>],
+    passes: &mut Vec<Pass<J>>,
     gate: &Gate,
     scene: &Scene<'_>,
 ) -> bool {
@@ -173,6 +176,8 @@ fn play_scene<J: Naming + Send + Sync, R: Threads + Wait + Sync>(
         Scene::CallsTwice => call_twice(rt, alloc, store, passes),
         Scene::CallTaken => call_and_take(rt, alloc, store, passes),
         Scene::CallLater => call_with_little_memory(rt, alloc, store, passes),
+        Scene::Word => send_word(rt, alloc, store, passes),
+        Scene::Dropped => drop_amid(rt, alloc, store, passes),
         Scene::Stampede(stampede) => run_all(rt, alloc, stampede, store, passes) > 500,
     }
 }

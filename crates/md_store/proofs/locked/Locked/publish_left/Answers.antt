@@ -7,7 +7,7 @@ use Rattle.md_store.specs.Pages.{Page}
 use Rattle.md_store.specs.Locks.{Lags}
 use Rattle.md_store.specs.Publishing.{CanFollow, knower}
 use Rattle.md_store.proofs.Moves.{catches}
-use Rattle.md_store.proofs.locked.Locked.catch_up.Goals as goal
+use Rattle.md_store.proofs.locked.Locked.publish_left.Goals as goal
 
 pub invariant_of-self-2 : goal.invariant_of-self-2
 invariant_of-self-2 g c =
