@@ -1,5 +1,5 @@
 -- Beginnings of one history. Cut where a beginning ends, the history is that beginning.
-use Rattle.std.proofs.Common.{◌≡◌, ℕ, ◌<◌, ◌≤◌, List, [], ◌++◌, length, take, drop, sym, ◌∙◌, subst, arith, length-append}
+use Rattle.std.proofs.Common.{◌≡◌, ℕ, ◌≤◌, List, [], length, take, drop, sym, ◌∙◌, subst, arith, length-append}
 use Rattle.std.proofs.lemmas.List.{append-nil, take-append-le, take-append-drop, take_all}
 use mathlib.Core.List.{IsPrefix}
 
@@ -8,7 +8,7 @@ module _ {A : Type 0} where
   same_cut : (n : ℕ) (early history : List A) → IsPrefix early history → n ≤ length early → take n history ≡ take n early
   same_cut n early history begun within = subst (λ whole. take n whole ≡ take n early) begun.1 (take-append-le n early begun.0 within)
 
-  cut_at_end : (early history : List A) → IsPrefix early history → take (length early) history ≡ early
+  pub cut_at_end : (early history : List A) → IsPrefix early history → take (length early) history ≡ early
   cut_at_end early history begun = same_cut (length early) early history begun (omega arith) ∙ take_all (length early) early (omega arith)
 
   cut_begins : (n : ℕ) (early history : List A) → take n history ≡ early → IsPrefix early history

@@ -33,7 +33,8 @@ use std::alloc::{AllocError, Global};
 use std::marker::{Model, PhantomData};
 use std::sync::Wait;
 
-/// The world, and the writer of what is published. Contracts see the run and the published effects.
+/// The store inside its lock, as `Store::lock` lends it: the world, and the writer of what is published. Contracts see the run and the
+/// published effects, and say exactly what a call makes of them.
 pub struct Locked<D: Dirs, J: Naming> {
     alloc: Global,
     head: Head,
@@ -271,6 +272,26 @@ impl<D: Dirs, J: Naming> Locked<D, J> {
             out,
             news: News::Told,
         })
+    }
+
+    /// Publishes an effect that memory refused before, and tells the pass of all effects so far: nothing is left unpublished. It takes no step
+    /// of a job. Refused `NoMemory`, and then nothing has changed. It would answer so, too, where the pass held more than is published, which
+    /// never comes.
+    pub fn catch_up<R: Wait>(&mut self, rt: &R, pass: &mut Pass<J>) -> Result<(), StoreError>
+        ensures run { self.new.run ≡ self.old.run }
+        ensures all { OnOk result ((self.new.published ≡ effects_of self.new.run) × (pass.new ≡ self.new.published)) }
+        ensures held { IsPrefix pass.old pass.new }
+        ensures legal { IsLegalFrom J.opening pass.new }
+        ensures unchanged { OnErr result ((self.new ≡ self.old) × (pass.new ≡ pass.old)) }
+    {
+        self.lags();
+        pass.is_legal();
+        if !self.covers(pass) {
+            return Err(StoreError::NoMemory);
+        }
+        self.publish_left(rt)?;
+        self.tell(pass);
+        Ok(())
     }
 
     // Publishes what is left.

@@ -121,15 +121,18 @@ impl<J: Naming> Pass<J> {
         self.front = self.front.longer(front);
     }
 
-    // What is published now of a folder: its new, or the join of a first reading with its cur. It begins with all that the pass held.
+    // What is published now of a folder: its new, or the join of a first reading with its cur. It begins with all of the history that is
+    // given.
     fn read(
         &mut self,
         alloc: Global,
         folder: u32,
         first: Option<&[Entry]>,
+        held: &Front,
     ) -> Result<Vec<Entry>, ListError>
         requires order { IfSome first (λ entries. IsInOrder entries.now) }
-        ensures held { IsPrefix self.old self.new }
+        requires book { held.now.book ≡ J.book }
+        ensures held { OnOk result (IsPrefix held.now.log self.new) }
         ensures legal { IsLegalFrom J.opening self.new }
         ensures messages { OnOk result (AreMessages J.opening) }
         ensures folder { OnOk result (folder < J.opening.folders) }
@@ -143,7 +146,7 @@ impl<J: Naming> Pass<J> {
             front,
             of: _,
         } = self;
-        let (entries, seen) = replace_with(reader, (alloc, folder, first, &*front), entered)?;
+        let (entries, seen) = replace_with(reader, (alloc, folder, first, held), entered)?;
         *front = seen;
         Ok(entries)
     }
@@ -156,13 +159,15 @@ impl<J: Naming> Pass<J> {
         ensures no_folder { IfErr result (λ e. e ≡ refusal.NoFolder → J.opening.folders ≤ folder) }
         ensures no_memory { IfErr result (λ e. e ≡ refusal.NoMemory → folder < J.opening.folders) }
         ensures unchanged { OnErr result (self.new ≡ self.old) }
-        ensures entries { IfOk result (λ f. (f.folder ≡ folder) × (f.entries ≡ read_at folder New J.opening self.new)) }
+        ensures entries { IfOk result (λ f. (f.folder ≡ folder) × (f.history ≡ self.new) × (f.entries ≡ read_at folder New J.opening self.new)) }
     {
-        let entries = self.read(alloc, folder, None)?;
-        Ok(FirstReading::new(folder, entries))
+        let held = self.front.again();
+        let entries = self.read(alloc, folder, None, &held)?;
+        Ok(FirstReading::new(folder, entries, self.front.again()))
     }
 
-    /// Reads cur of the folder of a first reading, and joins the two. It takes no lock.
+    /// Reads cur of the folder of a first reading, at the end of a history that begins with that of the reading, and joins the two. It takes
+    /// no lock.
     pub(crate) fn second(
         &mut self,
         alloc: Global,
@@ -174,10 +179,13 @@ impl<J: Naming> Pass<J> {
         ensures no_folder { IfErr result (λ e. e ≡ refusal.NoFolder → J.opening.folders ≤ first.now.folder) }
         ensures no_memory { IfErr result (λ e. e ≡ refusal.NoMemory → first.now.folder < J.opening.folders) }
         ensures unchanged { OnErr result (self.new ≡ self.old) }
+        ensures told { OnOk result (IsPrefix first.now.history self.new) }
         ensures entries { IfOk result (λ v. Finishes J.opening first.now self.new v.items) }
     {
         md_core::laws::legal_histories_keep_messages_out_of_new();
-        self.read(alloc, first.folder(), Some(first.entries()))
+        first.is_read();
+        let held = self.front.longer(first.front());
+        self.read(alloc, first.folder(), Some(first.entries()), &held)
     }
 }
 

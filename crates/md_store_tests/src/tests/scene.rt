@@ -5,8 +5,11 @@ ghost use Rattle.md_view.specs.Named.{named_of};
 ghost use Rattle.md_store.specs.Locks.{IsFresh};
 
 use super::calls::{call_and_take, call_at_once, call_twice, call_with_little_memory};
+use super::caught::catch_up;
 use super::gated::{Gate, Gated, look_at_gate};
+use super::halves::list_by_two;
 use super::later::flag_later;
+use super::locked::act_locked;
 use super::seen::look_by_two;
 use super::sent::{drop_amid, send_word};
 use super::small::refuse_calls;
@@ -39,6 +42,9 @@ pub enum Scene<'a> {
     CallLater,
     Word,
     Dropped,
+    Halves,
+    CaughtUp,
+    Locked,
     Stampede(&'a Stampede),
 }
 
@@ -178,6 +184,9 @@ fn play_scene<J: Naming + Send + Sync, R: Threads + Wait + Sync>(
         Scene::CallLater => call_with_little_memory(rt, alloc, store, passes),
         Scene::Word => send_word(rt, alloc, store, passes),
         Scene::Dropped => drop_amid(rt, alloc, store, passes),
+        Scene::Halves => list_by_two(rt, alloc, store, passes),
+        Scene::CaughtUp => catch_up(rt, alloc, store, passes),
+        Scene::Locked => act_locked(rt, alloc, store, passes),
         Scene::Stampede(stampede) => run_all(rt, alloc, stampede, store, passes) > 500,
     }
 }
