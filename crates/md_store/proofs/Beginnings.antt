@@ -1,7 +1,6 @@
 -- Beginnings of one history. Cut where a beginning ends, the history is that beginning.
-use Rattle.std.proofs.Common.{◌≡◌, ℕ, ◌<◌, ◌≤◌, List, [], ◌++◌, length, take, drop, get_or, Some, slice_get, sym, ap, ◌∙◌, subst, arith, length-append}
-use Rattle.std.proofs.lemmas.List.{append-nil, take-append-le, take-append-drop, take_all, get_or_append_left}
-use Rattle.std.proofs.lemmas.Option.{slice_get_within, slice_get-get_or, get_or_from_slice_get}
+use Rattle.std.proofs.Common.{◌≡◌, ℕ, ◌≤◌, List, [], length, take, drop, sym, ◌∙◌, subst, arith, length-append}
+use Rattle.std.proofs.lemmas.List.{append-nil, take-append-le, take-append-drop, take_all}
 use mathlib.Core.List.{IsPrefix}
 
 module _ {A : Type 0} where
@@ -9,7 +8,7 @@ module _ {A : Type 0} where
   same_cut : (n : ℕ) (early history : List A) → IsPrefix early history → n ≤ length early → take n history ≡ take n early
   same_cut n early history begun within = subst (λ whole. take n whole ≡ take n early) begun.1 (take-append-le n early begun.0 within)
 
-  cut_at_end : (early history : List A) → IsPrefix early history → take (length early) history ≡ early
+  pub cut_at_end : (early history : List A) → IsPrefix early history → take (length early) history ≡ early
   cut_at_end early history begun = same_cut (length early) early history begun (omega arith) ∙ take_all (length early) early (omega arith)
 
   cut_begins : (n : ℕ) (early history : List A) → take n history ≡ early → IsPrefix early history
@@ -33,14 +32,3 @@ module _ {A : Type 0} where
 
   pub all_of_it : (seen history : List A) → IsPrefix seen history → length history ≤ length seen → seen ≡ history
   all_of_it seen history begun within = sym (cut_at_end seen history begun) ∙ take_all (length seen) history within
-
-  -- a longer history moves no entry
-  pub keeps_place : (early history : List A) (place : ℕ) (entry : A) → IsPrefix early history → slice_get early place ≡ Some entry →
-      slice_get history place ≡ Some entry
-  keeps_place early history place entry begun at =
-      let within : place < length early = slice_get_within early place entry at in
-      let same : get_or (early ++ begun.0) place entry ≡ entry = get_or_append_left early begun.0 entry place within ∙
-      get_or_from_slice_get early place entry entry at in
-      let there : slice_get (early ++ begun.0) place ≡ Some entry =
-      slice_get-get_or (early ++ begun.0) place entry (omega (arith, within, length-append early begun.0)) ∙ ap Some same in
-      subst (λ whole. slice_get whole place ≡ Some entry) begun.1 there

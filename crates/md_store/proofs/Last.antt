@@ -1,19 +1,16 @@
 -- What is listed at the end of a run.
-use Rattle.std.proofs.Common.{◌≡◌, ℕ, List, sym, ap, ◌∙◌, subst, length, arith}
-use mathlib.Core.List.{IsPrefix}
+use Rattle.std.proofs.Common.{◌≡◌, List, sym, ap, ◌∙◌, length, arith}
 use Rattle.md_dirs.specs.declared.paths.Place.TheVariants.{New, Cur}
 use Rattle.md_core.specs.declared.jobs.effect.Effect.{Effect}
 use Rattle.md_core.specs.History.{Names, names_of, names_after}
 use Rattle.md_core.specs.Interleaving.{Interleaves}
-use Rattle.md_core.specs.Trace.{effects, state}
 use Rattle.md_core.specs.Tracing.{trace_of, IsShown}
 use Rattle.md_core.specs.Mailbox.{mailbox_of}
 use Rattle.md_core.specs.Runs.{Run, dirs_of, effects_of}
-use Rattle.md_view.specs.declared.entry.Entry.{Entry}
 use Rattle.md_view.specs.Named.{Named, named_of}
 use Rattle.md_view.specs.Readings.{reading_of, join_of}
 use Rattle.md_store.specs.Histories.{listing}
-use Rattle.md_store.specs.Listing.{Lists, ShowsLast}
+use Rattle.md_store.specs.Listing.{ShowsLast}
 use Rattle.md_store.proofs.Beginnings.{all_of_it, no_longer}
 
 -- the effects of a run give the names at its end

@@ -1,18 +1,24 @@
 -- Runs that go on from the one that a store was opened with.
-use Rattle.std.proofs.Common.{◌≡◌, ℕ, zero, suc, ◌+◌, ◌<◌, ◌≤◌, ◌⊎◌, ⊎_elim, inl, inr, arith, ◌++◌, List, [], ◌∷◌, Option, Some, None, Result, Ok, Err, refl, sym, ap, ◌∙◌, subst, length, length-append, slice_get, get_or, append-nil, append_assoc, MatchResult, IfOk, IfErr}
+use Rattle.std.proofs.Common.{◌≡◌, ℕ, zero, suc, ◌+◌, ◌<◌, ◌≤◌, ◌⊎◌, ⊎_elim, inl, inr, arith, ◌++◌, List, [], ◌∷◌, Option, Some, None, Result, Ok, Err, IfSome, refl, sym, ap, ◌∙◌, subst, length, length-append, slice_get, get_or, append-nil, append_assoc, MatchResult, IfOk, IfErr, OnOk}
 use Rattle.std.proofs.lemmas.Option.{slice_get_cases}
+use Rattle.std.specs.FinMap.{get}
+use Rattle.std.specs.Option.{option_map}
+use Rattle.md_dirs.specs.State.{State}
 use Rattle.md_core.specs.declared.error.CoreError.{CoreError}
 use Rattle.md_core.specs.declared.error.CoreError.TheVariants as core
 use Rattle.md_core.specs.declared.jobs.call.Call.{Call}
+use Rattle.md_core.specs.declared.jobs.effect.Effect.{Effect}
 use Rattle.md_core.specs.declared.world.submit.SubmitRefused.{SubmitRefused}
-use Rattle.md_core.specs.Stepping.{IsRun, ShowsStep}
-use Rattle.md_core.specs.Machine.{Standing, working, answered, Occurrence, occurrence, job_at}
-use Rattle.md_core.specs.Runs.{Run, jobs_of, and_call, and_event, step_refusal, IsRefusal}
+use Rattle.md_core.specs.Stepping.{IsRun}
+use Rattle.md_core.specs.Interleaving.{Interleaves, IsWhole}
+use Rattle.md_core.specs.Mailbox.{Entry, mailbox_of}
+use Rattle.md_core.specs.Tracing.{trace_of, IsShown}
+use Rattle.md_store.specs.declared.error.StoreError.{StoreError}
+use Rattle.md_core.specs.Machine.{Standing, working, answered, Occurrence, job_at}
+use Rattle.md_core.specs.Runs.{Run, dirs_of, jobs_of, and_call, and_event, effects_of, step_refusal, IsRefusal}
 use Rattle.md_core.specs.Submitting.{submit_refusal}
-use Rattle.md_core.specs.Asked.{is_fault}
-use Rattle.md_store.specs.declared.step.StoreStep.{StoreStep}
 use Rattle.md_store.specs.Calling.{RefusesSince}
-use Rattle.md_store.specs.Locks.{IsSince, SubmitsSince, StepsSince}
+use Rattle.md_store.specs.Locks.{Both, IsSince, SubmitsSince, RefusesCall, ReadsSince, HoldsSince}
 
 pub since_itself : (begun run : Run) → run ≡ begun → IsSince begun run
 since_itself begun run is = record {
@@ -39,21 +45,39 @@ since-call begun r s call k is = record {
       ∙ ap (λ (cs : List Call). record begun { calls = cs; events = begun.events ++ k.events }) (append_assoc begun.calls k.calls (call ∷ []));
 }
 
-module _ (begun r s : Run) (since : IsSince begun r) (run : IsRun r) where
-  pub submits-since : (call : Call) (res : Result ℕ SubmitRefused) (Why : SubmitRefused → Type 0)
+module _ (begun r : Run) (since : IsSince begun r) (run : IsRun r) where
+  pub submits-since : (s : Run) (call : Call) (res : Result ℕ SubmitRefused) (Why : SubmitRefused → Type 0)
       → MatchResult res (λ _. submit_refusal r call ≡ None) Why
       → IfOk res (λ job. (s ≡ and_call r call) × (job ≡ length r.calls + 1)) → IfOk res (λ job. SubmitsSince begun call job)
-  submits-since call (Ok job) Why accepted is = record { run = r; since = since; is_run = run; accepted = accepted; number = is.1 }
-  submits-since call (Err e) Why accepted is = tt
+  submits-since s call (Ok job) Why accepted is = record { run = r; since = since; is_run = run; accepted = accepted; number = is.1 }
+  submits-since s call (Err e) Why accepted is = tt
 
-  pub steps-since : (job now : ℕ) (own : Option ℕ) (res : Result StoreStep CoreError) (Why : CoreError → Type 0)
-      → MatchResult res (λ _. step_refusal (job_at (jobs_of r) job) ≡ None) Why
-      → IfOk res (λ x. s ≡ and_event r (occurrence job now own (is_fault x.out.reply)))
-      → IfOk res (λ x. ShowsStep r s (occurrence job now own (is_fault x.out.reply)) x.out) → IfOk res (λ x. StepsSince begun job now own x.out)
-  steps-since job now own (Ok x) Why taken is shows =
-      let e : Occurrence = occurrence job now own (is_fault x.out.reply) in
-      record { run = r; since = since; is_run = run; taken = taken; shows = subst (λ (t : Run). ShowsStep r t e x.out) is shows }
-  steps-since job now own (Err e) Why taken is shows = tt
+  pub refuses-call : (call : Call) (res : Result ℕ SubmitRefused) (Accepted : ℕ → Type 0)
+      → MatchResult res Accepted (λ y. IsRefusal (submit_refusal r call) y.error) → IfErr res (λ y. RefusesCall begun call y.error)
+  refuses-call call (Ok job) Accepted why = tt
+  refuses-call call (Err y) Accepted why = record { run = r; since = since; is_run = run; refused = why }
+
+  pub holds-since : (s : Both) → s.run ≡ r → (held : List Effect) (res : Result (Unit {0}) StoreError)
+      → OnOk res ((s.published ≡ effects_of s.run) × (held ≡ s.published)) → OnOk res (HoldsSince begun held)
+  holds-since s same held (Ok u) is = record { run = r; since = since; is_run = run; all = is.1 ∙ (is.0 ∙ ap effects_of same) }
+  holds-since s same held (Err e) is = tt
+
+  pub reads-since : IsShown r → Interleaves (trace_of r) → (unique : List ℕ) (res : Result (Option (List ℕ)) StoreError)
+      → IfOk res (λ bytes. bytes ≡ option_map (λ (e : Entry). e.bytes) (get (mailbox_of (dirs_of r)) unique))
+      → IfOk res (λ bytes. ReadsSince begun unique bytes)
+  reads-since shown theorem unique (Err e) is = tt
+  reads-since shown theorem unique (Ok bytes) is = record {
+    run = r;
+    since = since;
+    is_run = run;
+    read = is;
+    whole = subst (λ o. IfSome o (IsWhole (trace_of r) (length r.events) unique)) (sym is) (by (get (mailbox_of (dirs_of r)) unique) refl);
+  }
+    where
+      by : (o : Option Entry) → get (mailbox_of (dirs_of r)) unique ≡ o
+          → IfSome (option_map (λ (e : Entry). e.bytes) o) (IsWhole (trace_of r) (length r.events) unique)
+      by None at = tt
+      by (Some e) at = theorem.whole (length r.events) unique e (ap (λ (s : State). get (mailbox_of s) unique) shown.dirs ∙ at)
 
 -- a job that is there stands somehow
 stands-somehow : (x : Standing) → step_refusal (Some x) ≡ Some core.NoJob → {A : Type 0} → A

@@ -17,7 +17,7 @@ use Rattle.md_core.specs.declared.world.submit.SubmitRefused.{SubmitRefused}
 use Rattle.md_core.specs.Machine.{Standing, working, answered}
 use Rattle.md_core.specs.Runs.{Run, new_run, IsRefusal, step_refusal}
 use Rattle.md_core.specs.Submitting.{submit_refusal, first_met, checks, uses, is_used, too_many, bad_tries, most_bytes}
-use Rattle.md_store.specs.Refusals.{plain_refusal, IsWhy}
+use Rattle.md_store.specs.Refusals.{plain_refusal, IsWhy, MakesName}
 
 abbrev Checks : Type 0
 Checks = List (Bool × CoreError)
@@ -58,26 +58,26 @@ parts r (call.Copy folder unique to fresh tries) = refl
 parts r (call.Clean folder) = refl
 
 -- where none of the first checks is met, the last ones say why
-abbrev IsHeldWhy : Checks → Type 0
-IsHeldWhy cs = (e : CoreError) → IsRefusal (first_met cs) e → IsWhy None e
+abbrev IsHeldWhy : Call → Checks → Type 0
+IsHeldWhy asked cs = (e : CoreError) → IsRefusal (first_met cs) e → IsWhy asked None e
 
-one : (full : Bool) → IsHeldWhy ((full, core.TooManyJobs) ∷ [])
-one true e h = inl h
-one false e h = inr (inr h)
+one : (asked : Call) (full : Bool) → IsHeldWhy asked ((full, core.TooManyJobs) ∷ [])
+one asked true e h = inl h
+one asked false e h = inr (inr h)
 
-two : (full used : Bool) → IsHeldWhy ((full, core.TooManyJobs) ∷ (used, core.NameUsed) ∷ [])
-two true used e h = inl h
-two false true e h = inr (inl h)
-two false false e h = inr (inr h)
+two : (asked : Call) → MakesName asked → (full used : Bool) → IsHeldWhy asked ((full, core.TooManyJobs) ∷ (used, core.NameUsed) ∷ [])
+two asked makes true used e h = inl h
+two asked makes false true e h = inr (inl (h, makes))
+two asked makes false false e h = inr (inr h)
 
-held-why : (full : Bool) (used : List ℕ → Bool) (asked : Call) → IsHeldWhy (held full used asked)
-held-why full used (call.Deliver folder unique body chunk) = two full (used unique)
-held-why full used (call.Seen folder unique flags tries) = one full
-held-why full used (call.Flag folder unique add remove tries) = one full
-held-why full used (call.Move folder unique to tries) = one full
-held-why full used (call.Expunge folder unique tries) = one full
-held-why full used (call.Copy folder unique to fresh tries) = two full (used fresh)
-held-why full used (call.Clean folder) = one full
+held-why : (full : Bool) (used : List ℕ → Bool) (asked : Call) → IsHeldWhy asked (held full used asked)
+held-why full used (call.Deliver folder unique body chunk) = two (call.Deliver folder unique body chunk) tt full (used unique)
+held-why full used (call.Seen folder unique flags tries) = one (call.Seen folder unique flags tries) full
+held-why full used (call.Flag folder unique add remove tries) = one (call.Flag folder unique add remove tries) full
+held-why full used (call.Move folder unique to tries) = one (call.Move folder unique to tries) full
+held-why full used (call.Expunge folder unique tries) = one (call.Expunge folder unique tries) full
+held-why full used (call.Copy folder unique to fresh tries) = two (call.Copy folder unique to fresh tries) tt full (used fresh)
+held-why full used (call.Clean folder) = one (call.Clean folder) full
 
 -- an empty store meets none of them
 none-held : (used : List ℕ → Bool) → ((u : List ℕ) → used u ≡ false) → (asked : Call) → first_met (held false used asked) ≡ None
@@ -97,10 +97,11 @@ none-used : (folders : ℕ) (u : List ℕ) → is_used (new_run (fresh (bare fol
 none-used folders u = ap (λ es. list_any (λ e. uses u e.0) es || false) no-entries
 
 -- what the first checks say counts, whatever the last ones say
-why : (ps cs ds : Checks) → IsHeldWhy cs → first_met ds ≡ None → (e : CoreError) → IsRefusal (first_met (ps ++ cs)) e → IsWhy (first_met (ps ++ ds)) e
-why [] cs ds is none e h = subst (λ o. IsWhy o e) (sym none) (is e h)
-why ((true, x) ∷ ps) cs ds is none e h = h
-why ((false, x) ∷ ps) cs ds is none e h = why ps cs ds is none e h
+why : (asked : Call) (ps cs ds : Checks) → IsHeldWhy asked cs → first_met ds ≡ None → (e : CoreError) → IsRefusal (first_met (ps ++ cs)) e
+    → IsWhy asked (first_met (ps ++ ds)) e
+why asked [] cs ds is none e h = subst (λ o. IsWhy asked o e) (sym none) (is e h)
+why asked ((true, x) ∷ ps) cs ds is none e h = h
+why asked ((false, x) ∷ ps) cs ds is none e h = why asked ps cs ds is none e h
 
 accepted : (ps cs ds : Checks) → first_met ds ≡ None → first_met (ps ++ cs) ≡ None → first_met (ps ++ ds) ≡ None
 accepted [] cs ds none h = none
@@ -124,10 +125,10 @@ module _ (r : Run) (folders : ℕ) (same : r.image.folders ≡ folders) (asked :
   none = none-held (is_used empty) (none-used folders) asked
 
   pub submits : (res : Result ℕ SubmitRefused) → MatchResult res (λ _. submit_refusal r asked ≡ None) (λ y. IsRefusal (submit_refusal r asked) y.error)
-      → MatchResult res (λ _. plain_refusal folders asked ≡ None) (λ y. IsWhy (plain_refusal folders asked) y.error)
+      → MatchResult res (λ _. plain_refusal folders asked ≡ None) (λ y. IsWhy asked (plain_refusal folders asked) y.error)
   submits (Ok n) h = is-plain ∙ accepted (plain folders asked) (held_of r) (held_of empty) none (sym is-here ∙ h)
-  submits (Err y) h = subst (λ o. IsWhy o y.error) (sym is-plain)
-      (why (plain folders asked) (held_of r) (held_of empty) (held-why (too_many r) (is_used r) asked) none y.error
+  submits (Err y) h = subst (λ o. IsWhy asked o y.error) (sym is-plain)
+      (why asked (plain folders asked) (held_of r) (held_of empty) (held-why (too_many r) (is_used r) asked) none y.error
       (subst (λ o. IsRefusal o y.error) is-here h))
 
 -- why a step is refused

@@ -1,17 +1,21 @@
 -- What a pass holds after a step.
-use Rattle.std.proofs.Common.{ℕ, zero, suc, ◌≡◌, Bool, true, false, cond, List, [], ◌∷◌, Option, Some, None, filter, slice_get, refl, sym, ap, ◌∙◌, arith}
+use Rattle.std.proofs.Common.{ℕ, zero, suc, ◌≡◌, Bool, true, false, cond, List, [], ◌∷◌, Option, Some, None, filter, slice_get, refl, sym, ap, subst, ◌∙◌, ◌≤◌, ◌⊎◌, ⊎_elim, length, Result, Ok, Err, MatchResult, IfOk, arith}
 use Rattle.std.specs.Prelude.{◌==◌}
 use Rattle.std.proofs.lemmas.Bool.Decides.{nat_tests}
 use mathlib.Core.List.{IsPrefix}
 use Rattle.md_core.specs.declared.jobs.answer.Answer.{Answer}
 use Rattle.md_core.specs.declared.jobs.effect.Effect.{Effect}
-use Rattle.md_core.specs.Runs.{Run, effects_of}
-use Rattle.md_core.specs.Stepping.{Succeeds}
+use Rattle.md_core.specs.Asked.{is_fault}
+use Rattle.md_core.specs.Machine.{Occurrence, occurrence, job_at}
+use Rattle.md_core.specs.Runs.{Run, jobs_of, and_event, effects_of, step_refusal}
+use Rattle.md_core.specs.Stepping.{IsRun, ShowsStep, Succeeds}
+use Rattle.md_core.specs.declared.error.CoreError.{CoreError}
+use Rattle.md_store.specs.declared.step.StoreStep.{StoreStep}
 use Rattle.md_store.specs.declared.news.News.{News}
 use Rattle.md_store.specs.declared.news.News.TheVariants.{NoEffect, Told, Later}
-use Rattle.md_store.specs.Locks.{Both}
-use Rattle.md_store.specs.Telling.{Tells, Stands, IsTold}
-use Rattle.md_store.proofs.Beginnings.{keeps_place}
+use Rattle.md_store.specs.Locks.{Both, IsSince}
+use Rattle.md_store.specs.Telling.{Tells, Stands, HoldsAfter, TellsSince}
+use Rattle.md_store.proofs.Beginnings.{all_of_it, no_longer}
 
 -- the first that passes
 first_of : (p : Effect → Bool) (xs : List Effect) (e : Effect) (rest : List Effect) → filter p xs ≡ e ∷ rest →
@@ -27,17 +31,38 @@ first_of p (x ∷ xs) e rest is = by (λ h. first_of p xs e rest h) (p x) refl i
 same_number : (a b : ℕ) → (a == b) ≡ true → a ≡ b
 same_number a b h = grind (arith, nat_tests)
 
--- the effect of a successful answer stands in all that begins with the effects
-pub stands : (r : Run) (job : ℕ) (a : Option Answer) (published now : List Effect) → Succeeds r job a → published ≡ effects_of r →
-    IsPrefix published now → Stands a job now
-stands r job None published now s all pre = tt
-stands r job (Some a) published now s all pre = λ success.
+-- the effect of a successful answer stands in the effects
+pub stands : (r : Run) (job : ℕ) (a : Option Answer) (now : List Effect) → Succeeds r job a → now ≡ effects_of r → Stands a job now
+stands r job None now s all = tt
+stands r job (Some a) now s all = λ success.
     let e = s success in
     let at = first_of (λ x. x.job == job) (effects_of r) e.0 [] e.1 in
-    (e.0, at.0, keeps_place published now at.0 e.0 pre (ap (λ (l : List Effect). slice_get l at.0) all ∙ at.1), same_number e.0.job job at.2, e.2)
+    (e.0, at.0, ap (λ (l : List Effect). slice_get l at.0) all ∙ at.1, same_number e.0.job job at.2, e.2)
 
-pub told_by : (news : News) (effect : Bool) (s : Both) (job : ℕ) (a : Option Answer) (before now : List Effect) → Tells news effect s job before now →
-    Succeeds s.run job a → IsTold news a job now
-told_by NoEffect effect s job a before now t success = stands s.run job a s.published now success t.1 t.2
-told_by Told effect s job a before now t success = ((s.published, t.2, t.3), stands s.run job a s.published now success t.1 t.3)
-told_by Later effect s job a before now t success = tt
+-- what holds no more than all, and then begins with all, where it is one of both, is all
+pub exactly : (before all now : List Effect) → IsPrefix before all → IsPrefix all now → (now ≡ before) ⊎ (now ≡ all) → now ≡ all
+exactly before all now within told one = ⊎_elim
+    (λ (same : now ≡ before). same ∙ all_of_it before all within (subst (λ (l : List Effect). length all ≤ length l) same (no_longer all now told)))
+    (λ (same : now ≡ all). same) one
+
+-- what a step told, as the pass holds it
+holds : (news : News) (effect : Bool) (s : Both) (job : ℕ) (before now : List Effect) → Tells news effect s job before now →
+    HoldsAfter news (effects_of s.run) before now
+holds NoEffect effect s job before now t = t.2 ∙ t.1
+holds Told effect s job before now t = t.3 ∙ t.1
+holds Later effect s job before now t = t.3
+
+module _ (begun r : Run) (s : Both) (since : IsSince begun r) (run : IsRun r) where
+  pub tells-since : (job now : ℕ) (own : Option ℕ) (res : Result StoreStep CoreError) (Why : CoreError → Type 0)
+      → MatchResult res (λ _. step_refusal (job_at (jobs_of r) job) ≡ None) Why
+      → IfOk res (λ x. s.run ≡ and_event r (occurrence job now own (is_fault x.out.reply)))
+      → IfOk res (λ x. ShowsStep r s.run (occurrence job now own (is_fault x.out.reply)) x.out)
+      → (before held : List Effect) → IfOk res (λ x. Tells x.news x.out.effect s job before held)
+      → IfOk res (λ x. TellsSince begun job now own x before held)
+  tells-since job now own (Ok x) Why taken is shows before held told =
+      let e : Occurrence = occurrence job now own (is_fault x.out.reply) in
+      record {
+        step = record { run = r; since = since; is_run = run; taken = taken; shows = subst (λ (t : Run). ShowsStep r t e x.out) is shows };
+        told = subst (λ (t : Run). HoldsAfter x.news (effects_of t) before held) is (holds x.news x.out.effect s job before held told);
+      }
+  tells-since job now own (Err e) Why taken is shows before held told = tt

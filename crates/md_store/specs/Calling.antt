@@ -43,7 +43,8 @@ pub record Answers (begun : Run) (folders : ℕ) (call : Call) (now : ℕ) (own 
 -- What each error of a call leaves: a refused call comes back, and the pass holds what it held; a job without memory had no answer; an
 -- unanswered one had its answer, or was not there, where a step of it was refused; an untold one gave this answer.
 abbrev pub Leaves : Run → ℕ → Call → ℕ → Option ℕ → CallError → List Effect → List Effect → Type 0
-Leaves begun folders call now own (Refused r) before after = (r.call ≡ call) × IsWhy (plain_refusal folders call) r.error × (after ≡ before)
+Leaves begun folders call now own (Refused r) before after =
+    (r.call ≡ call) × IsWhy call (plain_refusal folders call) r.error × (after ≡ before)
 Leaves begun folders call now own (NoMemory job) before after = Accepts begun folders call job × RefusesSince begun job core.NoMemory
 Leaves begun folders call now own (Unanswered job) before after =
     Accepts begun folders call job × (RefusesSince begun job core.Answered ⊎ RefusesSince begun job core.NoJob)

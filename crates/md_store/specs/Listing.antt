@@ -14,10 +14,11 @@ use Rattle.md_store.specs.Histories.{named_after, IsLegalFrom, read_at, listing}
 use Rattle.md_store.specs.Pages.{Log, Page}
 use Rattle.md_store.specs.declared.rule.View.{View}
 
--- a first reading: its folder, and the entries of new
+-- a first reading: its folder, the entries of new, and the history at whose end they were read
 pub record Reading : Type 0 where
   pub folder : ℕ
   pub entries : List Entry
+  pub history : List Effect
 
 -- What names show of a folder: its new, or, where new was read before, the join of that reading with its cur.
 abbrev pub seen_in : Option (List Entry) → ℕ → Names → List Entry
@@ -42,15 +43,16 @@ pub record Looks (v : View) (held : List Effect) (folder : ℕ) (new : Option (L
   pub folder_is_there : folder < v.opening.folders
   pub entries_are : entries ≡ seen_in new folder (named_after v.opening front.log).names
 
--- The listing law, for a listing whose new is that of a beginning of the history that is held, and whose cur is that of its end.
-abbrev pub IsGoodFrom : ℕ → Named → List Effect → List Effect → Type 0
-IsGoodFrom folder opening h1 now = IsGoodListing (names_after_first opening.names now) folder (length h1) (length now)
+-- The listing law, for entries whose new is that of a beginning of the history that is held, and whose cur is that of its end.
+abbrev pub IsGoodFrom : ℕ → Named → List Effect → List Effect → List Entry → Type 0
+IsGoodFrom folder opening h1 now entries = IsGoodListing (names_after_first opening.names now) folder (length h1) (length now) entries
 
--- What a second reading gives: the join of the first one with cur at the end of what is held. Where the first is that of a history which
--- begins what is held, the join is a good listing between the two.
+-- What a second reading gives: the join of the first one, which is new at the end of its history, with cur at the end of what is held. That
+-- is a good listing between the two.
 pub record Finishes (opening : Named) (first : Reading) (now : List Effect) (entries : List Entry) : Type 0 where
+  pub new_is : first.entries ≡ read_at first.folder New opening first.history
   pub entries_are : entries ≡ join_of first.entries (read_at first.folder Cur opening now)
-  pub law : (h1 : List Effect) → IsPrefix h1 now → IsGoodFrom first.folder opening h1 now
+  pub law : IsGoodFrom first.folder opening first.history now entries
 
 -- A listing from a history that begins with what was held to one that is held now. Both are legal, and the listing law holds between them.
 pub record Lists (folder : ℕ) (opening : Named) (before now : List Effect) (entries : List Entry) : Type 0 where
@@ -60,7 +62,7 @@ pub record Lists (folder : ℕ) (opening : Named) (before now : List Effect) (en
   pub first_legal : IsLegalFrom opening h1
   pub legal : IsLegalFrom opening now
   pub entries_are : entries ≡ listing folder opening h1 now
-  pub law : IsGoodFrom folder opening h1 now
+  pub law : IsGoodFrom folder opening h1 now entries
 
 -- Listings with a pass that held this history are those of the directories at the end of the run.
 pub record ShowsLast (opening : Named) (held : List Effect) (r : Run) : Type 0 where

@@ -1,12 +1,18 @@
 -- What is kept inside the lock.
-use Rattle.std.specs.Prelude.{◌≡◌, ◌≤◌, ◌+◌, ◌⊎◌, ℕ, length, List, [], ◌∷◌, ◌++◌, Option, None}
+use Rattle.std.specs.Prelude.{◌≡◌, ◌≤◌, ◌+◌, ◌⊎◌, ℕ, length, List, [], ◌++◌, Option, None, IfSome}
+use Rattle.std.specs.Option.{option_map}
+use Rattle.std.specs.FinMap as finmap
 use Rattle.logbook.specs.Pages.{Book}
 use Rattle.md_core.specs.declared.jobs.call.Call.{Call}
 use Rattle.md_core.specs.declared.jobs.effect.Effect.{Effect}
 use Rattle.md_core.specs.declared.jobs.step.StepOut.{StepOut}
 use Rattle.md_core.specs.Stepping.{IsRun, ShowsStep}
 use Rattle.md_core.specs.Machine.{Occurrence, occurrence, job_at}
-use Rattle.md_core.specs.Runs.{Run, jobs_of, effects_of, and_event, step_refusal}
+use Rattle.md_core.specs.Mailbox.{Entry, mailbox_of}
+use Rattle.md_core.specs.Interleaving.{IsWhole}
+use Rattle.md_core.specs.Tracing.{trace_of}
+use Rattle.md_core.specs.declared.error.CoreError.{CoreError}
+use Rattle.md_core.specs.Runs.{Run, dirs_of, jobs_of, effects_of, and_event, step_refusal, IsRefusal}
 use Rattle.md_core.specs.Submitting.{submit_refusal}
 use Rattle.md_core.specs.Asked.{is_fault}
 use Rattle.md_view.specs.Named.{Named, named_of}
@@ -60,6 +66,22 @@ pub record SubmitsSince (begun : Run) (call : Call) (job : ℕ) : Type 0 where
   pub accepted : submit_refusal run call ≡ None
   pub number : job ≡ length run.calls + 1
 
+-- the call was refused so at some moment since the store was opened
+pub record RefusesCall (begun : Run) (call : Call) (e : CoreError) : Type 0 where
+  pub run : Run
+  pub since : IsSince begun run
+  pub is_run : IsRun run
+  pub refused : IsRefusal (submit_refusal run call) e
+
+-- The mailbox had a message of this unique name with these bytes, or none of that name, at some moment since the store was opened. The
+-- bytes are whole.
+pub record ReadsSince (begun : Run) (unique : List ℕ) (bytes : Option (List ℕ)) : Type 0 where
+  pub run : Run
+  pub since : IsSince begun run
+  pub is_run : IsRun run
+  pub read : bytes ≡ option_map (λ (e : Entry). e.bytes) (finmap.get (mailbox_of (dirs_of run)) unique)
+  pub whole : IfSome bytes (λ b. IsWhole (trace_of run) (length run.events) unique b)
+
 -- a step of this job was taken at some moment since the store was opened, and showed this
 pub record StepsSince (begun : Run) (job now : ℕ) (own : Option ℕ) (out : StepOut) : Type 0 where
   pub run : Run
@@ -67,3 +89,10 @@ pub record StepsSince (begun : Run) (job now : ℕ) (own : Option ℕ) (out : St
   pub is_run : IsRun run
   pub taken : step_refusal (job_at (jobs_of run) job) ≡ None
   pub shows : ShowsStep run (and_event run (occurrence job now own (is_fault out.reply))) (occurrence job now own (is_fault out.reply)) out
+
+-- a pass holds just the effects that there were at some moment since the store was opened
+pub record HoldsSince (begun : Run) (held : List Effect) : Type 0 where
+  pub run : Run
+  pub since : IsSince begun run
+  pub is_run : IsRun run
+  pub all : held ≡ effects_of run

@@ -11,7 +11,7 @@ use Rattle.md_core.specs.declared.jobs.effect.Effect.{Effect}
 use Rattle.md_core.specs.Runs.{Run, new_run}
 use Rattle.md_view.specs.Named.{Named, AreMessages, after_change}
 use Rattle.md_store.specs.Histories.{named_after, IsLegalFrom}
-use Rattle.md_store.specs.Pages.{Log, Page, Note}
+use Rattle.md_store.specs.Pages.{Page, Note}
 use Rattle.md_store.specs.declared.rule.View.{View}
 
 -- the book of no store

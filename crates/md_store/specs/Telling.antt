@@ -4,23 +4,26 @@ use mathlib.Core.List.{IsPrefix}
 use Rattle.md_core.specs.declared.jobs.answer.Answer.{Answer}
 use Rattle.md_core.specs.declared.jobs.effect.Effect.{Effect}
 use Rattle.md_core.specs.Interleaving.{is_success}
-use Rattle.md_core.specs.Runs.{effects_of}
-use Rattle.md_store.specs.Locks.{Both}
+use Rattle.md_core.specs.Asked.{is_fault}
+use Rattle.md_core.specs.Machine.{occurrence}
+use Rattle.md_core.specs.Runs.{Run, and_event, effects_of}
+use Rattle.md_store.specs.Locks.{Both, StepsSince}
+use Rattle.md_store.specs.declared.step.StoreStep.{StoreStep}
 use Rattle.md_store.specs.declared.news.News.{News}
 use Rattle.md_store.specs.declared.news.News.TheVariants.{NoEffect, Told, Later}
 
--- the history ends with an effect of this job
-abbrev pub EndsWith : List Effect → ℕ → Type 0
-EndsWith history job = (base : List Effect) × (e : Effect) × (history ≡ base ++ e ∷ []) × (e.job ≡ job)
+-- the history ends with an effect of this job, behind all that was held before
+abbrev pub EndsAfter : List Effect → ℕ → List Effect → Type 0
+EndsAfter before job history = (base : List Effect) × (e : Effect) × (history ≡ base ++ e ∷ []) × (e.job ≡ job) × IsPrefix before base
 
 -- What a step tells, by its news: of whether it was an effect, of the store after it, of the job, and of what the pass held before and
--- holds now.
+-- holds now. The pass then holds all effects and no more, or what it held.
 abbrev pub Tells : News → Bool → Both → ℕ → List Effect → List Effect → Type 0
-Tells NoEffect effect s job before now = (effect ≡ false) × (s.published ≡ effects_of s.run) × IsPrefix s.published now
+Tells NoEffect effect s job before now = (effect ≡ false) × (s.published ≡ effects_of s.run) × (now ≡ s.published)
 Tells Told effect s job before now =
-    (effect ≡ true) × (s.published ≡ effects_of s.run) × EndsWith s.published job × IsPrefix s.published now
+    (effect ≡ true) × (s.published ≡ effects_of s.run) × EndsAfter before job s.published × (now ≡ s.published)
 Tells Later effect s job before now =
-    (effect ≡ true) × EndsWith (effects_of s.run) job × ((e : Effect) × (effects_of s.run ≡ s.published ++ e ∷ [])) × (now ≡ before)
+    (effect ≡ true) × EndsAfter before job (effects_of s.run) × ((e : Effect) × (effects_of s.run ≡ s.published ++ e ∷ [])) × (now ≡ before)
 
 -- where an answer of a job says that its call took effect, that effect is in the history
 abbrev pub Stands : Option Answer → ℕ → List Effect → Type 0
@@ -33,8 +36,21 @@ IsNews NoEffect effect before now = effect ≡ false
 IsNews Told effect before now = effect ≡ true
 IsNews Later effect before now = (effect ≡ true) × (now ≡ before)
 
--- What a pass holds after a step, by its news: a history that ends with the effect that was told, and the effect of an answer of success.
-abbrev pub IsTold : News → Option Answer → ℕ → List Effect → Type 0
-IsTold Told a job now = ((h : List Effect) × EndsWith h job × IsPrefix h now) × Stands a job now
-IsTold NoEffect a job now = Stands a job now
-IsTold Later a job now = Unit {0}
+-- What a pass holds after a step, by its news: a history that ends with the effect that was told, which is new to it, and the effect of an
+-- answer of success.
+abbrev pub IsTold : News → Option Answer → ℕ → List Effect → List Effect → Type 0
+IsTold Told a job before now = EndsAfter before job now × Stands a job now
+IsTold NoEffect a job before now = Stands a job now
+IsTold Later a job before now = Unit {0}
+
+-- what a pass holds after a step, by its news: all effects so far, or what it held
+abbrev pub HoldsAfter : News → List Effect → List Effect → List Effect → Type 0
+HoldsAfter NoEffect all before now = now ≡ all
+HoldsAfter Told all before now = now ≡ all
+HoldsAfter Later all before now = now ≡ before
+
+-- A step of this job was taken at some moment since the store was opened, and showed this. By its news the pass then holds the effects that
+-- there were behind it, or what it held.
+pub record TellsSince (begun : Run) (job now : ℕ) (own : Option ℕ) (s : StoreStep) (before held : List Effect) : Type 0 where
+  pub step : StepsSince begun job now own s.out
+  pub told : HoldsAfter s.news (effects_of (and_event step.run (occurrence job now own (is_fault s.out.reply)))) before held

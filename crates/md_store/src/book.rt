@@ -128,7 +128,7 @@ impl Front {
     /// The longer of two fronts of one book. Both begin it.
     pub fn longer(&self, other: &Front) -> Front
         requires { other.now.book ≡ self.now.book }
-        ensures book { result.book ≡ self.now.book }
+        ensures one { (result ≡ self.now) ⊎ (result ≡ other.now) }
         ensures this { IsPrefix self.now.log result.log }
         ensures that { IsPrefix other.now.log result.log }
     {

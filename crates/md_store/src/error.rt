@@ -40,7 +40,7 @@ impl<T: Drop> From<AllocFailed<T>> for ListError {
     }
 }
 
-/// Why no message was read.
+/// Why no message was read, or why an effect is still not published.
 #[derive(Clone, Copy, Debug, PartialEq, Eq, Error)]
 pub enum StoreError {
     /// A growth was refused.

@@ -12,6 +12,7 @@ ghost use Rattle.md_core.specs.Interleaving.{Interleaves};
 ghost use Rattle.md_core.specs.Tracing.{trace_of, GrowsByStep};
 ghost use Rattle.md_core.specs.Stepping.{IsRun, ShowsStep, Succeeds};
 ghost use Rattle.md_view.specs.Named.{named_of};
+ghost use Rattle.md_store.specs.Histories.{IsLegalFrom};
 ghost use Rattle.md_store.specs.Rules.{head_of};
 ghost use Rattle.md_store.specs.Publishing.{knower};
 ghost use Rattle.md_store.specs.Locks.{IsSince, Lags};
@@ -32,7 +33,8 @@ use std::alloc::{AllocError, Global};
 use std::marker::{Model, PhantomData};
 use std::sync::Wait;
 
-/// The world, and the writer of what is published. Contracts see the run and the published effects.
+/// The store inside its lock, as `Store::lock` lends it: the world, and the writer of what is published. Contracts see the run and the
+/// published effects, and say exactly what a call makes of them.
 pub struct Locked<D: Dirs, J: Naming> {
     alloc: Global,
     head: Head,
@@ -133,16 +135,26 @@ impl<D: Dirs, J: Naming> Locked<D, J> {
         if pass.len() < count || front.len() < count {
             return false;
         }
-        pass.begins(front)
+        pass.is_within(front)
     }
 
-    // Tells a pass of all that is published.
-    fn tell(&self, pass: &mut Pass<J>)
-        ensures held { IsPrefix pass.old pass.new }
-        ensures told { IsPrefix self.now.published pass.new }
+    // Whether a pass holds no more than is published. Each does, since it was told of nothing else.
+    fn covers(&self, pass: &Pass<J>) -> bool
+        ensures { IsTrue result → IsPrefix pass.now self.now.published }
     {
         // A field is looked at, so that what the type keeps is known here.
         let _kept = &self.front;
+        pass.is_within(self.writer.published().front())
+    }
+
+    // Tells a pass of all effects, where all are published, and it holds no others.
+    fn tell(&self, pass: &mut Pass<J>)
+        requires all { self.now.published ≡ effects_of self.now.run }
+        requires covers { IsPrefix pass.old self.now.published }
+        ensures told { pass.new ≡ self.now.published }
+        ensures legal { IsLegalFrom J.opening pass.new }
+    {
+        self.world.interleaves();
         pass.learn(self.writer.published().front());
     }
 
@@ -203,10 +215,11 @@ impl<D: Dirs, J: Naming> Locked<D, J> {
         Ok(Some(Bytes::copied(alloc, bytes)?))
     }
 
-    /// Makes the next directory call of a job, publishes its effect, and tells the pass of all that is published.
+    /// Makes the next directory call of a job, publishes its effect, and tells the pass of all effects so far.
     ///
     /// It is refused as `World::step` is. Behind the checks an effect that is left from before is published first: where memory for that is
-    /// refused, it answers `NoMemory` and no directory call is made.
+    /// refused, it answers `NoMemory` and no directory call is made. It would answer so, too, where the pass held more than is published,
+    /// which never comes.
     pub fn step<R: Wait>(
         &mut self,
         rt: &R,
@@ -220,6 +233,7 @@ impl<D: Dirs, J: Naming> Locked<D, J> {
             (IsRefusal (step_refusal (job_at (jobs_of self.old.run) job))) }
         ensures same_run { OnErr result (self.new.run ≡ self.old.run) }
         ensures same_pass { OnErr result (pass.new ≡ pass.old) }
+        ensures legal { IsLegalFrom J.opening pass.new }
         // An effect that was left from before is published, or is still left.
         ensures left { OnErr result ((self.new.published ≡ self.old.published) ⊎ (self.new.published ≡ effects_of self.old.run)) }
         // Where the job isn't there, or has its answer, nothing is published either.
@@ -231,10 +245,14 @@ impl<D: Dirs, J: Naming> Locked<D, J> {
         ensures nearer { OnOk result (steps_left self.new.run job < steps_left self.old.run job) }
         ensures others { OnOk result ((n : _) → n ≢ job → job_at (jobs_of self.new.run) n ≡ job_at (jobs_of self.old.run) n) }
         ensures news { IfOk result (λ s. Tells s.news s.out.effect self.new job pass.old pass.new) }
-        ensures told { IfOk result (λ s. IsTold s.news s.out.answer job pass.new) }
+        ensures told { IfOk result (λ s. IsTold s.news s.out.answer job pass.old pass.new) }
     {
+        pass.is_legal();
         self.check(job)?;
-        self.catch_up(rt)?;
+        self.publish_left(rt)?;
+        if !self.covers(pass) {
+            return Err(CoreError::NoMemory);
+        }
         let out = self.advance(job, now, own)?;
         if !out.effect {
             self.tell(pass);
@@ -243,7 +261,7 @@ impl<D: Dirs, J: Naming> Locked<D, J> {
                 news: News::NoEffect,
             });
         }
-        if self.catch_up(rt).is_err() {
+        if self.publish_left(rt).is_err() {
             return Ok(StoreStep {
                 out,
                 news: News::Later,
@@ -256,8 +274,28 @@ impl<D: Dirs, J: Naming> Locked<D, J> {
         })
     }
 
+    /// Publishes an effect that memory refused before, and tells the pass of all effects so far: nothing is left unpublished. It takes no step
+    /// of a job. Refused `NoMemory`, and then nothing has changed. It would answer so, too, where the pass held more than is published, which
+    /// never comes.
+    pub fn catch_up<R: Wait>(&mut self, rt: &R, pass: &mut Pass<J>) -> Result<(), StoreError>
+        ensures run { self.new.run ≡ self.old.run }
+        ensures all { OnOk result ((self.new.published ≡ effects_of self.new.run) × (pass.new ≡ self.new.published)) }
+        ensures held { IsPrefix pass.old pass.new }
+        ensures legal { IsLegalFrom J.opening pass.new }
+        ensures unchanged { OnErr result ((self.new ≡ self.old) × (pass.new ≡ pass.old)) }
+    {
+        self.lags();
+        pass.is_legal();
+        if !self.covers(pass) {
+            return Err(StoreError::NoMemory);
+        }
+        self.publish_left(rt)?;
+        self.tell(pass);
+        Ok(())
+    }
+
     // Publishes what is left.
-    fn catch_up<R: Wait>(&mut self, rt: &R) -> Result<(), AllocError>
+    fn publish_left<R: Wait>(&mut self, rt: &R) -> Result<(), AllocError>
         ensures run { self.new.run ≡ self.old.run }
         ensures published { MatchResult result (λ _. self.new.published ≡ effects_of self.old.run) (λ _. self.new.published ≡ self.old.published) }
     {

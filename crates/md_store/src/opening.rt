@@ -164,6 +164,7 @@ fn writer_of<D: Dirs, R: Wait>(
 fn seat<J: Naming>(writer: &mut StoreWriter, front: &Front) -> Result<Pass<J>, AllocError>
     requires seat { view writer.old.desk.place ≡ knower J.opening writer.old.desk.shown.value }
     requires named { (writer.old.desk.shown.value.front.book ≡ J.book) × (front.now.book ≡ J.book) }
+    requires front { front.now.log ≡ [] }
     ensures kept { (writer.new.desk.shown ≡ writer.old.desk.shown) × (view writer.new.desk.place ≡ view writer.old.desk.place) }
     ensures log { (writer.new.log ≡ writer.old.log) × (writer.new.behind ≡ writer.old.behind) }
     ensures pass { IfOk result (λ p. p ≡ front.now.log) }

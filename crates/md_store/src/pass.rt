@@ -1,5 +1,5 @@
 // Passes, and listings that take no lock.
-ghost use Rattle.std.specs.Prelude.{◌≡◌, ◌<◌, ◌≤◌, true, length, IsTrue, IfOk, IfErr, IfSome, OnOk, OnErr, option_map};
+ghost use Rattle.std.specs.Prelude.{◌≡◌, ◌<◌, ◌≤◌, ◌⊎◌, true, false, length, IsTrue, IfOk, IfErr, IfSome, OnOk, OnErr, option_map};
 ghost use mathlib.Core.List.{IsPrefix};
 ghost use Rattle.left_right.specs.Sides.{view};
 ghost use Rattle.md_dirs.specs.declared.paths.Place.TheVariants.{New};
@@ -22,7 +22,11 @@ use md_view::{Entry, Names, join};
 use std::alloc::{AllocError, Global};
 use std::marker::{Model, PhantomData};
 
-/// A caller's token: a reader, and the history that the caller has seen or was told of. Contracts see that history.
+/// A caller's token: a reader, and the history that the caller has seen or was told of. Contracts see that history. It is legal, from the
+/// names that the store was opened with.
+///
+/// A pass of another store can't be given to a call: a naming type names one store, so that pass has another type. Nor can one that was
+/// dropped: it was moved away. What it held is lost, unless another pass has learned it, and nobody gets its seat.
 #[derive(Drop)]
 pub struct Pass<J: Naming> {
     reader: StoreReader,
@@ -36,6 +40,7 @@ impl<J: Naming> Model for Pass<J> {
     ghost use Rattle.md_name.specs.contracts.flags.Flags as flags;
     ghost use Rattle.left_right.specs.Sides.{view as seat_view};
     ghost use Rattle.md_core.specs.declared.jobs.effect.Effect.{Effect};
+    ghost use Rattle.md_store.specs.Histories.{IsLegalFrom};
     ghost use Rattle.md_store.specs.Publishing.{IsOf};
 
     ghost Value = { List Effect };
@@ -44,12 +49,13 @@ impl<J: Naming> Model for Pass<J> {
 
     ghost view = { λ p. p.front.log };
 
-    ghost invariant = { λ p. IsOf J.opening J.book (seat_view p.reader.place) × (p.front.book ≡ J.book) };
+    ghost invariant = { λ p. IsOf J.opening J.book (seat_view p.reader.place) × (p.front.book ≡ J.book) × IsLegalFrom J.opening p.front.log };
 }
 
 impl<J: Naming> Pass<J> {
     pub(crate) fn new(reader: StoreReader, front: Front) -> Pass<J>
-        requires { IsOf J.opening J.book (view reader.place) × (front.book ≡ J.book) }
+        requires named { IsOf J.opening J.book (view reader.place) × (front.book ≡ J.book) }
+        requires legal { IsLegalFrom J.opening front.log }
         ensures { result ≡ front.log }
     {
         Pass {
@@ -66,33 +72,68 @@ impl<J: Naming> Pass<J> {
         self.front.len()
     }
 
-    /// Whether it holds no more than the other. Then the other begins with all that it holds.
-    pub(crate) fn begins(&self, front: &Front) -> bool
+    /// What the type keeps of any pass: its history is legal, from the names that the store was opened with.
+    pub fn is_legal(&self)
+        ensures { IsLegalFrom J.opening self.now }
+    {
+        // A field is looked at, so that what the type keeps is known here.
+        let _kept = &self.front;
+    }
+
+    /// Whether it holds no more than another pass. Then the other begins with all that it holds; otherwise it begins with all that the other
+    /// holds.
+    pub fn begins(&self, other: &Pass<J>) -> bool
+        ensures yes { IsTrue result → IsPrefix self.now other.now }
+        ensures no { (result ≡ false) → IsPrefix other.now self.now }
+    {
+        self.front.begins(&other.front)
+    }
+
+    /// Tells the pass of all that another holds, as a caller that was sent word by another may do: the next listing then begins with that.
+    /// It can't be refused.
+    pub fn learn_from(&mut self, other: &Pass<J>)
+        ensures held { IsPrefix self.old self.new }
+        ensures told { IsPrefix other.now self.new }
+        ensures one { (self.new ≡ self.old) ⊎ (self.new ≡ other.now) }
+        ensures legal { IsLegalFrom J.opening self.new }
+    {
+        other.is_legal();
+        self.learn(&other.front);
+    }
+
+    /// Whether it holds no more than a history. Then that begins with all that it holds.
+    pub(crate) fn is_within(&self, front: &Front) -> bool
         requires { front.now.book ≡ J.book }
         ensures { IsTrue result → IsPrefix self.now front.now.log }
     {
         self.front.begins(front)
     }
 
-    /// Tells the pass of a history.
+    /// Tells the pass of a legal history.
     pub(crate) fn learn(&mut self, front: &Front)
-        requires { front.now.book ≡ J.book }
+        requires book { front.now.book ≡ J.book }
+        requires legal { IsLegalFrom J.opening front.now.log }
         ensures held { IsPrefix self.old self.new }
         ensures told { IsPrefix front.now.log self.new }
+        ensures one { (self.new ≡ self.old) ⊎ (self.new ≡ front.now.log) }
+        ensures legal { IsLegalFrom J.opening self.new }
     {
         self.front = self.front.longer(front);
     }
 
-    // What is published now of a folder: its new, or the join of a first reading with its cur. It begins with all that the pass held.
+    // What is published now of a folder: its new, or the join of a first reading with its cur. It begins with all of the history that is
+    // given.
     fn read(
         &mut self,
         alloc: Global,
         folder: u32,
         first: Option<&[Entry]>,
+        held: &Front,
     ) -> Result<Vec<Entry>, ListError>
         requires order { IfSome first (λ entries. IsInOrder entries.now) }
-        ensures held { IsPrefix self.old self.new }
-        ensures legal { OnOk result (IsLegalFrom J.opening self.new) }
+        requires book { held.now.book ≡ J.book }
+        ensures held { OnOk result (IsPrefix held.now.log self.new) }
+        ensures legal { IsLegalFrom J.opening self.new }
         ensures messages { OnOk result (AreMessages J.opening) }
         ensures folder { OnOk result (folder < J.opening.folders) }
         ensures no_folder { IfErr result (λ e. e ≡ refusal.NoFolder → J.opening.folders ≤ folder) }
@@ -105,7 +146,7 @@ impl<J: Naming> Pass<J> {
             front,
             of: _,
         } = self;
-        let (entries, seen) = replace_with(reader, (alloc, folder, first, &*front), entered)?;
+        let (entries, seen) = replace_with(reader, (alloc, folder, first, held), entered)?;
         *front = seen;
         Ok(entries)
     }
@@ -113,33 +154,38 @@ impl<J: Naming> Pass<J> {
     /// Reads new of a folder. It takes no lock.
     pub(crate) fn first(&mut self, alloc: Global, folder: u32) -> Result<FirstReading<J>, ListError>
         ensures held { IsPrefix self.old self.new }
-        ensures legal { OnOk result (IsLegalFrom J.opening self.new) }
+        ensures legal { IsLegalFrom J.opening self.new }
         ensures folder { OnOk result (folder < J.opening.folders) }
         ensures no_folder { IfErr result (λ e. e ≡ refusal.NoFolder → J.opening.folders ≤ folder) }
         ensures no_memory { IfErr result (λ e. e ≡ refusal.NoMemory → folder < J.opening.folders) }
         ensures unchanged { OnErr result (self.new ≡ self.old) }
-        ensures entries { IfOk result (λ f. (f.folder ≡ folder) × (f.entries ≡ read_at folder New J.opening self.new)) }
+        ensures entries { IfOk result (λ f. (f.folder ≡ folder) × (f.history ≡ self.new) × (f.entries ≡ read_at folder New J.opening self.new)) }
     {
-        let entries = self.read(alloc, folder, None)?;
-        Ok(FirstReading::new(folder, entries))
+        let held = self.front.again();
+        let entries = self.read(alloc, folder, None, &held)?;
+        Ok(FirstReading::new(folder, entries, self.front.again()))
     }
 
-    /// Reads cur of the folder of a first reading, and joins the two. It takes no lock.
+    /// Reads cur of the folder of a first reading, at the end of a history that begins with that of the reading, and joins the two. It takes
+    /// no lock.
     pub(crate) fn second(
         &mut self,
         alloc: Global,
         first: &FirstReading<J>,
     ) -> Result<Vec<Entry>, ListError>
         ensures held { IsPrefix self.old self.new }
-        ensures legal { OnOk result (IsLegalFrom J.opening self.new) }
+        ensures legal { IsLegalFrom J.opening self.new }
         ensures folder { OnOk result (first.now.folder < J.opening.folders) }
         ensures no_folder { IfErr result (λ e. e ≡ refusal.NoFolder → J.opening.folders ≤ first.now.folder) }
         ensures no_memory { IfErr result (λ e. e ≡ refusal.NoMemory → first.now.folder < J.opening.folders) }
         ensures unchanged { OnErr result (self.new ≡ self.old) }
+        ensures told { OnOk result (IsPrefix first.now.history self.new) }
         ensures entries { IfOk result (λ v. Finishes J.opening first.now self.new v.items) }
     {
         md_core::laws::legal_histories_keep_messages_out_of_new();
-        self.read(alloc, first.folder(), Some(first.entries()))
+        first.is_read();
+        let held = self.front.longer(first.front());
+        self.read(alloc, first.folder(), Some(first.entries()), &held)
     }
 }
 

@@ -9,9 +9,9 @@ ghost use Rattle.md_store.specs.declared.error.ListError.TheVariants as refusal;
 ghost use Rattle.md_store.specs.Calling.{RefusesSince};
 ghost use Rattle.md_store.specs.Histories.{IsLegalFrom, read_at};
 ghost use Rattle.md_store.specs.Listing.{Lists, Finishes, ShowsLast};
-ghost use Rattle.md_store.specs.Locks.{IsSince, SubmitsSince, StepsSince};
+ghost use Rattle.md_store.specs.Locks.{IsSince, SubmitsSince, RefusesCall, ReadsSince, HoldsSince};
 ghost use Rattle.md_store.specs.Refusals.{plain_refusal, IsWhy};
-ghost use Rattle.md_store.specs.Telling.{IsNews, IsTold};
+ghost use Rattle.md_store.specs.Telling.{IsNews, IsTold, TellsSince};
 
 use crate::error::{ListError, StoreError};
 use crate::locked::Locked;
@@ -35,13 +35,21 @@ impl<D: Dirs, J: Naming> Store<D, J> {
         Store { lock }
     }
 
+    /// Lends the store inside its lock, so that a caller submits, steps and reads under one lock, with clauses that say exactly what each does;
+    /// `Locked::lags` says what is known of it at first. It waits until the lock is free, and other threads wait until the guard is let go, by
+    /// `MutexGuard::unlock`. Listings need no lock.
+    pub fn lock<R: Wait>(&self, rt: &R) -> MutexGuard<'_, Locked<D, J>> {
+        self.lock.lock(rt)
+    }
+
     /// Submits a call, and gives the number of its job. It is refused as `World::submit` is, and a call that is refused comes back.
     pub fn submit<R: Wait>(&self, rt: &R, call: Call) -> Result<JobId, SubmitRefused>
         ensures job { IfOk result (λ job. SubmitsSince J.begun call job) }
         ensures call { IfErr result (λ r. r.call ≡ call) }
         ensures refused { MatchResult result
             (λ _. plain_refusal J.opening.folders call ≡ None)
-            (λ r. IsWhy (plain_refusal J.opening.folders call) r.error) }
+            (λ r. IsWhy call (plain_refusal J.opening.folders call) r.error) }
+        ensures why { IfErr result (λ r. RefusesCall J.begun call r.error) }
     {
         let mut guard = self.lock.lock(rt);
         guard.lags();
@@ -50,8 +58,8 @@ impl<D: Dirs, J: Naming> Store<D, J> {
         made
     }
 
-    /// Makes the next directory call of a job, publishes its effect, and tells the pass of all that is published; where memory for that
-    /// runs out, the news is `Later`.
+    /// Makes the next directory call of a job, publishes its effect, and tells the pass of all effects so far; where memory for publishing
+    /// runs out, the news is `Later`, and the pass is told nothing.
     ///
     /// `now` and `own` are in seconds. The store's clock becomes `now` where that is greater; `own` is the moment by the clock of the job's
     /// host, and a job without one goes by the store's. Refused `NoJob`, `Answered`, or `NoMemory`: then no directory call was made, the
@@ -64,10 +72,11 @@ impl<D: Dirs, J: Naming> Store<D, J> {
         now: u64,
         own: Option<u64>,
     ) -> Result<StoreStep, CoreError>
-        ensures step { IfOk result (λ s. StepsSince J.begun job now own s.out) }
+        ensures step { IfOk result (λ s. TellsSince J.begun job now own s pass.old pass.new) }
         ensures held { IsPrefix pass.old pass.new }
         ensures news { IfOk result (λ s. IsNews s.news s.out.effect pass.old pass.new) }
-        ensures told { IfOk result (λ s. IsTold s.news s.out.answer job pass.new) }
+        ensures told { IfOk result (λ s. IsTold s.news s.out.answer job pass.old pass.new) }
+        ensures legal { IsLegalFrom J.opening pass.new }
         ensures refused { OnErr result (pass.new ≡ pass.old) }
         ensures no_job { IfErr result (λ e. e ≡ core.NoJob → (job ≡ 0) ⊎ (length J.begun.calls < job)) }
         ensures error { IfErr result (λ e. (e ≡ core.NoJob) ⊎ (e ≡ core.Answered) ⊎ (e ≡ core.NoMemory)) }
@@ -81,15 +90,34 @@ impl<D: Dirs, J: Naming> Store<D, J> {
         made
     }
 
-    /// A copy of the bytes of the message of a unique name, in new or cur of any folder. None where there is no such message. It is refused
-    /// only when out of memory.
+    /// Publishes an effect that memory refused before, and tells the pass of all effects so far. It takes no step of a job. Refused `NoMemory`,
+    /// and then the pass holds what it held.
+    pub fn catch_up<R: Wait>(&self, rt: &R, pass: &mut Pass<J>) -> Result<(), StoreError>
+        ensures held { IsPrefix pass.old pass.new }
+        ensures all { OnOk result (HoldsSince J.begun pass.new) }
+        ensures legal { IsLegalFrom J.opening pass.new }
+        ensures unchanged { OnErr result (pass.new ≡ pass.old) }
+    {
+        let mut guard = self.lock.lock(rt);
+        guard.lags();
+        let made = guard.catch_up(rt, pass);
+        MutexGuard::unlock(guard);
+        made
+    }
+
+    /// A copy of the bytes of the message of a unique name, in new or cur of any folder: they are whole, as they were delivered, copied, or
+    /// there when the store was opened. None where there is no such message. It is refused only when out of memory.
     pub fn read<R: Wait>(
         &self,
         rt: &R,
         alloc: Global,
         unique: &[u8],
-    ) -> Result<Option<Bytes>, StoreError> {
+    ) -> Result<Option<Bytes>, StoreError>
+        ensures { IfOk result (λ bytes. ReadsSince J.begun unique.now bytes) }
+    {
         let guard = self.lock.lock(rt);
+        guard.lags();
+        md_core::laws::worlds_show_their_traces();
         let read = guard.read(alloc, unique);
         MutexGuard::unlock(guard);
         read
@@ -122,18 +150,19 @@ impl<D: Dirs, J: Naming> Store<D, J> {
         folder: u32,
     ) -> Result<FirstReading<J>, ListError>
         ensures held { IsPrefix pass.old pass.new }
-        ensures legal { OnOk result (IsLegalFrom J.opening pass.new) }
+        ensures legal { IsLegalFrom J.opening pass.new }
         ensures folder { OnOk result (folder < J.opening.folders) }
         ensures no_folder { IfErr result (λ e. e ≡ refusal.NoFolder → J.opening.folders ≤ folder) }
         ensures no_memory { IfErr result (λ e. e ≡ refusal.NoMemory → folder < J.opening.folders) }
         ensures unchanged { OnErr result (pass.new ≡ pass.old) }
-        ensures entries { IfOk result (λ f. (f.folder ≡ folder) × (f.entries ≡ read_at folder New J.opening pass.new)) }
+        ensures entries { IfOk result (λ f. (f.folder ≡ folder) × (f.history ≡ pass.new) × (f.entries ≡ read_at folder New J.opening pass.new)) }
     {
         pass.first(alloc, folder)
     }
 
-    /// Reads cur of the folder of a first reading, and joins the two: the second half of a listing. Refused as `list` is; the pass then holds
-    /// what it held.
+    /// Reads cur of the folder of a first reading, and joins the two: the second half of a listing. Any pass of the store may do so: it is
+    /// told of the history of the first reading, so that cur is never older than new. Refused as `list` is; the pass then holds what it
+    /// held.
     pub fn second(
         &self,
         alloc: Global,
@@ -141,11 +170,12 @@ impl<D: Dirs, J: Naming> Store<D, J> {
         first: &FirstReading<J>,
     ) -> Result<Vec<Entry>, ListError>
         ensures held { IsPrefix pass.old pass.new }
-        ensures legal { OnOk result (IsLegalFrom J.opening pass.new) }
+        ensures legal { IsLegalFrom J.opening pass.new }
         ensures folder { OnOk result (first.now.folder < J.opening.folders) }
         ensures no_folder { IfErr result (λ e. e ≡ refusal.NoFolder → J.opening.folders ≤ first.now.folder) }
         ensures no_memory { IfErr result (λ e. e ≡ refusal.NoMemory → first.now.folder < J.opening.folders) }
         ensures unchanged { OnErr result (pass.new ≡ pass.old) }
+        ensures told { OnOk result (IsPrefix first.now.history pass.new) }
         ensures entries { IfOk result (λ v. Finishes J.opening first.now pass.new v.items) }
     {
         pass.second(alloc, first)

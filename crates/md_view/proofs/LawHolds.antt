@@ -17,7 +17,7 @@ use Rattle.md_core.specs.Laws.{IsInCur, IsNotInTmp, KeepsPlaces}
 use Rattle.md_view.specs.declared.entry.Entry.{Entry}
 use Rattle.md_view.specs.Readings.{as_entry, reading_of, join_of}
 use Rattle.md_view.specs.Law.{names_at, names_after_first, shown_in, entry_in, entry_among, listing_of, IsOfSomeMoment, IsGoodListing}
-use Rattle.md_view.proofs.Keyed.{lookup, get-by_unique, in-order, first}
+use Rattle.md_view.proofs.Keyed.{lookup, get-by_unique, in-order}
 use Rattle.md_view.proofs.Merged.{join-sorted, merged-join, lookup-merged}
 use Rattle.md_view.proofs.Readings.{entry_at, reading-sorted, lookup-reading}
 use Rattle.md_view.proofs.Moments.{history_of, opening_of, count_at, counts-rise, names-counted}
@@ -104,33 +104,33 @@ module _ (names : ℕ → Names) (folder i j : ℕ) (order : i ≤ j) (u : List 
   abbrev Shown : ℕ → Type 0
   Shown k = option_or (cur_at (names j)) (new_at (names i)) ≡ entry_in (names k) folder u
 
-  at_moment : (k : ℕ) → i ≤ k → k ≤ j → Shown k → IsOfSomeMoment names folder i j u
+  at_moment : (k : ℕ) → i ≤ k → k ≤ j → Shown k → IsOfSomeMoment names folder i j (listing_of names folder i j) u
   at_moment k from to is = record { k = k; from = from; to = to; is = listing-shows ∙ is }
 
-  at_first : Shown i → IsOfSomeMoment names folder i j u
+  at_first : Shown i → IsOfSomeMoment names folder i j (listing_of names folder i j) u
   at_first = at_moment i (omega arith) order
 
-  at_last : Shown j → IsOfSomeMoment names folder i j u
+  at_last : Shown j → IsOfSomeMoment names folder i j (listing_of names folder i j) u
   at_last = at_moment j order (omega arith)
 
   shows-both : (a b : Option Entry) → cur_at (names j) ≡ a → new_at (names i) ≡ b → option_or (cur_at (names j)) (new_at (names i)) ≡ option_or a b
   shows-both a b p q = λ k. option_or (p k) (q k)
 
   -- the first reading counts, where cur has none at the second
-  by_first : cur_at (names j) ≡ None → new_at (names i) ≡ entry_in (names i) folder u → IsOfSomeMoment names folder i j u
+  by_first : cur_at (names j) ≡ None → new_at (names i) ≡ entry_in (names i) folder u → IsOfSomeMoment names folder i j (listing_of names folder i j) u
   by_first none here = at_first (shows-both None (entry_in (names i) folder u) none here)
 
-  pub some_moment : IsOfSomeMoment names folder i j u
+  pub some_moment : IsOfSomeMoment names folder i j (listing_of names folder i j) u
   some_moment = by (stands i) (stands j)
     where
       of_cur : (o : Option Entry) → entry_in (names j) folder u ≡ o → cur_at (names j) ≡ entry_in (names j) folder u → Stands (names i)
-          → IsOfSomeMoment names folder i j u
+          → IsOfSomeMoment names folder i j (listing_of names folder i j) u
       of_cur (Some e) is here s = at_last (shows-both (Some e) (new_at (names i)) (here ∙ is) refl ∙ sym is)
       of_cur None is here (nowhere gone new cur) = at_first (shows-both None None (here ∙ is) new ∙ sym gone)
       of_cur None is here (in_new x was at new cur) = by_first (here ∙ is) new
       of_cur None is here (in_cur x was at new cur) = at_last (shows-both None None (here ∙ is) new ∙ sym is)
 
-      by : Stands (names i) → Stands (names j) → IsOfSomeMoment names folder i j u
+      by : Stands (names i) → Stands (names j) → IsOfSomeMoment names folder i j (listing_of names folder i j) u
       by s (in_cur y is at' new' cur') = of_cur (entry_in (names j) folder u) refl cur' s
       by (nowhere gone new cur) (nowhere gone' new' cur') = at_first (shows-both None None cur' new ∙ sym gone)
       by (nowhere gone new cur) (in_new y is at' new' cur') = at_first (shows-both None None cur' new ∙ sym gone)
@@ -159,7 +159,7 @@ module _ (names : ℕ → Names) (folder i j : ℕ) (order : i ≤ j) (u : List 
 
 -- where no message is in tmp, and none in cur goes back to new
 pub good-listing : (names : ℕ → Names) (folder i j : ℕ) → i ≤ j → ((u : List ℕ) (k : ℕ) (x : Listed) → get (names k) u ≡ Some x → x.place ≢ Tmp)
-    → ((u : List ℕ) (x : Listed) → get (names i) u ≡ Some x → x.place ≡ Cur → IsInCur (get (names j) u)) → IsGoodListing names folder i j
+    → ((u : List ℕ) (x : Listed) → get (names i) u ≡ Some x → x.place ≡ Cur → IsInCur (get (names j) u)) → IsGoodListing names folder i j (listing_of names folder i j)
 good-listing names folder i j order no_tmp stays = record {
   some_moment = λ u. some_moment names folder i j order u (no_tmp u) (stays u);
   at_both = λ u. at_both names folder i j order u (no_tmp u) (stays u);
@@ -170,6 +170,7 @@ good-listing names folder i j order no_tmp stays = record {
 
 pub good-history : (s : State) (history : List Effect) → AreOfPaths s → KeepsPlaces (names_of (mailbox_of s)) history → (folder i j : ℕ) → i ≤ j
     → IsGoodListing (names_after_first (names_of (mailbox_of s)) history) folder i j
+    (listing_of (names_after_first (names_of (mailbox_of s)) history) folder i j)
 good-history s history of_paths keeps folder i j order = good-listing (names_after_first (names_of (mailbox_of s)) history) folder i j order
     (λ u k x is. subst IsNotInTmp is (keeps.never_in_tmp u (at_first u (get (names_of (mailbox_of s)) u) refl) k))
     (λ u x is at. keeps.stays_in_cur i j order u x is at)
@@ -183,7 +184,8 @@ abbrev pub LegalKeepPlaces : Type 0
 LegalKeepPlaces = (folders : ℕ) (opening : Names) (history : List Effect) → IsLegal folders opening history → KeepsPlaces opening history
 
 module _ (of_paths : (s : State) → AreOfPaths s) (keeps : LegalKeepPlaces) where
-  pub good-run : (r : Run) → Interleaves (trace_of r) → (folder i j : ℕ) → i ≤ j → IsGoodListing (names_at r) folder i j
+  pub good-run : (r : Run) → Interleaves (trace_of r) → (folder i j : ℕ) → i ≤ j →
+      IsGoodListing (names_at r) folder i j (listing_of (names_at r) folder i j)
   good-run r all folder i j order = good-listing (names_at r) folder i j order
       (λ u k x is. not_in_tmp (state t k) u x (of_paths (state t k) u x is))
       (λ u x is at.

@@ -39,20 +39,19 @@ entry_among entries u = finmap.get (by_unique entries) u
 abbrev pub listing_of : (ℕ → Names) → ℕ → ℕ → ℕ → List Entry
 listing_of names folder i j = join_of (reading_of (names i) folder New) (reading_of (names j) folder Cur)
 
--- a listing shows a unique name as it was in the folder at some moment from i to j: its entry then, or that it wasn't there
-pub record IsOfSomeMoment (names : ℕ → Names) (folder i j : ℕ) (u : List ℕ) : Type 0 where
+-- these entries show a unique name as it was in the folder at some moment from i to j: its entry then, or that it wasn't there
+pub record IsOfSomeMoment (names : ℕ → Names) (folder i j : ℕ) (entries : List Entry) (u : List ℕ) : Type 0 where
   pub k : ℕ
   pub from : i ≤ k
   pub to : k ≤ j
-  pub is : entry_among (listing_of names folder i j) u ≡ entry_in (names k) folder u
+  pub is : entry_among entries u ≡ entry_in (names k) folder u
 
--- The listing law: each unique name is shown as it was at some moment between the two readings; one that is in the folder at both is
--- listed; and none is listed twice.
-pub record IsGoodListing (names : ℕ → Names) (folder i j : ℕ) : Type 0 where
-  pub some_moment : (u : List ℕ) → IsOfSomeMoment names folder i j u
-  pub at_both : (u : List ℕ) → IsSome (entry_in (names i) folder u) → IsSome (entry_in (names j) folder u)
-      → IsSome (entry_among (listing_of names folder i j) u)
-  pub once : IsInOrder (listing_of names folder i j)
+-- The listing law, of the entries that are listed: each unique name is shown as it was at some moment between the two readings; one that is
+-- in the folder at both is listed; and none is listed twice.
+pub record IsGoodListing (names : ℕ → Names) (folder i j : ℕ) (entries : List Entry) : Type 0 where
+  pub some_moment : (u : List ℕ) → IsOfSomeMoment names folder i j entries u
+  pub at_both : (u : List ℕ) → IsSome (entry_in (names i) folder u) → IsSome (entry_in (names j) folder u) → IsSome (entry_among entries u)
+  pub once : IsInOrder entries
 
 -- a listing has begun: its new was read at a moment of the run
 pub record HasBegun (r : Run) (l : Listing) : Type 0 where

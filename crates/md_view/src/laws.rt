@@ -7,7 +7,7 @@ ghost use Rattle.md_core.specs.Stepping.{IsRun};
 ghost use Rattle.md_core.specs.declared.jobs.effect.Effect.{Effect as EffectSeen};
 ghost use Rattle.md_view.specs.declared.listing.Listing.{Listing as BegunListing};
 ghost use Rattle.md_view.specs.Named.{Named, AreMessages, fits};
-ghost use Rattle.md_view.specs.Law.{names_at, names_after_first, IsGoodListing, HasBegun, Continues};
+ghost use Rattle.md_view.specs.Law.{names_at, names_after_first, listing_of, IsGoodListing, HasBegun, Continues};
 
 use md_core::{Effect, World};
 use md_dirs::Dirs;
@@ -17,7 +17,7 @@ use md_dirs::Dirs;
 /// is in the folder at both moments is listed; and none is listed twice.
 pub fn a_listing_is_good<D: Dirs>(world: &World<D>, folder: u32, read_new: usize, read_cur: usize)
     requires { read_new ≤ read_cur }
-    ensures { IsGoodListing (names_at world.now) folder read_new read_cur }
+    ensures { IsGoodListing (names_at world.now) folder read_new read_cur (listing_of (names_at world.now) folder read_new read_cur) }
 {
     world.interleaves();
     md_core::laws::names_show_their_directories();
@@ -34,7 +34,8 @@ pub fn a_listing_of_histories_is_good<D: Dirs>(
 )
     requires legal { IsLegal (dirs_of opening.now).folders (names_of (mailbox_of (dirs_of opening.now))) history.now }
     requires order { read_new ≤ read_cur }
-    ensures { IsGoodListing (names_after_first (names_of (mailbox_of (dirs_of opening.now))) history.now) folder read_new read_cur }
+    ensures { IsGoodListing (names_after_first (names_of (mailbox_of (dirs_of opening.now))) history.now) folder read_new read_cur
+        (listing_of (names_after_first (names_of (mailbox_of (dirs_of opening.now))) history.now) folder read_new read_cur) }
 {
     md_core::laws::names_show_their_directories();
     md_core::laws::legal_histories_keep_messages_out_of_new();

@@ -48,7 +48,7 @@ impl Listing {
     pub fn finish<D: Dirs>(&self, alloc: Global, world: &World<D>) -> Result<Vec<Entry>, ViewError>
         requires { HasBegun world.now self.now }
         ensures entries { IfOk result (λ all. all.items ≡ listing_of (names_at world.now) self.now.folder self.now.begun (length world.now.events)) }
-        ensures law { IsGoodListing (names_at world.now) self.now.folder self.now.begun (length world.now.events) }
+        ensures law { IfOk result (λ all. IsGoodListing (names_at world.now) self.now.folder self.now.begun (length world.now.events) all.items) }
         ensures refusal { IfErr result (λ error. error ≡ reading_refusal (dirs_of world.now) self.now.folder) }
     {
         let all = self.finish_lent(alloc, world)?;
@@ -64,7 +64,7 @@ impl Listing {
         requires { HasBegun world.now self.now }
         ensures entries { IfOk result (λ all. all.items ≡ listing_of (names_at world.now) self.now.folder self.now.begun (length world.now.events)) }
         ensures folder { IfOk result (λ _. self.now.folder < (dirs_of world.now).folders) }
-        ensures law { IsGoodListing (names_at world.now) self.now.folder self.now.begun (length world.now.events) }
+        ensures law { IfOk result (λ all. IsGoodListing (names_at world.now) self.now.folder self.now.begun (length world.now.events) all.items) }
         ensures refusal { IfErr result (λ error. error ≡ reading_refusal (dirs_of world.now) self.now.folder) }
     {
         world.interleaves();

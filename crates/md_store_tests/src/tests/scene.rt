@@ -5,9 +5,13 @@ ghost use Rattle.md_view.specs.Named.{named_of};
 ghost use Rattle.md_store.specs.Locks.{IsFresh};
 
 use super::calls::{call_and_take, call_at_once, call_twice, call_with_little_memory};
+use super::caught::catch_up;
 use super::gated::{Gate, Gated, look_at_gate};
+use super::halves::list_by_two;
 use super::later::flag_later;
+use super::locked::act_locked;
 use super::seen::look_by_two;
+use super::sent::{drop_amid, send_word};
 use super::small::refuse_calls;
 use super::stampede::{Stampede, are_beginnings, run_all};
 use super::threads::{deliver_beside_flags, deliver_by_all, deliver_to_another};
@@ -36,6 +40,11 @@ pub enum Scene<'a> {
     CallsTwice,
     CallTaken,
     CallLater,
+    Word,
+    Dropped,
+    Halves,
+    CaughtUp,
+    Locked,
     Stampede(&'a Stampede),
 }
 
@@ -145,7 +154,7 @@ fn is_played<J: Naming + Send + Sync, R: Threads + Wait + Sync>(
     rt: &R,
     alloc: Global,
     store: &Store<Gated, J>,
-    passes: &mut [Pass<J>],
+    passes: &mut Vec<Pass<J>>,
     gate: &Gate,
     plan: &Plan<'_>,
 ) -> bool {
@@ -156,7 +165,7 @@ fn play_scene<J: Naming + Send + Sync, R: Threads + Wait + Sync>(
     rt: &R,
     alloc: Global,
     store: &Store<Gated, J>,
-    passes: &mut [Pass<J>],
+    passes: &mut Vec<Pass<J>>,
     gate: &Gate,
     scene: &Scene<'_>,
 ) -> bool {
@@ -173,6 +182,11 @@ fn play_scene<J: Naming + Send + Sync, R: Threads + Wait + Sync>(
         Scene::CallsTwice => call_twice(rt, alloc, store, passes),
         Scene::CallTaken => call_and_take(rt, alloc, store, passes),
         Scene::CallLater => call_with_little_memory(rt, alloc, store, passes),
+        Scene::Word => send_word(rt, alloc, store, passes),
+        Scene::Dropped => drop_amid(rt, alloc, store, passes),
+        Scene::Halves => list_by_two(rt, alloc, store, passes),
+        Scene::CaughtUp => catch_up(rt, alloc, store, passes),
+        Scene::Locked => act_locked(rt, alloc, store, passes),
         Scene::Stampede(stampede) => run_all(rt, alloc, stampede, store, passes) > 500,
     }
 }

@@ -1,4 +1,4 @@
-use Rattle.std.proofs.Common.{ap, subst, IfOk, option_map}
+use Rattle.std.proofs.Common.{subst, IfOk, option_map}
 use Rattle.left_right.specs.Sides.{view}
 use Rattle.md_store.specs.Listing.{IsLooked}
 use Rattle.md_store.specs.Pages.{Page}

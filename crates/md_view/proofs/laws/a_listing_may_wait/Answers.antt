@@ -1,4 +1,4 @@
-use Rattle.std.proofs.Common.{◌≡◌, inl, inr, sym, subst}
+use Rattle.std.proofs.Common.{inl, inr, sym, subst}
 use Rattle.md_core.specs.Runs.{Run}
 use Rattle.md_core.specs.Stepping.{IsRun}
 use Rattle.md_core.specs.Tracing.{KeepsStates}

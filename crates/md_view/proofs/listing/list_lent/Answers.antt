@@ -1,4 +1,4 @@
-use Rattle.std.proofs.Common.{◌≡◌, ◌∙◌, List, ap, length}
+use Rattle.std.proofs.Common.{◌∙◌, List, ap}
 use Rattle.md_dirs.specs.declared.paths.Place.TheVariants.{New, Cur}
 use Rattle.md_core.specs.History.{Names, names_of}
 use Rattle.md_core.specs.Mailbox.{mailbox_of}

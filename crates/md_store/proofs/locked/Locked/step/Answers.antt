@@ -1,4 +1,6 @@
-use Rattle.std.proofs.Common.{◌≡◌, true, false, ◌∙◌, sym, rules}
+use Rattle.std.proofs.Common.{◌≡◌, true, false, ◌∙◌, sym, List, subst, rules}
+use mathlib.Core.List.{IsPrefix}
+use Rattle.md_core.specs.declared.jobs.effect.Effect.{Effect}
 use Rattle.md_core.specs.Machine.{occurrence}
 use Rattle.md_core.specs.Asked.{is_fault}
 use Rattle.md_core.specs.Runs.{effects_of}
@@ -8,21 +10,22 @@ use Rattle.md_store.proofs.locked.Locked.step.Goals as goal
 
 pub returns-then-not-out-clause-told : goal.returns-then-not-out-clause-told
 returns-then-not-out-clause-told g c =
-    let before : c.catch_up.new.self.published ≡ effects_of c.catch_up.new.self.run = search rules in
+    let before : c.publish_left.new.self.published ≡ effects_of c.publish_left.new.self.run = search rules in
     let off : c.in_ok-out.out.effect ≡ false = search rules in
     let out = c.in_ok-out.out in
     let a = c.in_ok-out.ensures in
-    let none = no_effect c.catch_up.new.self.run c.advance.new.self.run (occurrence c.args.job c.args.now c.args.own (is_fault out.reply)) out a.shows off in
-    stands c.advance.new.self.run c.args.job out.answer c.advance.new.self.published c.tell.new.pass a.success (a.published ∙
-    (before ∙ sym none)) c.tell.ensures.told
+    let none = no_effect c.publish_left.new.self.run c.advance.new.self.run (occurrence c.args.job c.args.now c.args.own (is_fault out.reply)) out a.shows off in
+    stands c.advance.new.self.run c.args.job out.answer c.tell.new.pass a.success (c.tell.ensures.told ∙ (a.published ∙ (before ∙ sym none)))
 
 pub returns-clause-told : goal.returns-clause-told
 returns-clause-told g c =
     let on : c.in_ok-out.out.effect ≡ true = search rules in
     let out = c.in_ok-out.out in
     let a = c.in_ok-out.ensures in
-    let e = one_effect c.catch_up.new.self.run c.advance.new.self.run (occurrence c.args.job c.args.now c.args.own (is_fault out.reply)) out a.shows on in
-    let now : c.catch_up-2.new.self.published ≡ effects_of c.advance.new.self.run = search rules in (
-      (c.catch_up-2.new.self.published, (effects_of c.catch_up.new.self.run, e.0, now ∙ e.1, e.2), c.tell-2.ensures.told),
-      stands c.advance.new.self.run c.args.job out.answer c.catch_up-2.new.self.published c.tell-2.new.pass a.success now c.tell-2.ensures.told,
+    let e = one_effect c.publish_left.new.self.run c.advance.new.self.run (occurrence c.args.job c.args.now c.args.own (is_fault out.reply)) out a.shows on in
+    let before : c.publish_left.new.self.published ≡ effects_of c.publish_left.new.self.run = search rules in
+    let all : c.publish_left-2.new.self.published ≡ effects_of c.advance.new.self.run = search rules in
+    let covered : IsPrefix c.args.pass.now c.publish_left.new.self.published = search rules in (
+      (effects_of c.publish_left.new.self.run, e.0, c.tell-2.ensures.told ∙ (all ∙ e.1), e.2, subst (λ (l : List Effect). IsPrefix c.args.pass.now l) before covered),
+      stands c.advance.new.self.run c.args.job out.answer c.tell-2.new.pass a.success (c.tell-2.ensures.told ∙ all),
     )

@@ -6,6 +6,6 @@ use Rattle.md_store.specs.Histories.{named_after}
 use Rattle.md_store.proofs.Good.{reading-in_order}
 use Rattle.md_store.proofs.pass.Pass.first.Goals as goal
 
-pub new-requires : goal.new-requires
-new-requires g c = subst (λ (es : List Entry). IsInOrder es) (sym c.in_ok-entries.ensures.entries)
+pub new-requires-clause-order : goal.new-requires-clause-order
+new-requires-clause-order g c = subst (λ (es : List Entry). IsInOrder es) (sym c.in_ok-entries.ensures.entries)
     (reading-in_order (named_after g.J.Naming.opening c.read.new.self).names c.args.folder New)

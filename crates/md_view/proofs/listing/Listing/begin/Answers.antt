@@ -1,7 +1,6 @@
-use Rattle.std.proofs.Common.{◌≡◌, ◌≤◌, ◌∙◌, sym, ap, length, map, arith}
+use Rattle.std.proofs.Common.{◌≡◌, ◌∙◌, sym, ap, length, arith}
 use Rattle.std.proofs.lemmas.List.{length-map}
 use Rattle.md_dirs.specs.declared.paths.Place.TheVariants.{New}
-use Rattle.md_core.specs.declared.jobs.step.Event.{Event}
 use Rattle.md_core.specs.History.{Names}
 use Rattle.md_core.specs.Machine.{Occurrence}
 use Rattle.md_view.specs.Readings.{reading_of}

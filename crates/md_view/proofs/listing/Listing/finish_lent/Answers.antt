@@ -1,27 +1,14 @@
-use Rattle.std.proofs.Common.{List, length, sym, subst, ◌∙◌}
-use Rattle.md_dirs.specs.declared.paths.Place.TheVariants.{New}
+use Rattle.std.proofs.Common.{◌≡◌, List, length, ap, sym, subst, ◌∙◌}
+use Rattle.md_dirs.specs.declared.paths.Place.TheVariants.{New, Cur}
+use Rattle.md_core.specs.History.{Names}
 use Rattle.md_view.specs.declared.entry.Entry.{Entry}
-use Rattle.md_view.specs.Readings.{IsInOrder}
-use Rattle.md_view.specs.Law.{names_at}
+use Rattle.md_view.specs.Readings.{reading_of, join_of, IsInOrder}
+use Rattle.md_view.specs.Law.{names_at, IsGoodListing}
 use Rattle.md_view.proofs.Keyed.{in-order}
 use Rattle.md_view.proofs.LawHolds.{good-run}
 use Rattle.md_view.proofs.Readings.{reading-sorted}
+use Rattle.md_view.proofs.Waiting.{names-now}
 use Rattle.md_view.proofs.listing.Listing.finish_lent.Goals as goal
-
-pub returns-in_err-cur-clause-law : goal.returns-in_err-cur-clause-law
-returns-in_err-cur-clause-law g c =
-    good-run c.names_show_their_directories.ensures.shown c.legal_histories_keep_messages_out_of_new.ensures c.args.world.now
-    c.interleaves.ensures.theorem c.args.self.now.folder c.args.self.now.begun (length c.args.world.now.events) c.requires.past
-
-pub returns-in_err-new-clause-law : goal.returns-in_err-new-clause-law
-returns-in_err-new-clause-law g c =
-    good-run c.names_show_their_directories.ensures.shown c.legal_histories_keep_messages_out_of_new.ensures c.args.world.now
-    c.interleaves.ensures.theorem c.args.self.now.folder c.args.self.now.begun (length c.args.world.now.events) c.requires.past
-
-pub returns-in_err-merge-clause-law : goal.returns-in_err-merge-clause-law
-returns-in_err-merge-clause-law g c =
-    good-run c.names_show_their_directories.ensures.shown c.legal_histories_keep_messages_out_of_new.ensures c.args.world.now
-    c.interleaves.ensures.theorem c.args.self.now.folder c.args.self.now.begun (length c.args.world.now.events) c.requires.past
 
 pub merge-requires-clause-new : goal.merge-requires-clause-new
 merge-requires-clause-new g c =
@@ -30,5 +17,13 @@ merge-requires-clause-new g c =
 
 pub returns-clause-law : goal.returns-clause-law
 returns-clause-law g c =
-    good-run c.names_show_their_directories.ensures.shown c.legal_histories_keep_messages_out_of_new.ensures c.args.world.now
-    c.interleaves.ensures.theorem c.args.self.now.folder c.args.self.now.begun (length c.args.world.now.events) c.requires.past
+    let r = c.args.world.now in
+    let folder = c.args.self.now.folder in
+    let begun = c.args.self.now.begun in
+    let new : c.deref-2.result.now ≡ reading_of (names_at r begun) folder New =
+    c.deref-2.ensures.value ∙ c.in_ok-new.ensures ∙ c.deref.ensures.value ∙ c.requires.new in
+    let cur : c.deref-3.result.now ≡ reading_of (names_at r (length r.events)) folder Cur =
+    c.deref-3.ensures.value ∙ c.in_ok-cur.ensures.entries ∙ ap (λ (n : Names). reading_of n folder Cur) (names-now r c.interleaves.ensures.shown) in
+    subst (IsGoodListing (names_at r) folder begun (length r.events)) (sym (c.in_ok-merge.ensures.entries ∙ (λ i. join_of (new i) (cur i))))
+    (good-run c.names_show_their_directories.ensures.shown c.legal_histories_keep_messages_out_of_new.ensures r c.interleaves.ensures.theorem
+    folder begun (length r.events) c.requires.past)

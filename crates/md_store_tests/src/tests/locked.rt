@@ -1,0 +1,94 @@
+// A store that is submitted to, stepped and read under one lock.
+use super::fixtures::{delivery, lists};
+use super::gated::Gated;
+use super::scene::{Plan, Scene, stage};
+use md_core::Answer;
+use md_store::{Locked, Naming, News, Pass, Store};
+use std::alloc::Global;
+use std::sync::{MutexGuard, Wait};
+use std::test::Fail;
+
+// Submits the delivery of `a`, and makes its four steps. Whether it was delivered.
+fn delivers<J: Naming, R: Wait>(
+    rt: &R,
+    alloc: Global,
+    locked: &mut Locked<Gated, J>,
+    pass: &mut Pass<J>,
+) -> bool {
+    locked.lags();
+    let Ok(call) = delivery(alloc, b"a") else {
+        return false;
+    };
+    let Ok(job) = locked.submit(call) else {
+        return false;
+    };
+    let mut told = 0u32;
+    for _ in 0..4 {
+        let Ok(step) = locked.step(rt, pass, job, 1000, None) else {
+            return false;
+        };
+        if step.news == News::Told {
+            told = told.wrapping_add(1);
+        }
+        if step.out.answer == Some(Answer::Delivered) {
+            return told == 1;
+        }
+    }
+    false
+}
+
+// Whether the bytes of `a` are read, and all is published.
+fn reads<J: Naming, R: Wait>(
+    rt: &R,
+    alloc: Global,
+    locked: &mut Locked<Gated, J>,
+    pass: &mut Pass<J>,
+) -> bool {
+    let read = match locked.read(alloc, b"a") {
+        Ok(read) => read,
+        Err(_) => return false,
+    };
+    read.as_ref().map(|bytes| bytes.as_slice()) == Some(b"x".as_slice())
+        && locked.catch_up(rt, pass).is_ok()
+        && pass.len() == 1
+}
+
+// Delivers and reads under one lock, and then lists.
+fn deliver_and_read<J: Naming, R: Wait>(
+    rt: &R,
+    alloc: Global,
+    store: &Store<Gated, J>,
+    pass: &mut Pass<J>,
+) -> bool {
+    let mut guard = store.lock(rt);
+    let is_delivered = delivers(rt, alloc, &mut guard, pass);
+    let is_read = reads(rt, alloc, &mut guard, pass);
+    MutexGuard::unlock(guard);
+    is_delivered && is_read && lists(alloc, store, pass, 0, b"a")
+}
+
+pub fn act_locked<J: Naming, R: Wait>(
+    rt: &R,
+    alloc: Global,
+    store: &Store<Gated, J>,
+    passes: &mut [Pass<J>],
+) -> bool {
+    match passes {
+        [pass] => deliver_and_read(rt, alloc, store, pass),
+        _ => false,
+    }
+}
+
+#[test]
+fn one_lock_holds_a_whole_delivery(rt: HostRuntime) -> Result<(), Fail> {
+    let plan = Plan {
+        scene: Scene::Locked,
+        folders: 1,
+        passes: 1,
+        wanted: (1, 4, 1),
+    };
+    let alloc = rt.alloc();
+    let refused = stage(&rt, alloc, &plan, Vec::new(alloc), Vec::new(alloc))?;
+    assert!(rt; refused.is_none());
+    Ok(())
+}

@@ -1,0 +1,145 @@
+// A thread that delivers and sends its pass by a channel, and another that learns from it. A pass that is dropped while others go on.
+use super::fixtures::{DELIVERED, deliveries, finish, lists, news};
+use super::gated::Gated;
+use super::scene::{Plan, Scene, stage};
+use crossbeam_channel::{Receiver, Sender, bounded};
+use md_core::Answer;
+use md_store::{Naming, News, Pass, Store};
+use std::alloc::Global;
+use std::sync::Wait;
+use std::test::Fail;
+use std::thread;
+use std::thread::Threads;
+
+// Delivers, and then sends the pass, whatever came of it. Whether it was delivered and sent.
+fn deliver_and_send<'a, J: Naming, R: Wait>(
+    rt: &R,
+    store: &Store<Gated, J>,
+    pass: &'a mut Pass<J>,
+    sender: &Sender<&'a Pass<J>, Global>,
+) -> bool {
+    let is_delivered = finish(rt, store, pass, 1) == DELIVERED;
+    sender.send(rt, &*pass).is_ok() && is_delivered
+}
+
+// Learns from the pass that comes. Whether a listing then shows the message.
+fn learn_and_list<J: Naming, R: Wait>(
+    rt: &R,
+    alloc: Global,
+    store: &Store<Gated, J>,
+    pass: &mut Pass<J>,
+    receiver: &Receiver<&Pass<J>, Global>,
+) -> bool {
+    match receiver.recv(rt) {
+        Ok(sent) => {
+            let knew = sent.begins(pass);
+            pass.learn_from(sent);
+            !knew && sent.begins(pass) && pass.len() == 1 && lists(alloc, store, pass, 0, b"a")
+        }
+        Err(_) => false,
+    }
+}
+
+fn send_to<J: Naming + Send + Sync, R: Threads + Wait + Sync>(
+    rt: &R,
+    alloc: Global,
+    store: &Store<Gated, J>,
+    one: &mut Pass<J>,
+    two: &mut Pass<J>,
+) -> bool {
+    let Ok((sender, receiver)) = bounded(alloc, 1) else {
+        return false;
+    };
+    let (is_sent, is_listed) = thread::join(
+        rt,
+        || deliver_and_send(rt, store, one, &sender),
+        || learn_and_list(rt, alloc, store, two, &receiver),
+    );
+    is_sent && is_listed
+}
+
+pub fn send_word<J: Naming + Send + Sync, R: Threads + Wait + Sync>(
+    rt: &R,
+    alloc: Global,
+    store: &Store<Gated, J>,
+    passes: &mut [Pass<J>],
+) -> bool {
+    match passes {
+        [one, two] => send_to(rt, alloc, store, one, two),
+        _ => false,
+    }
+}
+
+#[test]
+fn a_thread_is_sent_word(rt: HostRuntime) -> Result<(), Fail> {
+    let plan = Plan {
+        scene: Scene::Word,
+        folders: 1,
+        passes: 2,
+        wanted: (1, 4, 1),
+    };
+    let alloc = rt.alloc();
+    let refused = stage(&rt, alloc, &plan, Vec::new(alloc), deliveries(alloc, b"a")?)?;
+    assert!(rt; refused.is_none());
+    Ok(())
+}
+
+// Makes the three steps of the first job to its link. Whether that was told.
+fn links<J: Naming, R: Wait>(rt: &R, store: &Store<Gated, J>, pass: &mut Pass<J>) -> bool {
+    for _ in 0..2 {
+        if news(rt, store, pass, 1) != Ok(News::NoEffect) {
+            return false;
+        }
+    }
+    news(rt, store, pass, 1) == Ok(News::Told)
+}
+
+// Whether a pass ends the first job and makes the second one, and lists both messages.
+fn goes_on<J: Naming, R: Wait>(
+    rt: &R,
+    alloc: Global,
+    store: &Store<Gated, J>,
+    pass: &mut Pass<J>,
+) -> bool {
+    finish(rt, store, pass, 1) == (Some(Answer::Delivered), News::NoEffect)
+        && lists(alloc, store, pass, 0, b"a")
+        && finish(rt, store, pass, 2) == DELIVERED
+        && lists(alloc, store, pass, 0, b"a b")
+}
+
+pub fn drop_amid<J: Naming, R: Wait>(
+    rt: &R,
+    alloc: Global,
+    store: &Store<Gated, J>,
+    passes: &mut Vec<Pass<J>>,
+) -> bool {
+    let Some(mut last) = passes.pop() else {
+        return false;
+    };
+    let is_linked = links(rt, store, &mut last);
+    drop(last);
+    match passes.as_mut_slice() {
+        [pass] => is_linked && goes_on(rt, alloc, store, pass),
+        _ => false,
+    }
+}
+
+#[test]
+fn others_go_on_without_a_pass(rt: HostRuntime) -> Result<(), Fail> {
+    let plan = Plan {
+        scene: Scene::Dropped,
+        folders: 1,
+        passes: 2,
+        wanted: (2, 8, 2),
+    };
+    let alloc = rt.alloc();
+    let refused = stage(
+        &rt,
+        alloc,
+        &plan,
+        Vec::new(alloc),
+        deliveries(alloc, b"ab")?,
+    )?;
+    assert!(rt; refused.is_none());
+    Ok(())
+}
