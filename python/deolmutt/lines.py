@@ -2,7 +2,33 @@
 
 from __future__ import annotations
 
+import re
+from typing import NamedTuple, Optional
+
 from .errors import BadName
+
+_ESCAPE = re.compile(rb"\\([nr\\])")
+_ESCAPED = {b"n": b"\n", b"r": b"\r", b"\\": b"\\"}
+
+
+class FileLine(NamedTuple):
+    """The words of a `file` line, and what stands after them: nothing, or a space and the escaped body."""
+
+    folder: bytes
+    place: bytes
+    name: bytes
+    stamp: bytes
+    rest: bytes
+
+    @property
+    def unique(self) -> bytes:
+        """The unique part of the name."""
+        return self.name.partition(b":")[0]
+
+    @property
+    def head(self) -> bytes:
+        """The same line without its body."""
+        return b" ".join((b"file", *self[:4]))
 
 
 def encoded(name: str) -> bytes:
@@ -30,6 +56,19 @@ def file_line(folder: str, place: str, name: str, stamp: int, body: bytes) -> by
 def escaped(body: bytes) -> bytes:
     """The bytes as a line has them."""
     return body.replace(b"\\", b"\\\\").replace(b"\n", b"\\n").replace(b"\r", b"\\r")
+
+
+def unescaped(text: bytes) -> bytes:
+    """The bytes that a line has escaped."""
+    return _ESCAPE.sub(lambda found: _ESCAPED[found[1]], text) if b"\\" in text else text
+
+
+def parted(line: bytes) -> Optional[FileLine]:
+    """The words of a `file` line, or None for another line, and for one with too few words."""
+    words = line.split(b" ", 5)
+    if len(words) < 5 or words[0] != b"file":
+        return None
+    return FileLine(*words[1:5], b" " + words[5] if len(words) == 6 else b"")
 
 
 def is_word(name: str) -> bool:

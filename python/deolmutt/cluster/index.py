@@ -1,0 +1,254 @@
+"""Header summaries of many messages, as a bag of Dask whose rows are in the order of one process."""
+
+from __future__ import annotations
+
+import mmap
+import os
+from array import array
+from typing import Any, Dict, Iterable, Iterator, List, NamedTuple, Optional, Sequence, Tuple, Union
+
+import dask.bag
+from dask.delayed import delayed
+from distributed import Client
+
+from .. import _disk
+from .._tree import TOP
+from ..calls import Place
+from ..errors import BadLine
+from ..lines import decoded, encoded, escaped, parted, unescaped
+from ..scripts import transcript
+from ..world import World
+
+# Lines: a file that all workers reach, by its path, or the bytes themselves.
+Lines = Union[str, "os.PathLike[str]", bytes]
+
+_PARTITION_BYTES = 1 << 24
+_SUMMARY = b"summary"
+_END = b"end"
+# What is printed of a message is no longer than its bytes in the script and so many more.
+_MORE_PRINTED = 128
+
+
+class Row(NamedTuple):
+    """The summary of a message's header. A field that is not there is None; names and values have bytes
+    that are no UTF-8 as surrogates, as in the names of `os`."""
+
+    folder: str
+    unique: str
+    subject: Optional[str] = None
+    sender: Optional[str] = None
+    message_id: Optional[str] = None
+    date: Optional[str] = None
+    seconds: Optional[int] = None
+
+
+_KEYS = {b"subject": 0, b"from": 1, b"message-id": 2, b"date": 3, b"seconds": 4}
+
+
+class _Message(NamedTuple):
+    """A message on its way to its row: its folder, its unique name, and its bytes as a line has them."""
+
+    folder: str
+    unique: str
+    rest: bytes
+
+
+def index(
+    client: Client,
+    trees: Iterable["Union[str, os.PathLike[str]]"] = (),
+    lines: Iterable[Lines] = (),
+    partition_bytes: int = _PARTITION_BYTES,
+    as_frame: bool = False,
+) -> Any:
+    """The header summary of every message, a `Row` each, as a `dask.bag.Bag`.
+
+    `trees` are maildirs with the folders in them, and `lines` stores of `folder` and `file` lines. The
+    rows come in the order in which these are named, and of each in the order of one process: of a store
+    as `maildir_cli index` prints them, of a tree by folder, and then by the bytes of unique names.
+    Neither the workers nor the partitions change a row or its place. The bag's partitions are so many
+    bytes of messages each, or one larger message. What is named by a path all workers have to reach.
+
+    Lines are looked at here and now, by the workers: what makes no store is raised as a `BadLine`, with
+    the number of its line. The rows are made when they are asked for: a body with a bad escape is
+    raised then. `as_frame` answers a `dask.dataframe.DataFrame`, and needs pandas.
+    """
+    parts = [part for tree in trees for part in _parts_of_tree(os.fspath(tree), partition_bytes)]
+    sources = [source if isinstance(source, bytes) else os.path.abspath(source) for source in lines]
+    held = [client.scatter(it, hash=False) if isinstance(it, bytes) else it for it in sources]
+    plans = client.gather([client.submit(_plan, source, pure=False) for source in held])
+    for source, plan in zip(held, plans):
+        parts += [delayed(_rows_of_lines)(source, spans) for spans in _parted_spans(plan, partition_bytes)]
+    bag = dask.bag.from_delayed(parts) if parts else dask.bag.from_sequence([], npartitions=1)
+    return bag.to_dataframe(columns=list(Row._fields)) if as_frame else bag
+
+
+def printed(rows: Iterable[Row]) -> bytes:
+    """Rows as `maildir_cli index` prints them."""
+    return b"".join(_printed(row) for row in rows)
+
+
+def _printed(row: Row) -> bytes:
+    head = b"%b %b\n" % (encoded(row.folder), encoded(row.unique))
+    said = (
+        b"%b=%b\n" % (key, escaped(encoded(str(row[2 + at]))))
+        for key, at in _KEYS.items()
+        if row[2 + at] is not None
+    )
+    return b"".join([head, *said, b"end\n"])
+
+
+# Lines.
+
+
+def _opened(source: Union[str, bytes]) -> Any:
+    """Lines as something whose slices are bytes."""
+    if isinstance(source, bytes):
+        return source
+    with open(source, "rb") as file:
+        # No map is of nothing.
+        return mmap.mmap(file.fileno(), 0, access=mmap.ACCESS_READ) if os.path.getsize(source) else b""
+
+
+def _plan(source: Union[str, bytes]) -> bytes:
+    """Where the lines of the messages begin and end, in the order of the index, as pairs of numbers.
+
+    The store itself says which lines are sound and in which order the messages come: it is loaded with
+    lines that have no bodies.
+    """
+    data = _opened(source)
+    heads: List[bytes] = []
+    spans: Dict[bytes, Tuple[int, int]] = {}
+    folders = at = 0
+    while at < len(data):
+        end = data.find(b"\n", at)
+        end, after = (len(data), b"") if end < 0 else (end, b"\n")
+        line = data[at:end]
+        found = parted(line)
+        folders += line.startswith(b"folder ")
+        heads.append((found.head if found else line) + after)
+        if found and found.place != b"tmp":
+            spans[found.unique] = at, end
+        at = end + 1
+    plan = array("Q")
+    with World.load(b"".join(heads)) as world:
+        for folder in range(folders):
+            for entry in world.list(folder):
+                plan.extend(spans[encoded(entry.unique)])
+    return plan.tobytes()
+
+
+def _parted_spans(plan: bytes, most: int) -> Iterator[bytes]:
+    """The spans of a plan, parted where those of a partition have so many bytes."""
+    spans = array("Q")
+    spans.frombytes(plan)
+    first = size = 0
+    for at in range(0, len(spans), 2):
+        size += spans[at + 1] - spans[at]
+        if size >= most:
+            yield spans[first : at + 2].tobytes()
+            first, size = at + 2, 0
+    if first < len(spans):
+        yield spans[first:].tobytes()
+
+
+def _rows_of_lines(source: Union[str, bytes], plan: bytes) -> List[Row]:
+    """The rows of the lines in these spans."""
+    data = _opened(source)
+    spans = array("Q")
+    spans.frombytes(plan)
+    messages = (_message(data, begin, end) for begin, end in zip(spans[::2], spans[1::2]))
+    try:
+        return list(_rows(list(messages)))
+    except BadLine as error:
+        line = data[: spans[2 * (error.line - 1)]].count(b"\n") + 1
+        error.line, error.args = line, (f"line {line}: {type(error)()}",)
+        raise
+
+
+def _message(data: Any, begin: int, end: int) -> _Message:
+    found = parted(data[begin:end])
+    assert found is not None
+    rest = found.rest
+    if end == len(data) and rest.endswith(b"\r"):
+        # At the end of a last line without LF it is a byte of the message.
+        rest = rest[:-1] + b"\\r"
+    return _Message(decoded(found.folder), decoded(found.unique), rest)
+
+
+# Trees.
+
+
+class _File(NamedTuple):
+    """A message's file in a tree."""
+
+    place: str
+    name: str
+    size: int
+
+    @property
+    def unique(self) -> str:
+        return self.name.partition(":")[0]
+
+
+def _parts_of_tree(tree: str, most: int) -> Iterator[Any]:
+    """A tree's partitions: each is of one folder."""
+    path = os.path.abspath(tree)
+    for steps in [TOP, *_disk.find_folders(path)]:
+        directory = _disk.directory_of(path, steps)
+        part, size = [], 0
+        for file in sorted(_files(directory), key=lambda it: (encoded(it.unique), it.place != "new")):
+            part.append((file.place, file.name))
+            size += file.size
+            if size >= most:
+                yield delayed(_rows_of_files)(directory, part)
+                part, size = [], 0
+        if part:
+            yield delayed(_rows_of_files)(directory, part)
+
+
+def _files(directory: str) -> Iterator[_File]:
+    for place in Place:
+        with os.scandir(os.path.join(directory, place.value)) as found:
+            for entry in found:
+                if not entry.name.startswith((".", ":")) and entry.is_file():
+                    yield _File(place.value, entry.name, entry.stat().st_size)
+
+
+def _rows_of_files(directory: str, part: Sequence[Tuple[str, str]]) -> List[Row]:
+    """The rows of these files. One that is gone is looked for under another name, and else left out."""
+    messages = []
+    for place, name in part:
+        body = _read(directory, place, name)
+        if body is not None:
+            messages.append(_Message(directory, name.partition(":")[0], b" " + escaped(body)))
+    return list(_rows(messages))
+
+
+def _read(directory: str, place: str, name: str) -> Optional[bytes]:
+    try:
+        with open(os.path.join(directory, place, name), "rb") as file:
+            return file.read()
+    except FileNotFoundError:
+        unique = name.partition(":")[0]
+        files = _disk.read_files(directory, ":")
+        return next((file.body for file in files if file.unique == unique), None)
+
+
+# Rows.
+
+
+def _rows(messages: List[_Message]) -> Iterator[Row]:
+    """The rows of messages, whose headers the library reads in one call."""
+    script = b"".join(part for it in messages for part in (_SUMMARY, it.rest, b"\n"))
+    said = transcript(script, len(script) + _MORE_PRINTED * len(messages) + 1)
+    left = iter(messages)
+    fields: List[Any] = [None] * 5
+    for line in said.split(b"\n"):
+        if line == _END:
+            message = next(left)
+            yield Row(message.folder, message.unique, *fields)
+            fields = [None] * 5
+        elif line:
+            key, _, value = line.partition(b"=")
+            at = _KEYS[key]
+            fields[at] = int(value) if at == 4 else decoded(unescaped(value))
