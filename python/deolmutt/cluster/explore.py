@@ -69,7 +69,8 @@ def explore(
     known = {"", *(branch for said in done.values() for branch in said["branches"])}
     waiting = sorted(known - set(done), reverse=True)
     left = runs - len(done)
-    tasks = as_completed(with_results=True)
+    with client.as_current():
+        tasks = as_completed(with_results=True)
     while True:
         while waiting and left > 0:
             left -= 1

@@ -42,6 +42,8 @@ class Row(NamedTuple):
     seconds: Optional[int] = None
 
 
+# The columns of a frame.
+_TYPES = [(field, "Int64" if field == "seconds" else "object") for field in Row._fields]
 _KEYS = {b"subject": 0, b"from": 1, b"message-id": 2, b"date": 3, b"seconds": 4}
 
 
@@ -79,7 +81,7 @@ def index(
     for source, plan in zip(held, plans):
         parts += [delayed(_rows_of_lines)(source, spans) for spans in _parted_spans(plan, partition_bytes)]
     bag = dask.bag.from_delayed(parts) if parts else dask.bag.from_sequence([], npartitions=1)
-    return bag.to_dataframe(columns=list(Row._fields)) if as_frame else bag
+    return bag.to_dataframe(meta=_TYPES) if as_frame else bag
 
 
 def printed(rows: Iterable[Row]) -> bytes:

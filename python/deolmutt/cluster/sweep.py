@@ -49,7 +49,9 @@ def sweep(
     tasks = {
         client.submit(_played, seed, scripts, list(ours), list(plain), clone, pure=False): seed for seed in left
     }
-    for task, difference in as_completed(list(tasks), with_results=True):
+    with client.as_current():
+        ended = as_completed(list(tasks), with_results=True)
+    for task, difference in ended:
         seed = tasks[task]
         done[seed] = {"seed": seed, "scripts": scripts, "differ": _kept(path, seed, difference)}
         journal.add(done[seed])
