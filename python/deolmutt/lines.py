@@ -7,8 +7,8 @@ from typing import NamedTuple, Optional
 
 from .errors import BadName
 
-_ESCAPE = re.compile(rb"\\([nr\\])")
-_ESCAPED = {b"n": b"\n", b"r": b"\r", b"\\": b"\\"}
+_ESCAPE = re.compile(r"\\([nr\\])")
+_ESCAPED = {"n": "\n", "r": "\r", "\\": "\\"}
 
 
 class FileLine(NamedTuple):
@@ -58,9 +58,9 @@ def escaped(body: bytes) -> bytes:
     return body.replace(b"\\", b"\\\\").replace(b"\n", b"\\n").replace(b"\r", b"\\r")
 
 
-def unescaped(text: bytes) -> bytes:
-    """The bytes that a line has escaped."""
-    return _ESCAPE.sub(lambda found: _ESCAPED[found[1]], text) if b"\\" in text else text
+def unescaped(text: str) -> str:
+    """What a line has escaped."""
+    return _ESCAPE.sub(lambda found: _ESCAPED[found[1]], text) if "\\" in text else text
 
 
 def parted(line: bytes) -> Optional[FileLine]:

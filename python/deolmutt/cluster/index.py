@@ -23,10 +23,13 @@ from ..world import World
 Lines = Union[str, "os.PathLike[str]", bytes]
 
 _PARTITION_BYTES = 1 << 24
+# So many bytes of messages go to the library together: what is near stays near.
+_TOGETHER = 1 << 20
+# No sound line has its body further on.
+_HEAD_BYTES = 512
 _SUMMARY = b"summary"
-_END = b"end"
-# What is printed of a message is no longer than its bytes in the script and so many more.
-_MORE_PRINTED = 128
+# What is printed of a message is mostly shorter. Where it is longer the library is asked once more.
+_PRINTED_BYTES = 1024
 
 
 class Row(NamedTuple):
@@ -44,7 +47,7 @@ class Row(NamedTuple):
 
 # The columns of a frame.
 _TYPES = [(field, "Int64" if field == "seconds" else "object") for field in Row._fields]
-_KEYS = {b"subject": 0, b"from": 1, b"message-id": 2, b"date": 3, b"seconds": 4}
+_KEYS = {"subject": 0, "from": 1, "message-id": 2, "date": 3, "seconds": 4}
 
 
 class _Message(NamedTuple):
@@ -92,7 +95,7 @@ def printed(rows: Iterable[Row]) -> bytes:
 def _printed(row: Row) -> bytes:
     head = b"%b %b\n" % (encoded(row.folder), encoded(row.unique))
     said = (
-        b"%b=%b\n" % (key, escaped(encoded(str(row[2 + at]))))
+        b"%b=%b\n" % (key.encode(), escaped(encoded(str(row[2 + at]))))
         for key, at in _KEYS.items()
         if row[2 + at] is not None
     )
@@ -124,8 +127,11 @@ def _plan(source: Union[str, bytes]) -> bytes:
     while at < len(data):
         end = data.find(b"\n", at)
         end, after = (len(data), b"") if end < 0 else (end, b"\n")
-        line = data[at:end]
+        line = data[at : min(end, at + _HEAD_BYTES)]
         found = parted(line)
+        if found is None:
+            line = data[at:end]
+            found = parted(line)
         folders += line.startswith(b"folder ")
         heads.append((found.head if found else line) + after)
         if found and found.place != b"tmp":
@@ -160,7 +166,7 @@ def _rows_of_lines(source: Union[str, bytes], plan: bytes) -> List[Row]:
     spans.frombytes(plan)
     messages = (_message(data, begin, end) for begin, end in zip(spans[::2], spans[1::2]))
     try:
-        return list(_rows(list(messages)))
+        return list(_rows(messages))
     except BadLine as error:
         line = data[: spans[2 * (error.line - 1)]].count(b"\n") + 1
         error.line, error.args = line, (f"line {line}: {type(error)()}",)
@@ -218,11 +224,12 @@ def _files(directory: str) -> Iterator[_File]:
 
 def _rows_of_files(directory: str, part: Sequence[Tuple[str, str]]) -> List[Row]:
     """The rows of these files. One that is gone is looked for under another name, and else left out."""
-    messages = []
-    for place, name in part:
-        body = _read(directory, place, name)
-        if body is not None:
-            messages.append(_Message(directory, name.partition(":")[0], b" " + escaped(body)))
+    bodies = ((name, _read(directory, place, name)) for place, name in part)
+    messages = (
+        _Message(directory, name.partition(":")[0], b" " + escaped(body))
+        for name, body in bodies
+        if body is not None
+    )
     return list(_rows(messages))
 
 
@@ -239,18 +246,43 @@ def _read(directory: str, place: str, name: str) -> Optional[bytes]:
 # Rows.
 
 
-def _rows(messages: List[_Message]) -> Iterator[Row]:
-    """The rows of messages, whose headers the library reads in one call."""
-    script = b"".join(part for it in messages for part in (_SUMMARY, it.rest, b"\n"))
-    said = transcript(script, len(script) + _MORE_PRINTED * len(messages) + 1)
+def _rows(messages: Iterable[_Message]) -> Iterator[Row]:
+    """The rows of messages. A refused one is raised with its number, from 1, as its line."""
+    done = 0
+    for together in _together(messages):
+        script = b"".join(part for it in together for part in (_SUMMARY, it.rest, b"\n"))
+        try:
+            said = transcript(script, _PRINTED_BYTES * len(together))
+        except BadLine as error:
+            error.line += done
+            raise
+        yield from _rows_said(together, decoded(said))
+        done += len(together)
+
+
+def _together(messages: Iterable[_Message]) -> Iterator[List[_Message]]:
+    some: List[_Message] = []
+    size = 0
+    for message in messages:
+        some.append(message)
+        size += len(message.rest)
+        if size >= _TOGETHER:
+            yield some
+            some, size = [], 0
+    if some:
+        yield some
+
+
+def _rows_said(messages: List[_Message], said: str) -> Iterator[Row]:
+    """The rows that the summaries of messages say, each some lines `KEY=VALUE` and `end`."""
     left = iter(messages)
     fields: List[Any] = [None] * 5
-    for line in said.split(b"\n"):
-        if line == _END:
-            message = next(left)
-            yield Row(message.folder, message.unique, *fields)
-            fields = [None] * 5
-        elif line:
-            key, _, value = line.partition(b"=")
+    for line in said.split("\n"):
+        key, found, value = line.partition("=")
+        if found:
             at = _KEYS[key]
-            fields[at] = int(value) if at == 4 else decoded(unescaped(value))
+            fields[at] = int(value) if at == 4 else unescaped(value)
+        elif key:
+            folder, unique, _ = next(left)
+            yield Row(folder, unique, *fields)
+            fields = [None] * 5

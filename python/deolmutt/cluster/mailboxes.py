@@ -4,6 +4,7 @@ from __future__ import annotations
 
 import asyncio
 import os
+import pickle
 from types import TracebackType
 from typing import Any, Dict, Iterable, List, NamedTuple, Optional, Sequence, Tuple, Union
 
@@ -15,7 +16,7 @@ from ..calls import Answer, Call, Clean, Copy, Deliver, Entry, Expunge, Flag, Mo
 from ..errors import DeolmuttError, NoFolder
 from .errors import NoSnapshot, NoWorker, OtherShards, OtherStore, ShardLost, lost
 from .rendezvous import shard_of
-from .shard import Asked, Ended, Outcome, Shard
+from .shard import Asked, Ended, Outcome, Request, Shard
 from .snapshot import Manifest, ShardPart, read_manifest, remove_others
 
 # A user's name: any bytes, or a text, which is taken as UTF-8.
@@ -327,7 +328,10 @@ class Mailboxes:
     def _sent(self, shard: int, method: str, *given: Any) -> _Sent:
         """A call of a shard's method, on its way, if the shard is not known to be lost."""
         held = self._shards[shard]
-        return _Sent(shard, held, None if shard in self._lost else held.actor.run(held.born, method, *given))
+        if shard in self._lost:
+            return _Sent(shard, held, None)
+        request = Request(held.born, method, given)
+        return _Sent(shard, held, held.actor.run(pickle.dumps(request, pickle.HIGHEST_PROTOCOL)))
 
     def _answer(self, sent: _Sent) -> Any:
         """What a call came to. Whatever Dask raises means that it is not known whether it was made."""
@@ -335,7 +339,7 @@ class Mailboxes:
             raise lost(sent.shard, self._snapshot, self._lost.get(sent.shard, "it was restored since"))
         while True:
             try:
-                outcome: Outcome = sent.call.result(timeout=_SECONDS)
+                answer: bytes = sent.call.result(timeout=_SECONDS)
                 break
             except _TIMEOUTS:
                 # Dask leaves some calls to a lost actor without an answer.
@@ -343,6 +347,7 @@ class Mailboxes:
                     raise self._noted_lost(sent, "its worker is gone") from None
             except Exception as error:
                 raise self._noted_lost(sent, f"{type(error).__name__}: {error}") from error
+        outcome: Outcome = pickle.loads(answer)
         if outcome.error is not None:
             raise outcome.error
         return outcome.value

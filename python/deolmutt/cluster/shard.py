@@ -2,6 +2,7 @@
 
 from __future__ import annotations
 
+import pickle
 import time
 import uuid
 from typing import Any, Dict, Iterable, Iterator, List, NamedTuple, Optional, Tuple, Union
@@ -18,6 +19,14 @@ from .snapshot import PREFIX, Part, ShardPart, read_part, write_durably
 
 # How a call ended: an answer, or an exception that is not raised.
 Ended = Union[Answer, DeolmuttError]
+
+
+class Request(NamedTuple):
+    """A method of a shard, what it is given, and the word that the shard was born with."""
+
+    born: str
+    method: str
+    given: Tuple[Any, ...]
 
 
 class Outcome(NamedTuple):
@@ -74,18 +83,19 @@ class _Store:
         return ended
 
     def _note(self, calls: List[Call], ended: List[Ended]) -> None:
-        now = int(time.time())
+        """Keeps where the messages are after these calls."""
+        now, kept = int(time.time()), self.kept
         for call, end in zip(calls, ended):
             if not isinstance(end, Answer):
                 continue
             if isinstance(call, Deliver):
-                self.kept[call.unique] = Kept(call.folder, now)
+                kept[call.unique] = Kept(call.folder, now)
             elif isinstance(call, Copy):
-                self.kept[call.fresh] = Kept(call.to, self.kept[call.unique].date)
+                kept[call.fresh] = Kept(call.to, kept[call.unique].date)
             elif isinstance(call, Move):
-                self.kept[call.unique] = Kept(call.to, self.kept[call.unique].date)
+                kept[call.unique] = Kept(call.to, kept[call.unique].date)
             elif isinstance(call, Expunge):
-                del self.kept[call.unique]
+                del kept[call.unique]
 
     def lines(self) -> Iterator[bytes]:
         """The store's `folder` and `file` lines."""
@@ -122,14 +132,20 @@ class Shard:
         """A word that no other shard has, nor this one where it was made anew."""
         return self._born
 
-    def run(self, born: str, method: str, *given: Any) -> Outcome:
-        """Calls a method. What it raises is answered, so that what Dask raises is always Dask's own."""
+    def run(self, request: bytes) -> bytes:
+        """Calls a method, as a pickled `Request` says, and answers a pickled `Outcome`.
+
+        What it raises is answered too, so that what Dask raises is always Dask's own. Pickled, a batch
+        is one piece for Dask, which would look at each part of a list.
+        """
+        born, method, given = pickle.loads(request)
         if born != self._born:
             raise OSError("the shard was made anew")
         try:
-            return Outcome(getattr(self, method)(*given), None)
+            outcome = Outcome(getattr(self, method)(*given), None)
         except Exception as error:
-            return Outcome(None, error)
+            outcome = Outcome(None, error)
+        return pickle.dumps(outcome, pickle.HIGHEST_PROTOCOL)
 
     def deliver_many(self, user: bytes, folder: int, uniques: List[str], bodies: List[bytes]) -> List[Ended]:
         """Delivers messages of one user."""
