@@ -2,18 +2,23 @@
 
 from __future__ import annotations
 
+import atexit
 import logging
 import os
 import pathlib
+import random
 import signal
 import subprocess
 import sys
 import tempfile
 import time
 import unittest
+from functools import lru_cache
 from typing import Any, List
 
 from support import PYTHON, WHY_NOT, Case
+
+from deolmutt import lines
 
 try:
     from distributed import Client
@@ -26,7 +31,7 @@ except ImportError as error:
 
 _SECONDS_TO_START = 60
 # Dask says at length what tests kill.
-logging.getLogger("distributed").setLevel(logging.CRITICAL + 1)
+logging.disable(logging.CRITICAL)
 
 needs_dask = unittest.skipIf(NO_DASK, f"Dask is not here: {NO_DASK}")
 needs_cluster = unittest.skipIf(NO_DASK or WHY_NOT, f"Dask or the library is not here: {NO_DASK or WHY_NOT}")
@@ -94,16 +99,26 @@ class Cluster:
         self._room.cleanup()
 
 
-class ClusterCase(Case):
-    """Tests over one cluster. Those that kill something make one of their own."""
+@lru_cache(maxsize=None)
+def shared() -> Cluster:
+    """A cluster of two workers for all tests that leave it whole. It ends with the process."""
+    cluster = Cluster(2)
+    atexit.register(cluster.close)
+    return cluster
 
-    workers = 2
+
+class ClusterCase(Case):
+    """Tests over the shared cluster, or, where they kill something, over one of their class."""
+
     cluster: Any
 
     @classmethod
     def setUpClass(cls) -> None:
-        cls.cluster = Cluster(cls.workers)
-        cls.addClassCleanup(cls.cluster.close)
+        cls.cluster = cls.made()
+
+    @classmethod
+    def made(cls) -> Cluster:
+        return shared()
 
     @property
     def client(self) -> Any:
@@ -113,3 +128,21 @@ class ClusterCase(Case):
         boxes = deolmutt.cluster.Mailboxes(self.client, shards, **how)
         self.addCleanup(boxes.close)
         return boxes
+
+
+def random_lines(seed: int, count: int) -> bytes:
+    """A store of messages in no order, with headers of right, wrong and odd fields."""
+    chance = random.Random(seed)
+    folders = [b"a", b"b", b"\xff"]
+    names = [b"%d.M%dP1.h" % (at, chance.randrange(9)) for at in range(count)]
+    chance.shuffle(names)
+    said = [b"folder " + folder + b"\n" for folder in folders]
+    fields = [b"Subject: one", b"SUBJECT:two\n\tfolded", b"From: a <a@b>", b"Date: x", b"no field", b": x", b"\xff: y",
+              b"Date: Fri, 21 Nov 1997 09:55:06 -0600", b"Message-ID: <1@b>", b"Subject: \r back \\ slash", b""]  # fmt: skip
+    for name in names:
+        body = chance.choice([b"\n", b"\r\n"]).join(chance.choices(fields, k=chance.randrange(8)))
+        place, info = chance.choice([(b"new", b""), (b"cur", b":2,S"), (b"cur", b":x"), (b"tmp", b"")])
+        body += bytes(chance.randrange(9)) * chance.randrange(200)
+        said.append(b"file %b %b %b %d " % (chance.choice(folders), place, name + info, chance.randrange(9)))
+        said.append(lines.escaped(body) + b"\n")
+    return b"".join(said)

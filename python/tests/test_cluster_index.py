@@ -5,17 +5,15 @@ from __future__ import annotations
 import io
 import os
 import pathlib
-import random
 import subprocess
 import unittest
 from contextlib import redirect_stdout
 from typing import Any, List
 
-from cluster_support import NO_DASK, Cluster, ClusterCase, needs_cluster
+from cluster_support import NO_DASK, ClusterCase, needs_cluster, random_lines
 from support import TOP, maildir_message
 
 import deolmutt
-from deolmutt import lines
 from deolmutt.errors import BadEscape, DuplicateUnique, NotInThisRun, UnknownFolder
 
 if not NO_DASK:
@@ -42,29 +40,10 @@ ROWS_OF_SMALL = [
 ]
 
 
-def random_lines(seed: int, count: int) -> bytes:
-    """A store of messages in no order, with headers of right, wrong and odd fields."""
-    chance = random.Random(seed)
-    folders = [b"a", b"b", b"\xff"]
-    names = [b"%d.M%dP1.h" % (at, chance.randrange(9)) for at in range(count)]
-    chance.shuffle(names)
-    said = [b"folder " + folder + b"\n" for folder in folders]
-    fields = [b"Subject: one", b"SUBJECT:two\n\tfolded", b"From: a <a@b>", b"Date: x", b"no field", b": x", b"\xff: y",
-              b"Date: Fri, 21 Nov 1997 09:55:06 -0600", b"Message-ID: <1@b>", b"Subject: \r back \\ slash", b""]  # fmt: skip
-    for name in names:
-        body = chance.choice([b"\n", b"\r\n"]).join(chance.choices(fields, k=chance.randrange(8)))
-        place, info = chance.choice([(b"new", b""), (b"cur", b":2,S"), (b"cur", b":x"), (b"tmp", b"")])
-        body += bytes(chance.randrange(9)) * chance.randrange(200)
-        said.append(b"file %b %b %b %d " % (chance.choice(folders), place, name + info, chance.randrange(9)))
-        said.append(lines.escaped(body) + b"\n")
-    return b"".join(said)
-
-
 @needs_cluster
 class IndexTest(ClusterCase):
-    def rows(self, client: Any = None, **how: Any) -> List[Any]:
-        client = client or self.client
-        found: List[Any] = client.compute(index(client, **how)).result()
+    def rows(self, **how: Any) -> List[Any]:
+        found: List[Any] = self.client.compute(index(self.client, **how)).result()
         return found
 
     def file(self, name: str, content: bytes) -> pathlib.Path:
@@ -90,18 +69,6 @@ class IndexTest(ClusterCase):
         big = b"file i new a 0 %b\nfile i new b 0 x\nfile i new c 0 y\n" % (b"x" * 1000)
         bag = index(self.client, lines=[b"folder i\n" + big], partition_bytes=30)
         self.assertEqual([1, 2], self.client.compute(bag.map_partitions(lambda rows: [len(rows)])).result())
-
-    def test_the_same_by_any_number_of_workers(self) -> None:
-        stores = [random_lines(seed, 400) for seed in range(3)]
-        expected = self.rows(lines=stores)
-        self.assertGreater(len(expected), 600)
-        cluster = Cluster(1)
-        self.addCleanup(cluster.close)
-        for workers in (1, 4):
-            cluster.add_workers(workers - len(cluster.workers))
-            cluster.client.wait_for_workers(workers, timeout=60)
-            for most in PARTITIONS[2:]:
-                self.assertEqual(expected, self.rows(cluster.client, lines=stores, partition_bytes=most))
 
     @unittest.skipUnless(os.access(CLI, os.X_OK), f"maildir_cli is not built: {CLI}; MAILDIR_CLI may name it")
     def test_it_prints_what_the_program_prints(self) -> None:

@@ -3,7 +3,6 @@
 from __future__ import annotations
 
 import json
-import pathlib
 import threading
 import time
 import unittest
@@ -11,9 +10,8 @@ from typing import Any, Dict, List, Set
 
 from cluster_support import NO_DASK, Cluster, ClusterCase, needs_cluster, needs_dask
 
-from deolmutt import World
-from deolmutt.calls import Answer, Deliver, Expunge, Flag, Outcome, Place, Seen
-from deolmutt.errors import BodyTooLong, NameUsed, NoFolder, NotThere, NotTrashed, TooManyJobs
+from deolmutt.calls import Place
+from deolmutt.errors import BodyTooLong, NameUsed, NoFolder, NotThere, NotTrashed
 
 if not NO_DASK:
     from deolmutt.cluster import (
@@ -79,22 +77,6 @@ class MailboxesTest(ClusterCase):
         ):
             with self.assertRaises(refused):
                 call()
-
-    def test_the_same_on_any_number_of_shards(self) -> None:
-        calls = [(user, Deliver(0, f"{at}.a", b"%d" % at), None) for at, user in enumerate(USERS)]
-        calls += [(user, Seen(0, f"{at}.a", "S"), None) for at, user in enumerate(USERS)]
-        calls += [(USERS[0], Flag(0, "none", "F"), None), (USERS[1], Deliver(0, "1.a", b""), None)]
-        held = []
-        for shards in (1, 5, 64):
-            boxes = self.mailboxes(shards)
-            ended = boxes.call_many(calls)
-            self.assertEqual([Answer(Outcome.DELIVERED)] * 200 + [Answer(Outcome.FLAGS, "S")] * 200, ended[:400])
-            self.assertEqual([NotThere, NameUsed], [type(end) for end in ended[400:]])
-            held.append([(boxes.list(user), boxes.read(user, f"{at}.a")) for at, user in enumerate(USERS)])
-            self.assertEqual((200, 200), tuple(map(sum, zip(*boxes.counts()))))
-            boxes.close()
-        self.assertEqual(held[0], held[1])
-        self.assertEqual(held[0], held[2])
 
     def test_users_of_any_bytes(self) -> None:
         boxes = self.mailboxes(4)
@@ -259,14 +241,13 @@ class Deliverer(threading.Thread):
 
 @needs_cluster
 class LostWorkerTest(ClusterCase):
-    workers = 4
+    """Each kills one of four workers, so that the last has two."""
 
-    def setUp(self) -> None:
-        super().setUp()
-        # Those that a test before has killed are replaced.
-        alive = len(self.client.scheduler_info()["workers"])
-        self.cluster.add_workers(self.workers - alive)
-        self.client.wait_for_workers(self.workers, timeout=60)
+    @classmethod
+    def made(cls) -> Cluster:
+        cluster = Cluster(4)
+        cls.addClassCleanup(cluster.close)
+        return cluster
 
     def address_of(self, boxes: Any, shard: int) -> str:
         return str(boxes._shards[shard].worker)
@@ -279,27 +260,27 @@ class LostWorkerTest(ClusterCase):
         before = list(deliverer.answered)
         boxes.snapshot(self.folder)
         self.until(lambda: len(deliverer.answered) >= len(before) + 50)
+        old = self.address_of(boxes, 1)
+        gone = [shard for shard in range(4) if self.address_of(boxes, shard) == old]
         self.worker_of(boxes, 1).kill()
-        self.until(lambda: len(deliverer.lost) >= 5)
-        time.sleep(0.2)
+        self.until(lambda: len(deliverer.lost) >= 5 and boxes.lost == gone)
         deliverer.ends = True
         deliverer.join(MOST_SECONDS_TO_BE_LOST)
         self.assertEqual([], deliverer.other)
         self.assertFalse(deliverer.is_alive())
-        for error in deliverer.lost.values():
-            self.assertEqual((1, str(self.folder)), (error.shard, error.snapshot))
-        self.assertEqual([1], boxes.lost)
-        old = self.address_of(boxes, 1)
-        boxes.restore(shard=1)
-        self.assertNotEqual(old, self.address_of(boxes, 1))
+        for number, error in deliverer.lost.items():
+            self.assertEqual(str(self.folder), error.snapshot)
+            self.assertEqual(boxes.shard_of(USERS[number % 50]), error.shard)
+            self.assertIn(error.shard, gone)
+        for shard in gone:
+            boxes.restore(shard=shard)
+            self.assertNotEqual(old, self.address_of(boxes, shard))
         there = {entry.unique for user in USERS[:50] for entry in boxes.list(user)}
         for number in before:
             self.assertIn(f"{number}.a", there)
         for number in deliverer.answered:
-            if boxes.shard_of(USERS[number % 50]) != 1:
+            if boxes.shard_of(USERS[number % 50]) not in gone:
                 self.assertIn(f"{number}.a", there)
-        for number in deliverer.lost:
-            self.assertEqual(1, boxes.shard_of(USERS[number % 50]))
         boxes.deliver(next(user for user in USERS if boxes.shard_of(user) == 1), b"x")
 
     def test_a_call_in_flight_is_lost_and_not_made_again(self) -> None:
