@@ -278,9 +278,13 @@ class LostWorkerTest(ClusterCase):
         there = {entry.unique for user in USERS[:50] for entry in boxes.list(user)}
         for number in before:
             self.assertIn(f"{number}.a", there)
+        # A later one is there, or its caller got `ShardLost`, which names it.
+        told = {each for error in deliverer.lost.values() for each in error.since}
         for number in deliverer.answered:
-            if boxes.shard_of(USERS[number % 50]) not in gone:
-                self.assertIn(f"{number}.a", there)
+            user = USERS[number % 50]
+            if f"{number}.a" not in there:
+                self.assertIn(boxes.shard_of(user), gone)
+                self.assertIn((user, f"{number}.a"), told)
         boxes.deliver(next(user for user in USERS if boxes.shard_of(user) == 1), b"x")
 
     def test_a_call_in_flight_is_lost_and_not_made_again(self) -> None:

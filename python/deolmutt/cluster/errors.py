@@ -2,7 +2,7 @@
 
 from __future__ import annotations
 
-from typing import Optional
+from typing import Optional, Sequence, Tuple
 
 from ..errors import DeolmuttError, Refused
 
@@ -12,10 +12,13 @@ class ShardLost(DeolmuttError):
 
     A call that was in flight may have been made or not; one that came later was not. None is tried
     again. `shard` is the shard's number, and `snapshot` the folder of its last snapshot, if it has one.
+    `since` has the deliveries that these mailboxes had answered since then, each the user and the unique
+    name: what of them isn't in the snapshot is gone. Without a snapshot all is gone, and it is empty.
     """
 
     shard: int = 0
     snapshot: Optional[str] = None
+    since: Sequence[Tuple[bytes, str]] = ()
 
 
 class NoWorker(DeolmuttError):
@@ -58,9 +61,11 @@ class WrongChecksum(BadSnapshot):
     """A shard's file is not as the manifest says."""
 
 
-def lost(shard: int, snapshot: Optional[str], why: object) -> ShardLost:
+def lost(
+    shard: int, snapshot: Optional[str], since: Sequence[Tuple[bytes, str]], why: object
+) -> ShardLost:
     """The error of a shard whose worker is gone."""
     kept = f"its last snapshot is in {snapshot}" if snapshot else "there is no snapshot of it"
     error = ShardLost(f"shard {shard} is lost ({why}); {kept}")
-    error.shard, error.snapshot = shard, snapshot
+    error.shard, error.snapshot, error.since = shard, snapshot, since
     return error

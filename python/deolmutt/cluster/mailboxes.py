@@ -68,6 +68,9 @@ class Mailboxes:
         self._numbers = {name: number for number, name in enumerate(folders)}
         self._snapshot: Optional[str] = None
         self._lost: Dict[int, str] = {}
+        # The deliveries that were answered since the last snapshot, by shards, once there is to be one.
+        self._since: List[List[Tuple[bytes, str]]] = [[] for _ in range(shards)]
+        self._keeps_since = False
         workers = self._workers()
         at = [workers[shard % len(workers)] for shard in range(shards)]
         self._shards = self._started([(worker, ()) for worker in at])
@@ -153,13 +156,18 @@ class Mailboxes:
             places, asked = of_shards.setdefault(shard, ([], []))
             places.append(at)
             asked.append(Asked(_bytes(user), call, None if to is None else _bytes(to)))
-        sent = [(self._sent(shard, "call_many", asked), places) for shard, (places, asked) in of_shards.items()]
-        for each, places in sent:
+        sent = [
+            (self._sent(shard, "call_many", asked), places, asked)
+            for shard, (places, asked) in of_shards.items()
+        ]
+        for each, places, asked in sent:
             try:
                 ends = self._answer(each)
             except DeolmuttError as error:
                 ends = [error] * len(places)
             ended.update(zip(places, ends))
+            made = (it for it, end in zip(asked, ends) if isinstance(end, Answer))
+            self._note(each.shard, [(it.user, it.call.unique) for it in made if isinstance(it.call, Deliver)])
         return [ended[at] for at in range(len(ended))]
 
     def deliver_many(
@@ -176,10 +184,12 @@ class Mailboxes:
         names = [fresh_unique() for _ in bodies] if uniques is None else list(uniques)
         if len(names) != len(bodies):
             raise ValueError(f"{len(bodies)} messages have {len(names)} names")
-        given = _bytes(user), self._number(folder), names, list(bodies)
-        for ended in self._ask(self.shard_of(user), "deliver_many", *given):
-            if isinstance(ended, DeolmuttError):
-                raise ended
+        name, shard = _bytes(user), self.shard_of(user)
+        ends = self._ask(shard, "deliver_many", name, self._number(folder), names, list(bodies))
+        self._note(shard, [(name, unique) for unique, end in zip(names, ends) if isinstance(end, Answer)])
+        for end in ends:
+            if isinstance(end, DeolmuttError):
+                raise end
         return names
 
     # What is there.
@@ -221,10 +231,15 @@ class Mailboxes:
         """
         path = os.path.abspath(folder)
         os.makedirs(path, exist_ok=True)
+        # What is answered while the shards write may be in the snapshot or not.
+        self._keeps_since = True
+        before = [len(since) for since in self._since]
         parts: List[ShardPart] = self._ask_all("snapshot", [(shard, path) for shard in range(len(self))])
         manifest = Manifest(self._folders, parts)
         manifest.write(path)
         self._snapshot = path
+        for since, count in zip(self._since, before):
+            del since[:count]
         remove_others(path, manifest)
 
     def restore(
@@ -248,8 +263,9 @@ class Mailboxes:
         held = self._started([(at[number], (path, manifest.shards[number].stores)) for number in numbers])
         for number, each in zip(numbers, held):
             self._shards[number] = each
+            self._since[number] = []
             self._lost.pop(number, None)
-        self._snapshot = path
+        self._snapshot, self._keeps_since = path, True
 
     # Its life.
 
@@ -336,7 +352,7 @@ class Mailboxes:
     def _answer(self, sent: _Sent) -> Any:
         """What a call came to. Whatever Dask raises means that it is not known whether it was made."""
         if sent.call is None:
-            raise lost(sent.shard, self._snapshot, self._lost.get(sent.shard, "it was restored since"))
+            raise self._lost_error(sent.shard, self._lost.get(sent.shard, "it was restored since"))
         while True:
             try:
                 answer: bytes = sent.call.result(timeout=_SECONDS)
@@ -356,7 +372,16 @@ class Mailboxes:
         """Keeps later calls from a shard that is lost, unless it was restored meanwhile."""
         if self._shards[sent.shard] is sent.held:
             self._lost.setdefault(sent.shard, why)
-        return lost(sent.shard, self._snapshot, why)
+        return self._lost_error(sent.shard, why)
+
+    def _lost_error(self, shard: int, why: str) -> ShardLost:
+        since = tuple(self._since[shard]) if self._snapshot is not None else ()
+        return lost(shard, self._snapshot, since, why)
+
+    def _note(self, shard: int, delivered: Iterable[Tuple[bytes, str]]) -> None:
+        """Keeps what was delivered since the last snapshot. Without any, all would be gone anyhow."""
+        if self._keeps_since:
+            self._since[shard] += delivered
 
     def _ask(self, shard: int, method: str, *given: Any) -> Any:
         return self._answer(self._sent(shard, method, *given))
