@@ -249,9 +249,6 @@ class LostWorkerTest(ClusterCase):
         cls.addClassCleanup(cluster.close)
         return cluster
 
-    def address_of(self, boxes: Any, shard: int) -> str:
-        return str(boxes._shards[shard].worker)
-
     def test_a_worker_is_killed_amid_deliveries(self) -> None:
         boxes = self.mailboxes(4)
         deliverer = Deliverer(boxes)
@@ -260,8 +257,8 @@ class LostWorkerTest(ClusterCase):
         before = list(deliverer.answered)
         boxes.snapshot(self.folder)
         self.until(lambda: len(deliverer.answered) >= len(before) + 50)
-        old = self.address_of(boxes, 1)
-        gone = [shard for shard in range(4) if self.address_of(boxes, shard) == old]
+        old = boxes.worker_of(1)
+        gone = [shard for shard in range(4) if boxes.worker_of(shard) == old]
         self.worker_of(boxes, 1).kill()
         self.until(lambda: len(deliverer.lost) >= 5 and boxes.lost == gone)
         deliverer.ends = True
@@ -274,7 +271,7 @@ class LostWorkerTest(ClusterCase):
             self.assertIn(error.shard, gone)
         for shard in gone:
             boxes.restore(shard=shard)
-            self.assertNotEqual(old, self.address_of(boxes, shard))
+            self.assertNotEqual(old, boxes.worker_of(shard))
         there = {entry.unique for user in USERS[:50] for entry in boxes.list(user)}
         for number in before:
             self.assertIn(f"{number}.a", there)
@@ -328,7 +325,7 @@ class LostWorkerTest(ClusterCase):
         self.assertEqual(len(files), len(self.files()))
 
     def worker_of(self, boxes: Any, shard: int) -> Any:
-        return self.cluster.worker_at(self.address_of(boxes, shard))
+        return self.cluster.worker_at(boxes.worker_of(shard))
 
     def files(self) -> Set[str]:
         return {path.name for path in self.folder.iterdir()}

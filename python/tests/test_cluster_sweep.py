@@ -48,9 +48,9 @@ class SweepTest(ClusterCase):
 
     def test_programs_that_do_the_same(self) -> None:
         self.assertEqual([], self.sweep(range(2)))
-        # What is done is not done again: these programs are not even asked.
-        done = sweep(self.client, range(2), self.folder / "found", ["false"], ["true"], scripts=SCRIPTS)
-        self.assertEqual([], done)
+        # What is done is not done again: the program is not even asked.
+        pathlib.Path(self.plays[1]).unlink()
+        self.assertEqual([], self.sweep(range(2)))
 
     def test_a_finding_has_the_script_that_shows_it(self) -> None:
         found = self.sweep([3], "job ")
@@ -60,10 +60,12 @@ class SweepTest(ClusterCase):
         self.assertIn(b"job ", script)
         self.assertEqual((finding.ours[0], finding.ours[1] + b"more\n"), finding.plain[:2])
         # It goes on from a journal that was cut off amid a line, and answers the older finding too.
-        journal = self.folder / "found/seeds.jsonl"
+        [journal] = (self.folder / "found").glob("*.jsonl")
         journal.write_bytes(journal.read_bytes() + b'{"seed": 4, "scr')
-        self.assertEqual(found, sweep(self.client, [3], self.folder / "found", ["false"], ["true"]))
-        self.assertEqual([3, 4], [each.seed for each in self.sweep([3, 4], "folder")])
+        self.assertEqual([3, 4], [each.seed for each in self.sweep([3, 4], "job ")])
+        self.assertEqual(found, self.sweep([3], "job "))
+        # Another thing that is asked begins anew.
+        self.assertEqual([], self.sweep([3]))
 
     def test_without_a_clone(self) -> None:
         with self.assertRaises(NoClone):

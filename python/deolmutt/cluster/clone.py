@@ -2,13 +2,14 @@
 
 from __future__ import annotations
 
+import hashlib
 import importlib
 import json
 import os
 import sys
 from pathlib import Path
 from types import ModuleType
-from typing import Any, Dict, Iterator, List, Optional
+from typing import Any, Dict, List, Optional
 
 from .errors import NoClone
 
@@ -27,11 +28,16 @@ def module_of_clone(clone: Optional[str], part: str, name: str) -> ModuleType:
 
 
 class Journal:
-    """A file of what was done: a line of JSON for each, which is on the disk before the next is begun."""
+    """A file of what was done: a line of JSON for each, which is on the disk before the next is begun.
 
-    def __init__(self, folder: str, name: str) -> None:
+    `name` begins the names of all files of what was asked, so that each other thing that is asked has
+    files of its own.
+    """
+
+    def __init__(self, folder: str, asked: Any) -> None:
         os.makedirs(folder, exist_ok=True)
-        self._path = os.path.join(folder, name)
+        self.name = hashlib.sha256(json.dumps(asked).encode()).hexdigest()[:12]
+        self._path = os.path.join(folder, f"{self.name}.jsonl")
 
     def read(self) -> List[Dict[str, Any]]:
         """What was done so far. A last line that was cut off is none."""

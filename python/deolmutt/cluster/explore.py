@@ -55,16 +55,15 @@ def explore(
     has `maildir_judge` judge each.
 
     It is what `tools/explore` does, a run for each task, and the words are those of that tool. Each run
-    that is done is kept in `runs.jsonl` of the folder, and the log of each interleaving that breaks the
-    law in `ORDER.log`. A search that was cut off goes on from there where it is called again with the
-    same words.
+    that is done is kept in the folder, and the log of each interleaving that breaks the law. A search
+    that was cut off goes on from there where it is called again with the same words.
 
     Each worker needs strace, the judge, the programs and a clone of the repository. Raises `ToolRefused`
     with what that tool would say.
     """
     path = os.path.abspath(folder)
-    journal = Journal(path, "runs.jsonl")
     asked = _Asked(setup, commands, list(claims), tuple(folders), clone)
+    journal = Journal(path, asked)
     done: Dict[str, Dict[str, Any]] = {said["prefix"]: said for said in journal.read()}
     known = {"", *(branch for said in done.values() for branch in said["branches"])}
     waiting = sorted(known - set(done), reverse=True)
@@ -79,11 +78,11 @@ def explore(
             break
         _, (said, log) = next(tasks)
         if log:
-            write_durably(path, f"{said['order']}.log", [log])
+            write_durably(path, f"{journal.name}-{said['order']}.log", [log])
         journal.add(said)
         done[said["prefix"]] = said
         waiting += reversed(said["branches"])
-    return _summed(path, list(done.values()), not waiting)
+    return _summed(os.path.join(path, journal.name), list(done.values()), not waiting)
 
 
 def _run(asked: _Asked, prefix: str) -> Tuple[Dict[str, Any], bytes]:
@@ -109,12 +108,12 @@ def _run(asked: _Asked, prefix: str) -> Tuple[Dict[str, Any], bytes]:
     return said, text if found else b""
 
 
-def _summed(folder: str, done: List[Dict[str, Any]], is_whole: bool) -> Interleavings:
+def _summed(begin: str, done: List[Dict[str, Any]], is_whole: bool) -> Interleavings:
     """What all runs showed: two of one order are one interleaving."""
     clauses = {said["order"]: said["clauses"] for said in done}
     orders = sorted(clauses)
     broken = []
     for clause in sorted({clause for found in clauses.values() for clause in found}):
         those = [order for order in orders if clause in clauses[order]]
-        broken.append(Broken(clause, len(those), those[0], os.path.join(folder, f"{those[0]}.log")))
+        broken.append(Broken(clause, len(those), those[0], f"{begin}-{those[0]}.log"))
     return Interleavings(orders, is_whole, sum(bool(found) for found in clauses.values()), broken)

@@ -216,6 +216,10 @@ class Mailboxes:
         """The shard of a user."""
         return shard_of(_bytes(user), len(self))
 
+    def worker_of(self, shard: int) -> str:
+        """The address of the worker that a shard is on, or was on when it was lost."""
+        return self._shards[shard].worker
+
     @property
     def lost(self) -> List[int]:
         """The shards that are known to be lost."""

@@ -36,13 +36,13 @@ def sweep(
 
     It is what `bench/play/compare` does, a seed for each task: a seed has the same scripts everywhere,
     and ends at the first on which the commands differ, in what they print, say or end with. That script
-    is kept in the folder, and each seed that is done in its `seeds.jsonl`. A sweep that was cut off goes
-    on from there where it is called again, and answers the older findings too.
+    is kept in the folder, and so is each seed that is done. A sweep that was cut off goes on from there
+    where it is called again with the same commands, and answers the older findings too.
 
     Each worker needs the commands and a clone of the repository.
     """
     path = os.path.abspath(folder)
-    journal = Journal(path, "seeds.jsonl")
+    journal = Journal(path, [scripts, list(ours), list(plain)])
     done = {said["seed"]: said for said in journal.read()}
     wanted = list(dict.fromkeys(seeds))
     left = [seed for seed in wanted if seed not in done]
@@ -53,7 +53,8 @@ def sweep(
         ended = as_completed(list(tasks), with_results=True)
     for task, difference in ended:
         seed = tasks[task]
-        done[seed] = {"seed": seed, "scripts": scripts, "differ": _kept(path, seed, difference)}
+        name = f"{journal.name}-{seed}.script"
+        done[seed] = {"seed": seed, "script": name, "differ": _kept(path, name, difference)}
         journal.add(done[seed])
     return [_finding(path, done[seed]) for seed in wanted if done[seed]["differ"]]
 
@@ -68,19 +69,15 @@ def _played(
     return None if difference is None else tuple(difference)
 
 
-def _kept(folder: str, seed: int, difference: Optional[Tuple[bytes, Came, Came]]) -> Optional[List[Any]]:
+def _kept(folder: str, name: str, difference: Optional[Tuple[bytes, Came, Came]]) -> Optional[List[Any]]:
     """Puts a difference's script into the folder, and answers what the two came to as JSON can say it."""
     if difference is None:
         return None
     script, *both = difference
-    write_durably(folder, _name(seed), [script])
+    write_durably(folder, name, [script])
     return [[status, printed.hex(), said.hex()] for status, printed, said in both]
 
 
 def _finding(folder: str, said: Any) -> Finding:
     ours, plain = ((status, bytes.fromhex(out), bytes.fromhex(err)) for status, out, err in said["differ"])
-    return Finding(said["seed"], os.path.join(folder, _name(said["seed"])), ours, plain)
-
-
-def _name(seed: int) -> str:
-    return f"differ-{seed}.script"
+    return Finding(said["seed"], os.path.join(folder, said["script"]), ours, plain)
