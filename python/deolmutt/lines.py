@@ -25,11 +25,6 @@ class FileLine(NamedTuple):
         """The unique part of the name."""
         return self.name.partition(b":")[0]
 
-    @property
-    def head(self) -> bytes:
-        """The same line without its body."""
-        return b" ".join((b"file", *self[:4]))
-
 
 def encoded(name: str) -> bytes:
     """The bytes of a name. Bytes that are no UTF-8 are surrogates, as in the names of `os`."""

@@ -14,6 +14,7 @@ from cluster_support import NO_DASK, ClusterCase, needs_cluster, random_lines
 from support import TOP, maildir_message
 
 import deolmutt
+from deolmutt import lines
 from deolmutt.errors import BadEscape, DuplicateUnique, NotInThisRun, UnknownFolder
 
 if not NO_DASK:
@@ -59,6 +60,22 @@ class IndexTest(ClusterCase):
         self.assertEqual([], self.rows())
         self.assertEqual([], self.rows(lines=[b"folder i\n", b"", self.file("none", b"")]))
 
+    def test_what_ends_a_header(self) -> None:
+        for body, subject in (
+            (b"a: b\n\nSubject: in the body\n", None),
+            (b"a: b\r\n\r\nSubject: in the body\n", None),
+            (b"\nSubject: in the body\n", None),
+            (b"a: \\n\nSubject: one\n", "one"),
+            (b"a: \\n\\n\nSubject: one\n", "one"),
+            (b"a: b\n \nSubject: one\n", "one"),
+            (b"a: b\n\rSubject: no field\nSubject: one\n\n", "one"),
+            (b"Subject: one\n\n\\", "one"),
+        ):
+            with self.subTest(body):
+                line = lines.file_line("i", "new", "a", 0, body)
+                [row] = self.rows(lines=[b"folder i\n" + line])
+                self.assertEqual(Row("i", "a", subject), row)
+
     def test_a_last_line_without_an_end(self) -> None:
         # A CR there is a byte of the message, of which a field's value has no part at its end.
         [row] = self.rows(lines=[b"folder i\nfile i new a 0 Subject: one\r"])
@@ -84,6 +101,9 @@ class IndexTest(ClusterCase):
             (NotInThisRun, 2, b"folder i\nlist i\n"),
             (DuplicateUnique, 0, b"folder i\nfile i new a 0\nfile i cur a:2, 0\n"),
             (BadEscape, 4, b"folder i\n\nfile i new b 0 x\nfile i new a 0 \\q\nfile i new c 0\n"),
+            # Behind the header too, of which alone the summary is made.
+            (BadEscape, 2, b"folder i\nfile i new b 0 x: y\\n\\nz\\q\\n\n"),
+            (BadEscape, 2, b"folder i\nfile i new b 0 x: y\\n\\nz\\\n"),
         ):
             for most in PARTITIONS:
                 with self.assertRaises(refused) as raised:

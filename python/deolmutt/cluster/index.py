@@ -4,6 +4,7 @@ from __future__ import annotations
 
 import mmap
 import os
+import re
 from array import array
 from typing import Any, Dict, Iterable, Iterator, List, NamedTuple, Optional, Sequence, Tuple, Union
 
@@ -15,7 +16,7 @@ from .. import _disk
 from .._tree import TOP
 from ..calls import Place
 from ..errors import BadLine
-from ..lines import decoded, encoded, escaped, parted, unescaped
+from ..lines import decoded, encoded, escaped, unescaped
 from ..scripts import transcript
 from ..world import World
 
@@ -28,6 +29,11 @@ _TOGETHER = 1 << 20
 # No sound line has its body further on.
 _HEAD_BYTES = 512
 _SUMMARY = b"summary"
+# A line's end and an empty line, as a line has them.
+_EMPTY_LINES = (rb"\n\n", rb"\n\r\n")
+_BACKSLASH = ord("\\")
+# Where an escape may be a bad one.
+_BAD_ESCAPE = re.compile(rb"\\(?:[^nr\\]|\Z)")
 # What is printed of a message is mostly shorter. Where it is longer the library is asked once more.
 _PRINTED_BYTES = 1024
 
@@ -115,34 +121,44 @@ def _opened(source: Union[str, bytes]) -> Any:
 
 
 def _plan(source: Union[str, bytes]) -> bytes:
-    """Where the lines of the messages begin and end, in the order of the index, as pairs of numbers.
+    """Where the lines of the messages begin, their heads end and they end, in the order of the index, as
+    numbers of which three are a line.
 
     The store itself says which lines are sound and in which order the messages come: it is loaded with
     lines that have no bodies.
     """
     data = _opened(source)
+    size = len(data)
     heads: List[bytes] = []
-    spans: Dict[bytes, Tuple[int, int]] = {}
+    spans: Dict[str, Tuple[int, int, int]] = {}
     folders = at = 0
-    while at < len(data):
+    while at < size:
         end = data.find(b"\n", at)
-        end, after = (len(data), b"") if end < 0 else (end, b"\n")
-        line = data[at : min(end, at + _HEAD_BYTES)]
-        found = parted(line)
-        if found is None:
-            line = data[at:end]
-            found = parted(line)
-        folders += line.startswith(b"folder ")
-        heads.append((found.head if found else line) + after)
-        if found and found.place != b"tmp":
-            spans[found.unique] = at, end
+        end, after = (size, b"") if end < 0 else (end, b"\n")
+        words = _words(data, at, end)
+        if len(words) > 4 and words[0] == b"file":
+            head = b" ".join(words[:5])
+            if words[2] != b"tmp":
+                spans[decoded(words[3])] = at, at + len(head), end
+        else:
+            head = data[at:end]
+            folders += head.startswith(b"folder ")
+        heads += head, after
         at = end + 1
     plan = array("Q")
     with World.load(b"".join(heads)) as world:
         for folder in range(folders):
             for entry in world.list(folder):
-                plan.extend(spans[encoded(entry.unique)])
+                plan.extend(spans[entry.name])
     return plan.tobytes()
+
+
+def _words(data: Any, begin: int, end: int) -> List[bytes]:
+    """The first five words of a line, and what is near behind them."""
+    words: List[bytes] = data[begin : min(end, begin + _HEAD_BYTES)].split(b" ", 5)
+    if len(words) < 6 and end - begin > _HEAD_BYTES:
+        words = data[begin:end].split(b" ", 5)
+    return words
 
 
 def _parted_spans(plan: bytes, most: int) -> Iterator[bytes]:
@@ -150,11 +166,11 @@ def _parted_spans(plan: bytes, most: int) -> Iterator[bytes]:
     spans = array("Q")
     spans.frombytes(plan)
     first = size = 0
-    for at in range(0, len(spans), 2):
-        size += spans[at + 1] - spans[at]
+    for at in range(0, len(spans), 3):
+        size += spans[at + 2] - spans[at]
         if size >= most:
-            yield spans[first : at + 2].tobytes()
-            first, size = at + 2, 0
+            yield spans[first : at + 3].tobytes()
+            first, size = at + 3, 0
     if first < len(spans):
         yield spans[first:].tobytes()
 
@@ -164,23 +180,34 @@ def _rows_of_lines(source: Union[str, bytes], plan: bytes) -> List[Row]:
     data = _opened(source)
     spans = array("Q")
     spans.frombytes(plan)
-    messages = (_message(data, begin, end) for begin, end in zip(spans[::2], spans[1::2]))
+    messages = (_message(data, *span) for span in zip(spans[::3], spans[1::3], spans[2::3]))
     try:
         return list(_rows(messages))
     except BadLine as error:
-        line = data[: spans[2 * (error.line - 1)]].count(b"\n") + 1
+        line = data[: spans[3 * (error.line - 1)]].count(b"\n") + 1
         error.line, error.args = line, (f"line {line}: {type(error)()}",)
         raise
 
 
-def _message(data: Any, begin: int, end: int) -> _Message:
-    found = parted(data[begin:end])
-    assert found is not None
-    rest = found.rest
+def _message(data: Any, begin: int, behind_head: int, end: int) -> _Message:
+    _, folder, _, name, _ = data[begin:behind_head].split(b" ")
+    rest = data[behind_head:end]
     if end == len(data) and rest.endswith(b"\r"):
         # At the end of a last line without LF it is a byte of the message.
         rest = rest[:-1] + b"\\r"
-    return _Message(decoded(found.folder), decoded(found.unique), rest)
+    return _Message(decoded(folder), decoded(name.partition(b":")[0]), _header(rest))
+
+
+def _header(rest: bytes) -> bytes:
+    """What a line says of a message up to its first empty line: what comes after that is not read for the
+    summary (a law of the header's reader). All of it where the cut isn't sure, or the library may refuse
+    what is cut off."""
+    for empty in _EMPTY_LINES:
+        at = rest.find(empty)
+        # After a backslash another one begins no escape.
+        if at > 0 and rest[at - 1] != _BACKSLASH and not _BAD_ESCAPE.search(rest, at):
+            rest = rest[: at + len(empty)]
+    return rest
 
 
 # Trees.
@@ -226,7 +253,7 @@ def _rows_of_files(directory: str, part: Sequence[Tuple[str, str]]) -> List[Row]
     """The rows of these files. One that is gone is looked for under another name, and else left out."""
     bodies = ((name, _read(directory, place, name)) for place, name in part)
     messages = (
-        _Message(directory, name.partition(":")[0], b" " + escaped(body))
+        _Message(directory, name.partition(":")[0], _header(b" " + escaped(body)))
         for name, body in bodies
         if body is not None
     )
