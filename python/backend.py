@@ -29,7 +29,7 @@ def build_wheel(
     """Writes the wheel, and answers its name."""
     library = _library()
     tag = f"py3-none-{_platform()}" if library else "py3-none-any"
-    files = {f"deolmutt/{path.name}": path.read_bytes() for path in sorted(PACKAGE.glob("*.py"))}
+    files = {str(path.relative_to(HERE)): path.read_bytes() for path in sorted(PACKAGE.rglob("*.py"))}
     files["deolmutt/py.typed"] = b""
     if library:
         files[f"deolmutt/{LIBRARY}"] = library.read_bytes()
@@ -50,7 +50,7 @@ def build_sdist(sdist_directory: str, config_settings: Optional[dict] = None) ->
     """Writes the sources as they are, and answers the name."""
     name = f"{_stem()}.tar.gz"
     with tarfile.open(os.path.join(sdist_directory, name), "w:gz", format=tarfile.PAX_FORMAT) as sources:
-        for path in [HERE / "pyproject.toml", HERE / "backend.py", *sorted(PACKAGE.glob("*.py")), PACKAGE / "py.typed"]:
+        for path in [HERE / "pyproject.toml", HERE / "backend.py", *sorted(PACKAGE.rglob("*.py")), PACKAGE / "py.typed"]:
             sources.add(path, f"{_stem()}/{path.relative_to(HERE)}")
     return name
 

@@ -63,6 +63,7 @@ _FUNCTIONS = {
     "deolmutt_job_answer": (_WORLD, _U64, _TO_ANSWER),
     "deolmutt_list": (_WORLD, _U32, _OUT, _SIZE, _TO_SIZE),
     "deolmutt_read": (_WORLD, _BYTES, _SIZE, _OUT, _SIZE, _TO_SIZE),
+    "deolmutt_transcript": (_BYTES, _SIZE, _OUT, _SIZE, _TO_SIZE, _TO_U64),
 }
 
 # A library that was built without it has no settle.

@@ -7,6 +7,7 @@ from functools import lru_cache
 from typing import Iterable, Iterator, NamedTuple, Optional
 
 from ._names import fresh_unique
+from ._settling import call_many
 from .calls import Answer, Call, Deliver, Expunge, Flag, Place, Seen
 from .errors import BadFlag, Failed, NoSpareFolder, NotSettled, OtherInfo, TooManyJobs
 from .lines import file_line, folder_line
@@ -242,18 +243,9 @@ class Tree:
 
     def _call_all(self, calls: Iterable[Call]) -> None:
         """Makes many calls. What they changed is listed anew when it is asked for."""
-        left = list(calls)
-        while left:
-            try:
-                answers = self.world.call_many(left)
-                left = []
-            except TooManyJobs as error:
-                answers = error.done
-                left = left[len(answers) :]
-                self._settle()
-            for answer in answers:
-                if isinstance(answer, Failed):
-                    raise answer
+        for answer in call_many(self.world, calls, self._settle):
+            if isinstance(answer, Failed):
+                raise answer
 
     def _settle(self) -> None:
         """Gives the world as many calls again: where the library has no settle, its messages are

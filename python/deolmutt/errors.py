@@ -35,6 +35,10 @@ class LibraryMissing(DeolmuttError, ImportError):
     """The shared library was not found, or is of another version."""
 
 
+class DaskMissing(DeolmuttError, ImportError):
+    """Dask, which `deolmutt.cluster` runs on, is not installed."""
+
+
 class WrongThread(DeolmuttError):
     """One world, one thread at a time: another thread is in a call of this world."""
 

@@ -2,7 +2,28 @@
 
 from __future__ import annotations
 
+import re
+from typing import NamedTuple, Optional
+
 from .errors import BadName
+
+_ESCAPE = re.compile(r"\\([nr\\])")
+_ESCAPED = {"n": "\n", "r": "\r", "\\": "\\"}
+
+
+class FileLine(NamedTuple):
+    """The words of a `file` line, and what stands after them: nothing, or a space and the escaped body."""
+
+    folder: bytes
+    place: bytes
+    name: bytes
+    stamp: bytes
+    rest: bytes
+
+    @property
+    def unique(self) -> bytes:
+        """The unique part of the name."""
+        return self.name.partition(b":")[0]
 
 
 def encoded(name: str) -> bytes:
@@ -30,6 +51,19 @@ def file_line(folder: str, place: str, name: str, stamp: int, body: bytes) -> by
 def escaped(body: bytes) -> bytes:
     """The bytes as a line has them."""
     return body.replace(b"\\", b"\\\\").replace(b"\n", b"\\n").replace(b"\r", b"\\r")
+
+
+def unescaped(text: str) -> str:
+    """What a line has escaped."""
+    return _ESCAPE.sub(lambda found: _ESCAPED[found[1]], text) if "\\" in text else text
+
+
+def parted(line: bytes) -> Optional[FileLine]:
+    """The words of a `file` line, or None for another line, and for one with too few words."""
+    words = line.split(b" ", 5)
+    if len(words) < 5 or words[0] != b"file":
+        return None
+    return FileLine(*words[1:5], b" " + words[5] if len(words) == 6 else b"")
 
 
 def is_word(name: str) -> bool:

@@ -383,7 +383,7 @@ class World:
             lines, len(lines), ctypes.byref(handle), ctypes.byref(line)
         )
         if status != OK:
-            raise _at_line(refusal(status), line.value)
+            raise at_line(refusal(status), line.value)
         return handle
 
     def _open(self) -> ctypes.c_void_p:
@@ -397,7 +397,8 @@ class World:
             raise refusal(status)
 
 
-def _at_line(error: DeolmuttError, line: int) -> DeolmuttError:
+def at_line(error: DeolmuttError, line: int) -> DeolmuttError:
+    """A refusal with the number of its line, where it is one of a line."""
     if isinstance(error, BadLine):
         error.line = line
         error.args = (f"line {line}: {error}" if line else str(error),)

@@ -60,6 +60,13 @@ class InstallTest(unittest.TestCase):
             self.skipTest(WHY_NOT)
         self.assert_works(DEOLMUTT_LIBRARY=library_path())
 
+    def test_without_dask_the_cluster_names_what_to_install(self) -> None:
+        self.install()
+        ran = run([self.python, "-c", "import deolmutt.cluster"], self.folder)
+        self.assertEqual(1, ran.returncode)
+        for text in ("deolmutt.errors.DaskMissing", "python3-distributed", "pip"):
+            self.assertIn(text, ran.stderr)
+
     def test_a_library_beside_the_package_goes_with_it(self) -> None:
         if WHY_NOT:
             self.skipTest(WHY_NOT)

@@ -66,28 +66,29 @@ def explore(pairing: Pairing, bounds: Bounds, tell: Tell) -> Explored:
     broken: Dict[str, Broken] = {}
     following: Optional[str] = prefix
     while following is not None and runs < bounds.runs and time.monotonic() - begun < bounds.seconds:
-        played, log = _run(pairing, following)
+        played, log = run_once(pairing, following)
         runs += 1
         waited += played.waits
         following = next_prefix(played)
         if played.order not in orders:
             orders.add(played.order)
-            breaking += _judge(played.order, log, broken)
+            text = log.encoded()
+            breaking += note(played.order, text, judge(text), broken)
             tell(f"{runs} runs, {len(orders)} interleavings, {breaking} break the law")
     return Explored(orders, runs, waited, following is None, breaking, broken)
 
 
-def _judge(order: str, log: Log, broken: Dict[str, Broken]) -> bool:
-    text = log.encoded()
-    found = judge(text)
+def note(order: str, log: bytes, found: List[Finding], broken: Dict[str, Broken]) -> bool:
+    """Counts what the judge has found in a run among what others have broken, and answers whether it is anything."""
     for clause in dict.fromkeys(finding.clause for finding in found):
         first = next(finding for finding in found if finding.clause == clause)
         former = broken.get(clause)
-        broken[clause] = former._replace(count=former.count + 1) if former else Broken(order, text, first, 1)
+        broken[clause] = former._replace(count=former.count + 1) if former else Broken(order, log, first, 1)
     return bool(found)
 
 
-def _run(pairing: Pairing, prefix: str) -> Tuple[Played, Log]:
+def run_once(pairing: Pairing, prefix: str) -> Tuple[Played, Log]:
+    """Plays one interleaving, in a directory of its own."""
     with tempfile.TemporaryDirectory(prefix="explore-") as top:
         base, room = os.path.join(top, "work"), os.path.join(top, "room")
         os.mkdir(base)

@@ -49,11 +49,21 @@ def play(commands: Commands, prefix: str) -> Played:
 
 def next_prefix(played: Played) -> Optional[str]:
     """The prefix of the next run: the last choice of A where B could have gone on. An end without a call could have come at any time."""
-    for number in range(len(played.choices) - 1, -1, -1):
-        choice = played.choices[number]
-        if choice.is_free and choice.side == SIDES[0] and choice.went is Went.CALLED:
-            return "".join(each.side for each in played.choices[:number]) + SIDES[1]
-    return None
+    found = branches(played, "")
+    return found[-1] if found else None
+
+
+def branches(played: Played, prefix: str) -> List[str]:
+    """The prefixes of the runs that part from this one after the prefix that it was played by, one for each place.
+
+    Begun with the run of no prefix, these and theirs are the runs that `next_prefix` comes to, each once, and in any order.
+    """
+    sides = "".join(choice.side for choice in played.choices)
+    return [sides[:at] + SIDES[1] for at, choice in enumerate(played.choices) if at >= len(prefix) and _may_part(choice)]
+
+
+def _may_part(choice: Choice) -> bool:
+    return choice.is_free and choice.side == SIDES[0] and choice.went is Went.CALLED
 
 
 def _order(choices: List[Choice]) -> str:

@@ -10,7 +10,7 @@ from judge_support import TOOLS
 from judge_lib.explore_command import table
 from judge_lib.exploring import Broken, Explored
 from judge_lib.judge_run import SENTENCES, Finding
-from judge_lib.schedules import next_prefix, play
+from judge_lib.schedules import branches, next_prefix, play
 from judge_lib.stopping import Went
 
 
@@ -49,6 +49,18 @@ class Schedules(unittest.TestCase):
         for a, b in [(0, 0), (1, 1), (2, 3), (4, 2)]:
             every = {"".join("A" if at in chosen else "B" for at in range(a + b)) for chosen in combinations(range(a + b), a)}
             self.assertEqual(set(orders(lambda: Counted(a, b))), every)
+
+    def test_the_branches_of_each_run_are_every_run_once(self):
+        for a, b, waits_at in [(0, 0, None), (2, 3, None), (3, 3, "AAB")]:
+            def make():
+                return Counted(a, b, waits_at=waits_at)
+            left, found = [""], []
+            while left:
+                prefix = left.pop(0)
+                played = play(make(), prefix)
+                found.append(played.order)
+                left += branches(played, prefix)
+            self.assertEqual(sorted(found), sorted(orders(make)))
 
     def test_a_reading_before_the_end_is_a_step(self):
         self.assertEqual(len(set(orders(lambda: Counted(1, 1, has_read_at_end=True)))), 6)

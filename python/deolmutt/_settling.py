@@ -1,0 +1,33 @@
+"""Many calls of a world, which is settled where it has had all that it takes."""
+
+from __future__ import annotations
+
+from typing import Callable, Iterable, List, Optional, Union
+
+from .calls import Answer, Call
+from .errors import DeolmuttError, Failed, TooManyJobs
+from .world import World
+
+
+def call_many(
+    world: World, calls: Iterable[Call], settle: Callable[[], None], now: Optional[int] = None
+) -> List[Union[Answer, Failed]]:
+    """Makes calls, and answers how each ended, as `World.call_many` does.
+
+    Where the world has had all its calls, `settle` gives it as many again, and the calls go on. The
+    first that is refused otherwise is raised: its `done` has the answers of those before it.
+    """
+    left = list(calls)
+    answers: List[Union[Answer, Failed]] = []
+    while left:
+        try:
+            answers += world.call_many(left, now)
+            break
+        except TooManyJobs as error:
+            answers += error.done
+            left = left[len(error.done) :]
+            settle()
+        except DeolmuttError as error:
+            error.done = [*answers, *error.done]
+            raise
+    return answers
