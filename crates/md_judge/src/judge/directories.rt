@@ -1,4 +1,5 @@
 //! The names that are in directories.
+use super::acts::Change;
 use super::befores::line_before;
 use md_dirs::Place;
 use md_log::LineFault;
@@ -130,12 +131,17 @@ impl Directories {
     }
 
     /// A path names another file.
-    pub(super) fn turn(&mut self, spot: Spot, file: u32) {
+    pub(super) fn turn(&mut self, spot: Spot, file: u32) -> Result<(), LineFault> {
         if let Some(directory) = self.all.get_mut(number_of(spot.folder, spot.place))
-            && let Some(named) = directory.names.get_mut(&spot.name)
+            && let Some(named) = directory.names.get(&spot.name).copied()
         {
-            named.file = file;
+            let named = Named {
+                file,
+                since: named.since,
+            };
+            directory.names.insert(spot.name, named)?;
         }
+        Ok(())
     }
 
     /// A path was there for the last time at the moment `at`.
@@ -143,6 +149,20 @@ impl Directories {
         if let Some(directory) = self.all.get_mut(number_of(spot.folder, spot.place)) {
             directory.names.remove(&spot.name);
             directory.was.insert(spot.name, at)?;
+        }
+        Ok(())
+    }
+
+    /// Makes the change of a line.
+    pub(super) fn make(&mut self, line: usize, change: Change) -> Result<(), LineFault> {
+        if let Some((spot, file)) = change.added {
+            self.add(line.saturating_add(1), spot, file)?;
+        }
+        if let Some((spot, _, file)) = change.turned {
+            self.turn(spot, file)?;
+        }
+        if let Some((spot, _)) = change.taken {
+            self.take(line, spot)?;
         }
         Ok(())
     }
