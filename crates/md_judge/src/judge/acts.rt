@@ -1,11 +1,12 @@
 //! Calls on paths: what they are defined to answer, and what they do.
-ghost use Rattle.std.specs.Prelude.{◌≡◌, ◌≢◌, ◌↔◌, ℕ, Some, IsTrue, true, is_some, length};
+ghost use Rattle.std.specs.Prelude.{◌≡◌, ◌≢◌, ◌↔◌, ◌<◌, ◌+◌, ◌⊎◌, ℕ, Some, IsTrue, true, is_some, length};
 ghost use Rattle.md_dirs.specs.State.{State, file_at, has_folder};
 ghost use Rattle.md_dirs.specs.declared.paths.Path.{Path};
 ghost use Rattle.md_judge.specs.Told.{ask_at, ask_between};
 ghost use Rattle.md_log.specs.declared.line.Deed.TheVariants as deed;
 ghost use Rattle.md_judge.specs.Law.{IsWrongReply, reply_by};
 ghost use Rattle.md_judge.specs.Changes.{IsOlder, Leads};
+ghost use Rattle.md_judge.specs.Known.{EachSpot, IsBelow};
 ghost use Rattle.md_judge.specs.declared.judge.directories.Spot.{Spot};
 
 use super::befores::{line_at, mark_of};
@@ -42,7 +43,9 @@ impl Watch {
     ) -> Result<(), LineFault> {
         self.note(act.is_wrong, Clause::NotADirectory, act.wrong_before);
         match (call, act.spot) {
-            (Call::At { deed, reply, .. }, Some(spot)) => self.at(known, actor, *deed, spot, *reply, act),
+            (Call::At { deed, reply, .. }, Some(spot)) => self.at(
+                known, actor, *deed, spot, *reply, act,
+            ),
             (Call::Between { reply, .. }, Some(old)) => {
                 self.note_act(known, actor, old, *reply)?;
                 self.change(known, actor, act)
@@ -108,7 +111,8 @@ impl Watch {
         }
         let is_message = known.unique_at(spot).is_some();
         self.note(is_message, Clause::SeenBeforeWhole, None);
-        self.files.make(mark_of(self.now), Some(actor), known.clock)?;
+        self.files
+            .make(mark_of(self.now), Some(actor), known.clock)?;
         self.change(known, actor, act)
     }
 
@@ -195,8 +199,10 @@ pub(super) fn defined_between(naming: Naming, is_old_there: bool, is_new_there: 
 
 /// What a create does that was made, of a file that none was before.
 pub(super) fn create_change(spot: Spot, there: Option<u32>, file: u32) -> Change
-    ensures { (path : Spot → Path) (s : State) (now : ℕ) → file_at s (path spot) ≡ there → file ≡ length s.files → IsOlder there file
+    ensures leads { (path : Spot → Path) (s : State) (now : ℕ) → file_at s (path spot) ≡ there → file ≡ length s.files → IsOlder there file
         → Leads path result s ((ask_at deed.Create (path spot) now).after s) }
+    ensures spots { EachSpot (λ q. q ≡ spot) result }
+    ensures below { IsBelow (file + 1) result }
 {
     match there {
         None => Change {
@@ -216,7 +222,9 @@ pub(super) fn create_change(spot: Spot, there: Option<u32>, file: u32) -> Change
 
 /// What an unlink does that was made.
 pub(super) fn unlink_change(spot: Spot, file: u32) -> Change
-    ensures { (path : Spot → Path) (s : State) (now : ℕ) → Leads path result s ((ask_at deed.Unlink (path spot) now).after s) }
+    ensures leads { (path : Spot → Path) (s : State) (now : ℕ) → Leads path result s ((ask_at deed.Unlink (path spot) now).after s) }
+    ensures spots { EachSpot (λ q. q ≡ spot) result }
+    ensures below { (bound : ℕ) → IsBelow bound result }
 {
     Change {
         taken: Some((spot, file)),
@@ -234,8 +242,10 @@ pub(super) fn naming_change(
     file: u32,
     there: Option<u32>,
 ) -> Change
-    ensures { (path : Spot → Path) (s : State) → file_at s (path old) ≡ Some file → file_at s (path new) ≡ there
+    ensures leads { (path : Spot → Path) (s : State) → file_at s (path old) ≡ Some file → file_at s (path new) ≡ there
         → Leads path result s ((ask_between naming (path old) (path new)).after s) }
+    ensures spots { EachSpot (λ q. (q ≡ old) ⊎ (q ≡ new)) result }
+    ensures below { (bound : ℕ) → file < bound → IsBelow bound result }
 {
     let taken = match naming {
         Naming::Link => None,

@@ -13,12 +13,7 @@ const CLEAN_AGE: u64 = 129_600;
 
 impl Watch {
     /// Judges a change of paths that was made, and keeps what it does to messages.
-    pub(super) fn change(
-        &mut self,
-        known: &Known,
-        actor: u32,
-        act: &Act,
-    ) -> Result<(), LineFault> {
+    pub(super) fn change(&mut self, known: &Known, actor: u32, act: &Act) -> Result<(), LineFault> {
         let change = act.change;
         if let Some((spot, _, file)) = change.turned {
             self.note(true, Clause::Overwritten, act.turned_before);
@@ -78,7 +73,13 @@ impl Watch {
     }
 
     /// Whether a path that goes is one of the message.
-    fn is_same_message(&self, known: &Known, taken: Option<(Spot, u32)>, folder: u32, unique: u32) -> bool {
+    fn is_same_message(
+        &self,
+        known: &Known,
+        taken: Option<(Spot, u32)>,
+        folder: u32,
+        unique: u32,
+    ) -> bool {
         match taken {
             None => false,
             Some((spot, _)) => spot.folder == folder && known.unique_at(spot) == Some(unique),
@@ -147,7 +148,13 @@ impl Watch {
         Ok(())
     }
 
-    fn note_taken(&mut self, known: &Known, actor: u32, spot: Spot, is_unlink: bool) -> Result<(), LineFault> {
+    fn note_taken(
+        &mut self,
+        known: &Known,
+        actor: u32,
+        spot: Spot,
+        is_unlink: bool,
+    ) -> Result<(), LineFault> {
         let Some(unique) = known.unique_at(spot) else {
             return Ok(());
         };
@@ -192,7 +199,14 @@ impl Watch {
     }
 
     /// A path names another file than before.
-    fn turn_path(&mut self, known: &Known, actor: u32, spot: Spot, old: u32, new: u32) -> Result<(), LineFault> {
+    fn turn_path(
+        &mut self,
+        known: &Known,
+        actor: u32,
+        spot: Spot,
+        old: u32,
+        new: u32,
+    ) -> Result<(), LineFault> {
         let Some(unique) = known.unique_at(spot) else {
             return Ok(());
         };

@@ -1,4 +1,12 @@
 //! What is known of the directories: the files at paths, how many files were made, and the clock.
+ghost use Rattle.std.specs.Prelude.{◌≡◌, ◌+◌, ◌<◌, ◌⊎◌, ℕ, true, length, OnOk, IfOk};
+ghost use Rattle.md_dirs.specs.State.{State, file_at, has_folder};
+ghost use Rattle.md_dirs.specs.declared.paths.Path.{Path};
+ghost use Rattle.md_judge.specs.declared.judge.directories.Spot.{Spot};
+ghost use Rattle.md_judge.specs.Told.{ask_at, ask_between, after_ask};
+ghost use Rattle.md_judge.specs.Changes.{IsOlder, Leads};
+ghost use Rattle.md_judge.specs.Known.{EachSpot, IsBelow, files_after, Stands, Holds, Leaves};
+
 use super::acts::{
     Change, NO_CHANGE, create_change, is_wrong_at, is_wrong_between, naming_change, unlink_change,
 };
@@ -14,7 +22,7 @@ use std::alloc::Global;
 pub(super) struct Act {
     /// No directory gives the reply.
     pub(super) is_wrong: bool,
-    /// The line that made the path so that the reply is not given for.
+    /// The line that last made the path be there or go that the reply is not given for.
     pub(super) wrong_before: Option<usize>,
     /// The path that the call names first, and the file that was there.
     pub(super) spot: Option<Spot>,
@@ -61,16 +69,6 @@ impl Known {
         })
     }
 
-    /// The number of the next file.
-    pub(super) fn new_file(&mut self) -> Result<u32, LineFault> {
-        let file = self.files;
-        if file >= MOST_FILES {
-            return Err(LineFault::NoMemory);
-        }
-        self.files = file + 1;
-        Ok(file)
-    }
-
     /// The unique name of a message's path.
     pub(super) fn unique_at(&self, spot: Spot) -> Option<u32> {
         match spot.place {
@@ -90,7 +88,8 @@ impl Known {
         if self.directories.file_at(spot).is_some() {
             return Err(LineFault::SamePath);
         }
-        let file = self.new_file()?;
+        let file = self.files;
+        self.files = counted(file, Deed::Create, Reply::Ok)?;
         self.clock = self.clock.max(stamp);
         self.directories.add(line.saturating_add(1), spot, file)?;
         Ok((spot, file))
@@ -142,17 +141,17 @@ impl Known {
         }
     }
 
-    fn at(
-        &mut self,
-        line: usize,
-        deed: Deed,
-        spot: Spot,
-        reply: Reply,
-    ) -> Result<Act, LineFault> {
+    fn at(&mut self, line: usize, deed: Deed, spot: Spot, reply: Reply) -> Result<Act, LineFault>
+        ensures { (path : Spot → Path) (many now : ℕ) (s : State) → Stands path many → Holds path many s self.old → spot.name < many
+            → has_folder s (path spot) ≡ true
+            → IfOk result (λ act. Leaves path many reply (ask_at deed (path spot) now) s self.new act) }
+    {
         let file = self.directories.file_at(spot);
         let before = self.directories.last_change(spot);
-        let change = self.change_at(deed, spot, file, reply)?;
+        let change = change_at(deed, spot, file, reply, self.files);
+        let files = counted(self.files, deed, reply)?;
         self.directories.make(line, change)?;
+        self.files = files;
         Ok(Act {
             is_wrong: is_wrong_at(deed, file.is_some(), reply),
             wrong_before: before,
@@ -170,11 +169,17 @@ impl Known {
         old: Spot,
         new: Spot,
         reply: Reply,
-    ) -> Result<Act, LineFault> {
+    ) -> Result<Act, LineFault>
+        ensures { (path : Spot → Path) (many : ℕ) (s : State) → Stands path many → Holds path many s self.old
+            → old.name < many → new.name < many → has_folder s (path old) ≡ true → has_folder s (path new) ≡ true
+            → IfOk result (λ act. Leaves path many reply (ask_between naming (path old) (path new)) s self.new act) }
+    {
         let file = self.directories.file_at(old);
         let there = self.directories.file_at(new);
         let is_of_old = (reply == Reply::NotFound) == file.is_some();
-        let wrong_before = self.directories.last_change(if is_of_old { old } else { new });
+        let wrong_before = self
+            .directories
+            .last_change(if is_of_old { old } else { new });
         let turned_before = self.directories.last_change(new);
         let change = change_between(naming, old, new, file, there, reply);
         self.directories.make(line, change)?;
@@ -187,26 +192,47 @@ impl Known {
             turned_before,
         })
     }
+}
 
-    /// What a call on one path does.
-    fn change_at(
-        &mut self,
-        deed: Deed,
-        spot: Spot,
-        file: Option<u32>,
-        reply: Reply,
-    ) -> Result<Change, LineFault> {
-        if reply != Reply::Ok {
-            return Ok(NO_CHANGE);
-        }
-        match (deed, file) {
-            (Deed::Create, there) => {
-                let file = self.new_file()?;
-                Ok(create_change(spot, there, file))
-            }
-            (Deed::Unlink, Some(file)) => Ok(unlink_change(spot, file)),
-            _ => Ok(NO_CHANGE),
-        }
+/// How many files there are after a call on one path: a create that was made makes one.
+fn counted(files: u32, deed: Deed, reply: Reply) -> Result<u32, LineFault>
+    ensures { IfOk result (λ count. count ≡ files_after deed reply files) }
+{
+    match (deed, reply) {
+        (Deed::Create, Reply::Ok) if files < MOST_FILES => Ok(files + 1),
+        (Deed::Create, Reply::Ok) => Err(LineFault::NoMemory),
+        _ => Ok(files),
+    }
+}
+
+/// What a call on one path does, where the next file that is made has this number.
+fn change_at(deed: Deed, spot: Spot, there: Option<u32>, reply: Reply, next: u32) -> Change
+    ensures leads { (path : Spot → Path) (s : State) (now : ℕ) → file_at s (path spot) ≡ there → next ≡ length s.files → IsOlder there next
+        → Leads path result s (after_ask reply (ask_at deed (path spot) now) s) }
+    ensures spots { EachSpot (λ q. q ≡ spot) result }
+    ensures below { IsBelow (files_after deed reply next) result }
+{
+    match reply {
+        Reply::Ok => made_at(deed, spot, there, next),
+        _ => NO_CHANGE,
+    }
+}
+
+/// What a call on one path does that was made.
+fn made_at(deed: Deed, spot: Spot, there: Option<u32>, next: u32) -> Change
+    ensures leads { (path : Spot → Path) (s : State) (now : ℕ) → file_at s (path spot) ≡ there → next ≡ length s.files → IsOlder there next
+        → Leads path result s ((ask_at deed (path spot) now).after s) }
+    ensures spots { EachSpot (λ q. q ≡ spot) result }
+    ensures below { IsBelow (files_after deed Reply.Ok next) result }
+{
+    match deed {
+        Deed::Create => create_change(spot, there, next),
+        Deed::Unlink => match there {
+            None => NO_CHANGE,
+            Some(file) => unlink_change(spot, file),
+        },
+        Deed::Write => NO_CHANGE,
+        Deed::Flush => NO_CHANGE,
     }
 }
 
@@ -218,9 +244,33 @@ fn change_between(
     file: Option<u32>,
     there: Option<u32>,
     reply: Reply,
-) -> Change {
-    match file {
-        Some(file) if reply == Reply::Ok => naming_change(naming, old, new, file, there),
+) -> Change
+    ensures leads { (path : Spot → Path) (s : State) → file_at s (path old) ≡ file → file_at s (path new) ≡ there
+        → Leads path result s (after_ask reply (ask_between naming (path old) (path new)) s) }
+    ensures spots { EachSpot (λ q. (q ≡ old) ⊎ (q ≡ new)) result }
+    ensures below { (bound : ℕ) → IsOlder file bound → IsBelow bound result }
+{
+    match reply {
+        Reply::Ok => made_between(naming, old, new, file, there),
         _ => NO_CHANGE,
+    }
+}
+
+/// What a call on two paths does that was made.
+fn made_between(
+    naming: Naming,
+    old: Spot,
+    new: Spot,
+    file: Option<u32>,
+    there: Option<u32>,
+) -> Change
+    ensures leads { (path : Spot → Path) (s : State) → file_at s (path old) ≡ file → file_at s (path new) ≡ there
+        → Leads path result s ((ask_between naming (path old) (path new)).after s) }
+    ensures spots { EachSpot (λ q. (q ≡ old) ⊎ (q ≡ new)) result }
+    ensures below { (bound : ℕ) → IsOlder file bound → IsBelow bound result }
+{
+    match file {
+        None => NO_CHANGE,
+        Some(file) => naming_change(naming, old, new, file, there),
     }
 }
