@@ -1,5 +1,5 @@
 -- What calls on paths do to the paths of a state, and where they overwrite one.
-use Rattle.std.proofs.Common.{ℕ, ◌≡◌, ◌≢◌, ◌<◌, ◌↔◌, Bool, true, false, cond, Option, Some, None, IsSome, refl, sym, ap, ◌∙◌, arith, length, nat_eq}
+use Rattle.std.proofs.Common.{ℕ, ◌≡◌, ◌≢◌, Bool, true, false, cond, Option, Some, None, refl, sym, ap, ◌∙◌, arith, length}
 use Rattle.std.specs.Ordering.{eq_by_cmp, is_eq}
 use Rattle.std.specs.Cmp.{Equal-is}
 use Rattle.std.specs.FinMap as finmap
@@ -15,10 +15,8 @@ use Rattle.md_dirs.proofs.PathOrder.{path_total, path_exact}
 use Rattle.md_log.specs.declared.line.Naming.{Naming}
 use Rattle.md_log.specs.declared.line.Naming.TheVariants as naming
 use Rattle.md_judge.specs.declared.judge.directories.Spot.{Spot}
-use Rattle.md_judge.specs.declared.judge.acts.Change.{Change}
 use Rattle.md_judge.specs.Told.{ask_between}
-use Rattle.md_judge.specs.Law.{Overwrites}
-use Rattle.md_judge.specs.Changes.{after_added, after_turned, after_taken, after_change, Leads}
+use Rattle.md_judge.specs.Changes.{after_taken, Leads}
 
 -- which path goes with a link and with a rename
 abbrev pub taken_by : Naming → Spot → ℕ → Option (Spot × ℕ)
@@ -40,7 +38,7 @@ module _ (path : Spot → Path) (before : Path → Option ℕ) (q : Path) (m n :
         | false ↦ λ t e. kept taken e
       ] refl now
 
-itself : (p : Path) → eq_by_cmp path_cmp p p ≡ true
+pub itself : (p : Path) → eq_by_cmp path_cmp p p ≡ true
 itself p = ap is_eq (tied_itself path_total p)
 
 -- ---- from what paths name to the clause

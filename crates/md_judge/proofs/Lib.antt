@@ -1,1 +1,4 @@
 pub mod Changing
+pub mod Spots
+pub mod Following
+pub mod Afters

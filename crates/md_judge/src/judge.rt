@@ -10,42 +10,33 @@ mod clauses;
 mod directories;
 mod files;
 mod flags;
+mod known;
 mod listing;
 mod mail;
 mod order;
 mod tables;
 mod told;
 mod trial;
+mod watch;
 
-use about::Actors;
-use befores::{Befores, mark_of};
+use befores::mark_of;
 use clauses::Clauses;
-use directories::{Directories, Spot};
-use files::Files;
-use listing::Listing;
-use mail::Mail;
+use known::{Act, Known, NO_ACT};
 use md_dirs::{Bytes, Path};
 use md_log::{Call, Clause, LineFault, Step};
 use std::alloc::Global;
-use std::collections::BTreeMap;
-use tables::{Names, Table};
+use tables::Table;
+use watch::Watch;
 
 /// What a log tells so far.
 #[derive(Drop)]
 pub(crate) struct Judge {
     alloc: Global,
-    names: Names,
     actor_names: Table,
-    actors: Actors,
-    directories: Directories,
-    files: Files,
-    mail: Mail,
-    listings: BTreeMap<(u32, u32), Listing>,
-    clock: u64,
-    /// The moment at which the step begins that is judged.
-    now: usize,
-    broken: Clauses,
-    befores: Befores,
+    known: Known,
+    watch: Watch,
+    /// What the last step did to paths.
+    act: Act,
     allowed: Clauses,
 }
 
@@ -53,25 +44,18 @@ impl Judge {
     pub(crate) fn new(alloc: Global) -> Self {
         Judge {
             alloc,
-            names: Names::new(alloc),
             actor_names: Table::new(alloc),
-            actors: Actors::new(alloc),
-            directories: Directories::new(alloc),
-            files: Files::new(alloc),
-            mail: Mail::new(alloc),
-            listings: BTreeMap::new(alloc),
-            clock: 0,
-            now: 0,
-            broken: Clauses::none(),
-            befores: Befores::none(),
+            known: Known::new(alloc),
+            watch: Watch::new(alloc),
+            act: NO_ACT,
             allowed: Clauses::none(),
         }
     }
 
     /// One more folder, after the others.
     pub(crate) fn add_folder(&mut self) -> Result<(), LineFault> {
-        self.directories.add_folder()?;
-        self.mail.add_folder()
+        self.known.directories.add_folder()?;
+        self.watch.add_folder()
     }
 
     /// The clause is not judged.
@@ -81,77 +65,40 @@ impl Judge {
 
     /// Goes on to the moment of a line, which is after those of the lines before it.
     pub(crate) fn go_to(&mut self, moment: usize) {
-        self.now = moment;
+        self.watch.go_to(moment);
     }
 
     /// A file that is there at the beginning.
-    pub(crate) fn put_file(&mut self, path: &Path, stamp: u64) -> Result<(), LineFault> {
-        let spot = self.spot(path)?;
-        if self.directories.file_at(spot).is_some() {
-            return Err(LineFault::SamePath);
-        }
-        let file = self.files.make(mark_of(self.now), None, stamp)?;
-        self.clock = self.clock.max(stamp);
-        self.add_path(self.now.saturating_add(1), spot, file)
+    pub(crate) fn put_file(
+        &mut self,
+        line: usize,
+        path: &Path,
+        stamp: u64,
+    ) -> Result<(), LineFault> {
+        let (spot, file) = self.known.put_file(line, path, stamp)?;
+        self.watch.files.make(mark_of(line), None, stamp)?;
+        self.watch
+            .add_path(&self.known, line.saturating_add(1), spot, file)
     }
 
     /// A further name of a file that is there at the beginning.
-    pub(crate) fn put_name(&mut self, path: &Path, old: &Path) -> Result<(), LineFault> {
-        let spot = self.spot(path)?;
-        let old = self.spot(old)?;
-        if self.directories.file_at(spot).is_some() {
-            return Err(LineFault::SamePath);
-        }
-        match self.directories.file_at(old) {
-            None => Err(LineFault::NoSuchPath),
-            Some(file) => self.add_path(self.now.saturating_add(1), spot, file),
-        }
+    pub(crate) fn put_name(
+        &mut self,
+        line: usize,
+        path: &Path,
+        old: &Path,
+    ) -> Result<(), LineFault> {
+        let (spot, file) = self.known.put_name(line, path, old)?;
+        self.watch
+            .add_path(&self.known, line.saturating_add(1), spot, file)
     }
 
     /// Judges the next step.
-    pub(crate) fn step(&mut self, step: Step) -> Result<(), LineFault> {
-        self.clock = self.clock.max(step.moment);
-        self.broken = Clauses::none();
-        self.befores = Befores::none();
+    pub(crate) fn step(&mut self, line: usize, step: Step) -> Result<(), LineFault> {
         let (actor, _) = self.actor_names.number(step.actor.as_slice())?;
-        self.actors.note_line(actor, self.now)?;
-        self.call(actor, step.call)
-    }
-
-    /// Whether the last step breaks the clause, which is not allowed.
-    pub(crate) fn is_broken(&self, clause: Clause) -> bool {
-        self.broken.contains(clause) && !self.allowed.contains(clause)
-    }
-
-    /// The moment of the earlier line that the clause goes back to, where it is broken.
-    pub(crate) fn before(&self, clause: Clause) -> Option<usize> {
-        self.befores.line(clause)
-    }
-
-    /// Notes a clause that is broken, and the earlier line that it goes back to.
-    fn note(&mut self, is_broken: bool, clause: Clause, before: Option<usize>) {
-        if is_broken {
-            self.broken.add(clause);
-            self.befores.note(clause, before);
-        }
-    }
-
-    fn call(&mut self, actor: u32, call: Call) -> Result<(), LineFault> {
-        match call {
-            Call::At { deed, path, reply } => {
-                let path = self.spot(&path)?;
-                self.at(actor, deed, path, reply)
-            }
-            Call::Between {
-                naming,
-                old,
-                new,
-                reply,
-            } => {
-                let old = self.spot(&old)?;
-                let new = self.spot(&new)?;
-                self.between(actor, naming, old, new, reply)
-            }
+        self.act = self.known.step(line, &step)?;
+        self.watch.begin(actor)?;
+        match &step.call {
             Call::List {
                 folder,
                 place,
@@ -159,41 +106,37 @@ impl Judge {
                 shown,
             } => {
                 let names = self.numbers(shown.as_slice())?;
-                self.list(actor, folder, place, reply, &names)
+                self.watch
+                    .list(&self.known, actor, *folder, *place, *reply, &names)
             }
             Call::Answer {
                 said,
                 folder,
                 unique,
             } => {
-                let unique = self.names.unique(unique.as_slice())?;
-                self.answer(actor, said, (folder, unique))
+                let unique = self.known.names.unique(unique.as_slice())?;
+                self.watch.answer(actor, *said, (*folder, unique))
             }
+            call => self.watch.call(&self.known, actor, call, &self.act),
         }
     }
 
-    fn spot(&mut self, path: &Path) -> Result<Spot, LineFault> {
-        Ok(Spot {
-            folder: path.folder,
-            place: path.place,
-            name: self.names.number(path.name.as_slice())?,
-        })
+    /// Whether the last step breaks the clause, which is not allowed.
+    pub(crate) fn is_broken(&self, clause: Clause) -> bool {
+        self.watch.is_broken(clause) && !self.allowed.contains(clause)
+    }
+
+    /// The moment of the earlier line that the clause goes back to, where it is broken.
+    pub(crate) fn before(&self, clause: Clause) -> Option<usize> {
+        self.watch.before(clause)
     }
 
     fn numbers(&mut self, names: &[Bytes]) -> Result<Vec<u32>, LineFault> {
         let mut numbers = Vec::new(self.alloc);
         for name in names {
-            let number = self.names.number(name.as_slice())?;
+            let number = self.known.names.number(name.as_slice())?;
             numbers.push(number)?;
         }
         Ok(numbers)
-    }
-
-    /// The unique name of a message's path.
-    fn unique_at(&self, spot: Spot) -> Option<u32> {
-        match spot.place {
-            md_dirs::Place::Tmp => None,
-            _ => self.names.facts(spot.name).unique,
-        }
     }
 }

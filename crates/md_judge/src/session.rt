@@ -140,8 +140,8 @@ impl Session {
                 self.judge.allow(clause);
                 Ok(())
             }
-            Line::File { path, stamp } => self.judge.put_file(&path, stamp),
-            Line::Also { path, old } => self.judge.put_name(&path, &old),
+            Line::File { path, stamp } => self.judge.put_file(number as usize, &path, stamp),
+            Line::Also { path, old } => self.judge.put_name(number as usize, &path, &old),
             Line::Step(_) => Ok(()),
         }
     }
@@ -194,7 +194,7 @@ impl Session {
         text: &[u8],
     ) -> Result<(), LineFault> {
         self.judge.go_to(moment);
-        self.judge.step(step)?;
+        self.judge.step(moment, step)?;
         for clause in CLAUSES {
             if self.judge.is_broken(clause) {
                 let before = self.judge.before(clause);

@@ -1,17 +1,19 @@
 //! Calls on paths: what they are defined to answer, and what they do.
-ghost use Rattle.std.specs.Prelude.{◌≡◌, ◌≢◌, ◌↔◌, ℕ, Some, IsTrue, true, is_some, length};
+ghost use Rattle.std.specs.Prelude.{◌≡◌, ◌≢◌, ◌↔◌, ◌<◌, ◌+◌, ◌⊎◌, ℕ, Some, IsTrue, true, is_some, length};
 ghost use Rattle.md_dirs.specs.State.{State, file_at, has_folder};
 ghost use Rattle.md_dirs.specs.declared.paths.Path.{Path};
 ghost use Rattle.md_judge.specs.Told.{ask_at, ask_between};
 ghost use Rattle.md_log.specs.declared.line.Deed.TheVariants as deed;
 ghost use Rattle.md_judge.specs.Law.{IsWrongReply, reply_by};
 ghost use Rattle.md_judge.specs.Changes.{IsOlder, Leads};
+ghost use Rattle.md_judge.specs.Known.{EachSpot, IsBelow};
 ghost use Rattle.md_judge.specs.declared.judge.directories.Spot.{Spot};
 
-use super::Judge;
 use super::befores::{line_at, mark_of};
 use super::directories::Spot;
-use md_log::{Clause, Deed, LineFault, Naming, Reply};
+use super::known::{Act, Known};
+use super::watch::Watch;
+use md_log::{Call, Clause, Deed, LineFault, Naming, Reply};
 
 /// What a step does to paths.
 #[derive(Clone, Copy)]
@@ -30,68 +32,65 @@ pub(super) const NO_CHANGE: Change = Change {
     is_unlink: false,
 };
 
-impl Judge {
-    /// A call on one path.
-    pub(super) fn at(
+impl Watch {
+    /// Judges a call that was made as `act` says.
+    pub(super) fn call(
         &mut self,
+        known: &Known,
+        actor: u32,
+        call: &Call,
+        act: &Act,
+    ) -> Result<(), LineFault> {
+        self.note(act.is_wrong, Clause::NotADirectory, act.wrong_before);
+        match (call, act.spot) {
+            (Call::At { deed, reply, .. }, Some(spot)) => self.at(
+                known, actor, *deed, spot, *reply, act,
+            ),
+            (Call::Between { reply, .. }, Some(old)) => {
+                self.note_act(known, actor, old, *reply)?;
+                self.change(known, actor, act)
+            }
+            _ => Ok(()),
+        }
+    }
+
+    /// A call on one path.
+    fn at(
+        &mut self,
+        known: &Known,
         actor: u32,
         deed: Deed,
-        path: Spot,
+        spot: Spot,
         reply: Reply,
+        act: &Act,
     ) -> Result<(), LineFault> {
-        let file = self.directories.file_at(path);
-        let is_wrong = is_wrong_at(deed, file.is_some(), reply);
-        self.note_wrong(is_wrong, path);
-        match (deed, file) {
-            (Deed::Create, _) => self.create(actor, path, file, reply),
+        match (deed, act.file) {
+            (Deed::Create, _) => self.create(known, actor, spot, reply, act),
             (Deed::Write, Some(file)) => {
-                self.write(actor, file, reply);
+                self.write(known, actor, file, reply);
                 Ok(())
             }
             (Deed::Flush, Some(file)) => {
                 self.flush(file, reply);
                 Ok(())
             }
-            (Deed::Unlink, _) => self.unlink(actor, path, file, reply),
+            (Deed::Unlink, _) => {
+                self.note_act(known, actor, spot, reply)?;
+                self.change(known, actor, act)
+            }
             (Deed::Write | Deed::Flush, None) => Ok(()),
         }
     }
 
-    /// A call on two paths.
-    pub(super) fn between(
+    /// A call on a message by a name of it.
+    fn note_act(
         &mut self,
+        known: &Known,
         actor: u32,
-        naming: Naming,
-        old: Spot,
-        new: Spot,
+        spot: Spot,
         reply: Reply,
     ) -> Result<(), LineFault> {
-        let file = self.directories.file_at(old);
-        let there = self.directories.file_at(new);
-        let is_wrong = is_wrong_between(naming, (file.is_some(), there.is_some()), reply);
-        let is_of_old = (reply == Reply::NotFound) == file.is_some();
-        self.note_wrong(is_wrong, if is_of_old { old } else { new });
-        self.note_act(actor, old, reply)?;
-        match file {
-            Some(file) if reply == Reply::Ok => {
-                let change = naming_change(naming, old, new, file, there);
-                self.change(actor, change)
-            }
-            _ => Ok(()),
-        }
-    }
-
-    /// Notes a reply that no directory gives; the path is what it is not given for.
-    fn note_wrong(&mut self, is_wrong: bool, path: Spot) {
-        if is_wrong {
-            let before = self.directories.last_change(path);
-            self.note(true, Clause::NotADirectory, before);
-        }
-    }
-
-    /// A call on a message by a name of it.
-    fn note_act(&mut self, actor: u32, spot: Spot, reply: Reply) -> Result<(), LineFault> {
-        if let Some(unique) = self.unique_at(spot) {
+        if let Some(unique) = known.unique_at(spot) {
             let at = self.now;
             let about = self.actors.about(actor, (spot.folder, unique))?;
             about.note_act(at, reply != Reply::Ok);
@@ -101,22 +100,24 @@ impl Judge {
 
     fn create(
         &mut self,
+        known: &Known,
         actor: u32,
-        path: Spot,
-        there: Option<u32>,
+        spot: Spot,
         reply: Reply,
+        act: &Act,
     ) -> Result<(), LineFault> {
         if reply != Reply::Ok {
             return Ok(());
         }
-        let is_message = self.unique_at(path).is_some();
+        let is_message = known.unique_at(spot).is_some();
         self.note(is_message, Clause::SeenBeforeWhole, None);
-        let file = self.files.make(mark_of(self.now), Some(actor), self.clock)?;
-        self.change(actor, create_change(path, there, file))
+        self.files
+            .make(mark_of(self.now), Some(actor), known.clock)?;
+        self.change(known, actor, act)
     }
 
-    fn write(&mut self, actor: u32, file: u32, reply: Reply) {
-        let now = self.clock;
+    fn write(&mut self, known: &Known, actor: u32, file: u32, reply: Reply) {
+        let now = known.clock;
         let line = mark_of(self.now);
         let Some(facts) = self.files.facts_mut(file) else {
             return;
@@ -146,24 +147,10 @@ impl Judge {
             facts.is_unflushed = false;
         }
     }
-
-    fn unlink(
-        &mut self,
-        actor: u32,
-        path: Spot,
-        file: Option<u32>,
-        reply: Reply,
-    ) -> Result<(), LineFault> {
-        self.note_act(actor, path, reply)?;
-        match file {
-            Some(file) if reply == Reply::Ok => self.change(actor, unlink_change(path, file)),
-            _ => Ok(()),
-        }
-    }
 }
 
 /// Whether a call on one path answers what it is not defined to answer.
-fn is_wrong_at(deed: Deed, is_there: bool, reply: Reply) -> bool
+pub(super) fn is_wrong_at(deed: Deed, is_there: bool, reply: Reply) -> bool
     ensures { (p : Path) (now : ℕ) (s : State) → has_folder s p ≡ true → is_some (file_at s p) ≡ is_there
         → IsTrue result ↔ IsWrongReply reply ((ask_at deed p now).refusal s) }
 {
@@ -171,7 +158,7 @@ fn is_wrong_at(deed: Deed, is_there: bool, reply: Reply) -> bool
 }
 
 /// Whether a call on two paths, of which the old and the new are there or not, answers what it is not defined to answer.
-fn is_wrong_between(naming: Naming, are_there: (bool, bool), reply: Reply) -> bool
+pub(super) fn is_wrong_between(naming: Naming, are_there: (bool, bool), reply: Reply) -> bool
     ensures { (old new : Path) (s : State) → has_folder s new ≡ true → is_some (file_at s old) ≡ are_there.0
         → is_some (file_at s new) ≡ are_there.1 → IsTrue result ↔ IsWrongReply reply ((ask_between naming old new).refusal s) }
 {
@@ -211,9 +198,11 @@ pub(super) fn defined_between(naming: Naming, is_old_there: bool, is_new_there: 
 }
 
 /// What a create does that was made, of a file that none was before.
-fn create_change(spot: Spot, there: Option<u32>, file: u32) -> Change
-    ensures { (path : Spot → Path) (s : State) (now : ℕ) → file_at s (path spot) ≡ there → file ≡ length s.files → IsOlder there file
+pub(super) fn create_change(spot: Spot, there: Option<u32>, file: u32) -> Change
+    ensures leads { (path : Spot → Path) (s : State) (now : ℕ) → file_at s (path spot) ≡ there → file ≡ length s.files → IsOlder there file
         → Leads path result s ((ask_at deed.Create (path spot) now).after s) }
+    ensures spots { EachSpot (λ q. q ≡ spot) result }
+    ensures below { IsBelow (file + 1) result }
 {
     match there {
         None => Change {
@@ -232,8 +221,10 @@ fn create_change(spot: Spot, there: Option<u32>, file: u32) -> Change
 }
 
 /// What an unlink does that was made.
-fn unlink_change(spot: Spot, file: u32) -> Change
-    ensures { (path : Spot → Path) (s : State) (now : ℕ) → Leads path result s ((ask_at deed.Unlink (path spot) now).after s) }
+pub(super) fn unlink_change(spot: Spot, file: u32) -> Change
+    ensures leads { (path : Spot → Path) (s : State) (now : ℕ) → Leads path result s ((ask_at deed.Unlink (path spot) now).after s) }
+    ensures spots { EachSpot (λ q. q ≡ spot) result }
+    ensures below { (bound : ℕ) → IsBelow bound result }
 {
     Change {
         taken: Some((spot, file)),
@@ -251,8 +242,10 @@ pub(super) fn naming_change(
     file: u32,
     there: Option<u32>,
 ) -> Change
-    ensures { (path : Spot → Path) (s : State) → file_at s (path old) ≡ Some file → file_at s (path new) ≡ there
+    ensures leads { (path : Spot → Path) (s : State) → file_at s (path old) ≡ Some file → file_at s (path new) ≡ there
         → Leads path result s ((ask_between naming (path old) (path new)).after s) }
+    ensures spots { EachSpot (λ q. (q ≡ old) ⊎ (q ≡ new)) result }
+    ensures below { (bound : ℕ) → file < bound → IsBelow bound result }
 {
     let taken = match naming {
         Naming::Link => None,

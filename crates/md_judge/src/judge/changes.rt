@@ -1,41 +1,42 @@
 //! Changes of paths: the clauses that they break, and what is kept of them.
-use super::Judge;
 use super::acts::Change;
 use super::befores::{line_at, line_before, mark_of};
 use super::directories::Spot;
 use super::flags::TRASHED;
+use super::known::{Act, Known};
+use super::watch::Watch;
 use md_dirs::Place;
 use md_log::{Clause, LineFault};
 
 /// 36 hours, after which a file of tmp may be removed.
 const CLEAN_AGE: u64 = 129_600;
 
-impl Judge {
-    /// Judges a change, and makes it.
-    pub(super) fn change(&mut self, actor: u32, change: Change) -> Result<(), LineFault> {
+impl Watch {
+    /// Judges a change of paths that was made, and keeps what it does to messages.
+    pub(super) fn change(&mut self, known: &Known, actor: u32, act: &Act) -> Result<(), LineFault> {
+        let change = act.change;
         if let Some((spot, _, file)) = change.turned {
-            let before = self.directories.last_change(spot);
-            self.note(true, Clause::Overwritten, before);
-            self.check_named(spot, file);
+            self.note(true, Clause::Overwritten, act.turned_before);
+            self.check_named(known, spot, file);
         }
         if let Some((spot, file)) = change.added {
-            self.check_named(spot, file);
-            self.check_added(spot, file, change.taken);
+            self.check_named(known, spot, file);
+            self.check_added(known, spot, file, change.taken);
         }
-        self.make(actor, change)?;
+        self.make(known, actor, change)?;
         if let Some((spot, file)) = change.taken {
-            self.check_gone(spot, file, change.is_unlink);
-            self.check_clean(actor, spot, file);
+            self.check_gone(known, spot, file, change.is_unlink);
+            self.check_clean(known, actor, spot, file);
         }
         if let Some((spot, file, _)) = change.turned {
-            self.check_clean(actor, spot, file);
+            self.check_clean(known, actor, spot, file);
         }
         Ok(())
     }
 
     /// A path is to name a file: what the file was.
-    fn check_named(&mut self, spot: Spot, file: u32) {
-        if self.unique_at(spot).is_none() {
+    fn check_named(&mut self, known: &Known, spot: Spot, file: u32) {
+        if known.unique_at(spot).is_none() {
             return;
         }
         let Some(facts) = self.files.facts(file) else {
@@ -52,15 +53,15 @@ impl Judge {
     }
 
     /// A path is to be added: what its message has.
-    fn check_added(&mut self, spot: Spot, file: u32, taken: Option<(Spot, u32)>) {
-        let Some(unique) = self.unique_at(spot) else {
+    fn check_added(&mut self, known: &Known, spot: Spot, file: u32, taken: Option<(Spot, u32)>) {
+        let Some(unique) = known.unique_at(spot) else {
             return;
         };
         let Some(message) = self.mail.message((spot.folder, unique)) else {
             return;
         };
         let is_used = message.count == 0 && !message.was_file(file);
-        let has_more = if self.is_same_message(taken, spot.folder, unique) {
+        let has_more = if self.is_same_message(known, taken, spot.folder, unique) {
             message.count > 1
         } else {
             message.count > 0
@@ -72,20 +73,26 @@ impl Judge {
     }
 
     /// Whether a path that goes is one of the message.
-    fn is_same_message(&self, taken: Option<(Spot, u32)>, folder: u32, unique: u32) -> bool {
+    fn is_same_message(
+        &self,
+        known: &Known,
+        taken: Option<(Spot, u32)>,
+        folder: u32,
+        unique: u32,
+    ) -> bool {
         match taken {
             None => false,
-            Some((spot, _)) => spot.folder == folder && self.unique_at(spot) == Some(unique),
+            Some((spot, _)) => spot.folder == folder && known.unique_at(spot) == Some(unique),
         }
     }
 
     /// A path was taken: whether a message is gone that may not go.
-    fn check_gone(&mut self, spot: Spot, file: u32, is_unlink: bool) {
-        let Some(unique) = self.unique_at(spot) else {
+    fn check_gone(&mut self, known: &Known, spot: Spot, file: u32, is_unlink: bool) {
+        let Some(unique) = known.unique_at(spot) else {
             return;
         };
         let is_gone = self.mail.count((spot.folder, unique)) == 0;
-        let may_go = is_unlink && spot.place == Place::Cur && self.is_trashed(spot);
+        let may_go = is_unlink && spot.place == Place::Cur && self.is_trashed(known, spot);
         let is_elsewhere = self.mail.is_copied(file, unique);
         if is_gone && !may_go && !is_elsewhere {
             let before = self.mail.put_at((spot.folder, unique));
@@ -93,43 +100,43 @@ impl Judge {
         }
     }
 
-    fn is_trashed(&self, spot: Spot) -> bool {
-        match self.names.facts(spot.name).flags {
+    fn is_trashed(&self, known: &Known, spot: Spot) -> bool {
+        match known.names.facts(spot.name).flags {
             None => false,
             Some(flags) => flags & TRASHED != 0,
         }
     }
 
     /// A path of tmp names its file no longer.
-    fn check_clean(&mut self, actor: u32, spot: Spot, file: u32) {
+    fn check_clean(&mut self, known: &Known, actor: u32, spot: Spot, file: u32) {
         let Some(facts) = self.files.facts(file) else {
             return;
         };
-        let is_young = self.clock.saturating_sub(facts.stamp) < CLEAN_AGE;
+        let is_young = known.clock.saturating_sub(facts.stamp) < CLEAN_AGE;
         let is_anothers = facts.maker != Some(actor);
         let is_early = spot.place == Place::Tmp && facts.seen == 0 && is_anothers && is_young;
         let made = facts.made_at.max(facts.written_at);
         self.note(is_early, Clause::CleanedEarly, line_at(made));
     }
 
-    /// Makes a change. The new name comes first, so that a message that is renamed in its folder is there all the while.
-    fn make(&mut self, actor: u32, change: Change) -> Result<(), LineFault> {
+    /// Keeps what a change does to messages. The new name comes first, so that a message that is renamed in its folder is there all the while.
+    fn make(&mut self, known: &Known, actor: u32, change: Change) -> Result<(), LineFault> {
         if let Some((spot, file)) = change.added {
-            self.note_added(actor, spot)?;
-            self.add_path(self.now.saturating_add(1), spot, file)?;
+            self.note_added(known, actor, spot)?;
+            self.add_path(known, self.now.saturating_add(1), spot, file)?;
         }
         if let Some((spot, old, new)) = change.turned {
-            self.turn_path(actor, spot, old, new)?;
+            self.turn_path(known, actor, spot, old, new)?;
         }
         if let Some((spot, file)) = change.taken {
-            self.take_path(spot, file)?;
-            self.note_taken(actor, spot, change.is_unlink)?;
+            self.take_path(known, spot, file)?;
+            self.note_taken(known, actor, spot, change.is_unlink)?;
         }
         Ok(())
     }
 
-    fn note_added(&mut self, actor: u32, spot: Spot) -> Result<(), LineFault> {
-        if let Some(unique) = self.unique_at(spot) {
+    fn note_added(&mut self, known: &Known, actor: u32, spot: Spot) -> Result<(), LineFault> {
+        if let Some(unique) = known.unique_at(spot) {
             let key = (spot.folder, unique);
             let is_added = self.mail.count(key) == 0;
             let line = mark_of(self.now);
@@ -141,8 +148,14 @@ impl Judge {
         Ok(())
     }
 
-    fn note_taken(&mut self, actor: u32, spot: Spot, is_unlink: bool) -> Result<(), LineFault> {
-        let Some(unique) = self.unique_at(spot) else {
+    fn note_taken(
+        &mut self,
+        known: &Known,
+        actor: u32,
+        spot: Spot,
+        is_unlink: bool,
+    ) -> Result<(), LineFault> {
+        let Some(unique) = known.unique_at(spot) else {
             return Ok(());
         };
         let key = (spot.folder, unique);
@@ -163,15 +176,20 @@ impl Judge {
     }
 
     /// A path is there from the moment `at` on.
-    pub(super) fn add_path(&mut self, at: usize, spot: Spot, file: u32) -> Result<(), LineFault> {
-        self.directories.add(at, spot, file)?;
-        let Some(unique) = self.unique_at(spot) else {
+    pub(super) fn add_path(
+        &mut self,
+        known: &Known,
+        at: usize,
+        spot: Spot,
+        file: u32,
+    ) -> Result<(), LineFault> {
+        let Some(unique) = known.unique_at(spot) else {
             return Ok(());
         };
         let key = (spot.folder, unique);
         self.mail.add(at, key, file)?;
         if spot.place == Place::Cur
-            && let Some(flags) = self.names.facts(spot.name).flags
+            && let Some(flags) = known.names.facts(spot.name).flags
         {
             self.mail.hold(at, key, flags)?;
         }
@@ -181,9 +199,15 @@ impl Judge {
     }
 
     /// A path names another file than before.
-    fn turn_path(&mut self, actor: u32, spot: Spot, old: u32, new: u32) -> Result<(), LineFault> {
-        self.directories.turn(spot, new);
-        let Some(unique) = self.unique_at(spot) else {
+    fn turn_path(
+        &mut self,
+        known: &Known,
+        actor: u32,
+        spot: Spot,
+        old: u32,
+        new: u32,
+    ) -> Result<(), LineFault> {
+        let Some(unique) = known.unique_at(spot) else {
             return Ok(());
         };
         let key = (spot.folder, unique);
@@ -200,16 +224,15 @@ impl Judge {
     }
 
     /// A path is there for the last time before this step.
-    fn take_path(&mut self, spot: Spot, file: u32) -> Result<(), LineFault> {
+    fn take_path(&mut self, known: &Known, spot: Spot, file: u32) -> Result<(), LineFault> {
         let at = self.now;
-        self.directories.take(at, spot)?;
-        let Some(unique) = self.unique_at(spot) else {
+        let Some(unique) = known.unique_at(spot) else {
             return Ok(());
         };
         let key = (spot.folder, unique);
         self.mail.take(at, key)?;
         if spot.place == Place::Cur
-            && let Some(flags) = self.names.facts(spot.name).flags
+            && let Some(flags) = known.names.facts(spot.name).flags
         {
             self.mail.unhold(at, key, flags);
         }

@@ -1,4 +1,10 @@
 //! The names that are in directories.
+ghost use Rattle.std.specs.Prelude.{◌≡◌, Some, None, OnOk, slice_get};
+ghost use Rattle.std.specs.Option.{option_copied};
+ghost use Rattle.md_dirs.specs.Index.{directory_number};
+ghost use Rattle.md_judge.specs.Known.{file_in, Puts, Makes};
+
+use super::acts::Change;
 use super::befores::line_before;
 use md_dirs::Place;
 use md_log::LineFault;
@@ -60,14 +66,22 @@ impl Directories {
         Ok(())
     }
 
-    pub(super) fn directory(&self, folder: u32, place: Place) -> Option<&Directory> {
+    pub(super) fn directory(&self, folder: u32, place: Place) -> Option<&Directory>
+        ensures { option_copied result ≡ slice_get self.now.all.items (directory_number folder place) }
+    {
         self.all.get(number_of(folder, place))
     }
 
-    pub(super) fn file_at(&self, spot: Spot) -> Option<u32> {
-        let directory = self.directory(spot.folder, spot.place)?;
-        let named = directory.names.get(&spot.name)?;
-        Some(named.file)
+    pub(super) fn file_at(&self, spot: Spot) -> Option<u32>
+        ensures { result ≡ file_in self.now.all.items spot }
+    {
+        let Some(directory) = self.directory(spot.folder, spot.place) else {
+            return None;
+        };
+        match directory.names.get(&spot.name) {
+            None => None,
+            Some(named) => Some(named.file),
+        }
     }
 
     /// The line that last made a path be there or go.
@@ -121,7 +135,9 @@ impl Directories {
     }
 
     /// A path is there from the moment `at` on.
-    pub(super) fn add(&mut self, at: usize, spot: Spot, file: u32) -> Result<(), LineFault> {
+    pub(super) fn add(&mut self, at: usize, spot: Spot, file: u32) -> Result<(), LineFault>
+        ensures { OnOk result (Puts spot (Some file) self.old.all.items self.new.all.items) }
+    {
         if let Some(directory) = self.all.get_mut(number_of(spot.folder, spot.place)) {
             let named = Named { file, since: at };
             directory.names.insert(spot.name, named)?;
@@ -129,26 +145,53 @@ impl Directories {
         Ok(())
     }
 
-    /// A path names another file.
-    pub(super) fn turn(&mut self, spot: Spot, file: u32) {
-        if let Some(directory) = self.all.get_mut(number_of(spot.folder, spot.place))
-            && let Some(named) = directory.names.get_mut(&spot.name)
-        {
-            named.file = file;
-        }
+    /// A path, which is there, names another file.
+    fn turn(&mut self, at: usize, spot: Spot, file: u32) -> Result<(), LineFault>
+        ensures { OnOk result (Puts spot (Some file) self.old.all.items self.new.all.items) }
+    {
+        let since = self.since(spot).unwrap_or(at);
+        self.add(since, spot, file)
+    }
+
+    /// Since when a path is there.
+    fn since(&self, spot: Spot) -> Option<usize> {
+        let directory = self.directory(spot.folder, spot.place)?;
+        let named = directory.names.get(&spot.name)?;
+        Some(named.since)
     }
 
     /// A path was there for the last time at the moment `at`.
-    pub(super) fn take(&mut self, at: usize, spot: Spot) -> Result<(), LineFault> {
+    fn take(&mut self, at: usize, spot: Spot) -> Result<(), LineFault>
+        ensures { OnOk result (Puts spot None self.old.all.items self.new.all.items) }
+    {
         if let Some(directory) = self.all.get_mut(number_of(spot.folder, spot.place)) {
             directory.names.remove(&spot.name);
             directory.was.insert(spot.name, at)?;
         }
         Ok(())
     }
+
+    /// Makes the change of a line.
+    pub(super) fn make(&mut self, line: usize, change: Change) -> Result<(), LineFault>
+        ensures { OnOk result (Makes change self.old.all.items self.new.all.items) }
+    {
+        let next = line.saturating_add(1);
+        if let Some((spot, _)) = change.taken {
+            self.take(line, spot)?;
+        }
+        if let Some((spot, _, file)) = change.turned {
+            self.turn(next, spot, file)?;
+        }
+        if let Some((spot, file)) = change.added {
+            self.add(next, spot, file)?;
+        }
+        Ok(())
+    }
 }
 
 /// The number of a directory.
-fn number_of(folder: u32, place: Place) -> usize {
+fn number_of(folder: u32, place: Place) -> usize
+    ensures { result ≡ directory_number folder place }
+{
     folder as usize * 3 + place as usize
 }

@@ -4,7 +4,7 @@ use md_log::LineFault;
 use std::alloc::Global;
 
 /// The most files that a log has.
-const MOST_FILES: usize = 4_000_000_000;
+pub(super) const MOST_FILES: u32 = 4_000_000_000;
 
 /// What was done to a file.
 #[derive(Clone, Copy)]
@@ -46,7 +46,7 @@ impl Files {
         stamp: u64,
     ) -> Result<u32, LineFault> {
         let count = self.all.len();
-        if count >= MOST_FILES {
+        if count >= MOST_FILES as usize {
             return Err(LineFault::NoMemory);
         }
         self.all.push(FileFacts {

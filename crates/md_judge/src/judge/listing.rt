@@ -1,9 +1,10 @@
 //! Readings of directories, and listings.
-use super::Judge;
 use super::directories::{Directory, Spot};
+use super::known::Known;
 use super::mail::Mail;
 use super::tables::Names;
 use super::trial::Open;
+use super::watch::Watch;
 use md_dirs::Place;
 use md_log::{Clause, LineFault, Reply};
 use std::alloc::Global;
@@ -171,10 +172,11 @@ fn lacked(directory: &Directory, reading: &Reading, first: usize) -> Option<u32>
     None
 }
 
-impl Judge {
+impl Watch {
     /// A part of a reading.
     pub(super) fn list(
         &mut self,
+        known: &Known,
         actor: u32,
         folder: u32,
         place: Place,
@@ -188,9 +190,9 @@ impl Judge {
         };
         listing.looked = Some(self.now);
         let first = listing.reading(place).show(self.now, names)?;
-        let wrong = self.wrong_name(&mut listing, folder, place, reply, names, first);
+        let wrong = self.wrong_name(known, &mut listing, folder, place, reply, names, first);
         if let Some(name) = wrong {
-            let before = self.directories.last_change(Spot {
+            let before = known.directories.last_change(Spot {
                 folder,
                 place,
                 name,
@@ -199,7 +201,7 @@ impl Judge {
         }
         self.note(reply == Reply::NotFound, Clause::NotADirectory, None);
         if reply != Reply::More {
-            self.end_reading(&mut listing, folder, place, reply, first)?;
+            self.end_reading(known, &mut listing, folder, place, reply, first)?;
         }
         self.listings.insert(key, listing)?;
         Ok(())
@@ -208,6 +210,7 @@ impl Judge {
     /// A name that a part shows or lacks as no directory does.
     fn wrong_name(
         &self,
+        known: &Known,
         listing: &mut Listing,
         folder: u32,
         place: Place,
@@ -215,7 +218,7 @@ impl Judge {
         names: &[u32],
         first: usize,
     ) -> Option<u32> {
-        let directory = self.directories.directory(folder, place)?;
+        let directory = known.directories.directory(folder, place)?;
         match reply {
             Reply::Ok => match shown_wrongly(directory, names, first) {
                 None => lacked(directory, listing.reading(place), first),
@@ -229,6 +232,7 @@ impl Judge {
     /// A reading is over: with its last part, or by a failure, which drops it.
     fn end_reading(
         &mut self,
+        known: &Known,
         listing: &mut Listing,
         folder: u32,
         place: Place,
@@ -240,7 +244,7 @@ impl Judge {
         if reply != Reply::Ok || place == Place::Tmp {
             return Ok(());
         }
-        listing.finish(&self.names, place, (first, self.now), &done.shown)?;
+        listing.finish(&known.names, place, (first, self.now), &done.shown)?;
         if listing.is_complete() {
             if let Some(unique) = listing.lacking(&self.mail, folder) {
                 let before = self.mail.put_at((folder, unique));

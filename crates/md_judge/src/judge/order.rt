@@ -283,7 +283,7 @@ impl Judge {
         let alloc = self.alloc;
         let mut search = Search {
             alloc,
-            directories: &mut self.directories,
+            directories: &mut self.known.directories,
             trial,
             steps: &waiting,
             moments,
@@ -323,7 +323,7 @@ impl Judge {
         reader: Reader,
         place: md_dirs::Place,
     ) -> Result<Option<Open>, LineFault> {
-        match self.listings.get(&(reader.0, reader.1.0)) {
+        match self.watch.listings.get(&(reader.0, reader.1.0)) {
             None => Ok(None),
             Some(listing) => listing.open(self.alloc, place),
         }
@@ -333,7 +333,7 @@ impl Judge {
         match &step.call {
             Call::At { deed, path, reply } => Ok(Asked::At {
                 deed: *deed,
-                path: self.spot(path)?,
+                path: self.known.spot(path)?,
                 reply: *reply,
             }),
             Call::Between {
@@ -343,8 +343,8 @@ impl Judge {
                 reply,
             } => Ok(Asked::Between {
                 naming: *naming,
-                old: self.spot(old)?,
-                new: self.spot(new)?,
+                old: self.known.spot(old)?,
+                new: self.known.spot(new)?,
                 reply: *reply,
             }),
             Call::List {
@@ -356,7 +356,7 @@ impl Judge {
                 let actor = self.actor_names.number(step.actor.as_slice())?.0;
                 let mut names = BTreeSet::new(self.alloc);
                 for name in shown.as_slice() {
-                    names.insert(self.names.number(name.as_slice())?)?;
+                    names.insert(self.known.names.number(name.as_slice())?)?;
                 }
                 Ok(Asked::List {
                     reader: (actor, (*folder, *place as u32)),

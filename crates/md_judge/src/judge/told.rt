@@ -1,12 +1,12 @@
 //! What actors told their users, beside what is so.
-use super::Judge;
 use super::about::About;
 use super::befores::{line_at, line_before};
 use super::flags::bits_of;
 use super::mail::Key;
+use super::watch::Watch;
 use md_log::{Clause, LineFault, Said};
 
-impl Judge {
+impl Watch {
     /// An answer about a message.
     pub(super) fn answer(&mut self, actor: u32, said: Said, key: Key) -> Result<(), LineFault> {
         let about = self.actors.done(actor, key);

@@ -186,15 +186,7 @@ impl Trial {
             (None, None) => None,
         };
         let taken = change.taken.map(|(spot, _)| directories.keep(spot));
-        if let Some((spot, file)) = change.added {
-            directories.add(now.saturating_add(1), spot, file)?;
-        }
-        if let Some((spot, _, file)) = change.turned {
-            directories.turn(spot, file);
-        }
-        if let Some((spot, _)) = change.taken {
-            directories.take(now, spot)?;
-        }
+        directories.make(now, change)?;
         let reading = self.read(asked, now)?;
         Ok(Undo {
             added,

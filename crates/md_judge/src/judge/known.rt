@@ -1,0 +1,276 @@
+//! What is known of the directories: the files at paths, how many files were made, and the clock.
+ghost use Rattle.std.specs.Prelude.{◌≡◌, ◌+◌, ◌<◌, ◌⊎◌, ℕ, true, length, OnOk, IfOk};
+ghost use Rattle.md_dirs.specs.State.{State, file_at, has_folder};
+ghost use Rattle.md_dirs.specs.declared.paths.Path.{Path};
+ghost use Rattle.md_judge.specs.declared.judge.directories.Spot.{Spot};
+ghost use Rattle.md_judge.specs.Told.{ask_at, ask_between, after_ask};
+ghost use Rattle.md_judge.specs.Changes.{IsOlder, Leads};
+ghost use Rattle.md_judge.specs.Known.{EachSpot, IsBelow, files_after, Stands, Holds, Leaves};
+
+use super::acts::{
+    Change, NO_CHANGE, create_change, is_wrong_at, is_wrong_between, naming_change, unlink_change,
+};
+use super::directories::{Directories, Spot};
+use super::files::MOST_FILES;
+use super::tables::Names;
+use md_dirs::{Path, Place};
+use md_log::{Call, Deed, LineFault, Naming, Reply, Step};
+use std::alloc::Global;
+
+/// What a call did to paths, and whether it was answered so.
+#[derive(Clone, Copy)]
+pub(super) struct Act {
+    /// No directory gives the reply.
+    pub(super) is_wrong: bool,
+    /// The line that last made the path be there or go that the reply is not given for.
+    pub(super) wrong_before: Option<usize>,
+    /// The path that the call names first, and the file that was there.
+    pub(super) spot: Option<Spot>,
+    pub(super) file: Option<u32>,
+    pub(super) change: Change,
+    /// The line that made the path that the change turns.
+    pub(super) turned_before: Option<usize>,
+}
+
+pub(super) const NO_ACT: Act = Act {
+    is_wrong: false,
+    wrong_before: None,
+    spot: None,
+    file: None,
+    change: NO_CHANGE,
+    turned_before: None,
+};
+
+/// What a log tells so far of its directories.
+#[derive(Drop)]
+pub(super) struct Known {
+    pub(super) names: Names,
+    pub(super) directories: Directories,
+    pub(super) files: u32,
+    pub(super) clock: u64,
+}
+
+impl Known {
+    pub(super) fn new(alloc: Global) -> Self {
+        Known {
+            names: Names::new(alloc),
+            directories: Directories::new(alloc),
+            files: 0,
+            clock: 0,
+        }
+    }
+
+    /// A path by numbers.
+    pub(super) fn spot(&mut self, path: &Path) -> Result<Spot, LineFault> {
+        Ok(Spot {
+            folder: path.folder,
+            place: path.place,
+            name: self.names.number(path.name.as_slice())?,
+        })
+    }
+
+    /// The unique name of a message's path.
+    pub(super) fn unique_at(&self, spot: Spot) -> Option<u32> {
+        match spot.place {
+            Place::Tmp => None,
+            _ => self.names.facts(spot.name).unique,
+        }
+    }
+
+    /// A file that is there at the beginning.
+    pub(super) fn put_file(
+        &mut self,
+        line: usize,
+        path: &Path,
+        stamp: u64,
+    ) -> Result<(Spot, u32), LineFault> {
+        let spot = self.spot(path)?;
+        if self.directories.file_at(spot).is_some() {
+            return Err(LineFault::SamePath);
+        }
+        let file = self.files;
+        self.files = counted(file, Deed::Create, Reply::Ok)?;
+        self.clock = self.clock.max(stamp);
+        self.directories.add(line.saturating_add(1), spot, file)?;
+        Ok((spot, file))
+    }
+
+    /// A further name of a file that is there at the beginning.
+    pub(super) fn put_name(
+        &mut self,
+        line: usize,
+        path: &Path,
+        old: &Path,
+    ) -> Result<(Spot, u32), LineFault> {
+        let spot = self.spot(path)?;
+        let old = self.spot(old)?;
+        if self.directories.file_at(spot).is_some() {
+            return Err(LineFault::SamePath);
+        }
+        let Some(file) = self.directories.file_at(old) else {
+            return Err(LineFault::NoSuchPath);
+        };
+        self.directories.add(line.saturating_add(1), spot, file)?;
+        Ok((spot, file))
+    }
+
+    /// Goes on by a step of this line.
+    pub(super) fn step(&mut self, line: usize, step: &Step) -> Result<Act, LineFault> {
+        self.clock = self.clock.max(step.moment);
+        self.call(line, &step.call)
+    }
+
+    /// Does to paths what a call of this line did that was made.
+    fn call(&mut self, line: usize, call: &Call) -> Result<Act, LineFault> {
+        match call {
+            Call::At { deed, path, reply } => {
+                let spot = self.spot(path)?;
+                self.at(line, *deed, spot, *reply)
+            }
+            Call::Between {
+                naming,
+                old,
+                new,
+                reply,
+            } => {
+                let old = self.spot(old)?;
+                let new = self.spot(new)?;
+                self.between(line, *naming, old, new, *reply)
+            }
+            Call::List { .. } | Call::Answer { .. } => Ok(NO_ACT),
+        }
+    }
+
+    fn at(&mut self, line: usize, deed: Deed, spot: Spot, reply: Reply) -> Result<Act, LineFault>
+        ensures { (path : Spot → Path) (many now : ℕ) (s : State) → Stands path many → Holds path many s self.old → spot.name < many
+            → has_folder s (path spot) ≡ true
+            → IfOk result (λ act. Leaves path many reply (ask_at deed (path spot) now) s self.new act) }
+    {
+        let file = self.directories.file_at(spot);
+        let before = self.directories.last_change(spot);
+        let change = change_at(deed, spot, file, reply, self.files);
+        let files = counted(self.files, deed, reply)?;
+        self.directories.make(line, change)?;
+        self.files = files;
+        Ok(Act {
+            is_wrong: is_wrong_at(deed, file.is_some(), reply),
+            wrong_before: before,
+            spot: Some(spot),
+            file,
+            change,
+            turned_before: before,
+        })
+    }
+
+    fn between(
+        &mut self,
+        line: usize,
+        naming: Naming,
+        old: Spot,
+        new: Spot,
+        reply: Reply,
+    ) -> Result<Act, LineFault>
+        ensures { (path : Spot → Path) (many : ℕ) (s : State) → Stands path many → Holds path many s self.old
+            → old.name < many → new.name < many → has_folder s (path old) ≡ true → has_folder s (path new) ≡ true
+            → IfOk result (λ act. Leaves path many reply (ask_between naming (path old) (path new)) s self.new act) }
+    {
+        let file = self.directories.file_at(old);
+        let there = self.directories.file_at(new);
+        let is_of_old = (reply == Reply::NotFound) == file.is_some();
+        let wrong_before = self
+            .directories
+            .last_change(if is_of_old { old } else { new });
+        let turned_before = self.directories.last_change(new);
+        let change = change_between(naming, old, new, file, there, reply);
+        self.directories.make(line, change)?;
+        Ok(Act {
+            is_wrong: is_wrong_between(naming, (file.is_some(), there.is_some()), reply),
+            wrong_before,
+            spot: Some(old),
+            file,
+            change,
+            turned_before,
+        })
+    }
+}
+
+/// How many files there are after a call on one path: a create that was made makes one.
+fn counted(files: u32, deed: Deed, reply: Reply) -> Result<u32, LineFault>
+    ensures { IfOk result (λ count. count ≡ files_after deed reply files) }
+{
+    match (deed, reply) {
+        (Deed::Create, Reply::Ok) if files < MOST_FILES => Ok(files + 1),
+        (Deed::Create, Reply::Ok) => Err(LineFault::NoMemory),
+        _ => Ok(files),
+    }
+}
+
+/// What a call on one path does, where the next file that is made has this number.
+fn change_at(deed: Deed, spot: Spot, there: Option<u32>, reply: Reply, next: u32) -> Change
+    ensures leads { (path : Spot → Path) (s : State) (now : ℕ) → file_at s (path spot) ≡ there → next ≡ length s.files → IsOlder there next
+        → Leads path result s (after_ask reply (ask_at deed (path spot) now) s) }
+    ensures spots { EachSpot (λ q. q ≡ spot) result }
+    ensures below { IsBelow (files_after deed reply next) result }
+{
+    match reply {
+        Reply::Ok => made_at(deed, spot, there, next),
+        _ => NO_CHANGE,
+    }
+}
+
+/// What a call on one path does that was made.
+fn made_at(deed: Deed, spot: Spot, there: Option<u32>, next: u32) -> Change
+    ensures leads { (path : Spot → Path) (s : State) (now : ℕ) → file_at s (path spot) ≡ there → next ≡ length s.files → IsOlder there next
+        → Leads path result s ((ask_at deed (path spot) now).after s) }
+    ensures spots { EachSpot (λ q. q ≡ spot) result }
+    ensures below { IsBelow (files_after deed Reply.Ok next) result }
+{
+    match deed {
+        Deed::Create => create_change(spot, there, next),
+        Deed::Unlink => match there {
+            None => NO_CHANGE,
+            Some(file) => unlink_change(spot, file),
+        },
+        Deed::Write => NO_CHANGE,
+        Deed::Flush => NO_CHANGE,
+    }
+}
+
+/// What a call on two paths does.
+fn change_between(
+    naming: Naming,
+    old: Spot,
+    new: Spot,
+    file: Option<u32>,
+    there: Option<u32>,
+    reply: Reply,
+) -> Change
+    ensures leads { (path : Spot → Path) (s : State) → file_at s (path old) ≡ file → file_at s (path new) ≡ there
+        → Leads path result s (after_ask reply (ask_between naming (path old) (path new)) s) }
+    ensures spots { EachSpot (λ q. (q ≡ old) ⊎ (q ≡ new)) result }
+    ensures below { (bound : ℕ) → IsOlder file bound → IsBelow bound result }
+{
+    match reply {
+        Reply::Ok => made_between(naming, old, new, file, there),
+        _ => NO_CHANGE,
+    }
+}
+
+/// What a call on two paths does that was made.
+fn made_between(
+    naming: Naming,
+    old: Spot,
+    new: Spot,
+    file: Option<u32>,
+    there: Option<u32>,
+) -> Change
+    ensures leads { (path : Spot → Path) (s : State) → file_at s (path old) ≡ file → file_at s (path new) ≡ there
+        → Leads path result s ((ask_between naming (path old) (path new)).after s) }
+    ensures spots { EachSpot (λ q. (q ≡ old) ⊎ (q ≡ new)) result }
+    ensures below { (bound : ℕ) → IsOlder file bound → IsBelow bound result }
+{
+    match file {
+        None => NO_CHANGE,
+        Some(file) => naming_change(naming, old, new, file, there),
+    }
+}
