@@ -4,7 +4,7 @@ from __future__ import annotations
 
 import time
 from functools import lru_cache
-from typing import Iterable, Iterator, NamedTuple, Optional
+from typing import Iterable, Iterator, NamedTuple, Optional, Sequence, Union
 
 from ._names import fresh_unique
 from .calls import Answer, Call, Deliver, Expunge, Flag, Place, Seen
@@ -245,7 +245,7 @@ class Tree:
         left = list(calls)
         while left:
             try:
-                answers = self.world.call_many(left)
+                answers: Sequence[Union[Answer, Failed]] = self.world.call_many(left)
                 left = []
             except TooManyJobs as error:
                 answers = error.done
