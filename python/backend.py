@@ -14,7 +14,7 @@ import re
 import sysconfig
 import tarfile
 import zipfile
-from typing import Optional
+from typing import Any, Optional
 
 HERE = pathlib.Path(__file__).resolve().parent
 PACKAGE = HERE / "deolmutt"
@@ -24,7 +24,7 @@ WHEN = (1980, 1, 1, 0, 0, 0)
 
 
 def build_wheel(
-    wheel_directory: str, config_settings: Optional[dict] = None, metadata_directory: Optional[str] = None
+    wheel_directory: str, config_settings: Optional[dict[str, Any]] = None, metadata_directory: Optional[str] = None
 ) -> str:
     """Writes the wheel, and answers its name."""
     library = _library()
@@ -46,7 +46,7 @@ def build_wheel(
     return name
 
 
-def build_sdist(sdist_directory: str, config_settings: Optional[dict] = None) -> str:
+def build_sdist(sdist_directory: str, config_settings: Optional[dict[str, Any]] = None) -> str:
     """Writes the sources as they are, and answers the name."""
     name = f"{_stem()}.tar.gz"
     with tarfile.open(os.path.join(sdist_directory, name), "w:gz", format=tarfile.PAX_FORMAT) as sources:

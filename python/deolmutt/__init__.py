@@ -5,11 +5,14 @@ deliver, flag, move, copy and expunge messages by the directory calls of maildir
 may let run step by step.
 """
 
-from . import calls, errors, lines
+from . import calls, errors, headers, lines, names, scripts
 from ._disk import LeftOut
 from ._names import fresh_unique
 from .errors import DeolmuttError, Failed, Refused, WrongThread
+from .headers import Summary, summary
 from .maildir import Maildir
+from .names import split_name, unique_name
+from .scripts import transcript
 from .world import World
 
 __all__ = [
@@ -18,10 +21,18 @@ __all__ = [
     "LeftOut",
     "Maildir",
     "Refused",
+    "Summary",
     "World",
     "WrongThread",
     "calls",
     "errors",
     "fresh_unique",
+    "headers",
     "lines",
+    "names",
+    "scripts",
+    "split_name",
+    "summary",
+    "transcript",
+    "unique_name",
 ]

@@ -105,7 +105,7 @@ def make_folder(directory: str, is_top: bool) -> None:
 
 def uniques_in(directory: str, colon: str) -> set[str]:
     """The unique names that a folder has, if it is there."""
-    found = set()
+    found: set[str] = set()
     for place in Place:
         path = os.path.join(directory, place.value)
         if os.path.isdir(path):

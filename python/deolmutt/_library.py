@@ -7,7 +7,7 @@ import ctypes.util
 import os
 from functools import lru_cache
 from pathlib import Path
-from typing import Iterator
+from typing import Any, Callable, Iterator
 
 from .errors import LibraryMissing
 
@@ -64,7 +64,13 @@ _FUNCTIONS = {
     "deolmutt_list": (_WORLD, _U32, _OUT, _SIZE, _TO_SIZE),
     "deolmutt_read": (_WORLD, _BYTES, _SIZE, _OUT, _SIZE, _TO_SIZE),
     "deolmutt_transcript": (_BYTES, _SIZE, _OUT, _SIZE, _TO_SIZE, _TO_U64),
+    "deolmutt_unique": (_U64, _U64, _U64, _U64, _BYTES, _SIZE, _OUT, _SIZE, _TO_SIZE),
+    "deolmutt_split": (_BYTES, _SIZE, _TO_SIZE, ctypes.POINTER(_U32), _TO_U64),
+    "deolmutt_summary": (_BYTES, _SIZE, _OUT, _SIZE, _TO_SIZE),
 }
+
+_ROOM = 3
+FIRST_ROOM = 1 << 16
 
 # A library that was built without it has no settle.
 _MAYBE = {"deolmutt_settle": (_WORLD, _TO_U64)}
@@ -82,6 +88,22 @@ def library() -> ctypes.CDLL:
             continue
         return _declared(found, path)
     raise LibraryMissing("\n".join([f"{FILE_NAME} was not found.", *tried, _HOW]))
+
+
+def filled(
+    function: Callable[..., int], *asked: Any, room: int = FIRST_ROOM
+) -> tuple[int, bytes]:
+    """What a function comes to, and what it gives into a buffer, which grows until it is large enough.
+
+    After what is asked it takes a buffer, the buffer's room, and where the whole length goes.
+    """
+    length = _SIZE()
+    while True:
+        out = ctypes.create_string_buffer(room)
+        status = function(*asked, out, room, ctypes.byref(length))
+        if status != _ROOM:
+            return status, ctypes.string_at(out, length.value)
+        room = length.value
 
 
 def _paths() -> Iterator[str]:

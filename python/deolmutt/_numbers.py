@@ -12,7 +12,6 @@ from .errors import DeolmuttError, Failed
 from .lines import encoded
 
 OK = 0
-ROOM = 3
 
 REFUSALS: dict[int, type[DeolmuttError]] = {
     1: errors.Misused,
@@ -39,6 +38,8 @@ REFUSALS: dict[int, type[DeolmuttError]] = {
     30: errors.BodyTooLong,
     31: errors.NoJob,
     32: errors.Answered,
+    40: errors.BadHost,
+    41: errors.BadMicrosecond,
     42: errors.BadFlag,
     50: errors.BadCommand,
     51: errors.BadNumber,
@@ -91,14 +92,15 @@ def answer_of(kind: int, value: int) -> Union[Answer, Failed]:
     if plain is not None:
         return plain
     if kind == _FLAGS:
-        return Answer(Outcome.FLAGS, flags=_letters(value))
+        return Answer(Outcome.FLAGS, flags=letters_of(value))
     if kind == _CLEANED:
         return Answer(Outcome.CLEANED, removed=value)
     return FAILURES[kind]()
 
 
 @lru_cache(maxsize=4096)
-def _letters(bits: int) -> str:
+def letters_of(bits: int) -> str:
+    """The letters of flags."""
     return "".join(letter for at, letter in enumerate(_LETTERS) if bits >> at & 1)
 
 

@@ -21,7 +21,12 @@ class DeolmuttError(Exception):
 
 
 class Refused(DeolmuttError):
-    """A call that was not taken. Nothing has changed."""
+    """A call that was not taken. Nothing has changed.
+
+    Where a line of a script is refused, `line` is its number from 1, else 0.
+    """
+
+    line: int = 0
 
 
 class Failed(DeolmuttError):
@@ -118,6 +123,14 @@ class NoMessageName(Refused, ValueError):
     """A message's name is not empty, and begins with neither a dot nor a colon."""
 
 
+class BadHost(Refused, ValueError):
+    """A host is 1 to 100 bytes once escaped, without NUL, LF and CR."""
+
+
+class BadMicrosecond(Refused, ValueError):
+    """A microsecond is 0 to 999,999."""
+
+
 class Misused(Refused):
     """The library refused how this package called it, which is a fault of the package."""
 
@@ -127,8 +140,6 @@ class Misused(Refused):
 
 class BadLine(Refused, ValueError):
     """A line is refused. `line` is its number from 1, or 0 where the files together make no store."""
-
-    line: int = 0
 
 
 class BadCommand(BadLine):

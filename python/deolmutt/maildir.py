@@ -10,7 +10,7 @@ import time
 import warnings
 from email.message import Message as EmailMessage
 from types import TracebackType
-from typing import IO, Any, Callable, Iterable, Iterator, List, Optional, Union
+from typing import IO, Any, Callable, Iterable, Iterator, List, Optional, Protocol, Union
 
 from . import _disk
 from ._names import fresh_unique, is_unique
@@ -31,8 +31,17 @@ from .errors import BodyTooLong, Closed
 from .lines import file_line
 from .world import World
 
-# What `add` takes: an email.message.Message, a text, bytes, or a file that is open for reading bytes.
-Addable = Union[EmailMessage, str, bytes, IO[bytes]]
+
+class Readable(Protocol):
+    """A file that is open for reading bytes."""
+
+    def read(self, __length: int = ...) -> bytes: ...
+
+    def readline(self) -> bytes: ...
+
+
+# What `add` takes, as in `mailbox`. It warns of a StringIO, and takes it by its ASCII bytes.
+Addable = Union[EmailMessage, str, bytes, io.StringIO, Readable]
 Factory = Callable[[IO[bytes]], Any]
 
 # What the store takes of a message that is delivered.
@@ -426,7 +435,8 @@ class Maildir(mailbox.Mailbox):  # type: ignore[type-arg]
             body = message
         else:
             out = io.BytesIO()
-            self._dump_message(message, out)
+            # The base class has it, and says nothing of its type.
+            self._dump_message(message, out)  # type: ignore[attr-defined]
             body = out.getvalue()
         if len(body) > _MOST_BYTES:
             raise BodyTooLong()

@@ -7,10 +7,10 @@ import struct
 import threading
 import time
 from types import TracebackType
-from typing import Callable, Iterable, Iterator, List, NamedTuple, NoReturn, Optional, Union
+from typing import Any, Callable, Iterable, Iterator, List, NamedTuple, NoReturn, Optional, Union
 
-from ._library import AnswerStruct, StepStruct, library
-from ._numbers import MOST_U32, MOST_U64, OK, ROOM, Asked, answer_of, asked, refusal, step_of
+from ._library import AnswerStruct, StepStruct, filled, library
+from ._numbers import MOST_U32, MOST_U64, OK, Asked, answer_of, asked, refusal, step_of
 from .calls import (
     Answer,
     Call,
@@ -26,7 +26,6 @@ from .calls import (
     Step,
 )
 from .errors import (
-    BadLine,
     Closed,
     DeolmuttError,
     Failed,
@@ -34,6 +33,7 @@ from .errors import (
     NoJob,
     NoMemory,
     NotSettled,
+    Refused,
     Unanswered,
     WrongThread,
 )
@@ -46,7 +46,6 @@ _PLACES = {1: Place.NEW, 2: Place.CUR}
 # Where many calls are made at once, so many of them, or of bytes, go to the library together.
 _MOST_TOGETHER = 1024
 _MOST_BYTES_TOGETHER = 1 << 24
-_FIRST_ROOM = 1 << 16
 
 
 class _Hold:
@@ -281,9 +280,7 @@ class World:
     def list(self, folder: int) -> List[Entry]:
         """The messages of a folder, in order of the bytes of their unique names."""
         given = self._given(
-            lambda out, room, length: self._library.deolmutt_list(
-                self._open(), _checked(folder, NoFolder, MOST_U32), out, room, length
-            )
+            self._library.deolmutt_list, _checked(folder, NoFolder, MOST_U32)
         )
         return list(_entries(given))
 
@@ -291,24 +288,15 @@ class World:
         """The bytes of a message, in new or cur of any folder. Refused: `NotThere`."""
         name = encoded(unique)
         return self._given(
-            lambda out, room, length: self._library.deolmutt_read(
-                self._open(), name, len(name), out, room, length
-            )
+            self._library.deolmutt_read, name, len(name)
         )
 
-    def _given(self, call: Callable[..., int]) -> bytes:
-        """What a function gives into a buffer, which grows until it is large enough."""
-        length = ctypes.c_size_t()
-        room = _FIRST_ROOM
+    def _given(self, function: Callable[..., int], *asked: Any) -> bytes:
+        """What a function of the library gives into a buffer."""
         with self._hold:
-            while True:
-                out = ctypes.create_string_buffer(room)
-                status = call(out, room, ctypes.byref(length))
-                if status != ROOM:
-                    break
-                room = length.value
+            status, given = filled(function, self._open(), *asked)
             self._check(status)
-        return ctypes.string_at(out, length.value)
+        return given
 
     # Its life.
 
@@ -398,8 +386,8 @@ class World:
 
 
 def at_line(error: DeolmuttError, line: int) -> DeolmuttError:
-    """A refusal with the number of its line, where it is one of a line."""
-    if isinstance(error, BadLine):
+    """A refusal with the number of its line, 0 for none."""
+    if isinstance(error, Refused):
         error.line = line
         error.args = (f"line {line}: {error}" if line else str(error),)
     return error

@@ -8,7 +8,7 @@ import pathlib
 import sys
 import tempfile
 import unittest
-from typing import Any, Callable
+from typing import Any, Callable, Literal
 
 PYTHON = pathlib.Path(__file__).resolve().parent.parent
 TOP = PYTHON.parent
@@ -38,7 +38,7 @@ MESSAGE = b"Subject: one\nFrom: a@example.org\n\nHello.\n"
 
 
 def maildir_message(
-    flags: str = "", subdir: str = "new", date: float = 1_000_000_000.0, body: bytes = MESSAGE
+    flags: str = "", subdir: Literal["new", "cur"] = "new", date: float = 1_000_000_000.0, body: bytes = MESSAGE
 ) -> mailbox.MaildirMessage:
     """A message with all that a maildir says of it."""
     message = mailbox.MaildirMessage(body)

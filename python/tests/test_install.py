@@ -39,6 +39,10 @@ def run(command: list[str], folder: pathlib.Path, **variables: str) -> subproces
 class InstallTest(unittest.TestCase):
     """One environment for all tests, since making one takes some seconds."""
 
+    folder: pathlib.Path
+    work: pathlib.Path
+    python: str
+
     @classmethod
     def setUpClass(cls) -> None:
         folder = tempfile.TemporaryDirectory()

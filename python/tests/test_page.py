@@ -8,7 +8,7 @@ import unittest
 from support import TOP, Case, needs_library
 
 # A page, and how many lines of it are run at least.
-PAGES = ((TOP / "docs/PYTHON.md", 16), (TOP / "README.md", 5))
+PAGES = ((TOP / "docs/PYTHON.md", 21), (TOP / "README.md", 5))
 
 
 @needs_library

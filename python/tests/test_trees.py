@@ -16,6 +16,7 @@ from support import MESSAGE, Case, maildir_message, needs_library
 import deolmutt
 from deolmutt import Maildir, WrongThread
 from deolmutt.errors import BodyTooLong, NoSpareFolder, OtherInfo
+from deolmutt.maildir import Addable
 
 MOST_BODY = 16_777_216
 BODIES = {
@@ -101,7 +102,8 @@ class TreeTest(Case):
     def test_mailbox_reads_an_export_as_it_read_the_tree(self) -> None:
         source = mailbox.Maildir(self.folder / "source")
         sent = source.add_folder("Sent")
-        for number, message in enumerate((MESSAGE, maildir_message("FS", "cur", 1e9 + 0.5), b"x")):
+        messages: tuple[Addable, ...] = (MESSAGE, maildir_message("FS", "cur", 1e9 + 0.5), b"x")
+        for number, message in enumerate(messages):
             source.add(message)
             sent.add(maildir_message("R" * (number % 2), "cur", 10.0 * number))
         with Maildir.load(self.folder / "source") as box:

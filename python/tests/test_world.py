@@ -7,6 +7,7 @@ import pickle
 import re
 import threading
 import unittest
+from typing import Callable
 
 from support import MESSAGE, TOP, needs_library
 
@@ -14,6 +15,7 @@ from deolmutt import World, WrongThread, errors, lines
 from deolmutt._numbers import FAILURES, MOST_U64, REFUSALS
 from deolmutt.calls import (
     Answer,
+    Call,
     Clean,
     Copy,
     Deliver,
@@ -30,8 +32,8 @@ HEADER = TOP / "crates/md_ffi/include/deolmutt.h"
 DAY = 86_400
 MOST_BODY = 16_777_216
 MOST_CALLS = 10_000
-# The refusals that the package never meets, since it asks for room and knows no host.
-_NEVER_MET = range(40, 42), range(60, 64)
+# The refusals that no call of the library gives.
+_NEVER_MET = range(60, 64)
 
 
 def world_of(*files: tuple[str, str, bytes]) -> World:
@@ -146,7 +148,7 @@ class CallTest(unittest.TestCase):
         return done
 
     def test_call_answers_how_a_job_ended(self) -> None:
-        calls = {
+        calls: dict[Call, Answer] = {
             Deliver(1, "d", b""): Answer(Outcome.DELIVERED),
             Seen(0, "n", "T"): Answer(Outcome.FLAGS, flags="T"),
             Flag(0, "c", "zA", "F"): Answer(Outcome.FLAGS, flags="ASz"),
@@ -158,7 +160,7 @@ class CallTest(unittest.TestCase):
         self.assertEqual(list(calls.values()), [self.world.call(call) for call in calls])
 
     def test_each_refusal(self) -> None:
-        refused = {
+        refused: dict[Call, type[errors.Refused]] = {
             Clean(2): errors.NoFolder,
             Clean(-1): errors.NoFolder,
             Clean(1 << 32): errors.NoFolder,
@@ -189,7 +191,7 @@ class CallTest(unittest.TestCase):
         self.assertEqual(before, self.names())
 
     def test_each_failed_answer(self) -> None:
-        failed = {
+        failed: dict[Call, type[errors.Failed]] = {
             Seen(0, "c"): errors.NotThere,
             Flag(0, "n", "S"): errors.NotThere,
             Move(1, "c", 0): errors.NotThere,
@@ -276,13 +278,19 @@ class LifeTest(unittest.TestCase):
             pass
         world.close()
         self.assertTrue(world.is_closed)
-        for call in (lambda: world.list(0), lambda: world.read("a"), lambda: world.clean(0)):
+        calls: tuple[Callable[[], object], ...] = (
+            lambda: world.list(0),
+            lambda: world.read("a"),
+            lambda: world.clean(0),
+        )
+        for call in calls:
             with self.assertRaises(errors.Closed):
                 call()
 
     def test_a_world_is_neither_copied_nor_pickled(self) -> None:
         with World.with_folders("a") as world:
-            for way in (copy.copy, copy.deepcopy, pickle.dumps):
+            ways: tuple[Callable[[World], object], ...] = (copy.copy, copy.deepcopy, pickle.dumps)
+            for way in ways:
                 with self.assertRaises(TypeError):
                     way(world)
 
@@ -424,7 +432,7 @@ class NumbersTest(unittest.TestCase):
             self.skipTest(f"{HEADER} is not there")
         text = HEADER.read_text(encoding="utf-8")
         refusals = numbers_in(text, "deolmutt_refusal")
-        met = {n for n in refusals.values() if not any(n in never for never in _NEVER_MET)}
+        met = {n for n in refusals.values() if n not in _NEVER_MET}
         self.assertEqual(met - {0}, set(REFUSALS))
         answers = numbers_in(text, "deolmutt_answer_kind")
         self.assertEqual(set(range(7, len(answers))), set(FAILURES))

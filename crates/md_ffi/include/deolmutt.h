@@ -123,8 +123,8 @@ enum deolmutt_answer_kind {
     DEOLMUTT_LOST = 10,             /* the name was gone at the act in each of the tries */
     DEOLMUTT_TIMED_OUT = 11,        /* a delivery's 24 hours ended before its link */
     DEOLMUTT_TMP_GONE = 12,         /* the file in tmp was gone at an append or the link */
-    DEOLMUTT_NAME_TAKEN = 13,       /* a message of that name is there */
-    DEOLMUTT_FAULT = 14             /* a directory call faulted */
+    DEOLMUTT_NAME_TAKEN = 13,       /* no call gives it: a name that is there is refused as DEOLMUTT_NAME_USED */
+    DEOLMUTT_FAULT = 14             /* no call gives it: no directory call fails in memory */
 };
 
 enum deolmutt_place { DEOLMUTT_TMP = 0, DEOLMUTT_NEW = 1, DEOLMUTT_CUR = 2 };
@@ -139,7 +139,7 @@ enum deolmutt_dir_call {
     DEOLMUTT_LIST = 6 /* value: the place */
 };
 
-/* What the directories answered. */
+/* What the directories answered. In memory no directory call fails, so that no step shows DEOLMUTT_FAULTED. */
 enum deolmutt_dir_reply { DEOLMUTT_DONE = 1, DEOLMUTT_EXISTS = 2, DEOLMUTT_NOT_FOUND = 3, DEOLMUTT_FAULTED = 4 };
 
 /* How a job ended: enum deolmutt_answer_kind, and its value, 0 where the kind names none. */
@@ -222,7 +222,8 @@ uint32_t deolmutt_names(deolmutt_world *world, uint32_t folder, uint32_t place, 
    `u32 kind, u32 folder, u32 to, u32 0, u64 length of unique, u64 of first, u64 of second, u64 number`, 48 bytes, and then the bytes of
    unique, first and second. It stops at the first refused: the calls before it are done, *done says how many, and `answers` has an answer
    for each of these. Refused: as deolmutt_call; DEOLMUTT_BAD_RECORD where the records end amid one; DEOLMUTT_ROOM where answers, which
-   has room for `room` answers, is full and a record is left. *done is written after each of these. */
+   has room for `room` answers, is full and bytes are left. *done is written after each of these, and the answers past it are as they were.
+   After DEOLMUTT_NO_MEMORY the next call's job may be there without its answer, as after deolmutt_call; deolmutt_settle tells its number. */
 uint32_t deolmutt_calls(deolmutt_world *world, const uint8_t *records, size_t length, uint64_t now, deolmutt_answer *answers, size_t room,
                         size_t *done);
 

@@ -1,3 +1,5 @@
+pub mod FlagBits
+pub mod Records
 pub mod Refused
 pub mod Slots
 pub mod Unanswered

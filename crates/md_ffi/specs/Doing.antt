@@ -3,15 +3,15 @@ use Rattle.std.specs.Prelude.{◌≡◌, ◌⊎◌, ℕ, ◌+◌, ◌==◌, ◌&
 use Rattle.md_core.specs.declared.error.CoreError.{CoreError}
 use Rattle.md_core.specs.declared.error.CoreError.TheVariants.{NoJob}
 use Rattle.md_core.specs.declared.jobs.answer.Answer.{Answer}
-use Rattle.md_core.specs.Machine.{Occurrence, job_at}
-use Rattle.md_core.specs.Runs.{Run, and_call, and_event, answer_of, jobs_of}
+use Rattle.md_core.specs.Machine.{Occurrence}
+use Rattle.md_core.specs.Runs.{Run, and_call, and_event}
 use Rattle.md_core.specs.Settling.{settled}
 use Rattle.md_core.specs.Submitting.{submit_refusal}
 use Rattle.md_script.specs.Kinds.{core_kind}
 use Rattle.md_script.specs.declared.error.PlayKind.TheVariants.{NoMemory}
 use Rattle.md_ffi.specs.Asking.{and_then, call_at}
 use Rattle.md_ffi.specs.Numbers.{core_number, refusal_number}
-use Rattle.md_ffi.specs.Shown.{answer_number}
+use Rattle.md_ffi.specs.Shown.{answer_shown}
 use Rattle.md_ffi.specs.declared.shown.AnswerShown.{AnswerShown}
 use Rattle.md_ffi.specs.declared.shown.StepShown.{StepShown}
 use Rattle.md_ffi.specs.declared.asked.Asked.{Asked}
@@ -56,7 +56,7 @@ is_job run job = nat_lt 0 job && nat_le job (length run.calls)
 
 -- the answer of a job is shown where the job is there, and else nothing
 abbrev pub Answers : Bool → Option Answer → AnswerShown → AnswerShown → ℕ → Type 0
-Answers true answer before after status = (status ≡ 0) × (after.kind ≡ answer_number answer)
+Answers true answer before after status = (status ≡ 0) × (after ≡ answer_shown answer)
 Answers false answer before after status = (status ≡ core_number NoJob) × (after ≡ before)
 
 -- the number of a refused step: out of memory where nothing else is against it
@@ -69,11 +69,6 @@ unfoldable pub Steps : Run → Run → (Bool → Occurrence) → Option CoreErro
 Steps old new event refusal before after status =
     ((status ≡ 0) × (refusal ≡ None) × (new ≡ and_event old (event (after.reply == 4))))
     ⊎ ((status ≡ refused_step refusal) × (new ≡ old) × (after ≡ before))
-
--- A call came to its job's answer, which is shown; or it was refused, and none is.
-abbrev pub Calls : Run → ℕ → AnswerShown → ℕ → Type 0
-Calls new job after status =
-    ((status ≡ 0) × (after.kind ≡ answer_number (answer_of (job_at (jobs_of new) job)))) ⊎ ((after.kind ≡ 0) × (after.value ≡ 0))
 
 -- A world settles where each job has its answer, and begins again, or is out of memory and as it was. Else it is as it was, and the first job
 -- that has no answer is named.

@@ -7,6 +7,7 @@ use Rattle.md_name.specs.declared.info.Info.TheVariants.{Bare, Two, Opaque}
 use Rattle.md_script.specs.Kinds.{name_kind}
 use Rattle.md_script.specs.declared.error.PlayError.{PlayError}
 use Rattle.md_ffi.specs.Numbers.{kind_number, refusal_number}
+use Rattle.md_ffi.specs.Shown.{flag_bits}
 use Rattle.md_ffi.specs.declared.refusal.Refusal.{Refusal}
 use Rattle.md_ffi.specs.declared.refusal.Refusal.TheVariants.{Kind, NoMessageName}
 
@@ -43,9 +44,15 @@ info_number Bare = 0
 info_number (Two flags) = 1
 info_number Opaque = 2
 
--- the length of a unique part, and which info follows it; a name that is no message's is refused, and nothing is said
-abbrev pub Splits : Option (List ℕ × Info) → ℕ → ℕ → ℕ → ℕ → ℕ → Type 0
-Splits None part_before part info_before info status =
-    (status ≡ refusal_number NoMessageName) × (part ≡ part_before) × (info ≡ info_before)
-Splits (Some parts) part_before part info_before info status =
-    (status ≡ 0) × (part ≡ length parts.0) × (info ≡ info_number parts.1)
+-- the flags of an info, as bits
+abbrev pub info_flags : Info → ℕ
+info_flags Bare = 0
+info_flags (Two flags) = flag_bits flags
+info_flags Opaque = 0
+
+-- the length of a unique part, which info follows it, and its flags; a name that is no message's is refused, and nothing is said
+abbrev pub Splits : Option (List ℕ × Info) → ℕ → ℕ → ℕ → ℕ → ℕ → ℕ → ℕ → Type 0
+Splits None part_before part info_before info flags_before flags status =
+    (status ≡ refusal_number NoMessageName) × (part ≡ part_before) × (info ≡ info_before) × (flags ≡ flags_before)
+Splits (Some parts) part_before part info_before info flags_before flags status =
+    (status ≡ 0) × (part ≡ length parts.0) × (info ≡ info_number parts.1) × (flags ≡ info_flags parts.1)

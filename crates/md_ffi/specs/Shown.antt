@@ -1,13 +1,16 @@
 -- What C sees of answers and steps.
-use Rattle.std.specs.Prelude.{◌≡◌, ℕ, Bool, Option, Some, None, if◌then◌else◌}
+use Rattle.std.specs.Prelude.{◌≡◌, ◌+◌, ◌*◌, ℕ, Bool, List, Option, Some, None, if◌then◌else◌, fold, codes}
+use Rattle.std.specs.FinSet as set
+use Rattle.std.specs.Ordering.{nat_cmp}
 use Rattle.md_core.specs.declared.jobs.answer.Answer.{Answer}
 use Rattle.md_core.specs.declared.jobs.answer.Answer.TheVariants as answer
 use Rattle.md_core.specs.declared.jobs.step.DirCall.{DirCall}
-use Rattle.md_core.specs.declared.jobs.step.DirCall.TheVariants.{Create, Append, Link, Rename, Unlink, List}
+use Rattle.md_core.specs.declared.jobs.step.DirCall.TheVariants as dir
 use Rattle.md_core.specs.declared.jobs.step.DirReply.{DirReply}
 use Rattle.md_core.specs.declared.jobs.step.DirReply.TheVariants as reply
 use Rattle.md_core.specs.declared.jobs.step.StepOut.{StepOut}
 use Rattle.md_ffi.specs.Reading.{place_number}
+use Rattle.md_ffi.specs.declared.shown.AnswerShown.{AnswerShown}
 use Rattle.md_ffi.specs.declared.shown.StepShown.{StepShown}
 
 -- the number of an answer, 0 where there is none yet
@@ -28,19 +31,41 @@ answer_number (Some answer.TmpGone) = 12
 answer_number (Some answer.NameTaken) = 13
 answer_number (Some answer.Fault) = 14
 
+-- 1 where a flag is there, else 0
+abbrev pub bit : Bool → ℕ
+bit is_there = if is_there then 1 else 0
+
+-- which of these letters are flags, a bit each, the last one's the lowest
+abbrev pub bits_of : set.FinSet nat_cmp → List ℕ → ℕ
+bits_of flags letters = fold (λ bits letter. bits * 2 + bit (set.contains flags letter)) 0 letters
+
+-- flags as bits: bit 0 for A to bit 25 for Z, bit 26 for a to bit 51 for z
+unfoldable pub flag_bits : set.FinSet nat_cmp → ℕ
+flag_bits flags = bits_of flags (codes "zyxwvutsrqponmlkjihgfedcbaZYXWVUTSRQPONMLKJIHGFEDCBA")
+
+-- the flags or the count that an answer has, else 0
+abbrev pub answer_value : Option Answer → ℕ
+answer_value (Some (answer.Flags flags)) = flag_bits flags
+answer_value (Some (answer.Cleaned count)) = count
+answer_value other = 0
+
+-- what is shown of an answer, or that there is none yet
+abbrev pub answer_shown : Option Answer → AnswerShown
+answer_shown a = record { kind = answer_number a; value = answer_value a }
+
 -- the number of a directory call
 abbrev pub call_number : DirCall → ℕ
-call_number Create = 1
-call_number (Append count) = 2
-call_number Link = 3
-call_number Rename = 4
-call_number Unlink = 5
-call_number (List place) = 6
+call_number dir.Create = 1
+call_number (dir.Append count) = 2
+call_number dir.Link = 3
+call_number dir.Rename = 4
+call_number dir.Unlink = 5
+call_number (dir.List place) = 6
 
 -- the bytes of an append, or the place of a listing, else 0
 abbrev pub call_value : DirCall → ℕ
-call_value (Append count) = count
-call_value (List place) = place_number place
+call_value (dir.Append count) = count
+call_value (dir.List place) = place_number place
 call_value other = 0
 
 -- the number of what the directories answered
@@ -60,4 +85,4 @@ pub record IsShown (step : StepOut) (shown : StepShown) : Type 0 where
   pub value : shown.value ≡ call_value step.call
   pub reply : shown.reply ≡ reply_number step.reply
   pub effect : shown.effect ≡ effect_number step.effect
-  pub answer : shown.answer.kind ≡ answer_number step.answer
+  pub answer : shown.answer ≡ answer_shown step.answer

@@ -1,5 +1,8 @@
 //! Many calls in one.
-ghost use Rattle.std.specs.Prelude.{◌<◌, ◌≤◌, length, IfOk};
+ghost use Rattle.std.specs.Prelude.{◌≡◌, ◌+◌, ◌≤◌, ◌<◌, Ok, Err, IfOk, MatchResult, length};
+ghost use Rattle.md_ffi.specs.Doing.{OnHeld};
+ghost use Rattle.md_ffi.specs.Records.{asked_in, cut, eight_at, four_at, record_in, recorded, CallsAll};
+ghost use Rattle.md_ffi.specs.declared.refusal.Refusal.TheVariants.{BadRecord};
 
 use crate::asked::{Asked, Brought};
 use crate::handle::Handle;
@@ -10,18 +13,23 @@ use md_core::World;
 use md_dirs::IndexDirs;
 use std::alloc::Global;
 
-// A record's head: what is asked, and the lengths of the bytes that follow.
-#[derive(Clone, Copy)]
-struct Head {
+// The bytes of a record's head.
+const HEAD: u64 = 48;
+
+// A record: what is asked, the bytes that it brings, and what follows it.
+struct Record<'a> {
     asked: Asked,
-    unique: u64,
-    first: u64,
-    second: u64,
+    brought: Brought<'a>,
+    rest: &'a [u8],
 }
 
-// The first bytes, as many as a record says, and the rest.
+// The first bytes, so many, and the rest.
 fn cut(bytes: &[u8], count: u64) -> Result<(&[u8], &[u8]), Refusal>
-    ensures { IfOk result (λ parts. length parts.1.now ≤ length bytes.now) }
+    ensures cut { MatchResult result
+        (λ parts. cut count bytes.now ≡ Ok (parts.0.now, parts.1.now))
+        (λ e. (cut count bytes.now ≡ Err BadRecord) × (e ≡ BadRecord)) }
+    ensures count { IfOk result (λ parts. length parts.0.now ≡ count) }
+    ensures all { IfOk result (λ parts. length parts.0.now + length parts.1.now ≡ length bytes.now) }
 {
     if count > bytes.len() as u64 {
         return Err(Refusal::BadRecord);
@@ -29,63 +37,63 @@ fn cut(bytes: &[u8], count: u64) -> Result<(&[u8], &[u8]), Refusal>
     Ok(bytes.split_at(count as usize))
 }
 
-fn read_head(records: &[u8]) -> Result<(Head, &[u8]), Refusal>
-    ensures { IfOk result (λ parts. length parts.1.now < length records.now) }
+// The number in 4 bytes at a place.
+fn four_at(bytes: &[u8], at: usize) -> u32
+    requires { at + 4 ≤ length bytes.now }
+    ensures { result ≡ four_at at bytes.now }
 {
-    let Some((front, rest)) = records.split_first_chunk::<48>() else {
-        return Err(Refusal::BadRecord);
-    };
-    let asked = Asked {
-        kind: u32::from_le_bytes([front[0], front[1], front[2], front[3]]),
-        folder: u32::from_le_bytes([front[4], front[5], front[6], front[7]]),
-        to: u32::from_le_bytes([front[8], front[9], front[10], front[11]]),
+    let (front, _rest) = bytes[at..].split_first_chunk::<4>().unwrap();
+    u32::from_le_bytes(*front)
+}
+
+// The number in 8 bytes at a place.
+fn eight_at(bytes: &[u8], at: usize) -> u64
+    requires { at + 8 ≤ length bytes.now }
+    ensures { result ≡ eight_at at bytes.now }
+{
+    let (front, _rest) = bytes[at..].split_first_chunk::<8>().unwrap();
+    u64::from_le_bytes(*front)
+}
+
+// What a record's head asks.
+fn asked_in(head: &[u8]) -> Asked
+    requires { 48 ≤ length head.now }
+    ensures { result ≡ asked_in head.now }
+{
+    Asked {
+        kind: four_at(head, 0),
+        folder: four_at(head, 4),
+        to: four_at(head, 8),
         reserved: 0,
-        number: word(front, 40),
-    };
-    Ok((
-        Head {
-            asked,
-            unique: word(front, 16),
-            first: word(front, 24),
-            second: word(front, 32),
-        },
-        rest,
-    ))
+        number: eight_at(head, 40),
+    }
 }
 
-// The 8 bytes at a place of a head, as a number.
-fn word(front: &[u8; 48], at: usize) -> u64
-    requires { at ≤ 40 }
+// The first record of bytes.
+#[tactic(auto, unfolding(crate::specs::Records::record_in))]
+fn read_record(bytes: &[u8]) -> Result<Record<'_>, Refusal>
+    ensures record { MatchResult result
+        (λ r. record_in bytes.now ≡ Ok (recorded r.asked r.brought.unique.now r.brought.first.now r.brought.second.now r.rest.now))
+        (λ e. (record_in bytes.now ≡ Err BadRecord) × (e ≡ BadRecord)) }
+    ensures shorter { IfOk result (λ r. length r.rest.now < length bytes.now) }
 {
-    u64::from_le_bytes([
-        front[at],
-        front[at + 1],
-        front[at + 2],
-        front[at + 3],
-        front[at + 4],
-        front[at + 5],
-        front[at + 6],
-        front[at + 7],
-    ])
-}
-
-// A record, and what follows it.
-fn record(records: &[u8]) -> Result<(Asked, Brought<'_>, &[u8]), Refusal>
-    ensures { IfOk result (λ parts. length parts.2.now < length records.now) }
-{
-    let (head, rest) = read_head(records)?;
-    let (unique, rest) = cut(rest, head.unique)?;
-    let (first, rest) = cut(rest, head.first)?;
-    let (second, rest) = cut(rest, head.second)?;
+    let (head, rest) = cut(bytes, HEAD)?;
+    let (unique, rest) = cut(rest, eight_at(head, 16))?;
+    let (first, rest) = cut(rest, eight_at(head, 24))?;
+    let (second, rest) = cut(rest, eight_at(head, 32))?;
     let brought = Brought {
         unique,
         first,
         second,
     };
-    Ok((head.asked, brought, rest))
+    Ok(Record {
+        asked: asked_in(head),
+        brought,
+        rest,
+    })
 }
 
-// Does the calls of records until one is refused, and says how many are done.
+// Makes the calls of records until one has no answer, and says how many have one.
 fn run(
     alloc: Global,
     world: &mut World<IndexDirs>,
@@ -93,29 +101,38 @@ fn run(
     now: u64,
     answers: &mut [AnswerShown],
     done: &mut usize,
-) -> Result<(), Refusal> {
+) -> u32
+    ensures { CallsAll now records.now world.old world.new answers.old answers.new done.new result }
+{
+    *done = 0;
     let mut left = records;
-    let mut job = 0;
-    for (at, answer) in answers.iter_mut().enumerate() {
-        if left.is_empty() {
-            return Ok(());
+    while !left.is_empty() {
+        if *done == answers.len() {
+            return Refusal::Room.number();
         }
-        let (asked, brought, rest) = record(left)?;
-        let given = call(alloc, world, &asked, brought, now, None, &mut job)?;
-        *answer = AnswerShown::of(Some(given));
-        *done = at + 1;
+        let Record {
+            asked,
+            brought,
+            rest,
+        } = match read_record(left) {
+            Ok(record) => record,
+            Err(refusal) => return refusal.number(),
+        };
+        match call(alloc, world, &asked, brought, now, None) {
+            Ok(answer) => answers[*done] = AnswerShown::of(Some(answer)),
+            Err(unanswered) => return unanswered.number(),
+        }
+        *done += 1;
         left = rest;
     }
-    if left.is_empty() {
-        return Ok(());
-    }
-    Err(Refusal::Room)
+    0
 }
 
-/// Does the calls of records, each as `md_ffi_call`, at one moment in seconds, until one is refused or none is left. `done` is set to how
-/// many are done, and each of these has its answer in `answers`.
+/// Makes the calls of records, each as `md_ffi_call` does, at one moment in seconds, until one has no answer or none is left. `done` is set
+/// to how many have one, and each of these has its answer in `answers`, whose rest is as it was.
 ///
-/// Refused `Closed`; `Room` where a record is left and `answers` is full; `BadRecord`; and as `md_ffi_call`.
+/// Refused `Closed`, with `done` 0; `Room` where a record is left and `answers` is full; `BadRecord` where what is left is no whole record;
+/// and as `md_ffi_call`, which leaves the world as it was before that call, or that call's job without its answer.
 #[unsafe(no_mangle)]
 pub extern "C" fn md_ffi_calls(
     alloc: Global,
@@ -124,15 +141,15 @@ pub extern "C" fn md_ffi_calls(
     now: u64,
     answers: &mut [AnswerShown],
     done: &mut usize,
-) -> u32 {
+) -> u32
+    ensures { OnHeld handle.old.slot.held handle.new.slot.held result ((done.new ≡ 0) × (answers.new ≡ answers.old))
+        (λ old new. CallsAll now records.now old new answers.old answers.new done.new result) }
+{
     *done = 0;
     let Some(mut held) = handle.take(alloc) else {
         return Refusal::Closed.number();
     };
-    let ran = run(alloc, &mut held.world, records, now, answers, done);
+    let status = run(alloc, &mut held.world, records, now, answers, done);
     handle.hold(held);
-    match ran {
-        Ok(()) => 0,
-        Err(refusal) => refusal.number(),
-    }
+    status
 }

@@ -1,16 +1,18 @@
 //! Jobs: calls that are submitted, their steps and their answers.
-ghost use Rattle.std.specs.Prelude.{◌≡◌, Some, IfOk};
+ghost use Rattle.std.specs.Prelude.{◌≡◌, None};
 ghost use Rattle.md_core.specs.Machine.{job_at, occurrence};
 ghost use Rattle.md_core.specs.Runs.{answer_of, jobs_of, step_refusal};
 ghost use Rattle.md_ffi.specs.Asking.{own_at};
+ghost use Rattle.md_ffi.specs.Calling.{no_answer_number, Calls, Comes};
 ghost use Rattle.md_ffi.specs.Numbers.{core_number, refusal_number};
-ghost use Rattle.md_ffi.specs.Doing.{is_job, submitted, Answers, Calls, Ends, GivesIn, OnHeld, Steps};
+ghost use Rattle.md_ffi.specs.Doing.{is_job, submitted, Answers, Ends, GivesIn, OnHeld, Steps};
+ghost use Rattle.md_ffi.specs.Shown.{answer_shown};
 
 use crate::asked::{Asked, Brought, Own, call_of};
 use crate::handle::Handle;
 use crate::refusal::{NO_MEMORY, Refusal};
 use crate::shown::{AnswerShown, StepShown};
-use md_core::{Answer, CoreError, JobId, World};
+use md_core::{Answer, CallError, CoreError, JobId, World};
 use md_dirs::IndexDirs;
 use md_script::PlayKind;
 use std::alloc::Global;
@@ -116,33 +118,87 @@ pub extern "C" fn md_ffi_step(
     status
 }
 
-// Takes steps of a job at one moment until it is answered.
-fn finish(
-    world: &mut World<IndexDirs>,
-    job: JobId,
-    now: u64,
-    own: Option<u64>,
-) -> Result<Answer, Refusal>
-    ensures { IfOk result (λ answer. answer_of (job_at (jobs_of world.new) job) ≡ Some answer) }
-{
-    for _ in 0..u64::MAX {
-        if let Some(answer) = world.answer(job) {
-            return Ok(answer);
-        }
-        match world.step(job, now, own) {
-            Ok(_) => {}
-            Err(error) => return Err(refused(error)),
+/// Why a call has no answer.
+#[derive(Clone, Copy)]
+pub enum NoAnswer {
+    /// It was refused, and the world is as it was.
+    Refused(Refusal),
+    /// Memory ran out amid the steps of its job, which is there.
+    Stopped(JobId),
+}
+
+impl NoAnswer {
+    /// The number of why there is no answer.
+    pub(crate) fn number(self) -> u32
+        ensures { result ≡ no_answer_number self }
+    {
+        match self {
+            NoAnswer::Refused(refusal) => refusal.number(),
+            NoAnswer::Stopped(_) => NO_MEMORY.number(),
         }
     }
-    // No job takes so many steps.
-    Err(NO_MEMORY)
+}
+
+/// Submits a call, and takes the steps of its job until it is answered.
+#[tactic(auto, unfolding(crate::specs::Doing::submitted))]
+pub(crate) fn call(
+    alloc: Global,
+    world: &mut World<IndexDirs>,
+    asked: &Asked,
+    brought: Brought<'_>,
+    now: u64,
+    own: Option<u64>,
+) -> Result<Answer, NoAnswer>
+    ensures { Comes asked.now brought.entry.unique.now brought.entry.first.now brought.entry.second.now now own world.old world.new result }
+{
+    let call = match call_of(alloc, asked, brought) {
+        Ok(call) => call,
+        Err(refusal) => return Err(NoAnswer::Refused(refusal)),
+    };
+    match world.call(call, now, own) {
+        Ok(answer) => Ok(answer),
+        Err(CallError::Refused(unmade)) => Err(NoAnswer::Refused(Refusal::Kind(PlayKind::from(
+            unmade.error,
+        )))),
+        Err(CallError::NoMemory { job }) => Err(NoAnswer::Stopped(job)),
+    }
+}
+
+// Makes a call, and tells what it came to.
+fn tell(
+    alloc: Global,
+    world: &mut World<IndexDirs>,
+    asked: &Asked,
+    brought: Brought<'_>,
+    now: u64,
+    own: Option<u64>,
+    job: &mut u64,
+    answer: &mut AnswerShown,
+) -> u32
+    ensures { Calls asked.now brought.entry.unique.now brought.entry.first.now brought.entry.second.now now own
+        world.old world.new result job.new answer.new }
+{
+    *job = 0;
+    *answer = AnswerShown::none();
+    match call(alloc, world, asked, brought, now, own) {
+        Ok(given) => {
+            *job = world.jobs();
+            *answer = AnswerShown::of(Some(given));
+            0
+        }
+        Err(NoAnswer::Stopped(number)) => {
+            *job = number;
+            NO_MEMORY.number()
+        }
+        Err(NoAnswer::Refused(refusal)) => refusal.number(),
+    }
 }
 
 /// Submits a call, and takes the steps of its job at one moment, in seconds, until it is answered; sets `job` to its number and `answer` to
-/// its answer.
+/// its answer. No other job steps between, so it answers as the call does alone, and leaves the mailbox so.
 ///
 /// Refused as `md_ffi_submit`, with the world as it was, `job` 0 and no answer; and out of memory amid the steps, with the job there and
-/// `job` its number.
+/// `job` its number. That job may have taken effect, and may be stepped on.
 #[unsafe(no_mangle)]
 pub extern "C" fn md_ffi_call(
     alloc: Global,
@@ -156,12 +212,12 @@ pub extern "C" fn md_ffi_call(
     job: &mut u64,
     answer: &mut AnswerShown,
 ) -> u32
-    ensures { OnHeld handle.old.slot.held handle.new.slot.held result (answer.new.kind ≡ 0)
-        (λ _ new. Calls new job.new answer.new result) }
+    ensures { OnHeld handle.old.slot.held handle.new.slot.held result ((job.new ≡ 0) × (answer.new ≡ answer_shown None))
+        (λ old new. Calls asked.now unique.now first.now second.now now (own_at own.now) old new result job.new answer.new) }
 {
-    *job = 0;
-    *answer = AnswerShown::none();
     let Some(mut held) = handle.take(alloc) else {
+        *job = 0;
+        *answer = AnswerShown::none();
         return Refusal::Closed.number();
     };
     let brought = Brought {
@@ -169,7 +225,7 @@ pub extern "C" fn md_ffi_call(
         first,
         second,
     };
-    let called = call(
+    let status = tell(
         alloc,
         &mut held.world,
         asked,
@@ -177,32 +233,10 @@ pub extern "C" fn md_ffi_call(
         now,
         own.moment(),
         job,
+        answer,
     );
     handle.hold(held);
-    match called {
-        Ok(given) => {
-            *answer = AnswerShown::of(Some(given));
-            0
-        }
-        Err(refusal) => refusal.number(),
-    }
-}
-
-/// Submits a call, sets `job` to its number, and takes the steps of its job until it is answered.
-pub(crate) fn call(
-    alloc: Global,
-    world: &mut World<IndexDirs>,
-    asked: &Asked,
-    brought: Brought<'_>,
-    now: u64,
-    own: Option<u64>,
-    job: &mut u64,
-) -> Result<Answer, Refusal>
-    ensures { IfOk result (λ answer. answer_of (job_at (jobs_of world.new) job.new) ≡ Some answer) }
-{
-    let number = submit(alloc, world, asked, brought)?;
-    *job = number;
-    finish(world, number, now, own)
+    status
 }
 
 /// The answer of a job, if it has one. Refused `Closed` and `NoJob`, with `answer` as it was.

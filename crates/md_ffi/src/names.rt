@@ -103,7 +103,7 @@ pub extern "C" fn md_ffi_split(
     info: &mut u32,
     flags: &mut u64,
 ) -> u32
-    ensures { Splits (split_of name.now) unique_length.old unique_length.new info.old info.new result }
+    ensures { Splits (split_of name.now) unique_length.old unique_length.new info.old info.new flags.old flags.new result }
 {
     let Some((unique, said)) = split(name) else {
         return Refusal::NoMessageName.number();

@@ -1,15 +1,15 @@
 //! What C sees of answers and steps.
-ghost use Rattle.std.specs.Prelude.{◌≡◌, ◌==◌, Some};
+ghost use Rattle.std.specs.Prelude.{◌≡◌, ◌==◌, None, Some};
 ghost use Rattle.md_core.specs.Asked.{is_fault};
 ghost use Rattle.md_ffi.specs.Reading.{place_at, place_number};
-ghost use Rattle.md_ffi.specs.Shown.{answer_number, call_number, call_value, reply_number, IsShown};
+ghost use Rattle.md_ffi.specs.Shown.{answer_shown, call_number, call_value, flag_bits, reply_number, IsShown};
 
 use md_core::{Answer, DirCall, DirReply, StepOut};
 use md_dirs::Place;
 use md_name::Flags;
 
-/// The letters of flags in ASCII order. The place of a letter here is the place of its bit.
-const LETTERS: &[u8; 52] = b"ABCDEFGHIJKLMNOPQRSTUVWXYZabcdefghijklmnopqrstuvwxyz";
+/// The letters of flags in falling ASCII order: the first has the highest bit.
+const LETTERS: &[u8; 52] = b"zyxwvutsrqponmlkjihgfedcbaZYXWVUTSRQPONMLKJIHGFEDCBA";
 
 /// How a job ended: a number, 0 for no answer yet, and the flags or the count that the answer has, else 0.
 #[repr(C)]
@@ -56,12 +56,13 @@ pub(crate) fn place_of(number: u32) -> Option<Place>
 }
 
 /// Flags as bits.
-pub(crate) fn flag_bits(flags: Flags) -> u64 {
+#[tactic(auto, unfolding(crate::specs::Shown::flag_bits))]
+pub(crate) fn flag_bits(flags: Flags) -> u64
+    ensures { result ≡ flag_bits flags }
+{
     let mut bits = 0;
-    for (place, letter) in LETTERS.iter().enumerate() {
-        if flags.has(*letter) {
-            bits |= 1u64 << place;
-        }
+    for letter in LETTERS {
+        bits = bits * 2 + u64::from(flags.has(*letter));
     }
     bits
 }
@@ -69,14 +70,14 @@ pub(crate) fn flag_bits(flags: Flags) -> u64 {
 impl AnswerShown {
     /// No answer yet.
     pub(crate) fn none() -> AnswerShown
-        ensures { (result.kind ≡ 0) × (result.value ≡ 0) }
+        ensures { result ≡ answer_shown None }
     {
         plain(0)
     }
 
     /// What is shown of an answer, or that there is none yet.
     pub(crate) fn of(answer: Option<Answer>) -> AnswerShown
-        ensures { result.kind ≡ answer_number answer }
+        ensures { result ≡ answer_shown answer }
     {
         match answer {
             None => AnswerShown::none(),
@@ -87,13 +88,13 @@ impl AnswerShown {
 
 // An answer that has no more to say than its number.
 fn plain(kind: u64) -> AnswerShown
-    ensures { (result.kind ≡ kind) × (result.value ≡ 0) }
+    ensures { result ≡ record { kind = kind; value = 0 } }
 {
     AnswerShown { kind, value: 0 }
 }
 
 fn given(answer: Answer) -> AnswerShown
-    ensures { result.kind ≡ answer_number (Some answer) }
+    ensures { result ≡ answer_shown (Some answer) }
 {
     match answer {
         Answer::Delivered => plain(1),

@@ -59,6 +59,30 @@ static void refused_load(const char *lines, uint32_t status, uint64_t line) {
     CHECK(world == NULL && at == line);
 }
 
+/* A load is refused for one file, whose name is so many x and then this. */
+static void refused_name(const char *place, size_t length, const char *end, uint32_t status) {
+    char name[512], lines[600];
+    memset(name, 'x', length);
+    strcpy(name + length, end);
+    sprintf(lines, "folder i\nfile i %s %s 1\n", place, name);
+    refused_load(lines, status, 0);
+}
+
+static void test_names_of_files(void) {
+    static const char with_nul[] = "folder i\nfile i cur x\0y 1\n";
+    deolmutt_world *world = NULL;
+    uint64_t line = 7;
+    CHECK(deolmutt_load((const uint8_t *)with_nul, sizeof with_nul - 1, &world, &line) == DEOLMUTT_BAD_NAME);
+    CHECK(world == NULL && line == 0);
+    refused_name("tmp", 256, "", DEOLMUTT_BAD_NAME);
+    refused_name("new", 256, "", DEOLMUTT_BAD_NAME);
+    refused_name("cur", 251, ":2,FS", DEOLMUTT_BAD_NAME);
+    refused_name("cur", 1, "/y", DEOLMUTT_BAD_NAME);
+    refused_name("cur", 1, "\r", DEOLMUTT_BAD_NAME);
+    refused_name("new", 201, "", DEOLMUTT_LONG_UNIQUE);
+    refused_name("cur", 201, ":2,FS", DEOLMUTT_LONG_UNIQUE);
+}
+
 static void test_loads(void) {
     uint64_t line = 7;
     deolmutt_world *world = NULL;
@@ -154,7 +178,7 @@ static void test_steps(void) {
     CHECK(deolmutt_free(world) == DEOLMUTT_OK);
 }
 
-/* Each answer that a store in memory, on one clock, can give. */
+/* Each answer that one job after another, on one clock, can come to. */
 static void test_answers(void) {
     deolmutt_world *world = loaded("folder a\nfolder b\nfile a cur odd:1,x 5 x\nfile b tmp litter 1 x\n");
     deolmutt_answer answer;
@@ -181,6 +205,76 @@ static void test_answers(void) {
         CHECK(deolmutt_step(world, job, 200000 + late, NULL, &step) == DEOLMUTT_OK);
     while (step.answer.kind == DEOLMUTT_NO_ANSWER);
     CHECK(step.answer.kind == DEOLMUTT_TIMED_OUT);
+    CHECK(deolmutt_free(world) == DEOLMUTT_OK);
+}
+
+static void steps(deolmutt_world *world, uint64_t job, uint64_t now, const uint64_t *own, deolmutt_step_out *step) {
+    do
+        CHECK(deolmutt_step(world, job, now, own, step) == DEOLMUTT_OK);
+    while (step->answer.kind == DEOLMUTT_NO_ANSWER);
+}
+
+/* A flag change that has listed cur, and then loses its only try to another one. */
+static void test_lost(void) {
+    deolmutt_world *world = loaded("folder a\nfile a cur u:2,S 5 body\n");
+    deolmutt_answer answer;
+    deolmutt_step_out step;
+    uint64_t slow = 0;
+    CHECK(deolmutt_submit(world, DEOLMUTT_FLAG, 0, TEXT("u"), 0, TEXT("R"), NO_BYTES, 1, &slow) == DEOLMUTT_OK);
+    CHECK(deolmutt_step(world, slow, 9, NULL, &step) == DEOLMUTT_OK && step.call == DEOLMUTT_LIST && step.value == DEOLMUTT_CUR);
+    CHECK(done(world, DEOLMUTT_FLAG, 0, "u", 0, "T", "", 1, 9, &answer) == DEOLMUTT_OK && answer.kind == DEOLMUTT_FLAGS);
+    CHECK(deolmutt_step(world, slow, 9, NULL, &step) == DEOLMUTT_OK && step.call == DEOLMUTT_RENAME);
+    CHECK(step.reply == DEOLMUTT_NOT_FOUND && step.effect == 0 && step.answer.kind == DEOLMUTT_LOST && step.answer.value == 0);
+    CHECK(deolmutt_job_answer(world, slow, &answer) == DEOLMUTT_OK && answer.kind == DEOLMUTT_LOST && answer.value == 0);
+    /* With two tries it looks again, and changes what the other left. */
+    CHECK(deolmutt_submit(world, DEOLMUTT_FLAG, 0, TEXT("u"), 0, TEXT("R"), NO_BYTES, 2, &slow) == DEOLMUTT_OK);
+    CHECK(deolmutt_step(world, slow, 9, NULL, &step) == DEOLMUTT_OK);
+    CHECK(done(world, DEOLMUTT_FLAG, 0, "u", 0, "", "S", 1, 9, &answer) == DEOLMUTT_OK && answer.kind == DEOLMUTT_FLAGS);
+    steps(world, slow, 9, NULL, &step);
+    CHECK(step.answer.kind == DEOLMUTT_FLAGS && step.answer.value == ((uint64_t)1 << ('R' - 'A') | (uint64_t)1 << ('T' - 'A')));
+    CHECK(deolmutt_free(world) == DEOLMUTT_OK);
+}
+
+/* A delivery whose own clock stands still, and whose file in tmp another job cleans after 36 hours: at an append, and at the link. */
+static void test_tmp_gone(void) {
+    static const uint32_t calls[] = {DEOLMUTT_APPEND, DEOLMUTT_LINK};
+    static const uint64_t before[] = {1, 2};
+    int at;
+    for (at = 0; at < 2; at++) {
+        deolmutt_world *world = loaded("folder a\n");
+        deolmutt_answer answer;
+        deolmutt_step_out step;
+        uint64_t slow = 0, own = 0, taken;
+        uint8_t out[16];
+        size_t length = 99;
+        CHECK(deolmutt_submit(world, DEOLMUTT_DELIVER, 0, TEXT("u"), 0, TEXT("mail"), NO_BYTES, 4, &slow) == DEOLMUTT_OK);
+        for (taken = 0; taken < before[at]; taken++)
+            CHECK(deolmutt_step(world, slow, 0, &own, &step) == DEOLMUTT_OK && step.reply == DEOLMUTT_DONE);
+        CHECK(done(world, DEOLMUTT_CLEAN, 0, "", 0, "", "", 0, 2 * 24 * 3600, &answer) == DEOLMUTT_OK);
+        CHECK(answer.kind == DEOLMUTT_CLEANED && answer.value == 1);
+        CHECK(deolmutt_step(world, slow, 2 * 24 * 3600, &own, &step) == DEOLMUTT_OK && step.call == calls[at]);
+        CHECK(step.reply == DEOLMUTT_NOT_FOUND && step.effect == 0 && step.answer.kind == DEOLMUTT_TMP_GONE && step.answer.value == 0);
+        CHECK(deolmutt_list(world, 0, out, sizeof out, &length) == DEOLMUTT_OK && length == 0);
+        CHECK(deolmutt_free(world) == DEOLMUTT_OK);
+    }
+}
+
+/* No call on a world of deolmutt_load gives DEOLMUTT_NAME_TAKEN: where a name is there, or another job is to make it, a delivery and a copy
+   are refused as DEOLMUTT_NAME_USED, at any step of the other. Nor does one give DEOLMUTT_FAULT or DEOLMUTT_FAULTED, since no directory in
+   memory fails. Here no step of two jobs that want one name shows any of these. */
+static void test_name_taken_and_fault_never_come(void) {
+    deolmutt_world *world = loaded("folder a\nfile a new there 5 body\nfile a tmp half 5 x\n");
+    deolmutt_step_out step;
+    uint64_t first = 0, second = 0;
+    CHECK(deolmutt_submit(world, DEOLMUTT_DELIVER, 0, TEXT("u"), 0, TEXT("mail"), NO_BYTES, 1, &first) == DEOLMUTT_OK);
+    do {
+        CHECK(deolmutt_submit(world, DEOLMUTT_DELIVER, 0, TEXT("u"), 0, TEXT("x"), NO_BYTES, 1, &second) == DEOLMUTT_NAME_USED);
+        CHECK(deolmutt_submit(world, DEOLMUTT_COPY, 0, TEXT("there"), 0, TEXT("u"), NO_BYTES, 1, &second) == DEOLMUTT_NAME_USED);
+        CHECK(deolmutt_submit(world, DEOLMUTT_DELIVER, 0, TEXT("half"), 0, TEXT("x"), NO_BYTES, 1, &second) == DEOLMUTT_NAME_USED);
+        CHECK(deolmutt_step(world, first, 9, NULL, &step) == DEOLMUTT_OK);
+        CHECK(step.reply != DEOLMUTT_FAULTED && step.answer.kind != DEOLMUTT_FAULT && step.answer.kind != DEOLMUTT_NAME_TAKEN);
+    } while (step.answer.kind == DEOLMUTT_NO_ANSWER);
+    CHECK(step.answer.kind == DEOLMUTT_DELIVERED && second == 0);
     CHECK(deolmutt_free(world) == DEOLMUTT_OK);
 }
 
@@ -403,9 +497,13 @@ static void test_full(void) {
 int main(void) {
     test_texts();
     test_loads();
+    test_names_of_files();
     test_submits();
     test_steps();
     test_answers();
+    test_lost();
+    test_tmp_gone();
+    test_name_taken_and_fault_never_come();
     test_reading();
     test_many();
     test_names();

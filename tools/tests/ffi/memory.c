@@ -19,6 +19,11 @@ void *__wrap_calloc(size_t count, size_t size) { return is_refused() ? NULL : __
 void *__wrap_realloc(void *at, size_t size) { return is_refused() ? NULL : __real_realloc(at, size); }
 
 static unsigned long refused;
+/* How often memory ran out amid the steps of one of many calls. */
+static unsigned long stopped;
+
+/* The record of a clean of folder 0. */
+static const uint8_t clean[48] = {DEOLMUTT_CLEAN};
 
 static void must(int is_so, const char *what) {
     if (!is_so) {
@@ -43,7 +48,7 @@ static int call_without(long at) {
     deolmutt_answer answer;
     deolmutt_step_out step;
     uint64_t job = 0, line = 9;
-    size_t length = 9, before = 0, after = 0;
+    size_t length = 9, before = 0, after = 0, done = 9;
     uint32_t status;
     int was_met = 0;
 #define WITHOUT(call)                                                           \
@@ -79,6 +84,15 @@ static int call_without(long at) {
         must(deolmutt_settle(world, &job) == DEOLMUTT_OK, "a refused settle may come again");
     }
     must(deolmutt_list(world, 0, out, sizeof out, &after) == DEOLMUTT_OK && after > before, "and its messages");
+    WITHOUT(deolmutt_calls(world, clean, sizeof clean, 9, &answer, 1, &done));
+    must(done == (status == DEOLMUTT_OK), "so many have an answer");
+    if (status == DEOLMUTT_NO_MEMORY && deolmutt_settle(world, &job) == DEOLMUTT_UNANSWERED) {
+        stopped++;
+        do
+            must(deolmutt_step(world, job, 9, NULL, &step) == DEOLMUTT_OK, "a job of many calls goes on");
+        while (step.answer.kind == DEOLMUTT_NO_ANSWER);
+    }
+    must(deolmutt_settle(world, &job) == DEOLMUTT_OK, "and then each has its answer");
     WITHOUT(deolmutt_submit(world, DEOLMUTT_SEEN, 0, (const uint8_t *)"u", 1, 0, (const uint8_t *)"S", 1, NULL, 0, 1, &job));
     WITHOUT(deolmutt_list(world, 0, out, sizeof out, &after));
     WITHOUT(deolmutt_load((const uint8_t *)lines, sizeof lines - 1, &other, &line));
@@ -96,7 +110,7 @@ int main(void) {
     long at = 0;
     while (call_without(at))
         at++;
-    must(refused > 0, "some allocation is refused");
+    must(refused > 0 && stopped > 0, "some allocation is refused, amid the steps of a job too");
     printf("%lu refused allocations\n", refused);
     return 0;
 }

@@ -1,0 +1,49 @@
+-- Calls of records, one more after those that were made.
+use Rattle.std.proofs.Common.{arith, ℕ, zero, suc, ◌≡◌, ◌≢◌, ◌==◌, ◌<◌, ◌+◌, List, [], ◌∷◌, ◌++◌, Option, Some, None, Ok, Err, Bool, true, false, length, drop, refl, sym, ap, subst, ◌∙◌, true≢false}
+use Rattle.std.proofs.lemmas.Bool.{eqb-true}
+use Rattle.std.proofs.lemmas.List.{nil_from_length}
+use Rattle.md_core.specs.declared.jobs.answer.Answer.{Answer}
+use Rattle.md_core.specs.Runs.{Run}
+use Rattle.md_ffi.specs.Calling.{Comes}
+use Rattle.md_ffi.specs.Records.{record_in, Answered, Record}
+use Rattle.md_ffi.specs.Shown.{answer_shown}
+use Rattle.md_ffi.specs.declared.shown.AnswerShown.{AnswerShown}
+
+pub answered-more : (now : ℕ) (so_far : List AnswerShown) (bytes left : List ℕ) (old mid new : Run) → Answered now so_far bytes old left mid
+    → (r : Record) → record_in left ≡ Ok r → (a : Answer) (shown : AnswerShown) → shown ≡ answer_shown (Some a)
+    → Comes r.asked r.unique r.first r.second now None mid new (Ok a) → Answered now (so_far ++ shown ∷ []) bytes old r.rest new
+answered-more now [] bytes left old mid new before r is a shown shows comes = (
+  r,
+  subst (λ (b : List ℕ). record_in b ≡ Ok r) before.0 is,
+  a,
+  shows,
+  new,
+  subst (λ (w : Run). Comes r.asked r.unique r.first r.second now None w new (Ok a)) before.1 comes,
+  (refl, refl),
+)
+answered-more now (x ∷ xs) bytes left old mid new before r is a shown shows comes = (
+  before.0,
+  before.1,
+  before.2,
+  before.3,
+  before.4,
+  before.5,
+  answered-more now xs before.0.rest left before.4 mid new before.6 r is a shown shows comes,
+)
+
+pub not-empty : (xs : List ℕ) → (length xs == 0) ≡ false → xs ≢ []
+not-empty xs is e = true≢false (sym (ap (λ (ys : List ℕ). length ys == 0) e) ∙ is)
+
+pub empty : (xs : List ℕ) → (length xs == 0) ≡ true → xs ≡ []
+empty xs is = nil_from_length xs (eqb-true (length xs) 0 is)
+
+drop-one : {X : Type 0} → (n : ℕ) (xs : List X) → drop (suc n) xs ≡ drop 1 (drop n xs)
+drop-one zero xs = refl
+drop-one (suc n) [] = refl
+drop-one (suc n) (x ∷ xs) = drop-one n xs
+
+-- lists that end alike do so also after one item less
+pub ends-alike : {X : Type 0} → (n : ℕ) (xs ys : List X) → drop n xs ≡ drop n ys → drop (n + 1) xs ≡ drop (n + 1) ys
+ends-alike n xs ys same =
+    let next : n + 1 ≡ suc n = omega arith in
+    ap (λ (k : ℕ). drop k xs) next ∙ drop-one n xs ∙ ap (drop 1) same ∙ sym (drop-one n ys) ∙ ap (λ (k : ℕ). drop k ys) (sym next)

@@ -1,0 +1,128 @@
+"""Names, header summaries and the transcripts of scripts, which need no world."""
+
+from __future__ import annotations
+
+import unittest
+
+from support import TOP, needs_library
+
+import deolmutt
+from deolmutt import errors
+from deolmutt.headers import Summary
+from deolmutt.names import InfoKind, Parts
+
+MOST_U64 = 2**64
+
+
+@needs_library
+class NameTest(unittest.TestCase):
+    """By "Using maildir format" (https://cr.yp.to/proto/maildir.html) and maildir(5)."""
+
+    def test_a_unique_name_has_its_parts_in_order(self) -> None:
+        self.assertEqual("1000.M5P7Q1.host", deolmutt.unique_name(1000, 5, 7, 1, "host"))
+
+    def test_a_slash_and_a_colon_of_a_host_are_escaped(self) -> None:
+        self.assertEqual(r"1.M2P3Q4.a\057b\072c", deolmutt.unique_name(1, 2, 3, 4, "a/b:c"))
+
+    def test_hosts_and_microseconds_that_no_name_has(self) -> None:
+        for host in ("", "a\0", "a\nb", "a\rb", "x" * 101, "/" * 26):
+            with self.subTest(host), self.assertRaises(errors.BadHost):
+                deolmutt.unique_name(1, 2, 3, 4, host)
+        for micro in (-1, 1_000_000, MOST_U64 - 1, MOST_U64):
+            with self.assertRaises(errors.BadMicrosecond):
+                deolmutt.unique_name(1, micro, 3, 4, "a")
+        for number in (-1, MOST_U64):
+            with self.assertRaises(ValueError):
+                deolmutt.unique_name(number, 2, 3, 4, "a")
+
+    def test_hosts_of_other_bytes(self) -> None:
+        self.assertEqual("1.M2P3Q4.\u00e4\udcff", deolmutt.unique_name(1, 2, 3, 4, "\u00e4\udcff"))
+
+    def test_the_parts_of_names(self) -> None:
+        parts = {
+            "u.host": Parts("u.host", InfoKind.NONE),
+            "u:2,": Parts("u", InfoKind.FLAGS),
+            "u:2,FS": Parts("u", InfoKind.FLAGS, "FS"),
+            "u:2,zSAS": Parts("u", InfoKind.FLAGS, "ASz"),
+            "u:1,x": Parts("u", InfoKind.OTHER),
+            "u:2,S:2,": Parts("u", InfoKind.OTHER),
+            "\u00e4\udcff:2,S": Parts("\u00e4\udcff", InfoKind.FLAGS, "S"),
+        }
+        self.assertEqual(list(parts.values()), [deolmutt.split_name(name) for name in parts])
+
+    def test_names_that_are_no_messages(self) -> None:
+        for name in ("", ".u", ":2,S"):
+            with self.subTest(name), self.assertRaises(errors.NoMessageName):
+                deolmutt.split_name(name)
+
+
+@needs_library
+class SummaryTest(unittest.TestCase):
+    """By RFC 5322, with its own examples."""
+
+    def test_the_first_message_of_its_appendix(self) -> None:
+        message = (
+            b"From: John Doe <jdoe@machine.example>\r\nTo: Mary Smith <mary@example.net>\r\n"
+            b"Subject: Saying Hello\r\nDate: Fri, 21 Nov 1997 09:55:06 -0600\r\n"
+            b"Message-ID: <1234@local.machine.example>\r\n\r\nThis is a message just to say hello.\r\n"
+        )
+        found = deolmutt.summary(message)
+        self.assertEqual("Saying Hello", found.subject)
+        self.assertEqual("John Doe <jdoe@machine.example>", found.sender)
+        self.assertEqual("<1234@local.machine.example>", found.message_id)
+        self.assertEqual("Fri, 21 Nov 1997 09:55:06 -0600", found.date)
+        # By `date -u -d '1997-11-21 15:55:06' +%s`.
+        self.assertEqual(880_127_706, found.seconds)
+
+    def test_a_date_before_1970_and_one_that_says_nothing(self) -> None:
+        before = deolmutt.summary(b"Date: 31 Dec 1969 23:59:59 +0000\n\n")
+        self.assertEqual(-1, before.seconds)
+        self.assertEqual(Summary(date="today"), deolmutt.summary(b"Date: today\n\n"))
+
+    def test_a_message_without_any(self) -> None:
+        for message in (b"", b"\n", b"\r\n\r\nSubject: of the body\n"):
+            self.assertEqual(Summary(), deolmutt.summary(message))
+
+    def test_bytes_that_are_no_text(self) -> None:
+        self.assertEqual("a=\\b\udcff", deolmutt.summary(b"Subject: a=\\b\xff\n\n").subject)
+
+
+@needs_library
+class TranscriptTest(unittest.TestCase):
+    def test_each_example_prints_its_transcript(self) -> None:
+        scripts = sorted((TOP / "crates/examples/data").glob("*.script"))
+        if not scripts:
+            self.skipTest("the examples are not there")
+        tried = 0
+        for script in scripts:
+            expected = script.with_suffix(".out")
+            if expected.is_file():
+                tried += 1
+                with self.subTest(script.name):
+                    self.assertEqual(expected.read_bytes(), deolmutt.transcript(script.read_bytes()))
+        self.assertGreater(tried, 0)
+
+    def test_a_script_of_no_lines(self) -> None:
+        self.assertEqual(b"", deolmutt.transcript(b""))
+
+    def test_a_refused_line_says_what_was_printed_before_it(self) -> None:
+        with self.assertRaises(errors.BadCommand) as met:
+            deolmutt.transcript(b"folder i\njob clean i\nnone\n")
+        error = met.exception
+        self.assertEqual((3, b"job 1\n"), (error.line, error.done))
+        self.assertEqual(f"line 3: {errors.BadCommand()}", str(error))
+
+    def test_what_a_store_refuses_is_refused_at_its_line(self) -> None:
+        with self.assertRaises(errors.NameUsed) as met:
+            deolmutt.transcript(b"folder i\njob deliver i u 1 x\njob deliver i u 1 x\n")
+        self.assertEqual((3, b"job 1\n"), (met.exception.line, met.exception.done))
+
+    def test_a_long_transcript(self) -> None:
+        script = b"folder i\n" + b"".join(b"unique %d 0 1 1 host\n" % number for number in range(9000))
+        printed = deolmutt.transcript(script)
+        self.assertGreater(len(printed), 1 << 17)
+        self.assertEqual(9000, printed.count(b".M0P1Q1.host"))
+
+
+if __name__ == "__main__":
+    unittest.main()
