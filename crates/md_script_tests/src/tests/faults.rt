@@ -2,8 +2,8 @@
 //! can't be written: the prover refuses it.
 
 use super::fakes::{Full, Shut, Slow, Torn, Unflushed};
-use super::plays::{is_refused, is_write_fault, played, prints};
-use md_script::{PlayError, PlayKind, Reader, Writer, play};
+use super::plays::{is_refused, is_write_fault, prints};
+use md_script::{PlayKind, Reader, Writer, play};
 use std::io::ErrorKind;
 
 const SCRIPT: &[u8] = b"folder i\r\njob deliver i u 4\n# \xff\nfinish 1 1\nlist i";
@@ -61,40 +61,6 @@ fn a_read_that_is_tried_again_counts_each_time(rt: HostRuntime) {
         fault: Some(ErrorKind::Interrupted),
     };
     assert!(rt; is_refused(rt.alloc(), script, PlayKind::TooManyReads));
-}
-
-// Its third line is refused.
-const REFUSED: &[u8] = b"unique 1 2 3 4 a\r\n#\nx y\nunique 1 2 3 5 a";
-
-#[test]
-fn a_refused_line_has_its_number_in_pieces_of_any_size(rt: HostRuntime) {
-    for at_once in 1..REFUSED.len() + 2 {
-        let script = Torn {
-            script: REFUSED,
-            at_once,
-            fault: None,
-        };
-        let (refusal, is_printed) = played(rt.alloc(), script, b"unique 1.M2P3Q4.a\n");
-        let line = 3;
-        let kind = PlayKind::BadCommand;
-        assert!(rt; is_printed && refusal == Some(PlayError { line, kind }), "{at_once}");
-    }
-}
-
-#[test]
-fn a_read_fault_comes_before_a_refused_line(rt: HostRuntime) {
-    let cases = [
-        (ErrorKind::BrokenPipe, PlayKind::ReadFault),
-        (ErrorKind::Interrupted, PlayKind::TooManyReads),
-    ];
-    for (fault, kind) in cases {
-        let script = Torn {
-            script: REFUSED,
-            at_once: 5,
-            fault: Some(fault),
-        };
-        assert!(rt; is_refused(rt.alloc(), script, kind));
-    }
 }
 
 #[test]

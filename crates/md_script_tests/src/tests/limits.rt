@@ -1,6 +1,6 @@
 //! The limits on a script's bytes and reads.
 
-use super::fakes::{Stream, Torn};
+use super::fakes::Stream;
 use super::plays::{is_refused, prints};
 use md_script::PlayKind;
 use std::alloc::{AllocError, Global};
@@ -43,31 +43,17 @@ fn a_script_has_at_most_so_many_bytes(rt: HostRuntime) {
     assert!(rt; is_refused(rt.alloc(), script, PlayKind::TooLong));
 }
 
-/// A message whose first line is so long, and then a header.
-fn long_summary(alloc: Global, length: usize) -> Result<Vec<u8>, AllocError> {
+/// A line that is longer than a summary reads, and then a header.
+fn long_summary(alloc: Global) -> Result<Vec<u8>, AllocError> {
     let mut script = Vec::from_slice(alloc, b"summary ")?;
-    script.resize(8 + length, b'a')?;
+    script.resize(8 + 16_777_216, b'a')?;
     script.extend_from_slice(b"\\nSubject: b")?;
     Ok(script)
 }
 
 #[test]
 fn a_line_of_16_mebibytes_is_passed_over_in_a_summary(rt: HostRuntime) -> Result<(), Fail> {
-    let script = long_summary(rt.alloc(), 16_777_216)?;
+    let script = long_summary(rt.alloc())?;
     assert!(rt; prints(rt.alloc(), script.as_slice(), b"subject=b\nend\n"));
-    Ok(())
-}
-
-#[test]
-fn a_line_longer_than_the_room_may_come_in_pieces(rt: HostRuntime) -> Result<(), Fail> {
-    let script = long_summary(rt.alloc(), 150_000)?;
-    for at_once in [4_095usize, 65_536, 100_000] {
-        let script = Torn {
-            script: &script,
-            at_once,
-            fault: None,
-        };
-        assert!(rt; prints(rt.alloc(), script, b"subject=b\nend\n"), "{at_once}");
-    }
     Ok(())
 }
