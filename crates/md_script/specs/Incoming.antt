@@ -29,7 +29,8 @@ pub record Fits (i : Incoming) : Type 0 where
   pub within : i.given ≤ most_bytes
 
 -- Bytes were taken in: those in front were run, or passed over after a refusal, and the others are kept.
-pub record TakesIn {S : Type 0} (step : S → List ℕ → Result (S × List ℕ) PlayKind) (before : Progress) (s : S) (bytes : List ℕ) (after : Incoming) (t : S) : Type 0 where
+pub record TakesIn {S : Type 0} (step : S → List ℕ → Result (S × List ℕ) PlayKind)
+    (before : Progress) (s : S) (bytes : List ℕ) (after : Incoming) (t : S) : Type 0 where
   pub front : List ℕ
   pub parts : bytes ≡ front ++ line_so_far after
   pub there : after.filled ≤ vec_len after.room
@@ -37,7 +38,8 @@ pub record TakesIn {S : Type 0} (step : S → List ℕ → Result (S × List ℕ
   pub same : (more : List ℕ) → outcome step after.progress t (lines_of more) ≡ outcome step before s (lines_of (front ++ more))
 
 -- All that the source gave was run, but for the line that hasn't ended.
-pub record Underway {S : Type 0} (step : S → List ℕ → Result (S × List ℕ) PlayKind) (s : S) (old now : Source) (i : Incoming) (t : S) : Type 0 where
+pub record Underway {S : Type 0} (step : S → List ℕ → Result (S × List ℕ) PlayKind)
+    (s : S) (old now : Source) (i : Incoming) (t : S) : Type 0 where
   pub front : List ℕ
   pub given : Consumes old.remaining now.remaining (front ++ line_so_far i)
   pub counted : length (front ++ line_so_far i) ≡ i.given
@@ -45,23 +47,27 @@ pub record Underway {S : Type 0} (step : S → List ℕ → Result (S × List �
   pub same : (more : List ℕ) → outcome step i.progress t (lines_of more) ≡ usable (transcript_of step s (front ++ more))
 
 -- A whole script was read, and this was printed and refused of it.
-pub record RanWhole {S : Type 0} (step : S → List ℕ → Result (S × List ℕ) PlayKind) (s : S) (old new : Source) (printed : Printed) (t : S) : Type 0 where
+pub record RanWhole {S : Type 0} (step : S → List ℕ → Result (S × List ℕ) PlayKind)
+    (s : S) (old new : Source) (printed : Printed) (t : S) : Type 0 where
   pub script : List ℕ
   pub whole : IsReadWhole old new script
   pub tells : Tells (transcript_of step s script) printed t
 
 -- The script goes on after one read more.
-pub record IsGoingOn {S : Type 0} (step : S → List ℕ → Result (S × List ℕ) PlayKind) (s : S) (old before now : Source) (i : Incoming) (t : S) : Type 0 where
+pub record IsGoingOn {S : Type 0} (step : S → List ℕ → Result (S × List ℕ) PlayKind)
+    (s : S) (old before now : Source) (i : Incoming) (t : S) : Type 0 where
   pub underway : Underway step s old now i t
   pub counted : now.reads ≡ before.reads + 1
 
 -- What one read comes to: the script's end, or not yet, or why it is not read whole.
-abbrev pub Reaches : {S : Type 0} → (S → List ℕ → Result (S × List ℕ) PlayKind) → S → Source → Source → Source → Incoming → S → Result Bool PlayKind → Type 0
+abbrev pub Reaches : {S : Type 0} → (S → List ℕ → Result (S × List ℕ) PlayKind)
+    → S → Source → Source → Source → Incoming → S → Result Bool PlayKind → Type 0
 Reaches step s old before now i t (Ok true) = RanWhole step s old now i.progress.printed t
 Reaches step s old before now i t (Ok false) = IsGoingOn step s old before now i t
 Reaches step s old before now i t (Err kind) = Unread old now kind
 
 -- a script was read whole and run, or why it was not read whole
-abbrev pub RunsSource : {S : Type 0} → (S → List ℕ → Result (S × List ℕ) PlayKind) → S → Source → Source → S → Result Printed PlayKind → Type 0
+abbrev pub RunsSource : {S : Type 0} → (S → List ℕ → Result (S × List ℕ) PlayKind)
+    → S → Source → Source → S → Result Printed PlayKind → Type 0
 RunsSource step s old new t (Ok printed) = RanWhole step s old new printed t
 RunsSource step s old new t (Err kind) = Unread old new kind

@@ -21,7 +21,8 @@ abbrev pub usable : {S : Type 0} → Transcript S → Transcript (Option S)
 usable t = record { text = t.text; refusal = t.refusal; session = session_unless t.refusal t.session }
 
 -- what a run that has come so far comes to with these lines to go
-abbrev pub outcome_by : {S : Type 0} → (S → List ℕ → Result (S × List ℕ) PlayKind) → Option PlayError → List ℕ → ℕ → S → List (List ℕ) → Transcript (Option S)
+abbrev pub outcome_by : {S : Type 0} → (S → List ℕ → Result (S × List ℕ) PlayKind)
+    → Option PlayError → List ℕ → ℕ → S → List (List ℕ) → Transcript (Option S)
 outcome_by step (Some e) text line s lines = record { text = text; refusal = Some e; session = None }
 outcome_by step None text line s lines = with_text_before text (usable (run_from step line s lines))
 
