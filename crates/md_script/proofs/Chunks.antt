@@ -1,32 +1,36 @@
 -- A read behind the bytes that are there.
-use Rattle.std.proofs.Common.{◌≡◌, ℕ, ◌+◌, ◌≤◌, List, ◌++◌, Option, Some, None, length, take, drop, sym, ap, subst, ◌∙◌, arith, append_assoc}
+use Rattle.std.proofs.Common.{◌≡◌, ℕ, ◌+◌, ◌-◌, ◌≤◌, List, ◌++◌, Option, Some, None, length, take, drop, sym, ap, subst, ◌∙◌, arith, append_assoc}
 use Rattle.std.proofs.lemmas.List.{take-append-drop, drop-take, length-drop}
+use Rattle.std.proofs.lemmas.List.Edits.{take-paste}
 use Rattle.std.proofs.Math.Seq.{take-take}
+use Rattle.std.specs.List.{copy_within}
 use Rattle.std.specs.Io.KnownBytes.{Consumes, Keeps}
 use Rattle.md_script.specs.Sources.{Source, Gave, Paused}
 use Rattle.md_script.specs.Reading.{Sound}
 
-Consumes-append : (a b c : Option (List ℕ)) (xs ys : List ℕ) → Consumes a b xs → Consumes b c ys → Consumes a c (xs ++ ys)
+pub Consumes-append : (a b c : Option (List ℕ)) (xs ys : List ℕ) → Consumes a b xs → Consumes b c ys → Consumes a c (xs ++ ys)
 Consumes-append None b c xs ys first second = tt
 Consumes-append (Some s) None c xs ys first second = absurd first
 Consumes-append (Some s) (Some t) None xs ys first second = absurd second
 Consumes-append (Some s) (Some t) (Some u) xs ys first second = first ∙ ap (λ z. xs ++ z) second ∙ sym (append_assoc xs ys u)
 
+-- a front, and n bytes behind it
+pub front_parts : (xs : List ℕ) (f n : ℕ) → take (f + n) xs ≡ take f xs ++ take n (drop f xs)
+front_parts xs f n = rw (take-take f (f + n) xs (omega arith), drop-take f n xs) at (sym (take-append-drop f (take (f + n) xs)))
+
 -- the filled front grew by n bytes
 pub consumes_more : (a b c : Option (List ℕ)) (old new : List ℕ) (f n : ℕ) → f + n ≤ length new → take f new ≡ take f old
     → Consumes a b (take f old) → Consumes b c (take n (drop f new)) → Consumes a c (take (f + n) new)
 consumes_more a b c old new f n within front before read =
-    let whole = rw (take-take f (f + n) new (omega arith), drop-take f n new) at (sym (take-append-drop f (take (f + n) new))) in
-    let parts : take (f + n) new ≡ take f old ++ take n (drop f new) = whole ∙ ap (λ z. z ++ take n (drop f new)) front in
+    let parts : take (f + n) new ≡ take f old ++ take n (drop f new) = front_parts new f n ∙ ap (λ z. z ++ take n (drop f new)) front in
     subst (Consumes a c) (sym parts) (Consumes-append a b c _ _ before read)
 
--- the filled front stays over a read that gave nothing
-pub consumes_none : (a b c : Option (List ℕ)) (old new : List ℕ) (f : ℕ) → take f new ≡ take f old → Consumes a b (take f old) → Keeps b c →
-    Consumes a c (take f new)
-consumes_none None b c old new f front before kept = tt
-consumes_none (Some s) None c old new f front before kept = absurd before
-consumes_none (Some s) (Some t) None old new f front before kept = absurd kept
-consumes_none (Some s) (Some t) (Some u) old new f front before kept = before ∙ (λ i. sym front i ++ sym kept i)
+-- what was given stays so over a read that gave nothing
+pub Consumes-kept : (a b c : Option (List ℕ)) (xs : List ℕ) → Consumes a b xs → Keeps b c → Consumes a c xs
+Consumes-kept None b c xs before kept = tt
+Consumes-kept (Some s) None c xs before kept = absurd before
+Consumes-kept (Some s) (Some t) None xs before kept = absurd kept
+Consumes-kept (Some s) (Some t) (Some u) xs before kept = before ∙ ap (λ z. xs ++ z) (sym kept)
 
 -- what reading has come to: the filled front was given, and no read failed
 pub record Filled (old now : Source) (script : List ℕ) (filled : ℕ) : Type 0 where
@@ -45,6 +49,13 @@ module _ (a b d : Source) (old new : List ℕ) (f : ℕ) (so_far : Filled a b ol
 
   pub filled_same : (filled : ℕ) → Paused b d → filled ≡ f → Filled a d new filled
   filled_same filled paused is = rw is (record {
-    given = consumes_none a.remaining b.remaining d.remaining old new f front so_far.given paused.bytes;
+    given = subst (Consumes a.remaining d.remaining) (sym front) (Consumes-kept a.remaining b.remaining d.remaining _ so_far.given paused.bytes);
     sound = paused.failed ∙ so_far.sound;
   })
+
+-- what was moved to the front
+pub moved_front : (room : List ℕ) (start end : ℕ) → start ≤ end → end ≤ length room → take (end - start) (copy_within room start end 0) ≡ take (end - start) (drop start room)
+moved_front room start end within there =
+    let n = end - start in
+    let zero : n ≡ 0 + n = omega arith in
+    ap (λ k. take k (copy_within room start end 0)) zero ∙ take-paste room 0 (drop start room) n (omega arith) (omega (arith, length-drop start room))

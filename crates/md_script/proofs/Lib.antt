@@ -5,6 +5,7 @@ pub mod Places
 pub mod Escaping
 pub mod Numbers
 pub mod Runs
+pub mod Underway
 pub mod Acts
 pub mod Opening
 pub mod Finishing

@@ -1,43 +1,57 @@
 -- One line more of a run.
-use Rattle.std.proofs.Common.{◌≡◌, ℕ, ◌+◌, List, [], ◌∷◌, ◌++◌, Some, None, Result, Ok, Err, ap, ◌∙◌, append-nil, append_assoc}
+use Rattle.std.proofs.Common.{◌≡◌, ℕ, ◌+◌, List, [], ◌∷◌, ◌++◌, Option, Some, None, Result, Ok, Err, is_some, true, false, refl, ap, ◌∙◌, sym, append-nil, append_assoc}
 use Rattle.md_script.specs.declared.error.PlayKind.{PlayKind}
-use Rattle.std.specs.Global.{Vec}
 use Rattle.md_script.specs.declared.error.PlayError.{PlayError}
+use Rattle.md_script.specs.declared.run.Printed.{Printed}
+use Rattle.md_script.specs.declared.run.Progress.{Progress}
 use Rattle.md_script.specs.Printed.{Tells}
-use Rattle.md_head.specs.Header.{lines_of}
 use Rattle.md_script.specs.Step.{line_step}
 use Rattle.md_script.specs.Transcript.{Transcript, run_from, with_text_before, go_on}
+use Rattle.md_script.specs.Progress.{outcome, outcome_by, usable, session_unless, IsFresh}
 
-module _ {S : Type 0} (step : S → List ℕ → Result (S × List ℕ) PlayKind) (text : List ℕ) (line : ℕ) (s : S) (left : List ℕ) where
-  pub run_done : lines_of left ≡ [] →
-      (let t : Transcript S = record { text = text; refusal = None; session = s } in t) ≡ with_text_before text (run_from step line s (lines_of left))
+module _ {S : Type 0} (step : S → List ℕ → Result (S × List ℕ) PlayKind) (r : Option PlayError) (none : r ≡ None)
+    (text : List ℕ) (line : ℕ) (s : S) (first : List ℕ) (lines others : List (List ℕ)) (cut : lines ≡ first ∷ others) (after : List (List ℕ)) where
+  here : run_from step line s (lines ++ after) ≡ go_on line s (λ t. run_from step (line + 1) t (others ++ after)) (line_step step s first)
   unfolding run_from
-  run_done done = rw done (simp append-nil)
+  here = ap (λ ls. run_from step line s (ls ++ after)) cut
 
-  module _ (first others : List ℕ) (cut : lines_of left ≡ first ∷ lines_of others) where
-    here : run_from step line s (lines_of left) ≡ go_on line s (λ t. run_from step (line + 1) t (lines_of others)) (line_step step s first)
-    unfolding run_from
-    here = ap (run_from step line s) cut
+  pub outcome_more : (t : S) (now more : List ℕ) → now ≡ text ++ more → line_step step s first ≡ Ok (t, more)
+      → outcome_by step r now (line + 1) t (others ++ after) ≡ outcome_by step r text line s (lines ++ after)
+  outcome_more t now more is e = rw (none, here, e, is) (simp append_assoc)
 
-    pub run_more : (t : S) (more : List ℕ) → line_step step s first ≡ Ok (t, more)
-        → with_text_before (text ++ more) (run_from step (line + 1) t (lines_of others)) ≡ with_text_before text (run_from step line s (lines_of left))
-    run_more t more e = rw (here, e) (simp append_assoc)
+  pub outcome_refused : (kind : PlayKind) (t : S) (now : List ℕ) (last : List (List ℕ)) → now ≡ text → line_step step s first ≡ Err kind
+      → outcome_by step (Some (record { line = line; kind = kind })) now (line + 1) t last ≡ outcome_by step r text line s (lines ++ after)
+  outcome_refused kind t now last is e = rw (none, here, e, is) (simp append-nil)
 
-    pub run_refused : (kind : PlayKind) → line_step step s first ≡ Err kind
-        → (let t : Transcript S = record { text = text; refusal = Some (record { line = line; kind = kind }); session = s } in t) ≡ with_text_before text
-        (run_from step line s (lines_of left))
-    run_refused kind e = rw (here, e) (simp append-nil)
+-- where a line was refused, no further line matters
+pub outcome_same : {S : Type 0} (step : S → List ℕ → Result (S × List ℕ) PlayKind) (r : Option PlayError) → is_some r ≡ true
+    → (text : List ℕ) (line : ℕ) (s : S) (lines others : List (List ℕ)) → outcome_by step r text line s lines ≡ outcome_by step r text line s others
+outcome_same step None is text line s lines others = absurd (no is)
+  where
+    no : false ≡ true → ⊥
+    no e = cc
+outcome_same step (Some e) is text line s lines others = refl
 
--- A run whose printed text and last session make the transcript tells it.
-pub tells-done : {S : Type 0} (t : Transcript S) (text : Vec ℕ) (s : S) →
-    (let done : Transcript S = record { text = text.items; refusal = None; session = s } in done) ≡ t →
-    Tells t (record { text = text; refusal = None }) s
-tells-done t text s is = record { shows = record { text = ap (λ x. x.text) is; refusal = ap (λ x. x.refusal) is }; left = λ none. ap (λ x. x.session) is }
+-- what a run comes to from its beginning
+pub outcome_fresh : {S : Type 0} (step : S → List ℕ → Result (S × List ℕ) PlayKind) (start : Progress) (s : S) (lines : List (List ℕ)) → IsFresh start
+    → outcome step start s lines ≡ usable (run_from step 1 s lines)
+outcome_fresh step start s lines fresh = rw (fresh.refusal, fresh.text, fresh.passed) refl
 
-pub tells-refused : {S : Type 0} (t : Transcript S) (text : Vec ℕ) (e : PlayError) (s after : S) →
-    (let done : Transcript S = record { text = text.items; refusal = Some e; session = s } in done) ≡ t →
-    Tells t (record { text = text; refusal = Some e }) after
-tells-refused t text e s after is = record {
-  shows = record { text = ap (λ x. x.text) is; refusal = ap (λ x. x.refusal) is };
-  left = λ none. let no : Some e ≡ None = ap (λ x. x.refusal) is ∙ none in cc;
-}
+-- a run that comes with no line to go to what a transcript is tells it
+told : {S : Type 0} (step : S → List ℕ → Result (S × List ℕ) PlayKind) (t : Transcript S) (r : Option PlayError) (text : List ℕ) (line : ℕ) (s : S)
+    → outcome_by step r text line s [] ≡ usable t → (text ≡ t.text) × (r ≡ t.refusal) × (t.refusal ≡ None → s ≡ t.session)
+unfolding run_from
+told step t (Some e) text line s is =
+    (ap (λ x. x.text) is, ap (λ x. x.refusal) is, λ none. let no : Some e ≡ None = ap (λ x. x.refusal) is ∙ none in cc)
+told step t None text line s is = (
+  sym (append-nil text) ∙ ap (λ x. x.text) is,
+  ap (λ x. x.refusal) is,
+  λ none.
+      let held : Some s ≡ Some t.session = ap (λ x. x.session) is ∙ ap (λ r. session_unless r t.session) none in cc,
+)
+
+pub tells : {S : Type 0} (step : S → List ℕ → Result (S × List ℕ) PlayKind) (p : Progress) (s : S) (t : Transcript S)
+    → outcome step p s [] ≡ usable t → Tells t p.printed s
+tells step p s t is =
+    let all = told step t p.printed.refusal p.printed.text.items (p.passed + 1) s is in
+    record { shows = record { text = all.0; refusal = all.1 }; left = all.2 }

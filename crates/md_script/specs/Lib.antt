@@ -11,11 +11,13 @@ pub mod Held
 pub mod Step
 pub mod Transcript
 pub mod Printed
+pub mod Progress
 pub mod Texts
 pub mod Sessions
 pub mod Setups
 pub mod Sources
 pub mod Sinks
 pub mod Reading
+pub mod Incoming
 pub mod Play
 pub mod OneClock

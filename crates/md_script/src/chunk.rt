@@ -1,5 +1,5 @@
 //! One read of a script, right after the bytes that are there.
-ghost use Rattle.std.specs.Prelude.{◌≡◌, ◌+◌, ◌≤◌, length, vec_len, take, drop, OnOk};
+ghost use Rattle.std.specs.Prelude.{◌≡◌, ◌+◌, ◌-◌, ◌≤◌, length, vec_len, take, drop, OnOk};
 ghost use Rattle.md_script.specs.Sources.{Reads};
 
 use crate::reading::MOST_BYTES;
@@ -40,4 +40,22 @@ fn read_at<S: Source>(source: &mut S, script: &mut [u8], filled: usize) -> Got
     ensures counted { (S.state source.new).reads ≤ (S.state source.old).reads + 1 }
 {
     source.read(&mut script[filled..])
+}
+
+/// Moves the bytes from one place up to another to the front of the room.
+pub(crate) fn move_to_front(room: &mut Vec<u8>, start: usize, end: usize)
+    requires ordered { start ≤ end }
+    requires there { end ≤ vec_len room.old }
+    ensures len { vec_len room.new ≡ vec_len room.old }
+    ensures moved { take (end - start) room.new.items ≡ take (end - start) (drop start room.old.items) }
+{
+    move_within(room.as_mut_slice(), start, end)
+}
+
+fn move_within(room: &mut [u8], start: usize, end: usize)
+    requires ordered { start ≤ end }
+    requires there { end ≤ length room.old }
+    ensures moved { take (end - start) room.new ≡ take (end - start) (drop start room.old) }
+{
+    room.copy_within(start..end, 0);
 }

@@ -7,6 +7,7 @@ mod digits;
 mod error;
 mod escapes;
 mod folders;
+mod incoming;
 pub mod laws;
 mod lines;
 mod listing;

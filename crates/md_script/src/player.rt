@@ -6,7 +6,7 @@ ghost use Rattle.md_script.specs.Play.{Plays, Writes};
 ghost use Rattle.md_script.specs.Reading.{most_reads};
 
 use crate::error::{PlayError, PlayKind};
-use crate::reading::read_script;
+use crate::incoming::run_source;
 use crate::run::{Printed, run};
 use crate::sink::{Put, Sink};
 use crate::source::Source;
@@ -15,8 +15,8 @@ use crate::store::StoreSession;
 use md_dirs::IndexDirs;
 use std::alloc::{AllocError, Global};
 
-/// Plays a script: reads it whole, in at most 1,048,576 reads, runs its lines over a store up to the first that is refused, and writes
-/// what they print.
+/// Plays a script: reads it to its end, in at most 1,048,576 reads, runs its lines over a store while it reads, up to the first that is
+/// refused, and then writes what they printed. Of the script it keeps only the line that hasn't ended, and what jobs hold.
 ///
 /// A refused line's error has its number and comes after what the lines before it print was written. The other errors
 /// have the line 0: `ReadFault`, `TooLong`, `TooManyReads` and `NoMemory`, after which nothing was written, and
@@ -29,8 +29,7 @@ pub fn play<S: Source, T: Sink>(
     ensures play { Plays (S.state source.old) (S.state source.new) (T.state sink.old) (T.state sink.new) result }
     ensures reads { (S.state source.new).reads ≤ (S.state source.old).reads + most_reads }
 {
-    let script = read_script(alloc, source)?;
-    let printed = transcript(alloc, &script)?;
+    let printed = run_source(alloc, source, &mut StoreSession::<IndexDirs>::new(alloc))?;
     write_whole(sink, &printed.text)?;
     match printed.refusal {
         None => Ok(()),

@@ -1,8 +1,10 @@
 //! The lines of a script, one after another.
-ghost use Rattle.std.specs.Prelude.{◌≡◌, ◌≤◌, length, IfOk};
+ghost use Rattle.std.specs.Prelude.{◌≡◌, ◌+◌, ◌<◌, ◌≤◌, ◌^◌, length, IfOk, OnOk, is_some};
+ghost use Rattle.md_head.specs.Header.{lines_of};
 ghost use Rattle.md_script.specs.Step.{Steps, line_step};
 ghost use Rattle.md_script.specs.Transcript.{transcript_of};
 ghost use Rattle.md_script.specs.Printed.{Tells};
+ghost use Rattle.md_script.specs.Progress.{GoesOn, IsFresh};
 
 use crate::error::{PlayError, PlayKind};
 use crate::session::Session;
@@ -19,6 +21,75 @@ pub struct Printed {
     pub refusal: Option<PlayError>,
 }
 
+/// How far the run of a script has come: how many lines were passed, and what they printed.
+#[derive(Drop)]
+pub(crate) struct Progress {
+    passed: u64,
+    printed: Printed,
+}
+
+impl Progress {
+    /// Before the first line.
+    pub(crate) fn new(alloc: Global) -> Self
+        ensures { IsFresh result }
+    {
+        Progress {
+            passed: 0,
+            printed: Printed {
+                text: Vec::new(alloc),
+                refusal: None,
+            },
+        }
+    }
+
+    /// Whether a line was refused, so that no further line is run.
+    pub(crate) fn is_refused(&self) -> bool
+        ensures { result ≡ is_some self.now.printed.refusal }
+    {
+        self.printed.refusal.is_some()
+    }
+
+    /// What was printed so far.
+    pub(crate) fn into_printed(self) -> Printed
+        ensures { result ≡ self.printed }
+    {
+        let Progress { passed: _, printed } = self;
+        printed
+    }
+
+    /// Runs the next lines, up to the first that is refused; none where one was refused before. The only error is out of memory.
+    pub(crate) fn run_lines<S: Session>(
+        &mut self,
+        session: &mut S,
+        lines: &[u8],
+    ) -> Result<(), AllocError>
+        requires { self.old.passed + length lines.now < 2 ^ 64 }
+        ensures lines { OnOk result (GoesOn S.step self.old session.old (lines_of lines.now) self.new session.new) }
+        ensures counted { self.new.passed ≤ self.old.passed + length lines.now }
+    {
+        if self.is_refused() {
+            return Ok(());
+        }
+        let mut left = lines;
+        while let Some((first, others)) = cut_line(left) {
+            match run_line(session, first, &mut self.printed.text) {
+                Ok(()) => {}
+                Err(kind) => match kind {
+                    PlayKind::NoMemory => return Err(AllocError),
+                    _ => {
+                        let line = self.passed + 1;
+                        self.printed.refusal = Some(PlayError { line, kind });
+                        return Ok(());
+                    }
+                },
+            }
+            left = others;
+            self.passed += 1;
+        }
+        Ok(())
+    }
+}
+
 /// Runs the lines of a script up to the first that is refused. The only error is out of memory.
 pub(crate) fn run<S: Session>(
     alloc: Global,
@@ -27,28 +98,9 @@ pub(crate) fn run<S: Session>(
 ) -> Result<Printed, AllocError>
     ensures { IfOk result (λ printed. Tells (transcript_of S.step session.old script.now) printed session.new) }
 {
-    let mut text = Vec::new(alloc);
-    let mut left = script;
-    let mut passed = 0u64;
-    while let Some((first, others)) = cut_line(left) {
-        match run_line(session, first, &mut text) {
-            Ok(()) => {}
-            Err(kind) => match kind {
-                PlayKind::NoMemory => return Err(AllocError),
-                _ => {
-                    let line = passed + 1;
-                    let refusal = Some(PlayError { line, kind });
-                    return Ok(Printed { text, refusal });
-                }
-            },
-        }
-        left = others;
-        passed += 1;
-    }
-    Ok(Printed {
-        text,
-        refusal: None,
-    })
+    let mut progress = Progress::new(alloc);
+    progress.run_lines(session, script)?;
+    Ok(progress.into_printed())
 }
 
 /// Runs a line, unless it is passed over.
