@@ -2,6 +2,7 @@
 mod alike;
 mod calls;
 mod image;
+mod many;
 mod thousand;
 mod values;
 

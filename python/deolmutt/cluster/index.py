@@ -88,7 +88,8 @@ def index(
     held = [client.scatter(it, hash=False) if isinstance(it, bytes) else it for it in sources]
     plans = client.gather([client.submit(_plan, source, pure=False) for source in held])
     for source, plan in zip(held, plans):
-        parts += [delayed(_rows_of_lines)(source, spans) for spans in _parted_spans(plan, partition_bytes)]
+        parted = _parted_spans(plan, partition_bytes)
+        parts += [delayed(_rows_of_lines)(source, spans) for spans in parted]
     bag = dask.bag.from_delayed(parts) if parts else dask.bag.from_sequence([], npartitions=1)
     return bag.to_dataframe(meta=_TYPES) if as_frame else bag
 

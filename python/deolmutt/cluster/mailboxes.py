@@ -27,7 +27,7 @@ _TIMEOUTS = (asyncio.TimeoutError, TimeoutError)
 
 
 class _Held(NamedTuple):
-    """A shard that is there: what keeps it on its worker, its proxy, and the word that it was born with."""
+    """A shard that is there: what keeps it on its worker, its proxy, and the word it was born with."""
 
     future: Future
     actor: Any
@@ -77,7 +77,9 @@ class Mailboxes:
 
     # A call to its answer.
 
-    def deliver(self, user: User, body: bytes, unique: Optional[str] = None, folder: Optional[str] = None) -> str:
+    def deliver(
+        self, user: User, body: bytes, unique: Optional[str] = None, folder: Optional[str] = None
+    ) -> str:
         """Delivers a message to new of a user's folder, and answers its unique name, a fresh one if none
         is given. Refused: as by `World.deliver`."""
         name = fresh_unique() if unique is None else unique
@@ -88,7 +90,14 @@ class Mailboxes:
         """Takes a message from new to cur, its flags joined by these, and answers its flags."""
         return self.call(user, Seen(self._number(folder), unique, flags)).flags
 
-    def flag(self, user: User, unique: str, add: str = "", remove: str = "", folder: Optional[str] = None) -> str:
+    def flag(
+        self,
+        user: User,
+        unique: str,
+        add: str = "",
+        remove: str = "",
+        folder: Optional[str] = None,
+    ) -> str:
         """Adds and removes flags of a message in cur, and answers its flags."""
         return self.call(user, Flag(self._number(folder), unique, add, remove)).flags
 
@@ -166,8 +175,14 @@ class Mailboxes:
             except DeolmuttError as error:
                 ends = [error] * len(places)
             ended.update(zip(places, ends))
-            made = (it for it, end in zip(asked, ends) if isinstance(end, Answer))
-            self._note(each.shard, [(it.user, it.call.unique) for it in made if isinstance(it.call, Deliver)])
+            self._note(
+                each.shard,
+                [
+                    (it.user, it.call.unique)
+                    for it, end in zip(asked, ends)
+                    if isinstance(it.call, Deliver) and isinstance(end, Answer)
+                ],
+            )
         return [ended[at] for at in range(len(ended))]
 
     def deliver_many(
@@ -261,7 +276,8 @@ class Mailboxes:
             raise NoSnapshot("no snapshot was taken yet: name its folder")
         manifest = read_manifest(path)
         if (len(manifest.shards), manifest.folders) != (len(self), self._folders):
-            raise OtherShards(f"the snapshot has {len(manifest.shards)} shards and folders {manifest.folders}")
+            count = len(manifest.shards)
+            raise OtherShards(f"the snapshot has {count} shards and folders {manifest.folders}")
         numbers = range(len(self)) if shard is None else [shard]
         at = self._other_workers(numbers)
         held = self._started([(at[number], (path, manifest.shards[number].stores)) for number in numbers])

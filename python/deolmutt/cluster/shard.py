@@ -71,7 +71,7 @@ class _Store:
         self.users[user] = len(self.users) * self._width
 
     def make(self, calls: List[Call]) -> List[Ended]:
-        """Makes calls, each to its end: one that is refused doesn't keep those after it from being made."""
+        """Makes calls, each to its end: those after one that is refused are made too."""
         ended: List[Ended] = []
         while len(ended) < len(calls):
             try:
@@ -147,7 +147,9 @@ class Shard:
             outcome = Outcome(None, error)
         return pickle.dumps(outcome, pickle.HIGHEST_PROTOCOL)
 
-    def deliver_many(self, user: bytes, folder: int, uniques: List[str], bodies: List[bytes]) -> List[Ended]:
+    def deliver_many(
+        self, user: bytes, folder: int, uniques: List[str], bodies: List[bytes]
+    ) -> List[Ended]:
         """Delivers messages of one user."""
         store = self._home(user)
         number = self._number(store, user, folder)
@@ -187,7 +189,10 @@ class Shard:
     def snapshot(self, shard: int, folder: str) -> ShardPart:
         """Writes the shard's stores into a folder, as they are now."""
         moment, name = int(time.time()), f"{PREFIX}{shard}-{uuid.uuid4().hex}"
-        parts = [self._written(store, folder, f"{name}-{at}.lines") for at, store in enumerate(self._stores)]
+        parts = [
+            self._written(store, folder, f"{name}-{at}.lines")
+            for at, store in enumerate(self._stores)
+        ]
         return ShardPart(shard, moment, parts)
 
     @staticmethod

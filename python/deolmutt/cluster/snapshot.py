@@ -14,6 +14,8 @@ from typing import Any, Dict, Iterable, List, NamedTuple, Tuple
 from .errors import BadSnapshot, MissingShard, NoSnapshot, OtherVersion, WrongChecksum
 
 VERSION = 1
+# What begins the names of the stores' files.
+PREFIX = "shard-"
 _MANIFEST = "manifest.json"
 _SAYS = "Each shard is as it was at one moment of its own. No moment is that of all shards."
 
@@ -45,11 +47,17 @@ class Manifest(NamedTuple):
     def write(self, folder: str) -> None:
         """Puts the manifest into its place."""
         shards = [
-            {"shard": part.shard, "moment": part.moment, "stores": [store._asdict() for store in part.stores]}
+            {**part._asdict(), "stores": [store._asdict() for store in part.stores]}
             for part in self.shards
         ]
         count = sum(store.messages for part in self.shards for store in part.stores)
-        said = {"version": VERSION, "says": _SAYS, "messages": count, "folders": self.folders, "shards": shards}
+        said = {
+            "version": VERSION,
+            "says": _SAYS,
+            "messages": count,
+            "folders": self.folders,
+            "shards": shards,
+        }
         write_durably(folder, _MANIFEST, [json.dumps(said, indent=1).encode()])
 
     def files(self) -> List[str]:
@@ -104,7 +112,7 @@ def read_part(folder: str, part: Part) -> bytes:
 
 
 def write_durably(folder: str, name: str, lines: Iterable[bytes]) -> Tuple[int, str]:
-    """Writes a file beside its place, flushes it to the disk and renames it; answers its size and SHA-256."""
+    """Writes a file beside its place, flushes it and renames it; answers its size and SHA-256."""
     path = os.path.join(folder, name)
     fresh = f"{path}.tmp"
     size, digest = 0, hashlib.sha256()
@@ -126,9 +134,6 @@ def remove_others(folder: str, manifest: Manifest) -> None:
     for name in os.listdir(folder):
         if name not in kept and name.startswith(PREFIX):
             os.unlink(os.path.join(folder, name))
-
-
-PREFIX = "shard-"
 
 
 def _flush_names(folder: str) -> None:

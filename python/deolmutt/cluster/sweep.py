@@ -47,7 +47,8 @@ def sweep(
     wanted = list(dict.fromkeys(seeds))
     left = [seed for seed in wanted if seed not in done]
     tasks = {
-        client.submit(_played, seed, scripts, list(ours), list(plain), clone, pure=False): seed for seed in left
+        client.submit(_played, seed, scripts, list(ours), list(plain), clone, pure=False): seed
+        for seed in left
     }
     with client.as_current():
         ended = as_completed(list(tasks), with_results=True)
@@ -79,5 +80,7 @@ def _kept(folder: str, name: str, difference: Optional[Tuple[bytes, Came, Came]]
 
 
 def _finding(folder: str, said: Any) -> Finding:
-    ours, plain = ((status, bytes.fromhex(out), bytes.fromhex(err)) for status, out, err in said["differ"])
+    ours, plain = (
+        (status, bytes.fromhex(out), bytes.fromhex(err)) for status, out, err in said["differ"]
+    )
     return Finding(said["seed"], os.path.join(folder, said["script"]), ours, plain)
