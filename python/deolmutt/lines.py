@@ -63,7 +63,8 @@ def parted(line: bytes) -> Optional[FileLine]:
     words = line.split(b" ", 5)
     if len(words) < 5 or words[0] != b"file":
         return None
-    return FileLine(*words[1:5], b" " + words[5] if len(words) == 6 else b"")
+    _, folder, place, name, stamp, *body = words
+    return FileLine(folder, place, name, stamp, b" " + body[0] if body else b"")
 
 
 def is_word(name: str) -> bool:

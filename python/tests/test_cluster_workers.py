@@ -3,11 +3,11 @@
 from __future__ import annotations
 
 import unittest
-from typing import Any
+from typing import Any, List, Tuple
 
 from cluster_support import NO_DASK, Cluster, ClusterCase, needs_cluster, random_lines
 
-from deolmutt.calls import Answer, Deliver, Flag, Outcome, Seen
+from deolmutt.calls import Answer, Call, Deliver, Flag, Outcome, Seen
 from deolmutt.errors import NameUsed, NotThere
 
 if not NO_DASK:
@@ -19,7 +19,9 @@ PARTITIONS = (20_000, 1 << 24)
 
 def held_on(client: Any, shards: int) -> Any:
     """Makes the same calls for 200 users on so many shards, and answers how they ended and what is there."""
-    calls = [(user, Deliver(0, f"{at}.a", b"%d" % at), None) for at, user in enumerate(USERS)]
+    calls: List[Tuple[bytes, Call, None]] = [
+        (user, Deliver(0, f"{at}.a", b"%d" % at), None) for at, user in enumerate(USERS)
+    ]
     calls += [(user, Seen(0, f"{at}.a", "S"), None) for at, user in enumerate(USERS)]
     calls += [(USERS[0], Flag(0, "none", "F"), None), (USERS[1], Deliver(0, "1.a", b""), None)]
     with Mailboxes(client, shards) as boxes:

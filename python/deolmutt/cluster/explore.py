@@ -13,11 +13,11 @@ from .snapshot import write_durably
 
 
 class Broken(NamedTuple):
-    """A clause of the law, in how many interleavings it is broken, the first of these in order of their
+    """A clause of the law, how many interleavings break it, the first of these in order of their
     names, as in AAB, and the file of its log, which `maildir_judge` reads."""
 
     clause: str
-    count: int
+    times: int
     order: str
     log: str
 

@@ -67,7 +67,10 @@ def _played(
     comparing = module_of_clone(clone, "bench/play", "comparing")
     random_scripts = module_of_clone(clone, "bench/play", "random_scripts")
     difference = comparing.compare(random_scripts.random_scripts(scripts, seed), ours, plain).difference
-    return None if difference is None else tuple(difference)
+    if difference is None:
+        return None
+    script, of_ours, of_plain = difference
+    return script, of_ours, of_plain
 
 
 def _kept(folder: str, name: str, difference: Optional[Tuple[bytes, Came, Came]]) -> Optional[List[Any]]:
