@@ -31,7 +31,8 @@ unfoldable pub call_at : Asked → List ℕ → List ℕ → List ℕ → Result
 call_at a unique first second =
     if a.kind == 1 then Ok (call.Deliver a.folder unique first a.number)
     else if a.kind == 2 then and_then (flags_at first) (λ flags. Ok (call.Seen a.folder unique flags a.number))
-    else if a.kind == 3 then and_then (flags_at first) (λ add. and_then (flags_at second) (λ remove. Ok (call.Flag a.folder unique add remove a.number)))
+    else if a.kind == 3 then and_then (flags_at first)
+    (λ add. and_then (flags_at second) (λ remove. Ok (call.Flag a.folder unique add remove a.number)))
     else if a.kind == 4 then Ok (call.Move a.folder unique a.to a.number)
     else if a.kind == 5 then Ok (call.Expunge a.folder unique a.number)
     else if a.kind == 6 then Ok (call.Copy a.folder unique a.to first a.number)

@@ -58,7 +58,8 @@ Tells old (Err (Refused refusal)) status job shown = (status ≡ refusal_number 
 Tells old (Err (Stopped number)) status job shown = (status ≡ 4) × (job ≡ number) × (shown ≡ answer_shown None)
 
 -- a call by C came to this, and tells it
-pub record Calls (asked : Asked) (unique first second : List ℕ) (now : ℕ) (own : Option ℕ) (old new : Run) (status job : ℕ) (shown : AnswerShown) : Type 0 where
+pub record Calls (asked : Asked) (unique first second : List ℕ) (now : ℕ) (own : Option ℕ) (old new : Run)
+    (status job : ℕ) (shown : AnswerShown) : Type 0 where
   pub outcome : Result Answer NoAnswer
   pub comes : Comes asked unique first second now own old new outcome
   pub tells : Tells old outcome status job shown

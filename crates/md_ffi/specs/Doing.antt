@@ -19,7 +19,8 @@ use Rattle.md_ffi.specs.declared.held.Held.{Held}
 use Rattle.md_ffi.specs.declared.refusal.Refusal.{Refusal}
 use Rattle.md_ffi.specs.declared.refusal.Refusal.TheVariants.{Kind, Closed, Unanswered}
 
--- a closed handle stays so and refuses, and this is kept; behind an open one the world goes from one run to another, and this holds of the two
+-- a closed handle stays so and refuses, and this is kept; behind an open one the world goes from one run to another, and this holds of the
+-- two
 abbrev pub OnHeld : Option Held → Option Held → ℕ → Type 0 → (Run → Run → Type 0) → Type 0
 OnHeld None after status kept holds = (after ≡ None) × (status ≡ refusal_number Closed) × kept
 OnHeld (Some before) None status kept holds = ⊥
@@ -70,8 +71,8 @@ Steps old new event refusal before after status =
     ((status ≡ 0) × (refusal ≡ None) × (new ≡ and_event old (event (after.reply == 4))))
     ⊎ ((status ≡ refused_step refusal) × (new ≡ old) × (after ≡ before))
 
--- A world settles where each job has its answer, and begins again, or is out of memory and as it was. Else it is as it was, and the first job
--- that has no answer is named.
+-- A world settles where each job has its answer, and begins again, or is out of memory and as it was. Else it is as it was, and the first
+-- job that has no answer is named.
 unfoldable pub Settles : Run → Run → Option ℕ → ℕ → ℕ → Type 0
 Settles old new None status job = (((new ≡ settled old) × (status ≡ 0)) ⊎ ((new ≡ old) × (status ≡ 4))) × (job ≡ 0)
 Settles old new (Some first) status job = (new ≡ old) × (status ≡ refusal_number Unanswered) × (job ≡ first)

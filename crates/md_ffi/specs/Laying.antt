@@ -16,7 +16,8 @@ Keeps reason old new length_before length_after status = (status ≡ reason) × 
 -- bytes are laid, or why there are none
 abbrev pub LaysOrRefuses : Result (List ℕ) Refusal → List ℕ → List ℕ → ℕ → ℕ → ℕ → Type 0
 LaysOrRefuses (Ok bytes) old new length_before length_after status = Lays bytes old new length_after status
-LaysOrRefuses (Err refusal) old new length_before length_after status = Keeps (refusal_number refusal) old new length_before length_after status
+LaysOrRefuses (Err refusal) old new length_before length_after status =
+    Keeps (refusal_number refusal) old new length_before length_after status
 
 -- the same, unless memory ran out
 abbrev pub Gives : Result (List ℕ) Refusal → List ℕ → List ℕ → ℕ → ℕ → ℕ → Type 0

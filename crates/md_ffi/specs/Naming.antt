@@ -30,7 +30,8 @@ abbrev pub number_of : Option PlayError → ℕ
 number_of None = 0
 number_of (Some refused) = kind_number refused.kind
 
--- A transcript was laid, with its refusal as the status, or there was no room; the whole length and the refused line are said. Or memory ran out.
+-- A transcript was laid, with its refusal as the status, or there was no room; the whole length and the refused line are said. Or memory
+-- ran out.
 abbrev pub Plays : List ℕ → Option PlayError → List ℕ → List ℕ → ℕ → ℕ → ℕ → Type 0
 Plays text refusal old new whole line status =
     ((whole ≡ length text) × (line ≡ line_of refusal)

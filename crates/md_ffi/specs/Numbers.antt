@@ -1,4 +1,5 @@
--- The numbers of refusals. Those that a part of the store gives are in a range of that part; want of memory is one number, wherever it was met.
+-- The numbers of refusals. Those that a part of the store gives are in a range of that part; out of memory is one number, wherever it was
+-- met.
 use Rattle.std.specs.Prelude.{ℕ, Result, Ok, Err}
 use Rattle.md_name.specs.declared.error.NameError.{NameError}
 use Rattle.md_name.specs.declared.error.NameError.TheVariants as name

@@ -45,7 +45,8 @@ entries_bytes entries = flat_map entry_bytes entries
 -- the messages of a folder that is there
 unfoldable pub listed : Run → ℕ → Result (List ℕ) Refusal
 listed run folder =
-    if nat_lt folder (dirs_of run).folders then Ok (entries_bytes (listing_of (names_at run) folder (length run.events) (length run.events)))
+    if nat_lt folder (dirs_of run).folders
+    then Ok (entries_bytes (listing_of (names_at run) folder (length run.events) (length run.events)))
     else Err (Kind (Core NoFolder))
 
 -- the bytes of a message, if it is in new or cur of a folder
@@ -55,7 +56,8 @@ message_at run unique = ok_or (option_map (λ (m : Message). m.bytes) (finmap.ge
 -- the name at a position of a directory, if it is there
 abbrev pub name_in : Run → ℕ → ℕ → Option Place → Result (List ℕ) Refusal
 name_in run folder at None = Err NoPlace
-name_in run folder at (Some place) = ok_or (option_map (λ (row : Row). row.name) (slice_get (rows_of (dirs_of run) folder place) at)) NotThere
+name_in run folder at (Some place) =
+    ok_or (option_map (λ (row : Row). row.name) (slice_get (rows_of (dirs_of run) folder place) at)) NotThere
 
 -- the name at a position of the directory of a number
 unfoldable pub name_at : Run → ℕ → ℕ → ℕ → Result (List ℕ) Refusal

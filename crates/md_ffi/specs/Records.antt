@@ -50,23 +50,23 @@ record_in bytes =
     and_then (cut (eight_at 32 head.0) first.1) (λ second.
     Ok (recorded (asked_in head.0) unique.0 first.0 second.0 second.1)))))
 
--- The records at the front of these bytes are calls that were made, one after another, each at this moment and with the answer that is shown
--- at its place. These bytes are left.
+-- The records at the front of these bytes are calls that were made, one after another, each at this moment and with the answer that is
+-- shown at its place. These bytes are left.
 abbrev pub Answered : ℕ → List AnswerShown → List ℕ → Run → List ℕ → Run → Type 0
 Answered now [] bytes old left new = (left ≡ bytes) × (new ≡ old)
 Answered now (shown ∷ more) bytes old left new =
     (r : Record) × (record_in bytes ≡ Ok r) × (a : Answer) × (shown ≡ answer_shown (Some a))
     × (next : Run) × Comes r.asked r.unique r.first r.second now None old next (Ok a) × Answered now more r.rest next left new
 
--- Why no more calls are made of the bytes that are left: none is left; there is no room for an answer, or no whole record; or the next call has
--- no answer.
+-- Why no more calls are made of the bytes that are left: none is left; there is no room for an answer, or no whole record; or the next call
+-- has no answer.
 abbrev pub Halts : ℕ → List ℕ → ℕ → Run → Run → ℕ → Type 0
 Halts now left room old new status =
     ((left ≡ []) × (new ≡ old) × (status ≡ 0))
     ⊎ ((left ≢ []) × (room ≡ 0) × (new ≡ old) × (status ≡ refusal_number Room))
     ⊎ ((left ≢ []) × (0 < room) × (record_in left ≡ Err BadRecord) × (new ≡ old) × (status ≡ refusal_number BadRecord))
-    ⊎ ((0 < room) × (r : Record) × (record_in left ≡ Ok r) × (e : NoAnswer) × Comes r.asked r.unique r.first r.second now None old new (Err e)
-    × (status ≡ no_answer_number e))
+    ⊎ ((0 < room) × (r : Record) × (record_in left ≡ Ok r) × (e : NoAnswer)
+    × Comes r.asked r.unique r.first r.second now None old new (Err e) × (status ≡ no_answer_number e))
 
 -- Many calls in one: so many were made, with an answer each, and the rest of the answers is as it was. What ended them is the status.
 pub record CallsAll (now : ℕ) (bytes : List ℕ) (old new : Run) (before after : List AnswerShown) (done status : ℕ) : Type 0 where
