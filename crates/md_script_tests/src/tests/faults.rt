@@ -2,7 +2,7 @@
 //! can't be written: the prover refuses it.
 
 use super::fakes::{Full, Shut, Slow, Torn, Unflushed};
-use super::plays::{is_refused, is_write_fault, prints};
+use super::plays::{is_refused, is_write_fault};
 use md_script::{PlayKind, Reader, Writer, play};
 use std::io::ErrorKind;
 
@@ -23,18 +23,6 @@ fn nothing_is_written_at_a_read_fault(rt: HostRuntime) {
             is_refused(rt.alloc(), script, PlayKind::ReadFault),
             "{good}"
         );
-    }
-}
-
-#[test]
-fn a_script_may_come_in_pieces_of_any_size(rt: HostRuntime) {
-    for at_once in 1..SCRIPT.len() + 2 {
-        let script = Torn {
-            script: SCRIPT,
-            at_once,
-            fault: None,
-        };
-        assert!(rt; prints(rt.alloc(), script, PRINTS), "{at_once}");
     }
 }
 
@@ -61,6 +49,24 @@ fn a_read_that_is_tried_again_counts_each_time(rt: HostRuntime) {
         fault: Some(ErrorKind::Interrupted),
     };
     assert!(rt; is_refused(rt.alloc(), script, PlayKind::TooManyReads));
+}
+
+#[test]
+fn a_read_fault_comes_before_a_refused_line(rt: HostRuntime) {
+    let cases = [
+        (ErrorKind::BrokenPipe, PlayKind::ReadFault),
+        (ErrorKind::Interrupted, PlayKind::TooManyReads),
+    ];
+    for at_once in 1..5usize {
+        for (fault, kind) in cases {
+            let script = Torn {
+                script: b"unique 1 2 3 4 a\nx\ny",
+                at_once,
+                fault: Some(fault),
+            };
+            assert!(rt; is_refused(rt.alloc(), script, kind), "{at_once}");
+        }
+    }
 }
 
 #[test]

@@ -1,10 +1,10 @@
 //! Lines: where they end, and how they come.
 
 use super::commands::joined;
-use super::fakes::Interrupted;
+use super::fakes::{Interrupted, Torn};
 use super::plays::prints;
 use md_script::image;
-use std::alloc::Global;
+use std::alloc::{AllocError, Global};
 use std::test::Fail;
 
 /// What follows the words of a file, and the file's bytes.
@@ -40,7 +40,7 @@ fn lines_end_at_line_feeds(rt: HostRuntime) -> Result<(), Fail> {
 #[test]
 fn interrupted_reads_are_tried_again(rt: HostRuntime) {
     let script = Interrupted {
-        script: b"unique 1 2 3 4 a\nunique 1 2 3 5 a",
+        script: b"unique 1 2 3 4 a\r\nunique 1 2 3 5 a",
         is_next: false,
     };
     assert!(rt;
@@ -50,4 +50,52 @@ fn interrupted_reads_are_tried_again(rt: HostRuntime) {
             b"unique 1.M2P3Q4.a\nunique 1.M2P3Q5.a\n"
         )
     );
+}
+
+/// 200,000 letters, over and over the same 23, so that bytes that are moved to a wrong place show.
+fn long_body(alloc: Global) -> Result<Vec<u8>, AllocError> {
+    let mut body = Vec::new(alloc);
+    for place in 0..200_000u32 {
+        body.push(b'a' + (place % 23) as u8)?;
+    }
+    Ok(body)
+}
+
+/// A body twice, and what stands in front of it, between and behind.
+fn twice(
+    alloc: Global,
+    body: &[u8],
+    front: &[u8],
+    between: &[u8],
+    behind: &[u8],
+) -> Result<Vec<u8>, AllocError> {
+    let mut text = joined(alloc, front, body)?;
+    text.extend_from_slice(between)?;
+    text.extend_from_slice(body)?;
+    text.extend_from_slice(behind)?;
+    Ok(text)
+}
+
+/// Two files of a body, which are read.
+fn long_lines(alloc: Global, body: &[u8]) -> Result<Vec<u8>, AllocError> {
+    let second = b"\r\nfile i new v 0 ";
+    let reads = b"\nread v\nread u\nlist i";
+    twice(alloc, body, b"folder i\nfile i new u 0 ", second, reads)
+}
+
+#[test]
+fn lines_longer_than_the_room_may_come_in_pieces(rt: HostRuntime) -> Result<(), Fail> {
+    let body = long_body(rt.alloc())?;
+    let script = long_lines(rt.alloc(), &body)?;
+    let listing = b"\nnew u - 200000\nnew v - 200000\n";
+    let wanted = twice(rt.alloc(), &body, b"bytes=", b"\nbytes=", listing)?;
+    for at_once in [1usize, 5_000, 65_536, 1_000_000] {
+        let script = Torn {
+            script: &script,
+            at_once,
+            fault: None,
+        };
+        assert!(rt; prints(rt.alloc(), script, &wanted), "{at_once}");
+    }
+    Ok(())
 }

@@ -1,5 +1,6 @@
 //! Scripts of known transcripts. More of them, which are text in whole lines, are in crates/examples/data/.
 
+use super::fakes::Torn;
 use super::plays::{has_text, played};
 use md_script::{PlayError, PlayKind, Reader, Writer, count_lines, play, transcript};
 use std::alloc::{AllocError, Global};
@@ -38,27 +39,56 @@ line 3: bad folder||folder i\nfolder j\nfolder a\rb%\
 ||#a\n\n#b\r\n\r\n%\
 line 1: bad command||\r\r\n%\
 line 2: bad command||\r\n\r%\
-line 5: bad command||# one\n\nfolder i\n\r\nthree\nfour";
+line 5: bad command||# one\n\nfolder i\n\r\nthree\nfour%\
+line 1: bad command||x\ny\nunique 1 2 3 4 a\n%\
+line 3: bad command|unique 1.M2P3Q4.a\n|unique 1 2 3 4 a\r\n#\nx y\r\nunique 1 2 3 5 a%\
+line 1: bad host||unique 1 2 3 4 a\r\r\n%\
+line 2: bad host|unique 1.M2P3Q4.a\n|unique 1 2 3 4 a\r\nunique 1 2 3 5 a\r%\
+|unique 1.M2P3Q18446744073709551615.a\nunique 1.M2P3Q4.a\n|unique 1 2 3 18446744073709551615 a\r\n#\r\nunique 1 2 3 4 a%\
+line 1: bad escape||summary a\\\r\n%\
+line 3: bad escape||folder i\r\n\r\njob deliver i u 4 a\\x\r\nlist i%\
+|job 1\n1 create ok\n1 append 4 ok\n1 link ok\n1 unlink ok\n1 answer delivered\nnew u - 4\nbytes=a\\n\\\\b\nnone\n|folder i\r\njob deliver i u 4 a\\n\\\\b\r\n# \xff\r\nfinish 1 1\r\nlist i\r\nread u\r\nread u\r%\
+|bytes=abc\nbytes=de\nnew u - 3\nnew v - 2\n|folder i\nfile i new u 0 abc\nfile i new v 0 de\nread u\nread v\nlist i";
 
-/// Whether a script prints this, and ends with this refusal.
-fn plays(alloc: Global, script: &[u8], prints: &[u8], refusal: &[u8]) -> Result<bool, AllocError> {
+/// How many bytes of a script come at once; the last is more than a script here has.
+static PIECES: [usize; 21] = [
+    1, 2, 3, 4, 5, 6, 7, 8, 9, 10, 11, 12, 13, 14, 15, 16, 17, 18, 19, 20, 1_000,
+];
+
+/// Whether a script that comes so many bytes at a time prints this, and ends with this refusal.
+fn plays(
+    alloc: Global,
+    script: &[u8],
+    at_once: usize,
+    prints: &[u8],
+    refusal: &[u8],
+) -> Result<bool, AllocError> {
+    let script = Torn {
+        script,
+        at_once,
+        fault: None,
+    };
     let (refused, is_printed) = played(alloc, script, prints);
     Ok(has_text(alloc, refused, refusal)? && is_printed)
 }
 
-/// Whether a row is true.
-fn is_true(alloc: Global, row: &[u8]) -> Result<bool, AllocError> {
+/// Whether a row is true where its script comes so many bytes at a time.
+fn is_true(alloc: Global, row: &[u8], at_once: usize) -> Result<bool, AllocError> {
     let mut parts = row.split(|byte| *byte == b'|');
     match (parts.next(), parts.next(), parts.next()) {
-        (Some(refusal), Some(prints), Some(script)) => plays(alloc, script, prints, refusal),
+        (Some(refusal), Some(prints), Some(script)) => {
+            plays(alloc, script, at_once, prints, refusal)
+        }
         _ => Ok(false),
     }
 }
 
 #[test]
-fn scripts_of_any_bytes_are_played(rt: HostRuntime) -> Result<(), Fail> {
-    for row in ROWS.split(|byte| *byte == b'%') {
-        assert!(rt; is_true(rt.alloc(), row)?, "{row:?}");
+fn scripts_of_any_bytes_are_played_in_pieces_of_any_size(rt: HostRuntime) -> Result<(), Fail> {
+    for at_once in PIECES {
+        for row in ROWS.split(|byte| *byte == b'%') {
+            assert!(rt; is_true(rt.alloc(), row, at_once)?, "{at_once} {row:?}");
+        }
     }
     Ok(())
 }
