@@ -1,77 +1,41 @@
-// A thread that delivers and sends its pass by a channel, and another that learns from it. A pass that is dropped while others go on.
+// A pass that learns from another which delivered. A pass that is dropped while others go on.
 use super::fixtures::{DELIVERED, deliveries, finish, lists, news};
 use super::gated::Gated;
 use super::scene::{Plan, Scene, stage};
-use crossbeam_channel::{Receiver, Sender, bounded};
 use md_core::Answer;
 use md_store::{Naming, News, Pass, Store};
 use std::alloc::Global;
 use std::sync::Wait;
 use std::test::Fail;
-use std::thread;
-use std::thread::Threads;
 
-// Delivers, and then sends the pass, whatever came of it. Whether it was delivered and sent.
-fn deliver_and_send<'a, J: Naming, R: Wait>(
-    rt: &R,
-    store: &Store<Gated, J>,
-    pass: &'a mut Pass<J>,
-    sender: &Sender<&'a Pass<J>, Global>,
-) -> bool {
-    let is_delivered = finish(rt, store, pass, 1) == DELIVERED;
-    sender.send(rt, &*pass).is_ok() && is_delivered
-}
-
-// Learns from the pass that comes. Whether a listing then shows the message.
+// One pass delivers, and the other, which was told of nothing, learns from it. Whether its listing then shows the message.
 fn learn_and_list<J: Naming, R: Wait>(
-    rt: &R,
-    alloc: Global,
-    store: &Store<Gated, J>,
-    pass: &mut Pass<J>,
-    receiver: &Receiver<&Pass<J>, Global>,
-) -> bool {
-    match receiver.recv(rt) {
-        Ok(sent) => {
-            let knew = sent.begins(pass);
-            pass.learn_from(sent);
-            !knew && sent.begins(pass) && pass.len() == 1 && lists(alloc, store, pass, 0, b"a")
-        }
-        Err(_) => false,
-    }
-}
-
-fn send_to<J: Naming + Send + Sync, R: Threads + Wait + Sync>(
     rt: &R,
     alloc: Global,
     store: &Store<Gated, J>,
     one: &mut Pass<J>,
     two: &mut Pass<J>,
 ) -> bool {
-    let Ok((sender, receiver)) = bounded(alloc, 1) else {
-        return false;
-    };
-    let (is_sent, is_listed) = thread::join(
-        rt,
-        || deliver_and_send(rt, store, one, &sender),
-        || learn_and_list(rt, alloc, store, two, &receiver),
-    );
-    is_sent && is_listed
+    let is_delivered = finish(rt, store, one, 1) == DELIVERED;
+    let knew = one.begins(two);
+    two.learn_from(one);
+    is_delivered && !knew && one.begins(two) && two.len() == 1 && lists(alloc, store, two, 0, b"a")
 }
 
-pub fn send_word<J: Naming + Send + Sync, R: Threads + Wait + Sync>(
+pub fn send_word<J: Naming, R: Wait>(
     rt: &R,
     alloc: Global,
     store: &Store<Gated, J>,
     passes: &mut [Pass<J>],
 ) -> bool {
     match passes {
-        [one, two] => send_to(rt, alloc, store, one, two),
+        [one, two] => learn_and_list(rt, alloc, store, one, two),
         _ => false,
     }
 }
 
 #[test]
-fn a_thread_is_sent_word(rt: HostRuntime) -> Result<(), Fail> {
+fn a_pass_is_sent_word(rt: HostRuntime) -> Result<(), Fail> {
     let plan = Plan {
         scene: Scene::Word,
         folders: 1,
