@@ -40,7 +40,8 @@ pub record IsUnanswered (r : Run) (job : ℕ) : Type 0 where
   pub unanswered : answer_of (job_at (jobs_of r) job) ≡ None
   pub goes_on : step_refusal (job_at (jobs_of r) job) ≡ None
 
--- A call that answers with success answers as it does alone on the mailbox, and leaves it so. With any other answer the mailbox is as it was.
+-- A call that answers with success answers as it does alone on the mailbox, and leaves it so.
+-- With any other answer the mailbox is as it was.
 pub record AnswersAlone (call : Call) (m m' : Mailbox) (a : Answer) : Type 0 where
   pub done : is_success a ≡ true → alone call m ≡ record { answer = a; after = m' }
   pub undone : is_success a ≡ false → m' ≡ m

@@ -6,6 +6,7 @@ pub mod deliver;
 pub mod effect;
 pub mod errand;
 pub(crate) mod job;
+pub(crate) mod paths;
 pub mod purpose;
 pub mod refusal;
 pub mod step;

@@ -6,6 +6,7 @@ ghost use Rattle.md_core.specs.Machines.Clean.{new_cleaning, cleaning_turn, look
 
 use crate::error::CoreError;
 use crate::jobs::answer::Answer;
+use crate::jobs::paths::path;
 use crate::jobs::refusal::Refusal;
 use crate::jobs::step::{DirCall, DirReply, Moment};
 use crate::jobs::turn::{Turned, reply_of};
@@ -173,11 +174,7 @@ impl Cleaning {
     fn tmp(&self, alloc: Global, name: &Bytes) -> Result<Path, AllocError>
         ensures { IfOk result (λ path. path ≡ tmp_of self.now name.now) }
     {
-        Ok(Path {
-            folder: self.folder,
-            place: Place::Tmp,
-            name: name.again(alloc)?,
-        })
+        path(alloc, self.folder, Place::Tmp, name)
     }
 
     // A listing was made, and these rows are of old files.
@@ -207,8 +204,7 @@ impl Cleaning {
         let left = match reply {
             DirReply::Ok => *files,
             DirReply::NotFound => files.saturating_sub(1),
-            DirReply::Exists => return Some(Refusal::Fault.answer()),
-            DirReply::Fault => return Some(Refusal::Fault.answer()),
+            DirReply::Exists | DirReply::Fault => return Some(Refusal::Fault.answer()),
         };
         let Some(row) = rest.next() else {
             return Some(Answer::Cleaned(left));

@@ -7,6 +7,7 @@ use crate::error::CoreError;
 use crate::jobs::answer::Answer;
 use crate::jobs::call::JobId;
 use crate::jobs::effect::{Change, Effect};
+use crate::jobs::paths::path;
 use crate::jobs::refusal::Refusal;
 use crate::jobs::step::{DirCall, DirReply, Moment};
 use crate::jobs::turn::{Turned, reply_of};
@@ -203,11 +204,7 @@ impl Delivery {
     fn target(&self, alloc: Global) -> Result<Path, AllocError>
         ensures { IfOk result (λ path. path ≡ target_of self.now) }
     {
-        Ok(Path {
-            folder: self.tmp.folder,
-            place: Place::New,
-            name: self.tmp.name.again(alloc)?,
-        })
+        path(alloc, self.tmp.folder, Place::New, &self.tmp.name)
     }
 
     // The effect that a link to the target is.
@@ -239,8 +236,7 @@ impl Delivery {
                 None
             }
             DirReply::Exists => Some(Refusal::NameTaken.answer()),
-            DirReply::NotFound => Some(Refusal::Fault.answer()),
-            DirReply::Fault => Some(Refusal::Fault.answer()),
+            DirReply::NotFound | DirReply::Fault => Some(Refusal::Fault.answer()),
         }
     }
 

@@ -14,12 +14,13 @@ ghost use Rattle.md_core.specs.Machines.Errand.{asked_of, change_of, taken_by};
 use crate::error::CoreError;
 use crate::jobs::answer::Answer;
 use crate::jobs::effect::Change;
+use crate::jobs::paths::path;
 use crate::jobs::refusal::Refusal;
 use crate::jobs::step::DirCall;
 use md_dirs::{Bytes, DirError, Dirs, Path, Place};
 use md_name::laws::only_letters;
 use md_name::{Flags, Info, split, with_flags};
-use std::alloc::{AllocError, Global};
+use std::alloc::Global;
 
 /// What an errand is for.
 #[derive(Debug, Drop)]
@@ -78,20 +79,14 @@ fn is_same(first: Flags, second: Flags) -> bool
 fn shown(name: &[u8]) -> Flags
     ensures { result ≡ shown_by (info_in name.now) }
 {
-    match info_of(name).flags() {
-        Some(flags) => flags,
-        None => Flags::empty(),
-    }
+    info_of(name).flags().unwrap_or(Flags::empty())
 }
 
 // Whether a message has the flag T.
 fn is_trashed(name: &[u8]) -> bool
     ensures { result ≡ has_trashed (flags_of (info_in name.now)) }
 {
-    match info_of(name).flags() {
-        Some(flags) => flags.has(b'T'),
-        None => false,
-    }
+    info_of(name).flags().is_some_and(|flags| flags.has(b'T'))
 }
 
 // What is done by a test, or refused.
@@ -102,17 +97,6 @@ fn act_if(test: bool, refusal: Refusal) -> Decision
         return Decision::Act;
     }
     Decision::Refuse(refusal)
-}
-
-// A path, of a copy of the name.
-fn path(alloc: Global, folder: u32, place: Place, name: &Bytes) -> Result<Path, AllocError>
-    ensures { IfOk result (λ path. path ≡ path_of folder place name.now) }
-{
-    Ok(Path {
-        folder,
-        place,
-        name: name.again(alloc)?,
-    })
 }
 
 // A unique name with flags.
@@ -131,8 +115,7 @@ fn copied_name(alloc: Global, fresh: &Bytes, info: Info) -> Result<Bytes, CoreEr
 {
     match info {
         Info::Two(flags) => named(alloc, fresh, flags),
-        Info::Bare => Ok(fresh.again(alloc)?),
-        Info::Opaque => Ok(fresh.again(alloc)?),
+        Info::Bare | Info::Opaque => Ok(fresh.again(alloc)?),
     }
 }
 
@@ -154,24 +137,16 @@ impl Purpose {
     fn searches(&self) -> bool
         ensures { result ≡ searches (purpose_view self.now) }
     {
-        match self {
-            Purpose::Seen(_) => false,
-            Purpose::Flag { .. } => false,
-            Purpose::Move { .. } => true,
-            Purpose::Copy { .. } => true,
-            Purpose::Expunge => false,
-        }
+        matches!(self, Purpose::Move { .. } | Purpose::Copy { .. })
     }
 
     /// The place that is looked in after this one.
     pub(crate) fn after(&self, place: Place) -> Option<Place>
         ensures { result ≡ place_after (searches (purpose_view self.now)) place }
     {
-        let searches = self.searches();
         match place {
-            Place::New => { if searches { Some(Place::Cur) } else { None } }
-            Place::Tmp => None,
-            Place::Cur => None,
+            Place::New if self.searches() => Some(Place::Cur),
+            Place::Tmp | Place::New | Place::Cur => None,
         }
     }
 
@@ -182,9 +157,7 @@ impl Purpose {
         match self {
             Purpose::Seen(given) => had.with(*given),
             Purpose::Flag { add, remove } => had.with(*add).without(*remove),
-            Purpose::Move { .. } => had,
-            Purpose::Copy { .. } => had,
-            Purpose::Expunge => had,
+            Purpose::Move { .. } | Purpose::Copy { .. } | Purpose::Expunge => had,
         }
     }
 
@@ -226,8 +199,7 @@ impl Purpose {
         ensures { result ≡ answer_by (purpose_view self.now) (info_in name.now) }
     {
         match self {
-            Purpose::Seen(_) => self.flags(name),
-            Purpose::Flag { .. } => self.flags(name),
+            Purpose::Seen(_) | Purpose::Flag { .. } => self.flags(name),
             Purpose::Move { .. } => Answer::Moved,
             Purpose::Copy { .. } => Answer::Copied,
             Purpose::Expunge => Answer::Expunged,
@@ -248,8 +220,7 @@ impl Purpose {
     {
         let old = path(alloc, folder, place, name)?;
         match self {
-            Purpose::Seen(_) => self.marked(alloc, old, unique),
-            Purpose::Flag { .. } => self.marked(alloc, old, unique),
+            Purpose::Seen(_) | Purpose::Flag { .. } => self.marked(alloc, old, unique),
             Purpose::Move { to } => {
                 let new = path(alloc, *to, place, name)?;
                 Ok(Deed::Rename { old, new })
@@ -340,8 +311,7 @@ impl Deed {
     {
         match self {
             Deed::Link { .. } => Refusal::NameTaken,
-            Deed::Rename { .. } => Refusal::Fault,
-            Deed::Unlink { .. } => Refusal::Fault,
+            Deed::Rename { .. } | Deed::Unlink { .. } => Refusal::Fault,
         }
     }
 }

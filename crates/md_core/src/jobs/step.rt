@@ -49,12 +49,7 @@ impl DirReply {
     pub fn is_fault(self) -> bool
         ensures { result ≡ is_fault_by self }
     {
-        match self {
-            DirReply::Fault => true,
-            DirReply::Ok => false,
-            DirReply::Exists => false,
-            DirReply::NotFound => false,
-        }
+        matches!(self, DirReply::Fault)
     }
 }
 

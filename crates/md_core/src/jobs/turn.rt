@@ -1,5 +1,5 @@
 //! What one turn of a job gave.
-ghost use Rattle.std.specs.Prelude.{◌≡◌, IfOk, IfErr, OnErr, MatchResult, Some, None, false, true};
+ghost use Rattle.std.specs.Prelude.{◌≡◌, IfOk, IfErr, OnErr, MatchResult, Some, None, false, true, is_some};
 ghost use Rattle.md_core.specs.Turn.{reply_from, Looks, IsUntouched};
 
 use crate::error::CoreError;
@@ -20,45 +20,34 @@ impl Turned {
     pub(crate) fn plain(call: DirCall, reply: DirReply, answer: Option<Answer>) -> Turned
         ensures { result ≡ record { out = record { call = call; reply = reply; answer = answer; effect = false }; effect = None } }
     {
-        Turned {
-            out: StepOut {
-                call,
-                reply,
-                answer,
-                effect: false,
-            },
-            effect: None,
-        }
+        Turned::of(call, reply, answer, None)
     }
 
     /// A turn that is the effect of a job which goes on.
     pub(crate) fn acted(call: DirCall, reply: DirReply, effect: Effect) -> Turned
         ensures { result ≡ record { out = record { call = call; reply = reply; answer = None; effect = true }; effect = Some effect } }
     {
-        Turned {
-            out: StepOut {
-                call,
-                reply,
-                answer: None,
-                effect: true,
-            },
-            effect: Some(effect),
-        }
+        Turned::of(call, reply, None, Some(effect))
     }
 
     /// A turn that is the effect of a job which ends with its answer.
     pub(crate) fn ended(call: DirCall, reply: DirReply, effect: Effect) -> Turned
         ensures { result ≡ record { out = record { call = call; reply = reply; answer = Some effect.answer; effect = true }; effect = Some effect } }
     {
-        Turned {
-            out: StepOut {
-                call,
-                reply,
-                answer: Some(effect.answer),
-                effect: true,
-            },
-            effect: Some(effect),
-        }
+        Turned::of(call, reply, Some(effect.answer), Some(effect))
+    }
+
+    // A turn with this answer and this effect, where there is one.
+    fn of(call: DirCall, reply: DirReply, answer: Option<Answer>, effect: Option<Effect>) -> Turned
+        ensures { result ≡ record { out = record { call = call; reply = reply; answer = answer; effect = is_some effect }; effect = effect } }
+    {
+        let out = StepOut {
+            call,
+            reply,
+            answer,
+            effect: effect.is_some(),
+        };
+        Turned { out, effect }
     }
 }
 

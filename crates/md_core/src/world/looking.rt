@@ -134,13 +134,8 @@ pub(crate) fn look<D: Dirs>(alloc: Global, dirs: &D) -> Result<Looked, CoreError
         look_in(dirs, folder, Place::New, &mut seen)?;
         look_in(dirs, folder, Place::Cur, &mut seen)?;
     }
-    let Seen {
-        messages,
-        tmp,
-        clock,
-    } = seen;
     Ok(Looked {
-        used: UsedNames::of(messages, tmp),
-        clock,
+        used: UsedNames::of(seen.messages, seen.tmp),
+        clock: seen.clock,
     })
 }

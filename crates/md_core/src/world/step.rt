@@ -37,10 +37,7 @@ impl<D: Dirs> World<D> {
     pub fn refusal(&self, job: JobId) -> Option<CoreError>
         ensures { result ≡ step_refusal (job_at (jobs_of self.now) job) }
     {
-        match unanswered(&self.jobs, job) {
-            Ok(_) => None,
-            Err(error) => Some(error),
-        }
+        unanswered(&self.jobs, job).err()
     }
 
     /// Makes the next directory call of a job, at a moment in seconds: the clock becomes the greater of itself and `now`, and stamps what is
