@@ -1,5 +1,5 @@
 //! A clean: files of tmp that have not been used for 36 hours go.
-ghost use Rattle.std.specs.Prelude.{◌≡◌, [], ◌∷◌, IfOk, IfErr, OnErr, MatchOption, None, length};
+ghost use Rattle.std.specs.Prelude.{◌≡◌, IfOk, IfErr, OnErr, None};
 ghost use Rattle.md_core.specs.Tasks.Cleaning.{Remove};
 ghost use Rattle.md_core.specs.Turn.{Takes, IsUntouched};
 ghost use Rattle.md_core.specs.Machines.Clean.{new_cleaning, cleaning_turn, look_turn, unlink_turn, is_old as is_old_by, old_rows as old_rows_by, after_old, after_unlink, tmp as tmp_of};
@@ -12,6 +12,7 @@ use crate::jobs::step::{DirCall, DirReply, Moment};
 use crate::jobs::turn::{Turned, reply_of};
 use md_dirs::{Bytes, Dirs, Path, Place, Row};
 use std::alloc::{AllocError, Global};
+use std::collections::VecDeque;
 use std::marker::Model;
 
 /// A file of tmp that was not used for 36 hours, in seconds, is old (maildir(5)).
@@ -19,52 +20,17 @@ const LEAST_SECONDS: u64 = 129_600;
 
 const LIST: DirCall = DirCall::List(Place::Tmp);
 
-/// Rows that are taken one by one, in their order.
-#[derive(Debug, Drop)]
-pub struct Rows {
-    // The last comes first here, so that the next is popped.
-    items: Vec<Row>,
-}
-
-impl Model for Rows {
-    ghost use Rattle.std.specs.Prelude.{List, reverse};
-    ghost use Rattle.md_dirs.specs.declared.rows.Row.{Row as row};
-
-    ghost Value = { List row };
-
-    ghost view = { λ r. reverse r.items.items };
-}
-
-impl Rows {
-    // These rows, none taken yet.
-    fn of(mut items: Vec<Row>) -> Rows
-        ensures { result ≡ items.items }
-    {
-        items.reverse();
-        Rows { items }
-    }
-
-    // Takes the next row, if one is left.
-    fn next(&mut self) -> Option<Row>
-        ensures { MatchOption result ((self.old ≡ []) × (self.new ≡ [])) (λ row. self.old ≡ row ∷ self.new) }
-    {
-        self.items.pop()
-    }
-
-    fn len(&self) -> u64
-        ensures { result ≡ length self.now }
-    {
-        self.items.len() as u64
-    }
-}
-
 /// How far a clean has come.
 #[derive(Debug, Drop)]
 pub enum Stage {
     /// The directory is listed.
     Look,
     /// This name is taken away, and then the rest. So many files will be removed by then, if none is gone before.
-    Remove { name: Bytes, rest: Rows, files: u64 },
+    Remove {
+        name: Bytes,
+        rest: VecDeque<Row>,
+        files: u64,
+    },
 }
 
 /// A clean of a folder.
@@ -91,11 +57,11 @@ fn is_old(own: u64, row: &Row) -> bool
 }
 
 // The rows of old files.
-fn old_rows(own: u64, mut rows: Vec<Row>) -> Rows
-    ensures { result ≡ old_rows_by own rows.items }
+fn old_rows(own: u64, mut rows: Vec<Row>) -> VecDeque<Row>
+    ensures { result.items ≡ old_rows_by own rows.items }
 {
     rows.retain(|row| is_old(own, row));
-    Rows::of(rows)
+    VecDeque::from_vec(rows)
 }
 
 impl Cleaning {
@@ -178,11 +144,11 @@ impl Cleaning {
     }
 
     // A listing was made, and these rows are of old files.
-    fn listed(&mut self, mut old: Rows) -> Option<Answer>
-        ensures { after_old self.old old ≡ record { task = self.new; answer = result; effect = None } }
+    fn listed(&mut self, mut old: VecDeque<Row>) -> Option<Answer>
+        ensures { after_old self.old old.items ≡ record { task = self.new; answer = result; effect = None } }
     {
-        let files = old.len();
-        let Some(row) = old.next() else {
+        let files = old.len() as u64;
+        let Some(row) = old.pop_front() else {
             return Some(Answer::Cleaned(files));
         };
         self.stage = Stage::Remove {
@@ -206,7 +172,7 @@ impl Cleaning {
             DirReply::NotFound => files.saturating_sub(1),
             DirReply::Exists | DirReply::Fault => return Some(Refusal::Fault.answer()),
         };
-        let Some(row) = rest.next() else {
+        let Some(row) = rest.pop_front() else {
             return Some(Answer::Cleaned(left));
         };
         *name = row.name;

@@ -25,4 +25,4 @@ delivery_stage (delivery_at.Undo refusal) = delivery.Undo (refusal_view refusal)
 -- how far a clean has come, as the definitions see it
 abbrev pub cleaning_stage : CleaningStage → cleaning.Stage
 cleaning_stage cleaning_at.Look = cleaning.Look
-cleaning_stage (cleaning_at.Remove name rest files) = cleaning.Remove name rest files
+cleaning_stage (cleaning_at.Remove name rest files) = cleaning.Remove name rest.items files
