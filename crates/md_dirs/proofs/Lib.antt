@@ -17,3 +17,5 @@ pub mod Directories
 pub mod Sliced
 pub mod Looked
 pub mod Blocked
+pub mod Keys
+pub mod Keyed

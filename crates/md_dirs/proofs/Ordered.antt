@@ -29,7 +29,7 @@ Rows = List (List ℕ × ℕ)
 abbrev pub listed : Rows → Rows
 listed rows = finmap.entries {R = name_cmp} (finmap.from_entries rows)
 
-by_number : {C : Type 0} (j k : ℕ) → (j ≡ k → C) → (j ≢ k → C) → C
+pub by_number : {C : Type 0} (j k : ℕ) → (j ≡ k → C) → (j ≢ k → C) → C
 by_number {C = C} j k is not_is = elim (nat_eq j k) as (λ b. nat_eq j k ≡ b → C) [
   | true ↦ λ t. is (let e : j ≡ k = grind (arith, nat_tests) in e)
   | false ↦ λ t. not_is (let e : j ≢ k = grind (arith, nat_tests) in e)
@@ -61,7 +61,7 @@ module _ (rows : Rows) (order : List ℕ) (is : IsOrderOf rows order) where
   pub long : length order ≡ length (listed rows)
   long = sym (length-at rows order) ∙ ap length is.lists
 
-  at-place : (k : ℕ) → k < length order → get_or (listed rows) k ([], 0) ≡ get_or rows (get_or order k 0) ([], 0)
+  pub at-place : (k : ℕ) → k < length order → get_or (listed rows) k ([], 0) ≡ get_or rows (get_or order k 0) ([], 0)
   at-place k h = ap (λ xs. get_or xs k ([], 0)) (sym is.lists) ∙ at-order rows order k h
 
   -- a name that is not there comes to its place
@@ -105,6 +105,10 @@ module _ (rows : Rows) (order : List ℕ) (is : IsOrderOf rows order) where
       ∙ row-file (listed rows) name at (get_or (listed rows) at ([], 0)) there (get_or_default (listed rows) at ([], 0) (get_or (listed rows) at
       ([], 0)) there.within)
       ∙ ap (λ (e : List ℕ × ℕ). Some e.1) (at-place at h)
+
+  -- the row of a name's place is in the table
+  pub in-table : (name : List ℕ) (at : ℕ) → IsAt name_cmp (listed rows) name at → get_or order at 0 < length rows
+  in-table name at there = is.within at 0 (omega (arith, there.within, long))
 
   earlier : (j k : ℕ) → j < k → k < length order → get_or order j 0 ≢ get_or order k 0
   earlier j k lt within alike =
@@ -347,15 +351,20 @@ renumbered (e ∷ es) k v (suc g) d within key =
     ap (λ b. cond b ((e.0, v) ∷ es) (e ∷ insert_entry same es k v)) differs
     ∙ ap (λ xs. e ∷ xs) (renumbered es k v g d.1 (omega arith) key)
 
+-- the rows behind that
+pub renumbered-row : (es fs : List Row) (order : List ℕ) (k : List ℕ) (v at : ℕ) → IsOrderOf es order → Differ es →
+    IsAt name_cmp (listed es) k at → fs ≡ insert_entry same es k v → fs ≡ slice_set es (get_or order at 0) (k, v)
+renumbered-row es fs order k v at is differ there made =
+    let h : at < length order = omega (arith, there.within, long es order is) in
+    made ∙ renumbered es k v (get_or order at 0) differ (is.within at 0 h) (key-at es order is k at there)
+
 pub renumber : (es fs : List Row) (order : List ℕ) (k : List ℕ) (v at : ℕ) → IsOrderOf es order → Differ es →
     IsAt name_cmp (listed es) k at → fs ≡ insert_entry same es k v
     → finmap.from_entries {R = name_cmp} fs ≡ finmap.insert (finmap.from_entries es) k v →
     IsOrderOf fs order
 renumber es fs order k v at is differ there made view =
     let h : at < length order = omega (arith, there.within, long es order is) in
-    let rows : fs ≡ slice_set es (get_or order at 0) (k, v) =
-    made ∙ renumbered es k v (get_or order at 0) differ (is.within at 0 h) (key-at
-    es order is k at there) in
+    let rows = renumbered-row es fs order k v at is differ there made in
     subst (λ xs. IsOrderOf xs order) (sym rows)
     (replace es order is at (k, v) h
     (sym (there.replaced v) ∙ sym (entries-insert name_total (finmap.from_entries es) k v) ∙ ap finmap.entries (sym view) ∙
@@ -386,11 +395,11 @@ read es i r is =
     let at = get-within es i r is in
     get_or_default es i ([], 0) r at.0 ∙ at.1
 
--- a row goes, and the last takes its position
-swapped : (es : List Row) (g : ℕ) (p : Row) → g < length es →
-    swap_remove es g p ≡ take (length es - 1) (slice_set es g (get_or es (length es - 1) ([], 0)))
-swapped es g p within =
-    ap (λ x. take (length es - 1) (slice_set es g x)) (get_or_default es (length es - 1) p ([], 0) (omega (arith, within)))
+-- one goes, and the last takes its position
+pub swapped : {X : Type 0} (xs : List X) (g : ℕ) (p d : X) → g < length xs →
+    swap_remove xs g p ≡ take (length xs - 1) (slice_set xs g (get_or xs (length xs - 1) d))
+swapped xs g p d within =
+    ap (λ x. take (length xs - 1) (slice_set xs g x)) (get_or_default xs (length xs - 1) p d (omega (arith, within)))
 
 pub go-row : (es fs : List Row) (order : List ℕ) (name end : List ℕ) (at moved : ℕ) (p : Row) → IsOrderOf es order → Differ es →
     IsAt name_cmp (listed es) name at → IsAt name_cmp (listed es) end moved →
@@ -403,7 +412,7 @@ go-row es fs order name end at moved p is differ there there' key made view =
     let here : at < length order = omega (arith, there.within, l) in
     let here' : moved < length order = omega (arith, there'.within, l) in
     let small : get_or order at 0 < length es = is.within at 0 here in
-    let rows = made ∙ swapped es (get_or order at 0) p small in
+    let rows = made ∙ swapped es (get_or order at 0) p ([], 0) small in
     subst (λ xs. IsOrderOf xs (remove (slice_set order moved (get_or order at 0)) at)) (sym rows)
     (go es order is at moved (length es - 1) here here' (place-is es order is end moved (length es - 1) differ there' (omega
     (arith, small)) key)

@@ -4,6 +4,7 @@ pub mod Calls
 pub mod Rows
 pub mod Image
 pub mod Laws
+pub mod Keys
 pub mod Plain
 pub mod Failing
 pub mod Index

@@ -1,4 +1,5 @@
 // Directories as one hash table for each with the order of its names, and the files in the order of their making.
+mod key;
 mod load;
 mod loose;
 mod names;

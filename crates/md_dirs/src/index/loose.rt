@@ -1,8 +1,10 @@
 // Names in the order of their coming, before they are sorted.
 ghost use Rattle.std.specs.Prelude.{◌≡◌, ◌<◌, ◌^◌, ℕ, OnOk, OnErr, IfOk, EachIndex, slice_index_or, length, vec_len};
 ghost use Rattle.std.specs.FinMap as finmap;
+ghost use Rattle.md_dirs.specs.Keys.{AreKeysOf};
 ghost use Rattle.md_dirs.specs.Index.{directory_at};
 
+use crate::index::key::key_of;
 use crate::index::names::Names;
 use crate::index::positions::Positions;
 use crate::index::tree::Tree;
@@ -41,6 +43,22 @@ fn in_turn(alloc: Global, count: usize) -> Result<Positions, AllocError>
     Ok(order)
 }
 
+// The sort key of each row.
+fn keys_of_rows(
+    alloc: Global,
+    rows: &IndexMap<NameKey<'static>, usize>,
+) -> Result<Vec<u128>, AllocError>
+    ensures { IfOk result (λ keys. AreKeysOf rows.now.entries keys.items) }
+{
+    let count = rows.len();
+    let mut keys = Vec::with_capacity(alloc, count)?;
+    for at in 0..count {
+        let (name, _) = rows.get_index(at).unwrap();
+        keys.push(key_of(name.as_slice()))?;
+    }
+    Ok(keys)
+}
+
 impl LooseNames {
     fn new(alloc: Global) -> Self
         ensures { result ≡ finmap.empty }
@@ -71,8 +89,9 @@ impl LooseNames {
     {
         let LooseNames { mut rows } = self;
         rows.sort_unstable_keys()?;
+        let keys = keys_of_rows(alloc, &rows)?;
         let order = in_turn(alloc, rows.len())?;
-        Ok(Names { rows, order })
+        Ok(Names { rows, keys, order })
     }
 }
 

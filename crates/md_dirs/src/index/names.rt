@@ -6,10 +6,12 @@ ghost use Rattle.md_dirs.specs.State.{file_by};
 ghost use Rattle.md_dirs.specs.Files.{files_of, name_row};
 ghost use Rattle.md_dirs.specs.Rows.{is_named as is_named_by};
 ghost use Rattle.md_dirs.specs.Plain.{IsAt, IsGap};
+ghost use Rattle.md_dirs.specs.Keys.{IsKeyOf};
 ghost use Rattle.md_dirs.specs.Index.{name_cmp, order_at, FitsAt, get_name, Renames};
 
 use crate::files::{Kept, shown_row};
 use crate::finding::{Edge, InOrder, edge_place};
+use crate::index::key::key_of;
 use crate::index::positions::Positions;
 use crate::name_key::NameKey;
 use crate::rows::{Row, is_named};
@@ -18,17 +20,22 @@ use std::alloc::{AllocError, Global};
 use std::cmp::Ordering;
 use std::marker::Model;
 
-/// The names of one directory, each with the number of its file: a hash table, and the positions of its rows in order of the
-/// names.
+/// The names of one directory, each with the number of its file: a hash table, the sort key of each of its rows, and the
+/// positions of its rows in order of the names.
+///
+/// A search compares sort keys, which stand side by side, and reads a name only where they are equal: a name is reached by two
+/// addresses.
 #[derive(Drop)]
 pub struct Names {
     pub(crate) rows: IndexMap<NameKey<'static>, usize>,
+    pub(crate) keys: Vec<u128>,
     pub(crate) order: Positions,
 }
 
 impl Model for Names {
     ghost use Rattle.std.specs.FinMap.{from_entries};
-    ghost use Rattle.md_dirs.specs.Index.{NameMap, name_code, IsOrderOf};
+    ghost use Rattle.md_dirs.specs.Index.{NameMap, name_code};
+    ghost use Rattle.md_dirs.specs.Keys.{IsIndexOf};
 
     ghost Value = { NameMap };
 
@@ -36,7 +43,7 @@ impl Model for Names {
 
     ghost view = { λ d. from_entries d.rows.entries };
 
-    ghost invariant = { λ d. IsOrderOf d.rows.entries d.order };
+    ghost invariant = { λ d. IsIndexOf d.rows.entries d.keys.items d.order };
 }
 
 // Puts a row in the place of one, which goes.
@@ -66,6 +73,7 @@ impl Names {
     {
         Names {
             rows: IndexMap::new(alloc),
+            keys: Vec::new(alloc),
             order: Positions::new(alloc),
         }
     }
@@ -79,12 +87,17 @@ impl Names {
         (name.as_slice(), *file)
     }
 
-    // How the row at a position compares with a name.
-    fn compare_at(&self, at: usize, name: &[u8]) -> Ordering
-        requires { at < length (finmap.entries self.now) }
+    // How the row at a position compares with a name of a key: by the keys, and where these are equal by the names.
+    fn compare_at(&self, at: usize, key: u128, name: &[u8]) -> Ordering
+        requires within { at < length (finmap.entries self.now) }
+        requires key { IsKeyOf key name.now }
         ensures { result ≡ order_at (finmap.entries self.now) at name.now }
     {
-        self.row(at).0.cmp(name)
+        let row = self.order.get(at);
+        match self.keys[row].cmp(&key) {
+            Ordering::Equal => self.row(at).0.cmp(name),
+            differs => differs,
+        }
     }
 
     // Where the row of a name is, or where it would go, by halving.
@@ -92,15 +105,16 @@ impl Names {
         ensures found { IfOk result (IsAt name_cmp (finmap.entries self.now) name.now) }
         ensures absent { IfErr result (IsGap name_cmp (finmap.entries self.now) name.now) }
     {
+        let key = key_of(name);
         let mut low = 0;
         let mut high = self.count();
         // Names come in the order of time, so the last row is looked at first.
-        if high > 0 && self.compare_at(high - 1, name).is_lt() {
+        if high > 0 && self.compare_at(high - 1, key, name).is_lt() {
             return Err(high);
         }
         while low < high {
             let middle = low + (high - low) / 2;
-            match self.compare_at(middle, name) {
+            match self.compare_at(middle, key, name) {
                 Ordering::Less => low = middle + 1,
                 Ordering::Equal => return Ok(middle),
                 Ordering::Greater => high = middle,
@@ -133,14 +147,15 @@ impl Names {
         self.search(name).ok()
     }
 
-    // Whether a name may take the place of the row at a position: it is above the row before and below the row after.
-    fn keeps_place(&self, at: usize, name: &[u8]) -> bool
-        requires { at < length (finmap.entries self.now) }
+    // Whether a name of a key may take the place of the row at a position: it is above the row before and below the row after.
+    fn keeps_place(&self, at: usize, key: u128, name: &[u8]) -> bool
+        requires within { at < length (finmap.entries self.now) }
+        requires key { IsKeyOf key name.now }
         ensures { IsTrue result → FitsAt (finmap.entries self.now) at name.now }
     {
         let count = self.count();
-        let is_after = at == 0 || self.compare_at(at - 1, name).is_lt();
-        is_after && (at + 1 == count || self.compare_at(at + 1, name).is_gt())
+        let is_after = at == 0 || self.compare_at(at - 1, key, name).is_lt();
+        is_after && (at + 1 == count || self.compare_at(at + 1, key, name).is_gt())
     }
 
     /// The number of the file of a name.
@@ -162,7 +177,9 @@ impl Names {
             return Ok(());
         };
         self.rows.reserve(1)?;
+        self.keys.reserve(1)?;
         self.order.insert(at, last)?;
+        self.keys.push_reserved(key_of(name.as_slice()));
         let Ok(_none) = self.rows.insert(name, file) else {
             unreachable!();
         };
@@ -185,6 +202,7 @@ impl Names {
         let moved = self.place_of(key.as_slice());
         self.order.set(moved, gone);
         self.order.remove(at);
+        self.keys.swap_remove(gone);
         let (_, file) = self.rows.swap_remove_index(gone).unwrap();
         Some(file)
     }
@@ -202,9 +220,11 @@ impl Names {
         ensures err { OnErr result (self.new ≡ self.old) }
     {
         if let Some(at) = self.hashed_place(old) {
-            if self.keeps_place(at, new.as_slice()) {
+            let key = key_of(new.as_slice());
+            if self.keeps_place(at, key, new.as_slice()) {
                 let row = self.order.get(at);
                 replace_row(&mut self.rows, row, new, file)?;
+                self.keys[row] = key;
                 return Ok(());
             }
         }

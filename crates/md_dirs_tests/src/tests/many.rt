@@ -6,7 +6,8 @@ use std::alloc::{AllocError, Global};
 use std::process::Abort;
 
 // The name of a number, its digits from the last to the first. There are four shapes: alike in more than 16 bytes, shorter than
-// that, and with bytes 0 or 255 in front; and each third ends with a byte 0.
+// that, and with bytes 0 or 255 in front; and each comes with a byte 0 behind it too, so that a short name and a longer one have
+// one sort key.
 fn name_of(alloc: Global, number: u32) -> Result<Vec<u8>, AllocError> {
     let mut name = Vec::new(alloc);
     match number % 4 {
@@ -15,12 +16,12 @@ fn name_of(alloc: Global, number: u32) -> Result<Vec<u8>, AllocError> {
         2 => name.extend_from_slice(b"\x00\x00")?,
         _ => name.extend_from_slice(b"\xff\xff")?,
     }
-    let mut left = number / 4;
+    let mut left = number / 8;
     for _ in 0..4 {
         name.push(b'0' + (left % 10) as u8)?;
         left /= 10;
     }
-    if number % 3 == 0 {
+    if number / 4 % 2 == 1 {
         name.push(0)?;
     }
     Ok(name)

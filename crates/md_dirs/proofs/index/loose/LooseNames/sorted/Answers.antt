@@ -7,8 +7,11 @@ pub invariant_of-result : goal.invariant_of-result
 invariant_of-result c =
     let done = c.in_ok-sort_unstable_keys.ensures in
     let es = c.sort_unstable_keys.new.self.entries in
-    in-turn es c.in_ok-order.order (rising es done.sorted done.unique)
-    (omega (arith, c.in_ok-order.ensures.long, c.len.ensures.len)) (λ k h. c.in_ok-order.ensures.each k h)
+    record {
+      keyed = c.in_ok-keys.ensures;
+      ordered = in-turn es c.in_ok-order.order (rising es done.sorted done.unique)
+          (omega (arith, c.in_ok-order.ensures.long, c.len.ensures.len)) (λ k h. c.in_ok-order.ensures.each k h);
+    }
 
 pub returns : goal.returns
 returns c =

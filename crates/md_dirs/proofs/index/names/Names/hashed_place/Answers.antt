@@ -11,5 +11,5 @@ returns-then-get-row c =
     let own : get_or order c.in_ok-row.row 0 ≡ c.in_ok-row.row = sym c.get.ensures ∙ c.if-get-row.true in
     let key = found-key c.lent-key.result es c.in_ok-row.field-0-1.now c.in_ok-row.ensures.key ∙ c.lent-key.ensures in
     rw (← c.self.view_is)
-    (at-itself es order c.args.name.now c.in_ok-row.row (c.in_ok-row.field-0-1.now, c.in_ok-row.field-0-2.now) c.self.invariant within own
+    (at-itself es order c.args.name.now c.in_ok-row.row (c.in_ok-row.field-0-1.now, c.in_ok-row.field-0-2.now) c.self.invariant.ordered within own
     c.in_ok-row.ensures.entry key)

@@ -1,10 +1,11 @@
-use Rattle.std.proofs.Common.{◌≡◌, ◌∙◌, None, sym, ap, insert, List}
+use Rattle.std.proofs.Common.{◌≡◌, ◌∙◌, ◌++◌, ◌∷◌, [], ℕ, None, sym, ap, insert, get_or, List}
 use Rattle.std.specs.FinMap as finmap
 use Rattle.std.specs.FinMap.{from_entries, get-entries}
 use Rattle.indexmap.proofs.CallerLemmas.{insert_entry-new}
 use Rattle.md_dirs.specs.Index.{name_cmp, get_name}
 use Rattle.md_dirs.proofs.NameRows.{Row, get-loose, put-loose}
-use Rattle.md_dirs.proofs.Ordered.{come, renumber}
+use Rattle.md_dirs.proofs.Keyed.{key-comes, key-stays}
+use Rattle.md_dirs.proofs.Ordered.{come, renumber, renumbered-row, in-table, key-at}
 use Rattle.md_dirs.proofs.index.names.Names.put.Goals as goal
 
 pub returns-in_default-clause-ok : goal.returns-in_default-clause-ok
@@ -14,10 +15,20 @@ returns-in_default-clause-ok c =
 pub invariant_of-self-in_default : goal.invariant_of-self-in_default
 invariant_of-self-in_default c =
     let es = c.self.inside.rows.entries in
+    let fs = c.insert.new.self.entries in
+    let order = c.self.inside.order in
+    let is = c.self.invariant.ordered in
+    let name = c.args.name in
+    let at = c.in_default.field-0 in
     let there = rw (c.as_slice.ensures, ← c.self.view_is) at c.in_default.ensures.found in
-    renumber es c.insert.new.self.entries c.self.inside.order c.args.name c.args.file c.in_default.field-0 c.self.invariant
-    c.len-last.ensures.unique there c.in_ok-insert.ensures.entries
-    (put-loose es c.insert.new.self.entries c.args.name c.args.file c.in_ok-insert.ensures.updates.0)
+    let made = c.in_ok-insert.ensures.entries in
+    let differ = c.len-last.ensures.unique in
+    record {
+      keyed = rw (renumbered-row es fs order name c.args.file at is differ there made)
+          (key-stays es c.self.inside.keys.items c.self.invariant.keyed (get_or order at 0) name c.args.file (in-table es order is name at there)
+          (key-at es order is name at there));
+      ordered = renumber es fs order name c.args.file at is differ there made (put-loose es fs name c.args.file c.in_ok-insert.ensures.updates.0);
+    }
 
 pub returns-clause-ok : goal.returns-clause-ok
 returns-clause-ok c =
@@ -37,4 +48,10 @@ invariant_of-self-2 c =
     get-entries (from_entries {R = name_cmp} es) c.args.name ∙ gap.absent in
     let pushed = c.in-Ok.ensures.entries ∙ insert_entry-new _ c.reserve.new.self c.args.name c.args.file none in
     let placed = c.in_ok-insert-2.ensures.ok ∙ ap (insert order c.in-Err.at) c.len-last.ensures.len in
-    rw (pushed, placed, reserved) (come es order c.self.invariant c.args.name c.args.file c.in-Err.at gap)
+    let key : c.push_reserved.new.self.items ≡ c.self.inside.keys.items ++ c.key_of.result ∷ [] =
+    c.push_reserved.ensures.items ∙ ap (λ (keys : List ℕ). keys ++ c.key_of.result ∷ []) c.reserve-2.ensures.items in
+    let is-key = rw c.as_slice-2.ensures at c.key_of.ensures in
+    rw (pushed, placed, reserved, key) (record {
+      keyed = key-comes es c.self.inside.keys.items c.self.invariant.keyed (c.args.name, c.args.file) c.key_of.result is-key;
+      ordered = come es order c.self.invariant.ordered c.args.name c.args.file c.in-Err.at gap;
+    })

@@ -1,7 +1,8 @@
 use Rattle.std.proofs.Common.{ℕ, List, [], ◌≡◌, ◌∙◌, sym, ap, slice_set, get_or}
 use Rattle.md_dirs.proofs.NameRows.{get-loose}
 use Rattle.md_dirs.proofs.Renamed.{renamed-is}
-use Rattle.md_dirs.proofs.Ordered.{rename-row, key-at, read}
+use Rattle.md_dirs.proofs.Keyed.{key-set}
+use Rattle.md_dirs.proofs.Ordered.{rename-row, in-table, key-at, read}
 use Rattle.md_dirs.proofs.index.names.Names.rename.Goals as goal
 use Rattle.md_dirs.proofs.index.names.Names.rename.Goals.{In_ok-replace_row}
 
@@ -20,7 +21,7 @@ returns-then-keeps_place-clause-ok c =
     let es = c.self.inside.rows.entries in
     let names = c.in_ok-replace_row.ensures.names in
     let there = rw (← c.self.view_is) at c.in-Some.ensures in
-    let key = key-at es c.self.inside.order c.self.invariant c.args.old.now c.in-Some.at there in
+    let key = key-at es c.self.inside.order c.self.invariant.ordered c.args.old.now c.in-Some.at there in
     let stored : names.row.0 ≡ c.args.old.now = ap (λ (e : List ℕ × ℕ). e.0) (sym (read es c.get-row.result names.row names.at))
     ∙ ap (λ i. (get_or es i ([], 0)).0) (position (goal.at.returns-then-keeps_place-clause-ok c).In_ok-replace_row) ∙ key in
     rw (← c.self.view_is) (renamed-is es c.replace_row.new.rows.entries c.get-row.result c.args.old.now c.args.new c.args.file names stored)
@@ -28,9 +29,20 @@ returns-then-keeps_place-clause-ok c =
 pub invariant_of-self-then-keeps_place : goal.invariant_of-self-then-keeps_place
 invariant_of-self-then-keeps_place c =
     let es = c.self.inside.rows.entries in
+    let keys = c.self.inside.keys.items in
+    let order = c.self.inside.order in
+    let is = c.self.invariant.ordered in
+    let new : List ℕ × ℕ = (c.args.new, c.args.file) in
     let there = rw (← c.self.view_is) at c.in-Some.ensures in
     let none = rw (← c.self.view_is) at c.requires in
-    let fits = rw (c.as_slice.ensures, ← c.self.view_is) at (c.keeps_place.ensures c.if-keeps_place.true) in
+    let fits = rw (c.as_slice-in-Some.ensures, ← c.self.view_is) at (c.keeps_place.ensures c.if-keeps_place.true) in
     let view = rw (← c.self.view_is) at (returns-then-keeps_place-clause-ok c) in
-    rename-row es c.replace_row.new.rows.entries c.self.inside.order c.args.new c.args.file c.in-Some.at c.args.old.now c.self.invariant there fits none
-    (c.in_ok-replace_row.ensures.entries ∙ ap (λ i. slice_set es i (c.args.new, c.args.file)) (position c)) view
+    let row = position (goal.at.invariant_of-self-then-keeps_place c).In_ok-replace_row in
+    let made = c.in_ok-replace_row.ensures.entries ∙ ap (λ i. slice_set es i new) row in
+    let key = ap (λ i. slice_set keys i c.key_of-key.result) row in
+    let is-key = rw c.as_slice.ensures at c.key_of-key.ensures in
+    record {
+      keyed = rw (made, key) (key-set es keys c.self.invariant.keyed (get_or order c.in-Some.at 0) new c.key_of-key.result
+          (in-table es order is c.args.old.now c.in-Some.at there) is-key);
+      ordered = rename-row es c.replace_row.new.rows.entries order c.args.new c.args.file c.in-Some.at c.args.old.now is there fits none made view;
+    }

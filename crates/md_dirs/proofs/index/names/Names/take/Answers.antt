@@ -5,8 +5,9 @@ use Rattle.std.specs.FinMap as finmap
 use Rattle.std.specs.FinMap.{from_entries, get-entries}
 use Rattle.md_dirs.specs.Index.{name_cmp}
 use Rattle.lists.proofs.Maps.{drop-absent}
+use Rattle.md_dirs.proofs.Keyed.{key-goes}
 use Rattle.md_dirs.proofs.NameRows.{name_total, name_exact, get-loose, taken-loose}
-use Rattle.md_dirs.proofs.Ordered.{key-at, file-at, read, go-row}
+use Rattle.md_dirs.proofs.Ordered.{key-at, file-at, in-table, read, go-row}
 use Rattle.md_dirs.proofs.index.names.Names.take.Goals as goal
 use Rattle.md_dirs.proofs.index.names.Names.take.Goals.{Joined-unwrap}
 
@@ -39,7 +40,7 @@ pub returns-clause-file : goal.returns-clause-file
 returns-clause-file c =
     let es = c.self.inside.rows.entries in
     let there = rw (← c.self.view_is) at c.in-Ok.ensures.found in
-    rw (← c.self.view_is) (sym (file-at es c.self.inside.order c.self.invariant c.args.name.now c.in-Ok.at there ∙
+    rw (← c.self.view_is) (sym (file-at es c.self.inside.order c.self.invariant.ordered c.args.name.now c.in-Ok.at there ∙
     ap (λ (e : List ℕ × ℕ). Some e.1) (taken c)))
 
 -- the names that are left
@@ -50,7 +51,7 @@ left c =
     let there = rw (← c.self.view_is) at c.in-Ok.ensures.found in
     let gone = rw c.unwrap-file.ensures at c.swap_remove_index.ensures.updates in
     let key : c.unwrap-file.result.0 ≡ c.args.name.now = ap (λ (e : List ℕ × ℕ). e.0) (sym (taken c)) ∙
-    key-at es c.self.inside.order c.self.invariant c.args.name.now c.in-Ok.at there in
+    key-at es c.self.inside.order c.self.invariant.ordered c.args.name.now c.in-Ok.at there in
     taken-loose es c.swap_remove_index.new.self.entries c.unwrap-file.result.0 gone.0 ∙ ap (finmap.remove (from_entries es)) key
 
 pub returns-clause-gone : goal.returns-clause-gone
@@ -68,5 +69,13 @@ invariant_of-self c =
     let swapped = rw c.unwrap-file.ensures at c.swap_remove_index.ensures.entries in
     let made = swapped ∙ ap (λ i. swap_remove es i c.unwrap-file.result) (position c) in
     let rest = c.remove.ensures ∙ (λ i. remove ((c.set.ensures ∙ ap (slice_set order c.place_of-moved.result) (position c)) i) c.in-Ok.at) in
-    rw rest (go-row es c.swap_remove_index.new.self.entries order c.args.name.now c.unwrap.result.0.now c.in-Ok.at c.place_of-moved.result
-    c.unwrap-file.result c.self.invariant c.len-last.ensures.unique there there' (ap (λ (e : List ℕ × ℕ). e.0) end) made (left c))
+    let keys = c.self.inside.keys.items in
+    let fewer = c.swap_remove.ensures.items ∙ ap (λ i. swap_remove keys i c.swap_remove.result) (position c) in
+    let is = c.self.invariant.ordered in
+    let name = c.args.name.now in
+    record {
+      keyed = rw (made, fewer) (key-goes es keys (get_or order c.in-Ok.at 0) c.unwrap-file.result c.swap_remove.result
+          (in-table es order is name c.in-Ok.at there) c.self.invariant.keyed);
+      ordered = rw rest (go-row es c.swap_remove_index.new.self.entries order name c.unwrap.result.0.now c.in-Ok.at c.place_of-moved.result
+          c.unwrap-file.result is c.len-last.ensures.unique there there' (ap (λ (e : List ℕ × ℕ). e.0) end) made (left c));
+    }

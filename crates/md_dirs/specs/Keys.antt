@@ -1,0 +1,27 @@
+-- The sort key of a name: its first bytes as one number, the first byte highest, and zeros behind a shorter name.
+use Rattle.std.specs.Prelude.{ℕ, zero, suc, ◌≡◌, ◌<◌, ◌+◌, ◌*◌, ◌^◌, List, [], ◌∷◌, All, length, slice_index_or}
+use Rattle.md_dirs.specs.Index.{IsOrderOf}
+
+-- the first n bytes of a name
+unfoldable pub key_from : ℕ → List ℕ → ℕ
+key_from zero s = 0
+key_from (suc n) [] = 0
+key_from (suc n) (b ∷ s) = b * 256 ^ n + key_from n s
+
+abbrev pub AreBytes : List ℕ → Type 0
+AreBytes s = All (λ b. b < 2 ^ 8) s
+
+-- a number is the key of a name
+pub record IsKeyOf (number : ℕ) (name : List ℕ) : Type 0 where
+  pub key : number ≡ key_from 16 name
+  pub bytes : AreBytes name
+
+-- the keys of rows, each at the position of its row
+pub record AreKeysOf (rows : List (List ℕ × ℕ)) (keys : List ℕ) : Type 0 where
+  pub long : length keys ≡ length rows
+  pub each : (k : ℕ) → k < length rows → IsKeyOf (slice_index_or keys k 0) (slice_index_or rows k ([], 0)).0
+
+-- what stands beside a table of rows: the key of each, and their positions in order of names
+pub record IsIndexOf (rows : List (List ℕ × ℕ)) (keys order : List ℕ) : Type 0 where
+  pub keyed : AreKeysOf rows keys
+  pub ordered : IsOrderOf rows order

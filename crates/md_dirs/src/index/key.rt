@@ -1,0 +1,15 @@
+// The sort keys of names.
+ghost use Rattle.md_dirs.specs.Keys.{IsKeyOf};
+
+/// The sort key of a name: its first 16 bytes as one number, the first highest, and zeros behind a shorter name. Where the keys
+/// of two names differ, they go as the names do.
+pub fn key_of(name: &[u8]) -> u128
+    ensures { IsKeyOf result name.now }
+{
+    let mut key: u128 = 0;
+    for at in 0..16 {
+        let byte = name.get(at).copied().unwrap_or(0);
+        key = key * 256 + byte as u128;
+    }
+    key
+}
