@@ -6,6 +6,7 @@ mod command;
 mod digits;
 mod error;
 mod escapes;
+mod flags;
 mod folders;
 mod incoming;
 pub mod laws;
