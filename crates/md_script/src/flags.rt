@@ -5,6 +5,7 @@ ghost use Rattle.md_name.specs.Letters.{is_letter, spelling};
 ghost use Rattle.md_name.specs.Names.{split_of, flags_of, info_by};
 ghost use Rattle.md_script.specs.Texts.{letters_text, flags_by, flags_text};
 
+use crate::few::push_few;
 use md_name::{Flags, Info, split};
 use memchr::memchr;
 use std::alloc::{AllocError, Global};
@@ -61,7 +62,7 @@ fn push_spelled(out: &mut Vec<u8>, letters: &[u8]) -> Result<(), AllocError>
     if letters.is_empty() {
         out.push(NO_FLAGS)?;
     }
-    out.extend_from_slice(letters)
+    push_few(out, letters)
 }
 
 /// The letters of a message's flags where they stand in its name as they print: in ASCII order, each once. They nearly always do, and

@@ -6,6 +6,7 @@ mod command;
 mod digits;
 mod error;
 mod escapes;
+mod few;
 mod flags;
 mod folders;
 mod incoming;

@@ -3,6 +3,7 @@ ghost use Rattle.std.specs.Prelude.{◌≡◌, ◌++◌, OnOk};
 ghost use Rattle.md_script.specs.Texts.{place_text, entry_line, entries_text};
 
 use crate::digits::push_number;
+use crate::few::push_few;
 use crate::flags::push_flags;
 use md_dirs::Place;
 use md_view::{Entry, EntryRef};
@@ -39,7 +40,7 @@ pub(crate) fn push_lent_entries(
 fn push_entry(alloc: Global, out: &mut Vec<u8>, entry: &EntryRef<'_>) -> Result<(), AllocError>
     ensures { OnOk result (out.new.items ≡ out.old.items ++ entry_line entry.now) }
 {
-    out.extend_from_slice(place_text(entry.place()))?;
+    push_few(out, place_text(entry.place()))?;
     out.push(b' ')?;
     out.extend_from_slice(entry.unique())?;
     out.push(b' ')?;
