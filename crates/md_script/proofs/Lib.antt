@@ -10,6 +10,7 @@ pub mod Acts
 pub mod Opening
 pub mod Finishing
 pub mod Spelled
+pub mod Written
 pub mod Made
 pub mod Printing
 pub mod Kept

@@ -6,9 +6,14 @@ use itoa::Buffer;
 use std::alloc::AllocError;
 
 /// Appends a number in decimal.
+#[tactic(auto, using(std::proofs::lemmas::Fmt::decimal_digit))]
 pub(crate) fn push_number(out: &mut Vec<u8>, number: u64) -> Result<(), AllocError>
     ensures { OnOk result (out.new.items ≡ out.old.items ++ decimal number) }
 {
+    // One digit is its byte, with no buffer to print in.
+    if number < 10 {
+        return Ok(out.push(b'0' + number as u8)?);
+    }
     let mut buffer = Buffer::new();
     out.extend_from_slice(buffer.format(number).as_bytes())
 }

@@ -6,6 +6,8 @@ mod command;
 mod digits;
 mod error;
 mod escapes;
+mod few;
+mod flags;
 mod folders;
 mod incoming;
 pub mod laws;

@@ -4,7 +4,8 @@ ghost use Rattle.md_script.specs.Texts.{job_text, call_text, reply_text, answer_
 
 use crate::digits::push_number;
 use crate::escapes::push_escaped;
-use crate::listing::{place_text, push_letters};
+use crate::flags::push_letters;
+use crate::listing::place_text;
 use md_core::{Answer, DirCall, DirReply, JobId, StepOut};
 use std::alloc::{AllocError, Global};
 
