@@ -5,6 +5,7 @@ from __future__ import annotations
 import contextlib
 import io
 import os
+import signal
 import subprocess
 import sys
 import tempfile
@@ -23,6 +24,14 @@ from maildir_lib.language import Limits  # noqa: E402
 PLACES = (b"tmp", b"new", b"cur")
 NOBODY = 65534
 
+# What a process does at these where nobody asked for anything else. A shell has its background jobs
+# ignore Ctrl-C, and nohup a hangup, and a program that is started ignores what its parent does.
+USUAL_HANDLERS = {
+    signal.SIGINT: signal.default_int_handler,
+    signal.SIGTERM: signal.SIG_DFL,
+    signal.SIGHUP: signal.SIG_DFL,
+}
+
 
 class Run(NamedTuple):
     """How a run ended, and what it printed."""
@@ -40,9 +49,12 @@ class Kept(NamedTuple):
 
 
 class TreeTest(unittest.TestCase):
-    """A test with a scratch folder, which others may search."""
+    """A test with a scratch folder, which others may search. It meets signals as a program does that a
+    user starts, and so does what it starts."""
 
     def setUp(self) -> None:
+        for number, handler in USUAL_HANDLERS.items():
+            self.addCleanup(signal.signal, number, signal.signal(number, handler))
         scratch = tempfile.TemporaryDirectory()
         self.addCleanup(scratch.cleanup)
         os.chmod(scratch.name, 0o755)
