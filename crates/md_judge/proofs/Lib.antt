@@ -5,3 +5,4 @@ pub mod Afters
 pub mod Named
 pub mod Notes
 pub mod Lawful
+pub mod Comings

@@ -6,3 +6,4 @@ pub mod Known
 pub mod Found
 pub mod Files
 pub mod Recalls
+pub mod Messages

@@ -7,6 +7,7 @@ mod acts;
 mod befores;
 mod changes;
 mod clauses;
+mod comings;
 mod directories;
 mod facts;
 mod files;

@@ -1,6 +1,7 @@
 //! Changes of paths: the clauses that they break, and what is kept of them.
 use super::acts::Change;
-use super::befores::{line_before, mark_of};
+use super::befores::mark_of;
+use super::comings::{check_added, leaving};
 use super::directories::Spot;
 use super::flags::TRASHED;
 use super::known::{Act, Known};
@@ -17,48 +18,18 @@ impl Watch {
             Clause::Overwritten,
             act.turned_before,
         );
-        if let Some((spot, file)) = change.added {
-            self.check_added(known, spot, file, change.taken);
+        if let Some((spot, file)) = change.added
+            && let Some(unique) = known.unique_at(spot)
+        {
+            let leaving = leaving(known, change.taken, spot.folder, unique);
+            let message = self.mail.message((spot.folder, unique));
+            check_added(&mut self.found, message, file, leaving);
         }
         self.make(known, actor, change)?;
         if let Some((spot, file)) = change.taken {
             self.check_gone(known, spot, file, change.is_unlink);
         }
         Ok(())
-    }
-
-    /// A path is to be added: what its message has.
-    fn check_added(&mut self, known: &Known, spot: Spot, file: u32, taken: Option<(Spot, u32)>) {
-        let Some(unique) = known.unique_at(spot) else {
-            return;
-        };
-        let Some(message) = self.mail.message((spot.folder, unique)) else {
-            return;
-        };
-        let is_used = message.count == 0 && !message.was_file(file);
-        let has_more = if self.is_same_message(known, taken, spot.folder, unique) {
-            message.count > 1
-        } else {
-            message.count > 0
-        };
-        let gone = message.gone_at();
-        let there = line_before(message.since);
-        self.found.note(is_used, Clause::UsedAgain, gone);
-        self.found.note(has_more, Clause::TwoNames, there);
-    }
-
-    /// Whether a path that goes is one of the message.
-    fn is_same_message(
-        &self,
-        known: &Known,
-        taken: Option<(Spot, u32)>,
-        folder: u32,
-        unique: u32,
-    ) -> bool {
-        match taken {
-            None => false,
-            Some((spot, _)) => spot.folder == folder && known.unique_at(spot) == Some(unique),
-        }
     }
 
     /// A path was taken: whether a message is gone that may not go.
