@@ -1,5 +1,5 @@
--- What calls on paths do to the paths of a state, and where they overwrite one.
-use Rattle.std.proofs.Common.{ℕ, ◌≡◌, ◌≢◌, Bool, true, false, cond, Option, Some, None, refl, sym, ap, ◌∙◌, arith, length}
+-- What calls on paths do to the paths of a state: which they add, take and turn to another file.
+use Rattle.std.proofs.Common.{ℕ, ◌≡◌, ◌≢◌, ◌↔◌, ◌⊎◌, inl, inr, Bool, true, false, cond, Option, Some, None, IsSome, refl, sym, ap, subst, ◌∙◌, arith, length}
 use Rattle.std.specs.Ordering.{eq_by_cmp, is_eq}
 use Rattle.std.specs.Cmp.{Equal-is}
 use Rattle.std.specs.FinMap as finmap
@@ -16,59 +16,240 @@ use Rattle.md_log.specs.declared.line.Naming.{Naming}
 use Rattle.md_log.specs.declared.line.Naming.TheVariants as naming
 use Rattle.md_judge.specs.declared.judge.directories.Spot.{Spot}
 use Rattle.md_judge.specs.Told.{ask_between}
-use Rattle.md_judge.specs.Changes.{after_taken, Leads}
+use Rattle.md_judge.specs.declared.judge.acts.Change.{Change}
+use Rattle.md_judge.specs.Changes.{after_added, after_turned, after_taken, after_change, IsPathOf, IsTurnOf, Leads}
+use Rattle.md_judge.specs.Law.{Overwrites}
 
 -- which path goes with a link and with a rename
 abbrev pub taken_by : Naming → Spot → ℕ → Option (Spot × ℕ)
 taken_by naming.Link old file = None
 taken_by naming.Rename old file = Some (old, file)
 
-module _ (path : Spot → Path) (before : Path → Option ℕ) (q : Path) (m n : ℕ) (was : before q ≡ Some m) where
-  -- a path that is there before and after, and is not put, keeps its file
-  kept : (taken : Option (Spot × ℕ)) → after_taken path taken before q ≡ Some n → m ≡ n
-  kept None now = cc
-  kept (Some t) now = elim (eq_by_cmp path_cmp q (path t.0)) as (λ x. cond x None (before q) ≡ Some n → m ≡ n) [ true ↦ λ e. cc | false ↦ λ e. cc ] now
-
-  -- nor does one that was free before change it
-  beside : (taken : Option (Spot × ℕ)) (spot : Spot) (file : ℕ) → before (path spot) ≡ None
-      → cond (eq_by_cmp path_cmp q (path spot)) (Some file) (after_taken path taken before q) ≡ Some n → m ≡ n
-  beside taken spot file free now =
-      elim (eq_by_cmp path_cmp q (path spot)) as (λ t. eq_by_cmp path_cmp q (path spot) ≡ t → cond t (Some file) (after_taken path taken before q) ≡ Some n → m ≡ n) [
-        | true ↦ λ t e. let same : q ≡ path spot = path_exact q (path spot) ((Equal-is _).0 t) in let there = ap before same in cc
-        | false ↦ λ t e. kept taken e
-      ] refl now
-
 pub itself : (p : Path) → eq_by_cmp path_cmp p p ≡ true
 itself p = ap is_eq (tied_itself path_total p)
 
--- ---- from what paths name to the clause
+same : (p q : Path) → eq_by_cmp path_cmp p q ≡ true → p ≡ q
+same p q t = path_exact p q ((Equal-is _).0 t)
 
-module _ (path : Spot → Path) (s s' : State) (taken : Option (Spot × ℕ)) (is_unlink : Bool) where
+-- ---- which paths a change has
+
+-- The paths of a change are as it says before it, and only one of them comes to name a file.
+pub record Fits (path : Spot → Path) (c : Change) (before : Path → Option ℕ) : Type 0 where
+  pub free : (x : Spot) (n : ℕ) → c.added ≡ Some (x, n) → before (path x) ≡ None
+  pub there : (x : Spot) (m n : ℕ) → c.turned ≡ Some (x, m, n) → (before (path x) ≡ Some m) × (m ≢ n)
+  pub gone : (x : Spot) (n : ℕ) → c.taken ≡ Some (x, n) → before (path x) ≡ Some n
+  pub apart : (x y : Spot) (k m n : ℕ) → c.taken ≡ Some (x, k) → c.turned ≡ Some (y, m, n) → path x ≢ path y
+  pub one : (c.added ≡ None) ⊎ (c.turned ≡ None)
+
+-- a choice by whether two paths are one
+pick : {A : Type 0} (p q : Path) (a b : Option ℕ) → (p ≡ q → a ≡ b → A) → (c : Option ℕ) → ((p ≡ q → ⊥) → c ≡ b → A)
+    → cond (eq_by_cmp path_cmp p q) a c ≡ b → A
+pick {A = A} p q a b hit c miss is =
+    elim (eq_by_cmp path_cmp p q) as (λ t. eq_by_cmp path_cmp p q ≡ t → cond t a c ≡ b → A) [
+      | true ↦ λ t is. hit (same p q t) is
+      | false ↦ λ t is. miss (λ one. let tie : eq_by_cmp path_cmp p q ≡ true = ap (λ w. eq_by_cmp path_cmp p w) (sym one) ∙ itself p in cc) is
+    ] refl is
+
+-- the value of a choice
+chosen : (p q : Path) (a b : Option ℕ) → p ≡ q → cond (eq_by_cmp path_cmp p q) a b ≡ a
+chosen p q a b one = ap (λ w. cond (eq_by_cmp path_cmp p w) a b) (sym one) ∙ ap (λ t. cond t a b) (itself p)
+
+passed : (p q : Path) (a b : Option ℕ) → (p ≡ q → ⊥) → cond (eq_by_cmp path_cmp p q) a b ≡ b
+passed p q a b other =
+    elim (eq_by_cmp path_cmp p q) as (λ t. eq_by_cmp path_cmp p q ≡ t → cond t a b ≡ b) [
+      | true ↦ λ t. absurd (other (same p q t))
+      | false ↦ λ t. refl
+    ] refl
+
+module _ (path : Spot → Path) (before : Path → Option ℕ) (p : Path) where
+  -- what a path has that is taken, turned or added
+  by_taken : (t : Option (Spot × ℕ)) → ((x : Spot) (n : ℕ) → t ≡ Some (x, n) → before (path x) ≡ Some n)
+      → (m : ℕ) → before p ≡ Some m → after_taken path t before p ≡ None → IsPathOf path t p m
+  by_taken None there m was now = absurd (cc)
+  by_taken (Some t) there m was now = pick p (path t.0) None None
+      (λ one _. let at = there t.0 t.1 refl in let here : before p ≡ Some t.1 = ap before one ∙ at in let number : t.1 ≡ m = cc in (sym one, number))
+      (before p) (λ _ now. absurd (cc)) now
+
+  still_free : (t : Option (Spot × ℕ)) → before p ≡ None → after_taken path t before p ≡ None
+  still_free None free = free
+  still_free (Some t) free = elim (eq_by_cmp path_cmp p (path t.0)) as (λ b. cond b None (before p) ≡ None) [ true ↦ refl | false ↦ free ]
+
+  kept : (t : Option (Spot × ℕ)) (m n : ℕ) → before p ≡ Some m → after_taken path t before p ≡ Some n → m ≡ n
+  kept None m n was now = cc
+  kept (Some t) m n was now = pick p (path t.0) None (Some n) (λ _ is. absurd (cc)) (before p) (λ _ is. cc) now
+
+  turn_free : (t : Option (Spot × ℕ)) (u : Option (Spot × ℕ × ℕ)) → ((x : Spot) (m n : ℕ) → u ≡ Some (x, m, n) → (before (path x) ≡ Some m) × (m ≢ n))
+      → before p ≡ None → after_turned path u (after_taken path t before) p ≡ None
+  turn_free t None there free = still_free t free
+  turn_free t (Some u) there free =
+      passed p (path u.0) (Some u.2) _ (λ one. let at = there u.0 u.1 u.2 refl in let is : before p ≡ Some u.1 = ap before one ∙ at.0 in absurd (cc)) ∙ still_free t free
+
+  by_turned : (t : Option (Spot × ℕ)) (u : Option (Spot × ℕ × ℕ)) → ((x : Spot) (m n : ℕ) → u ≡ Some (x, m, n) → (before (path x) ≡ Some m) × (m ≢ n))
+      → (m n : ℕ) → before p ≡ Some m → m ≢ n → after_turned path u (after_taken path t before) p ≡ Some n → IsTurnOf path u p m n
+  by_turned t None there m n was differ now = absurd (differ (kept t m n was now))
+  by_turned t (Some u) there m n was differ now = pick p (path u.0) (Some u.2) (Some n)
+      (λ one is. let at = there u.0 u.1 u.2 refl in let here : before p ≡ Some u.1 = ap before one ∙ at.0 in
+      let old : u.1 ≡ m = cc in let new : u.2 ≡ n = cc in (sym one, old, new))
+      _ (λ _ is. absurd (differ (kept t m n was is))) now
+
+  gone_turned : (t : Option (Spot × ℕ)) (u : Option (Spot × ℕ × ℕ)) → after_turned path u (after_taken path t before) p ≡ None → after_taken path t before p ≡ None
+  gone_turned t None now = now
+  gone_turned t (Some u) now = pick p (path u.0) (Some u.2) None (λ _ is. absurd (cc)) _ (λ _ is. is) now
+
+  -- what was added names a path that was free
+  by_added : (c : Change) → Fits path c before → (n : ℕ) → before p ≡ None → after_change path c before p ≡ Some n → IsPathOf path c.added p n
+  by_added c fits n free = by c.added refl
+    where
+      rest : after_turned path c.turned (after_taken path c.taken before) p ≡ None
+      rest = turn_free c.taken c.turned fits.there free
+
+      by : (a : Option (Spot × ℕ)) → c.added ≡ a → after_added path a (after_turned path c.turned (after_taken path c.taken before)) p ≡ Some n → IsPathOf path a p n
+      by None is now = absurd (let none = rest in cc)
+      by (Some a) is now = pick p (path a.0) (Some a.1) (Some n) (λ one value. let number : a.1 ≡ n = cc in (sym one, number))
+          _ (λ _ value. absurd (let none = rest in cc)) now
+
+  -- a path that was there was not added
+  past_added : (c : Change) → Fits path c before → (m : ℕ) → before p ≡ Some m
+      → after_change path c before p ≡ after_turned path c.turned (after_taken path c.taken before) p
+  past_added c fits m was = by c.added refl
+    where
+      by : (a : Option (Spot × ℕ)) → c.added ≡ a → after_added path a (after_turned path c.turned (after_taken path c.taken before)) p
+          ≡ after_turned path c.turned (after_taken path c.taken before) p
+      by None is = refl
+      by (Some a) is = passed p (path a.0) (Some a.1) _ (λ one. let free = fits.free a.0 a.1 is in let none : before p ≡ None = ap before one ∙ free in cc)
+
+module _ (path : Spot → Path) (c : Change) (before : Path → Option ℕ) (fits : Fits path c before) where
+  now_added : (p : Path) (n : ℕ) → (a : Option (Spot × ℕ)) → c.added ≡ a → IsPathOf path a p n
+      → (before p ≡ None) × (after_added path a (after_turned path c.turned (after_taken path c.taken before)) p ≡ Some n)
+  now_added p n None is of = absurd of
+  now_added p n (Some a) is of =
+      (ap before (sym of.0) ∙ fits.free a.0 a.1 is, chosen p (path a.0) (Some a.1) _ (sym of.0) ∙ ap Some of.1)
+
+  now_turned : (p : Path) (m n : ℕ) → (u : Option (Spot × ℕ × ℕ)) → c.turned ≡ u → IsTurnOf path u p m n
+      → (before p ≡ Some m) × (after_turned path u (after_taken path c.taken before) p ≡ Some n) × (m ≢ n)
+  now_turned p m n None is of = absurd of
+  now_turned p m n (Some u) is of =
+      let at = fits.there u.0 u.1 u.2 is in
+      (ap before (sym of.0) ∙ at.0 ∙ ap Some of.1, chosen p (path u.0) (Some u.2) _ (sym of.0) ∙ ap Some of.2, λ e. at.1 (of.1 ∙ e ∙ sym of.2))
+
+  now_taken : (p : Path) (n : ℕ) → (t : Option (Spot × ℕ)) → c.taken ≡ t → IsPathOf path t p n → (before p ≡ Some n) × (after_taken path t before p ≡ None)
+  now_taken p n None is of = absurd of
+  now_taken p n (Some t) is of =
+      (ap before (sym of.0) ∙ fits.gone t.0 t.1 is ∙ ap Some of.1, chosen p (path t.0) None _ (sym of.0))
+
+  not_turned : (p : Path) (n : ℕ) → IsPathOf path c.taken p n → after_taken path c.taken before p ≡ None
+      → after_turned path c.turned (after_taken path c.taken before) p ≡ None
+  not_turned p n of gone = by c.taken refl c.turned refl of
+    where
+      by : (t : Option (Spot × ℕ)) → c.taken ≡ t → (u : Option (Spot × ℕ × ℕ)) → c.turned ≡ u → IsPathOf path t p n
+          → after_turned path u (after_taken path c.taken before) p ≡ None
+      by t is None is' of = gone
+      by None is (Some u) is' of = absurd of
+      by (Some t) is (Some u) is' of =
+          passed p (path u.0) (Some u.2) _ (λ one. fits.apart t.0 u.0 t.1 u.1 u.2 is is' (of.0 ∙ one)) ∙ gone
+
+-- what a change has leads to what there is
+pub leads : (path : Spot → Path) (c : Change) (s s' : State) → Fits path c (file_at s)
+    → ((q : Path) → file_at s' q ≡ after_change path c (file_at s) q) → Leads path c s s'
+leads path c s s' fits paths =
+    let was = file_at s in
+    record {
+      paths = paths;
+      added = λ p n. (
+        λ of. let a = now_added path c was fits p n c.added refl of in (a.0, paths p ∙ a.1),
+        λ h. by_added path was p c fits n h.0 (sym (paths p) ∙ h.1),
+      );
+      taken = λ p n. (
+        λ of. let t = now_taken path c was fits p n c.taken refl of in
+            (t.0, paths p ∙ past_added path was p c fits n t.0 ∙ not_turned path c was fits p n of t.1),
+        λ h. by_taken path was p c.taken fits.gone n h.0 (gone_turned path was p c.taken c.turned (sym (past_added path was p c fits n h.0) ∙ sym (paths p) ∙ h.1)),
+      );
+      turned = λ p m n. (
+        λ of. let u = now_turned path c was fits p m n c.turned refl of in (u.0, paths p ∙ past_added path was p c fits m u.0 ∙ u.1, u.2),
+        λ h. by_turned path was p c.taken c.turned fits.there m n h.0 h.2 (sym (past_added path was p c fits m h.0) ∙ sym (paths p) ∙ h.1),
+      );
+      one = fits.one;
+    }
+
+-- a path is turned just where one is overwritten
+pub overwrites : (path : Spot → Path) (c : Change) (s s' : State) → Leads path c s s' → IsSome c.turned ↔ Overwrites s s'
+overwrites path c s s' led = (λ some. to c.turned refl some, λ o. from c.turned o.0 o.1 o.2 ((led.turned o.0 o.1 o.2).1 (o.3, o.4, o.5)))
+  where
+    to : (u : Option (Spot × ℕ × ℕ)) → c.turned ≡ u → IsSome u → Overwrites s s'
+    to None is some = absurd (cc)
+    to (Some u) is some =
+        let of : IsTurnOf path c.turned (path u.0) u.1 u.2 =
+        subst (λ (o : Option (Spot × ℕ × ℕ)). IsTurnOf path o (path u.0) u.1 u.2) (sym is) (refl, refl, refl) in
+        let h = (led.turned (path u.0) u.1 u.2).0 of in (path u.0, u.1, u.2, h.0, h.1, h.2)
+
+    from : (u : Option (Spot × ℕ × ℕ)) (p : Path) (m n : ℕ) → IsTurnOf path u p m n → IsSome u
+    from None p m n of = absurd of
+    from (Some u) p m n of = refl
+
+-- two equal paths of changes
+pub same-path : (x y : Spot) (m n : ℕ) → ◌≡◌ {A = Option (Spot × ℕ)} (Some (x, m)) (Some (y, n)) → (x ≡ y) × (m ≡ n)
+same-path x y m n is =
+    let pair : ◌≡◌ {A = Spot × ℕ} (x, m) (y, n) = cc in
+    (ap (λ (t : Spot × ℕ). t.0) pair, ap (λ (t : Spot × ℕ). t.1) pair)
+
+same-turn : (x y : Spot) (m n k j : ℕ) → ◌≡◌ {A = Option (Spot × ℕ × ℕ)} (Some (x, m, n)) (Some (y, k, j)) → (x ≡ y) × (m ≡ k) × (n ≡ j)
+same-turn x y m n k j is =
+    let turn : ◌≡◌ {A = Spot × ℕ × ℕ} (x, m, n) (y, k, j) = cc in
+    (ap (λ (t : Spot × ℕ × ℕ). t.0) turn, ap (λ (t : Spot × ℕ × ℕ). t.1) turn, ap (λ (t : Spot × ℕ × ℕ). t.2) turn)
+
+-- no path is none
+pub never : (x : Spot) (n : ℕ) → ◌≡◌ {A = Option (Spot × ℕ)} None (Some (x, n)) → ⊥
+never x n is = cc
+
+never_turned : (x : Spot) (m n : ℕ) → ◌≡◌ {A = Option (Spot × ℕ × ℕ)} None (Some (x, m, n)) → ⊥
+never_turned x m n is = cc
+
+-- ---- from what paths name to the change that leads there
+
+module _ (path : Spot → Path) (s s' : State) (taken : Option (Spot × ℕ)) (is_unlink : Bool)
+    (gone : (x : Spot) (n : ℕ) → taken ≡ Some (x, n) → file_at s (path x) ≡ Some n) where
   -- a change that adds a path that was not there
   pub adds : (spot : Spot) (file : ℕ) → file_at s (path spot) ≡ None
       → ((q : Path) → file_at s' q ≡ cond (eq_by_cmp path_cmp q (path spot)) (Some file) (after_taken path taken (file_at s) q))
       → Leads path (record { taken = taken; added = Some (spot, file); turned = None; is_unlink = is_unlink }) s s'
-  adds spot file free leads = record {
-    paths = leads;
-    overwrites = (λ (some : false ≡ true). absurd (cc), λ o. absurd (o.5 (beside path (file_at s) o.0 o.1 o.2 o.3 taken spot file free (sym (leads o.0) ∙ o.4))));
-  }
+  adds spot file free paths = leads path _ s s' (record {
+    free = λ x n is. ap (λ w. file_at s (path w)) (sym (same-path spot x file n is).0) ∙ free;
+    there = λ x m n is. absurd (never_turned x m n is);
+    gone = gone;
+    apart = λ x y k m n is is'. absurd (never_turned y m n is');
+    one = inr refl;
+  }) paths
 
   -- a change that turns a path to another file
   pub turns : (spot : Spot) (old file : ℕ) → file_at s (path spot) ≡ Some old → old ≢ file
+      → ((x : Spot) (n : ℕ) → taken ≡ Some (x, n) → n ≡ file)
       → ((q : Path) → file_at s' q ≡ cond (eq_by_cmp path_cmp q (path spot)) (Some file) (after_taken path taken (file_at s) q))
       → Leads path (record { taken = taken; added = None; turned = Some (spot, old, file); is_unlink = is_unlink }) s s'
-  turns spot old file there differ leads = record {
-    paths = leads;
-    overwrites = (λ some. (path spot, old, file, there, leads (path spot) ∙ ap (λ b. cond b (Some file) (after_taken path taken (file_at s) (path spot))) (itself (path spot)), differ), λ o. refl);
-  }
+  turns spot old file there differ goes paths = leads path _ s s' (record {
+    free = λ x n is. absurd (never x n is);
+    there = λ x m n is.
+        let one = same-turn spot x old file m n is in
+        (ap (λ w. file_at s (path w)) (sym one.0) ∙ there ∙ ap Some one.1, λ e. differ (one.1 ∙ e ∙ sym one.2));
+    gone = gone;
+    apart = λ x y k m n is is' together.
+        let one = same-turn spot y old file m n is' in
+        let at = gone x k is in
+        let at' : file_at s (path x) ≡ Some old = ap (file_at s) (together ∙ ap path (sym one.0)) ∙ there in
+        let number : old ≡ k = cc in
+        differ (number ∙ goes x k is);
+    one = inl refl;
+  }) paths
 
   -- a change that adds no path and turns none
   pub takes : ((q : Path) → file_at s' q ≡ after_taken path taken (file_at s) q)
       → Leads path (record { taken = taken; added = None; turned = None; is_unlink = is_unlink }) s s'
-  takes leads = record {
-    paths = leads;
-    overwrites = (λ (some : false ≡ true). absurd (cc), λ o. absurd (o.5 (kept path (file_at s) o.0 o.1 o.2 o.3 taken (sym (leads o.0) ∙ o.4))));
-  }
+  takes paths = leads path _ s s' (record {
+    free = λ x n is. absurd (never x n is);
+    there = λ x m n is. absurd (never_turned x m n is);
+    gone = gone;
+    apart = λ x y k m n is is'. absurd (never_turned y m n is');
+    one = inl refl;
+  }) paths
 
 -- ---- what the calls do
 
@@ -101,15 +282,22 @@ module _ (path : Spot → Path) (s : State) (old new : Spot) (file : ℕ) (at : 
       ap (λ b. file_at (cond b s (with_files_still_named (file_at s (path new)) (with_path (path new) (without_path (path old) s) (file_at s (path old))))) q) other
       ∙ ap (λ x. file_at (with_path (path new) (without_path (path old) s) x) q) at ∙ moved-is q
 
+  goes : (n : Naming) (x : Spot) (k : ℕ) → taken_by n old file ≡ Some (x, k) → (file_at s (path x) ≡ Some k) × (k ≡ file)
+  goes naming.Link x k is = absurd (never x k is)
+  goes naming.Rename x k is =
+      let one = same-path old x file k is in
+      (ap (λ w. file_at s (path w)) (sym one.0) ∙ at ∙ ap Some one.1, sym one.1)
+
   pub names_free : (n : Naming) → file_at s (path new) ≡ None
       → Leads path (record { taken = taken_by n old file; added = Some (new, file); turned = None; is_unlink = false }) s ((ask_between n (path old) (path new)).after s)
-  names_free n free = adds path s _ (taken_by n old file) false new file free (named n None free refl)
+  names_free n free = adds path s _ (taken_by n old file) false (λ x k is. (goes n x k is).0) new file free (named n None free refl)
 
   pub names_other : (n : Naming) (other : ℕ) → file_at s (path new) ≡ Some other → other ≢ file
       → Leads path (record { taken = taken_by n old file; added = None; turned = Some (new, other, file); is_unlink = false }) s ((ask_between n (path old) (path new)).after s)
   names_other n other there differ =
       let apart : is_one_file (Some file) (Some other) ≡ false = grind (arith, nat_tests) in
-      turns path s _ (taken_by n old file) false new other file there differ (named n (Some other) there apart)
+      turns path s _ (taken_by n old file) false (λ x k is. (goes n x k is).0) new other file there differ (λ x k is. (goes n x k is).1)
+      (named n (Some other) there apart)
 
   -- both name one file: nothing changes
   same_link : file_at s (path new) ≡ Some file → (q : Path) → file_at ((ask_between naming.Link (path old) (path new)).after s) q ≡ file_at s q
@@ -129,4 +317,4 @@ module _ (path : Spot → Path) (s : State) (old new : Spot) (file : ℕ) (at : 
 
   pub names_same : (n : Naming) → file_at s (path new) ≡ Some file
       → Leads path (record { taken = None; added = None; turned = None; is_unlink = false }) s ((ask_between n (path old) (path new)).after s)
-  names_same n there = takes path s _ None false (same_names n there)
+  names_same n there = takes path s _ None false (λ x k is. absurd (never x k is)) (same_names n there)

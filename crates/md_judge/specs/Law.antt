@@ -22,7 +22,7 @@ use Rattle.md_log.specs.declared.line.Call.{Call}
 use Rattle.md_log.specs.declared.line.Call.TheVariants as call
 use Rattle.md_log.specs.declared.line.Step.{Step}
 use Rattle.md_judge.specs.Logs.{Log, Numbered}
-use Rattle.md_judge.specs.Told.{ask_at, ask_between, moment, at, is_message, IsStep, IsOf, IsMessageAt, IsThere, IsSeen, IsUnflushed, IsCut, IsMaker, IsReading, IsWholeReading, Shows, IsListing, IsSpan, IsOwn, ActsOn, Looks}
+use Rattle.md_judge.specs.Told.{ask_at, ask_between, moment, at, is_message, IsStep, IsOf, IsMessageAt, IsThere, IsSeen, IsUnflushed, IsCut, WasInCur, IsMaker, IsReading, IsWholeReading, Shows, IsListing, IsSpan, IsOwn, ActsOn, Looks}
 
 -- a step of a log, with the directories before and after it
 pub record Turn : Type 0 where
@@ -110,12 +110,22 @@ Overwritten t = Overwrites t.old t.new
 abbrev pub Writes : Turn → ℕ → Type 0
 Writes t file = (p : Path) × (t.step.call ≡ call.At deed.Write p reply.Ok) × (file_at t.old p ≡ Some file)
 
+-- a message is made empty
+abbrev pub MakesMessage : Turn → Type 0
+MakesMessage t = (p : Path) × (t.step.call ≡ call.At deed.Create p reply.Ok) × (is_message p ≡ true)
+
+-- a message is written to where readers see it
+abbrev pub WritesSeen : Turn → Type 0
+WritesSeen t = (file : ℕ) × Writes t file × IsSeen t.old file
+
+-- a file begins to be seen whose last write has failed
+abbrev pub ShowsCut : Turn → Type 0
+ShowsCut t = (file : ℕ) × BeginsToBeSeen t file × IsCut t.log t.i file
+
 -- "Using maildir format", a message is written in tmp and then moved: a message is made empty, is written to where readers see it,
 -- or begins to be seen when its last write has failed.
 abbrev pub SeenBeforeWhole : Turn → Type 0
-SeenBeforeWhole t = ((p : Path) × (t.step.call ≡ call.At deed.Create p reply.Ok) × (is_message p ≡ true))
-    ⊎ ((file : ℕ) × Writes t file × IsSeen t.old file)
-    ⊎ ((file : ℕ) × BeginsToBeSeen t file × IsCut t.log t.i file)
+SeenBeforeWhole t = MakesMessage t ⊎ WritesSeen t ⊎ ShowsCut t
 
 -- "Using maildir format", tmp/unique is the deliverer's own: a file is written to by another actor than made it.
 abbrev pub Mixed : Turn → Type 0
@@ -149,13 +159,16 @@ UsedAgain t = (p : Path) × (file : ℕ) × Adds t p file × (is_message p ≡ t
 
 -- maildir(5), new has what no reader has seen: a file that was a message in cur is named in new.
 abbrev pub MovedBack : Turn → Type 0
-MovedBack t = (p : Path) × (file : ℕ) × Names t p file × (is_message p ≡ true) × (p.place ≡ New)
-    × ((j : ℕ) × (q : Path) × (j ≤ t.i) × (file_at (at t.log j) q ≡ Some file) × (is_message q ≡ true) × (q.place ≡ Cur))
+MovedBack t = (p : Path) × (file : ℕ) × Names t p file × (is_message p ≡ true) × (p.place ≡ New) × WasInCur t.log t.i file
+
+-- the step makes a path no longer name a file that it named before
+abbrev pub Leaves : Turn → Path → ℕ → Type 0
+Leaves t p n = (file_at t.old p ≡ Some n) × (file_at t.new p ≢ Some n)
 
 -- maildir(5), files of tmp "not accessed in 36 hours" may be removed: a path of tmp no longer names a younger file, which readers don't
 -- see and which another actor made.
 abbrev pub CleanedEarly : Turn → Type 0
-CleanedEarly t = (p : Path) × (n : ℕ) × (file : File) × (p.place ≡ Tmp) × (file_at t.old p ≡ Some n) × (file_at t.new p ≢ Some n)
+CleanedEarly t = (p : Path) × (n : ℕ) × (file : File) × (p.place ≡ Tmp) × Leaves t p n
     × (IsSeen t.new n → ⊥) × (IsMaker t.log t.i t.step.actor n → ⊥) × (file_by t.old.files n ≡ Some file) × (t.now - file.stamp < 129600)
 
 -- the message was there at each moment of each reading of a listing

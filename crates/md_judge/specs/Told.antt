@@ -110,6 +110,10 @@ IsUnflushed l i file = (j : ℕ) × (j < i) × Writes l j file reply.Ok × ((k :
 abbrev pub IsCut : Log → ℕ → ℕ → Type 0
 IsCut l i file = (j : ℕ) × (j < i) × Writes l j file reply.Fault × ((k : ℕ) → j < k → k < i → Writes l k file reply.Ok → ⊥)
 
+-- the file was a message in cur at a moment before the step
+abbrev pub WasInCur : Log → ℕ → ℕ → Type 0
+WasInCur l i file = (j : ℕ) × (q : Path) × (j ≤ i) × (file_at (at l j) q ≡ Some file) × (is_message q ≡ true) × (q.place ≡ Cur)
+
 -- the actor made the file, by a create before the step
 abbrev pub IsMaker : Log → ℕ → List ℕ → ℕ → Type 0
 IsMaker l i actor file = (j : ℕ) × (x : Step) × (p : Path) × (j < i) × IsStep l j x × (x.actor ≡ actor)

@@ -7,9 +7,13 @@ mod acts;
 mod befores;
 mod changes;
 mod clauses;
+mod comings;
 mod directories;
+mod facts;
 mod files;
+mod filing;
 mod flags;
+mod found;
 mod known;
 mod listing;
 mod mail;
@@ -77,8 +81,7 @@ impl Judge {
     ) -> Result<(), LineFault> {
         let (spot, file) = self.known.put_file(line, path, stamp)?;
         self.watch.files.make(mark_of(line), None, stamp)?;
-        self.watch
-            .add_path(&self.known, line.saturating_add(1), spot, file)
+        self.watch.put(&self.known, line, spot, file)
     }
 
     /// A further name of a file that is there at the beginning.
@@ -89,8 +92,7 @@ impl Judge {
         old: &Path,
     ) -> Result<(), LineFault> {
         let (spot, file) = self.known.put_name(line, path, old)?;
-        self.watch
-            .add_path(&self.known, line.saturating_add(1), spot, file)
+        self.watch.put(&self.known, line, spot, file)
     }
 
     /// Judges the next step.
@@ -123,12 +125,12 @@ impl Judge {
 
     /// Whether the last step breaks the clause, which is not allowed.
     pub(crate) fn is_broken(&self, clause: Clause) -> bool {
-        self.watch.is_broken(clause) && !self.allowed.contains(clause)
+        self.watch.found.is_broken(clause) && !self.allowed.contains(clause)
     }
 
     /// The moment of the earlier line that the clause goes back to, where it is broken.
     pub(crate) fn before(&self, clause: Clause) -> Option<usize> {
-        self.watch.before(clause)
+        self.watch.found.before(clause)
     }
 
     fn numbers(&mut self, names: &[Bytes]) -> Result<Vec<u32>, LineFault> {

@@ -6,11 +6,12 @@ ghost use Rattle.md_judge.specs.Told.{ask_at, ask_between};
 ghost use Rattle.md_log.specs.declared.line.Deed.TheVariants as deed;
 ghost use Rattle.md_judge.specs.Law.{IsWrongReply, reply_by};
 ghost use Rattle.md_judge.specs.Changes.{IsOlder, Leads};
+ghost use Rattle.md_judge.specs.Files.{named_by, turned_by};
 ghost use Rattle.md_judge.specs.Known.{EachSpot, IsBelow};
 ghost use Rattle.md_judge.specs.declared.judge.directories.Spot.{Spot};
 
-use super::befores::{line_at, mark_of};
 use super::directories::Spot;
+use super::filing::Caller;
 use super::known::{Act, Known};
 use super::watch::Watch;
 use md_log::{Call, Clause, Deed, LineFault, Naming, Reply};
@@ -32,6 +33,28 @@ pub(super) const NO_CHANGE: Change = Change {
     is_unlink: false,
 };
 
+impl Change {
+    /// The path that comes to name a file, and the file.
+    pub(super) fn named(&self) -> Option<(Spot, u32)>
+        ensures { result ≡ named_by self.now }
+    {
+        match self.turned {
+            None => self.added,
+            Some((spot, _, file)) => Some((spot, file)),
+        }
+    }
+
+    /// The path that names another file than before, and the file that it named.
+    pub(super) fn turned_from(&self) -> Option<(Spot, u32)>
+        ensures { result ≡ turned_by self.now }
+    {
+        match self.turned {
+            None => None,
+            Some((spot, file, _)) => Some((spot, file)),
+        }
+    }
+}
+
 impl Watch {
     /// Judges a call that was made as `act` says.
     pub(super) fn call(
@@ -41,45 +64,17 @@ impl Watch {
         call: &Call,
         act: &Act,
     ) -> Result<(), LineFault> {
-        self.note(act.is_wrong, Clause::NotADirectory, act.wrong_before);
-        match (call, act.spot) {
-            (Call::At { deed, reply, .. }, Some(spot)) => self.at(
-                known, actor, *deed, spot, *reply, act,
-            ),
-            (Call::Between { reply, .. }, Some(old)) => {
-                self.note_act(known, actor, old, *reply)?;
-                self.change(known, actor, act)
-            }
-            _ => Ok(()),
+        self.found
+            .note(act.is_wrong, Clause::NotADirectory, act.wrong_before);
+        let by = Caller {
+            actor,
+            line: self.now,
+        };
+        self.files.call(&mut self.found, known, by, call, act)?;
+        if let (Some(spot), Some(reply)) = (act.spot, reply_to_name(call)) {
+            self.note_act(known, actor, spot, reply)?;
         }
-    }
-
-    /// A call on one path.
-    fn at(
-        &mut self,
-        known: &Known,
-        actor: u32,
-        deed: Deed,
-        spot: Spot,
-        reply: Reply,
-        act: &Act,
-    ) -> Result<(), LineFault> {
-        match (deed, act.file) {
-            (Deed::Create, _) => self.create(known, actor, spot, reply, act),
-            (Deed::Write, Some(file)) => {
-                self.write(known, actor, file, reply);
-                Ok(())
-            }
-            (Deed::Flush, Some(file)) => {
-                self.flush(file, reply);
-                Ok(())
-            }
-            (Deed::Unlink, _) => {
-                self.note_act(known, actor, spot, reply)?;
-                self.change(known, actor, act)
-            }
-            (Deed::Write | Deed::Flush, None) => Ok(()),
-        }
+        self.change(known, actor, act)
     }
 
     /// A call on a message by a name of it.
@@ -97,55 +92,18 @@ impl Watch {
         }
         Ok(())
     }
+}
 
-    fn create(
-        &mut self,
-        known: &Known,
-        actor: u32,
-        spot: Spot,
-        reply: Reply,
-        act: &Act,
-    ) -> Result<(), LineFault> {
-        if reply != Reply::Ok {
-            return Ok(());
+/// The reply to a call that acts on a message by a name of it.
+fn reply_to_name(call: &Call) -> Option<Reply> {
+    match call {
+        Call::At {
+            deed: Deed::Unlink,
+            reply,
+            ..
         }
-        let is_message = known.unique_at(spot).is_some();
-        self.note(is_message, Clause::SeenBeforeWhole, None);
-        self.files
-            .make(mark_of(self.now), Some(actor), known.clock)?;
-        self.change(known, actor, act)
-    }
-
-    fn write(&mut self, known: &Known, actor: u32, file: u32, reply: Reply) {
-        let now = known.clock;
-        let line = mark_of(self.now);
-        let Some(facts) = self.files.facts_mut(file) else {
-            return;
-        };
-        if reply == Reply::Fault {
-            facts.is_cut = true;
-            facts.written_at = line;
-        }
-        if reply != Reply::Ok {
-            return;
-        }
-        facts.stamp = now;
-        facts.is_unflushed = true;
-        facts.is_cut = false;
-        facts.written_at = line;
-        let is_seen = facts.seen > 0;
-        let is_mixed = facts.maker != Some(actor);
-        let (seen_at, made_at) = (facts.seen_at, facts.made_at);
-        self.note(is_seen, Clause::SeenBeforeWhole, line_at(seen_at));
-        self.note(is_mixed, Clause::Mixed, line_at(made_at));
-    }
-
-    fn flush(&mut self, file: u32, reply: Reply) {
-        if reply == Reply::Ok
-            && let Some(facts) = self.files.facts_mut(file)
-        {
-            facts.is_unflushed = false;
-        }
+        | Call::Between { reply, .. } => Some(*reply),
+        _ => None,
     }
 }
 
@@ -222,7 +180,8 @@ pub(super) fn create_change(spot: Spot, there: Option<u32>, file: u32) -> Change
 
 /// What an unlink does that was made.
 pub(super) fn unlink_change(spot: Spot, file: u32) -> Change
-    ensures leads { (path : Spot → Path) (s : State) (now : ℕ) → Leads path result s ((ask_at deed.Unlink (path spot) now).after s) }
+    ensures leads { (path : Spot → Path) (s : State) (now : ℕ) → file_at s (path spot) ≡ Some file
+        → Leads path result s ((ask_at deed.Unlink (path spot) now).after s) }
     ensures spots { EachSpot (λ q. q ≡ spot) result }
     ensures below { (bound : ℕ) → IsBelow bound result }
 {

@@ -1,6 +1,7 @@
 //! Changes of paths: the clauses that they break, and what is kept of them.
 use super::acts::Change;
-use super::befores::{line_at, line_before, mark_of};
+use super::befores::mark_of;
+use super::comings::{check_added, leaving};
 use super::directories::Spot;
 use super::flags::TRASHED;
 use super::known::{Act, Known};
@@ -8,82 +9,27 @@ use super::watch::Watch;
 use md_dirs::Place;
 use md_log::{Clause, LineFault};
 
-/// 36 hours, after which a file of tmp may be removed.
-const CLEAN_AGE: u64 = 129_600;
-
 impl Watch {
     /// Judges a change of paths that was made, and keeps what it does to messages.
     pub(super) fn change(&mut self, known: &Known, actor: u32, act: &Act) -> Result<(), LineFault> {
         let change = act.change;
-        if let Some((spot, _, file)) = change.turned {
-            self.note(true, Clause::Overwritten, act.turned_before);
-            self.check_named(known, spot, file);
-        }
-        if let Some((spot, file)) = change.added {
-            self.check_named(known, spot, file);
-            self.check_added(known, spot, file, change.taken);
+        self.found.note(
+            change.turned.is_some(),
+            Clause::Overwritten,
+            act.turned_before,
+        );
+        if let Some((spot, file)) = change.added
+            && let Some(unique) = known.unique_at(spot)
+        {
+            let leaving = leaving(known, change.taken, spot.folder, unique);
+            let message = self.mail.message((spot.folder, unique));
+            check_added(&mut self.found, message, file, leaving);
         }
         self.make(known, actor, change)?;
         if let Some((spot, file)) = change.taken {
             self.check_gone(known, spot, file, change.is_unlink);
-            self.check_clean(known, actor, spot, file);
-        }
-        if let Some((spot, file, _)) = change.turned {
-            self.check_clean(known, actor, spot, file);
         }
         Ok(())
-    }
-
-    /// A path is to name a file: what the file was.
-    fn check_named(&mut self, known: &Known, spot: Spot, file: u32) {
-        if known.unique_at(spot).is_none() {
-            return;
-        }
-        let Some(facts) = self.files.facts(file) else {
-            return;
-        };
-        let is_shown = facts.seen == 0;
-        let is_back = spot.place == Place::New && facts.was_cur;
-        let written = line_at(facts.written_at);
-        let is_cut = is_shown && facts.is_cut;
-        self.note(is_cut, Clause::SeenBeforeWhole, written);
-        let is_unflushed = is_shown && facts.is_unflushed;
-        self.note(is_unflushed, Clause::NotFlushed, written);
-        self.note(is_back, Clause::MovedBack, line_at(facts.cur_at));
-    }
-
-    /// A path is to be added: what its message has.
-    fn check_added(&mut self, known: &Known, spot: Spot, file: u32, taken: Option<(Spot, u32)>) {
-        let Some(unique) = known.unique_at(spot) else {
-            return;
-        };
-        let Some(message) = self.mail.message((spot.folder, unique)) else {
-            return;
-        };
-        let is_used = message.count == 0 && !message.was_file(file);
-        let has_more = if self.is_same_message(known, taken, spot.folder, unique) {
-            message.count > 1
-        } else {
-            message.count > 0
-        };
-        let gone = message.gone_at();
-        let there = line_before(message.since);
-        self.note(is_used, Clause::UsedAgain, gone);
-        self.note(has_more, Clause::TwoNames, there);
-    }
-
-    /// Whether a path that goes is one of the message.
-    fn is_same_message(
-        &self,
-        known: &Known,
-        taken: Option<(Spot, u32)>,
-        folder: u32,
-        unique: u32,
-    ) -> bool {
-        match taken {
-            None => false,
-            Some((spot, _)) => spot.folder == folder && known.unique_at(spot) == Some(unique),
-        }
     }
 
     /// A path was taken: whether a message is gone that may not go.
@@ -96,7 +42,7 @@ impl Watch {
         let is_elsewhere = self.mail.is_copied(file, unique);
         if is_gone && !may_go && !is_elsewhere {
             let before = self.mail.put_at((spot.folder, unique));
-            self.note(true, Clause::Gone, before);
+            self.found.note(true, Clause::Gone, before);
         }
     }
 
@@ -105,18 +51,6 @@ impl Watch {
             None => false,
             Some(flags) => flags & TRASHED != 0,
         }
-    }
-
-    /// A path of tmp names its file no longer.
-    fn check_clean(&mut self, known: &Known, actor: u32, spot: Spot, file: u32) {
-        let Some(facts) = self.files.facts(file) else {
-            return;
-        };
-        let is_young = known.clock.saturating_sub(facts.stamp) < CLEAN_AGE;
-        let is_anothers = facts.maker != Some(actor);
-        let is_early = spot.place == Place::Tmp && facts.seen == 0 && is_anothers && is_young;
-        let made = facts.made_at.max(facts.written_at);
-        self.note(is_early, Clause::CleanedEarly, line_at(made));
     }
 
     /// Keeps what a change does to messages. The new name comes first, so that a message that is renamed in its folder is there all the while.
@@ -193,8 +127,6 @@ impl Watch {
         {
             self.mail.hold(at, key, flags)?;
         }
-        let line = mark_of(at.saturating_sub(1));
-        self.files.see(line, file, spot.place == Place::Cur);
         self.mail.copy(file, unique)
     }
 
@@ -216,10 +148,7 @@ impl Watch {
         let about = self.actors.about(actor, key)?;
         about.is_changed = true;
         about.changed_at = line;
-        self.files.unsee(old);
         self.mail.uncopy(old, unique);
-        self.files
-            .see(mark_of(self.now), new, spot.place == Place::Cur);
         self.mail.copy(new, unique)
     }
 
@@ -236,7 +165,6 @@ impl Watch {
         {
             self.mail.unhold(at, key, flags);
         }
-        self.files.unsee(file);
         self.mail.uncopy(file, unique);
         Ok(())
     }

@@ -1,6 +1,10 @@
 //! Sets of clauses.
+ghost use Rattle.std.specs.Prelude.{◌≡◌, ◌↔◌, ◌⊎◌, IsTrue};
+ghost use Rattle.md_log.specs.declared.clause.Clause.{Clause};
+ghost use Rattle.md_judge.specs.Found.{Has, clause_index};
 
 use md_log::Clause;
+
 /// A set of clauses.
 #[derive(Clone, Copy)]
 pub(crate) struct Clauses {
@@ -8,17 +12,28 @@ pub(crate) struct Clauses {
 }
 
 impl Clauses {
-    pub(crate) fn none() -> Self {
+    pub(crate) fn none() -> Self
+        ensures { (c : Clause) → Has result c → ⊥ }
+    {
         Clauses { has: [false; 13] }
     }
 
-    pub(crate) fn add(&mut self, clause: Clause) {
-        if let Some(has) = self.has.get_mut(clause as usize) {
-            *has = true;
-        }
+    pub(crate) fn add(&mut self, clause: Clause)
+        ensures { (c : Clause) → Has self.new c ↔ (Has self.old c ⊎ (c ≡ clause)) }
+    {
+        self.has[number_of(clause)] = true;
     }
 
-    pub(crate) fn contains(&self, clause: Clause) -> bool {
-        self.has.get(clause as usize).copied().unwrap_or(false)
+    pub(crate) fn contains(&self, clause: Clause) -> bool
+        ensures { IsTrue result ↔ Has self.now clause }
+    {
+        self.has[number_of(clause)]
     }
+}
+
+/// The number of a clause in the order of the law.
+fn number_of(clause: Clause) -> usize
+    ensures { result ≡ clause_index clause }
+{
+    clause as usize
 }

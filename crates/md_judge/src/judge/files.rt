@@ -1,35 +1,65 @@
-//! What was done to files.
+//! The files, with what was done to them.
+ghost use Rattle.std.specs.Prelude.{◌≡◌, OnOk};
+ghost use Rattle.std.specs.Option.{option_map};
+ghost use Rattle.md_judge.specs.declared.judge.files.Filed.{Filed};
+ghost use Rattle.md_judge.specs.Files.{made, written, flushed, shown, hidden, facts_at, Changes, Adds};
+
 use super::befores::{Mark, NO_MARK};
-use md_log::LineFault;
+use super::facts::FileFacts;
+use md_log::{LineFault, Reply};
 use std::alloc::Global;
 
 /// The most files that a log has.
 pub(super) const MOST_FILES: u32 = 4_000_000_000;
 
-/// What was done to a file.
+/// A file: what was done to it, and the lines that did it.
 #[derive(Clone, Copy)]
-pub(super) struct FileFacts {
-    pub(super) maker: Option<u32>,
-    pub(super) stamp: u64,
-    /// It was written to since its last flush.
-    pub(super) is_unflushed: bool,
-    /// Its last write failed.
-    pub(super) is_cut: bool,
-    /// It once was a message in cur.
-    pub(super) was_cur: bool,
-    /// How many paths of messages it has.
-    pub(super) seen: u32,
-    /// The lines at which it was made, last written to, first a message since it was none, and first a message in cur.
-    pub(super) made_at: Mark,
-    pub(super) written_at: Mark,
-    pub(super) seen_at: Mark,
-    pub(super) cur_at: Mark,
+pub(super) struct Filed {
+    pub(super) facts: FileFacts,
+    pub(super) lines: FileLines,
+}
+
+/// The lines at which a file was made, last written to, first a message since it was none, and first a message in cur.
+#[derive(Clone, Copy)]
+pub(super) struct FileLines {
+    pub(super) made: Mark,
+    pub(super) written: Mark,
+    pub(super) seen: Mark,
+    pub(super) cur: Mark,
+}
+
+impl FileLines {
+    fn made(line: Mark) -> Self {
+        FileLines {
+            made: line,
+            written: NO_MARK,
+            seen: NO_MARK,
+            cur: NO_MARK,
+        }
+    }
+
+    /// The file is written to at a line, and the write answers so.
+    fn write(&mut self, line: Mark, reply: Reply) {
+        if reply == Reply::Ok || reply == Reply::Fault {
+            self.written = line;
+        }
+    }
+
+    /// The file has one more path of a message, which may be in cur.
+    fn show(&mut self, line: Mark, facts: &FileFacts, in_cur: bool) {
+        if facts.seen == 0 {
+            self.seen = line;
+        }
+        if in_cur && !facts.was_cur {
+            self.cur = line;
+        }
+    }
 }
 
 /// The files in the order of their making.
 #[derive(Drop)]
 pub(super) struct Files {
-    all: Vec<FileFacts>,
+    all: Vec<Filed>,
 }
 
 impl Files {
@@ -39,56 +69,67 @@ impl Files {
         }
     }
 
+    /// A file is made.
     pub(super) fn make(
         &mut self,
         line: Mark,
         maker: Option<u32>,
         stamp: u64,
-    ) -> Result<u32, LineFault> {
-        let count = self.all.len();
-        if count >= MOST_FILES as usize {
+    ) -> Result<(), LineFault>
+        ensures { OnOk result (Adds (made maker stamp) self.old.all.items self.new.all.items) }
+    {
+        if self.all.len() >= MOST_FILES as usize {
             return Err(LineFault::NoMemory);
         }
-        self.all.push(FileFacts {
-            maker,
-            stamp,
-            is_unflushed: false,
-            is_cut: false,
-            was_cur: false,
-            seen: 0,
-            made_at: line,
-            written_at: NO_MARK,
-            seen_at: NO_MARK,
-            cur_at: NO_MARK,
+        self.all.push(Filed {
+            facts: FileFacts::made(maker, stamp),
+            lines: FileLines::made(line),
         })?;
-        Ok(count as u32)
+        Ok(())
     }
 
-    pub(super) fn facts(&self, file: u32) -> Option<FileFacts> {
+    pub(super) fn file(&self, file: u32) -> Option<Filed>
+        ensures { option_map (λ (f : Filed). f.facts) result ≡ facts_at self.now.all.items file }
+    {
         self.all.get(file as usize).copied()
     }
 
-    pub(super) fn facts_mut(&mut self, file: u32) -> Option<&mut FileFacts> {
-        self.all.get_mut(file as usize)
-    }
-
-    /// A path is a message's name of the file.
-    pub(super) fn see(&mut self, line: Mark, file: u32, in_cur: bool) {
-        if let Some(facts) = self.facts_mut(file) {
-            if facts.seen == 0 {
-                facts.seen_at = line;
-            }
-            if in_cur && !facts.was_cur {
-                facts.cur_at = line;
-            }
-            facts.seen = facts.seen.saturating_add(1);
-            facts.was_cur = facts.was_cur || in_cur;
+    /// A file is written to at a moment, and the write answers so.
+    pub(super) fn write(&mut self, line: Mark, file: u32, reply: Reply, now: u64)
+        ensures { Changes file (written reply now) self.old.all.items self.new.all.items }
+    {
+        if let Some(filed) = self.all.get_mut(file as usize) {
+            filed.facts.write(reply, now);
+            filed.lines.write(line, reply);
         }
     }
 
-    pub(super) fn unsee(&mut self, file: u32) {
-        if let Some(facts) = self.facts_mut(file) {
-            facts.seen = facts.seen.saturating_sub(1);
+    /// A file is flushed, and the call answers so.
+    pub(super) fn flush(&mut self, file: u32, reply: Reply)
+        ensures { Changes file (flushed reply) self.old.all.items self.new.all.items }
+    {
+        if let Some(filed) = self.all.get_mut(file as usize) {
+            filed.facts.flush(reply);
+        }
+    }
+
+    /// A file has one more path of a message.
+    pub(super) fn show(&mut self, line: Mark, file: u32, in_cur: bool) -> Result<(), LineFault>
+        ensures { OnOk result (Changes file (shown in_cur) self.old.all.items self.new.all.items) }
+    {
+        if let Some(filed) = self.all.get_mut(file as usize) {
+            filed.lines.show(line, &filed.facts, in_cur);
+            filed.facts.show(in_cur)?;
+        }
+        Ok(())
+    }
+
+    /// A file has one path of a message fewer.
+    pub(super) fn hide(&mut self, file: u32)
+        ensures { Changes file hidden self.old.all.items self.new.all.items }
+    {
+        if let Some(filed) = self.all.get_mut(file as usize) {
+            filed.facts.hide();
         }
     }
 }

@@ -5,6 +5,7 @@ ghost use Rattle.md_dirs.specs.declared.paths.Path.{Path};
 ghost use Rattle.md_judge.specs.declared.judge.directories.Spot.{Spot};
 ghost use Rattle.md_judge.specs.Told.{ask_at, ask_between, after_ask};
 ghost use Rattle.md_judge.specs.Changes.{IsOlder, Leads};
+ghost use Rattle.md_judge.specs.Files.{unique_in, is_message_in};
 ghost use Rattle.md_judge.specs.Known.{EachSpot, IsBelow, files_after, Stands, Holds, Leaves};
 
 use super::acts::{
@@ -70,11 +71,20 @@ impl Known {
     }
 
     /// The unique name of a message's path.
-    pub(super) fn unique_at(&self, spot: Spot) -> Option<u32> {
+    pub(super) fn unique_at(&self, spot: Spot) -> Option<u32>
+        ensures { result ≡ unique_in self.now.names spot }
+    {
         match spot.place {
             Place::Tmp => None,
             _ => self.names.facts(spot.name).unique,
         }
+    }
+
+    /// Whether a path names a message.
+    pub(super) fn is_message(&self, spot: Spot) -> bool
+        ensures { result ≡ is_message_in self.now.names spot }
+    {
+        self.unique_at(spot).is_some()
     }
 
     /// A file that is there at the beginning.

@@ -197,9 +197,10 @@ impl Watch {
                 place,
                 name,
             });
-            self.note(true, Clause::NotADirectory, before);
+            self.found.note(true, Clause::NotADirectory, before);
         }
-        self.note(reply == Reply::NotFound, Clause::NotADirectory, None);
+        self.found
+            .note(reply == Reply::NotFound, Clause::NotADirectory, None);
         if reply != Reply::More {
             self.end_reading(known, &mut listing, folder, place, reply, first)?;
         }
@@ -248,7 +249,7 @@ impl Watch {
         if listing.is_complete() {
             if let Some(unique) = listing.lacking(&self.mail, folder) {
                 let before = self.mail.put_at((folder, unique));
-                self.note(true, Clause::Unlisted, before);
+                self.found.note(true, Clause::Unlisted, before);
             }
             listing.clear();
         }

@@ -1,4 +1,7 @@
 //! The messages of folders.
+ghost use Rattle.std.specs.Prelude.{◌≡◌, ◌↔◌, IsTrue};
+ghost use Rattle.md_judge.specs.Messages.{WasFile};
+
 use super::befores::line_before;
 use md_log::LineFault;
 use std::alloc::Global;
@@ -80,7 +83,9 @@ impl Message {
         Some(time.1)
     }
 
-    pub(super) fn was_file(&self, file: u32) -> bool {
+    pub(super) fn was_file(&self, file: u32) -> bool
+        ensures { IsTrue result ↔ WasFile self.now file }
+    {
         if self.file == file {
             return true;
         }
@@ -88,6 +93,13 @@ impl Message {
             None => false,
             Some(past) => past.files.contains(&file),
         }
+    }
+
+    /// Whether it is gone, and a file that it never was is another message of its name.
+    pub(super) fn is_used_again(&self, file: u32) -> bool
+        ensures { IsTrue result ↔ ((self.now.count ≡ 0) × (WasFile self.now file → ⊥)) }
+    {
+        self.count == 0 && !self.was_file(file)
     }
 
     /// It is a file.

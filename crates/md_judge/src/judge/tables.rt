@@ -1,4 +1,7 @@
 //! Words by numbers.
+ghost use Rattle.std.specs.Prelude.{◌≡◌};
+ghost use Rattle.md_judge.specs.Files.{name_facts};
+
 use super::flags::bits_of;
 use md_log::LineFault;
 use md_name::split;
@@ -114,7 +117,9 @@ impl Names {
         }
     }
 
-    pub(super) fn facts(&self, name: u32) -> NameFacts {
+    pub(super) fn facts(&self, name: u32) -> NameFacts
+        ensures { result ≡ name_facts self.now name }
+    {
         match self.parts.get(name as usize) {
             None | Some((_, NO_ENDING)) => NO_FACTS,
             Some((unique, ending)) => NameFacts {

@@ -13,10 +13,10 @@ impl Watch {
         let first = self.actors.first_line(actor, &about);
         let has_given_up = is_success(&said) && self.has_given_up(actor, key, &about);
         let refused = about.act_line();
-        self.note(has_given_up, Clause::GaveUp, refused);
+        self.found.note(has_given_up, Clause::GaveUp, refused);
         let is_so = self.is_so(actor, &said, key, &about, first);
         let before = self.denied_by(&said, key, &about);
-        self.note(!is_so, Clause::AnsweredFalsely, before);
+        self.found.note(!is_so, Clause::AnsweredFalsely, before);
         self.actors.told(actor, key)
     }
 

@@ -1,11 +1,12 @@
 //! What is kept of files, messages, actors and listings, and the clauses that a step breaks.
 use super::about::Actors;
-use super::befores::Befores;
-use super::clauses::Clauses;
+use super::directories::Spot;
 use super::files::Files;
+use super::found::Found;
+use super::known::Known;
 use super::listing::Listing;
 use super::mail::Mail;
-use md_log::{Clause, LineFault};
+use md_log::LineFault;
 use std::alloc::Global;
 use std::collections::BTreeMap;
 
@@ -19,8 +20,8 @@ pub(super) struct Watch {
     pub(super) listings: BTreeMap<(u32, u32), Listing>,
     /// The moment at which the step begins that is judged.
     pub(super) now: usize,
-    broken: Clauses,
-    befores: Befores,
+    /// What is found at it.
+    pub(super) found: Found,
 }
 
 impl Watch {
@@ -32,8 +33,7 @@ impl Watch {
             mail: Mail::new(alloc),
             listings: BTreeMap::new(alloc),
             now: 0,
-            broken: Clauses::none(),
-            befores: Befores::none(),
+            found: Found::nothing(),
         }
     }
 
@@ -49,26 +49,19 @@ impl Watch {
 
     /// A step of an actor begins: it breaks nothing so far.
     pub(super) fn begin(&mut self, actor: u32) -> Result<(), LineFault> {
-        self.broken = Clauses::none();
-        self.befores = Befores::none();
+        self.found = Found::nothing();
         self.actors.note_line(actor, self.now)
     }
 
-    /// Whether the last step breaks the clause.
-    pub(super) fn is_broken(&self, clause: Clause) -> bool {
-        self.broken.contains(clause)
-    }
-
-    /// The moment of the earlier line that the clause goes back to, where it is broken.
-    pub(super) fn before(&self, clause: Clause) -> Option<usize> {
-        self.befores.line(clause)
-    }
-
-    /// Notes a clause that is broken, and the earlier line that it goes back to.
-    pub(super) fn note(&mut self, is_broken: bool, clause: Clause, before: Option<usize>) {
-        if is_broken {
-            self.broken.add(clause);
-            self.befores.note(clause, before);
-        }
+    /// A path names a file at the beginning.
+    pub(super) fn put(
+        &mut self,
+        known: &Known,
+        line: usize,
+        spot: Spot,
+        file: u32,
+    ) -> Result<(), LineFault> {
+        self.files.name(known, line, spot, file)?;
+        self.add_path(known, line.saturating_add(1), spot, file)
     }
 }

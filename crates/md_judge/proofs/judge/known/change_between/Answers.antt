@@ -1,6 +1,6 @@
 use Rattle.std.proofs.Common.{None, false, refl}
 use Rattle.md_judge.specs.Told.{ask_between}
-use Rattle.md_judge.proofs.Changing.{takes}
+use Rattle.md_judge.proofs.Changing.{takes, never}
 use Rattle.md_judge.proofs.Afters.{refused-same}
 use Rattle.md_judge.proofs.judge.known.change_between.Goals as goal
 
@@ -11,4 +11,4 @@ returns-in-Ok-clause-leads c = λ path s is there.
 pub returns-in_default-clause-leads : goal.returns-in_default-clause-leads
 returns-in_default-clause-leads c = λ path s is there.
     let same = refused-same c.args.reply c.in_default.not-Ok (ask_between c.args.naming (path c.args.old) (path c.args.new)) s in
-    rw same (takes path s s None false (λ q. refl))
+    rw same (takes path s s None false (λ x n is. absurd (never x n is)) (λ q. refl))

@@ -3,6 +3,7 @@ use Rattle.md_dirs.specs.State.{file_at}
 use Rattle.md_judge.specs.Told.{ask_at, after_ask}
 use Rattle.md_judge.specs.Changes.{IsOlder}
 use Rattle.md_judge.specs.Known.{files_after, number_at}
+use Rattle.md_judge.proofs.Changing.{overwrites}
 use Rattle.md_judge.proofs.Following.{follows, each-spot, housed, is-older}
 use Rattle.md_judge.proofs.Afters.{at-folders, at-files, files-grow}
 use Rattle.md_judge.proofs.judge.known.Known.at.Goals as goal
@@ -26,5 +27,5 @@ returns c = λ path many now s stands holds named there.
           (each-spot (λ q. q ≡ spot) (λ q. number_at q < length known.directories.all.items) (λ q e. rw e house) c.change_at-change.result c.change_at-change.ensures.spots)
           (rw files c.change_at-change.ensures.below) (at-folders c.args.deed c.args.reply p now s) more (c.in_ok-files.ensures ∙ sym files);
       wrong = c.is_wrong_at.ensures p now s there (ap is_some is ∙ sym c.is_some.ensures);
-      overwrites = leads.overwrites;
+      overwrites = overwrites path _ s after leads;
     }

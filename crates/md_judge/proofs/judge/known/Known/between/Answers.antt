@@ -3,6 +3,7 @@ use Rattle.md_dirs.specs.State.{file_at}
 use Rattle.md_judge.specs.Told.{ask_between, after_ask}
 use Rattle.md_judge.specs.Changes.{IsOlder}
 use Rattle.md_judge.specs.Known.{number_at}
+use Rattle.md_judge.proofs.Changing.{overwrites}
 use Rattle.md_judge.proofs.Following.{follows, each-spot, housed, is-older}
 use Rattle.md_judge.proofs.Afters.{between-folders, between-files}
 use Rattle.md_judge.proofs.judge.known.Known.between.Goals as goal
@@ -31,5 +32,5 @@ returns c = λ path many s stands holds named named' there there'.
           (λ q e. elim e [ inl e ↦ rw e house | inr e ↦ rw e house' ]) c.change_between-change.result spots)
           (rw files (c.change_between-change.ensures.below known.files older)) (between-folders (path old) (path new) s n c.args.reply) more (sym files);
       wrong = c.is_wrong_between.ensures (path old) (path new) s there' (ap is_some is ∙ sym c.is_some-2.ensures) (ap is_some is' ∙ sym c.is_some-3.ensures);
-      overwrites = leads.overwrites;
+      overwrites = overwrites path _ s after leads;
     }

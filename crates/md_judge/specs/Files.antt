@@ -1,0 +1,176 @@
+-- What the judge keeps of files: how a step changes it, and which clauses the judge finds by it.
+use Rattle.std.specs.Prelude.{ℕ, ◌≡◌, ◌≢◌, ◌<◌, ◌+◌, ◌-◌, ◌==◌, ◌||◌, ◌⊎◌, List, Option, Some, None, Bool, true, false, length, slice_get, is_some, unwrap_or, if◌then◌else◌}
+use Rattle.std.specs.Option.{option_map}
+use Rattle.md_dirs.specs.declared.paths.Place.{Place}
+use Rattle.md_dirs.specs.declared.paths.Place.TheVariants.{Tmp, New, Cur}
+use Rattle.md_log.specs.declared.clause.Clause.{Clause}
+use Rattle.md_log.specs.declared.clause.Clause.TheVariants as clause
+use Rattle.md_log.specs.declared.line.Reply.{Reply}
+use Rattle.md_log.specs.declared.line.Reply.TheVariants as reply
+use Rattle.md_log.specs.declared.line.Deed.{Deed}
+use Rattle.md_log.specs.declared.line.Deed.TheVariants as deed
+use Rattle.md_judge.specs.declared.judge.acts.Change.{Change}
+use Rattle.md_judge.specs.declared.judge.directories.Spot.{Spot}
+use Rattle.md_judge.specs.declared.judge.facts.FileFacts.{FileFacts}
+use Rattle.md_judge.specs.declared.judge.files.Filed.{Filed}
+use Rattle.md_judge.specs.declared.judge.tables.NameFacts.{NameFacts}
+use Rattle.md_judge.specs.declared.judge.tables.Names.{Names}
+
+-- ---- names
+
+-- what a name of no message says, and one that is not known
+abbrev pub no_facts : NameFacts
+no_facts = record { unique = None; flags = None }
+
+-- what the two parts of a name say; the last number stands for the end of a name that is no message's
+abbrev pub facts_by : List (Option ℕ) → Option (ℕ × ℕ) → NameFacts
+facts_by flags None = no_facts
+facts_by flags (Some parts) =
+    if parts.1 == 4294967295 then no_facts else record { unique = Some parts.0; flags = unwrap_or (slice_get flags parts.1) None }
+
+-- what the name of a number says
+abbrev pub name_facts : Names → ℕ → NameFacts
+name_facts names name = facts_by names.flags.items (slice_get names.parts.items name)
+
+abbrev pub unique_by : Place → NameFacts → Option ℕ
+unique_by Tmp facts = None
+unique_by New facts = facts.unique
+unique_by Cur facts = facts.unique
+
+-- the number of the unique name of a message's path
+abbrev pub unique_in : Names → Spot → Option ℕ
+unique_in names s = unique_by s.place (name_facts names s.name)
+
+-- whether a path names a message
+abbrev pub is_message_in : Names → Spot → Bool
+is_message_in names s = is_some (unique_in names s)
+
+-- ---- what steps do to a file
+
+-- a file that was just made
+abbrev pub made : Option ℕ → ℕ → FileFacts
+made maker stamp = record { maker = maker; stamp = stamp; is_unflushed = false; is_cut = false; was_cur = false; seen = 0 }
+
+-- a file after a write that was answered so
+abbrev pub written : Reply → ℕ → FileFacts → FileFacts
+written reply.Ok now f = record f { stamp = now; is_unflushed = true; is_cut = false }
+written reply.Fault now f = record f { is_cut = true }
+written reply.More now f = f
+written reply.Exists now f = f
+written reply.NotFound now f = f
+
+-- a file after a flush that was answered so
+abbrev pub flushed : Reply → FileFacts → FileFacts
+flushed reply.Ok f = record f { is_unflushed = false }
+flushed reply.Fault f = f
+flushed reply.More f = f
+flushed reply.Exists f = f
+flushed reply.NotFound f = f
+
+-- a file with one more path of a message, which may be in cur
+abbrev pub shown : Bool → FileFacts → FileFacts
+shown in_cur f = record f { was_cur = f.was_cur || in_cur; seen = f.seen + 1 }
+
+-- a file with one path of a message fewer
+abbrev pub hidden : FileFacts → FileFacts
+hidden f = record f { seen = f.seen - 1 }
+
+abbrev pub is_cur : Place → Bool
+is_cur Tmp = false
+is_cur New = false
+is_cur Cur = true
+
+-- a file that a path comes to name, and one that it names no longer: only a message's path counts
+abbrev pub named : Names → Spot → FileFacts → FileFacts
+named names s f = if is_message_in names s then shown (is_cur s.place) f else f
+
+abbrev pub left : Names → Spot → FileFacts → FileFacts
+left names s f = if is_message_in names s then hidden f else f
+
+-- ---- what steps do to all files
+
+-- what is kept of the file of a number
+abbrev pub facts_at : List Filed → ℕ → Option FileFacts
+facts_at all n = option_map (λ (f : Filed). f.facts) (slice_get all n)
+
+-- One file is changed so, and the others are as they were.
+pub record Changes (file : ℕ) (f : FileFacts → FileFacts) (old new : List Filed) : Type 0 where
+  pub facts : (n : ℕ) → facts_at new n ≡ (if n == file then option_map f (facts_at old n) else facts_at old n)
+  pub many : length new ≡ length old
+
+-- One more file is there.
+pub record Adds (f : FileFacts) (old new : List Filed) : Type 0 where
+  pub facts : (n : ℕ) → facts_at new n ≡ (if n == length old then Some f else facts_at old n)
+  pub many : length new ≡ length old + 1
+
+-- what a call on one path does to files, but for its change of paths
+abbrev pub AtStep : Deed → Reply → ℕ → ℕ → Option ℕ → List Filed → List Filed → Type 0
+AtStep deed.Create reply.Ok actor now file old new = Adds (made (Some actor) now) old new
+AtStep deed.Write r actor now (Some file) old new = Changes file (written r now) old new
+AtStep deed.Flush r actor now (Some file) old new = Changes file (flushed r) old new
+AtStep d r actor now file old new = new ≡ old
+
+-- what a path does that comes to name a file, and one that names it no longer
+abbrev pub NameStep : Names → Option (Spot × ℕ) → List Filed → List Filed → Type 0
+NameStep names None old new = new ≡ old
+NameStep names (Some p) old new = Changes p.1 (named names p.0) old new
+
+abbrev pub LeaveStep : Names → Option (Spot × ℕ) → List Filed → List Filed → Type 0
+LeaveStep names None old new = new ≡ old
+LeaveStep names (Some p) old new = Changes p.1 (left names p.0) old new
+
+-- the path that a change makes name a file, with the file
+abbrev pub named_of : Option (Spot × ℕ × ℕ) → Option (Spot × ℕ) → Option (Spot × ℕ)
+named_of None added = added
+named_of (Some turned) added = Some (turned.0, turned.2)
+
+abbrev pub named_by : Change → Option (Spot × ℕ)
+named_by c = named_of c.turned c.added
+
+-- the path that a change turns to another file, with the file that it named
+abbrev pub turned_by : Change → Option (Spot × ℕ)
+turned_by c = option_map (λ (t : Spot × ℕ × ℕ). (t.0, t.1)) c.turned
+
+-- what a change of paths does to files
+abbrev pub ChangeStep : Names → Change → List Filed → List Filed → Type 0
+ChangeStep names c old new = (a b : List Filed) × NameStep names (named_by c) old a × LeaveStep names (turned_by c) a b
+    × LeaveStep names c.taken b new
+
+-- ---- which clauses are found
+
+-- at a write by an actor
+abbrev pub WriteFinds : ℕ → Reply → Option FileFacts → Clause → Type 0
+WriteFinds actor reply.Ok (Some f) clause.SeenBeforeWhole = 0 < f.seen
+WriteFinds actor reply.Ok (Some f) clause.Mixed = f.maker ≢ Some actor
+WriteFinds actor r f c = ⊥
+
+-- at a call on one path by an actor, but for its change of paths
+abbrev pub AtFinds : Bool → ℕ → List Filed → Deed → Reply → Option ℕ → Clause → Type 0
+AtFinds is_message actor files deed.Create reply.Ok file clause.SeenBeforeWhole = is_message ≡ true
+AtFinds is_message actor files deed.Write r (Some n) c = WriteFinds actor r (facts_at files n) c
+AtFinds is_message actor files d r file c = ⊥
+
+-- where a message's path comes to name a file
+abbrev pub NamedFinds : Place → Option FileFacts → Clause → Type 0
+NamedFinds place (Some f) clause.SeenBeforeWhole = (f.seen ≡ 0) × (f.is_cut ≡ true)
+NamedFinds place (Some f) clause.NotFlushed = (f.seen ≡ 0) × (f.is_unflushed ≡ true)
+NamedFinds New (Some f) clause.MovedBack = f.was_cur ≡ true
+NamedFinds place f c = ⊥
+
+abbrev pub NameFinds : Names → List Filed → Option (Spot × ℕ) → Clause → Type 0
+NameFinds names files None c = ⊥
+NameFinds names files (Some p) c = (is_message_in names p.0 ≡ true) × NamedFinds p.0.place (facts_at files p.1) c
+
+-- where a path of tmp has left a file, by an actor at a moment
+abbrev pub LeftFinds : ℕ → ℕ → Place → Option FileFacts → Clause → Type 0
+LeftFinds actor now Tmp (Some f) clause.CleanedEarly = (f.seen ≡ 0) × (f.maker ≢ Some actor) × (now - f.stamp < 129600)
+LeftFinds actor now place f c = ⊥
+
+abbrev pub LeaveFinds : ℕ → ℕ → List Filed → Option (Spot × ℕ) → Clause → Type 0
+LeaveFinds actor now files None c = ⊥
+LeaveFinds actor now files (Some p) c = LeftFinds actor now p.0.place (facts_at files p.1) c
+
+-- at a change of paths, by what was kept of files before it and is kept after it
+abbrev pub ChangeFinds : Names → ℕ → ℕ → Change → List Filed → List Filed → Clause → Type 0
+ChangeFinds names actor now c old new k =
+    NameFinds names old (named_by c) k ⊎ LeaveFinds actor now new c.taken k ⊎ LeaveFinds actor now new (turned_by c) k

@@ -1,0 +1,47 @@
+//! Paths of messages that come, and the clauses that go by their messages.
+ghost use Rattle.std.specs.Prelude.{ℕ};
+ghost use Rattle.std.specs.Option.{option_copied};
+ghost use Rattle.md_dirs.specs.declared.paths.Path.{Path};
+ghost use Rattle.md_log.specs.declared.line.Step.{Step};
+ghost use Rattle.md_judge.specs.declared.judge.directories.Spot.{Spot};
+ghost use Rattle.md_judge.specs.declared.judge.acts.Change.{Change};
+ghost use Rattle.md_judge.specs.Logs.{Log};
+ghost use Rattle.md_judge.specs.Law.{turn};
+ghost use Rattle.md_judge.specs.Found.{Notes};
+ghost use Rattle.md_judge.specs.Messages.{AddFinds, IsAddition, BrokenByAdding};
+
+use super::befores::line_before;
+use super::directories::Spot;
+use super::found::Found;
+use super::known::Known;
+use super::mail::Message;
+use md_log::Clause;
+
+/// A path of a message is to be added that names a file, and `leaving` of its paths are to go: what the message has.
+pub(super) fn check_added(found: &mut Found, message: Option<&Message>, file: u32, leaving: u32)
+    ensures finds { Notes (AddFinds (option_copied message.entry) file leaving) found.old found.new }
+    ensures law { (path : Spot → Path) (i : ℕ) (l : Log) (x : Step) (c : Change) (spot : Spot)
+        → IsAddition path l i c spot file leaving (option_copied message.entry) → Notes (BrokenByAdding (turn l i x)) found.old found.new }
+{
+    let Some(message) = message else {
+        return;
+    };
+    found.note(
+        message.is_used_again(file),
+        Clause::UsedAgain,
+        message.gone_at(),
+    );
+    found.note(
+        message.count > leaving,
+        Clause::TwoNames,
+        line_before(message.since),
+    );
+}
+
+/// How many paths of a message go with a path that is taken: one or none.
+pub(super) fn leaving(known: &Known, taken: Option<(Spot, u32)>, folder: u32, unique: u32) -> u32 {
+    match taken {
+        Some((spot, _)) if spot.folder == folder && known.unique_at(spot) == Some(unique) => 1,
+        _ => 0,
+    }
+}

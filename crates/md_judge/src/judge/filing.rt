@@ -1,0 +1,177 @@
+//! Calls on files, and the clauses that go by what was done to files.
+ghost use Rattle.std.specs.Prelude.{◌≡◌, ℕ, List, OnOk, true};
+ghost use Rattle.md_dirs.specs.declared.paths.Path.{Path};
+ghost use Rattle.md_log.specs.declared.line.Step.{Step};
+ghost use Rattle.md_judge.specs.declared.judge.directories.Spot.{Spot};
+ghost use Rattle.md_judge.specs.Logs.{Log};
+ghost use Rattle.md_judge.specs.Law.{turn};
+ghost use Rattle.md_judge.specs.Recalls.{IsAt, IsChange, BrokenAt, BrokenByChange};
+ghost use Rattle.md_judge.specs.Found.{Notes};
+ghost use Rattle.md_judge.specs.Files.{is_message_in, named, facts_at, Changes, AtStep, LeaveStep, ChangeStep, WriteFinds, AtFinds, NamedFinds, LeaveFinds, ChangeFinds};
+
+use super::acts::Change;
+use super::befores::{line_at, mark_of};
+use super::directories::Spot;
+use super::files::{Filed, Files};
+use super::found::Found;
+use super::known::{Act, Known};
+use md_dirs::Place;
+use md_log::{Call, Clause, Deed, LineFault, Reply};
+
+/// Who makes a call, and at which line.
+#[derive(Clone, Copy)]
+pub(super) struct Caller {
+    pub(super) actor: u32,
+    pub(super) line: usize,
+}
+
+impl Files {
+    /// Judges a call that was made as `act` says by what was done to files, and keeps what it does to them.
+    pub(super) fn call(
+        &mut self,
+        found: &mut Found,
+        known: &Known,
+        by: Caller,
+        call: &Call,
+        act: &Act,
+    ) -> Result<(), LineFault> {
+        if let (Call::At { deed, reply, .. }, Some(spot)) = (call, act.spot) {
+            self.at(found, known, by, *deed, spot, *reply, act.file)?;
+        }
+        self.change(found, known, by, &act.change)
+    }
+
+    /// A call on one path, which names a file or none, but for its change of paths.
+    fn at(
+        &mut self,
+        found: &mut Found,
+        known: &Known,
+        by: Caller,
+        deed: Deed,
+        spot: Spot,
+        reply: Reply,
+        file: Option<u32>,
+    ) -> Result<(), LineFault>
+        ensures step { OnOk result (AtStep deed reply by.actor known.now.clock file self.old.all.items self.new.all.items) }
+        ensures finds { OnOk result (Notes (AtFinds (is_message_in known.now.names spot) by.actor self.old.all.items deed reply file) found.old found.new) }
+        ensures law { (who : ℕ → List ℕ) (many i : ℕ) (l : Log) (x : Step)
+            → IsAt who many l i x by.actor (is_message_in known.now.names spot) deed reply file self.old.all.items
+            → OnOk result (Notes (BrokenAt (turn l i x)) found.old found.new) }
+    {
+        match (deed, reply, file) {
+            (Deed::Create, Reply::Ok, _) => {
+                found.note(known.is_message(spot), Clause::SeenBeforeWhole, None);
+                self.make(mark_of(by.line), Some(by.actor), known.clock)
+            }
+            (Deed::Write, _, Some(file)) => {
+                self.check_written(found, by.actor, file, reply);
+                self.write(mark_of(by.line), file, reply, known.clock);
+                Ok(())
+            }
+            (Deed::Flush, _, Some(file)) => {
+                self.flush(file, reply);
+                Ok(())
+            }
+            _ => Ok(()),
+        }
+    }
+
+    /// A file is to be written to: whether readers see it, and who made it.
+    fn check_written(&self, found: &mut Found, actor: u32, file: u32, reply: Reply)
+        ensures { Notes (WriteFinds actor reply (facts_at self.now.all.items file)) found.old found.new }
+    {
+        let Some(Filed { facts, lines }) = self.file(file) else {
+            return;
+        };
+        if reply != Reply::Ok {
+            return;
+        }
+        let is_mixed = facts.is_of_another(actor);
+        found.note(facts.seen > 0, Clause::SeenBeforeWhole, line_at(lines.seen));
+        found.note(is_mixed, Clause::Mixed, line_at(lines.made));
+    }
+
+    /// Paths come to name files, and name files no longer.
+    fn change(
+        &mut self,
+        found: &mut Found,
+        known: &Known,
+        by: Caller,
+        change: &Change,
+    ) -> Result<(), LineFault>
+        ensures step { OnOk result (ChangeStep known.now.names change.now self.old.all.items self.new.all.items) }
+        ensures finds { OnOk result (Notes (ChangeFinds known.now.names by.actor known.now.clock change.now self.old.all.items self.new.all.items) found.old found.new) }
+        ensures law { (path : Spot → Path) (who : ℕ → List ℕ) (many i : ℕ) (l : Log) (x : Step)
+            → IsChange path who many l i x by.actor known.now.clock known.now.names change.now self.old.all.items self.new.all.items
+            → OnOk result (Notes (BrokenByChange (turn l i x)) found.old found.new) }
+    {
+        if let Some((spot, file)) = change.named() {
+            self.check_named(found, known, spot, file);
+            self.name(known, by.line, spot, file)?;
+        }
+        self.leave(known, change.turned_from());
+        self.leave(known, change.taken);
+        self.check_left(found, known, by.actor, change.taken);
+        self.check_left(found, known, by.actor, change.turned_from());
+        Ok(())
+    }
+
+    /// A path is to name a file: what the file was.
+    fn check_named(&self, found: &mut Found, known: &Known, spot: Spot, file: u32)
+        ensures { Notes (λ c. (is_message_in known.now.names spot ≡ true) × NamedFinds spot.place (facts_at self.now.all.items file) c) found.old found.new }
+    {
+        if !known.is_message(spot) {
+            return;
+        }
+        let Some(Filed { facts, lines }) = self.file(file) else {
+            return;
+        };
+        let written = line_at(lines.written);
+        let is_back = facts.is_back(spot.place);
+        found.note(facts.shows_cut(), Clause::SeenBeforeWhole, written);
+        found.note(facts.shows_unflushed(), Clause::NotFlushed, written);
+        found.note(is_back, Clause::MovedBack, line_at(lines.cur));
+    }
+
+    /// A path names a file from a line on.
+    pub(super) fn name(
+        &mut self,
+        known: &Known,
+        line: usize,
+        spot: Spot,
+        file: u32,
+    ) -> Result<(), LineFault>
+        ensures { OnOk result (Changes file (named known.now.names spot) self.old.all.items self.new.all.items) }
+    {
+        if known.is_message(spot) {
+            self.show(mark_of(line), file, spot.place == Place::Cur)?;
+        }
+        Ok(())
+    }
+
+    /// A path, where there is one, no longer names its file.
+    fn leave(&mut self, known: &Known, left: Option<(Spot, u32)>)
+        ensures { LeaveStep known.now.names left self.old.all.items self.new.all.items }
+    {
+        if let Some((spot, file)) = left
+            && known.is_message(spot)
+        {
+            self.hide(file);
+        }
+    }
+
+    /// A path, where there is one, has left its file: whether that was cleaned early.
+    fn check_left(&self, found: &mut Found, known: &Known, actor: u32, left: Option<(Spot, u32)>)
+        ensures { Notes (LeaveFinds actor known.now.clock self.now.all.items left) found.old found.new }
+    {
+        let Some((spot, file)) = left else {
+            return;
+        };
+        let Some(Filed { facts, lines }) = self.file(file) else {
+            return;
+        };
+        let is_early = facts.is_early(spot.place, actor, known.clock);
+        let made = lines.made.max(lines.written);
+        found.note(is_early, Clause::CleanedEarly, line_at(made));
+    }
+}
