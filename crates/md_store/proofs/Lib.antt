@@ -11,3 +11,6 @@ pub mod Fresh
 pub mod Submits
 pub mod Ends
 pub mod Last
+pub mod Entering
+pub mod Rolled
+pub mod Ticketed

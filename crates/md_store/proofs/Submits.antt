@@ -124,7 +124,7 @@ module _ (r : Run) (folders : ℕ) (same : r.image.folders ≡ folders) (asked :
   none : first_met (held_of empty) ≡ None
   none = none-held (is_used empty) (none-used folders) asked
 
-  pub submits : (res : Result ℕ SubmitRefused) → MatchResult res (λ _. submit_refusal r asked ≡ None) (λ y. IsRefusal (submit_refusal r asked) y.error)
+  pub submits : {A : Type 0} (res : Result A SubmitRefused) → MatchResult res (λ _. submit_refusal r asked ≡ None) (λ y. IsRefusal (submit_refusal r asked) y.error)
       → MatchResult res (λ _. plain_refusal folders asked ≡ None) (λ y. IsWhy asked (plain_refusal folders asked) y.error)
   submits (Ok n) h = is-plain ∙ accepted (plain folders asked) (held_of r) (held_of empty) none (sym is-here ∙ h)
   submits (Err y) h = subst (λ o. IsWhy asked o y.error) (sym is-plain)

@@ -46,23 +46,29 @@ exactly before all now within told one = ⊎_elim
     (λ (same : now ≡ all). same) one
 
 -- what a step told, as the pass holds it
-holds : (news : News) (effect : Bool) (s : Both) (job : ℕ) (before now : List Effect) → Tells news effect s job before now →
+pub holds : (news : News) (effect : Bool) (s : Both) (job : ℕ) (before now : List Effect) → Tells news effect s job before now →
     HoldsAfter news (effects_of s.run) before now
 holds NoEffect effect s job before now t = t.2 ∙ t.1
 holds Told effect s job before now t = t.3 ∙ t.1
 holds Later effect s job before now t = t.3
 
 module _ (begun r : Run) (s : Both) (since : IsSince begun r) (run : IsRun r) where
+  abbrev pub told-since : (job now : ℕ) (own : Option ℕ) (x : StoreStep) → step_refusal (job_at (jobs_of r) job) ≡ None
+      → s.run ≡ and_event r (occurrence job now own (is_fault x.out.reply))
+      → ShowsStep r s.run (occurrence job now own (is_fault x.out.reply)) x.out
+      → (before held : List Effect) → Tells x.news x.out.effect s job before held → TellsSince begun job now own x before held
+  told-since job now own x taken is shows before held told =
+      let e : Occurrence = occurrence job now own (is_fault x.out.reply) in
+      record {
+        step = record { run = r; since = since; is_run = run; taken = taken; shows = subst (λ (t : Run). ShowsStep r t e x.out) is shows };
+        told = subst (λ (t : Run). HoldsAfter x.news (effects_of t) before held) is (holds x.news x.out.effect s job before held told);
+      }
+
   pub tells-since : (job now : ℕ) (own : Option ℕ) (res : Result StoreStep CoreError) (Why : CoreError → Type 0)
       → MatchResult res (λ _. step_refusal (job_at (jobs_of r) job) ≡ None) Why
       → IfOk res (λ x. s.run ≡ and_event r (occurrence job now own (is_fault x.out.reply)))
       → IfOk res (λ x. ShowsStep r s.run (occurrence job now own (is_fault x.out.reply)) x.out)
       → (before held : List Effect) → IfOk res (λ x. Tells x.news x.out.effect s job before held)
       → IfOk res (λ x. TellsSince begun job now own x before held)
-  tells-since job now own (Ok x) Why taken is shows before held told =
-      let e : Occurrence = occurrence job now own (is_fault x.out.reply) in
-      record {
-        step = record { run = r; since = since; is_run = run; taken = taken; shows = subst (λ (t : Run). ShowsStep r t e x.out) is shows };
-        told = subst (λ (t : Run). HoldsAfter x.news (effects_of t) before held) is (holds x.news x.out.effect s job before held told);
-      }
+  tells-since job now own (Ok x) Why taken is shows before held told = told-since job now own x taken is shows before held told
   tells-since job now own (Err e) Why taken is shows before held told = tt

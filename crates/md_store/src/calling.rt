@@ -31,7 +31,8 @@ pub enum CallError {
     /// Another thread stepped the job to its answer, and was given it.
     #[error("job {job} was answered elsewhere")]
     Unanswered { job: JobId },
-    /// The job has this answer. Memory for publishing its effect was refused, and a later step of any job publishes it first.
+    /// The job has this answer. Memory for publishing its effect was refused, and the pass was not told of it. A later step of any job
+    /// publishes it first, and `catch_up` publishes it without one.
     #[error("job {job} was answered, and not published yet")]
     Untold { job: JobId, answer: Answer },
 }

@@ -13,3 +13,4 @@ mod sent;
 mod small;
 mod stampede;
 mod threads;
+mod tickets;

@@ -3,7 +3,7 @@ use md_core::{CallError as WorldCallError, CoreError, SettleError};
 use md_head::HeadError;
 use md_index::IndexError;
 use md_name::NameError;
-use md_store::{CallError, ListError, OpenError};
+use md_store::{CallError, ListError, OpenError, StoreError};
 use md_view::ViewError;
 use std::alloc::AllocError;
 use thiserror::Error;
@@ -44,6 +44,9 @@ pub enum UseError {
     /// The store's listing was refused.
     #[error(transparent)]
     List(#[from] ListError),
+    /// The store's message was not read.
+    #[error(transparent)]
+    Store(#[from] StoreError),
     /// A growth was refused.
     #[error("no memory")]
     NoMemory(#[from(alloc)] AllocError),

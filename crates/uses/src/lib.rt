@@ -6,6 +6,7 @@ pub mod deliver;
 mod error;
 pub mod head;
 pub mod index;
+pub mod locked;
 pub mod name;
 pub mod server;
 

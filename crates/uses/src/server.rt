@@ -214,7 +214,7 @@ fn round_in<J: Naming + Send + Sync, W: Watch, R: Threads + Wait + Sync>(
     watch: &W,
 ) -> Result<(World<IndexDirs>, Counts), UseError>
     requires begun { prepared.run ≡ J.begun }
-    requires named { (named_of prepared.run.image ≡ J.opening) × (prepared.book ≡ J.book) }
+    requires named { (named_of prepared.run.image ≡ J.opening) × (prepared.book ≡ J.book) × (prepared.roll ≡ J.roll) }
 {
     let (store, passes) = match prepared.open::<J, R>(rt, alloc) {
         Ok(opened) => opened,

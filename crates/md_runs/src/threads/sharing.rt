@@ -52,7 +52,7 @@ fn share_opened<J: Naming + Send + Sync, R: Threads + Wait + Sync>(
     jobs: u64,
 ) -> Result<Shared, RunFault>
     requires begun { prepared.run ≡ J.begun }
-    requires named { (named_of prepared.run.image ≡ J.opening) × (prepared.book ≡ J.book) }
+    requires named { (named_of prepared.run.image ≡ J.opening) × (prepared.book ≡ J.book) × (prepared.roll ≡ J.roll) }
     ensures since { IfOk result (λ s. IsSince prepared.run s.world) }
     ensures stop { IfErr result IsStop }
 {

@@ -15,6 +15,7 @@ use super::sent::{drop_amid, send_word};
 use super::small::refuse_calls;
 use super::stampede::{Stampede, are_beginnings, run_all};
 use super::threads::{deliver_beside_flags, deliver_by_all, deliver_to_another};
+use super::tickets::step_by_tickets;
 use md_core::{Call, World};
 use md_dirs::{ImageFile, PlainDirs};
 use md_store::{Naming, OpenError, OpenRefused, Pass, Prepared, Store, prepare};
@@ -45,6 +46,7 @@ pub enum Scene<'a> {
     Halves,
     CaughtUp,
     Locked,
+    Tickets,
     Stampede(&'a Stampede),
 }
 
@@ -115,7 +117,7 @@ fn play_in<J: Naming + Send + Sync, R: Threads + Wait + Abort + Sync>(
     plan: &Plan<'_>,
 ) -> Option<OpenError>
     requires begun { prepared.run ≡ J.begun }
-    requires named { (named_of prepared.run.image ≡ J.opening) × (prepared.book ≡ J.book) }
+    requires named { (named_of prepared.run.image ≡ J.opening) × (prepared.book ≡ J.book) × (prepared.roll ≡ J.roll) }
 {
     match prepared.open::<J, R>(rt, alloc) {
         Ok((store, passes)) => {
@@ -187,6 +189,7 @@ fn play_scene<J: Naming + Send + Sync, R: Threads + Wait + Sync>(
         Scene::Halves => list_by_two(rt, alloc, store, passes),
         Scene::CaughtUp => catch_up(rt, alloc, store, passes),
         Scene::Locked => act_locked(rt, alloc, store, passes),
+        Scene::Tickets => step_by_tickets(rt, alloc, store, passes),
         Scene::Stampede(stampede) => run_all(rt, alloc, stampede, store, passes) > 500,
     }
 }

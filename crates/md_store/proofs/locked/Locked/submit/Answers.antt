@@ -1,9 +1,0 @@
-use Rattle.md_store.proofs.Moves.{submitted}
-use Rattle.md_store.proofs.locked.Locked.submit.Goals as goal
-
-pub invariant_of-self : goal.invariant_of-self
-invariant_of-self g c = (
-  c.self.invariant.0,
-  submitted _ _ _ _ _ _ _ c.self.inside.world _ c.args.call c.submit.result c.submit.ensures.ok c.submit.ensures.effects c.submit.ensures.unchanged
-      c.self.invariant.1,
-)
