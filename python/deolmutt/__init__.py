@@ -12,7 +12,7 @@ from .errors import DeolmuttError, Failed, Refused, WrongThread
 from .headers import Summary, summary
 from .maildir import Maildir
 from .names import split_name, unique_name
-from .scripts import transcript
+from .scripts import index_lines, transcript
 from .world import World
 
 __all__ = [
@@ -28,6 +28,7 @@ __all__ = [
     "errors",
     "fresh_unique",
     "headers",
+    "index_lines",
     "lines",
     "names",
     "scripts",

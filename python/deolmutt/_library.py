@@ -64,6 +64,7 @@ _FUNCTIONS = {
     "deolmutt_list": (_WORLD, _U32, _OUT, _SIZE, _TO_SIZE),
     "deolmutt_read": (_WORLD, _BYTES, _SIZE, _OUT, _SIZE, _TO_SIZE),
     "deolmutt_transcript": (_BYTES, _SIZE, _OUT, _SIZE, _TO_SIZE, _TO_U64),
+    "deolmutt_index": (_BYTES, _SIZE, _OUT, _SIZE, _TO_SIZE, _TO_U64),
     "deolmutt_unique": (_U64, _U64, _U64, _U64, _BYTES, _SIZE, _OUT, _SIZE, _TO_SIZE),
     "deolmutt_split": (_BYTES, _SIZE, _TO_SIZE, ctypes.POINTER(_U32), _TO_U64),
     "deolmutt_summary": (_BYTES, _SIZE, _OUT, _SIZE, _TO_SIZE),

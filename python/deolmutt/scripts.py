@@ -1,4 +1,4 @@
-"""Whole scripts of the script language (docs/SCRIPT.md), played by the library."""
+"""Whole scripts of the script language (docs/SCRIPT.md), played or indexed by the library."""
 
 from __future__ import annotations
 
@@ -16,14 +16,30 @@ def transcript(script: bytes, room: Optional[int] = None) -> bytes:
     The first refused line is raised, by its own class, with its `line` and, as `done`, what was printed
     before it. `room` says how many bytes may be printed: a script that prints more is played once more.
     """
+    return _printed(library().deolmutt_transcript, script, room)
+
+
+def index_lines(lines: bytes, room: Optional[int] = None) -> bytes:
+    """The index of `folder` and `file` lines, as `maildir_cli index` prints it: for each message a line
+    `FOLDER UNIQUE`, the lines of its header summary, and `end`.
+
+    The first refused line is raised, by its own class, with its `line`. Where the files together make no
+    store it is the last one, as for the program. `room` says how many bytes the index may have: one that
+    has more is made once more.
+    """
+    return _printed(library().deolmutt_index, lines, room)
+
+
+def _printed(function: Any, script: bytes, room: Optional[int]) -> bytes:
+    """What a function prints of a script. A refused line is raised with what was printed before it."""
     text = bytes(script)
     line = ctypes.c_uint64()
 
-    def play(*given: Any) -> int:
-        status: int = library().deolmutt_transcript(*given, ctypes.byref(line))
+    def run(*given: Any) -> int:
+        status: int = function(*given, ctypes.byref(line))
         return status
 
-    status, printed = filled(play, text, len(text), room=room or FIRST_ROOM)
+    status, printed = filled(run, text, len(text), room=room or FIRST_ROOM)
     if status != OK:
         error = at_line(refusal(status), line.value)
         error.done = printed

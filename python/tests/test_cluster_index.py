@@ -15,7 +15,7 @@ from support import TOP, maildir_message
 
 import deolmutt
 from deolmutt import lines
-from deolmutt.errors import BadEscape, DuplicateUnique, NotInThisRun, UnknownFolder
+from deolmutt.errors import BadEscape, BadNumber, DuplicateUnique, NotInThisRun, UnknownFolder
 
 if not NO_DASK:
     from distributed import progress
@@ -81,6 +81,10 @@ class IndexTest(ClusterCase):
         [row] = self.rows(lines=[b"folder i\nfile i new a 0 Subject: one\r"])
         [escaped] = self.rows(lines=[b"folder i\nfile i new a 0 Subject: one\\r\n"])
         self.assertEqual(escaped, row)
+        for last in (b"file i new a 0 Subject: one\r", b"file i new a 0", b"file i new a 0 x\\r", b"# none"):
+            rows = self.rows(lines=[b"folder i\nfile i new b 0 Subject: two\n" + last])
+            self.assertEqual(Row("i", "b", "two"), rows[-1])
+            self.assertEqual(1 + last.startswith(b"file"), len(rows))
 
     def test_partitions_are_by_bytes(self) -> None:
         big = b"file i new a 0 %b\nfile i new b 0 x\nfile i new c 0 y\n" % (b"x" * 1000)
@@ -104,6 +108,12 @@ class IndexTest(ClusterCase):
             # Behind the header too, of which alone the summary is made.
             (BadEscape, 2, b"folder i\nfile i new b 0 x: y\\n\\nz\\q\\n\n"),
             (BadEscape, 2, b"folder i\nfile i new b 0 x: y\\n\\nz\\\n"),
+            # Of a file that is no message too.
+            (BadEscape, 3, b"folder i\nfile i new b 0\nfile i tmp c 0 \\q\n"),
+            (BadEscape, 3, b"folder i\nfile i new b 0\nfile i new .c 0 \\q\n"),
+            # In lines that come in no order, and in a last one without an end.
+            (BadEscape, 5, b"folder i\nfile i new c 0\n# d\nfile i new b 0\nfile i new a 0 x\\\r"),
+            (BadNumber, 2, b"folder i\nfile i new a 0\r"),
         ):
             for most in PARTITIONS:
                 with self.assertRaises(refused) as raised:

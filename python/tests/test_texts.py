@@ -124,5 +124,30 @@ class TranscriptTest(unittest.TestCase):
         self.assertEqual(9000, printed.count(b".M0P1Q1.host"))
 
 
+@needs_library
+class IndexLinesTest(unittest.TestCase):
+    def test_an_index(self) -> None:
+        lines = (
+            b"# a store\nfolder i\nfolder j\nfile j new z 0 Subject: last\\n\n"
+            b"file i cur b:2,S 5 From: b@c\\nSubject: a\\\\b\\n\nfile i tmp t 0 Subject: half\\n\nfile i new a 0"
+        )
+        said = b"i a\nend\ni b\nsubject=a\\\\b\nfrom=b@c\nend\nj z\nsubject=last\nend\n"
+        self.assertEqual(said, deolmutt.index_lines(lines))
+        # A room that is too small is no matter.
+        self.assertEqual(said, deolmutt.index_lines(lines, room=1))
+        self.assertEqual(b"", deolmutt.index_lines(b""))
+
+    def test_a_refused_line_is_named(self) -> None:
+        for refused, line, lines in (
+            (errors.NotInThisRun, 2, b"folder i\nlist i\n"),
+            (errors.BadEscape, 2, b"folder i\nfile i new u 0 \\q\nfile i new v\n"),
+            # What makes no store is refused at the last line, as by the program.
+            (errors.DuplicateUnique, 4, b"folder i\nfile i new u 0\nfile i cur u:2, 0\n# last\n"),
+        ):
+            with self.assertRaises(refused) as met:
+                deolmutt.index_lines(lines)
+            self.assertEqual((line, b""), (met.exception.line, met.exception.done))
+
+
 if __name__ == "__main__":
     unittest.main()

@@ -16,7 +16,7 @@ use Rattle.md_runs.specs.declared.fault.RunFault.TheVariants as fault
 use Rattle.md_runs.specs.declared.words.Run.{Run}
 use Rattle.md_runs.specs.declared.words.Run.TheVariants.{Play, Threads, Index}
 use Rattle.md_runs.specs.Faults.{refused_line, refusal_text}
-use Rattle.md_runs.specs.Indexing.{Indexes}
+use Rattle.md_runs.specs.Indexes.{Indexes}
 use Rattle.md_runs.specs.Runs.{WordsName, WordsNameNone}
 use Rattle.md_runs.specs.Threading.{RunsThreads}
 

@@ -48,6 +48,7 @@ uint32_t md_ffi_names(struct deolmutt_world *handle, uint32_t folder, uint32_t p
 uint32_t md_ffi_calls(struct deolmutt_world *handle, const uint8_t *records, size_t length, uint64_t now, deolmutt_answer *answers,
                       size_t room, size_t *done);
 uint32_t md_ffi_transcript(const uint8_t *script, size_t length, uint8_t *out, size_t room, size_t *out_length, uint64_t *line);
+uint32_t md_ffi_index(const uint8_t *lines, size_t length, uint8_t *out, size_t room, size_t *out_length, uint64_t *line);
 uint32_t md_ffi_unique(uint64_t sec, uint64_t micro, uint64_t pid, uint64_t count, const uint8_t *host, size_t host_length, uint8_t *out,
                        size_t room, size_t *length);
 uint32_t md_ffi_split(const uint8_t *name, size_t length, size_t *unique_length, uint32_t *info, uint64_t *flags);
@@ -202,6 +203,14 @@ uint32_t deolmutt_transcript(const uint8_t *script, size_t length, uint8_t *out,
     if (IS_LONG(length) || IS_LONG(room))
         return DEOLMUTT_LENGTH;
     return md_ffi_transcript(BYTES(script, length), ROOM(out, room), out_length, line);
+}
+
+uint32_t deolmutt_index(const uint8_t *lines, size_t length, uint8_t *out, size_t room, size_t *out_length, uint64_t *line) {
+    if (out_length == NULL || line == NULL || IS_NULL(lines, length) || IS_NULL(out, room))
+        return DEOLMUTT_NULL;
+    if (IS_LONG(length) || IS_LONG(room))
+        return DEOLMUTT_LENGTH;
+    return md_ffi_index(BYTES(lines, length), ROOM(out, room), out_length, line);
 }
 
 uint32_t deolmutt_unique(uint64_t sec, uint64_t micro, uint64_t pid, uint64_t count, const uint8_t *host, size_t host_length, uint8_t *out,

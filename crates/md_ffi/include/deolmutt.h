@@ -157,7 +157,8 @@ typedef struct deolmutt_step_out {
     deolmutt_answer answer;
 } deolmutt_step_out;
 
-/* The version of this interface: DEOLMUTT_ABI of the header that the library was built with. */
+/* The version of this interface: DEOLMUTT_ABI of the header that the library was built with. It is another one where a call changes; a
+   call that is added leaves it. */
 uint32_t deolmutt_abi(void);
 
 /* The text of a refusal, in ASCII, as much of it as there is room for, and its whole length, at most 32. 0 for a number that is none, and
@@ -230,6 +231,13 @@ uint32_t deolmutt_calls(deolmutt_world *world, const uint8_t *records, size_t le
 /* What a whole script prints. Where a line is refused the status is its refusal, *line its number, and out has what was printed before
    it; else *line is 0. Refused also as DEOLMUTT_NO_MEMORY (*line 0, *length 0) and ROOM (*length and *line are written). */
 uint32_t deolmutt_transcript(const uint8_t *script, size_t length, uint8_t *out, size_t room, size_t *out_length, uint64_t *line);
+
+/* The index of the messages of `folder` and `file` lines, as `maildir_cli index` prints it: folder by folder, in the order of their lines,
+   and in order of unique name, a line `FOLDER UNIQUE` for each message in new and cur, and the lines of deolmutt_summary. The lines make a
+   store for the call alone. Refused as a script's line is, with *line its number, from 1: DEOLMUTT_NOT_IN_THIS_RUN at another command; and
+   with *line the number of the last one as DEOLMUTT_SAME_PATH, BAD_NAME, LONG_UNIQUE or DUPLICATE_UNIQUE. Refused also as
+   DEOLMUTT_NO_MEMORY (*line 0) and ROOM (*line 0, *out_length is written). *out_length is 0 after each other refusal. */
+uint32_t deolmutt_index(const uint8_t *lines, size_t length, uint8_t *out, size_t room, size_t *out_length, uint64_t *line);
 
 /* A unique name as "Using maildir format" has it, SEC.MmicroPpidQcount.host. Refused: DEOLMUTT_BAD_MICRO, BAD_HOST, NO_MEMORY,
    ROOM (*length is written). */

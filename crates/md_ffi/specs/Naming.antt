@@ -1,11 +1,13 @@
--- What names, summaries and scripts give, as C has it.
+-- What names, summaries, scripts and their indexes give, as C has it.
 use Rattle.std.specs.Prelude.{◌≡◌, ◌⊎◌, ◌≤◌, ◌<◌, ◌++◌, ℕ, List, Option, Some, None, Result, Ok, Err, length, drop}
 use Rattle.md_name.specs.Made.{make_refusal, made_unique}
 use Rattle.md_name.specs.declared.error.NameError.{NameError}
 use Rattle.md_name.specs.declared.info.Info.{Info}
 use Rattle.md_name.specs.declared.info.Info.TheVariants.{Bare, Two, Opaque}
-use Rattle.md_script.specs.Kinds.{name_kind}
+use Rattle.md_script.specs.Kinds.{at_no_line, name_kind}
 use Rattle.md_script.specs.declared.error.PlayError.{PlayError}
+use Rattle.md_script.specs.declared.error.PlayKind.TheVariants.{NoMemory}
+use Rattle.md_ffi.specs.Laying.{Lays}
 use Rattle.md_ffi.specs.Numbers.{kind_number, refusal_number}
 use Rattle.md_ffi.specs.Shown.{flag_bits}
 use Rattle.md_ffi.specs.declared.refusal.Refusal.{Refusal}
@@ -38,6 +40,17 @@ Plays text refusal old new whole line status =
     × (((status ≡ number_of refusal) × (length text ≤ length old) × (new ≡ text ++ drop (length text) old))
     ⊎ ((status ≡ 3) × (length old < length text) × (new ≡ old))))
     ⊎ ((status ≡ 4) × (whole ≡ 0) × (line ≡ 0) × (new ≡ old))
+
+-- An index was laid, or there was no room. Or a line is refused, which is said, and nothing was laid.
+abbrev pub LaysIndex : Result (List ℕ) PlayError → List ℕ → List ℕ → ℕ → ℕ → ℕ → Type 0
+LaysIndex (Ok text) old new whole line status = Lays text old new whole status × (line ≡ 0)
+LaysIndex (Err refused) old new whole line status =
+    (status ≡ kind_number refused.kind) × (line ≡ refused.line) × (whole ≡ 0) × (new ≡ old)
+
+-- the same, unless memory ran out
+abbrev pub Indexes : Result (List ℕ) PlayError → List ℕ → List ℕ → ℕ → ℕ → ℕ → Type 0
+Indexes said old new whole line status =
+    LaysIndex said old new whole line status ⊎ LaysIndex (Err (at_no_line NoMemory)) old new whole line status
 
 -- the number of an info
 abbrev pub info_number : Info → ℕ

@@ -1,4 +1,4 @@
-//! The store for C: worlds behind handles, scripts, names and header summaries. `include/deolmutt.h` has the interface.
+//! The store for C: worlds behind handles, scripts, indexes, names and header summaries. `include/deolmutt.h` has the interface.
 //!
 //! Each exported function here takes references, and `face/deolmutt.c` makes them of C's pointers, which it tests for null first.
 #![tactic(auto)]
@@ -7,6 +7,7 @@ mod asked;
 pub mod calls;
 mod handle;
 mod held;
+pub mod indexing;
 pub mod jobs;
 pub mod load;
 mod loose;

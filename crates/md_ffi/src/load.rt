@@ -1,9 +1,6 @@
 //! Worlds that are loaded and let go.
-ghost use Rattle.std.specs.Prelude.{◌≡◌, ◌⊎◌, ◌≢◌, None, Ok, Err, length, MatchResult};
-ghost use Rattle.md_script.specs.Folders.{names_of};
+ghost use Rattle.std.specs.Prelude.{◌≡◌, ◌⊎◌, None, Ok, Err, MatchResult};
 ghost use Rattle.md_script.specs.Kinds.{at_no_line};
-ghost use Rattle.md_script.specs.Sessions.{run_over};
-ghost use Rattle.md_script.specs.Words.{Gives};
 ghost use Rattle.md_script.specs.declared.error.PlayKind.TheVariants.{NoMemory};
 ghost use Rattle.md_ffi.specs.Doing.{free_number};
 ghost use Rattle.md_ffi.specs.Loads.{loaded, GivesWorld};
@@ -12,24 +9,10 @@ use crate::handle::Handle;
 use crate::held::Held;
 use crate::refusal::Refusal;
 use md_core::World;
-use md_dirs::{ImageFile, IndexDirs};
-use md_script::{PlayError, PlayKind, Setup, image, open_store};
+use md_dirs::IndexDirs;
+use md_indexing::load;
+use md_script::{PlayError, PlayKind, Setup, image};
 use std::alloc::Global;
-
-// The store over folders, as many as there are names, and files.
-fn opened(
-    alloc: Global,
-    names: &[Vec<u8>],
-    files: Vec<ImageFile>,
-) -> Result<World<IndexDirs>, PlayKind>
-    ensures { Gives (λ world. world) result (run_over (length (names_of names.now)) files.items) }
-{
-    // No memory holds so many folders.
-    let Ok(count) = u32::try_from(names.len()) else {
-        return Err(PlayKind::NoMemory);
-    };
-    open_store(alloc, count, files)
-}
 
 // The store that lines load.
 #[tactic(auto, unfolding(crate::specs::Loads::loaded))]
@@ -43,7 +26,7 @@ fn world_of(alloc: Global, lines: &[u8]) -> Result<World<IndexDirs>, PlayError>
         files,
         calls: _,
     } = image(alloc, lines, false)?;
-    match opened(alloc, &folders, files) {
+    match load(alloc, &folders, files) {
         Ok(world) => Ok(world),
         Err(kind) => Err(PlayError::from(kind)),
     }

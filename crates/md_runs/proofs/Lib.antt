@@ -1,3 +1,4 @@
 pub mod WordLists
 pub mod Submitting
 pub mod Reporting
+pub mod MadeTexts

@@ -5,19 +5,19 @@ ghost use Rattle.md_core.specs.Runs.{dirs_of};
 ghost use Rattle.md_script.specs.Folders.{names_of};
 ghost use Rattle.md_script.specs.Kinds.{at_no_line};
 ghost use Rattle.md_script.specs.declared.error.PlayKind.TheVariants.{NoMemory};
-ghost use Rattle.md_runs.specs.Indexing.{Indexes, index_from, index_of_script, index_over};
+ghost use Rattle.md_indexing.specs.Indexing.{index_from, index_of_script, index_over};
+ghost use Rattle.md_runs.specs.Indexes.{Indexes};
 
-mod folder;
+mod workers;
 
-use crate::loading::{load, refused};
-pub(crate) use folder::listing;
-use folder::push_folder;
 use md_core::World;
 use md_dirs::{Dirs, ImageFile};
+use md_indexing::{load, refused};
 use md_script::{PlayError, PlayKind, Setup, Sink, Source, image, read_script, write_whole};
 use std::alloc::{AllocError, Global};
 use std::sync::Wait;
 use std::thread::Threads;
+use workers::push_folder;
 
 /// Reads a script whole, opens the store of its folders and files, and writes its index: for each folder, in the order of their lines,
 /// and each of its messages, in order of unique name, `FOLDER UNIQUE`, the lines of the message's header summary (RFC 5322) and `end`.
@@ -65,7 +65,7 @@ fn index_text<R: Threads + Wait + Sync>(
 }
 
 /// The index of the store over folders and files.
-#[tactic(auto, unfolding(crate::specs::Indexing::index_over))]
+#[tactic(auto, unfolding(md_indexing::specs::Indexing::index_over))]
 fn text_over<R: Threads + Wait + Sync>(
     rt: &R,
     alloc: Global,
@@ -82,7 +82,7 @@ fn text_over<R: Threads + Wait + Sync>(
 }
 
 /// The index of folders of these names, of which the first has the number 0.
-#[tactic(auto, unfolding(crate::specs::Indexing::index_from))]
+#[tactic(auto, unfolding(md_indexing::specs::Indexing::index_from))]
 fn folders_text<R: Threads + Wait + Sync, D: Dirs>(
     rt: &R,
     alloc: Global,

@@ -4,7 +4,6 @@
 
 mod fault;
 mod indexing;
-mod loading;
 mod threads;
 mod words;
 

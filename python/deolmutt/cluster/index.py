@@ -2,11 +2,10 @@
 
 from __future__ import annotations
 
-import mmap
+import io
 import os
 import re
-from array import array
-from typing import Any, Dict, Iterable, Iterator, List, NamedTuple, Optional, Sequence, Tuple, Union
+from typing import Any, BinaryIO, Dict, Iterable, Iterator, List, NamedTuple, Optional, Sequence, Tuple, Union
 
 import dask.bag
 from dask.delayed import delayed
@@ -17,25 +16,26 @@ from .._tree import TOP
 from ..calls import Place
 from ..errors import BadLine
 from ..lines import decoded, encoded, escaped, unescaped
-from ..scripts import transcript
+from ..scripts import index_lines
 from ..world import World
 
 # Lines: a file that all workers reach, by its path, or the bytes themselves.
 Lines = Union[str, "os.PathLike[str]", bytes]
 
 _PARTITION_BYTES = 1 << 24
-# So many bytes of messages go to the library together: what is near stays near.
-_TOGETHER = 1 << 20
-# No sound line has its body further on.
-_HEAD_BYTES = 512
-_SUMMARY = b"summary"
-# A line's end and an empty line, as a line has them.
-_EMPTY_LINES = (rb"\n\n", rb"\n\r\n")
-_BACKSLASH = ord("\\")
-# Where an escape may be a bad one.
-_BAD_ESCAPE = re.compile(rb"\\(?:[^nr\\]|\Z)")
-# What is printed of a message is mostly shorter. Where it is longer the library is asked once more.
-_PRINTED_BYTES = 1024
+# So many bytes of lines go to the library together: what is near stays near.
+_TOGETHER = 1 << 17
+_READ_BYTES = 1 << 20
+# A line of a message in new or cur, up to its body, with its folder and its unique name. No other line has a row.
+_HEAD = re.compile(rb"file ([^ \n]+) (?:new|cur) ([^ .:\n][^ :\n]*)[^ \n]* [^ \r\n]+(?= |\r?\n|\Z)")
+_FOLDER = re.compile(rb"folder ([^ \n]+?)\r?\n")
+# What ends a header.
+_EMPTY_LINE = re.compile(rb"\n\r?\n")
+# The lines of a message in an index.
+_ROW = re.compile(
+    "([^ \n]+) ([^ \n]+)\n(?:subject=(.*)\n)?(?:from=(.*)\n)?(?:message-id=(.*)\n)?(?:date=(.*)\n)?"
+    "(?:seconds=(.*)\n)?end\n"
+)
 
 
 class Row(NamedTuple):
@@ -53,15 +53,18 @@ class Row(NamedTuple):
 
 # The columns of a frame.
 _TYPES = [(field, "Int64" if field == "seconds" else "object") for field in Row._fields]
-_KEYS = {"subject": 0, "from": 1, "message-id": 2, "date": 3, "seconds": 4}
+_KEYS = ("subject", "from", "message-id", "date", "seconds")
 
 
-class _Message(NamedTuple):
-    """A message on its way to its row: its folder, its unique name, and its bytes as a line has them."""
+# Lines that go to the library together: where each run of them begins and ends.
+_Runs = List[Tuple[int, int]]
 
-    folder: str
-    unique: str
-    rest: bytes
+
+class _Plan(NamedTuple):
+    """A store's folder lines, and of each partition the lines of its messages, in the order of the index."""
+
+    folders: bytes
+    parts: List[List[_Runs]]
 
 
 def index(
@@ -86,10 +89,9 @@ def index(
     parts = [part for tree in trees for part in _parts_of_tree(os.fspath(tree), partition_bytes)]
     sources = [source if isinstance(source, bytes) else os.path.abspath(source) for source in lines]
     held = [client.scatter(it, hash=False) if isinstance(it, bytes) else it for it in sources]
-    plans = client.gather([client.submit(_plan, source, pure=False) for source in held])
+    plans = client.gather([client.submit(_plan, source, partition_bytes, pure=False) for source in held])
     for source, plan in zip(held, plans):
-        parted = _parted_spans(plan, partition_bytes)
-        parts += [delayed(_rows_of_lines)(source, spans) for spans in parted]
+        parts += [delayed(_rows_of_lines)(source, plan.folders, delayed(part, traverse=False)) for part in plan.parts]
     bag = dask.bag.from_delayed(parts) if parts else dask.bag.from_sequence([], npartitions=1)
     return bag.to_dataframe(meta=_TYPES) if as_frame else bag
 
@@ -102,9 +104,9 @@ def printed(rows: Iterable[Row]) -> bytes:
 def _printed(row: Row) -> bytes:
     head = b"%b %b\n" % (encoded(row.folder), encoded(row.unique))
     said = (
-        b"%b=%b\n" % (key.encode(), escaped(encoded(str(row[2 + at]))))
-        for key, at in _KEYS.items()
-        if row[2 + at] is not None
+        b"%b=%b\n" % (key.encode(), escaped(encoded(str(value))))
+        for key, value in zip(_KEYS, row[2:])
+        if value is not None
     )
     return b"".join([head, *said, b"end\n"])
 
@@ -112,103 +114,103 @@ def _printed(row: Row) -> bytes:
 # Lines.
 
 
-def _opened(source: Union[str, bytes]) -> Any:
-    """Lines as something whose slices are bytes."""
-    if isinstance(source, bytes):
-        return source
-    with open(source, "rb") as file:
-        # No map is of nothing.
-        return mmap.mmap(file.fileno(), 0, access=mmap.ACCESS_READ) if os.path.getsize(source) else b""
+def _opened(source: Union[str, bytes], buffering: int = -1) -> BinaryIO:
+    return io.BytesIO(source) if isinstance(source, bytes) else open(source, "rb", buffering)
 
 
-def _plan(source: Union[str, bytes]) -> bytes:
-    """Where the lines of the messages begin, their heads end and they end, in the order of the index, as
-    numbers of which three are a line.
+def _plan(source: Union[str, bytes], most: int) -> _Plan:
+    """How a store is parted, where a partition ends with the messages that bring it to so many bytes.
 
-    The store itself says which lines are sound and in which order the messages come: it is loaded with
-    lines that have no bodies.
+    The store itself says which lines are sound: it is loaded with lines that have no bodies.
     """
-    data = _opened(source)
-    size = len(data)
     heads: List[bytes] = []
-    spans: Dict[str, Tuple[int, int, int]] = {}
-    folders = at = 0
-    while at < size:
-        end = data.find(b"\n", at)
-        end, after = (size, b"") if end < 0 else (end, b"\n")
-        words = _words(data, at, end)
-        if len(words) > 4 and words[0] == b"file":
-            head = b" ".join(words[:5])
-            if words[2] != b"tmp":
-                spans[decoded(words[3])] = at, at + len(head), end
+    folders: Dict[bytes, int] = {}
+    messages: List[Tuple[int, bytes, int, int]] = []
+    at = 0
+    with _opened(source, _READ_BYTES) as lines:
+        for line in lines:
+            end = at + len(line)
+            found = _HEAD.match(line)
+            if found:
+                heads.append(found[0] + b"\n")
+                messages.append((folders.get(found[1], 0), found[2], at, end))
+            else:
+                heads.append(line)
+                named = _FOLDER.match(line)
+                if named:
+                    folders[named[1]] = len(folders)
+            at = end
+    World.load(b"".join(heads)).close()
+    # In the order of the index: by folder, and then by the bytes of unique names.
+    messages.sort()
+    spans = ((begin, end) for _, _, begin, end in messages)
+    lines_of_folders = b"".join(b"folder %b\n" % folder for folder in folders)
+    return _Plan(lines_of_folders, list(_parted(_together(spans, most), most)))
+
+
+def _together(spans: Iterable[Tuple[int, int]], most: int) -> Iterator[_Runs]:
+    """Lines that go to the library together. They come in the order of their source, which changes no index:
+    so the last line of the source, which may have no LF, is the last one."""
+    runs: _Runs = []
+    size = 0
+    for begin, end in spans:
+        if runs and runs[-1][1] == begin:
+            runs[-1] = runs[-1][0], end
         else:
-            head = data[at:end]
-            folders += head.startswith(b"folder ")
-        heads += head, after
-        at = end + 1
-    plan = array("Q")
-    with World.load(b"".join(heads)) as world:
-        for folder in range(folders):
-            for entry in world.list(folder):
-                plan.extend(spans[entry.name])
-    return plan.tobytes()
+            runs.append((begin, end))
+        size += end - begin
+        if size >= most or size >= _TOGETHER:
+            yield sorted(runs)
+            runs, size = [], 0
+    if runs:
+        yield sorted(runs)
 
 
-def _words(data: Any, begin: int, end: int) -> List[bytes]:
-    """The first five words of a line, and what is near behind them."""
-    words: List[bytes] = data[begin : min(end, begin + _HEAD_BYTES)].split(b" ", 5)
-    if len(words) < 6 and end - begin > _HEAD_BYTES:
-        words = data[begin:end].split(b" ", 5)
-    return words
-
-
-def _parted_spans(plan: bytes, most: int) -> Iterator[bytes]:
-    """The spans of a plan, parted where those of a partition have so many bytes."""
-    spans = array("Q")
-    spans.frombytes(plan)
-    first = size = 0
-    for at in range(0, len(spans), 3):
-        size += spans[at + 2] - spans[at]
+def _parted(together: Iterable[_Runs], most: int) -> Iterator[List[_Runs]]:
+    """What goes to the library together, parted where so many bytes have come."""
+    part: List[_Runs] = []
+    size = 0
+    for runs in together:
+        part.append(runs)
+        size += sum(end - begin for begin, end in runs)
         if size >= most:
-            yield spans[first : at + 3].tobytes()
-            first, size = at + 3, 0
-    if first < len(spans):
-        yield spans[first:].tobytes()
+            yield part
+            part, size = [], 0
+    if part:
+        yield part
 
 
-def _rows_of_lines(source: Union[str, bytes], plan: bytes) -> List[Row]:
-    """The rows of the lines in these spans."""
-    data = _opened(source)
-    spans = array("Q")
-    spans.frombytes(plan)
-    messages = (_message(data, *span) for span in zip(spans[::3], spans[1::3], spans[2::3]))
+def _rows_of_lines(source: Union[str, bytes], folders: bytes, part: List[_Runs]) -> List[Row]:
+    """The rows of the messages of a partition."""
+    with _opened(source) as data:
+        return [row for runs in part for row in _rows_of_runs(data, folders, runs)]
+
+
+def _rows_of_runs(data: BinaryIO, folders: bytes, runs: _Runs) -> Iterator[Row]:
+    """The rows of messages whose lines are these. A refused one is raised with its number in the source."""
+    text = b"".join([folders, *(_read_run(data, *run) for run in runs)])
     try:
-        return list(_rows(messages))
+        return _rows(index_lines(text, room=len(text)))
     except BadLine as error:
-        line = data[: spans[3 * (error.line - 1)]].count(b"\n") + 1
+        line = _line_in(data, runs, error.line - folders.count(b"\n"))
         error.line, error.args = line, (f"line {line}: {type(error)()}",)
         raise
 
 
-def _message(data: Any, begin: int, behind_head: int, end: int) -> _Message:
-    _, folder, _, name, _ = data[begin:behind_head].split(b" ")
-    rest = data[behind_head:end]
-    if end == len(data) and rest.endswith(b"\r"):
-        # At the end of a last line without LF it is a byte of the message.
-        rest = rest[:-1] + b"\\r"
-    return _Message(decoded(folder), decoded(name.partition(b":")[0]), _header(rest))
+def _read_run(data: BinaryIO, begin: int, end: int) -> bytes:
+    data.seek(begin)
+    return data.read(end - begin)
 
 
-def _header(rest: bytes) -> bytes:
-    """What a line says of a message up to its first empty line: what comes after that is not read for the
-    summary (a law of the header's reader). All of it where the cut isn't sure, or the library may refuse
-    what is cut off."""
-    for empty in _EMPTY_LINES:
-        at = rest.find(empty)
-        # After a backslash another one begins no escape.
-        if at > 0 and rest[at - 1] != _BACKSLASH and not _BAD_ESCAPE.search(rest, at):
-            rest = rest[: at + len(empty)]
-    return rest
+def _line_in(data: BinaryIO, runs: _Runs, line: int) -> int:
+    """The number in the source of a line of these runs, both counted from 1."""
+    for begin, end in runs:
+        run = _read_run(data, begin, end)
+        lines = run.count(b"\n") + (not run.endswith(b"\n"))
+        if line <= lines:
+            return _read_run(data, 0, begin).count(b"\n") + line
+        line -= lines
+    raise IndexError(line)
 
 
 # Trees.
@@ -252,13 +254,24 @@ def _files(directory: str) -> Iterator[_File]:
 
 def _rows_of_files(directory: str, part: Sequence[Tuple[str, str]]) -> List[Row]:
     """The rows of these files. One that is gone is looked for under another name, and else left out."""
-    bodies = ((name, _read(directory, place, name)) for place, name in part)
-    messages = (
-        _Message(directory, name.partition(":")[0], _header(b" " + escaped(body)))
-        for name, body in bodies
-        if body is not None
-    )
-    return list(_rows(messages))
+    uniques: List[str] = []
+    lines = [b"folder i\n"]
+    for place, name in part:
+        body = _read(directory, place, name)
+        if body is not None:
+            # A line can't say each name of a file, so that they are numbered.
+            lines.append(b"file i new %020d 0 %b\n" % (len(uniques), escaped(_header(body))))
+            uniques.append(name.partition(":")[0])
+    text = b"".join(lines)
+    printed = index_lines(text, room=len(text))
+    return [Row(directory, unique, *row[2:]) for unique, row in zip(uniques, _rows(printed))]
+
+
+def _header(body: bytes) -> bytes:
+    """A message up to its first empty line: what comes after that is not read for the summary (a law of
+    the header's reader)."""
+    found = _EMPTY_LINE.search(body)
+    return body[: found.end()] if found else body
 
 
 def _read(directory: str, place: str, name: str) -> Optional[bytes]:
@@ -274,43 +287,18 @@ def _read(directory: str, place: str, name: str) -> Optional[bytes]:
 # Rows.
 
 
-def _rows(messages: Iterable[_Message]) -> Iterator[Row]:
-    """The rows of messages. A refused one is raised with its number, from 1, as its line."""
-    done = 0
-    for together in _together(messages):
-        script = b"".join(part for it in together for part in (_SUMMARY, it.rest, b"\n"))
-        try:
-            said = transcript(script, _PRINTED_BYTES * len(together))
-        except BadLine as error:
-            error.line += done
-            raise
-        yield from _rows_said(together, decoded(said))
-        done += len(together)
+def _rows(printed: bytes) -> Iterator[Row]:
+    """The rows that an index says."""
+    said = decoded(printed)
+    rows = map(_row_of, _ROW.finditer(said))
+    return map(_unescaped, rows) if "\\" in said else rows
 
 
-def _together(messages: Iterable[_Message]) -> Iterator[List[_Message]]:
-    some: List[_Message] = []
-    size = 0
-    for message in messages:
-        some.append(message)
-        size += len(message.rest)
-        if size >= _TOGETHER:
-            yield some
-            some, size = [], 0
-    if some:
-        yield some
+def _row_of(found: "re.Match[str]") -> Row:
+    folder, unique, subject, sender, message_id, date, seconds = found.groups()
+    return Row(folder, unique, subject, sender, message_id, date, None if seconds is None else int(seconds))
 
 
-def _rows_said(messages: List[_Message], said: str) -> Iterator[Row]:
-    """The rows that the summaries of messages say, each some lines `KEY=VALUE` and `end`."""
-    left = iter(messages)
-    fields: List[Any] = [None] * 5
-    for line in said.split("\n"):
-        key, found, value = line.partition("=")
-        if found:
-            at = _KEYS[key]
-            fields[at] = int(value) if at == 4 else unescaped(value)
-        elif key:
-            folder, unique, _ = next(left)
-            yield Row(folder, unique, *fields)
-            fields = [None] * 5
+def _unescaped(row: Row) -> Row:
+    folder, unique, *values, seconds = row
+    return Row._make([folder, unique, *(value and unescaped(str(value)) for value in values), seconds])

@@ -423,6 +423,47 @@ static void test_names(void) {
     CHECK(deolmutt_transcript(NO_BYTES, out, 5, &length, NULL) == DEOLMUTT_NULL);
 }
 
+/* An index is refused, at a line. Nothing is laid then, and no length is said. */
+static void refused_index(const char *lines, uint32_t status, uint64_t line) {
+    uint8_t out[4] = "abc";
+    size_t length = 99;
+    uint64_t at = 99;
+    CHECK(deolmutt_index(TEXT(lines), out, sizeof out, &length, &at) == status);
+    CHECK(at == line && length == 0 && memcmp(out, "abc", 4) == 0);
+}
+
+static void test_index(void) {
+    static const char lines[] = "# a store\nfolder i\nfolder j\nfile j new z 0 Subject: last\\n\nfile i cur b:2,S 5 From: b@c\\nSubject: a\\\\b\\n\\n\n"
+                                "file i tmp t 0 Subject: half\\n\nfile i new .h 0\n\nfile i new a 0";
+    static const char index[] = "i a\nend\ni b\nsubject=a\\\\b\nfrom=b@c\nend\nj z\nsubject=last\nend\n";
+    uint8_t out[256];
+    size_t length = 99, whole = strlen(index);
+    uint64_t line = 99;
+    memset(out, '.', sizeof out);
+    CHECK(deolmutt_index(TEXT(lines), out, sizeof out, &length, &line) == DEOLMUTT_OK);
+    CHECK(length == whole && memcmp(out, index, whole) == 0 && out[whole] == '.' && line == 0);
+    memset(out, '.', sizeof out);
+    CHECK(deolmutt_index(TEXT(lines), out, whole - 1, &length, &line) == DEOLMUTT_ROOM);
+    CHECK(length == whole && line == 0 && out[0] == '.');
+    CHECK(deolmutt_index(TEXT(lines), NULL, 0, &length, &line) == DEOLMUTT_ROOM && length == whole);
+    CHECK(deolmutt_index(TEXT(lines), out, whole, &length, &line) == DEOLMUTT_OK && length == whole);
+    CHECK(deolmutt_index(NO_BYTES, NULL, 0, &length, &line) == DEOLMUTT_OK && length == 0 && line == 0);
+    refused_index("folder i\nlist i\n", DEOLMUTT_NOT_IN_THIS_RUN, 2);
+    refused_index("folder i\nfile j new u 0\n", DEOLMUTT_UNKNOWN_FOLDER, 2);
+    refused_index("folder i\nfolder i\n", DEOLMUTT_BAD_FOLDER, 2);
+    refused_index("folder i\nfile i new u 0 x\\q\nfile i new v\n", DEOLMUTT_BAD_ESCAPE, 2);
+    refused_index("folder i\nfile i new u\n", DEOLMUTT_BAD_COMMAND, 2);
+    refused_index("folder i\nfile i new u 0\nfile i new u 0\n\n", DEOLMUTT_SAME_PATH, 4);
+    refused_index("folder i\nfile i new u 0\nfile i cur u:2, 0\n# last", DEOLMUTT_DUPLICATE_UNIQUE, 4);
+    refused_index("folder i\nfile i new a/b 0\n", DEOLMUTT_BAD_NAME, 2);
+    CHECK(deolmutt_index(NULL, 1, out, 5, &length, &line) == DEOLMUTT_NULL);
+    CHECK(deolmutt_index(NO_BYTES, NULL, 5, &length, &line) == DEOLMUTT_NULL);
+    CHECK(deolmutt_index(NO_BYTES, out, 5, NULL, &line) == DEOLMUTT_NULL);
+    CHECK(deolmutt_index(NO_BYTES, out, 5, &length, NULL) == DEOLMUTT_NULL);
+    CHECK(deolmutt_index(out, (size_t)PTRDIFF_MAX + 1, out, 5, &length, &line) == DEOLMUTT_LENGTH);
+    CHECK(deolmutt_index(NO_BYTES, out, (size_t)PTRDIFF_MAX + 1, &length, &line) == DEOLMUTT_LENGTH);
+}
+
 static void test_call(void) {
     deolmutt_world *world = loaded("folder a\n");
     deolmutt_answer answer = {77, 78};
@@ -507,6 +548,7 @@ int main(void) {
     test_reading();
     test_many();
     test_names();
+    test_index();
     test_call();
     test_settle();
     test_full();

@@ -18,6 +18,7 @@ static void must(int is_so, const char *what) {
 
 static void calls_of_a_world(void) {
     static const char lines[] = "folder a\nfolder b\n";
+    static const char indexed[] = "folder a\nfile a new u 0 Subject: x\\nFrom: y\\n\n";
     static uint8_t out[1 << 17];
     deolmutt_world *world = NULL;
     deolmutt_answer answer;
@@ -43,6 +44,8 @@ static void calls_of_a_world(void) {
     must(deolmutt_load((const uint8_t *)"none", 4, &world, &line) == DEOLMUTT_BAD_COMMAND, "refused load");
     must(deolmutt_summary((const uint8_t *)"Subject: x\n", 11, out, sizeof out, &length) == DEOLMUTT_OK, "summary");
     must(deolmutt_transcript((const uint8_t *)lines, sizeof lines - 1, out, sizeof out, &length, &line) == DEOLMUTT_OK, "transcript");
+    must(deolmutt_index((const uint8_t *)indexed, sizeof indexed - 1, out, sizeof out, &length, &line) == DEOLMUTT_OK && length == 25, "index");
+    must(deolmutt_index((const uint8_t *)"folder a\nlist a\n", 16, out, sizeof out, &length, &line) == DEOLMUTT_NOT_IN_THIS_RUN, "refused index");
 }
 
 int main(int count, char **words) {

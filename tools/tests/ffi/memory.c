@@ -102,6 +102,8 @@ static int call_without(long at) {
     WITHOUT(deolmutt_unique(1, 2, 3, 4, (const uint8_t *)"host", 4, text, sizeof text, &length));
     WITHOUT(deolmutt_summary((const uint8_t *)"Subject: a\nFrom: b\n", 19, out, sizeof out, &length));
     WITHOUT(deolmutt_transcript((const uint8_t *)"folder i\njob deliver i u 1 x\nfinish 1 1\nlist i\n", 47, out, sizeof out, &length, &line));
+    WITHOUT(deolmutt_index((const uint8_t *)lines, sizeof lines - 1, out, sizeof out, &length, &line));
+    must(line == 0 && (length != 0) == (status == DEOLMUTT_OK), "an index or none");
     WITHOUT(deolmutt_free(world));
     return was_met;
 }

@@ -9,9 +9,9 @@ ghost use Rattle.md_script.specs.Folders.{names_of};
 ghost use Rattle.md_script.specs.Texts.{line_end};
 ghost use Rattle.md_runs.specs.Threading.{answers_text, folder_text, folders_text, report_of, is_at_zero, AllAnswered, Interleaving};
 
-use crate::indexing::listing;
 use md_core::{Event, World};
 use md_dirs::{Dirs, IndexDirs};
+use md_indexing::listing;
 use md_script::{push_answer_line, push_entries};
 use std::alloc::{AllocError, Global};
 

@@ -7,9 +7,9 @@ ghost use Rattle.md_script.specs.Folders.{names_of};
 ghost use Rattle.md_script.specs.Kinds.{at_no_line};
 ghost use Rattle.md_runs.specs.Begun.{submitted_all, begun_over, begun_of, IsBegun};
 
-use crate::loading::{load, refused};
 use md_core::{Call, World};
 use md_dirs::{Dirs, ImageFile, IndexDirs};
+use md_indexing::{load, refused};
 use md_script::{PlayError, PlayKind, Setup, image};
 use std::alloc::Global;
 

@@ -2,7 +2,7 @@ use Rattle.std.proofs.Common.{◌≡◌, ◌++◌, length}
 use Rattle.md_core.specs.Mailbox.{mailbox_of}
 use Rattle.md_core.specs.Runs.{dirs_of}
 use Rattle.md_script.specs.Folders.{names_of}
-use Rattle.md_runs.specs.Indexing.{index_from}
+use Rattle.md_indexing.specs.Indexing.{index_from}
 use Rattle.md_runs.proofs.indexing.folders_text.Given as goal
 
 abbrev pub invariant-loop-left : goal.invariant-loop-left

@@ -4,7 +4,7 @@ use Rattle.md_dirs.specs.declared.paths.Place.TheVariants.{New, Cur}
 use Rattle.md_core.specs.History.{Names, names_of}
 use Rattle.md_core.specs.Mailbox.{mailbox_of}
 use Rattle.md_view.specs.Readings.{reading_of, join_of}
-use Rattle.md_runs.proofs.indexing.folder.listing.Goals as goal
+use Rattle.md_indexing.proofs.folder.listing.Goals as goal
 
 pub returns : goal.returns
 returns g c =

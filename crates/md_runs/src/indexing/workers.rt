@@ -1,21 +1,26 @@
-//! The index of a folder.
+//! Summaries that several workers make.
 ghost use Rattle.std.specs.Prelude.{◌≡◌, ◌++◌, IfOk, OnOk, flat_map, map};
 ghost use Rattle.md_core.specs.Mailbox.{mailbox_of};
 ghost use Rattle.md_core.specs.Runs.{dirs_of};
 ghost use Rattle.md_index.specs.Index.{indexed_of};
-ghost use Rattle.md_runs.specs.Indexing.{bytes_in, folder_text, indexed_in, indexed_text, listing_in};
+ghost use Rattle.md_indexing.specs.Indexing.{folder_text};
+ghost use Rattle.md_runs.specs.Indexes.{indexed_in, made_text};
 
 use md_core::World;
 use md_dirs::Dirs;
 use md_index::{Indexed, Message, OpenGate, index};
-use md_script::push_summary;
-use md_view::{Entry, ViewError, list};
+use md_indexing::{bytes_of, listing, push_indexed};
+use md_view::Entry;
 use std::alloc::{AllocError, Global};
 use std::sync::Wait;
 use std::thread::Threads;
 
-/// Appends the index of a folder of this number and name. Where it is refused, memory was, and some of it may have been appended.
-pub(crate) fn push_folder<R: Threads + Wait + Sync, D: Dirs>(
+/// Appends the index of a folder of this number and name, whose summaries so many workers make side by side. Where it is refused, memory
+/// was, and some of it may have been appended.
+///
+/// It is no `Indexer`: that `R` is `Sync` is known in a function alone, and not in a method of a trait.
+#[tactic(auto, using(crate::proofs::MadeTexts::made_texts))]
+pub(super) fn push_folder<R: Threads + Wait + Sync, D: Dirs>(
     rt: &R,
     alloc: Global,
     workers: usize,
@@ -38,24 +43,12 @@ pub(crate) fn push_folder<R: Threads + Wait + Sync, D: Dirs>(
 
 /// Appends messages of a folder of this name.
 fn push_all(out: &mut Vec<u8>, name: &[u8], all: &[Indexed]) -> Result<(), AllocError>
-    ensures { OnOk result (out.new.items ≡ out.old.items ++ flat_map (indexed_text name.now) all.now) }
+    ensures { OnOk result (out.new.items ≡ out.old.items ++ flat_map (made_text name.now) all.now) }
 {
     for made in all {
-        push_indexed(out, name, made)?;
+        push_indexed(out, name, made.unique.as_slice(), &made.summary)?;
     }
     Ok(())
-}
-
-/// The listing of a folder now.
-pub(crate) fn listing<D: Dirs>(
-    alloc: Global,
-    world: &World<D>,
-    folder: u32,
-) -> Result<Vec<Entry>, ViewError>
-    ensures { IfOk result (λ all. all.items ≡ listing_in (mailbox_of (dirs_of world.now)) folder) }
-{
-    world.interleaves();
-    list(alloc, world, folder)
 }
 
 /// The messages of a listing, lent: their bytes are the world's.
@@ -74,25 +67,4 @@ fn messages<'a, D: Dirs>(
         all.push(Message { unique, bytes })?;
     }
     Ok(all)
-}
-
-/// The bytes of the message of a unique name, and none where it isn't there.
-fn bytes_of<'a, D: Dirs>(world: &'a World<D>, unique: &[u8]) -> &'a [u8]
-    ensures { result.now ≡ bytes_in (mailbox_of (dirs_of world.now)) unique.now }
-{
-    match world.read(unique) {
-        Some(bytes) => bytes,
-        None => b"",
-    }
-}
-
-/// Appends `FOLDER UNIQUE` and the lines of a message's summary.
-fn push_indexed(out: &mut Vec<u8>, name: &[u8], made: &Indexed) -> Result<(), AllocError>
-    ensures { OnOk result (out.new.items ≡ out.old.items ++ indexed_text name.now made.now) }
-{
-    out.extend_from_slice(name)?;
-    out.push(b' ')?;
-    out.extend_from_slice(made.unique.as_slice())?;
-    out.push(b'\n')?;
-    push_summary(out, &made.summary)
 }

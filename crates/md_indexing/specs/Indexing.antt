@@ -1,27 +1,22 @@
--- What `index` prints of a script, and where it is refused.
-use Rattle.std.specs.Prelude.{◌≡◌, ◌≢◌, ◌⊎◌, false, ℕ, ◌+◌, List, [], ◌∷◌, ◌++◌, Option}
-use Rattle.std.specs.Prelude.{Some, None, Result, Ok, Err, flat_map, length, map, unwrap_or, codes}
+-- The index of a script, and where it is refused.
+use Rattle.std.specs.Prelude.{false, ℕ, ◌+◌, List, [], ◌∷◌, ◌++◌, Option, Some, None, Result, Ok, Err, flat_map, length, unwrap_or, codes}
 use Rattle.std.specs.Option.{option_map}
 use Rattle.std.specs.FinMap as finmap
 use Rattle.md_dirs.specs.declared.image.ImageFile.{ImageFile}
 use Rattle.md_dirs.specs.declared.paths.Place.TheVariants.{New, Cur}
+use Rattle.md_head.specs.Header.{lines_of}
 use Rattle.md_head.specs.Summaries.{summary_of}
+use Rattle.md_head.specs.declared.shown.Summary.{Summary}
 use Rattle.md_core.specs.Mailbox.{Entry as Message, Mailbox, mailbox_of}
 use Rattle.md_core.specs.History.{names_of}
 use Rattle.md_core.specs.Runs.{Run, dirs_of}
 use Rattle.md_view.specs.declared.entry.Entry.{Entry}
 use Rattle.md_view.specs.Readings.{reading_of, join_of}
-use Rattle.md_index.specs.declared.item.Indexed.{Indexed}
 use Rattle.md_script.specs.declared.error.PlayKind.{PlayKind}
 use Rattle.md_script.specs.declared.error.PlayError.{PlayError}
 use Rattle.md_script.specs.Bind.{◌>>=◌}
-use Rattle.md_head.specs.Header.{lines_of}
-use Rattle.md_script.specs.Play.{Stops}
-use Rattle.md_script.specs.Reading.{IsReadWhole}
 use Rattle.md_script.specs.Sessions.{run_over}
 use Rattle.md_script.specs.Setups.{Setting, setting_of}
-use Rattle.md_script.specs.Sinks.{Sink, Took, Untouched}
-use Rattle.md_script.specs.Sources.{Source}
 use Rattle.md_script.specs.Texts.{line_end, summary_text}
 use Rattle.md_script.specs.Transcript.{Transcript}
 
@@ -33,17 +28,17 @@ listing_in m folder = join_of (reading_of (names_of m) folder New) (reading_of (
 abbrev pub bytes_in : Mailbox → List ℕ → List ℕ
 bytes_in m u = unwrap_or (option_map (λ (message : Message). message.bytes) (finmap.get m u)) []
 
--- a message of a listing, with the one summary of its bytes
-abbrev pub indexed_in : Mailbox → Entry → Indexed
-indexed_in m e = record { unique = e.unique; summary = summary_of (bytes_in m e.unique) }
+-- `FOLDER UNIQUE`, the lines of a summary, and `end`
+abbrev pub indexed_text : List ℕ → List ℕ → Summary → List ℕ
+indexed_text name unique summary = name ++ codes " " ++ unique ++ line_end ++ summary_text summary
 
--- `FOLDER UNIQUE`, the lines of the summary, and `end`
-abbrev pub indexed_text : List ℕ → Indexed → List ℕ
-indexed_text name x = name ++ codes " " ++ x.unique ++ line_end ++ summary_text x.summary
+-- a message of a listing, with the one summary of its bytes
+abbrev pub message_text : Mailbox → List ℕ → Entry → List ℕ
+message_text m name e = indexed_text name e.unique (summary_of (bytes_in m e.unique))
 
 -- the messages of a folder in order of unique name
 abbrev pub folder_text : Mailbox → ℕ → List ℕ → List ℕ
-folder_text m folder name = flat_map (indexed_text name) (map (indexed_in m) (listing_in m folder))
+folder_text m folder name = flat_map (message_text m name) (listing_in m folder)
 
 -- the messages of folders, of which the first has this number
 unfoldable pub index_from : Mailbox → ℕ → List (List ℕ) → List ℕ
@@ -68,26 +63,6 @@ abbrev pub index_by : ℕ → Transcript Setting → Option PlayError → Result
 index_by lines t (Some e) = Err e
 index_by lines t None = at_line lines (index_over t.session.folders t.session.files)
 
--- What `index` prints of a script, which has folders and files alone. A store that can't be opened is refused at the script's last line.
+-- The index of a script, which has folders and files alone. A store that can't be opened is refused at the script's last line.
 abbrev pub index_of_script : List ℕ → Result (List ℕ) PlayError
 index_of_script script = index_by (length (lines_of script)) (setting_of false script) (setting_of false script).refusal
-
--- A whole script was read, and its index written.
-pub record Ran (old new : Source) (before after : Sink) : Type 0 where
-  pub script : List ℕ
-  pub text : List ℕ
-  pub whole : IsReadWhole old new script
-  pub is : index_of_script script ≡ Ok text
-  pub written : Took before after text
-
--- A whole script was read; it is refused, and nothing was written.
-pub record Refuses (old new : Source) (before after : Sink) (e : PlayError) : Type 0 where
-  pub script : List ℕ
-  pub whole : IsReadWhole old new script
-  pub is : index_of_script script ≡ Err e
-  pub unwritten : Untouched before after
-
--- The answer of `index`. Lines are numbered from 1, so that the line 0 is none.
-abbrev pub Indexes : Source → Source → Sink → Sink → Result (Unit {0}) PlayError → Type 0
-Indexes old new before after (Ok done) = Ran old new before after
-Indexes old new before after (Err e) = Refuses old new before after e ⊎ ((e.line ≡ 0) × Stops old new before after e.kind)

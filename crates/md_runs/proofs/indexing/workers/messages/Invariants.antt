@@ -2,8 +2,8 @@ use Rattle.std.proofs.Common.{◌≡◌, map, take}
 use Rattle.md_core.specs.Mailbox.{mailbox_of}
 use Rattle.md_core.specs.Runs.{dirs_of}
 use Rattle.md_index.specs.Index.{indexed_of}
-use Rattle.md_runs.specs.Indexing.{indexed_in}
-use Rattle.md_runs.proofs.indexing.folder.messages.Given as goal
+use Rattle.md_runs.specs.Indexes.{indexed_in}
+use Rattle.md_runs.proofs.indexing.workers.messages.Given as goal
 
 abbrev pub invariant-loop-entry : goal.invariant-loop-entry
 invariant-loop-entry g l =

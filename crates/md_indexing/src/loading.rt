@@ -12,8 +12,8 @@ use md_dirs::{ImageFile, IndexDirs};
 use md_script::{PlayError, PlayKind, count_lines, open_store};
 use std::alloc::Global;
 
-/// The store over folders, as many as there are names, and files.
-pub(crate) fn load(
+/// The store over folders, as many as there are names, and files. Refused as `open_store` is.
+pub fn load(
     alloc: Global,
     names: &[Vec<u8>],
     files: Vec<ImageFile>,
@@ -28,7 +28,7 @@ pub(crate) fn load(
 }
 
 /// What no single line is to blame for is refused at the script's last line, and out of memory at none.
-pub(crate) fn refused(script: &[u8], kind: PlayKind) -> PlayError
+pub fn refused(script: &[u8], kind: PlayKind) -> PlayError
     ensures { ((kind ≡ NoMemory) × (result ≡ at_no_line NoMemory))
         ⊎ ((kind ≢ NoMemory) × (result ≡ record { line = length (lines_of script.now); kind = kind })) }
 {

@@ -1,0 +1,51 @@
+//! The messages of a folder, and the lines of one.
+ghost use Rattle.std.specs.Prelude.{◌≡◌, ◌++◌, IfOk, OnOk};
+ghost use Rattle.md_core.specs.Mailbox.{mailbox_of};
+ghost use Rattle.md_core.specs.Runs.{dirs_of};
+ghost use Rattle.md_indexing.specs.Indexing.{bytes_in, indexed_text, listing_in};
+
+use md_core::World;
+use md_dirs::Dirs;
+use md_head::Summary;
+use md_script::push_summary;
+use md_view::{Entry, ViewError, list};
+use std::alloc::{AllocError, Global};
+
+/// The listing of a folder now. It is refused as `md_view::list` is.
+pub fn listing<D: Dirs>(
+    alloc: Global,
+    world: &World<D>,
+    folder: u32,
+) -> Result<Vec<Entry>, ViewError>
+    ensures { IfOk result (λ all. all.items ≡ listing_in (mailbox_of (dirs_of world.now)) folder) }
+{
+    world.interleaves();
+    list(alloc, world, folder)
+}
+
+/// The bytes of the message of a unique name, and none where it isn't there.
+pub fn bytes_of<'a, D: Dirs>(world: &'a World<D>, unique: &[u8]) -> &'a [u8]
+    ensures { result.now ≡ bytes_in (mailbox_of (dirs_of world.now)) unique.now }
+{
+    match world.read(unique) {
+        Some(bytes) => bytes,
+        None => b"",
+    }
+}
+
+/// Appends the lines of a message: `FOLDER UNIQUE`, the lines of its summary (RFC 5322), and `end`. Where it is refused, memory was, and
+/// some of them may have been appended.
+pub fn push_indexed(
+    out: &mut Vec<u8>,
+    name: &[u8],
+    unique: &[u8],
+    summary: &Summary,
+) -> Result<(), AllocError>
+    ensures { OnOk result (out.new.items ≡ out.old.items ++ indexed_text name.now unique.now summary.now) }
+{
+    out.extend_from_slice(name)?;
+    out.push(b' ')?;
+    out.extend_from_slice(unique)?;
+    out.push(b'\n')?;
+    push_summary(out, summary)
+}

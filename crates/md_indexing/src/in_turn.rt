@@ -1,0 +1,65 @@
+//! Summaries that are made one after another.
+ghost use Rattle.std.specs.Prelude.{◌≡◌, ◌++◌, OnOk};
+ghost use Rattle.std.specs.List.{flat_map};
+ghost use Rattle.md_core.specs.Mailbox.{mailbox_of};
+ghost use Rattle.md_core.specs.Runs.{dirs_of};
+ghost use Rattle.md_indexing.specs.Indexing.{message_text};
+
+use crate::folder::{bytes_of, listing, push_indexed};
+use crate::indexer::Indexer;
+use md_core::World;
+use md_dirs::{Dirs, IndexDirs};
+use md_head::{HeadError, summary};
+use md_view::Entry;
+use std::alloc::{AllocError, Global};
+
+/// Makes a summary after the other, and keeps none: each is appended as soon as it is made.
+#[derive(Clone, Copy, Debug)]
+pub struct InTurn;
+
+impl Indexer for InTurn {
+    fn push_folder(
+        &self,
+        alloc: Global,
+        world: &World<IndexDirs>,
+        folder: u32,
+        name: &[u8],
+        out: &mut Vec<u8>,
+    ) -> Result<(), AllocError> {
+        let Ok(entries) = listing(alloc, world, folder) else {
+            return Err(AllocError);
+        };
+        push_messages(alloc, world, name, &entries, out)
+    }
+}
+
+/// Appends messages of a folder of this name.
+fn push_messages<D: Dirs>(
+    alloc: Global,
+    world: &World<D>,
+    name: &[u8],
+    entries: &[Entry],
+    out: &mut Vec<u8>,
+) -> Result<(), AllocError>
+    ensures { OnOk result (out.new.items ≡ out.old.items ++ flat_map (message_text (mailbox_of (dirs_of world.now)) name.now) entries.now) }
+{
+    for entry in entries {
+        push_message(alloc, world, name, entry, out)?;
+    }
+    Ok(())
+}
+
+/// Appends a message of a folder of this name.
+fn push_message<D: Dirs>(
+    alloc: Global,
+    world: &World<D>,
+    name: &[u8],
+    entry: &Entry,
+    out: &mut Vec<u8>,
+) -> Result<(), AllocError>
+    ensures { OnOk result (out.new.items ≡ out.old.items ++ message_text (mailbox_of (dirs_of world.now)) name.now entry.now) }
+{
+    let unique = entry.unique.as_slice();
+    let made = summary(alloc, bytes_of(world, unique)).map_err(|HeadError::NoMemory| AllocError)?;
+    push_indexed(out, name, unique, &made)
+}

@@ -1,0 +1,81 @@
+//! The index of a script over bytes.
+ghost use Rattle.std.specs.Prelude.{◌≡◌, ◌≢◌, ◌⊎◌, Ok, Err, IfOk, MatchResult};
+ghost use Rattle.md_core.specs.Mailbox.{mailbox_of};
+ghost use Rattle.md_core.specs.Runs.{dirs_of};
+ghost use Rattle.md_script.specs.Folders.{names_of};
+ghost use Rattle.md_script.specs.Kinds.{at_no_line};
+ghost use Rattle.md_script.specs.declared.error.PlayKind.TheVariants.{NoMemory};
+ghost use Rattle.md_indexing.specs.Indexing.{index_from, index_of_script, index_over};
+
+use crate::indexer::Indexer;
+use crate::loading::{load, refused};
+use md_core::World;
+use md_dirs::{ImageFile, IndexDirs};
+use md_script::{PlayError, PlayKind, Setup, image};
+use std::alloc::{AllocError, Global};
+
+/// The index of a script of `folder` and `file` lines: for each folder, in the order of their lines, and each of its messages, in order of
+/// unique name, the lines that `push_indexed` appends.
+///
+/// Refused at the first line that is: `NotInThisRun` where it has another command, else as its words are. Where the files make no store it
+/// is refused at the last line, as `open_store` is. `NoMemory`, at line 0, may come in place of either.
+pub fn index_text<I: Indexer>(
+    alloc: Global,
+    indexer: &I,
+    script: &[u8],
+) -> Result<Vec<u8>, PlayError>
+    ensures { MatchResult result
+        (λ text. index_of_script script.now ≡ Ok text.items)
+        (λ e. (e ≡ at_no_line NoMemory) ⊎ (index_of_script script.now ≡ Err e)) }
+{
+    let Setup {
+        folders,
+        files,
+        calls: _,
+    } = image(alloc, script, false)?;
+    match text_over(alloc, indexer, &folders, files) {
+        Ok(text) => Ok(text),
+        Err(kind) => Err(refused(script, kind)),
+    }
+}
+
+/// The index of the store over folders and files.
+#[tactic(auto, unfolding(crate::specs::Indexing::index_over))]
+fn text_over<I: Indexer>(
+    alloc: Global,
+    indexer: &I,
+    names: &[Vec<u8>],
+    files: Vec<ImageFile>,
+) -> Result<Vec<u8>, PlayKind>
+    ensures { MatchResult result
+        (λ text. index_over (names_of names.now) files.items ≡ Ok text.items)
+        (λ kind. kind ≢ NoMemory → index_over (names_of names.now) files.items ≡ Err kind) }
+{
+    let world = load(alloc, names, files)?;
+    Ok(folders_text(alloc, indexer, &world, names)?)
+}
+
+/// The index of folders of these names, of which the first has the number 0.
+#[tactic(auto, unfolding(crate::specs::Indexing::index_from))]
+fn folders_text<I: Indexer>(
+    alloc: Global,
+    indexer: &I,
+    world: &World<IndexDirs>,
+    names: &[Vec<u8>],
+) -> Result<Vec<u8>, AllocError>
+    ensures { IfOk result (λ text. text.items ≡ index_from (mailbox_of (dirs_of world.now)) 0 (names_of names.now)) }
+{
+    let mut text = Vec::new(alloc);
+    let mut folder = 0u32;
+    let mut left = names;
+    while let [name, others @ ..] = left {
+        indexer.push_folder(alloc, world, folder, name, &mut text)?;
+        // No memory holds so many folders.
+        let Some(next) = folder.checked_add(1) else {
+            return Err(AllocError);
+        };
+        folder = next;
+        left = others;
+    }
+    Ok(text)
+}

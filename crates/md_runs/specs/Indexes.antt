@@ -1,0 +1,40 @@
+-- What `index` writes of a script, and where it is refused.
+use Rattle.std.specs.Prelude.{◌≡◌, ◌⊎◌, ℕ, List, Result, Ok, Err}
+use Rattle.md_head.specs.Summaries.{summary_of}
+use Rattle.md_core.specs.Mailbox.{Mailbox}
+use Rattle.md_view.specs.declared.entry.Entry.{Entry}
+use Rattle.md_index.specs.declared.item.Indexed.{Indexed}
+use Rattle.md_script.specs.declared.error.PlayError.{PlayError}
+use Rattle.md_script.specs.Play.{Stops}
+use Rattle.md_script.specs.Reading.{IsReadWhole}
+use Rattle.md_script.specs.Sinks.{Sink, Took, Untouched}
+use Rattle.md_script.specs.Sources.{Source}
+use Rattle.md_indexing.specs.Indexing.{bytes_in, index_of_script, indexed_text}
+
+-- a message of a listing, with the one summary of its bytes
+abbrev pub indexed_in : Mailbox → Entry → Indexed
+indexed_in m e = record { unique = e.unique; summary = summary_of (bytes_in m e.unique) }
+
+-- the lines of a message of a folder of this name
+abbrev pub made_text : List ℕ → Indexed → List ℕ
+made_text name made = indexed_text name made.unique made.summary
+
+-- A whole script was read, and its index written.
+pub record Ran (old new : Source) (before after : Sink) : Type 0 where
+  pub script : List ℕ
+  pub text : List ℕ
+  pub whole : IsReadWhole old new script
+  pub is : index_of_script script ≡ Ok text
+  pub written : Took before after text
+
+-- A whole script was read; it is refused, and nothing was written.
+pub record Refuses (old new : Source) (before after : Sink) (e : PlayError) : Type 0 where
+  pub script : List ℕ
+  pub whole : IsReadWhole old new script
+  pub is : index_of_script script ≡ Err e
+  pub unwritten : Untouched before after
+
+-- The answer of `index`. Lines are numbered from 1, so that the line 0 is none.
+abbrev pub Indexes : Source → Source → Sink → Sink → Result (Unit {0}) PlayError → Type 0
+Indexes old new before after (Ok done) = Ran old new before after
+Indexes old new before after (Err e) = Refuses old new before after e ⊎ ((e.line ≡ 0) × Stops old new before after e.kind)
