@@ -43,7 +43,7 @@ def judge_program() -> str:
     program = given or str(_BUILT)
     if not os.access(program, os.X_OK):
         raise Refused(f"{program}: is no program" if given else
-                      "maildir_judge is not built: run `rt run` in crates/maildir_judge, or name it by MAILDIR_JUDGE")
+                      "maildir_judge is not built: run ./deolmutt build judge, or name it by MAILDIR_JUDGE")
     return program
 
 
