@@ -200,11 +200,12 @@ class Mailboxes:
         if len(names) != len(bodies):
             raise ValueError(f"{len(bodies)} messages have {len(names)} names")
         name, shard = _bytes(user), self.shard_of(user)
-        ends = self._ask(shard, "deliver_many", name, self._number(folder), names, list(bodies))
-        self._note(shard, [(name, unique) for unique, end in zip(names, ends) if isinstance(end, Answer)])
-        for end in ends:
-            if isinstance(end, DeolmuttError):
-                raise end
+        refused: Dict[int, DeolmuttError] = self._ask(
+            shard, "deliver_many", name, self._number(folder), names, list(bodies)
+        )
+        self._note(shard, [(name, unique) for at, unique in enumerate(names) if at not in refused])
+        for error in refused.values():
+            raise error
         return names
 
     # What is there.

@@ -149,11 +149,13 @@ class Shard:
 
     def deliver_many(
         self, user: bytes, folder: int, uniques: List[str], bodies: List[bytes]
-    ) -> List[Ended]:
-        """Delivers messages of one user."""
+    ) -> Dict[int, DeolmuttError]:
+        """Delivers messages of one user, and answers which were refused, by their places. To send an answer
+        for each would take half as long as to deliver them."""
         store = self._home(user)
         number = self._number(store, user, folder)
-        return store.make([Deliver(number, *message) for message in zip(uniques, bodies)])
+        ended = store.make([Deliver(number, *message) for message in zip(uniques, bodies)])
+        return {at: end for at, end in enumerate(ended) if isinstance(end, DeolmuttError)}
 
     def call_many(self, asked: List[Asked]) -> List[Ended]:
         """Makes calls of some users, those of one store in their order, and answers how each ended."""
