@@ -22,7 +22,8 @@ def crates_of(top: Path) -> list[str]:
         lines = (top / "crates.txt").read_text(encoding="utf-8").splitlines()
     except FileNotFoundError:
         raise Refused("there is no crates.txt at the top of the repository") from None
-    names = [line.partition(":")[0].strip() for line in lines if ":" in line and not line.startswith("#")]
+    # (a word after the name says what kind of library it is)
+    names = [line.partition(":")[0].split()[0] for line in lines if ":" in line and not line.startswith("#")]
     return [name for name in names if not name.endswith(TESTS_CRATE)]
 
 

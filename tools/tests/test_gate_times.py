@@ -71,7 +71,7 @@ echo '7 passed, FAILED failed'
 """
 
 FILES = {
-    "crates.txt": "# A line for each crate.\nmd_low: thiserror\nmd_low_tests: md_low\nprogram: md_low\n",
+    "crates.txt": "# A line for each crate.\nmd_low staticlib: thiserror\nmd_low_tests: md_low\nprogram: md_low\n",
     "crates/md_low/src/lib.rt": "fn a() {}\n\n  \nfn b() {}\n",
     "crates/md_low/specs/A.antt": "a : b\n",
     "crates/md_low/proofs/a/Proof.antt": "a\nb\n\nc\n",
