@@ -203,7 +203,7 @@ class Mailboxes:
         refused: Dict[int, DeolmuttError] = self._ask(
             shard, "deliver_many", name, self._number(folder), names, list(bodies)
         )
-        self._note(shard, [(name, unique) for at, unique in enumerate(names) if at not in refused])
+        self._note(shard, ((name, unique) for at, unique in enumerate(names) if at not in refused))
         for error in refused.values():
             raise error
         return names

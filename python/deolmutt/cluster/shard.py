@@ -72,6 +72,20 @@ class _Store:
 
     def make(self, calls: List[Call]) -> List[Ended]:
         """Makes calls, each to its end: those after one that is refused are made too."""
+        ended = self._made(calls)
+        self._note(calls, ended)
+        return ended
+
+    def deliver(self, folder: int, uniques: List[str], bodies: List[bytes]) -> Dict[int, DeolmuttError]:
+        """Delivers messages to a folder, and answers which were refused, by their places."""
+        calls: List[Call] = [Deliver(folder, *message) for message in zip(uniques, bodies)]
+        refused = {at: end for at, end in enumerate(self._made(calls)) if isinstance(end, DeolmuttError)}
+        if refused:
+            uniques = [unique for at, unique in enumerate(uniques) if at not in refused]
+        self.kept.update(dict.fromkeys(uniques, Kept(folder, int(time.time()))))
+        return refused
+
+    def _made(self, calls: List[Call]) -> List[Ended]:
         ended: List[Ended] = []
         while len(ended) < len(calls):
             try:
@@ -79,7 +93,6 @@ class _Store:
             except DeolmuttError as error:
                 ended += [*error.done, error]
                 error.done = ()
-        self._note(calls, ended)
         return ended
 
     def _note(self, calls: List[Call], ended: List[Ended]) -> None:
@@ -154,8 +167,7 @@ class Shard:
         for each would take half as long as to deliver them."""
         store = self._home(user)
         number = self._number(store, user, folder)
-        ended = store.make([Deliver(number, *message) for message in zip(uniques, bodies)])
-        return {at: end for at, end in enumerate(ended) if isinstance(end, DeolmuttError)}
+        return store.deliver(number, uniques, bodies)
 
     def call_many(self, asked: List[Asked]) -> List[Ended]:
         """Makes calls of some users, those of one store in their order, and answers how each ended."""
