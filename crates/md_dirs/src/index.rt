@@ -22,10 +22,10 @@ use tree::Tree;
 /// Directories that are hashed: one table for each directory, and the positions of its rows in order of the names.
 ///
 /// A name is looked up by its hash, which takes its bytes at once, and a row by its position by halving. A name that comes or
-/// goes finds its place in the order by halving, and moves at most the 256 positions of its block, and a count for each block
-/// after it; one that takes another's place in the order moves nothing. Where a name goes, the last row of its table takes its
-/// row. Each file knows how many names it has. No call copies the bytes of a file, and room is made before anything is changed.
-/// They never fault.
+/// goes finds its place in the order by halving, over the blocks first and then in one. It moves the positions of its block
+/// alone, and a count for each block after it; one that takes another's place in the order moves nothing. Where a name goes,
+/// the last row of its table takes its row. Each file knows how many names it has. No call copies the bytes of a file, and room
+/// is made before anything is changed. They never fault.
 #[derive(Drop)]
 pub struct IndexDirs {
     alloc: Global,

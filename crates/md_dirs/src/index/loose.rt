@@ -38,7 +38,7 @@ fn in_turn(alloc: Global, count: usize) -> Result<Positions, AllocError>
 {
     let mut order = Positions::new(alloc);
     for at in 0..count {
-        order.insert(at, at)?;
+        order.insert(order.end(), at)?;
     }
     Ok(order)
 }

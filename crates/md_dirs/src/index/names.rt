@@ -12,7 +12,7 @@ ghost use Rattle.md_dirs.specs.Index.{name_cmp, order_at, FitsAt, get_name, Rena
 use crate::files::{Kept, shown_row};
 use crate::finding::{Edge, InOrder, edge_place};
 use crate::index::key::key_of;
-use crate::index::positions::Positions;
+use crate::index::positions::{Near, Positions};
 use crate::name_key::NameKey;
 use crate::rows::{Row, is_named};
 use indexmap::IndexMap;
@@ -87,75 +87,132 @@ impl Names {
         (name.as_slice(), *file)
     }
 
-    // How the row at a position compares with a name of a key: by the keys, and where these are equal by the names.
-    fn compare_at(&self, at: usize, key: u128, name: &[u8]) -> Ordering
-        requires within { at < length (finmap.entries self.now) }
-        requires key { IsKeyOf key name.now }
-        ensures { result ≡ order_at (finmap.entries self.now) at name.now }
+    // The row at a position that is looked for in a block first. Apart, since few looks of a search come to it.
+    #[inline(never)]
+    fn row_near(&self, near: Near) -> (&[u8], usize)
+        requires { near.at < length (finmap.entries self.now) }
+        ensures { (result.0.now, result.1) ≡ slice_index_or (finmap.entries self.now) near.at ([], 0) }
     {
-        let row = self.order.get(at);
+        let (name, file) = self.rows.get_index(self.order.get_near(near)).unwrap();
+        (name.as_slice(), *file)
+    }
+
+    // How the row at a position compares with a name of a key: by the keys, and where these are equal by the names. Inline, so that
+    // a search looks up once where its block is.
+    #[inline(always)]
+    fn compare_at(&self, near: Near, key: u128, name: &[u8]) -> Ordering
+        requires within { near.at < length (finmap.entries self.now) }
+        requires key { IsKeyOf key name.now }
+        ensures { result ≡ order_at (finmap.entries self.now) near.at name.now }
+    {
+        let row = self.order.get_near(near);
         match self.keys[row].cmp(&key) {
-            Ordering::Equal => self.row(at).0.cmp(name),
+            Ordering::Equal => self.row_near(near).0.cmp(name),
             differs => differs,
         }
     }
 
-    // Where the row of a name is, or where it would go, by halving.
-    fn search(&self, name: &[u8]) -> Result<usize, usize>
-        ensures found { IfOk result (IsAt name_cmp (finmap.entries self.now) name.now) }
-        ensures absent { IfErr result (IsGap name_cmp (finmap.entries self.now) name.now) }
+    // Where the row of a name of a key is, or where it would go: by halving over the blocks' last rows, and then in one block.
+    fn search(&self, key: u128, name: &[u8]) -> Result<Near, Near>
+        requires key { IsKeyOf key name.now }
+        ensures found { IfOk result (λ near. IsAt name_cmp (finmap.entries self.now) name.now near.at) }
+        ensures absent { IfErr result (λ near. IsGap name_cmp (finmap.entries self.now) name.now near.at) }
     {
-        let key = key_of(name);
+        let end = self.order.end();
         let mut low = 0;
-        let mut high = self.count();
+        let mut high = end.at;
         // Names come in the order of time, so the last row is looked at first.
-        if high > 0 && self.compare_at(high - 1, key, name).is_lt() {
-            return Err(high);
-        }
-        while low < high {
-            let middle = low + (high - low) / 2;
-            match self.compare_at(middle, key, name) {
-                Ordering::Less => low = middle + 1,
-                Ordering::Equal => return Ok(middle),
-                Ordering::Greater => high = middle,
+        if high > 0 {
+            let last = Near {
+                at: high - 1,
+                block: end.block,
+            };
+            if self.compare_at(last, key, name).is_lt() {
+                return Err(end);
             }
         }
-        Err(low)
+        let mut block = 0;
+        let mut behind = end.block;
+        'blocks: while block < behind {
+            let middle = block + (behind - block) / 2;
+            let Some(last) = self.order.last_of(middle) else {
+                break;
+            };
+            if last < low || high <= last {
+                break;
+            }
+            let near = Near {
+                at: last,
+                block: middle,
+            };
+            match self.compare_at(near, key, name) {
+                Ordering::Less => {
+                    low = last + 1;
+                    block = middle + 1;
+                }
+                Ordering::Equal => return Ok(near),
+                Ordering::Greater => {
+                    high = last;
+                    behind = middle;
+                }
+            }
+        }
+        'rows: while low < high {
+            let middle = Near {
+                at: low + (high - low) / 2,
+                block,
+            };
+            match self.compare_at(middle, key, name) {
+                Ordering::Less => low = middle.at + 1,
+                Ordering::Equal => return Ok(middle),
+                Ordering::Greater => high = middle.at,
+            }
+        }
+        Err(Near { at: low, block })
     }
 
-    // Where the row of a name is that is there.
-    fn place_of(&self, name: &[u8]) -> usize
-        requires { IsSome (finmap.get self.now name.now) }
-        ensures { IsAt name_cmp (finmap.entries self.now) name.now result }
+    // Where the row of a name of a key is that is there.
+    fn place_of(&self, key: u128, name: &[u8]) -> Near
+        requires key { IsKeyOf key name.now }
+        requires there { IsSome (finmap.get self.now name.now) }
+        ensures { IsAt name_cmp (finmap.entries self.now) name.now result.at }
     {
-        let Ok(at) = self.search(name) else {
+        let Ok(near) = self.search(key, name) else {
             unreachable!();
         };
-        at
+        near
     }
 
     // Where the row of a name is, if it is there: first at its position in the table, which it has in the order too while no
     // name has come or gone amid the order, and else by halving.
-    fn hashed_place(&self, name: &[u8]) -> Option<usize>
-        ensures { IfSome result (IsAt name_cmp (finmap.entries self.now) name.now) }
+    fn hashed_place(&self, name: &[u8]) -> Option<Near>
+        ensures { IfSome result (λ near. IsAt name_cmp (finmap.entries self.now) name.now near.at) }
     {
         let key = NameKey::lent(name);
         let (row, _, _) = self.rows.get_full(&key)?;
         if row < self.order.len() && self.order.get(row) == row {
-            return Some(row);
+            return Some(Near { at: row, block: 0 });
         }
-        self.search(name).ok()
+        self.search(key_of(name), name).ok()
     }
 
     // Whether a name of a key may take the place of the row at a position: it is above the row before and below the row after.
-    fn keeps_place(&self, at: usize, key: u128, name: &[u8]) -> bool
-        requires within { at < length (finmap.entries self.now) }
+    fn keeps_place(&self, near: Near, key: u128, name: &[u8]) -> bool
+        requires within { near.at < length (finmap.entries self.now) }
         requires key { IsKeyOf key name.now }
-        ensures { IsTrue result → FitsAt (finmap.entries self.now) at name.now }
+        ensures { IsTrue result → FitsAt (finmap.entries self.now) near.at name.now }
     {
         let count = self.count();
-        let is_after = at == 0 || self.compare_at(at - 1, key, name).is_lt();
-        is_after && (at + 1 == count || self.compare_at(at + 1, key, name).is_gt())
+        let Near { at, block } = near;
+        let is_after = at == 0
+            || self
+                .compare_at(Near { at: at - 1, block }, key, name)
+                .is_lt();
+        is_after
+            && (at + 1 == count
+                || self
+                    .compare_at(Near { at: at + 1, block }, key, name)
+                    .is_gt())
     }
 
     /// The number of the file of a name.
@@ -172,14 +229,16 @@ impl Names {
         ensures err { OnErr result (self.new ≡ self.old) }
     {
         let last = self.rows.len();
-        let Err(at) = self.search(name.as_slice()) else {
+        let bytes = name.as_slice();
+        let key = key_of(bytes);
+        let Err(near) = self.search(key, bytes) else {
             self.rows.insert(name, file)?;
             return Ok(());
         };
         self.rows.reserve(1)?;
         self.keys.reserve(1)?;
-        self.order.insert(at, last)?;
-        self.keys.push_reserved(key_of(name.as_slice()));
+        self.order.insert(near, last)?;
+        self.keys.push_reserved(key);
         let Ok(_none) = self.rows.insert(name, file) else {
             unreachable!();
         };
@@ -192,16 +251,16 @@ impl Names {
         ensures file { result ≡ finmap.get self.old name.now }
         ensures gone { self.new ≡ finmap.remove self.old name.now }
     {
-        let Ok(at) = self.search(name) else {
+        let Ok(near) = self.search(key_of(name), name) else {
             return None;
         };
-        let gone = self.order.get(at);
+        let gone = self.order.get_near(near);
         // The last row of the table goes to the position that comes free.
         let last = self.rows.len() - 1;
-        let (key, _) = self.rows.get_index(last).unwrap();
-        let moved = self.place_of(key.as_slice());
+        let (end, _) = self.rows.get_index(last).unwrap();
+        let moved = self.place_of(self.keys[last], end.as_slice());
         self.order.set(moved, gone);
-        self.order.remove(at);
+        self.order.remove(near);
         self.keys.swap_remove(gone);
         let (_, file) = self.rows.swap_remove_index(gone).unwrap();
         Some(file)
@@ -219,10 +278,10 @@ impl Names {
         ensures ok { OnOk result (self.new ≡ finmap.remove (finmap.insert self.old new.entry file) old.now) }
         ensures err { OnErr result (self.new ≡ self.old) }
     {
-        if let Some(at) = self.hashed_place(old) {
+        if let Some(near) = self.hashed_place(old) {
             let key = key_of(new.as_slice());
-            if self.keeps_place(at, key, new.as_slice()) {
-                let row = self.order.get(at);
+            if self.keeps_place(near, key, new.as_slice()) {
+                let row = self.order.get_near(near);
                 replace_row(&mut self.rows, row, new, file)?;
                 self.keys[row] = key;
                 return Ok(());

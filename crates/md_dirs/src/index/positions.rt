@@ -5,7 +5,8 @@ ghost use Rattle.md_dirs.specs.Positions.{AreEnds, IsRoom, IsSpot, joined, start
 use std::alloc::{AllocError, Global};
 use std::marker::Model;
 
-// A block that has so many positions is halved before one more comes.
+// A block that has so many positions, and no fewer than there are blocks, is halved before one more comes. So blocks grow with their
+// number, and both what moves in a block and what is counted after it grow with the root of the names alone.
 const FULL: usize = 256;
 
 /// Where a position is: the number of its block, and its place there.
@@ -13,6 +14,13 @@ const FULL: usize = 256;
 pub(crate) struct Spot {
     block: usize,
     at: usize,
+}
+
+/// A place in the list, and the block that is looked into first: at the place's own block it is found at once, and else by halving.
+#[derive(Clone, Copy)]
+pub struct Near {
+    pub at: usize,
+    pub block: usize,
 }
 
 /// A list of positions in blocks: one that comes or goes moves those of its block alone, and a word for each block after it.
@@ -47,6 +55,7 @@ fn count_before(blocks: &[Vec<usize>], ends: &[usize], block: usize) -> usize
 }
 
 // The spot of a place within the list, by halving.
+#[inline(never)]
 fn spot_of(blocks: &[Vec<usize>], ends: &[usize], at: usize) -> Spot
     requires ended { AreEnds blocks.now ends.now }
     requires within { at < length (joined blocks.now) }
@@ -70,6 +79,26 @@ fn spot_of(blocks: &[Vec<usize>], ends: &[usize], at: usize) -> Spot
     }
 }
 
+// The spot of a place within the list: in the block that is looked into first, or by halving.
+#[inline(always)]
+fn spot_near(blocks: &[Vec<usize>], ends: &[usize], near: Near) -> Spot
+    requires ended { AreEnds blocks.now ends.now }
+    requires within { near.at < length (joined blocks.now) }
+    ensures there { IsSpot blocks.now result }
+    ensures place { place blocks.now result ≡ near.at }
+{
+    if near.block < ends.len() {
+        let before = count_before(blocks, ends, near.block);
+        if before <= near.at && near.at < ends[near.block] {
+            return Spot {
+                block: near.block,
+                at: near.at - before,
+            };
+        }
+    }
+    spot_of(blocks, ends, near.at)
+}
+
 // The spot where a position may come to a place: behind that before it.
 fn room_of(blocks: &[Vec<usize>], ends: &[usize], at: usize) -> Spot
     requires ended { AreEnds blocks.now ends.now }
@@ -86,6 +115,26 @@ fn room_of(blocks: &[Vec<usize>], ends: &[usize], at: usize) -> Spot
         block: before.block,
         at: before.at + 1,
     }
+}
+
+// The same, where the block that is looked into first may take it.
+fn room_near(blocks: &[Vec<usize>], ends: &[usize], near: Near) -> Spot
+    requires ended { AreEnds blocks.now ends.now }
+    requires within { near.at ≤ length (joined blocks.now) }
+    ensures room { IsRoom blocks.now result }
+    ensures inside { 0 < length blocks.now → result.block < length blocks.now }
+    ensures place { place blocks.now result ≡ near.at }
+{
+    if near.block < ends.len() {
+        let before = count_before(blocks, ends, near.block);
+        if before <= near.at && near.at <= ends[near.block] {
+            return Spot {
+                block: near.block,
+                at: near.at - before,
+            };
+        }
+    }
+    room_of(blocks, ends, near.at)
 }
 
 // Counts one position more before the end of each block from one on.
@@ -200,30 +249,30 @@ fn put_at(
     blocks: &mut Vec<Vec<usize>>,
     ends: &mut Vec<usize>,
     alloc: Global,
-    at: usize,
+    near: Near,
     position: usize,
 ) -> Result<(), AllocError>
     requires few { length (joined blocks.old.items) + 1 < 2 ^ 64 }
-    requires within { at ≤ length (joined blocks.old.items) }
+    requires within { near.at ≤ length (joined blocks.old.items) }
     requires ended { AreEnds blocks.old.items ends.old.items }
-    ensures ok { OnOk result (joined blocks.new.items ≡ insert (joined blocks.old.items) at position) }
+    ensures ok { OnOk result (joined blocks.new.items ≡ insert (joined blocks.old.items) near.at position) }
     ensures err { OnErr result (joined blocks.new.items ≡ joined blocks.old.items) }
     ensures ended { AreEnds blocks.new.items ends.new.items }
 {
     let count = blocks.len();
-    let spot = room_of(blocks, ends, at);
+    let spot = room_near(blocks, ends, near);
     if spot.block == count {
         return begin(blocks, ends, alloc, position);
     }
     let len = blocks[spot.block].len();
-    if len < FULL {
+    if len < FULL || len < count {
         return put_in(blocks, ends, spot, position);
     }
     if spot.block + 1 == count && spot.at == len {
         return begin(blocks, ends, alloc, position);
     }
     halve(blocks, ends, spot.block)?;
-    let half = room_of(blocks, ends, at);
+    let half = room_of(blocks, ends, near.at);
     put_in(blocks, ends, half, position)
 }
 
@@ -246,6 +295,21 @@ impl Positions {
         count_before(&self.blocks, &self.ends, self.blocks.len())
     }
 
+    /// The end of the list.
+    pub fn end(&self) -> Near
+        ensures { result.at ≡ length self.now }
+    {
+        Near {
+            at: self.len(),
+            block: self.blocks.len().saturating_sub(1),
+        }
+    }
+
+    /// Where the last position of a block is. A block that isn't there has none.
+    pub fn last_of(&self, block: usize) -> Option<usize> {
+        self.ends.get(block)?.checked_sub(1)
+    }
+
     /// The position at a place.
     pub fn get(&self, at: usize) -> usize
         requires { at < length self.now }
@@ -255,32 +319,42 @@ impl Positions {
         self.blocks[spot.block][spot.at]
     }
 
-    /// Puts a position in the place of one.
-    pub fn set(&mut self, at: usize, position: usize)
-        requires { at < length self.old }
-        ensures { self.new ≡ slice_set self.old at position }
+    /// The position at a place that is looked for in a block first.
+    #[inline(always)]
+    pub fn get_near(&self, near: Near) -> usize
+        requires { near.at < length self.now }
+        ensures { result ≡ slice_index_or self.now near.at 0 }
     {
-        let spot = spot_of(&self.blocks, &self.ends, at);
+        let spot = spot_near(&self.blocks, &self.ends, near);
+        self.blocks[spot.block][spot.at]
+    }
+
+    /// Puts a position in the place of one.
+    pub fn set(&mut self, near: Near, position: usize)
+        requires { near.at < length self.old }
+        ensures { self.new ≡ slice_set self.old near.at position }
+    {
+        let spot = spot_near(&self.blocks, &self.ends, near);
         let block = &mut self.blocks[spot.block];
         block[spot.at] = position;
     }
 
     /// Puts a position before that at a place, or behind all. When out of memory, nothing has changed.
-    pub fn insert(&mut self, at: usize, position: usize) -> Result<(), AllocError>
-        requires { at ≤ length self.old }
-        ensures ok { OnOk result (self.new ≡ insert self.old at position) }
+    pub fn insert(&mut self, near: Near, position: usize) -> Result<(), AllocError>
+        requires { near.at ≤ length self.old }
+        ensures ok { OnOk result (self.new ≡ insert self.old near.at position) }
         ensures err { OnErr result (self.new ≡ self.old) }
     {
         self.len().checked_add(1).ok_or(AllocError)?;
-        put_at(&mut self.blocks, &mut self.ends, self.alloc, at, position)
+        put_at(&mut self.blocks, &mut self.ends, self.alloc, near, position)
     }
 
     /// Takes the position at a place away. It takes no memory.
-    pub fn remove(&mut self, at: usize)
-        requires { at < length self.old }
-        ensures { self.new ≡ remove self.old at }
+    pub fn remove(&mut self, near: Near)
+        requires { near.at < length self.old }
+        ensures { self.new ≡ remove self.old near.at }
     {
-        let spot = spot_of(&self.blocks, &self.ends, at);
+        let spot = spot_near(&self.blocks, &self.ends, near);
         take_out(&mut self.blocks, &mut self.ends, spot);
     }
 }

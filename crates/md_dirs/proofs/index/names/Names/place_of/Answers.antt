@@ -6,4 +6,4 @@ use Rattle.md_dirs.proofs.index.names.Names.place_of.Goals as goal
 pub unreachable-requires : goal.unreachable-requires
 unreachable-requires c =
     let none : finmap.get c.args.self.now c.args.name.now ≡ None = get-entries c.args.self.now c.args.name.now ∙ c.in_default.ensures.absent.absent in
-    let no = rw none at c.requires in cc
+    let no = rw none at c.requires.there in cc

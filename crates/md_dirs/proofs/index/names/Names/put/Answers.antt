@@ -19,8 +19,8 @@ invariant_of-self-in_default c =
     let order = c.self.inside.order in
     let is = c.self.invariant.ordered in
     let name = c.args.name in
-    let at = c.in_default.field-0 in
-    let there = rw (c.as_slice.ensures, ← c.self.view_is) at c.in_default.ensures.found in
+    let at = c.in_default.field-0.at in
+    let there = rw (c.as_slice-bytes.ensures, ← c.self.view_is) at c.in_default.ensures.found in
     let made = c.in_ok-insert.ensures.entries in
     let differ = c.len-last.ensures.unique in
     record {
@@ -42,16 +42,16 @@ invariant_of-self-2 c =
     let es = c.self.inside.rows.entries in
     let order = c.self.inside.order in
     let reserved : c.reserve.new.self.entries ≡ es = c.reserve.ensures.entries in
-    let gap = rw (c.as_slice.ensures, ← c.self.view_is) at c.in-Err.ensures.absent in
+    let gap = rw (c.as_slice-bytes.ensures, ← c.self.view_is) at c.in-Err.ensures.absent in
     let none : get_name c.reserve.new.self.entries c.args.name ≡ None =
     ap (λ (xs : List Row). get_name xs c.args.name) reserved ∙ sym (get-loose es c.args.name) ∙
     get-entries (from_entries {R = name_cmp} es) c.args.name ∙ gap.absent in
     let pushed = c.in-Ok.ensures.entries ∙ insert_entry-new _ c.reserve.new.self c.args.name c.args.file none in
-    let placed = c.in_ok-insert-2.ensures.ok ∙ ap (insert order c.in-Err.at) c.len-last.ensures.len in
-    let key : c.push_reserved.new.self.items ≡ c.self.inside.keys.items ++ c.key_of.result ∷ [] =
-    c.push_reserved.ensures.items ∙ ap (λ (keys : List ℕ). keys ++ c.key_of.result ∷ []) c.reserve-2.ensures.items in
-    let is-key = rw c.as_slice-2.ensures at c.key_of.ensures in
+    let placed = c.in_ok-insert-2.ensures.ok ∙ ap (insert order c.in-Err.near.at) c.len-last.ensures.len in
+    let key : c.push_reserved.new.self.items ≡ c.self.inside.keys.items ++ c.key_of-key.result ∷ [] =
+    c.push_reserved.ensures.items ∙ ap (λ (keys : List ℕ). keys ++ c.key_of-key.result ∷ []) c.reserve-2.ensures.items in
+    let is-key = rw c.as_slice-bytes.ensures at c.key_of-key.ensures in
     rw (pushed, placed, reserved, key) (record {
-      keyed = key-comes es c.self.inside.keys.items c.self.invariant.keyed (c.args.name, c.args.file) c.key_of.result is-key;
-      ordered = come es order c.self.invariant.ordered c.args.name c.args.file c.in-Err.at gap;
+      keyed = key-comes es c.self.inside.keys.items c.self.invariant.keyed (c.args.name, c.args.file) c.key_of-key.result is-key;
+      ordered = come es order c.self.invariant.ordered c.args.name c.args.file c.in-Err.near.at gap;
     })

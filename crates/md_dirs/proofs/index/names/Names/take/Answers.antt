@@ -1,11 +1,12 @@
-use Rattle.std.proofs.Common.{ℕ, List, [], ◌≡◌, ◌-◌, ◌∙◌, Some, refl, sym, ap, slice_set, swap_remove, remove, get_or}
+use Rattle.std.proofs.Common.{ℕ, List, [], ◌≡◌, ◌<◌, ◌-◌, arith, length, ◌∙◌, Some, refl, sym, ap, slice_set, swap_remove, remove, get_or}
+use Rattle.std.proofs.lemmas.List.{get_or_default}
 use Rattle.std.specs.Option.{option_map}
 use Rattle.std.specs.Map.Iter.{deref_pair}
 use Rattle.std.specs.FinMap as finmap
 use Rattle.std.specs.FinMap.{from_entries, get-entries}
 use Rattle.md_dirs.specs.Index.{name_cmp}
 use Rattle.lists.proofs.Maps.{drop-absent}
-use Rattle.md_dirs.proofs.Keyed.{key-goes}
+use Rattle.md_dirs.proofs.Keyed.{key-goes, as-key}
 use Rattle.md_dirs.proofs.NameRows.{name_total, name_exact, get-loose, taken-loose}
 use Rattle.md_dirs.proofs.Ordered.{key-at, file-at, in-table, read, go-row}
 use Rattle.md_dirs.proofs.index.names.Names.take.Goals as goal
@@ -18,29 +19,43 @@ pub returns-in_default-clause-gone : goal.returns-in_default-clause-gone
 returns-in_default-clause-gone c =
     sym (drop-absent name_total name_exact c.args.self.now c.args.name.now (get-entries c.args.self.now c.args.name.now ∙ c.in_default.ensures.absent.absent))
 
-pub place_of-moved-requires : goal.place_of-moved-requires
-place_of-moved-requires c =
+pub place_of-moved-requires-clause-there : goal.place_of-moved-requires-clause-there
+place_of-moved-requires-clause-there c =
     let es = c.self.inside.rows.entries in
     let some = rw c.unwrap.ensures at c.get_index.ensures.value in
     rw (← c.self.view_is, c.as_slice.ensures, get-loose es c.unwrap.result.0.now, some) refl
 
+pub place_of-moved-requires-clause-key : goal.place_of-moved-requires-clause-key
+place_of-moved-requires-clause-key c =
+    let es = c.self.inside.rows.entries in
+    let keys = c.self.inside.keys.items in
+    let keyed = c.self.invariant.keyed in
+    let last = c.len-last.result - 1 in
+    let there = rw (← c.self.view_is) at c.in-Ok.ensures.found in
+    let some = in-table es c.self.inside.order c.self.invariant.ordered c.args.name.now c.in-Ok.near.at there in
+    let within : last < length es = omega (arith, some, c.len-last.ensures.len) in
+    let number : c.index.result.now ≡ get_or keys last 0 =
+    c.index.ensures ∙ get_or_default keys last c.index.result.now 0 (omega (arith, within, keyed.long)) in
+    let row = read es last (c.unwrap.result.0.now, c.unwrap.result.1.now) (sym c.get_index.ensures.entry ∙ ap (option_map deref_pair) c.unwrap.ensures) in
+    as-key number (c.as_slice.ensures ∙ ap (λ (e : List ℕ × ℕ). e.0) (sym row)) (keyed.each last within)
+
 -- the position that was read is that at the name's place
-position : (c : Joined-unwrap) → c.get-gone.result ≡ get_or c.self.inside.order c.in-Ok.at 0
-position c = c.get-gone.ensures
+position : (c : Joined-unwrap) → c.get_near-gone.result ≡ get_or c.self.inside.order c.in-Ok.near.at 0
+position c = c.get_near-gone.ensures
 
 -- the row that was taken off is that at the name's place
-taken : (c : Joined-unwrap) → get_or c.self.inside.rows.entries (get_or c.self.inside.order c.in-Ok.at 0) ([], 0)
+taken : (c : Joined-unwrap) → get_or c.self.inside.rows.entries (get_or c.self.inside.order c.in-Ok.near.at 0) ([], 0)
     ≡ c.unwrap-file.result
 taken c =
     let es = c.self.inside.rows.entries in
     ap (λ i. get_or es i ([], 0)) (sym (position c)) ∙
-    read es c.get-gone.result c.unwrap-file.result (sym c.swap_remove_index.ensures.entry ∙ c.unwrap-file.ensures)
+    read es c.get_near-gone.result c.unwrap-file.result (sym c.swap_remove_index.ensures.entry ∙ c.unwrap-file.ensures)
 
 pub returns-clause-file : goal.returns-clause-file
 returns-clause-file c =
     let es = c.self.inside.rows.entries in
     let there = rw (← c.self.view_is) at c.in-Ok.ensures.found in
-    rw (← c.self.view_is) (sym (file-at es c.self.inside.order c.self.invariant.ordered c.args.name.now c.in-Ok.at there ∙
+    rw (← c.self.view_is) (sym (file-at es c.self.inside.order c.self.invariant.ordered c.args.name.now c.in-Ok.near.at there ∙
     ap (λ (e : List ℕ × ℕ). Some e.1) (taken c)))
 
 -- the names that are left
@@ -51,7 +66,7 @@ left c =
     let there = rw (← c.self.view_is) at c.in-Ok.ensures.found in
     let gone = rw c.unwrap-file.ensures at c.swap_remove_index.ensures.updates in
     let key : c.unwrap-file.result.0 ≡ c.args.name.now = ap (λ (e : List ℕ × ℕ). e.0) (sym (taken c)) ∙
-    key-at es c.self.inside.order c.self.invariant.ordered c.args.name.now c.in-Ok.at there in
+    key-at es c.self.inside.order c.self.invariant.ordered c.args.name.now c.in-Ok.near.at there in
     taken-loose es c.swap_remove_index.new.self.entries c.unwrap-file.result.0 gone.0 ∙ ap (finmap.remove (from_entries es)) key
 
 pub returns-clause-gone : goal.returns-clause-gone
@@ -68,14 +83,14 @@ invariant_of-self c =
     ap (option_map deref_pair) c.unwrap.ensures) in
     let swapped = rw c.unwrap-file.ensures at c.swap_remove_index.ensures.entries in
     let made = swapped ∙ ap (λ i. swap_remove es i c.unwrap-file.result) (position c) in
-    let rest = c.remove.ensures ∙ (λ i. remove ((c.set.ensures ∙ ap (slice_set order c.place_of-moved.result) (position c)) i) c.in-Ok.at) in
+    let rest = c.remove.ensures ∙ (λ i. remove ((c.set.ensures ∙ ap (slice_set order c.place_of-moved.result.at) (position c)) i) c.in-Ok.near.at) in
     let keys = c.self.inside.keys.items in
     let fewer = c.swap_remove.ensures.items ∙ ap (λ i. swap_remove keys i c.swap_remove.result) (position c) in
     let is = c.self.invariant.ordered in
     let name = c.args.name.now in
     record {
-      keyed = rw (made, fewer) (key-goes es keys (get_or order c.in-Ok.at 0) c.unwrap-file.result c.swap_remove.result
-          (in-table es order is name c.in-Ok.at there) c.self.invariant.keyed);
-      ordered = rw rest (go-row es c.swap_remove_index.new.self.entries order name c.unwrap.result.0.now c.in-Ok.at c.place_of-moved.result
+      keyed = rw (made, fewer) (key-goes es keys (get_or order c.in-Ok.near.at 0) c.unwrap-file.result c.swap_remove.result
+          (in-table es order is name c.in-Ok.near.at there) c.self.invariant.keyed);
+      ordered = rw rest (go-row es c.swap_remove_index.new.self.entries order name c.unwrap.result.0.now c.in-Ok.near.at c.place_of-moved.result.at
           c.unwrap-file.result is c.len-last.ensures.unique there there' (ap (λ (e : List ℕ × ℕ). e.0) end) made (left c));
     }

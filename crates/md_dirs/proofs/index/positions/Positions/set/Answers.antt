@@ -7,17 +7,17 @@ use Rattle.md_dirs.proofs.index.positions.Positions.set.Goals as goal
 pub invariant_of-self : goal.invariant_of-self
 invariant_of-self c =
     let blocks = c.self.inside.blocks.items in
-    let s = c.spot_of-spot.result in
-    let there = rw c.deref.ensures.value at c.spot_of-spot.ensures.there in
+    let s = c.spot_near-spot.result in
+    let there = rw c.deref.ensures.value at c.spot_near-spot.ensures.there in
     let b = c.index_mut-block.result.now in
     ends-kept blocks c.self.inside.ends.items c.self.invariant s.block b _ there.0 c.index_mut-block.ensures.value (length-set b.items s.at c.args.position)
 
 pub returns : goal.returns
 returns c =
     let blocks = c.self.inside.blocks.items in
-    let s = c.spot_of-spot.result in
-    let there = rw c.deref.ensures.value at c.spot_of-spot.ensures.there in
-    let place = rw c.deref.ensures.value at c.spot_of-spot.ensures.place in
+    let s = c.spot_near-spot.result in
+    let there = rw c.deref.ensures.value at c.spot_near-spot.ensures.there in
+    let place = rw c.deref.ensures.value at c.spot_near-spot.ensures.place in
     let b = c.index_mut-block.result.now in
     rw (← c.self.view_is)
     (set-at blocks s.block s.at b _ there.0 c.index_mut-block.ensures.value c.args.position (inside-spot blocks s b there c.index_mut-block.ensures.value) refl ∙
