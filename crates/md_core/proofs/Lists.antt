@@ -1,3 +1,4 @@
+pub mod Any
 pub mod Found
 pub mod Places
 pub mod Pieces

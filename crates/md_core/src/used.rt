@@ -25,20 +25,23 @@ impl Model for NameSet {
 }
 
 impl NameSet {
-    /// No name.
-    pub(crate) fn new(alloc: Global) -> NameSet
-        ensures { result ≡ [] }
+    /// No name, and room for so many.
+    pub(crate) fn with_room(alloc: Global, count: usize) -> Result<NameSet, AllocError>
+        ensures { IfOk result (λ names. names ≡ []) }
     {
-        NameSet {
+        Ok(NameSet {
             alloc,
-            names: HashSet::new(alloc),
-        }
+            names: HashSet::with_capacity(alloc, count)?,
+        })
     }
 
-    /// Whether a name is among these.
+    /// Whether a name is among these. Where there is none, the name is not hashed.
     pub(crate) fn contains(&self, name: &[u8]) -> bool
         ensures { result ≡ is_among name.now self.now }
     {
+        if self.names.is_empty() {
+            return false;
+        }
         let key = NameKey::lent(name);
         self.names.contains(&key)
     }
@@ -76,13 +79,6 @@ impl UsedNames {
         ensures { result ≡ messages ++ tmp }
     {
         UsedNames { messages, tmp }
-    }
-
-    /// No name.
-    pub(crate) fn new(alloc: Global) -> UsedNames
-        ensures { result ≡ [] }
-    {
-        UsedNames::of(NameSet::new(alloc), NameSet::new(alloc))
     }
 
     /// Whether a name is used.

@@ -1,9 +1,11 @@
 -- The first colon of a name, and the parts on both sides of it.
-use Rattle.std.proofs.Common.{◌≡◌, ℕ, ◌+◌, ◌≤◌, Bool, true, false, not, cond, ◌||◌, List, [], ◌∷◌, length, take, drop, None, Some, refl, sym, ap, ◌∙◌, arith}
+use Rattle.std.proofs.Common.{◌≡◌, ℕ, ◌+◌, ◌≤◌, Option, Bool, true, false, not, cond, ◌||◌, List, [], ◌∷◌, length, take, drop, None, Some, refl, sym, ap, ◌∙◌, arith}
 use Rattle.std.specs.Prelude.{nat_lt, position}
 use Rattle.std.proofs.lemmas.Bool.Decides.{nat_tests}
 use Rattle.std.proofs.lemmas.List.{take_all}
+use Rattle.std.proofs.lemmas.List.Sums.{position_or_len_is}
 use Rattle.std.specs.List.{list_any, before_first, after_first, position_or_len}
+use Rattle.memchr.specs.Find.{IsFirstByte, is_byte}
 use Rattle.md_name.specs.declared.info.Info.TheVariants.{Bare}
 use Rattle.md_name.specs.Names.{is_colon, unique_of, info_text, info_of, info_by}
 
@@ -22,6 +24,23 @@ place_within p [] = omega arith
 place_within p (x ∷ xs) =
     let rest = place_within p xs in
     elim (p x) as (λ b. cond (not b) (1 + position_or_len p xs) 0 ≤ length (x ∷ xs)) [ true ↦ omega arith | false ↦ omega arith ]
+
+refuted : (b : Bool) → ¬ (b ≡ true) → b ≡ false
+refuted true h = absurd (h refl)
+refuted false h = refl
+
+-- the place that a search gives
+pub colon_place : (name : List ℕ) (r : Option ℕ) → IsFirstByte (is_byte 58) name r → r ≡ position is_colon name
+colon_place name None none =
+    let end : position_or_len is_colon name ≡ length name =
+    position_or_len_is is_colon name (length name) 0 (omega arith) (λ k h. refuted _ (none k (omega arith) h)) (λ h. absurd (omega arith)) in
+    let over : nat_lt (length name) (length name) ≡ false = grind (arith, nat_tests) in
+    sym (ap (λ n. cond (nat_lt n (length name)) (Some n) None) end ∙ ap (λ b. cond b (Some (length name)) None) over)
+colon_place name (Some at) found =
+    let is : position_or_len is_colon name ≡ at =
+    position_or_len_is is_colon name at 0 (omega (arith, found.0.high)) (λ k h. refuted _ (found.0.before k (omega arith) h)) (λ h. found.1) in
+    let inner : nat_lt at (length name) ≡ true = let h = found.0.high in grind (arith, nat_tests) in
+    sym (ap (λ n. cond (nat_lt n (length name)) (Some n) None) is ∙ ap (λ b. cond b (Some at) None) inner)
 
 -- ---- a name with a colon at a place
 

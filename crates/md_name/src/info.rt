@@ -5,6 +5,7 @@ ghost use Rattle.md_name.specs.Names.{is_colon, unique_of, info_of, info_by, fla
 
 use crate::error::NameError;
 use crate::flags::Flags;
+use memchr::memchr;
 use std::alloc::Global;
 
 /// The byte that ends the unique part of a name.
@@ -64,11 +65,12 @@ fn parts(name: &[u8]) -> (&[u8], Info)
 }
 
 /// Where the unique part of a name ends at a colon.
+#[tactic(auto, using(crate::proofs::Colons::colon_place))]
 fn first_colon(name: &[u8]) -> Option<usize>
     ensures found { result ≡ position is_colon name.now }
     ensures within { IfSome result (λ at. at < length name.now) }
 {
-    name.iter().position(|byte| *byte == COLON)
+    memchr(COLON, name)
 }
 
 /// The info that the text after a colon says.

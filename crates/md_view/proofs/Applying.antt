@@ -20,7 +20,7 @@ use Rattle.md_core.specs.declared.jobs.effect.Change.TheVariants as change
 use Rattle.md_view.specs.declared.entry.Entry.{Entry}
 use Rattle.md_view.specs.Readings.{as_entry, is_at}
 use Rattle.md_view.specs.Named.{Named, IsMessage, AreMessages, is_listed, has_name, is_there, is_free, fits, after_change}
-use Rattle.md_view.specs.Held.{FolderLists, list_of, listed_in, AreHeld, entry_with, has_unique, ShowsAt}
+use Rattle.md_view.specs.Held.{FolderLists, list_of, listed_in, AreHeld, entry_with, has_unique, DiffersIn}
 use Rattle.md_view.proofs.Readings.{entry_at}
 use Rattle.md_view.proofs.Rows.{same_place, and-first, and-second, if-some, not-true}
 use Rattle.md_view.proofs.Holding.{shown_at, AreLists, held-lists, lists-held, taken, found-in}
@@ -155,7 +155,7 @@ module _ (n : Named) (fs : List FolderLists) (held : AreHeld n fs) where
     abbrev listed_new : Listed
     listed_new = record { folder = folder; place = place; name = name; size = size }
 
-    pub add-held : ShowsAt place (unique_of name) (Some (as_entry (unique_of name, listed_new))) f f'
+    pub add-held : DiffersIn place (unique_of name) (Some (as_entry (unique_of name, listed_new))) f f'
         → AreHeld (after_change n (change.Add folder place name size)) (slice_set fs folder f')
     add-held shows =
         let where_to = and-first _ _ fit in
@@ -172,7 +172,7 @@ module _ (n : Named) (fs : List FolderLists) (held : AreHeld n fs) where
 
   module _ (folder : ℕ) (place : Place) (name : List ℕ) (fit : fits n (change.Remove folder place name) ≡ true)
       (f f' : FolderLists) (at : slice_get fs folder ≡ Some f) where
-    pub remove-held : ShowsAt place (unique_of name) None f f' → AreHeld (after_change n (change.Remove folder place name)) (slice_set fs folder f')
+    pub remove-held : DiffersIn place (unique_of name) None f f' → AreHeld (after_change n (change.Remove folder place name)) (slice_set fs folder f')
     remove-held shows =
         let where_from = and-first _ _ fit in
         let there = there-facts n folder place name (and-second _ _ fit) in
@@ -222,10 +222,10 @@ module _ (n : Named) (fs : List FolderLists) (held : AreHeld n fs) where
     pub rename-put : (u : List ℕ) (gs : List FolderLists) → gs ≡ fs → u ≡ unique_of name → (size : ℕ)
         → IfSome (entry_with u (listed_in gs folder place)) (λ e. size ≡ e.size)
         → (entry : Entry) → entry ≡ record { unique = unique_of to_name; place = to_place; name = to_name; size = size } → (f f' : FolderLists)
-        → ShowsAt to_place entry.unique (Some entry) f f' → ShowsAt to_place (unique_of to_name) (Some (as_entry (unique_of to_name, new_message))) f f'
+        → DiffersIn to_place entry.unique (Some entry) f f' → DiffersIn to_place (unique_of to_name) (Some (as_entry (unique_of to_name, new_message))) f f'
     rename-put u gs same is size sized entry made f f' shows =
         let old : size ≡ rename-found.0.size = subst (λ (o : Option Entry). IfSome o (λ e. size ≡ e.size)) (found-old u gs same is) sized in
-        subst (λ (e : Entry). ShowsAt to_place e.unique (Some e) f f')
+        subst (λ (e : Entry). DiffersIn to_place e.unique (Some e) f f')
         (made ∙ (λ i. record { unique = unique_of to_name; place = to_place; name = to_name; size = (old ∙ rename-found.2) i })) shows
 
     abbrev names_then : Names
@@ -239,7 +239,7 @@ module _ (n : Named) (fs : List FolderLists) (held : AreHeld n fs) where
         (record { folder = spot.0; place = spot.1; name = rename-free.0; unique = refl })
 
     module _ (f f' : FolderLists) (at : slice_get fs to_folder ≡ Some f)
-        (put : ShowsAt to_place (unique_of to_name) (Some (as_entry (unique_of to_name, new_message))) f f') where
+        (put : DiffersIn to_place (unique_of to_name) (Some (as_entry (unique_of to_name, new_message))) f f') where
       put-lists : AreLists (slice_set fs to_folder f')
           (but to_folder to_place (unique_of to_name) (Some (as_entry (unique_of to_name, new_message))) (shown_at n.names))
       put-lists = set-lists fs (shown_at n.names) (held-lists n fs held) to_folder to_place (unique_of to_name)
@@ -255,7 +255,7 @@ module _ (n : Named) (fs : List FolderLists) (held : AreHeld n fs) where
           (unique_of to_name) new_message rename-free.1 same in_folder in_place))
 
       -- or the old one was taken out behind it
-      module _ (g g' : FolderLists) (there : slice_get (slice_set fs to_folder f') folder ≡ Some g) (take : ShowsAt place (unique_of name) None g g')
+      module _ (g g' : FolderLists) (there : slice_get (slice_set fs to_folder f') folder ≡ Some g) (take : DiffersIn place (unique_of name) None g g')
           (differs : folder ≡ to_folder → place ≡ to_place → unique_of to_name ≡ unique_of name → ⊥) where
         meet : (j : ℕ) (p : Place) → unique_of to_name ≡ unique_of name → is_spot folder place j p ≡ true → is_spot to_folder to_place j p ≡ true → ⊥
         meet j p same from to =

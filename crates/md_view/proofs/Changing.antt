@@ -15,7 +15,7 @@ use Rattle.md_core.specs.History.{Listed, Names}
 use Rattle.md_view.specs.declared.entry.Entry.{Entry}
 use Rattle.md_view.specs.Readings.{as_entry, IsInOrder}
 use Rattle.md_view.specs.Named.{is_there}
-use Rattle.md_view.specs.Held.{FolderLists, list_of, listed_in, entry_with, ShowsAt}
+use Rattle.md_view.specs.Held.{FolderLists, list_of, listed_in, entry_with, DiffersIn}
 use Rattle.md_view.proofs.Keyed.{tie-itself, tie-same}
 use Rattle.md_view.proofs.Readings.{entry_at}
 use Rattle.md_view.proofs.Rows.{same_place, and-true, and-false, and-first, and-second}
@@ -30,7 +30,7 @@ abbrev pub but : ℕ → Place → List ℕ → Option Entry → (ℕ → Place 
 but folder place u what g at_folder at_place v = cond (is_spot folder place at_folder at_place && eq_by_cmp name_cmp v u) what (g at_folder at_place v)
 
 module _ (fs : List FolderLists) (g : ℕ → Place → List ℕ → Option Entry) (lists : AreLists fs g) (folder : ℕ) (place : Place) (u : List ℕ) (what : Option Entry)
-    (f f' : FolderLists) (at : slice_get fs folder ≡ Some f) (within : folder < length fs) (shows : ShowsAt place u what f f') where
+    (f f' : FolderLists) (at : slice_get fs folder ≡ Some f) (within : folder < length fs) (shows : DiffersIn place u what f f') where
   abbrev set : List FolderLists
   set = slice_set fs folder f'
 

@@ -1,5 +1,5 @@
 -- The merge of two lists in order is their join.
-use Rattle.std.proofs.Common.{ℕ, zero, suc, ◌≡◌, ◌≤◌, ◌-◌, ◌++◌, List, [], ◌∷◌, Some, None, true, false, cond, take, drop, length, refl, sym, ap, subst, ◌∙◌, ◌⊎◌, inl, inr, arith}
+use Rattle.std.proofs.Common.{ℕ, zero, suc, ◌≡◌, ◌≤◌, ◌-◌, ◌++◌, List, [], ◌∷◌, Some, None, true, false, cond, take, drop, length, refl, sym, ap, subst, ◌∙◌, arith}
 use Rattle.std.proofs.lemmas.List.{append-nil, append_assoc, length-drop}
 use Rattle.std.proofs.Math.Seq.{take-length}
 use Rattle.std.specs.Option.{option_or}
@@ -137,16 +137,17 @@ whole-join new cur all one two i j before sorted merges ended first second =
     second ∙ (λ k. first k ++ rest_whole cur j k) ∙ (λ k. (all ++ rest_whole new i k) ++ drop j cur)
     ∙ append_assoc all (drop i new) (drop j cur) ∙ ap (λ (es : List Entry). all ++ es) (sym ended) ∙ merges ∙ merged-join new cur before sorted
 
-pub none-left : (es : List Entry) → length es ≤ 0 → es ≡ []
+none-left : (es : List Entry) → length es ≤ 0 → es ≡ []
 none-left [] past = refl
 none-left (e ∷ es) past = absurd (omega arith)
 
--- the same for lists that give their entries away
-pub moved-join : (new cur all new' cur' : List Entry) → IsSorted new → IsSorted cur → all ++ merged new' cur' ≡ merged new cur →
-    (new' ≡ []) ⊎ (cur' ≡ []) → (all ++ new') ++ cur' ≡ join_of new cur
-moved-join new cur all new' cur' before sorted merges ended =
-    append_assoc all new' cur' ∙ ap (λ (es : List Entry). all ++ es) (sym (left ended)) ∙ merges ∙ merged-join new cur before sorted
-  where
-    left : (new' ≡ []) ⊎ (cur' ≡ []) → merged new' cur' ≡ new' ++ cur'
-    left (inl none) = rw none refl
-    left (inr none) = rw none (merged-none new' ∙ sym (append-nil new'))
+-- the join of a list and an empty one is that list
+pub join-none-new : (new cur : List Entry) → length new ≡ 0 → IsSorted cur → cur ≡ join_of new cur
+join-none-new new cur none sorted =
+    let is : new ≡ [] = none-left new (omega (arith, none)) in
+    subst (λ (es : List Entry). cur ≡ join_of es cur) (sym is) (merged-join [] cur tt sorted)
+
+pub join-none-cur : (new cur : List Entry) → length cur ≡ 0 → IsSorted new → new ≡ join_of new cur
+join-none-cur new cur none sorted =
+    let is : cur ≡ [] = none-left cur (omega (arith, none)) in
+    subst (λ (es : List Entry). new ≡ join_of new es) (sym is) (sym (merged-none new) ∙ merged-join new [] sorted tt)

@@ -16,7 +16,7 @@ use Rattle.md_dirs.specs.declared.paths.Place.TheVariants.{New}
 use Rattle.md_core.specs.Mailbox.{name_cmp}
 use Rattle.md_view.specs.declared.entry.Entry.{Entry}
 use Rattle.md_view.specs.Readings.{with_unique, IsInOrder}
-use Rattle.md_view.specs.Held.{entry_with, place_for, renamed, HasAt, Shows}
+use Rattle.md_view.specs.Held.{entry_with, place_for, renamed, HasAt, DiffersAt}
 use Rattle.md_view.proofs.Keyed.{IsBelow, IsSorted, both, first, second, less, is_less, turned, tie-itself, tie-same, below-less, lookup-below, in-order, ordered}
 
 -- two names that aren't one don't tie
@@ -260,7 +260,7 @@ keyed-remove u old (x ∷ es) sorted at same = by (λ there. keyed-remove u old 
         placed Equal is ∙ sym (keyed-above u es below) ∙ left Equal is
     by rest Greater is = placed Greater is ∙ ap (λ (l : List (List ℕ × Entry)). with_unique x ∷ l) (rest (there Greater is)) ∙ left Greater is
 
-shows-put : (e : Entry) (es fs : List Entry) → IsSorted es → map with_unique fs ≡ put name_cmp e.unique e (map with_unique es) → Shows e.unique (Some e) es fs
+shows-put : (e : Entry) (es fs : List Entry) → IsSorted es → map with_unique fs ≡ put name_cmp e.unique e (map with_unique es) → DiffersAt e.unique (Some e) es fs
 shows-put e es fs sorted is = record {
   order = in-order _
       (subst (λ (l : List (List ℕ × Entry)). T (is_sorted name_cmp l)) (sym is) (is_sorted-put name_cmp nat_list_cmp_total e.unique e (map with_unique es) sorted));
@@ -268,11 +268,11 @@ shows-put e es fs sorted is = record {
 }
 
 module _ (e : Entry) (es : List Entry) (order : IsInOrder es) where
-  pub shows-insert : entry_with e.unique es ≡ None → Shows e.unique (Some e) es (insert es (place_for e.unique es) e)
+  pub shows-insert : entry_with e.unique es ≡ None → DiffersAt e.unique (Some e) es (insert es (place_for e.unique es) e)
   shows-insert none = shows-put e es _ (ordered _ order) (keyed-insert e es none)
 
   pub shows-set : (old : Entry) → slice_get es (place_for e.unique es) ≡ Some old → old.unique ≡ e.unique
-      → Shows e.unique (Some e) es (slice_set es (place_for e.unique es) e)
+      → DiffersAt e.unique (Some e) es (slice_set es (place_for e.unique es) e)
   shows-set old at same = shows-put e es _ (ordered _ order) (keyed-set e old es at same)
 
 module _ (u : List ℕ) (es : List Entry) (order : IsInOrder es) where
@@ -282,7 +282,7 @@ module _ (u : List ℕ) (es : List Entry) (order : IsInOrder es) where
       ∙ sym (ap (λ (w : List ℕ). cond (eq_by_cmp name_cmp w u) None o) is ∙ ap (λ b. cond b None o) (tie-itself u)))
       (λ is. ap (λ b. cond (not b) o None) (apart u v (λ same. is (sym same))) ∙ sym (ap (λ b. cond b None o) (apart v u is)))
 
-  pub shows-remove : (old : Entry) → slice_get es (place_for u es) ≡ Some old → old.unique ≡ u → Shows u None es (remove es (place_for u es))
+  pub shows-remove : (old : Entry) → slice_get es (place_for u es) ≡ Some old → old.unique ≡ u → DiffersAt u None es (remove es (place_for u es))
   shows-remove old at same =
       let is = keyed-remove u old es (ordered _ order) at same in record {
         order =
@@ -295,7 +295,7 @@ module _ (u : List ℕ) (es : List Entry) (order : IsInOrder es) where
       }
 
   -- entries that stay show what they did
-  pub shows-same : (what : Option Entry) → what ≡ entry_with u es → Shows u what es es
+  pub shows-same : (what : Option Entry) → what ≡ entry_with u es → DiffersAt u what es es
   shows-same what is = record {
     order = order;
     at = λ v. elim (eq_by_cmp name_cmp v u) as (λ t. eq_by_cmp name_cmp v u ≡ t → entry_with v es ≡ cond t what (entry_with v es)) [
@@ -309,22 +309,22 @@ module _ (u : List ℕ) (es : List Entry) (order : IsInOrder es) (at : ℕ) (is 
   there : (h : HasAt es at u) → slice_get es (place_for u es) ≡ Some h.entry
   there h = ap (slice_get es) (sym is) ∙ h.is
 
-  pub take-there : HasAt es at u → Shows u None es (remove es at)
-  take-there h = subst (λ k. Shows u None es (remove es k)) (sym is) (shows-remove u es order h.entry (there h) h.unique)
+  pub take-there : HasAt es at u → DiffersAt u None es (remove es at)
+  take-there h = subst (λ k. DiffersAt u None es (remove es k)) (sym is) (shows-remove u es order h.entry (there h) h.unique)
 
-  pub take-none : (HasAt es at u → ⊥) → Shows u None es es
+  pub take-none : (HasAt es at u → ⊥) → DiffersAt u None es es
   take-none not = shows-same u es order None (sym (found-not u es (ordered _ order) at is not))
 
 module _ (e : Entry) (es : List Entry) (order : IsInOrder es) (at : ℕ) (is : at ≡ place_for e.unique es) where
-  pub put-there : HasAt es at e.unique → Shows e.unique (Some e) es (slice_set es at e)
-  put-there h = subst (λ k. Shows e.unique (Some e) es (slice_set es k e)) (sym is) (shows-set e es order h.entry (there e.unique es order at is h) h.unique)
+  pub put-there : HasAt es at e.unique → DiffersAt e.unique (Some e) es (slice_set es at e)
+  put-there h = subst (λ k. DiffersAt e.unique (Some e) es (slice_set es k e)) (sym is) (shows-set e es order h.entry (there e.unique es order at is h) h.unique)
 
-  pub put-new : (HasAt es at e.unique → ⊥) → Shows e.unique (Some e) es (insert es at e)
-  put-new not = subst (λ k. Shows e.unique (Some e) es (insert es k e)) (sym is) (shows-insert e es order (found-not e.unique es (ordered _ order) at is not))
+  pub put-new : (HasAt es at e.unique → ⊥) → DiffersAt e.unique (Some e) es (insert es at e)
+  put-new not = subst (λ k. DiffersAt e.unique (Some e) es (insert es k e)) (sym is) (shows-insert e es order (found-not e.unique es (ordered _ order) at is not))
 
 -- an entry gets another name where it stands, if it has the old one
 module _ (u : List ℕ) (es : List Entry) (order : IsInOrder es) (at : ℕ) (is : at ≡ place_for u es) (name to_name : List ℕ) where
-  pub rename-none : (HasAt es at u → ⊥) → Shows u (option_map (renamed name to_name) (entry_with u es)) es es
+  pub rename-none : (HasAt es at u → ⊥) → DiffersAt u (option_map (renamed name to_name) (entry_with u es)) es es
   rename-none not =
       let none = found-not u es (ordered _ order) at is not in
       shows-same u es order _ (ap (option_map (renamed name to_name)) none ∙ sym none)
@@ -339,12 +339,12 @@ module _ (u : List ℕ) (es : List Entry) (order : IsInOrder es) (at : ℕ) (is 
     becomes : (b : Bool) → pointwise nat_eq h.entry.name name ≡ b → option_map (renamed name to_name) (entry_with u es) ≡ Some (cond b (named h.entry) h.entry)
     becomes b it = ap (option_map (renamed name to_name)) this ∙ ap (λ t. Some (cond t (named h.entry) h.entry)) it
 
-    pub rename-other : pointwise nat_eq h.entry.name name ≡ false → Shows u (option_map (renamed name to_name) (entry_with u es)) es es
+    pub rename-other : pointwise nat_eq h.entry.name name ≡ false → DiffersAt u (option_map (renamed name to_name) (entry_with u es)) es es
     rename-other other = shows-same u es order _ (becomes false other ∙ sym this)
 
-    pub rename-there : pointwise nat_eq h.entry.name name ≡ true → Shows u (option_map (renamed name to_name) (entry_with u es)) es (slice_set es at (named h.entry))
+    pub rename-there : pointwise nat_eq h.entry.name name ≡ true → DiffersAt u (option_map (renamed name to_name) (entry_with u es)) es (slice_set es at (named h.entry))
     rename-there same =
         let own : at ≡ place_for h.entry.unique es = is ∙ ap (λ (v : List ℕ). place_for v es) (sym h.unique) in
         let put = put-there (named h.entry) es order at own (record { entry = h.entry; is = h.is; unique = refl }) in
-        subst (λ (o : Option Entry). Shows u o es (slice_set es at (named h.entry))) (sym (becomes true same))
-        (subst (λ (v : List ℕ). Shows v (Some (named h.entry)) es (slice_set es at (named h.entry))) h.unique put)
+        subst (λ (o : Option Entry). DiffersAt u o es (slice_set es at (named h.entry))) (sym (becomes true same))
+        (subst (λ (v : List ℕ). DiffersAt v (Some (named h.entry)) es (slice_set es at (named h.entry))) h.unique put)

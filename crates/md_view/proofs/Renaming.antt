@@ -11,7 +11,7 @@ use Rattle.md_core.specs.declared.jobs.effect.Change.TheVariants as change
 use Rattle.md_view.specs.declared.entry.Entry.{Entry}
 use Rattle.md_view.specs.Readings.{as_entry}
 use Rattle.md_view.specs.Named.{Named, is_there, fits, after_change}
-use Rattle.md_view.specs.Held.{FolderLists, list_of, AreHeld, entry_with, renamed, ShowsAt}
+use Rattle.md_view.specs.Held.{FolderLists, list_of, AreHeld, entry_with, renamed, DiffersIn}
 use Rattle.md_view.proofs.Rows.{and-first, and-second}
 use Rattle.md_view.proofs.Holding.{shown_at, held-lists, found-in}
 use Rattle.md_view.proofs.Changing.{but-same, set-lists}
@@ -44,7 +44,7 @@ module _ (n : Named) (fs : List FolderLists) (held : AreHeld n fs) where
     abbrev change_here : Change
     change_here = change.Rename folder place name folder place to_name
 
-    module _ (shows : ShowsAt place (unique_of name) what f f') where
+    module _ (shows : DiffersIn place (unique_of name) what f f') where
       -- the entry has the old name
       with-name : is_there n folder place name ≡ true → AreHeld (after_change n change_here) (slice_set fs folder f')
       with-name is =
@@ -61,9 +61,9 @@ module _ (n : Named) (fs : List FolderLists) (held : AreHeld n fs) where
           ap (option_map (renamed name to_name)) before
           ∙ ap (λ b. Some (cond b (record (as_entry (u, old)) { name = to_name }) (as_entry (u, old)))) (nat_list_eq_equiv.refl name)
           ∙ (λ i. Some (record { unique = sym same i; place = place; name = to_name; size = sized i })) in
-          let put : ShowsAt place (unique_of to_name) (Some (as_entry (unique_of to_name, new))) f f' =
-          subst (λ (v : List ℕ). ShowsAt place v (Some (as_entry (unique_of to_name, new))) f f') (sym same)
-          (subst (λ (o : Option Entry). ShowsAt place u o f f') after shows) in
+          let put : DiffersIn place (unique_of to_name) (Some (as_entry (unique_of to_name, new))) f f' =
+          subst (λ (v : List ℕ). DiffersIn place v (Some (as_entry (unique_of to_name, new))) f f') (sym same)
+          (subst (λ (o : Option Entry). DiffersIn place u o f f') after shows) in
           rename-held n fs held folder place name folder place to_name fit f f' at put refl refl same
 
       -- there is none, or it has another name

@@ -7,7 +7,7 @@ use Rattle.md_core.specs.Mailbox.{mailbox_of}
 use Rattle.md_core.specs.History.{names_of}
 use Rattle.md_core.specs.Runs.{Run, dirs_of}
 use Rattle.md_core.specs.Tracing.{IsShown, KeepsStates}
-use Rattle.md_view.specs.declared.listing.Listing.{Listing}
+use Rattle.md_view.specs.declared.listing.BegunListing.{BegunListing}
 use Rattle.md_view.specs.Readings.{reading_of}
 use Rattle.md_view.specs.Law.{names_at, HasBegun, Continues}
 
@@ -25,7 +25,7 @@ longer r r' more = elim more [
   | inr by_call ↦ let same : length r'.events ≡ length r.events = ap (λ (x : Run). length x.events) by_call.1 in omega (arith, same)
 ]
 
-pub goes_on : (r r' : Run) (l : Listing) → KeepsStates r r' → HasBegun r l → Continues r r' → HasBegun r' l
+pub goes_on : (r r' : Run) (l : BegunListing) → KeepsStates r r' → HasBegun r l → Continues r r' → HasBegun r' l
 goes_on r r' l keeps begun more = record {
   past = let past = begun.past in let more_steps = longer r r' more in omega (arith, past, more_steps);
   new = begun.new ∙ ap (λ (s : State). reading_of (names_of (mailbox_of s)) l.folder New) (sym (keeps l.begun begun.past));

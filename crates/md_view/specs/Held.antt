@@ -76,11 +76,11 @@ abbrev pub renamed : List ℕ → List ℕ → Entry → Entry
 renamed name to_name e = if pointwise nat_eq e.name name then record e { name = to_name } else e
 
 -- entries in order that show of one unique name what is said, and of each other what they showed
-pub record Shows (u : List ℕ) (what : Option Entry) (old new : List Entry) : Type 0 where
+pub record DiffersAt (u : List ℕ) (what : Option Entry) (old new : List Entry) : Type 0 where
   pub order : IsInOrder new
   pub at : (v : List ℕ) → entry_with v new ≡ (if eq_by_cmp name_cmp v u then what else entry_with v old)
 
 -- a folder shows so in one directory, and in the others what it showed
-pub record ShowsAt (place : Place) (u : List ℕ) (what : Option Entry) (old new : FolderLists) : Type 0 where
-  pub here : Shows u what (list_of place old) (list_of place new)
+pub record DiffersIn (place : Place) (u : List ℕ) (what : Option Entry) (old new : FolderLists) : Type 0 where
+  pub here : DiffersAt u what (list_of place old) (list_of place new)
   pub others : (p : Place) → (place_index p == place_index place) ≡ false → list_of p new ≡ list_of p old

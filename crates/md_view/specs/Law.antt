@@ -12,7 +12,7 @@ use Rattle.md_core.specs.Trace.{box}
 use Rattle.md_core.specs.Tracing.{trace_of}
 use Rattle.md_core.specs.Runs.{Run, and_events, and_call}
 use Rattle.md_view.specs.declared.entry.Entry.{Entry}
-use Rattle.md_view.specs.declared.listing.Listing.{Listing}
+use Rattle.md_view.specs.declared.listing.BegunListing.{BegunListing}
 use Rattle.md_view.specs.Readings.{as_entry, reading_of, by_unique, join_of, IsInOrder}
 
 -- the names of the mailbox at a moment of a run
@@ -54,7 +54,7 @@ pub record IsGoodListing (names : ℕ → Names) (folder i j : ℕ) (entries : L
   pub once : IsInOrder entries
 
 -- a listing has begun: its new was read at a moment of the run
-pub record HasBegun (r : Run) (l : Listing) : Type 0 where
+pub record HasBegun (r : Run) (l : BegunListing) : Type 0 where
   pub past : l.begun ≤ length r.events
   pub new : l.new.items ≡ reading_of (names_at r l.begun) l.folder New
 

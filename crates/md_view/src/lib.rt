@@ -5,15 +5,15 @@
 
 mod entry;
 mod error;
+mod joining;
 pub mod laws;
 mod listing;
-mod merge;
 mod names;
 mod read;
 
 pub use entry::{Entry, EntryRef};
 pub use error::ViewError;
-pub use listing::{Listing, list, list_lent};
-pub use merge::join;
+pub use joining::join;
+pub use listing::{BegunListing, list, list_lent};
 pub use names::Names;
 pub use read::reading;

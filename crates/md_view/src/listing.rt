@@ -6,7 +6,7 @@ ghost use Rattle.md_view.specs.Law.{names_at, listing_of, HasBegun, IsGoodListin
 
 use crate::entry::{Entry, EntryRef, copied, lend};
 use crate::error::ViewError;
-use crate::merge::merge;
+use crate::joining::join_owned;
 use crate::read::{lent_reading, reading};
 use md_core::World;
 use md_dirs::{Dirs, Place};
@@ -17,7 +17,7 @@ use std::alloc::Global;
 /// New comes first because messages go from new to cur and never back: one that goes to cur between the two readings is in both, and with
 /// the readings the other way round it would be in neither.
 #[derive(Debug, Drop)]
-pub struct Listing {
+pub struct BegunListing {
     pub folder: u32,
     /// How many steps the world had taken when new was read.
     pub begun: usize,
@@ -25,13 +25,13 @@ pub struct Listing {
     pub new: Vec<Entry>,
 }
 
-impl Listing {
+impl BegunListing {
     /// Reads new of a folder. It is refused as `reading` is.
     pub fn begin<D: Dirs>(
         alloc: Global,
         world: &World<D>,
         folder: u32,
-    ) -> Result<Listing, ViewError>
+    ) -> Result<BegunListing, ViewError>
         ensures begun { IfOk result (λ listing. HasBegun world.now listing) }
         ensures folder { IfOk result (λ listing. listing.folder ≡ folder) }
         ensures moment { IfOk result (λ listing. listing.begun ≡ length world.now.events) }
@@ -40,7 +40,7 @@ impl Listing {
         world.interleaves();
         let new = reading(alloc, world, folder, Place::New)?;
         let begun = world.log().len();
-        Ok(Listing { folder, begun, new })
+        Ok(BegunListing { folder, begun, new })
     }
 
     /// Reads cur, at the same or a later moment of the same world, and joins the two. By the listing law the result shows each unique name
@@ -72,7 +72,7 @@ impl Listing {
         md_core::laws::legal_histories_keep_messages_out_of_new();
         let cur = lent_reading(alloc, world, self.folder, Place::Cur)?;
         let new = lend(alloc, &self.new)?;
-        Ok(merge(alloc, &new, &cur)?)
+        Ok(join_owned(alloc, new, cur)?)
     }
 }
 
@@ -99,5 +99,5 @@ pub fn list_lent<'a, D: Dirs>(
     world.interleaves();
     let new = lent_reading(alloc, world, folder, Place::New)?;
     let cur = lent_reading(alloc, world, folder, Place::Cur)?;
-    Ok(merge(alloc, &new, &cur)?)
+    Ok(join_owned(alloc, new, cur)?)
 }

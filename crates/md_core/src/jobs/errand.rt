@@ -91,8 +91,7 @@ impl Errand {
             Stage::Act { place, row, tries } => {
                 let size = row.size;
                 let tries = *tries;
-                let answer = self.purpose.answer(row.name.as_slice());
-                let deed = self
+                let (deed, answer) = self
                     .purpose
                     .deed(alloc, self.folder, &self.unique, *place, &row.name)?;
                 self.act(dirs, job, at, deed, answer, size, tries)

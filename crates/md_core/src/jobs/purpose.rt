@@ -119,6 +119,21 @@ fn copied_name(alloc: Global, fresh: &Bytes, info: Info) -> Result<Bytes, CoreEr
     }
 }
 
+// A message gets its flags by another name in cur.
+fn marked(alloc: Global, old: Path, unique: &Bytes, flags: Flags) -> Result<Deed, CoreError>
+    ensures { MatchResult result
+        (λ deed. deed_view deed ≡ Rename old (path_of old.folder Place.Cur (flagged unique.now flags)))
+        (λ e. e ≡ CoreError.NoMemory) }
+{
+    let name = named(alloc, unique, flags)?;
+    let new = Path {
+        folder: old.folder,
+        place: Place::Cur,
+        name,
+    };
+    Ok(Deed::Rename { old, new })
+}
+
 impl Purpose {
     /// The place that is looked in first.
     pub(crate) fn first(&self) -> Place
@@ -206,8 +221,8 @@ impl Purpose {
         }
     }
 
-    /// What is done with a message of this unique name, place and whole name, in a folder. The names are copies, so that a directory call
-    /// that was made needs no memory.
+    /// What is done with a message of this unique name, place and whole name, in a folder, and the answer where it is done. The names are
+    /// copies, so that a directory call that was made needs no memory, and the info is read once, where it plays a part.
     pub(crate) fn deed(
         &self,
         alloc: Global,
@@ -215,15 +230,21 @@ impl Purpose {
         unique: &Bytes,
         place: Place,
         name: &Bytes,
-    ) -> Result<Deed, CoreError>
-        ensures { MatchResult result (λ deed. deed_view deed ≡ deed_by (purpose_view self.now) folder unique.now place name.now (info_in name.now)) (λ e. e ≡ CoreError.NoMemory) }
+    ) -> Result<(Deed, Answer), CoreError>
+        ensures deed { IfOk result (λ done. deed_view done.0 ≡ deed_by (purpose_view self.now) folder unique.now place name.now (info_in name.now)) }
+        ensures answer { IfOk result (λ done. done.1 ≡ answer_by (purpose_view self.now) (info_in name.now)) }
+        ensures memory { IfErr result (λ e. e ≡ CoreError.NoMemory) }
     {
         let old = path(alloc, folder, place, name)?;
         match self {
-            Purpose::Seen(_) | Purpose::Flag { .. } => self.marked(alloc, old, unique),
+            Purpose::Seen(_) | Purpose::Flag { .. } => {
+                let flags = self.wanted(shown(name.as_slice()));
+                let deed = marked(alloc, old, unique, flags)?;
+                Ok((deed, Answer::Flags(flags)))
+            }
             Purpose::Move { to } => {
                 let new = path(alloc, *to, place, name)?;
-                Ok(Deed::Rename { old, new })
+                Ok((Deed::Rename { old, new }, Answer::Moved))
             }
             Purpose::Copy { to, fresh } => {
                 let name = copied_name(alloc, fresh, info_of(name.as_slice()))?;
@@ -232,26 +253,10 @@ impl Purpose {
                     place,
                     name,
                 };
-                Ok(Deed::Link { old, new })
+                Ok((Deed::Link { old, new }, Answer::Copied))
             }
-            Purpose::Expunge => Ok(Deed::Unlink { old }),
+            Purpose::Expunge => Ok((Deed::Unlink { old }, Answer::Expunged)),
         }
-    }
-
-    // A message gets its flags by another name in cur.
-    fn marked(&self, alloc: Global, old: Path, unique: &Bytes) -> Result<Deed, CoreError>
-        ensures { MatchResult result
-            (λ deed. deed_view deed ≡ Rename old (path_of old.folder Place.Cur (flagged unique.now (wanted_by (purpose_view self.now) (shown_by (info_in old.name))))))
-            (λ e. e ≡ CoreError.NoMemory) }
-    {
-        let flags = self.wanted(shown(old.name.as_slice()));
-        let name = named(alloc, unique, flags)?;
-        let new = Path {
-            folder: old.folder,
-            place: Place::Cur,
-            name,
-        };
-        Ok(Deed::Rename { old, new })
     }
 }
 

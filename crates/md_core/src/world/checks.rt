@@ -1,8 +1,8 @@
 //! What is checked of a call when it is submitted, and in which order.
 ghost use Rattle.std.specs.Prelude.{◌≡◌, ◌||◌, not};
 ghost use Rattle.md_name.specs.Names.{is_unique_name as is_unique};
-ghost use Rattle.md_core.specs.declared.jobs.call.Call.TheVariants.{Deliver, Move, Copy};
-ghost use Rattle.md_core.specs.Submitting.{submit_refusal, no_folder, too_many, is_used as is_used_by, bad_tries, first_met as first_met_by, checks_of_look_up};
+ghost use Rattle.md_core.specs.declared.jobs.call.Call.TheVariants.{Deliver, Move, Copy, Clean};
+ghost use Rattle.md_core.specs.Submitting.{submit_refusal, no_folder, too_many, is_used as is_used_by, bad_tries, first_met, checks_of_look_up};
 
 use crate::error::CoreError;
 use crate::jobs::call::Call;
@@ -18,18 +18,6 @@ const MOST_JOBS: usize = 10_000;
 
 /// The most tries of a call.
 const MOST_TRIES: u64 = 16;
-
-// The error of the first check that is met.
-fn first_met(checks: &[(bool, CoreError)]) -> Option<CoreError>
-    ensures { result ≡ first_met_by checks.now }
-{
-    for check in checks {
-        if check.0 {
-            return Some(check.1);
-        }
-    }
-    None
-}
 
 // Whether one of two names is no unique name.
 fn is_bad_pair(unique: &[u8], fresh: &[u8]) -> bool
@@ -86,10 +74,7 @@ impl<D: Dirs> World<D> {
                 fresh,
                 tries,
             } => self.copy_refusal(*folder, unique.as_slice(), *to, fresh.as_slice(), *tries),
-            Call::Clean { folder } => first_met(&[
-                (self.lacks(*folder), CoreError::NoFolder),
-                (self.is_full(), CoreError::TooManyJobs),
-            ]),
+            Call::Clean { folder } => self.clean_refusal(*folder),
         }
     }
 
@@ -102,26 +87,46 @@ impl<D: Dirs> World<D> {
     ) -> Option<CoreError>
         ensures { result ≡ submit_refusal self.now (Deliver folder unique.now body.now chunk) }
     {
-        first_met(&[
-            (self.lacks(folder), CoreError::NoFolder),
-            (!is_unique_name(unique), CoreError::BadUnique),
-            (chunk == 0, CoreError::BadChunk),
-            (body.len() > MOST_BYTES, CoreError::BodyTooLong),
-            (self.is_full(), CoreError::TooManyJobs),
-            (self.is_used(unique), CoreError::NameUsed),
-        ])
+        if self.lacks(folder) {
+            return Some(CoreError::NoFolder);
+        }
+        if !is_unique_name(unique) {
+            return Some(CoreError::BadUnique);
+        }
+        if chunk == 0 {
+            return Some(CoreError::BadChunk);
+        }
+        if body.len() > MOST_BYTES {
+            return Some(CoreError::BodyTooLong);
+        }
+        if self.is_full() {
+            return Some(CoreError::TooManyJobs);
+        }
+        if self.is_used(unique) {
+            return Some(CoreError::NameUsed);
+        }
+        None
     }
 
     fn move_refusal(&self, folder: u32, unique: &[u8], to: u32, tries: u64) -> Option<CoreError>
         ensures { result ≡ submit_refusal self.now (Move folder unique.now to tries) }
     {
-        first_met(&[
-            (self.lacks_either(folder, to), CoreError::NoFolder),
-            (to == folder, CoreError::SameFolder),
-            (!is_unique_name(unique), CoreError::BadUnique),
-            (is_bad_tries(tries), CoreError::BadTries),
-            (self.is_full(), CoreError::TooManyJobs),
-        ])
+        if self.lacks_either(folder, to) {
+            return Some(CoreError::NoFolder);
+        }
+        if to == folder {
+            return Some(CoreError::SameFolder);
+        }
+        if !is_unique_name(unique) {
+            return Some(CoreError::BadUnique);
+        }
+        if is_bad_tries(tries) {
+            return Some(CoreError::BadTries);
+        }
+        if self.is_full() {
+            return Some(CoreError::TooManyJobs);
+        }
+        None
     }
 
     fn copy_refusal(
@@ -134,25 +139,53 @@ impl<D: Dirs> World<D> {
     ) -> Option<CoreError>
         ensures { result ≡ submit_refusal self.now (Copy folder unique.now to fresh.now tries) }
     {
-        first_met(&[
-            (self.lacks_either(folder, to), CoreError::NoFolder),
-            (is_bad_pair(unique, fresh), CoreError::BadUnique),
-            (is_bad_tries(tries), CoreError::BadTries),
-            (self.is_full(), CoreError::TooManyJobs),
-            (self.is_used(fresh), CoreError::NameUsed),
-        ])
+        if self.lacks_either(folder, to) {
+            return Some(CoreError::NoFolder);
+        }
+        if is_bad_pair(unique, fresh) {
+            return Some(CoreError::BadUnique);
+        }
+        if is_bad_tries(tries) {
+            return Some(CoreError::BadTries);
+        }
+        if self.is_full() {
+            return Some(CoreError::TooManyJobs);
+        }
+        if self.is_used(fresh) {
+            return Some(CoreError::NameUsed);
+        }
+        None
     }
 
     // The checks of a call that looks for one message and acts on it.
     fn look_up_refusal(&self, folder: u32, unique: &[u8], tries: u64) -> Option<CoreError>
-        ensures { result ≡ first_met_by (checks_of_look_up self.now folder unique.now tries) }
+        ensures { result ≡ first_met (checks_of_look_up self.now folder unique.now tries) }
     {
-        first_met(&[
-            (self.lacks(folder), CoreError::NoFolder),
-            (!is_unique_name(unique), CoreError::BadUnique),
-            (is_bad_tries(tries), CoreError::BadTries),
-            (self.is_full(), CoreError::TooManyJobs),
-        ])
+        if self.lacks(folder) {
+            return Some(CoreError::NoFolder);
+        }
+        if !is_unique_name(unique) {
+            return Some(CoreError::BadUnique);
+        }
+        if is_bad_tries(tries) {
+            return Some(CoreError::BadTries);
+        }
+        if self.is_full() {
+            return Some(CoreError::TooManyJobs);
+        }
+        None
+    }
+
+    fn clean_refusal(&self, folder: u32) -> Option<CoreError>
+        ensures { result ≡ submit_refusal self.now (Clean folder) }
+    {
+        if self.lacks(folder) {
+            return Some(CoreError::NoFolder);
+        }
+        if self.is_full() {
+            return Some(CoreError::TooManyJobs);
+        }
+        None
     }
 
     // Whether a folder isn't there.

@@ -14,7 +14,7 @@ use crate::error::CoreError;
 use crate::used::{NameSet, UsedNames};
 use md_dirs::{Dirs, Place, RowRef};
 use md_name::split;
-use std::alloc::Global;
+use std::alloc::{AllocError, Global};
 
 /// The longest file name of the usual systems, in bytes.
 const MOST_NAME_BYTES: usize = 255;
@@ -38,14 +38,30 @@ struct Seen {
 }
 
 impl Seen {
-    fn new(alloc: Global) -> Seen
-        ensures { (result.messages ≡ []) × (result.tmp ≡ []) × (result.clock ≡ 0) }
+    // Nothing was seen, and there is room for so many names.
+    fn with_room(alloc: Global, messages: usize, tmp: usize) -> Result<Seen, AllocError>
+        ensures { IfOk result (λ seen. (seen.messages ≡ []) × (seen.tmp ≡ []) × (seen.clock ≡ 0)) }
     {
-        Seen {
-            messages: NameSet::new(alloc),
-            tmp: NameSet::new(alloc),
+        Ok(Seen {
+            messages: NameSet::with_room(alloc, messages)?,
+            tmp: NameSet::with_room(alloc, tmp)?,
             clock: 0,
+        })
+    }
+
+    // Nothing was seen, and there is room for all names of directories.
+    fn for_names<D: Dirs>(alloc: Global, dirs: &D) -> Result<Seen, AllocError>
+        ensures { IfOk result (λ seen. (seen.messages ≡ []) × (seen.tmp ≡ []) × (seen.clock ≡ 0)) }
+    {
+        let mut messages = 0usize;
+        let mut tmp = 0usize;
+        for folder in 0..dirs.folders() {
+            let new = dirs.count(folder, Place::New);
+            let cur = dirs.count(folder, Place::Cur);
+            messages = messages.saturating_add(new).saturating_add(cur);
+            tmp = tmp.saturating_add(dirs.count(folder, Place::Tmp));
         }
+        Seen::with_room(alloc, messages, tmp)
     }
 
     // Looks at one more name, and refuses it where it has a fault.
@@ -88,12 +104,12 @@ impl Seen {
     }
 }
 
-// Whether a file name holds what none may.
+// Whether a file name holds what none may. One byte is looked for after the other, since each look goes by many bytes at once.
 fn holds_separator(name: &[u8]) -> bool
     ensures { result ≡ list_any (λ b. is_slash b || is_terminator b) name.now }
 {
-    name.iter()
-        .any(|byte| matches!(*byte, b'/' | b'\0' | b'\n' | b'\r'))
+    let terminator = name.contains(&b'\0') | name.contains(&b'\n') | name.contains(&b'\r');
+    name.contains(&b'/') | terminator
 }
 
 // Whether no file has the name.
@@ -128,7 +144,7 @@ pub(crate) fn look<D: Dirs>(alloc: Global, dirs: &D) -> Result<Looked, CoreError
     ensures used { IfOk result (λ l. (u : _) → is_among u l.used ≡ list_any (λ e. uses u e.0) (finmap.entries (D.device dirs.now).state.names)) }
     ensures refused { IfErr result (IsFault (load_refusal (D.device dirs.now).state)) }
 {
-    let mut seen = Seen::new(alloc);
+    let mut seen = Seen::for_names(alloc, dirs)?;
     for folder in 0..dirs.folders() {
         look_in(dirs, folder, Place::Tmp, &mut seen)?;
         look_in(dirs, folder, Place::New, &mut seen)?;

@@ -5,7 +5,7 @@ ghost use Rattle.md_core.specs.History.{names_of};
 ghost use Rattle.md_core.specs.Mailbox.{mailbox_of, is_tmp};
 ghost use Rattle.md_core.specs.Runs.{dirs_of};
 ghost use Rattle.md_view.specs.Named.{named_of};
-ghost use Rattle.md_view.specs.Held.{list_of, entry_with, has_unique, renamed, ShowsAt, AreHeld};
+ghost use Rattle.md_view.specs.Held.{list_of, entry_with, has_unique, renamed, DiffersIn, AreHeld};
 ghost use Rattle.md_view.specs.Readings.{reading_of, reading_refusal};
 ghost use Rattle.md_dirs.specs.declared.paths.Place.TheVariants.{New, Cur};
 ghost use Rattle.md_view.specs.declared.error.ViewError.TheVariants.{NoMemory};
@@ -95,7 +95,7 @@ impl FolderNames {
     /// Puts an entry into a directory, in place of that of its unique name, if there is one.
     pub fn put(&mut self, place: Place, entry: Entry) -> Result<(), AllocError>
         requires { is_tmp place ≡ false }
-        ensures ok { OnOk result (ShowsAt place entry.unique (Some entry) self.old self.new) }
+        ensures ok { OnOk result (DiffersIn place entry.unique (Some entry) self.old self.new) }
         ensures err { OnErr result (self.new ≡ self.old) }
     {
         match place {
@@ -115,7 +115,7 @@ impl FolderNames {
         to_name: &[u8],
     ) -> Result<(), AllocError>
         ensures ok { let entry = option_map (renamed name.now to_name.now) (entry_with unique.now (list_of place self.old)) in
-            OnOk result (ShowsAt place unique.now entry self.old self.new) }
+            OnOk result (DiffersIn place unique.now entry self.old self.new) }
         ensures err { OnErr result (self.new ≡ self.old) }
     {
         match place {
@@ -127,7 +127,7 @@ impl FolderNames {
 
     /// Takes the entry of a unique name out of a directory, if there is one. It takes no memory.
     pub fn take(&mut self, place: Place, unique: &[u8])
-        ensures { ShowsAt place unique.now None self.old self.new }
+        ensures { DiffersIn place unique.now None self.old self.new }
     {
         match place {
             Place::Tmp => {}

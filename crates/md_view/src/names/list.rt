@@ -2,7 +2,7 @@
 ghost use Rattle.std.specs.Prelude.{◌≡◌, IsTrue, ◌↔◌, None, Some, OnOk, OnErr, length};
 ghost use Rattle.std.specs.Option.{option_map};
 ghost use Rattle.md_view.specs.Readings.{IsInOrder};
-ghost use Rattle.md_view.specs.Held.{entry_with, place_for, renamed, HasAt, Shows};
+ghost use Rattle.md_view.specs.Held.{entry_with, place_for, renamed, HasAt, DiffersAt};
 
 use crate::entry::Entry;
 use md_name::Bytes;
@@ -53,7 +53,7 @@ pub fn find_entry<'a>(entries: &'a [Entry], unique: &[u8]) -> Option<&'a Entry>
 /// Puts an entry in its place, or in that of the entry of its unique name, if there is one.
 pub fn put_entry(entries: &mut Vec<Entry>, entry: Entry) -> Result<(), AllocError>
     requires { IsInOrder entries.old.items }
-    ensures ok { OnOk result (Shows entry.unique (Some entry) entries.old.items entries.new.items) }
+    ensures ok { OnOk result (DiffersAt entry.unique (Some entry) entries.old.items entries.new.items) }
     ensures err { OnErr result (entries.new.items ≡ entries.old.items) }
 {
     let at = place_of(entries, entry.unique.as_slice());
@@ -75,7 +75,7 @@ pub fn rename_entry(
 ) -> Result<(), AllocError>
     requires { IsInOrder entries.old.items }
     ensures ok { let entry = option_map (renamed name.now to_name.now) (entry_with unique.now entries.old.items) in
-        OnOk result (Shows unique.now entry entries.old.items entries.new.items) }
+        OnOk result (DiffersAt unique.now entry entries.old.items entries.new.items) }
     ensures err { OnErr result (entries.new.items ≡ entries.old.items) }
 {
     let at = place_of(entries, unique);
@@ -89,7 +89,7 @@ pub fn rename_entry(
 /// Takes the entry of a unique name out, if there is one.
 pub fn take_entry(entries: &mut Vec<Entry>, unique: &[u8])
     requires { IsInOrder entries.old.items }
-    ensures { Shows unique.now None entries.old.items entries.new.items }
+    ensures { DiffersAt unique.now None entries.old.items entries.new.items }
 {
     let at = place_of(entries, unique);
     if is_at(entries, at, unique) {

@@ -11,6 +11,7 @@ use Rattle.md_core.specs.declared.world.looking.Seen.{Seen}
 use Rattle.md_core.specs.Looking.{IsLookOf, is_message_of, is_tmp_of, entries_before}
 use Rattle.md_core.specs.Submitting.{uses}
 use Rattle.md_core.specs.Used.{is_among}
+use Rattle.md_core.proofs.Lists.Any.{either_first}
 use Rattle.md_core.proofs.Worlds.Loading.Order.{before-none}
 use Rattle.md_core.proofs.Worlds.Loading.Faults.{or_none}
 
@@ -25,15 +26,9 @@ either_use : (u : List ℕ) (es : List (Path × ℕ)) →
     (list_any (λ e. is_message_of u e.0) es || list_any (λ e. is_tmp_of u e.0) es) ≡ list_any (λ e. uses u e.0) es
 either_use u [] = refl
 either_use u (e ∷ es) =
-    joined (is_message_of u e.0) (list_any (λ x. is_message_of u x.0) es) (is_tmp_of u e.0) (list_any (λ x. is_tmp_of u x.0) es)
+    either_first (is_message_of u e.0) (list_any (λ x. is_message_of u x.0) es) (is_tmp_of u e.0) (list_any (λ x. is_tmp_of u x.0) es)
     ∙ (λ i. one e.0 (is_tmp e.0.place) refl i || either_use u es i)
   where
-    joined : (a b c d : Bool) → ((a || b) || (c || d)) ≡ ((a || c) || (b || d))
-    joined true b c d = refl
-    joined false true true d = refl
-    joined false true false d = refl
-    joined false false c d = refl
-
     one : (p : Path) (b : Bool) → is_tmp p.place ≡ b → (is_message_of u p || is_tmp_of u p) ≡ uses u p
     one p b is =
         (λ i. ((not (is i) && is_message_name p.name) && bytes_eq (unique_of p.name) u) || (is i && bytes_eq p.name u))

@@ -10,9 +10,9 @@ use Rattle.md_view.proofs.listing.list_lent.Goals as goal
 
 pub returns-clause-entries : goal.returns-clause-entries
 returns-clause-entries g c =
-    c.in_ok-merge.ensures.entries
-    ∙ ap (λ (es : List Entry). join_of es c.deref-2.result.now) (c.deref.ensures.value ∙ c.in_ok-new.ensures.entries)
+    c.in_ok-join_owned.ensures
+    ∙ ap (λ (es : List Entry). join_of es c.in_ok-cur.cur.items) c.in_ok-new.ensures.entries
     ∙ ap (λ (es : List Entry). join_of (reading_of (names_of (mailbox_of (dirs_of c.args.world.now))) c.args.folder New) es)
-    (c.deref-2.ensures.value ∙ c.in_ok-cur.ensures.entries)
+    c.in_ok-cur.ensures.entries
     ∙ ap (λ (n : Names). join_of (reading_of n c.args.folder New) (reading_of n c.args.folder Cur))
     (names-now c.args.world.now c.interleaves.ensures.shown)

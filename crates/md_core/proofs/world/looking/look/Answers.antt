@@ -9,8 +9,8 @@ use Rattle.md_core.proofs.world.looking.look.Goals as goal
 
 pub loop-folder-init : goal.loop-folder-init
 loop-folder-init g c =
-    let seen = c.new-seen in
-    look-none (g.D.Dirs.device c.args.dirs.now).state seen.result seen.ensures.0 seen.ensures.1 seen.ensures.2
+    let made = c.in_ok-seen in
+    look-none (g.D.Dirs.device c.args.dirs.now).state made.seen made.ensures.0 made.ensures.1 made.ensures.2
 
 pub look_in-requires : goal.look_in-requires
 look_in-requires g c = c.loop-folder.invariant

@@ -4,7 +4,7 @@ use Rattle.std.proofs.lemmas.Option.{slice_get_read}
 use Rattle.md_core.specs.declared.jobs.effect.Change.TheVariants.{Add}
 use Rattle.md_view.specs.declared.entry.Entry.{Entry}
 use Rattle.md_view.specs.Named.{fits, after_change}
-use Rattle.md_view.specs.Held.{FolderLists, ShowsAt, AreHeld, held_names}
+use Rattle.md_view.specs.Held.{FolderLists, DiffersIn, AreHeld, held_names}
 use Rattle.md_view.proofs.Rows.{and-first}
 use Rattle.md_view.proofs.Applying.{within-listed, add-held}
 use Rattle.md_view.proofs.names.apply.add.Goals as goal
@@ -20,9 +20,9 @@ returns-clause-ok c =
     let f = c.index_mut-lists.result.now in
     let f' = c.put.new.self in
     let entry = c.in_ok-entry.entry in
-    elim c.put.result as (λ r. OnOk r (ShowsAt c.args.place entry.unique (Some entry) f f')
+    elim c.put.result as (λ r. OnOk r (DiffersIn c.args.place entry.unique (Some entry) f f')
     → OnOk r (AreHeld (after_change n (Add c.args.folder c.args.place c.args.name.now c.args.size)) (slice_set fs c.args.folder f'))) [
       | Ok _ ↦ λ shows. add-held n fs c.requires c.args.folder c.args.place c.args.name.now c.args.size fit f f' at
-          (subst (λ (e : Entry). ShowsAt c.args.place e.unique (Some e) f f') c.in_ok-entry.ensures shows)
+          (subst (λ (e : Entry). DiffersIn c.args.place e.unique (Some e) f f') c.in_ok-entry.ensures shows)
       | Err _ ↦ λ _. tt
     ] c.put.ensures.ok

@@ -2,7 +2,7 @@ use Rattle.std.proofs.Common.{ℕ, ◌≡◌, List, None, true, refl, sym, subst
 use Rattle.std.proofs.lemmas.Option.{slice_get_read}
 use Rattle.md_core.specs.declared.jobs.effect.Change.TheVariants.{Remove}
 use Rattle.md_view.specs.Named.{fits}
-use Rattle.md_view.specs.Held.{FolderLists, ShowsAt, held_names}
+use Rattle.md_view.specs.Held.{FolderLists, DiffersIn, held_names}
 use Rattle.md_view.proofs.Rows.{and-first}
 use Rattle.md_view.proofs.Applying.{within-listed, remove-held}
 use Rattle.md_view.proofs.names.apply.remove.Goals as goal
@@ -16,4 +16,4 @@ returns-then-fits_remove c =
     let within = within-listed n fs c.requires c.args.folder c.args.place (and-first _ _ fit) in
     let at = slice_get_read fs _ c.args.folder c.index_mut-lists.result.now refl within c.index_mut-lists.ensures.value in
     remove-held n fs c.requires c.args.folder c.args.place c.args.name.now fit c.index_mut-lists.result.now c.take.new.self at
-    (subst (λ (u : List ℕ). ShowsAt c.args.place u None c.index_mut-lists.result.now c.take.new.self) c.unique_part.ensures c.take.ensures)
+    (subst (λ (u : List ℕ). DiffersIn c.args.place u None c.index_mut-lists.result.now c.take.new.self) c.unique_part.ensures c.take.ensures)

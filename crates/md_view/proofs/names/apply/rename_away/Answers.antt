@@ -1,7 +1,7 @@
 use Rattle.std.proofs.Common.{ℕ, ◌<◌, List, None, refl, slice_set, sym, subst}
 use Rattle.std.proofs.lemmas.List.{length-set}
 use Rattle.std.proofs.lemmas.Option.{slice_get_read}
-use Rattle.md_view.specs.Held.{ShowsAt, held_names}
+use Rattle.md_view.specs.Held.{DiffersIn, held_names}
 use Rattle.md_view.proofs.Applying.{within-listed, rename-from, rename-to, rename-old, rename-put, rename-moved}
 use Rattle.md_view.proofs.names.apply.rename_away.Goals as goal
 
@@ -40,5 +40,5 @@ returns-clause-ok c =
     unique c.deref.result.now c.deref.ensures.value c.unique_part-unique.ensures c.size_of-size.result c.size_of-size.ensures
     c.in_ok-entry.entry c.in_ok-entry.ensures f f' c.in_ok-put.ensures.ok)
     g g' there
-    (subst (λ (u : List ℕ). ShowsAt place u None g g') c.unique_part-unique.ensures c.take.ensures)
+    (subst (λ (u : List ℕ). DiffersIn place u None g g') c.unique_part-unique.ensures c.take.ensures)
     c.requires.away

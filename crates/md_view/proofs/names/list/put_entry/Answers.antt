@@ -1,6 +1,6 @@
 use Rattle.std.proofs.Common.{ℕ, ◌≡◌, List, Some, true, false, arith, sym, subst, ◌∙◌}
 use Rattle.md_view.specs.declared.entry.Entry.{Entry}
-use Rattle.md_view.specs.Held.{place_for, HasAt, Shows}
+use Rattle.md_view.specs.Held.{place_for, HasAt, DiffersAt}
 use Rattle.md_view.proofs.Placing.{place-within, put-there, put-new}
 use Rattle.md_view.proofs.names.list.put_entry.Goals as goal
 
@@ -22,7 +22,7 @@ returns-then-is_at-clause-ok c =
 pub returns-in_ok-insert-clause-ok : goal.returns-in_ok-insert-clause-ok
 returns-in_ok-insert-clause-ok c =
     let at = c.place_of-at.result in
-    subst (λ (es : List Entry). Shows c.args.entry.unique (Some c.args.entry) c.args.entries.now.items es) (sym c.in_ok-insert.ensures.items)
+    subst (λ (es : List Entry). DiffersAt c.args.entry.unique (Some c.args.entry) c.args.entries.now.items es) (sym c.in_ok-insert.ensures.items)
     (put-new c.args.entry c.args.entries.now.items c.requires at
     (c.place_of-at.ensures ∙ (λ i. place_for (c.as_slice.ensures i) (c.deref.ensures.value i)))
     (λ has.

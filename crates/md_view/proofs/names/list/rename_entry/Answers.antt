@@ -4,7 +4,7 @@ use Rattle.std.specs.Option.{option_map}
 use Rattle.std.specs.Cmp.Lexicographic.{pointwise}
 use Rattle.std.proofs.lemmas.Option.{get_or_from_slice_get}
 use Rattle.md_view.specs.declared.entry.Entry.{Entry}
-use Rattle.md_view.specs.Held.{entry_with, place_for, renamed, HasAt, Shows}
+use Rattle.md_view.specs.Held.{entry_with, place_for, renamed, HasAt, DiffersAt}
 use Rattle.md_view.proofs.Placing.{rename-none, rename-other, rename-there}
 use Rattle.md_view.proofs.names.list.rename_entry.Goals as goal
 use Rattle.md_view.proofs.names.list.rename_entry.Goals.{else-is_at-via-then-is_at+else-eq, else-is_at-via-else-is_at}
@@ -27,8 +27,8 @@ returns-in_ok-to_name-clause-ok c =
     let lent = c.index_mut.ensures.value ∙ get_or_from_slice_get es at has.entry c.index_mut.result.now has.is in
     let shows = rename-there u es c.requires at (c.place_of-at.ensures ∙ ap (place_for u) c.deref.ensures.value) name c.args.to_name.now has same in
     let what = option_map (renamed name c.args.to_name.now) (entry_with u es) in
-    subst (λ (v : List ℕ). Shows u what es (slice_set es at (record c.index_mut.result.now { name = v }))) (sym c.in_ok-to_name.ensures)
-    (subst (λ (e : Entry). Shows u what es (slice_set es at (record e { name = c.args.to_name.now }))) (sym lent) shows)
+    subst (λ (v : List ℕ). DiffersAt u what es (slice_set es at (record c.index_mut.result.now { name = v }))) (sym c.in_ok-to_name.ensures)
+    (subst (λ (e : Entry). DiffersAt u what es (slice_set es at (record e { name = c.args.to_name.now }))) (sym lent) shows)
 
 pub returns-else-is_at-clause-ok : goal.returns-else-is_at-clause-ok
 returns-else-is_at-clause-ok c =

@@ -8,11 +8,11 @@ use Rattle.md_view.proofs.Keyed.{in-order}
 use Rattle.md_view.proofs.LawHolds.{good-run}
 use Rattle.md_view.proofs.Readings.{reading-sorted}
 use Rattle.md_view.proofs.Waiting.{names-now}
-use Rattle.md_view.proofs.listing.Listing.finish_lent.Goals as goal
+use Rattle.md_view.proofs.listing.BegunListing.finish_lent.Goals as goal
 
-pub merge-requires-clause-new : goal.merge-requires-clause-new
-merge-requires-clause-new g c =
-    subst (λ (es : List Entry). IsInOrder es) (sym (c.deref-2.ensures.value ∙ c.in_ok-new.ensures ∙ c.deref.ensures.value ∙ c.requires.new))
+pub join_owned-requires-clause-new : goal.join_owned-requires-clause-new
+join_owned-requires-clause-new g c =
+    subst (λ (es : List Entry). IsInOrder es) (sym (c.in_ok-new.ensures ∙ c.deref.ensures.value ∙ c.requires.new))
     (in-order _ (reading-sorted c.args.self.now.folder New (names_at c.args.world.now c.args.self.now.begun)))
 
 pub returns-clause-law : goal.returns-clause-law
@@ -20,10 +20,10 @@ returns-clause-law g c =
     let r = c.args.world.now in
     let folder = c.args.self.now.folder in
     let begun = c.args.self.now.begun in
-    let new : c.deref-2.result.now ≡ reading_of (names_at r begun) folder New =
-    c.deref-2.ensures.value ∙ c.in_ok-new.ensures ∙ c.deref.ensures.value ∙ c.requires.new in
-    let cur : c.deref-3.result.now ≡ reading_of (names_at r (length r.events)) folder Cur =
-    c.deref-3.ensures.value ∙ c.in_ok-cur.ensures.entries ∙ ap (λ (n : Names). reading_of n folder Cur) (names-now r c.interleaves.ensures.shown) in
-    subst (IsGoodListing (names_at r) folder begun (length r.events)) (sym (c.in_ok-merge.ensures.entries ∙ (λ i. join_of (new i) (cur i))))
+    let new : c.in_ok-new.new.items ≡ reading_of (names_at r begun) folder New =
+    c.in_ok-new.ensures ∙ c.deref.ensures.value ∙ c.requires.new in
+    let cur : c.in_ok-cur.cur.items ≡ reading_of (names_at r (length r.events)) folder Cur =
+    c.in_ok-cur.ensures.entries ∙ ap (λ (n : Names). reading_of n folder Cur) (names-now r c.interleaves.ensures.shown) in
+    subst (IsGoodListing (names_at r) folder begun (length r.events)) (sym (c.in_ok-join_owned.ensures ∙ (λ i. join_of (new i) (cur i))))
     (good-run c.names_show_their_directories.ensures.shown c.legal_histories_keep_messages_out_of_new.ensures r c.interleaves.ensures.theorem
     folder begun (length r.events) c.requires.past)

@@ -2,8 +2,8 @@ use Rattle.std.proofs.Common.{ℕ, ◌≡◌, ◌++◌, List, drop, sym, subst, 
 use Rattle.md_view.specs.declared.entry.Entry.{Entry}
 use Rattle.md_view.proofs.Keyed.{in-order, ordered}
 use Rattle.md_view.proofs.Merged.{merged, ended-new, ended-cur, whole-join, join-sorted}
-use Rattle.md_view.proofs.merge.merge.Goals as goal
-use Rattle.md_view.proofs.merge.merge.Goals.{then-loop-from_new-test+else-from_cur-cur, else-loop-from_new-test}
+use Rattle.md_view.proofs.joining.join_lent.Goals as goal
+use Rattle.md_view.proofs.joining.join_lent.Goals.{then-loop-from_new-test+else-from_cur-cur, else-loop-from_new-test}
 
 pub returns-clause-entries : goal.returns-clause-entries
 returns-clause-entries c =

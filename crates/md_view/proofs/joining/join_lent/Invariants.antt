@@ -1,6 +1,6 @@
 use Rattle.std.proofs.Common.{length, ◌-◌, ◌≡◌, ◌++◌, ◌+◌, ◌≤◌, drop}
 use Rattle.md_view.proofs.Merged.{merged}
-use Rattle.md_view.proofs.merge.merge.Given as goal
+use Rattle.md_view.proofs.joining.join_lent.Given as goal
 
 abbrev pub invariant-loop-from_new : goal.invariant-loop-from_new
 invariant-loop-from_new l = record {

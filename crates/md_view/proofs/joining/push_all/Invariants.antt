@@ -1,5 +1,5 @@
 use Rattle.std.proofs.Common.{◌≡◌, ◌++◌, take}
-use Rattle.md_view.proofs.merge.push_all.Given as goal
+use Rattle.md_view.proofs.joining.push_all.Given as goal
 
 abbrev pub invariant-loop-entry : goal.invariant-loop-entry
 invariant-loop-entry l = l.all.items ≡ l.fn.all.items ++ take l.entry-index l.entries

@@ -21,12 +21,12 @@ pub fn join(alloc: Global, new: &[Entry], cur: &[Entry]) -> Result<Vec<Entry>, V
 {
     let new = lend(alloc, new)?;
     let cur = lend(alloc, cur)?;
-    let all = merge(alloc, &new, &cur)?;
+    let all = join_lent(alloc, &new, &cur)?;
     Ok(copied(alloc, &all)?)
 }
 
 /// The same of lent entries: no name is copied.
-pub(crate) fn merge<'a>(
+pub(crate) fn join_lent<'a>(
     alloc: Global,
     new: &[EntryRef<'a>],
     cur: &[EntryRef<'a>],
@@ -58,6 +58,25 @@ pub(crate) fn merge<'a>(
     push_all(&mut all, &new[from_new..])?;
     push_all(&mut all, &cur[from_cur..])?;
     Ok(all)
+}
+
+/// The same of lists that are given away: where one of them is empty, it is the other.
+pub(crate) fn join_owned<'a>(
+    alloc: Global,
+    new: Vec<EntryRef<'a>>,
+    cur: Vec<EntryRef<'a>>,
+) -> Result<Vec<EntryRef<'a>>, AllocError>
+    requires new { IsInOrder new.items }
+    requires cur { IsInOrder cur.items }
+    ensures { IfOk result (λ all. all.items ≡ join_of new.entry.items cur.entry.items) }
+{
+    if new.is_empty() {
+        return Ok(cur);
+    }
+    if cur.is_empty() {
+        return Ok(new);
+    }
+    join_lent(alloc, &new, &cur)
 }
 
 // Adds entries at the end.

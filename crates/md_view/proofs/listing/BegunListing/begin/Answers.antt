@@ -6,7 +6,7 @@ use Rattle.md_core.specs.Machine.{Occurrence}
 use Rattle.md_view.specs.Readings.{reading_of}
 use Rattle.md_view.specs.Law.{names_at}
 use Rattle.md_view.proofs.Waiting.{names-now}
-use Rattle.md_view.proofs.listing.Listing.begin.Goals as goal
+use Rattle.md_view.proofs.listing.BegunListing.begin.Goals as goal
 
 pub returns-clause-begun : goal.returns-clause-begun
 returns-clause-begun g c =
