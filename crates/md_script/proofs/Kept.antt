@@ -7,7 +7,7 @@ use Rattle.std.proofs.lemmas.List.{map-append}
 use Rattle.std.proofs.lemmas.List.Elements.{All-head, All-tail, All-nil, All-cons, All-append, All-filter}
 use Rattle.md_core.specs.Runs.{Run}
 use Rattle.md_view.specs.declared.entry.Entry.{Entry}
-use Rattle.md_view.specs.declared.listing.Listing.{Listing}
+use Rattle.md_view.specs.declared.listing.BegunListing.{BegunListing}
 use Rattle.md_view.specs.Law.{names_at, listing_of, HasBegun}
 use Rattle.md_script.specs.declared.error.PlayKind.{PlayKind}
 use Rattle.md_script.specs.declared.error.PlayKind.TheVariants.{NoFirst}
@@ -43,7 +43,7 @@ found P p (x ∷ xs) y all is =
       | false ↦ λ passes is. found P p xs y (All-tail P x xs all) is
     ] refl is
 
-module _ (folder : ℕ) (kept : List Listing) where
+module _ (folder : ℕ) (kept : List BegunListing) where
   pub others-kept : map first_by (filter (λ l. not (l.folder == folder)) kept) ≡ others folder (map first_by kept)
   others-kept = map-filter first_by (λ f. not (f.folder == folder)) kept
 
@@ -51,17 +51,17 @@ module _ (folder : ℕ) (kept : List Listing) where
   first-kept = find-map first_by (λ f. f.folder == folder) kept
 
 -- a kept list without a folder's, and one that has this in its place
-module _ (r : Run) (folder : ℕ) (kept new : List Listing) (all : All (HasBegun r) kept) where
+module _ (r : Run) (folder : ℕ) (kept new : List BegunListing) (all : All (HasBegun r) kept) where
   pub begun-others : new ≡ filter (λ l. not (l.folder == folder)) kept → All (HasBegun r) new
   begun-others is = subst (All (HasBegun r)) (sym is) (All-filter (λ l. not (l.folder == folder)) (HasBegun r) kept all)
 
-  pub begun-one_more : (l : Listing) → HasBegun r l → new ≡ filter (λ l. not (l.folder == folder)) kept ++ l ∷ [] → All (HasBegun r) new
+  pub begun-one_more : (l : BegunListing) → HasBegun r l → new ≡ filter (λ l. not (l.folder == folder)) kept ++ l ∷ [] → All (HasBegun r) new
   begun-one_more l begun is =
       subst (All (HasBegun r)) (sym is)
       (All-append (HasBegun r) (filter (λ l. not (l.folder == folder)) kept) (l ∷ []) (All-filter (λ l. not (l.folder == folder)) (HasBegun r) kept all)
       (All-cons (HasBegun r) l [] begun (All-nil (HasBegun r))))
 
-abbrev held : Run → List Listing → ScriptStore
+abbrev held : Run → List BegunListing → ScriptStore
 held r kept = record { run = r; firsts = map first_by kept }
 
 abbrev second_by : ScriptStore → ℕ → Option First → Result (ScriptStore × List ℕ) PlayKind
@@ -73,8 +73,8 @@ second_by t folder kept =
           (listing_of (names_at t.run) folder kept.moment (length t.run.events)),
     ))
 
-module _ (t : ScriptStore) (folder : ℕ) (r : Run) (kept : List Listing) (view_is : held r kept ≡ t) where
-  pub first-read : (new : List Listing) (l : Listing) → l.folder ≡ folder → l.begun ≡ length r.events →
+module _ (t : ScriptStore) (folder : ℕ) (r : Run) (kept : List BegunListing) (view_is : held r kept ≡ t) where
+  pub first-read : (new : List BegunListing) (l : BegunListing) → l.folder ≡ folder → l.begun ≡ length r.events →
       new ≡ filter (λ x. not (x.folder == l.folder)) kept ++ l ∷ []
       → read_first t folder ≡ Ok (held r new, [])
   unfolding read_first
@@ -94,7 +94,7 @@ module _ (t : ScriptStore) (folder : ℕ) (r : Run) (kept : List Listing) (view_
       subst (λ (u : ScriptStore). read_second u folder ≡ Err NoFirst) view_is
       (ap (second_by (held r kept) folder) (sym (first-kept folder kept) ∙ ap (option_map first_by) none))
 
-  pub second-read : (new : List Listing) (l : Listing) (entries : List Entry) → find (λ l. l.folder == folder) kept ≡ Some l → All (HasBegun r) kept →
+  pub second-read : (new : List BegunListing) (l : BegunListing) (entries : List Entry) → find (λ l. l.folder == folder) kept ≡ Some l → All (HasBegun r) kept →
       new ≡ filter (λ l. not (l.folder == folder)) kept
       → entries ≡ listing_of (names_at r) l.folder l.begun (length r.events) → read_second t folder ≡ Ok (held r new, entries_text entries)
   unfolding read_second

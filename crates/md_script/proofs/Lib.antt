@@ -4,6 +4,7 @@ pub mod Chunks
 pub mod Places
 pub mod Escaping
 pub mod Numbers
+pub mod Decimals
 pub mod Runs
 pub mod Underway
 pub mod Acts

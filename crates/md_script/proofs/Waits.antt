@@ -4,13 +4,13 @@ use Rattle.md_core.specs.declared.jobs.call.Call.{Call}
 use Rattle.md_core.specs.Machine.{Occurrence}
 use Rattle.md_core.specs.Runs.{Run, and_call, and_event}
 use Rattle.md_core.specs.Stepping.{IsRun}
-use Rattle.md_view.specs.declared.listing.Listing.{Listing}
+use Rattle.md_view.specs.declared.listing.BegunListing.{BegunListing}
 use Rattle.md_view.specs.Law.{HasBegun, Continues}
 use Rattle.md_script.specs.Held.{MayWait}
 
 -- the law of listings that wait
 abbrev MayWaitAlways : Type 0
-MayWaitAlways = (r r' : Run) → IsRun r → IsRun r' → Continues r r' → (l : Listing) → HasBegun r l → HasBegun r' l
+MayWaitAlways = (r r' : Run) → IsRun r → IsRun r' → Continues r r' → (l : BegunListing) → HasBegun r l → HasBegun r' l
 
 pub waits-unchanged : (r r' : Run) → r' ≡ r → MayWait r r'
 waits-unchanged r r' same l begun = subst (λ (x : Run). HasBegun x l) (sym same) begun

@@ -2,7 +2,7 @@
 use Rattle.std.specs.Prelude.{◌≡◌, ◌≢◌, ◌<◌, ℕ, false, List, [], length, Option, Some, None, Result, Ok, Err}
 use Rattle.md_dirs.specs.declared.image.ImageFile.{ImageFile}
 use Rattle.md_core.specs.Runs.{Run}
-use Rattle.md_view.specs.declared.listing.Listing.{Listing}
+use Rattle.md_view.specs.declared.listing.BegunListing.{BegunListing}
 use Rattle.md_view.specs.Law.{HasBegun}
 use Rattle.md_script.specs.declared.error.PlayKind.{PlayKind}
 use Rattle.md_script.specs.declared.error.PlayKind.TheVariants.{NoMemory}
@@ -50,12 +50,12 @@ files_beside None files = files
 files_beside (Some t) files = []
 
 -- a listing that has begun, as a kept reading
-abbrev pub first_by : Listing → First
+abbrev pub first_by : BegunListing → First
 first_by l = record { folder = l.folder; moment = l.begun }
 
 -- listings that have begun in a run may be finished in the other
 abbrev pub MayWait : Run → Run → Type 0
-MayWait r r' = (l : Listing) → HasBegun r l → HasBegun r' l
+MayWait r r' = (l : BegunListing) → HasBegun r l → HasBegun r' l
 
 -- The store of a session was opened, or it is refused, unless memory ran out.
 abbrev pub Opens : Session → Session → Result (Unit {0}) PlayKind → Type 0

@@ -23,7 +23,7 @@ pub record IsEmpty (i : Incoming) : Type 0 where
   pub progress : IsFresh i.progress
 
 -- what has come is within a script's length
-pub record Fits (i : Incoming) : Type 0 where
+pub record KeepsLimits (i : Incoming) : Type 0 where
   pub there : i.filled ≤ vec_len i.room
   pub counted : i.progress.passed + i.filled ≤ i.given
   pub within : i.given ≤ most_bytes

@@ -2,11 +2,14 @@
 ghost use Rattle.std.specs.Prelude.{◌≡◌, ◌++◌, OnOk};
 ghost use Rattle.std.specs.Fmt.{decimal, signed_decimal};
 
-use itoa::Buffer;
+use itoa::{Buffer, write_digits};
 use std::alloc::AllocError;
 
+/// The most digits of a number of 64 bits.
+const MOST_DIGITS: usize = 20;
+
 /// Appends a number in decimal.
-#[tactic(auto, using(std::proofs::lemmas::Fmt::decimal_digit))]
+#[tactic(auto, using(std::proofs::lemmas::Fmt::decimal_digit, crate::proofs::Decimals::short_decimal))]
 pub(crate) fn push_number(out: &mut Vec<u8>, number: u64) -> Result<(), AllocError>
     ensures { OnOk result (out.new.items ≡ out.old.items ++ decimal number) }
 {
@@ -14,8 +17,9 @@ pub(crate) fn push_number(out: &mut Vec<u8>, number: u64) -> Result<(), AllocErr
     if number < 10 {
         return Ok(out.push(b'0' + number as u8)?);
     }
-    let mut buffer = Buffer::new();
-    out.extend_from_slice(buffer.format(number).as_bytes())
+    let mut digits = [0; MOST_DIGITS];
+    let start = write_digits(number, &mut digits, MOST_DIGITS);
+    out.extend_from_slice(&digits[start..])
 }
 
 /// Appends a number in decimal, with a minus sign where it is negative.

@@ -2,7 +2,7 @@
 ghost use Rattle.std.specs.Prelude.{◌≡◌, ◌+◌, ◌≤◌, take, vec_len, OnOk};
 ghost use Rattle.md_script.specs.Sources.{Source as State};
 ghost use Rattle.md_script.specs.Reading.{most_bytes, most_reads};
-ghost use Rattle.md_script.specs.Incoming.{Fits, IsEmpty, TakesIn, Underway, Reaches, RunsSource};
+ghost use Rattle.md_script.specs.Incoming.{KeepsLimits, IsEmpty, TakesIn, Underway, Reaches, RunsSource};
 
 use crate::chunk::{make_room, move_to_front, read_behind};
 use crate::error::PlayKind;
@@ -74,8 +74,8 @@ impl Incoming {
         source: &mut R,
         session: &mut S,
     ) -> Result<bool, PlayKind>
-        requires { Fits self.old }
-        ensures fits { OnOk result (Fits self.new) }
+        requires { KeepsLimits self.old }
+        ensures fits { OnOk result (KeepsLimits self.new) }
         ensures counted { (R.state source.new).reads ≤ (R.state source.old).reads + 1 }
         ensures on { (s : S) → (start : State) → Underway S.step s start (R.state source.old) self.old session.old
             → Reaches S.step s start (R.state source.old) (R.state source.new) self.new session.new result }

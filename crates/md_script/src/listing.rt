@@ -1,9 +1,8 @@
 //! The lines of listings.
-ghost use Rattle.std.specs.Prelude.{◌≡◌, ◌++◌, OnOk};
+ghost use Rattle.std.specs.Prelude.{◌≡◌, ◌++◌, OnOk, codes};
 ghost use Rattle.md_script.specs.Texts.{place_text, entry_line, entries_text};
 
 use crate::digits::push_number;
-use crate::few::push_few;
 use crate::flags::push_flags;
 use md_dirs::Place;
 use md_view::{Entry, EntryRef};
@@ -40,8 +39,7 @@ pub(crate) fn push_lent_entries(
 fn push_entry(alloc: Global, out: &mut Vec<u8>, entry: &EntryRef<'_>) -> Result<(), AllocError>
     ensures { OnOk result (out.new.items ≡ out.old.items ++ entry_line entry.now) }
 {
-    push_few(out, place_text(entry.place()))?;
-    out.push(b' ')?;
+    push_place(out, entry.place())?;
     out.extend_from_slice(entry.unique())?;
     out.push(b' ')?;
     push_flags(alloc, out, entry.name())?;
@@ -49,6 +47,17 @@ fn push_entry(alloc: Global, out: &mut Vec<u8>, entry: &EntryRef<'_>) -> Result<
     push_number(out, entry.size())?;
     out.push(b'\n')?;
     Ok(())
+}
+
+/// Appends the name of a directory of a maildir, and a space. Four bytes whose number is known are copied at once.
+fn push_place(out: &mut Vec<u8>, place: Place) -> Result<(), AllocError>
+    ensures { OnOk result (out.new.items ≡ out.old.items ++ place_text place ++ codes " ") }
+{
+    match place {
+        Place::Tmp => out.extend_from_slice(b"tmp "),
+        Place::New => out.extend_from_slice(b"new "),
+        Place::Cur => out.extend_from_slice(b"cur "),
+    }
 }
 
 /// The name of a directory of a maildir.

@@ -1,7 +1,7 @@
 //! A script, played.
 ghost use Rattle.std.specs.Prelude.{◌+◌, ◌≤◌, IfOk};
 ghost use Rattle.md_script.specs.Sessions.{transcript};
-ghost use Rattle.md_script.specs.Printed.{Shows};
+ghost use Rattle.md_script.specs.Printed.{Prints};
 ghost use Rattle.md_script.specs.Play.{Plays, Writes};
 ghost use Rattle.md_script.specs.Reading.{most_reads};
 
@@ -40,14 +40,14 @@ pub fn play<S: Source, T: Sink>(
 /// The transcript of a script: what its lines print over a new store up to the first that is refused, and that line's refusal. The only
 /// error is out of memory.
 pub fn transcript(alloc: Global, script: &[u8]) -> Result<Printed, AllocError>
-    ensures { IfOk result (Shows (transcript script.now)) }
+    ensures { IfOk result (Prints (transcript script.now)) }
 {
     transcript_over::<IndexDirs>(alloc, script)
 }
 
 /// The transcript of a script whose store is on such directories. It is the same over all.
 pub fn transcript_over<D: Storage>(alloc: Global, script: &[u8]) -> Result<Printed, AllocError>
-    ensures { IfOk result (Shows (transcript script.now)) }
+    ensures { IfOk result (Prints (transcript script.now)) }
 {
     run(alloc, &mut StoreSession::<D>::new(alloc), script)
 }

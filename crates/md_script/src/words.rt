@@ -2,12 +2,16 @@
 ghost use Rattle.std.specs.Prelude.{◌≡◌, ◌<◌, length, IfOk};
 ghost use Rattle.std.specs.Option.{option_copied};
 ghost use Rattle.md_script.specs.Words.{Gives, Reads, cut_at_space, word_at, end_at, number_at, body_at};
+ghost use Rattle.memchr.specs.Find.{IsFirstByte, is_byte};
 
 use crate::error::PlayKind;
 use crate::escapes::unescape;
 use crate::number::number;
 use memchr::memchr;
 use std::alloc::Global;
+
+/// How many bytes of a word are looked at before a search for its end pays.
+const MOST_NEAR: usize = 12;
 
 /// What is left of a line: `None` at its end, and else what follows a space.
 pub(crate) type Rest<'a> = Option<&'a [u8]>;
@@ -31,10 +35,25 @@ pub(crate) fn word(rest: Rest<'_>) -> Result<(&[u8], Rest<'_>), PlayKind>
 fn cut_word(text: &[u8]) -> (&[u8], Rest<'_>)
     ensures { cut_at_space text.now ≡ (result.0.now, option_copied result.1) }
 {
-    match memchr(b' ', text) {
+    match first_space(text) {
         None => (text, None),
         Some(at) => (&text[..at], Some(&text[at + 1..])),
     }
+}
+
+/// Where the first space is. Most words are short, so that the first bytes are looked at one by one.
+fn first_space(text: &[u8]) -> Option<usize>
+    ensures { IsFirstByte (is_byte 32) text.now result }
+{
+    for at in 0..text.len().min(MOST_NEAR) {
+        if text[at] == b' ' {
+            return Some(at);
+        }
+    }
+    if text.len() <= MOST_NEAR {
+        return None;
+    }
+    memchr(b' ', text)
 }
 
 /// Refuses a word too many.

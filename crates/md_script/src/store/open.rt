@@ -9,7 +9,7 @@ use crate::storage::Storage;
 use crate::store::acts;
 use crate::store::kept::{keep, kept_of, use_up};
 use md_core::{Call, Event, World};
-use md_view::Listing;
+use md_view::BegunListing;
 use std::alloc::Global;
 use std::marker::Model;
 
@@ -18,7 +18,7 @@ use std::marker::Model;
 pub(super) struct OpenStore<D: Storage> {
     alloc: Global,
     world: World<D>,
-    kept: Vec<Listing>,
+    kept: Vec<BegunListing>,
 }
 
 impl<D: Storage> Model for OpenStore<D> {
@@ -93,7 +93,7 @@ impl<D: Storage> OpenStore<D> {
     pub(super) fn first(&mut self, folder: u32) -> Result<(), PlayKind>
         ensures { Steps (read_first self.old folder) self.new [] [] result }
     {
-        let listing = Listing::begin(self.alloc, &self.world, folder)?;
+        let listing = BegunListing::begin(self.alloc, &self.world, folder)?;
         keep(&mut self.kept, listing)?;
         Ok(())
     }

@@ -1,26 +1,30 @@
-use Rattle.std.proofs.Common.{sym, ◌∙◌, arith}
+use Rattle.std.proofs.Common.{sym, ◌∙◌, below_more, arith}
 use Rattle.std.proofs.lemmas.Bool.{eqb-true}
-use Rattle.md_script.proofs.Numbers.{number_bad, number_read, number_refused, signed, digits_text}
+use Rattle.md_script.proofs.Numbers.{number_bad, some_byte, digit_more, number_ends, number_whole}
 use Rattle.md_script.proofs.number.number.Goals as goal
-use Rattle.md_script.proofs.number.number.Goals.{then-is_empty-via-then-is_empty, then-is_empty-via-else-is_empty+then-word-gt-MOST_DIGITS, then-is_empty-via-else-is_empty+else-word-gt-MOST_DIGITS+then-word-eq-PLUS}
+use Rattle.md_script.proofs.number.number.Goals.{then-is_empty-via-then-is_empty, then-is_empty-via-else-is_empty+then-word-gt-MOST_DIGITS}
 
 pub returns-then-is_empty : goal.returns-then-is_empty
 returns-then-is_empty c =
     sym (number_bad c.args.word.now (λ some short digits fits. elim c.then-is_empty.branch [
       | then-is_empty-via-then-is_empty w ↦ let none = eqb-true _ 0 (sym c.is_empty.ensures ∙ w.if-is_empty.true) in omega arith
       | then-is_empty-via-else-is_empty+then-word-gt-MOST_DIGITS w ↦ omega arith
-      | then-is_empty-via-else-is_empty+else-word-gt-MOST_DIGITS+then-word-eq-PLUS w ↦ signed c.args.word.now w.if-word-eq-PLUS.true some digits
     ]))
 
+pub loop-byte-preserved : goal.loop-byte-preserved
+loop-byte-preserved c = record {
+  value =
+      digit_more c.args.word.now c.loop-byte.byte-index c.loop-byte.value (omega arith) c.loop-byte.invariant.value c.in-Some.next c.in-Some.ensures.0.0
+      c.in-Some.ensures.1;
+  fits = omega (arith, c.in-Some.ensures.0.1, c.in-Some.ensures.1);
+  digits = below_more _ _ c.loop-byte.invariant.digits c.in-Some.ensures.0.0;
+}
+
 pub returns-in_default : goal.returns-in_default
-returns-in_default c = sym (number_bad c.args.word.now (λ some short digits fits. c.in_default.ensures.cases.0 (digits_text c.args.word.now digits)))
+returns-in_default c =
+    sym (number_ends c.args.word.now c.loop-byte.byte-index c.loop-byte.value (omega arith) c.loop-byte.invariant.value c.in_default.ensures)
 
-pub returns-in-Ok-parse : goal.returns-in-Ok-parse
-returns-in-Ok-parse c =
-    sym (number_read c.args.word.now c.in-Ok.text.now c.parse.result c.in-Ok-parse.n c.in-Ok.ensures.cases.0 c.parse.ensures.value.0
-    c.if-word-eq-PLUS.false c.if-word-gt-MOST_DIGITS.false c.in-Ok-parse.is)
-
-pub returns-in-Err : goal.returns-in-Err
-returns-in-Err c =
-    sym (number_refused c.args.word.now c.in-Ok.text.now c.parse.result c.in-Err.field-0 c.in-Ok.ensures.cases.0 c.parse.ensures.value.0
-    c.if-word-eq-PLUS.false c.in-Err.is)
+pub returns : goal.returns
+returns c =
+    sym (number_whole c.args.word.now c.loop-byte.byte-index c.loop-byte.value (omega arith) (some_byte _ (sym c.is_empty.ensures ∙ c.if-is_empty.false))
+    c.if-word-gt-MOST_DIGITS.false c.loop-byte.invariant.fits c.loop-byte.invariant.value c.loop-byte.invariant.digits)
