@@ -59,11 +59,11 @@ Performs (Threads n) old new before after = RunsThreads old new before after
 Performs (Index n) old new before after = OfScript (Indexes old new before after)
 
 -- of a text that is written, where out of memory or a fault is no line's
-abbrev pub Shows : Sink → Sink → List ℕ → Result (Unit {0}) RunFault → Type 0
-Shows before after text (Ok done) = Writes before after text (Ok done)
-Shows before after text (Err (fault.Play e)) = (e ≡ at_no_line e.kind) × Writes before after text (Err e.kind)
-Shows before after text (Err fault.NoReader) = ⊥
-Shows before after text (Err fault.Closed) = ⊥
+abbrev pub WritesText : Sink → Sink → List ℕ → Result (Unit {0}) RunFault → Type 0
+WritesText before after text (Ok done) = Writes before after text (Ok done)
+WritesText before after text (Err (fault.Play e)) = (e ≡ at_no_line e.kind) × Writes before after text (Err e.kind)
+WritesText before after text (Err fault.NoReader) = ⊥
+WritesText before after text (Err fault.Closed) = ⊥
 
 -- The words name a run, it was made, and its answer reported.
 pub record Ran (words : List (List ℕ)) (old new : Streams) (status : ℕ) : Type 0 where
@@ -79,7 +79,7 @@ pub record Helped (words : List (List ℕ)) (old new : Streams) (status : ℕ) :
   pub unread : new.input ≡ old.input
   pub text : List ℕ
   pub answer : Result (Unit {0}) RunFault
-  pub shown : Shows old.output new.output text answer
+  pub shown : WritesText old.output new.output text answer
   pub reported : Reported old.errors new.errors answer status
 
 -- nothing, or one more line

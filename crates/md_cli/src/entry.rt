@@ -1,6 +1,6 @@
 //! The program: what it does for the words of its command line.
 ghost use Rattle.std.specs.Prelude.{map};
-ghost use Rattle.md_cli.specs.Program.{Ends, IsWithin, Performs, Reported, Shows};
+ghost use Rattle.md_cli.specs.Program.{Ends, IsWithin, Performs, Reported, WritesText};
 
 use crate::command::{Answer, command};
 use crate::refusal::refusal_line;
@@ -68,7 +68,7 @@ fn perform<R: Threads + Wait + Sync, S: Source, T: Sink>(
 
 /// Prints a text.
 fn show<T: Sink>(sink: &mut T, text: &str) -> Result<(), RunFault>
-    ensures { Shows (T.state sink.old) (T.state sink.new) text.now result }
+    ensures { WritesText (T.state sink.old) (T.state sink.new) text.now result }
 {
     Ok(write_whole(sink, text.as_bytes())?)
 }

@@ -35,6 +35,6 @@ pub fn index<G: Gate, R: Threads + Wait + Sync>(
     let owner = dealt(alloc, messages.len())?;
     let thief = owner.stealer()?;
     let workers = workers.min(messages.len());
-    let mut loads = brought_by(rt, alloc, &thief, messages, workers, gate)?;
-    Ok(gathered(alloc, messages, &mut loads, gate)?)
+    let mut given = brought_by(rt, alloc, &thief, messages, workers, gate)?;
+    Ok(gathered(alloc, messages, &mut given, gate)?)
 }

@@ -7,8 +7,8 @@ mod error;
 mod gate;
 mod gather;
 mod item;
-mod load;
 mod worker;
+mod worker_entries;
 
 pub use by_workers::index;
 pub use error::IndexError;

@@ -5,7 +5,7 @@ ghost use Rattle.md_index.specs.Index.{IsBrought};
 use crate::deal::{Thief, Took};
 use crate::gate::Gate;
 use crate::item::Message;
-use crate::load::{Brought, Load};
+use crate::worker_entries::{Brought, WorkerEntries};
 use crossbeam_deque::Steal;
 use std::alloc::{AllocError, Global};
 use std::sync::Wait;
@@ -66,22 +66,22 @@ pub(crate) fn brought_by<'a, G: Gate, R: Threads + Wait + Sync>(
     messages: &'a [Message<'a>],
     workers: usize,
     gate: &G,
-) -> Result<Vec<Load<'a>>, AllocError>
-    ensures { IfOk result (λ loads. All (λ whose. whose ≡ messages.now) loads.items) }
+) -> Result<Vec<WorkerEntries<'a>>, AllocError>
+    ensures { IfOk result (λ given. All (λ whose. whose ≡ messages.now) given.items) }
 {
     let share = messages.len() / workers.max(1);
-    let working = || -> Result<Vec<Load<'_>>, AllocError>
-        ensures { IfOk result (λ loads. All (λ whose. whose ≡ messages.entry.now) loads.items) }
+    let working = || -> Result<Vec<WorkerEntries<'_>>, AllocError>
+        ensures { IfOk result (λ given. All (λ whose. whose ≡ messages.entry.now) given.items) }
     {
         thread::map_indices(
             rt,
             alloc,
             workers,
-            &|_| -> Load<'_>
+            &|_| -> WorkerEntries<'_>
                 ensures { result ≡ messages.entry.now }
-            { Load::of(messages, work(rt, alloc, thief, messages, share, gate)) },
+            { WorkerEntries::of(messages, work(rt, alloc, thief, messages, share, gate)) },
         )
     };
-    let (loads, ()) = thread::join(rt, working, || ());
-    loads
+    let (given, ()) = thread::join(rt, working, || ());
+    given
 }

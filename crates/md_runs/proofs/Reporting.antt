@@ -1,7 +1,6 @@
 -- Runs on threads: why there is no report, and what the next answer adds to one.
-use Rattle.std.proofs.Common.{◌≡◌, ℕ, ◌+◌, ◌<◌, ◌==◌, ◌++◌, inl, inr, true, List, Result, Ok, Err, refl, sym, ap, subst, ◌∙◌, zero, suc, is_some, not, Option, Some, None, Bool, All, [], ◌∷◌, arith, add-one, append_assoc, append-nil, length, length-append, map, OnOk}
+use Rattle.std.proofs.Common.{◌≡◌, ℕ, ◌+◌, ◌<◌, ◌==◌, ◌++◌, inl, inr, true, List, Err, refl, sym, ap, subst, ◌∙◌, zero, suc, is_some, not, Option, Some, None, Bool, All, [], ◌∷◌, arith, add-one, append_assoc, append-nil, length, length-append, map}
 use Rattle.std.specs.Prelude.{slice_index_or}
-use Rattle.std.specs.declared.alloc.AllocError.{AllocError}
 use Rattle.std.specs.List.{list_all}
 use Rattle.std.proofs.lemmas.Bool.{eqb-true}
 use Rattle.std.proofs.lemmas.List.{length-map}
@@ -99,14 +98,6 @@ interleaved begun r fresh since many at_zero run faultless answered =
     none-more : (more : List Call) → length more ≡ 0 → begun.calls ++ more ≡ begun.calls
     none-more [] none = append-nil begun.calls
     none-more (x ∷ more) none = absurd (omega (arith, none))
-
--- the same of what is answered
-pub ends : {A : Type 0} (r : Run) (jobs : ℕ) (res : Result A AllocError) → length r.calls ≡ jobs → list_all is_at_zero (log_of r) ≡ true
-    → IsRun r → failures_of r ≡ 0 → OnOk res (AllAnswered r)
-    → OnOk res ((begun : Run) → IsFresh begun → IsSince begun r → jobs ≡ length begun.calls → Interleaving begun r)
-ends r jobs (Ok text) many at_zero run faultless answered =
-    λ begun fresh since begins. interleaved begun r fresh since (many ∙ begins) at_zero run faultless answered
-ends r jobs (Err e) many at_zero run faultless answered = tt
 
 -- threads that made no report of a store made none of its script
 pub stopped : (script : List ℕ) (fault : RunFault) → IsStop fault → IsUnreported script fault

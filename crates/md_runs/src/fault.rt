@@ -6,8 +6,9 @@ ghost use Rattle.md_runs.specs.declared.fault.RunFault.TheVariants as fault;
 ghost use Rattle.md_runs.specs.Faults.{refused_line, refusal_text};
 ghost use Rattle.md_runs.specs.Threading.{IsStop};
 
+use md_core::CoreError;
 use md_script::{PlayError, PlayKind};
-use md_store::{ListError, OpenError};
+use md_store::{ListError, OpenError, StoreError};
 use std::alloc::{AllocError, AllocFailed};
 use std::fmt::{self, Display, Formatter};
 
@@ -18,7 +19,8 @@ pub enum RunFault {
     Play(PlayError),
     /// A thread's pass was refused its reader.
     NoReader,
-    /// What is published could not be entered.
+    /// What is published could not be entered, or the world that the threads left is not what they were to leave. That never comes, but the
+    /// type of a lock can't say so.
     Closed,
 }
 
@@ -92,8 +94,30 @@ impl From<OpenError> for RunFault {
     // There are 1 to 16 passes, so that `BadPasses` is not met.
     fn from(error: OpenError) -> RunFault {
         match error {
-            OpenError::NoReader => RunFault::NoReader,
-            OpenError::NoMemory | OpenError::BadPasses => RunFault::from(PlayKind::NoMemory),
+            OpenError::NoReader | OpenError::BadPasses => RunFault::NoReader,
+            OpenError::NoMemory => RunFault::from(PlayKind::NoMemory),
+        }
+    }
+}
+
+impl From<CoreError> for RunFault {
+    ghost from_gives = { λ _ fault. IsStop fault };
+
+    // A job that is there, and that no other thread steps, is refused a step only when out of memory.
+    fn from(error: CoreError) -> RunFault {
+        match error {
+            CoreError::NoMemory => RunFault::from(PlayKind::NoMemory),
+            _ => RunFault::Closed,
+        }
+    }
+}
+
+impl From<StoreError> for RunFault {
+    ghost from_gives = { λ _ fault. IsStop fault };
+
+    fn from(error: StoreError) -> RunFault {
+        match error {
+            StoreError::NoMemory => RunFault::from(PlayKind::NoMemory),
         }
     }
 }
@@ -104,8 +128,8 @@ impl From<ListError> for RunFault {
     // The folders that a script names are there, so that `NoFolder` is not met.
     fn from(error: ListError) -> RunFault {
         match error {
-            ListError::Closed => RunFault::Closed,
-            ListError::NoMemory | ListError::NoFolder => RunFault::from(PlayKind::NoMemory),
+            ListError::Closed | ListError::NoFolder => RunFault::Closed,
+            ListError::NoMemory => RunFault::from(PlayKind::NoMemory),
         }
     }
 }

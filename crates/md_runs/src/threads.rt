@@ -3,13 +3,14 @@
 ghost use Rattle.std.specs.Prelude.{◌≤◌, MatchResult};
 ghost use Rattle.md_runs.specs.Threading.{Reports, IsUnreported, RunsThreads};
 
+mod listings;
 mod report;
 mod setting_up;
 mod share;
 mod sharing;
 
 use crate::fault::RunFault;
-use md_script::{PlayKind, Sink, Source, read_script, write_whole};
+use md_script::{Sink, Source, read_script, write_whole};
 use report::ended;
 use setting_up::{Made, set_up};
 use sharing::share;
@@ -44,7 +45,7 @@ pub fn run_threads<R: Threads + Wait + Sync, S: Source, T: Sink>(
 /// What the threads print of a script.
 ///
 /// The type of the store's lock keeps the jobs and the files that the store was opened with. So the world that it leaves is known to be
-/// theirs, and what it prints is compared. The two differ only where a last effect couldn't be published when out of memory.
+/// theirs.
 fn threads_text<R: Threads + Wait + Sync>(
     rt: &R,
     alloc: Global,
@@ -57,9 +58,6 @@ fn threads_text<R: Threads + Wait + Sync>(
     let Made { names, world } = made;
     let jobs = world.jobs();
     let shared = share(rt, alloc, threads, &names, world)?;
-    let text = ended(alloc, &shared.world, &names, jobs)?;
-    if shared.text.as_slice() != text.as_slice() {
-        return Err(RunFault::from(PlayKind::NoMemory));
-    }
+    let text = ended(alloc, &shared.world, &shared.folders, jobs)?;
     Ok(text)
 }

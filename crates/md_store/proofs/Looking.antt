@@ -5,13 +5,13 @@ use Rattle.md_core.specs.declared.jobs.effect.Effect.{Effect}
 use Rattle.md_view.specs.declared.entry.Entry.{Entry}
 use Rattle.md_view.specs.Named.{Named, AreMessages}
 use Rattle.md_store.specs.declared.error.ListError.{ListError}
-use Rattle.md_store.specs.declared.rule.View.{View}
+use Rattle.md_store.specs.declared.rule.Knowledge.{Knowledge}
 use Rattle.md_store.specs.Histories.{named_after, IsLegalFrom}
 use Rattle.md_store.specs.Listing.{seen_in, IsLooked, Looks}
 use Rattle.md_store.specs.Pages.{Log, Page}
-use Rattle.md_store.specs.Publishing.{Seen}
+use Rattle.md_store.specs.Publishing.{Learns}
 
-module _ (v w : View) (p : Page) (s : Seen v p p w) (opened : v.opened ≡ true) where
+module _ (v w : Knowledge) (p : Page) (s : Learns v p p w) (opened : v.opened ≡ true) where
   opening-is : s.0 ≡ v.opening
   opening-is = sym (s.2.0 opened).0
 

@@ -17,10 +17,10 @@ use Rattle.md_core.specs.Trace.{Step}
 use Rattle.md_core.specs.Runs.{Run, machine_of, and_event, and_call, effects_of}
 use Rattle.md_core.specs.Stepping.{ShowsStep}
 use Rattle.md_view.specs.Named.{Named, named_of}
-use Rattle.md_store.specs.declared.rule.View.{View}
+use Rattle.md_store.specs.declared.rule.Knowledge.{Knowledge}
 use Rattle.md_store.specs.Pages.{Log, Page, Note}
 use Rattle.md_store.specs.Locks.{IsLocked, IsSince, Lags}
-use Rattle.md_store.specs.Publishing.{CanFollow, Shows, page_after, knower}
+use Rattle.md_store.specs.Publishing.{CanFollow, Publishes, page_after, knower}
 use mathlib.Core.List.{IsPrefix}
 use Rattle.md_store.proofs.Beginnings.{all_of_it}
 use Rattle.md_store.proofs.Since.{since-event, since-call}
@@ -61,7 +61,7 @@ one_effect r s e out h on = subst (Grows r s e.event.job) on (grows r s e out h)
 none_waits : (all shown : List Effect) (e : Effect) → shown ≡ all → all ≡ shown ++ e ∷ [] → {A : Type 0} → A
 none_waits all shown e a b = absurd (omega (arith, ap length a, ap length b, length-append shown (e ∷ [])))
 
-module _ (begun : Run) (opening : Named) (book : Book) (shown : Page) (seat : View) (front : Log) (pending : List Note) where
+module _ (begun : Run) (opening : Named) (book : Book) (shown : Page) (seat : Knowledge) (front : Log) (pending : List Note) where
   nothing : (r : Run) → IsLocked begun opening book r shown seat front pending → shown.front.log ≡ effects_of r → pending ≡ []
   nothing r k all = ⊎_elim (λ (e : pending ≡ []). e)
       (λ (n : (n : Note) × (pending ≡ n ∷ []) × CanFollow opening shown n × (n.front.log ≡ effects_of r)). none_waits
@@ -126,17 +126,17 @@ next_is all shown (x ∷ [], is, le) less d =
 next_is all shown (x ∷ y ∷ rest, is, le) less d = absurd (omega arith)
 
 -- the seat after a publishing, of a writer that knew its store
-seat_after : (opening : Named) (shown shown' : Page) (seat seat' : View) → seat ≡ knower opening shown → Shows seat shown' seat' → seat' ≡ knower opening shown'
+seat_after : (opening : Named) (shown shown' : Page) (seat seat' : Knowledge) → seat ≡ knower opening shown → Publishes seat shown' seat' → seat' ≡ knower opening shown'
 seat_after opening shown shown' seat seat' is s =
-    let same : opening ≡ s.0 = sym (ap (λ (v : View). v.opening) is) ∙ s.2 (ap (λ (v : View). v.opened) is) in
+    let same : opening ≡ s.0 = sym (ap (λ (v : Knowledge). v.opening) is) ∙ s.2 (ap (λ (v : Knowledge). v.opened) is) in
     s.1 ∙ ap (λ (o : Named). knower o shown') (sym same)
 
-pub catches : (begun : Run) (opening : Named) (book : Book) (r : Run) (front : Log) (shown shown' : Page) (seat seat' : View) (pend pend' : List Note)
+pub catches : (begun : Run) (opening : Named) (book : Book) (r : Run) (front : Log) (shown shown' : Page) (seat seat' : Knowledge) (pend pend' : List Note)
     (res : Result (Unit {0}) AllocError)
     → IsSince begun r → named_of r.image ≡ opening → shown.front.book ≡ book → seat ≡ knower opening shown → Lags (effects_of r) shown.front.log → front.book ≡ book →
     front.log ≡ effects_of r
     → ((n : Note) × (pend ≡ n ∷ []) × CanFollow opening shown n × (n.front.log ≡ effects_of r))
-    → MatchResult res (λ _. (shown' ≡ fold page_after shown pend) × (pend' ≡ []) × Shows seat shown' seat')
+    → MatchResult res (λ _. (shown' ≡ fold page_after shown pend) × (pend' ≡ []) × Publishes seat shown' seat')
     (λ _. (shown' ≡ shown) × (pend' ≡ pend) × (seat' ≡ seat))
     → IsLocked begun opening book r shown' seat' front pend' × MatchResult res (λ _. shown'.front.log ≡ effects_of r) (λ _. shown'.front.log ≡ shown.front.log)
 catches begun opening book r front shown shown' seat seat' pend pend' (Ok u) since image b s lag fb f w t =
@@ -156,7 +156,7 @@ catches begun opening book r front shown shown' seat seat' pend pend' (Ok u) sin
       all,
     )
 catches begun opening book r front shown shown' seat seat' pend pend' (Err e) since image b s lag fb f w t =
-    let P : Page × (List Note × View) → Type 0 = λ x. IsLocked begun opening book r x.0 x.1.1 front x.1.0 in
+    let P : Page × (List Note × Knowledge) → Type 0 = λ x. IsLocked begun opening book r x.0 x.1.1 front x.1.0 in
     let here : P (shown, (pend, seat)) = record { since = since; image = image; book_is = b; seat_is = s; lag = lag; front_book = fb; front_is = inr f; waits = inr w } in
     (subst P (λ i. (sym t.0 i, (sym t.1 i, sym t.2 i))) here, ap (λ (p : Page). p.front.log) t.0)
 

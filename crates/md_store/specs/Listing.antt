@@ -12,7 +12,7 @@ use Rattle.md_view.specs.Named.{Named, AreMessages}
 use Rattle.md_view.specs.Readings.{reading_of, join_of}
 use Rattle.md_store.specs.Histories.{named_after, IsLegalFrom, read_at, listing}
 use Rattle.md_store.specs.Pages.{Log, Page}
-use Rattle.md_store.specs.declared.rule.View.{View}
+use Rattle.md_store.specs.declared.rule.Knowledge.{Knowledge}
 
 -- a first reading: its folder, the entries of new, and the history at whose end they were read
 pub record Reading : Type 0 where
@@ -34,7 +34,7 @@ pub record IsLooked (p : Page) (held : List Effect) (folder : ℕ) (new : Option
   pub entries_are : entries ≡ seen_in new folder p.names.names
 
 -- What a seat that knows its store saw: a legal history which begins with what was held, and these entries at its end.
-pub record Looks (v : View) (held : List Effect) (folder : ℕ) (new : Option (List Entry))
+pub record Looks (v : Knowledge) (held : List Effect) (folder : ℕ) (new : Option (List Entry))
     (entries : List Entry) (front : Log) : Type 0 where
   pub book_is : front.book ≡ v.held.book
   pub held_begins : IsPrefix held front.log

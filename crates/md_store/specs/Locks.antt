@@ -19,7 +19,7 @@ use Rattle.md_view.specs.Named.{Named, named_of}
 use Rattle.md_store.specs.Pages.{Log, Page, Note}
 use Rattle.md_store.specs.Publishing.{knower, WaitsFor}
 use Rattle.md_store.specs.Rolls.{Called}
-use Rattle.md_store.specs.declared.rule.View.{View}
+use Rattle.md_store.specs.declared.rule.Knowledge.{Knowledge}
 
 -- all effects are published, or all but the last
 abbrev pub Lags : List Effect → List Effect → Type 0
@@ -39,7 +39,7 @@ pub record IsSince (begun run : Run) : Type 0 where
 -- The run goes on from the one that the store was opened with, which had the opening names. Its effects are published, or all but the
 -- last, of which a note may wait. The front has the published effects, or all.
 pub record IsLocked (begun : Run) (opening : Named) (book : Book) (run : Run) (shown : Page)
-    (seat : View) (front : Log) (pending : List Note) : Type 0 where
+    (seat : Knowledge) (front : Log) (pending : List Note) : Type 0 where
   pub since : IsSince begun run
   pub image : named_of run.image ≡ opening
   pub book_is : shown.front.book ≡ book

@@ -12,7 +12,7 @@ use Rattle.md_core.specs.Runs.{Run, new_run}
 use Rattle.md_view.specs.Named.{Named, AreMessages, after_change}
 use Rattle.md_store.specs.Histories.{named_after, IsLegalFrom}
 use Rattle.md_store.specs.Pages.{Page, Note}
-use Rattle.md_store.specs.declared.rule.View.{View}
+use Rattle.md_store.specs.declared.rule.Knowledge.{Knowledge}
 
 -- the book of no store
 abbrev pub no_book : Book
@@ -27,17 +27,17 @@ abbrev pub no_names : Named
 no_names = record { folders = 0; names = finmap.empty }
 
 -- a seat that knows nothing
-abbrev pub newcomer : View
+abbrev pub newcomer : Knowledge
 newcomer = record { opened = false; opening = no_names; held = record { book = no_book; log = [] } }
 
 -- a seat that knows the opening names and this page
-abbrev pub knower : Named → Page → View
+abbrev pub knower : Named → Page → Knowledge
 knower opening p = record { opened = true; opening = opening; held = p.front }
 
 -- what a seat knows is so: it holds a beginning of the published history; and one that was told of its store knows the opening names and
 -- the book
-abbrev pub Fits : Named → Page → View → Type 0
-Fits opening p v = (v.opened ≡ true → (v.opening ≡ opening) × (v.held.book ≡ p.front.book)) × IsPrefix v.held.log p.front.log
+abbrev pub IsTrueOf : Named → Page → Knowledge → Type 0
+IsTrueOf opening p v = (v.opened ≡ true → (v.opening ≡ opening) × (v.held.book ≡ p.front.book)) × IsPrefix v.held.log p.front.log
 
 -- the published history is legal, and leads from the opening names to the published ones; both are names of messages
 pub record Leads (opening : Named) (p : Page) : Type 0 where
@@ -47,12 +47,12 @@ pub record Leads (opening : Named) (p : Page) : Type 0 where
   pub messages : AreMessages p.names
 
 -- The rule: there are opening names from which the published history leads, and what each seat knows is so.
-abbrev pub Kept : Page → List View → Type 0
-Kept p views = (opening : Named) × Leads opening p × ((j : ℕ) (v : View) → get_elem? views j ≡ some v → Fits opening p v)
+abbrev pub Kept : Page → List Knowledge → Type 0
+Kept p views = (opening : Named) × Leads opening p × ((j : ℕ) (v : Knowledge) → get_elem? views j ≡ some v → IsTrueOf opening p v)
 
 -- what a seat with the view v learns where the page y is published or entered: w, which is all of the page. It begins with what v held
-abbrev pub Seen : View → Page → Page → View → Type 0
-Seen v x y w = (opening : Named) × (w ≡ knower opening y) × Fits opening y v × Leads opening y
+abbrev pub Learns : Knowledge → Page → Page → Knowledge → Type 0
+Learns v x y w = (opening : Named) × (w ≡ knower opening y) × IsTrueOf opening y v × Leads opening y
 
 -- the page after a note
 abbrev pub page_after : Page → Note → Page
@@ -67,13 +67,13 @@ abbrev pub WaitsFor : List Effect → Named → Page → List Note → Type 0
 WaitsFor effects opening p pending = (n : Note) × (pending ≡ n ∷ []) × CanFollow opening p n × (n.front.log ≡ effects)
 
 -- nothing waits, or the writer knows the opening names and one note waits that can follow
-abbrev pub MayPublish : View → Page → List Note → Type 0
+abbrev pub MayPublish : Knowledge → Page → List Note → Type 0
 MayPublish v p pending = (pending ≡ []) ⊎ ((n : Note) × (pending ≡ n ∷ []) × (v.opened ≡ true) × CanFollow v.opening p n)
 
 -- the writer, which had the view v, knows the page, and the opening names that it knew
-abbrev pub Shows : View → Page → View → Type 0
-Shows v y w = (opening : Named) × (w ≡ knower opening y) × (v.opened ≡ true → v.opening ≡ opening) × Leads opening y
+abbrev pub Publishes : Knowledge → Page → Knowledge → Type 0
+Publishes v y w = (opening : Named) × (w ≡ knower opening y) × (v.opened ≡ true → v.opening ≡ opening) × Leads opening y
 
 -- the seat knows which store it is of
-abbrev pub IsOf : Named → Book → View → Type 0
+abbrev pub IsOf : Named → Book → Knowledge → Type 0
 IsOf opening book v = (v.opened ≡ true) × (v.opening ≡ opening) × (v.held.book ≡ book)

@@ -2,19 +2,17 @@
 ghost use Rattle.std.specs.Prelude.{◌≡◌, ◌<◌, ◌≤◌, ◌⊎◌, true, false, length, IsTrue, IfOk, IfErr, IfSome, OnOk, OnErr, option_map};
 ghost use mathlib.Core.List.{IsPrefix};
 ghost use Rattle.left_right.specs.Sides.{view};
-ghost use Rattle.md_dirs.specs.declared.paths.Place.TheVariants.{New};
 ghost use Rattle.md_view.specs.Named.{AreMessages};
 ghost use Rattle.md_view.specs.Readings.{IsInOrder};
 ghost use Rattle.md_store.specs.declared.error.ListError.TheVariants as refusal;
-ghost use Rattle.md_store.specs.Histories.{named_after, IsLegalFrom, read_at};
-ghost use Rattle.md_store.specs.Listing.{seen_in, IsLooked, Looks, Finishes};
+ghost use Rattle.md_store.specs.Histories.{named_after, IsLegalFrom};
+ghost use Rattle.md_store.specs.Listing.{seen_in, IsLooked, Looks};
 ghost use Rattle.md_store.specs.Publishing.{IsOf};
 
 use crate::book::Front;
 use crate::error::ListError;
 use crate::naming::Naming;
-use crate::reading::FirstReading;
-use crate::rule::{Sees, StoreReader};
+use crate::rule::{Learning, StoreReader};
 use crate::shown::Shown;
 use core::mem::replace_with;
 use md_dirs::Place;
@@ -101,6 +99,13 @@ impl<J: Naming> Pass<J> {
         self.learn(&other.front);
     }
 
+    /// The history that it holds.
+    pub(crate) fn front(&self) -> &Front
+        ensures { (result.now.log ≡ self.now) × (result.now.book ≡ J.book) }
+    {
+        &self.front
+    }
+
     /// Whether it holds no more than a history. Then that begins with all that it holds.
     pub(crate) fn is_within(&self, front: &Front) -> bool
         requires { front.now.book ≡ J.book }
@@ -121,9 +126,9 @@ impl<J: Naming> Pass<J> {
         self.front = self.front.longer(front);
     }
 
-    // What is published now of a folder: its new, or the join of a first reading with its cur. It begins with all of the history that is
-    // given.
-    fn read(
+    /// What is published now of a folder: its new, or the join of a first reading with its cur. It begins with all of the history that is
+    /// given. It takes no lock.
+    pub(crate) fn read(
         &mut self,
         alloc: Global,
         folder: u32,
@@ -150,43 +155,6 @@ impl<J: Naming> Pass<J> {
         *front = seen;
         Ok(entries)
     }
-
-    /// Reads new of a folder. It takes no lock.
-    pub(crate) fn first(&mut self, alloc: Global, folder: u32) -> Result<FirstReading<J>, ListError>
-        ensures held { IsPrefix self.old self.new }
-        ensures legal { IsLegalFrom J.opening self.new }
-        ensures folder { OnOk result (folder < J.opening.folders) }
-        ensures no_folder { IfErr result (λ e. e ≡ refusal.NoFolder → J.opening.folders ≤ folder) }
-        ensures no_memory { IfErr result (λ e. e ≡ refusal.NoMemory → folder < J.opening.folders) }
-        ensures unchanged { OnErr result (self.new ≡ self.old) }
-        ensures entries { IfOk result (λ f. (f.folder ≡ folder) × (f.history ≡ self.new) × (f.entries ≡ read_at folder New J.opening self.new)) }
-    {
-        let held = self.front.again();
-        let entries = self.read(alloc, folder, None, &held)?;
-        Ok(FirstReading::new(folder, entries, self.front.again()))
-    }
-
-    /// Reads cur of the folder of a first reading, at the end of a history that begins with that of the reading, and joins the two. It takes
-    /// no lock.
-    pub(crate) fn second(
-        &mut self,
-        alloc: Global,
-        first: &FirstReading<J>,
-    ) -> Result<Vec<Entry>, ListError>
-        ensures held { IsPrefix self.old self.new }
-        ensures legal { IsLegalFrom J.opening self.new }
-        ensures folder { OnOk result (first.now.folder < J.opening.folders) }
-        ensures no_folder { IfErr result (λ e. e ≡ refusal.NoFolder → J.opening.folders ≤ first.now.folder) }
-        ensures no_memory { IfErr result (λ e. e ≡ refusal.NoMemory → first.now.folder < J.opening.folders) }
-        ensures unchanged { OnErr result (self.new ≡ self.old) }
-        ensures told { OnOk result (IsPrefix first.now.history self.new) }
-        ensures entries { IfOk result (λ v. Finishes J.opening first.now self.new v.items) }
-    {
-        md_core::laws::legal_histories_keep_messages_out_of_new();
-        first.is_read();
-        let held = self.front.longer(first.front());
-        self.read(alloc, first.folder(), Some(first.entries()), &held)
-    }
 }
 
 // Enters what is published, looks, and leaves.
@@ -202,7 +170,7 @@ fn entered(
     ensures no_folder { IfErr result.1 (λ e. e ≡ refusal.NoFolder → (view reader.place).opening.folders ≤ x.entry.1) }
     ensures no_memory { IfErr result.1 (λ e. e ≡ refusal.NoMemory → x.entry.1 < (view reader.place).opening.folders) }
 {
-    match reader.enter_as::<Sees>() {
+    match reader.enter_as::<Learning>() {
         Ok(reading) => {
             let looked = look(reading.get(), x.0, x.1, x.2, x.3);
             (reading.leave(), looked)

@@ -8,7 +8,7 @@ use left_right::writer::Writer;
 use md_view::Names;
 
 /// What a seat knows. No value of it is made.
-pub struct View {
+pub struct Knowledge {
     pub opened: bool,
     pub opening: Names,
     pub held: Front,
@@ -16,7 +16,7 @@ pub struct View {
 
 pub struct Published;
 
-impl Protocol<Shown, View> for Published {
+impl Protocol<Shown, Knowledge> for Published {
     ghost use Rattle.md_store.specs.Publishing.{Kept, newcomer};
 
     ghost holds = { Kept };
@@ -25,24 +25,24 @@ impl Protocol<Shown, View> for Published {
 }
 
 /// Publishing, and entering what is published.
-pub struct Sees;
+pub struct Learning;
 
-impl Outcome<Shown, View> for Sees {
-    ghost use Rattle.md_store.specs.Publishing.{Seen};
+impl Outcome<Shown, Knowledge> for Learning {
+    ghost use Rattle.md_store.specs.Publishing.{Learns};
 
-    ghost then = { Seen };
+    ghost then = { Learns };
 }
 
 /// Telling a new seat which store it is of.
 pub struct Seats;
 
-impl Split<View> for Seats {
+impl Split<Knowledge> for Seats {
     ghost left = { λ v. v };
 
     ghost right = { λ v. v };
 }
 
-impl Join<View> for Seats {
+impl Join<Knowledge> for Seats {
     ghost use Rattle.md_store.specs.Publishing.{newcomer};
 
     ghost both = { λ v w. w };
@@ -50,6 +50,6 @@ impl Join<View> for Seats {
     ghost spent = { newcomer };
 }
 
-pub type StoreReader = Reader<Shown, View, Published>;
+pub type StoreReader = Reader<Shown, Knowledge, Published>;
 
-pub type StoreWriter = Writer<Shown, Post, View, Published>;
+pub type StoreWriter = Writer<Shown, Post, Knowledge, Published>;

@@ -171,8 +171,8 @@ impl<D: Dirs, J: Naming> Store<D, J> {
     }
 
     /// Lists a folder, in order of unique name: its new as of one moment, joined with its cur as of a later one. It takes no lock, and shows
-    /// at least what the pass has seen or was told of. Refused `Closed`, else `NoFolder`, else `NoMemory`; the pass then holds no less than
-    /// before.
+    /// at least what the pass has seen or was told of. It never waits, but whoever publishes waits, under the lock, until it has read what it
+    /// reads, so a slow listing holds up steps. Refused `Closed`, else `NoFolder`, else `NoMemory`; the pass then holds no less than before.
     pub fn list(
         &self,
         alloc: Global,
@@ -189,7 +189,8 @@ impl<D: Dirs, J: Naming> Store<D, J> {
         self.second(alloc, pass, &first)
     }
 
-    /// Reads new of a folder: the first half of a listing. Refused as `list` is; the pass then holds what it held.
+    /// Reads new of a folder: the first half of a listing. It never waits, and whoever publishes waits until it has read; between the two
+    /// halves nobody waits. Refused as `list` is; the pass then holds what it held.
     pub fn first(
         &self,
         alloc: Global,
@@ -204,12 +205,14 @@ impl<D: Dirs, J: Naming> Store<D, J> {
         ensures unchanged { OnErr result (pass.new ≡ pass.old) }
         ensures entries { IfOk result (λ f. (f.folder ≡ folder) × (f.history ≡ pass.new) × (f.entries ≡ read_at folder New J.opening pass.new)) }
     {
-        pass.first(alloc, folder)
+        let held = pass.front().again();
+        let entries = pass.read(alloc, folder, None, &held)?;
+        Ok(FirstReading::new(folder, entries, pass.front().again()))
     }
 
     /// Reads cur of the folder of a first reading, and joins the two: the second half of a listing. Any pass of the store may do so: it is
-    /// told of the history of the first reading, so that cur is never older than new. Refused as `list` is; the pass then holds what it
-    /// held.
+    /// told of the history of the first reading, so that cur is never older than new. It never waits, and whoever publishes waits until it has
+    /// read and joined. Refused as `list` is; the pass then holds what it held.
     pub fn second(
         &self,
         alloc: Global,
@@ -225,7 +228,10 @@ impl<D: Dirs, J: Naming> Store<D, J> {
         ensures told { OnOk result (IsPrefix first.now.history pass.new) }
         ensures entries { IfOk result (λ v. Finishes J.opening first.now pass.new v.items) }
     {
-        pass.second(alloc, first)
+        md_core::laws::legal_histories_keep_messages_out_of_new();
+        first.is_read();
+        let held = pass.front().longer(first.front());
+        pass.read(alloc, first.folder(), Some(first.entries()), &held)
     }
 
     /// The world, as `close` gives it, and whether a pass holds all effects of it. Where it does, what was listed with the pass when it held

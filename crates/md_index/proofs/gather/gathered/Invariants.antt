@@ -5,5 +5,5 @@ use Rattle.md_index.proofs.gather.gathered.Given as goal
 
 abbrev pub invariant-loop-item : goal.invariant-loop-item
 invariant-loop-item g l =
-    (l.loads ≡ l.fn.loads) × (l.all.items ≡ map indexed_of (take l.item l.messages)) × (vec_len l.all ≡ l.item) ×
+    (l.given ≡ l.fn.given) × (l.all.items ≡ map indexed_of (take l.item l.messages)) × (vec_len l.all ≡ l.item) ×
     (length l.messages ≤ vec_capacity l.all)

@@ -2,7 +2,7 @@ use Rattle.std.proofs.Common.{◌≡◌, ap, ◌∙◌, sym, subst}
 use Rattle.left_right.specs.Sides.{view}
 use Rattle.md_core.specs.Runs.{effects_of}
 use Rattle.md_view.specs.Named.{Named}
-use Rattle.md_store.specs.declared.rule.View.{View}
+use Rattle.md_store.specs.declared.rule.Knowledge.{Knowledge}
 use Rattle.md_store.specs.Pages.{Page}
 use Rattle.md_store.specs.Locks.{Lags}
 use Rattle.md_store.specs.Publishing.{CanFollow, knower}
@@ -17,7 +17,7 @@ invariant_of-self-2 g c =
     let d = c.in_ok-post.ensures.desk in
     let p : c.post.new.writer.desk.shown.value ≡ c.self.inside.writer.desk.shown.value = ap (λ x. x.shown.value) d in
     let s : view c.post.new.writer.desk.place ≡ view c.self.inside.writer.desk.place = ap (λ x. view x.place) d in
-    let o : (view c.self.inside.writer.desk.place).opening ≡ opening = ap (λ (v : View). v.opening) k.seat_is in
+    let o : (view c.self.inside.writer.desk.place).opening ≡ opening = ap (λ (v : Knowledge). v.opening) k.seat_is in
     let n = c.in_ok-post.ensures.pending in (
       c.self.invariant.0,
       (catches g.J.Naming.begun opening g.J.Naming.book r c.post.new.front c.post.new.writer.desk.shown.value c.publish.new.writer.desk.shown.value

@@ -4,7 +4,7 @@ use Rattle.md_view.specs.declared.entry.Entry.{Entry}
 use Rattle.md_view.specs.Readings.{IsInOrder}
 use Rattle.md_store.specs.Histories.{named_after}
 use Rattle.md_store.proofs.Good.{reading-in_order}
-use Rattle.md_store.proofs.pass.Pass.first.Goals as goal
+use Rattle.md_store.proofs.store.Store.first.Goals as goal
 
 pub new-requires-clause-order : goal.new-requires-clause-order
 new-requires-clause-order g c = subst (λ (es : List Entry). IsInOrder es) (sym c.in_ok-entries.ensures.entries)

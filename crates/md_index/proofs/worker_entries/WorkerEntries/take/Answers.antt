@@ -4,7 +4,7 @@ use Rattle.md_index.specs.declared.item.Message.{Message}
 use Rattle.md_index.specs.declared.item.Indexed.{Indexed}
 use Rattle.md_index.specs.Index.{IsBrought}
 use Rattle.md_index.proofs.Gathering.{first-holds, first-seen}
-use Rattle.md_index.proofs.load.Load.take.Goals as goal
+use Rattle.md_index.proofs.worker_entries.WorkerEntries.take.Goals as goal
 
 pub invariant_of-self-2 : goal.invariant_of-self-2
 invariant_of-self-2 c =

@@ -12,26 +12,26 @@ pub(crate) type Brought = (usize, Indexed);
 
 /// Entries of these messages, which one worker made, in the order in which it made them. They are taken by their numbers.
 #[derive(Drop)]
-pub(crate) struct Load<'a> {
+pub(crate) struct WorkerEntries<'a> {
     messages: &'a [Message<'a>],
     brought: VecDeque<Brought>,
 }
 
-impl<'a> Model for Load<'a> {
+impl<'a> Model for WorkerEntries<'a> {
     ghost Value = { List Message };
 
-    ghost view = { λ load. load.messages.now };
+    ghost view = { λ w. w.messages.now };
 
     ghost invariant = { λ load. All (IsBrought load.messages.now) load.brought.items };
 }
 
-impl<'a> Load<'a> {
+impl<'a> WorkerEntries<'a> {
     /// What a worker brought.
     pub(crate) fn of(messages: &'a [Message<'a>], brought: Vec<Brought>) -> Self
         requires { All (IsBrought messages.now) brought.items }
         ensures { result ≡ messages.now }
     {
-        Load {
+        WorkerEntries {
             messages,
             brought: VecDeque::from(brought),
         }
