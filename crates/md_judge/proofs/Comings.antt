@@ -14,11 +14,8 @@ use Rattle.md_judge.specs.Logs.{Log}
 use Rattle.md_judge.specs.Told.{at, is_message, IsOf, IsMessageAt, IsThere}
 use Rattle.md_judge.specs.Law.{turn, Adds, TwoNames, UsedAgain}
 use Rattle.md_judge.specs.Changes.{IsPathOf, Leads}
+use Rattle.md_judge.proofs.Lawful.{none}
 use Rattle.md_judge.specs.Messages.{WasFile, AddFinds, AreTwo, RecallsMessage, Recalled, Leaving, IsAddition, BrokenByAdding}
-
-none : (n : ℕ) → (0 < n → ⊥) → n ≡ 0
-none zero not = refl
-none (suc n) not = absurd (not (omega arith))
 
 -- one option names one path
 one_path : (path : Spot → Path) (o : Option (Spot × ℕ)) (p q : Path) (m n : ℕ) → IsPathOf path o p m → IsPathOf path o q n → p ≡ q

@@ -26,7 +26,8 @@ use Rattle.md_judge.specs.Files.{facts_at, is_message_in, named_by, turned_by, W
 use Rattle.md_judge.specs.Recalls.{IsBy, Acts, IsMadeBy, Recalls, RecallsMaker, RecallsLeft, IsAt, IsChange, BrokenAt, BrokenByChange}
 use Rattle.md_judge.proofs.Named.{now-names, names-now, now-leaves, leaves-now}
 
-none : (n : ℕ) → (0 < n → ⊥) → n ≡ 0
+-- a number that is not above 0
+pub none : (n : ℕ) → (0 < n → ⊥) → n ≡ 0
 none zero not = refl
 none (suc n) not = absurd (not (omega arith))
 

@@ -6,3 +6,6 @@ pub mod Named
 pub mod Notes
 pub mod Lawful
 pub mod Comings
+pub mod Goings
+pub mod Claiming
+pub mod Reading

@@ -7,3 +7,5 @@ pub mod Found
 pub mod Files
 pub mod Recalls
 pub mod Messages
+pub mod Claims
+pub mod Readings

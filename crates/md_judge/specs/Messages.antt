@@ -2,18 +2,23 @@
 use Rattle.std.specs.Prelude.{ℕ, suc, ◌≡◌, ◌≢◌, ◌↔◌, ◌<◌, ◌≤◌, ◌⊎◌, List, Option, Some, None, true, IsSomeAnd}
 use Rattle.std.specs.Ordering.{nat_cmp}
 use Rattle.std.specs.BTreeSet as ordered
-use Rattle.md_dirs.specs.State.{State}
+use Rattle.md_dirs.specs.State.{State, file_at}
 use Rattle.md_dirs.specs.declared.paths.Path.{Path}
+use Rattle.md_dirs.specs.declared.paths.Place.TheVariants.{Cur}
 use Rattle.md_name.specs.Names.{unique_of}
 use Rattle.md_log.specs.declared.clause.Clause.{Clause}
 use Rattle.md_log.specs.declared.clause.Clause.TheVariants as clause
+use Rattle.md_log.specs.declared.line.Reply.TheVariants as reply
+use Rattle.md_log.specs.declared.line.Deed.TheVariants as deed
+use Rattle.md_log.specs.declared.line.Call.TheVariants as call
 use Rattle.md_log.specs.declared.line.Step.{Step}
 use Rattle.md_judge.specs.declared.judge.directories.Spot.{Spot}
 use Rattle.md_judge.specs.declared.judge.acts.Change.{Change}
 use Rattle.md_judge.specs.declared.judge.mail.Message.{Message}
+use Rattle.md_judge.specs.declared.judge.goings.Going.{Going}
 use Rattle.md_judge.specs.Logs.{Log}
 use Rattle.md_judge.specs.Told.{at, is_message, IsOf, IsMessageAt, IsThere}
-use Rattle.md_judge.specs.Law.{Turn, TwoNames, UsedAgain}
+use Rattle.md_judge.specs.Law.{Turn, IsTrashed, TwoNames, Gone, UsedAgain}
 use Rattle.md_judge.specs.Changes.{IsPathOf, Leads}
 
 -- the message was the file of this number, as far as is kept
@@ -65,3 +70,32 @@ abbrev pub BrokenByAdding : Turn → Clause → Type 0
 BrokenByAdding t clause.TwoNames = TwoNames t
 BrokenByAdding t clause.UsedAgain = UsedAgain t
 BrokenByAdding t c = ⊥
+
+-- the file is a message of the unique name in some folder
+abbrev pub IsCopied : State → ℕ → List ℕ → Type 0
+IsCopied s file unique = (q : Path) × (file_at s q ≡ Some file) × (is_message q ≡ true) × (unique_of q.name ≡ unique)
+
+-- the message may go: an unlink takes its path from cur, and the name shows T
+abbrev pub MayGo : Going → Type 0
+MayGo g = (g.is_unlink ≡ true) × (g.spot.place ≡ Cur) × (g.is_trashed ≡ true)
+
+-- Which clauses are found where a path of a message was taken.
+abbrev pub TakeFinds : Going → Clause → Type 0
+TakeFinds g clause.Gone = (g.left ≡ 0) × (MayGo g → ⊥) × (g.is_copied ≢ true)
+TakeFinds g c = ⊥
+
+-- A step takes this path of a message, and what is kept of the message and of the path's name is what the log tells.
+pub record IsTaking (path : Spot → Path) (l : Log) (i : ℕ) (x : Step) (c : Change) (g : Going) : Type 0 where
+  pub leads : Leads path c (at l i) (at l (suc i))
+  pub taken : c.taken ≡ Some (g.spot, g.file)
+  pub place : (path g.spot).place ≡ g.spot.place
+  pub shown : is_message (path g.spot) ≡ true
+  pub unlink : (g.is_unlink ≡ true) ↔ (x.call ≡ call.At deed.Unlink (path g.spot) reply.Ok)
+  pub trashed : (g.is_trashed ≡ true) ↔ IsTrashed (path g.spot).name
+  pub left : (0 < g.left) ↔ IsThere (at l (suc i)) (path g.spot).folder (unique_of (path g.spot).name)
+  pub copied : (g.is_copied ≡ true) ↔ IsCopied (at l (suc i)) g.file (unique_of (path g.spot).name)
+
+-- the clause is broken by a path that is taken, so far as it goes by the path's message
+abbrev pub BrokenByTaking : Turn → Clause → Type 0
+BrokenByTaking t clause.Gone = Gone t
+BrokenByTaking t c = ⊥

@@ -1,4 +1,7 @@
 //! What actors did about messages since they last answered.
+ghost use Rattle.std.specs.Prelude.{◌≡◌, ◌↔◌, IsTrue};
+ghost use Rattle.md_judge.specs.Claims.{IsRefused};
+
 use super::befores::{Mark, NO_MARK};
 use super::mail::Key;
 use md_log::LineFault;
@@ -11,7 +14,7 @@ pub(super) struct About {
     /// The actor's first line after that answer; 0 before any.
     from: usize,
     /// The line of its last call on the message; 0 where there is none.
-    act: usize,
+    pub(super) act: usize,
     was_refused: bool,
     pub(super) is_added: bool,
     pub(super) is_changed: bool,
@@ -45,13 +48,11 @@ impl About {
         }
     }
 
-    /// The line of the last call on it, where that was refused.
-    pub(super) fn refused_line(&self) -> Option<usize> {
-        if self.was_refused {
-            self.act_line()
-        } else {
-            None
-        }
+    /// Whether there was a call on it, and the last one was refused.
+    pub(super) fn is_refused(&self) -> bool
+        ensures { IsTrue result ↔ IsRefused self.now }
+    {
+        self.act > 0 && self.was_refused
     }
 }
 
@@ -121,12 +122,9 @@ impl Actors {
         Ok(())
     }
 
-    /// Whether the actor has moved the message to a folder since a line.
-    pub(super) fn has_moved(&self, actor: u32, key: Key, to: u32, first: usize) -> bool {
-        match self.moved.get(&((actor, key), to)) {
-            None => false,
-            Some(line) => *line >= first,
-        }
+    /// The line at which the actor last took the message from its folder while a folder had it.
+    pub(super) fn moved_at(&self, actor: u32, key: Key, to: u32) -> Option<usize> {
+        self.moved.get(&((actor, key), to)).copied()
     }
 
     /// What the actor did about the message since its last answer.

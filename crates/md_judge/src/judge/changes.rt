@@ -1,9 +1,10 @@
 //! Changes of paths: the clauses that they break, and what is kept of them.
 use super::acts::Change;
-use super::befores::mark_of;
+use super::befores::{line_before, mark_of};
 use super::comings::{check_added, leaving};
 use super::directories::Spot;
 use super::flags::TRASHED;
+use super::goings::{Going, check_taken};
 use super::known::{Act, Known};
 use super::watch::Watch;
 use md_dirs::Place;
@@ -27,23 +28,28 @@ impl Watch {
         }
         self.make(known, actor, change)?;
         if let Some((spot, file)) = change.taken {
-            self.check_gone(known, spot, file, change.is_unlink);
+            self.check_taken(known, spot, file, change.is_unlink);
         }
         Ok(())
     }
 
-    /// A path was taken: whether a message is gone that may not go.
-    fn check_gone(&mut self, known: &Known, spot: Spot, file: u32, is_unlink: bool) {
+    /// A path was taken: whether it was a message's that may not go so.
+    fn check_taken(&mut self, known: &Known, spot: Spot, file: u32, is_unlink: bool) {
         let Some(unique) = known.unique_at(spot) else {
             return;
         };
-        let is_gone = self.mail.count((spot.folder, unique)) == 0;
-        let may_go = is_unlink && spot.place == Place::Cur && self.is_trashed(known, spot);
-        let is_elsewhere = self.mail.is_copied(file, unique);
-        if is_gone && !may_go && !is_elsewhere {
-            let before = self.mail.put_at((spot.folder, unique));
-            self.found.note(true, Clause::Gone, before);
-        }
+        let Some(message) = self.mail.presence((spot.folder, unique)) else {
+            return;
+        };
+        let going = Going {
+            spot,
+            file,
+            is_unlink,
+            is_trashed: self.is_trashed(known, spot),
+            left: message.count,
+            is_copied: self.mail.is_copied(file, unique),
+        };
+        check_taken(&mut self.found, &going, line_before(message.since));
     }
 
     fn is_trashed(&self, known: &Known, spot: Spot) -> bool {

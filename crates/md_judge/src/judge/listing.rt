@@ -2,6 +2,7 @@
 use super::directories::{Directory, Spot};
 use super::known::Known;
 use super::mail::Mail;
+use super::since::{is_there_since, was_there_since};
 use super::tables::Names;
 use super::trial::Open;
 use super::watch::Watch;
@@ -154,18 +155,10 @@ fn shown_wrongly(directory: &Directory, names: &[u32], first: usize) -> Option<u
         .find(|name| !was_there_since(directory, *name, first))
 }
 
-pub(super) fn was_there_since(directory: &Directory, name: u32, first: usize) -> bool {
-    let was = match directory.was.get(&name) {
-        None => false,
-        Some(last) => *last >= first,
-    };
-    was || directory.names.contains_key(&name)
-}
-
 /// A name that a whole reading lacks, and that was there since its first part.
 fn lacked(directory: &Directory, reading: &Reading, first: usize) -> Option<u32> {
     for (name, named) in directory.names.iter() {
-        if named.since <= first && !reading.shown.contains(name) {
+        if is_there_since(*named, first) && !reading.shown.contains(name) {
             return Some(*name);
         }
     }

@@ -118,6 +118,13 @@ pub(super) struct Held {
     pub(super) last: usize,
 }
 
+/// How many paths a message has, and the first moment since which it has one.
+#[derive(Clone, Copy)]
+pub(super) struct Presence {
+    pub(super) count: u32,
+    pub(super) since: usize,
+}
+
 /// The messages of all folders.
 #[derive(Drop)]
 pub(super) struct Mail {
@@ -156,6 +163,15 @@ impl Mail {
             None => 0,
             Some(message) => message.count,
         }
+    }
+
+    /// The message, where it ever was in its folder.
+    pub(super) fn presence(&self, key: Key) -> Option<Presence> {
+        let message = self.messages.get(&key)?;
+        Some(Presence {
+            count: message.count,
+            since: message.since,
+        })
     }
 
     /// The line that put the message there, the last time that it came.

@@ -1,7 +1,7 @@
 //! Calls that are tried on the directories and taken back: whether directories give their replies here.
 use super::acts::{Change, NO_CHANGE, defined_at, defined_between, naming_change};
 use super::directories::{Directories, Directory, Kept, Spot};
-use super::listing::was_there_since;
+use super::since::was_there_since;
 use md_dirs::Place;
 use md_log::{Deed, LineFault, Naming, Reply};
 use std::alloc::Global;

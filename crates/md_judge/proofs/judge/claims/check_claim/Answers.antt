@@ -1,0 +1,17 @@
+use Rattle.std.proofs.Common.{rules, arith}
+use Rattle.std.proofs.lemmas.Grind.{common_steps}
+use Rattle.md_judge.specs.Law.{turn}
+use Rattle.md_judge.specs.Found.{Notes}
+use Rattle.md_judge.specs.Claims.{ClaimFinds, BrokenByClaim}
+use Rattle.md_judge.proofs.Notes.{renoted}
+use Rattle.md_judge.proofs.Claiming.{claim-lawful}
+use Rattle.md_judge.proofs.judge.claims.check_claim.Goals as goal
+
+pub returns-clause-law : goal.returns-clause-law
+returns-clause-law c =
+    let claim = c.args.claim.now in
+    let old = c.args.found.now in
+    let new = c.note-2.new.self in
+    let finds : Notes (ClaimFinds claim) old new = first_of (search rules, grind (arith, common_steps)) in
+    λ line first i folder unique l x is.
+    renoted (ClaimFinds claim) (BrokenByClaim (turn l i x)) (claim-lawful line first i folder unique l x claim is) old new finds
