@@ -8,7 +8,7 @@ import warnings
 from typing import Iterator, NamedTuple, Optional
 
 from ._names import fresh_unique
-from ._tree import TOP, Steps
+from ._tree import TOP, Trail
 from .calls import Place
 
 _PLACES = ("tmp", "new", "cur")
@@ -34,14 +34,14 @@ class LeftOut(UserWarning):
     """A file or a folder of a tree that the store can't have."""
 
 
-def directory_of(tree: str, steps: Steps) -> str:
+def directory_of(tree: str, trail: Trail) -> str:
     """Where a folder is."""
-    return os.path.join(tree, *("." + step for step in steps))
+    return os.path.join(tree, *("." + name for name in trail))
 
 
-def find_folders(tree: str, steps: Steps = TOP) -> Iterator[Steps]:
+def find_folders(tree: str, trail: Trail = TOP) -> Iterator[Trail]:
     """The folders below a folder, each before those in it: directories that begin with a dot."""
-    directory = directory_of(tree, steps)
+    directory = directory_of(tree, trail)
     for name in sorted(os.listdir(directory)):
         path = os.path.join(directory, name)
         if len(name) < 2 or not name.startswith(".") or not os.path.isdir(path):
@@ -49,8 +49,8 @@ def find_folders(tree: str, steps: Steps = TOP) -> Iterator[Steps]:
         if not all(os.path.isdir(os.path.join(path, place.value)) for place in Place):
             warnings.warn(f"{path}: left out: it lacks new or cur", LeftOut, stacklevel=2)
             continue
-        yield (*steps, name[1:])
-        yield from find_folders(tree, (*steps, name[1:]))
+        yield (*trail, name[1:])
+        yield from find_folders(tree, (*trail, name[1:]))
 
 
 def read_files(directory: str, colon: str) -> Iterator[File]:

@@ -73,6 +73,9 @@ _FUNCTIONS = {
 _ROOM = 3
 FIRST_ROOM = 1 << 16
 
+# Buffers of that room that no call uses. To make one takes longer than most calls.
+_spare: list[bytearray] = []
+
 # A library that was built without it has no settle.
 _MAYBE = {"deolmutt_settle": (_WORLD, _TO_U64)}
 
@@ -100,11 +103,32 @@ def filled(
     """
     length = _SIZE()
     while True:
-        out = ctypes.create_string_buffer(room)
-        status = function(*asked, out, room, ctypes.byref(length))
+        out = _buffer(room)
+        status = function(*asked, start_of(out), len(out), ctypes.byref(length))
+        given = b"" if status == _ROOM else bytes(memoryview(out)[: length.value])
+        if len(out) == FIRST_ROOM:
+            _spare.append(out)
         if status != _ROOM:
-            return status, ctypes.string_at(out, length.value)
+            return status, given
         room = length.value
+
+
+def start_of(buffer: bytearray) -> Any:
+    """Where a buffer begins, of 1 byte or more.
+
+    A type of arrays of the buffer's length would do too, but `ctypes` keeps a note of each such type
+    that was ever made.
+    """
+    return ctypes.byref(ctypes.c_char.from_buffer(buffer))
+
+
+def _buffer(room: int) -> bytearray:
+    if room > FIRST_ROOM:
+        return bytearray(room)
+    try:
+        return _spare.pop()
+    except IndexError:
+        return bytearray(FIRST_ROOM)
 
 
 def _paths() -> Iterator[str]:

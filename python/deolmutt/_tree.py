@@ -7,15 +7,15 @@ from functools import lru_cache
 from typing import Iterable, Iterator, NamedTuple, Optional
 
 from ._names import fresh_unique
-from ._settling import call_many
+from ._settling import Settling, call_many
 from .calls import Answer, Call, Deliver, Expunge, Flag, Place, Seen
-from .errors import BadFlag, Failed, NoSpareFolder, NotSettled, OtherInfo, TooManyJobs
+from .errors import BadFlag, Failed, NoSpareFolder, OtherInfo, TooManyJobs
 from .lines import file_line, folder_line
 from .world import World
 
 # The names of the folders on the way from the top of a tree to one of it.
-Steps = tuple[str, ...]
-TOP: Steps = ()
+Trail = tuple[str, ...]
+TOP: Trail = ()
 MOST_FOLDERS = 64
 _FLAGS_FOLLOW = "2,"
 _TRASHED = "T"
@@ -72,7 +72,7 @@ class Wanted(NamedTuple):
 class Tree:
     """A world, the names of its folders, and what it doesn't keep itself: keys and dates."""
 
-    def __init__(self, world: World, folders: dict[Steps, int], spare: list[int]) -> None:
+    def __init__(self, world: World, folders: dict[Trail, int], spare: list[int]) -> None:
         self.world = world
         self._folders = folders
         self._spare = spare
@@ -82,33 +82,34 @@ class Tree:
         self._dates: dict[str, float] = {}
         self._contents: dict[int, dict[str, Message]] = {}
         self._known_changes = world.changes
+        self._settling = Settling(world, len(folders) + len(spare))
 
     # Folders.
 
-    def folder(self, steps: Steps) -> Optional[int]:
+    def folder(self, trail: Trail) -> Optional[int]:
         """The number of a folder, or None where there is none of that name."""
-        return self._folders.get(steps)
+        return self._folders.get(trail)
 
-    def folders_in(self, steps: Steps) -> list[str]:
+    def folders_in(self, trail: Trail) -> list[str]:
         """The names of the folders right in a folder."""
-        return [found[-1] for found in self._folders if found and found[:-1] == steps]
+        return [found[-1] for found in self._folders if found and found[:-1] == trail]
 
-    def all_folders(self) -> dict[Steps, int]:
+    def all_folders(self) -> dict[Trail, int]:
         """All folders with their numbers, a folder before those in it."""
         return dict(sorted(self._folders.items()))
 
-    def add_folder(self, steps: Steps) -> None:
+    def add_folder(self, trail: Trail) -> None:
         """Gives a spare folder a name."""
         if not self._spare:
             raise NoSpareFolder(
                 f"a store's folders are fixed when it is loaded, and all {len(self._folders)} of this"
                 " one are in use: make it with more spare_folders (64 folders at most)"
             )
-        self._folders[steps] = self._spare.pop()
+        self._folders[trail] = self._spare.pop()
 
-    def remove_folder(self, steps: Steps) -> None:
+    def remove_folder(self, trail: Trail) -> None:
         """Makes a folder a spare one again."""
-        self._spare.append(self._folders.pop(steps))
+        self._spare.append(self._folders.pop(trail))
 
     # Messages.
 
@@ -248,14 +249,14 @@ class Tree:
                 raise answer
 
     def _settle(self) -> None:
-        """Gives the world as many calls again: where the library has no settle, its messages are
-        loaded anew."""
-        try:
-            self.world.settle()
-        except NotSettled:
-            numbers = range(len(self._folders) + len(self._spare))
-            files = (line for number in numbers for line in self._lines_of(number))
-            self.world.reload(b"".join([*map(_head, numbers), *files]))
+        self._settling.settle(self._lines)
+
+    def _lines(self) -> Iterator[bytes]:
+        """The `folder` and `file` lines of all that the world holds."""
+        numbers = range(len(self._folders) + len(self._spare))
+        yield from map(_head, numbers)
+        for number in numbers:
+            yield from self._lines_of(number)
 
     def _lines_of(self, number: int) -> Iterator[bytes]:
         for entry in self.world.list(number):
@@ -263,7 +264,7 @@ class Tree:
             yield file_line(store_name(number), entry.place.value, entry.name, int(date), body)
 
 
-def loaded_tree(folders: list[Steps], spare: int, files: Iterable[bytes]) -> Tree:
+def loaded_tree(folders: list[Trail], spare: int, files: Iterable[bytes]) -> Tree:
     """A tree with these folders and the files that these lines say, in folders `f0`, `f1` and so on:
     the top, those that are named, and the spare ones."""
     named = [TOP, *folders]
@@ -271,7 +272,7 @@ def loaded_tree(folders: list[Steps], spare: int, files: Iterable[bytes]) -> Tre
     if count > MOST_FOLDERS:
         raise NoSpareFolder(f"a store has at most {MOST_FOLDERS} folders, not {count}")
     world = World.load(b"".join([*map(_head, range(count)), *files]))
-    numbers = {steps: number for number, steps in enumerate(named)}
+    numbers = {trail: number for number, trail in enumerate(named)}
     return Tree(world, numbers, list(range(count - 1, len(named) - 1, -1)))
 
 

@@ -12,7 +12,7 @@ from typing import Any, Sequence
 class DeolmuttError(Exception):
     """Anything that the store refuses or answers without success."""
 
-    # The answers of the calls before it, where many calls were made at once.
+    # Where many calls were made at once, how those before it ended: an `Answer` or a `Failed` each.
     done: Sequence[Any] = ()
 
     def __str__(self) -> str:
@@ -23,10 +23,12 @@ class DeolmuttError(Exception):
 class Refused(DeolmuttError):
     """A call that was not taken. Nothing has changed.
 
-    Where a line of a script is refused, `line` is its number from 1, else 0.
+    Where a line of a script is refused, `line` is its number from 1, else 0, and `printed` what the
+    lines before it printed.
     """
 
     line: int = 0
+    printed: bytes = b""
 
 
 class Failed(DeolmuttError):
@@ -92,7 +94,7 @@ class BodyTooLong(Refused, ValueError):
 
 
 class TooManyJobs(Refused):
-    """The world has had its 10,000 calls: settle it."""
+    """The world has had its 10,000 calls, and takes as many again once it is settled."""
 
 
 class NameUsed(Refused):

@@ -18,7 +18,7 @@ from ._tree import (
     MOST_FOLDERS,
     TOP,
     Message,
-    Steps,
+    Trail,
     Tree,
     Wanted,
     check_flags,
@@ -76,14 +76,14 @@ class Maildir(mailbox.Mailbox):  # type: ignore[type-arg]
         `mailbox.MaildirMessage`. A store has at most 64 folders, this mailbox itself among them, and
         as many as that leaves are spare where `spare_folders` is None.
         """
-        named = [_step(TOP, folder) for folder in dict.fromkeys(folders)]
+        named = [_named(TOP, folder) for folder in dict.fromkeys(folders)]
         self._begin(loaded_tree(named, _spare(named, spare_folders), ()), TOP, factory)
 
-    def _begin(self, tree: Tree, steps: Steps, factory: Optional[Factory]) -> None:
+    def _begin(self, tree: Tree, trail: Trail, factory: Optional[Factory]) -> None:
         # The base class would keep a path, which no memory has.
         self._factory = factory
         self._tree = tree
-        self._steps = steps
+        self._trail = trail
         self._onetime_keys: Optional[Iterator[str]] = None
 
     @property
@@ -255,15 +255,15 @@ class Maildir(mailbox.Mailbox):  # type: ignore[type-arg]
         """The names of the folders in this one."""
         with self._held():
             self._number()
-            return self._tree.folders_in(self._steps)
+            return self._tree.folders_in(self._trail)
 
     def get_folder(self, folder: str) -> Maildir:
         """A folder in this one. Raises `mailbox.NoSuchMailboxError` where there is none."""
         with self._held():
-            steps = (*self._steps, folder)
-            if self._tree.folder(steps) is None:
+            trail = (*self._trail, folder)
+            if self._tree.folder(trail) is None:
                 raise mailbox.NoSuchMailboxError(folder)
-            return self._at(steps)
+            return self._at(trail)
 
     def add_folder(self, folder: str) -> Maildir:
         """Makes a folder in this one where it isn't there, and answers it.
@@ -273,10 +273,10 @@ class Maildir(mailbox.Mailbox):  # type: ignore[type-arg]
         """
         with self._held():
             self._number()
-            steps = _step(self._steps, folder)
-            if self._tree.folder(steps) is None:
-                self._tree.add_folder(steps)
-            return self._at(steps)
+            trail = _named(self._trail, folder)
+            if self._tree.folder(trail) is None:
+                self._tree.add_folder(trail)
+            return self._at(trail)
 
     def remove_folder(self, folder: str) -> None:
         """Removes a folder in this one, which then is a spare one.
@@ -285,19 +285,19 @@ class Maildir(mailbox.Mailbox):  # type: ignore[type-arg]
         there is none, as `mailbox.Maildir` does.
         """
         with self._held():
-            steps = (*self._steps, folder)
-            number = self._tree.folder(steps)
+            trail = (*self._trail, folder)
+            number = self._tree.folder(trail)
             if number is None:
                 raise FileNotFoundError(f"No such folder: {folder}")
             if self._tree.contents(number):
                 raise mailbox.NotEmptyError(f"Folder contains message(s): {folder}")
-            if self._tree.folders_in(steps):
+            if self._tree.folders_in(trail):
                 raise mailbox.NotEmptyError(f"Folder contains folder(s): {folder}")
-            self._tree.remove_folder(steps)
+            self._tree.remove_folder(trail)
 
-    def _at(self, steps: Steps) -> Maildir:
+    def _at(self, trail: Trail) -> Maildir:
         found = type(self).__new__(type(self))
-        found._begin(self._tree, steps, self._factory)
+        found._begin(self._tree, trail, self._factory)
         return found
 
     # The mailbox as a whole.
@@ -322,7 +322,7 @@ class Maildir(mailbox.Mailbox):  # type: ignore[type-arg]
         Of a folder in another it does nothing, since the store is that one's. What is called after it
         raises `Closed`. Export the mailbox first, where its messages are to stay.
         """
-        if self._steps == TOP:
+        if self._trail == TOP:
             self.world.close()
 
     def __enter__(self) -> Maildir:
@@ -356,11 +356,11 @@ class Maildir(mailbox.Mailbox):  # type: ignore[type-arg]
         path = os.fspath(tree)
         if not os.path.isdir(path):
             raise mailbox.NoSuchMailboxError(path)
-        steps = list(_disk.find_folders(path))
+        trails = list(_disk.find_folders(path))
         loading = _Loading(cls.colon)
-        for number, folder in enumerate([TOP, *steps]):
+        for number, folder in enumerate([TOP, *trails]):
             loading.take_folder(number, _disk.directory_of(path, folder))
-        loaded = loaded_tree(steps, _spare(steps, spare_folders), loading.lines)
+        loaded = loaded_tree(trails, _spare(trails, spare_folders), loading.lines)
         for unique, (key, date) in loading.notes.items():
             loaded.note(unique, key, date)
         box = cls.__new__(cls)
@@ -378,16 +378,16 @@ class Maildir(mailbox.Mailbox):  # type: ignore[type-arg]
         path = os.fspath(tree)
         with self._held():
             self._number()
-            size = len(self._steps)
+            size = len(self._trail)
             folders = {
-                steps[size:]: number
-                for steps, number in self._tree.all_folders().items()
-                if steps[:size] == self._steps
+                trail[size:]: number
+                for trail, number in self._tree.all_folders().items()
+                if trail[:size] == self._trail
             }
-            for steps, number in folders.items():
-                self._check_clash(_disk.directory_of(path, steps), number)
-            for steps, number in folders.items():
-                self._export_folder(_disk.directory_of(path, steps), number, steps == TOP)
+            for trail, number in folders.items():
+                self._check_clash(_disk.directory_of(path, trail), number)
+            for trail, number in folders.items():
+                self._export_folder(_disk.directory_of(path, trail), number, trail == TOP)
 
     def _check_clash(self, directory: str, number: int) -> None:
         clash = _disk.uniques_in(directory, self.colon) & set(self._tree.contents(number))
@@ -412,9 +412,9 @@ class Maildir(mailbox.Mailbox):  # type: ignore[type-arg]
 
     def _number(self) -> int:
         """The number of this folder. Raises `mailbox.NoSuchMailboxError` where it was removed."""
-        number = self._tree.folder(self._steps)
+        number = self._tree.folder(self._trail)
         if number is None:
-            raise mailbox.NoSuchMailboxError(self._steps[-1])
+            raise mailbox.NoSuchMailboxError(self._trail[-1])
         return number
 
     def _contents(self) -> dict[str, Message]:
@@ -494,14 +494,14 @@ def _check_text(flags: str) -> None:
     check_flags(flags)
 
 
-def _step(steps: Steps, folder: str) -> Steps:
+def _named(trail: Trail, folder: str) -> Trail:
     """The folder of a name in another one. Refused where no directory can have the name."""
     if folder in ("", ".") or _NEVER_IN_FOLDER.search(folder):
         raise ValueError(f"no directory can have the name of this folder: {folder!r}")
-    return (*steps, folder)
+    return (*trail, folder)
 
 
-def _spare(named: List[Steps], wanted: Optional[int]) -> int:
+def _spare(named: List[Trail], wanted: Optional[int]) -> int:
     if wanted is None:
         return max(MOST_FOLDERS - 1 - len(named), 0)
     if wanted < 0:

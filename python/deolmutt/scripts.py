@@ -13,7 +13,7 @@ from .world import at_line
 def transcript(script: bytes, room: Optional[int] = None) -> bytes:
     """What a script prints, in a store of its own.
 
-    The first refused line is raised, by its own class, with its `line` and, as `done`, what was printed
+    The first refused line is raised, by its own class, with its `line` and, as `printed`, what was printed
     before it. `room` says how many bytes may be printed: a script that prints more is played once more.
     """
     return _printed(library().deolmutt_transcript, script, room)
@@ -41,7 +41,5 @@ def _printed(function: Any, script: bytes, room: Optional[int]) -> bytes:
 
     status, printed = filled(run, text, len(text), room=room or FIRST_ROOM)
     if status != OK:
-        error = at_line(refusal(status), line.value)
-        error.done = printed
-        raise error
+        raise at_line(refusal(status), line.value, printed)
     return printed

@@ -9,7 +9,7 @@ import time
 from types import TracebackType
 from typing import Any, Callable, Iterable, Iterator, List, NamedTuple, NoReturn, Optional, Union
 
-from ._library import AnswerStruct, StepStruct, filled, library
+from ._library import AnswerStruct, StepStruct, filled, library, start_of
 from ._numbers import MOST_U32, MOST_U64, OK, Asked, answer_of, asked, refusal, step_of
 from .calls import (
     Answer,
@@ -72,9 +72,15 @@ class World:
     A unique name belongs to one message of the whole store, and is used for good. A world takes
     10,000 calls; `settle` gives it as many again. Moments are seconds since 1970; `now` is this
     moment where it is left out, and `own` the moment by the clock of a job's host.
+
+    Each method says what it refuses and which answers are no success, and all are raised. Each method
+    may be refused as `Closed`, `WrongThread` or `NoMemory` too, and a call as `TooManyJobs`. After
+    `NoMemory` its `job` is the number of a job that is there without an answer, which `step` goes on
+    with, or 0.
     """
 
     def __init__(self, lines: bytes) -> None:
+        """As `load`."""
         self._handle = ctypes.c_void_p()
         self._hold = _Hold()
         self._changes = 0
@@ -95,7 +101,10 @@ class World:
 
     @classmethod
     def with_folders(cls, *names: str) -> World:
-        """A world of empty folders, numbered from 0 as they are named here."""
+        """A world of empty folders, numbered from 0 as they are named here.
+
+        Refused: `BadName`, of what a line can't say; `BadFolder`, of a name twice and of over 64.
+        """
         return cls(b"".join(folder_line(name) for name in names))
 
     # One call to its answer.
@@ -110,7 +119,8 @@ class World:
     def seen(self, folder: int, unique: str, flags: str = "", now: Optional[int] = None) -> str:
         """Takes a message from new to cur, its flags joined by these, and answers its flags.
 
-        Answered without success: `NotThere`, `OtherInfo`.
+        Refused: `BadFlag`, `NoFolder`, `BadUnique`. Answered without success: `NotThere`, where it is
+        not in new; `OtherInfo`.
         """
         return self.call(Seen(folder, unique, flags), now).flags
 
@@ -119,12 +129,16 @@ class World:
     ) -> str:
         """Adds and removes flags of a message in cur, and answers its flags.
 
-        Answered without success: `NotThere`, `OtherInfo`.
+        Refused: `BadFlag`, `NoFolder`, `BadUnique`. Answered without success: `NotThere`, where it is
+        not in cur; `OtherInfo`.
         """
         return self.call(Flag(folder, unique, add, remove), now).flags
 
     def move(self, folder: int, unique: str, to: int, now: Optional[int] = None) -> None:
-        """Takes a message to another folder. Answered without success: `NotThere`."""
+        """Takes a message to another folder: from new to new, and from cur to cur.
+
+        Refused: `NoFolder`, `SameFolder`, `BadUnique`. Answered without success: `NotThere`.
+        """
         self.call(Move(folder, unique, to), now)
 
     def copy(
@@ -132,25 +146,31 @@ class World:
     ) -> None:
         """Gives a message a second name, in this folder or another, which was never used.
 
-        Refused: `NameUsed`. Answered without success: `NotThere`, `OtherInfo`.
+        The two names share one file. Refused: `NoFolder`, `BadUnique`, `NameUsed`. Answered without
+        success: `NotThere`, `OtherInfo`.
         """
         self.call(Copy(folder, unique, to, fresh), now)
 
     def expunge(self, folder: int, unique: str, now: Optional[int] = None) -> None:
         """Removes a message of cur that has the flag T.
 
-        Answered without success: `NotThere`, `NotTrashed`.
+        Refused: `NoFolder`, `BadUnique`. Answered without success: `NotThere`, where it is not in cur;
+        `NotTrashed`.
         """
         self.call(Expunge(folder, unique), now)
 
     def clean(self, folder: int, now: Optional[int] = None) -> int:
-        """Removes the files of tmp that were not used for 36 hours, and answers how many."""
+        """Removes the files of tmp that were not used for 36 hours, and answers how many.
+
+        Refused: `NoFolder`.
+        """
         return self.call(Clean(folder), now).removed
 
     def call(self, call: Call, now: Optional[int] = None, own: Optional[int] = None) -> Answer:
-        """Submits a call, and takes its job's steps at one moment until it is answered.
+        """Submits a call (deolmutt.calls), and takes its job's steps at one moment until it is answered.
 
-        Raises what the store refuses, and the answer where it is no success: `Failed`.
+        Refused: as the call's own method says, and `BadTries`, `BadPiece`. An answer that is no success
+        is raised: `Failed`.
         """
         with self._hold:
             self._changes += 1
@@ -216,11 +236,10 @@ class World:
         self, records: bytes, count: int, now: int, answers: List[Union[Answer, Failed]]
     ) -> int:
         given = bytearray(count * _ANSWER.size)
-        out = (ctypes.c_char * len(given)).from_buffer(given)
         self._length.value = 0
         self._changes += 1
         status: int = self._library.deolmutt_calls(
-            self._open(), records, len(records), now, out, count, ctypes.byref(self._length)
+            self._open(), records, len(records), now, start_of(given), count, ctypes.byref(self._length)
         )
         whole = memoryview(given)[: self._length.value * _ANSWER.size]
         answers.extend(answer_of(kind, value) for kind, value in _ANSWER.iter_unpack(whole))
@@ -236,7 +255,10 @@ class World:
     # A job step by step.
 
     def submit(self, call: Call) -> int:
-        """Submits a call, and gives the number of its job, from 1. No step is taken of it yet."""
+        """Submits a call, and answers the number of its job, from 1. No step is taken of it yet.
+
+        Refused: as by `call`.
+        """
         with self._hold:
             status = self._library.deolmutt_submit(
                 self._open(), *_arguments(asked(call)), ctypes.byref(self._job)
@@ -278,18 +300,14 @@ class World:
     # What is there.
 
     def list(self, folder: int) -> List[Entry]:
-        """The messages of a folder, in order of the bytes of their unique names."""
-        given = self._given(
-            self._library.deolmutt_list, _checked(folder, NoFolder, MOST_U32)
-        )
-        return list(_entries(given))
+        """The messages of a folder, in order of the bytes of their unique names. Refused: `NoFolder`."""
+        number = _checked(folder, NoFolder, MOST_U32)
+        return list(_entries(self._given(self._library.deolmutt_list, number)))
 
     def read(self, unique: str) -> bytes:
-        """The bytes of a message, in new or cur of any folder. Refused: `NotThere`."""
+        """The bytes of a message, in new or cur of any folder. Raises `NotThere` where there is none."""
         name = encoded(unique)
-        return self._given(
-            self._library.deolmutt_read, name, len(name)
-        )
+        return self._given(self._library.deolmutt_read, name, len(name))
 
     def _given(self, function: Callable[..., int], *asked: Any) -> bytes:
         """What a function of the library gives into a buffer."""
@@ -314,9 +332,9 @@ class World:
                 raise _with_job(refusal(status), self._job.value)
 
     def reload(self, lines: bytes) -> None:
-        """Begins anew over these lines, as `load`, in place of all that it holds.
+        """Begins anew over these lines, in place of all that it holds.
 
-        Where they are refused it keeps what it holds.
+        Refused: as by `load`. Then it keeps what it holds.
         """
         with self._hold:
             self._changes += 1
@@ -324,7 +342,7 @@ class World:
             self._library.deolmutt_free(handle)
 
     def close(self) -> None:
-        """Lets all that the world holds go. Any other call is refused as `Closed` from then on."""
+        """Lets all that the world holds go. Each other method is refused as `Closed` from then on."""
         with self._hold:
             handle, self._handle = self._handle, ctypes.c_void_p()
             if handle:
@@ -385,10 +403,10 @@ class World:
             raise refusal(status)
 
 
-def at_line(error: DeolmuttError, line: int) -> DeolmuttError:
-    """A refusal with the number of its line, 0 for none."""
+def at_line(error: DeolmuttError, line: int, printed: bytes = b"") -> DeolmuttError:
+    """A refusal with the number of its line, 0 for none, and what was printed before it."""
     if isinstance(error, Refused):
-        error.line = line
+        error.line, error.printed = line, printed
         error.args = (f"line {line}: {error}" if line else str(error),)
     return error
 

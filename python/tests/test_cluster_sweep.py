@@ -25,7 +25,7 @@ script = sys.stdin.buffer.read()
 try:
     out, said, status = transcript(script), b"", 0
 except BadLine as error:
-    out, said, status = error.done, b"line %d: refused\\n" % error.line, 1
+    out, said, status = error.printed, b"line %d: refused\\n" % error.line, 1
 if len(sys.argv) > 1 and sys.argv[1].encode() in script:
     out += b"more\\n"
 sys.stdout.buffer.write(out)

@@ -1,4 +1,4 @@
-"""Many calls take no more memory than some: DEOLMUTT_CALLS says how many, 100,000 where it is left out."""
+"""Many calls take no more memory than some: DEOLMUTT_CALLS says how many, 200,000 where it is left out."""
 
 from __future__ import annotations
 
@@ -9,21 +9,38 @@ import unittest
 
 from support import PYTHON, needs_library
 
-CALLS = int(os.environ.get("DEOLMUTT_CALLS", "100000"))
-# A tenth of the calls takes as much memory as all, but for what the allocator keeps.
+CALLS = int(os.environ.get("DEOLMUTT_CALLS", "200000"))
+# Where the peak of some calls is taken: the mailbox is loaded anew at least once before.
+SOME = 100_000
+# The process grows by what the allocator and Python keep as holes. What is in use does not grow: not by a byte for each of eight calls.
 MOST_GROWTH_KIB = 4096
+MOST_GROWTH_IN_USE = 1 / 8
 
-# Delivers, flags and removes messages; the store settles by itself. It prints how much memory it took at most, in KiB, after a tenth of
-# the calls and after all.
+# Delivers, flags, reads and removes messages; the store settles by itself. After some calls and after all it prints the peaks so far: of the
+# process, in KiB; of what the C library's allocator has given out, in bytes, 0 where it doesn't say; and how many blocks Python has.
 PROGRAM = """
-import resource, sys
+import ctypes, resource, sys
 sys.path.insert(0, sys.argv[1])
 from deolmutt import Maildir
-calls, made = int(sys.argv[2]), 0
+
+class Given(ctypes.Structure):
+    _fields_ = [(name, ctypes.c_size_t) for name in "arena ordblks smblks hblks hblkhd usmblks fsmblks uordblks fordblks keepcost".split()]
+
+def given():
+    try:
+        ask = ctypes.CDLL(None).mallinfo2
+    except AttributeError:
+        return int
+    ask.restype = Given
+    def bytes_given():
+        said = ask()
+        return said.uordblks + said.hblkhd
+    return bytes_given
+
+calls, some, made = int(sys.argv[2]), int(sys.argv[3]), 0
+ask, most = given(), [0, 0]
 box = Maildir()
 kept = [box.add(b"Subject: kept") for _ in range(500)]
-def peak():
-    print(resource.getrusage(resource.RUSAGE_SELF).ru_maxrss)
 while made < calls:
     keys = box.add_all([b"Subject: x\\n\\n" + bytes(200)] * 10)
     box.add_flag_to_all(keys, "S")
@@ -31,9 +48,9 @@ while made < calls:
         box.get_bytes(key)
         box.remove(key)
     made += 50
-    if made == calls // 10:
-        peak()
-peak()
+    most = [max(each) for each in zip(most, (ask(), sys.getallocatedblocks()))]
+    if made in (some, calls):
+        print(resource.getrusage(resource.RUSAGE_SELF).ru_maxrss, *most)
 assert sorted(box.keys()) == sorted(kept)
 """
 
@@ -41,13 +58,16 @@ assert sorted(box.keys()) == sorted(kept)
 @needs_library
 class MemoryTest(unittest.TestCase):
     def test_many_calls_take_no_more_memory_than_some(self) -> None:
-        words = [sys.executable, "-c", PROGRAM, str(PYTHON), str(CALLS)]
+        words = [sys.executable, "-c", PROGRAM, str(PYTHON), str(CALLS), str(SOME)]
         ran = subprocess.run(words, capture_output=True, text=True)
         if "NotSettled" in ran.stderr:
             self.skipTest("this library has no settle")
         self.assertEqual(0, ran.returncode, ran.stderr)
-        some, all_of_them = map(int, ran.stdout.split())
-        self.assertLess(all_of_them - some, MOST_GROWTH_KIB)
+        some, all_of_them = ([int(word) for word in line.split()] for line in ran.stdout.splitlines())
+        process, in_use, blocks = (after - before for before, after in zip(some, all_of_them))
+        self.assertLess(process, MOST_GROWTH_KIB, "KiB")
+        self.assertLess(in_use, (CALLS - SOME) * MOST_GROWTH_IN_USE, "bytes given out")
+        self.assertLess(blocks, (CALLS - SOME) * MOST_GROWTH_IN_USE / 100, "blocks of Python's")
 
 
 if __name__ == "__main__":

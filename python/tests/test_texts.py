@@ -109,13 +109,13 @@ class TranscriptTest(unittest.TestCase):
         with self.assertRaises(errors.BadCommand) as met:
             deolmutt.transcript(b"folder i\njob clean i\nnone\n")
         error = met.exception
-        self.assertEqual((3, b"job 1\n"), (error.line, error.done))
+        self.assertEqual((3, b"job 1\n"), (error.line, error.printed))
         self.assertEqual(f"line 3: {errors.BadCommand()}", str(error))
 
     def test_what_a_store_refuses_is_refused_at_its_line(self) -> None:
         with self.assertRaises(errors.NameUsed) as met:
             deolmutt.transcript(b"folder i\njob deliver i u 1 x\njob deliver i u 1 x\n")
-        self.assertEqual((3, b"job 1\n"), (met.exception.line, met.exception.done))
+        self.assertEqual((3, b"job 1\n"), (met.exception.line, met.exception.printed))
 
     def test_a_long_transcript(self) -> None:
         script = b"folder i\n" + b"".join(b"unique %d 0 1 1 host\n" % number for number in range(9000))
@@ -146,7 +146,7 @@ class IndexLinesTest(unittest.TestCase):
         ):
             with self.assertRaises(refused) as met:
                 deolmutt.index_lines(lines)
-            self.assertEqual((line, b""), (met.exception.line, met.exception.done))
+            self.assertEqual((line, b""), (met.exception.line, met.exception.printed))
 
 
 if __name__ == "__main__":

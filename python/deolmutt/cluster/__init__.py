@@ -36,6 +36,7 @@ from .sweep import Finding, sweep
 
 __all__ = [
     "BadSnapshot",
+    "Broken",
     "DaskMissing",
     "Finding",
     "Interleavings",
@@ -51,7 +52,6 @@ __all__ = [
     "ShardLost",
     "ToolRefused",
     "WrongChecksum",
-"Broken",
     "explore",
     "index",
     "printed",

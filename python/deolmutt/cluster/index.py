@@ -5,7 +5,7 @@ from __future__ import annotations
 import io
 import os
 import re
-from typing import Any, BinaryIO, Dict, Iterable, Iterator, List, NamedTuple, Optional, Sequence, Tuple, Union
+from typing import Any, BinaryIO, Callable, Dict, Iterable, Iterator, List, NamedTuple, Optional, Sequence, Tuple, Union
 
 import dask.bag
 from dask.delayed import delayed
@@ -25,10 +25,14 @@ Lines = Union[str, "os.PathLike[str]", bytes]
 _PARTITION_BYTES = 1 << 24
 # So many bytes of lines go to the library together: what is near stays near.
 _TOGETHER = 1 << 17
-_READ_BYTES = 1 << 20
+_READ_BYTES = 1 << 18
 # A line of a message in new or cur, up to its body, with its folder and its unique name. No other line has a row.
 _HEAD = re.compile(rb"file ([^ \n]+) (?:new|cur) ([^ .:\n][^ :\n]*)[^ \n]* [^ \r\n]+(?= |\r?\n|\Z)")
 _FOLDER = re.compile(rb"folder ([^ \n]+?)\r?\n")
+# The same of a line that a store takes wherever its name is no other's. So most lines are, and those that aren't the store looks at.
+_PLAIN_HEAD = re.compile(
+    rb"file ([^ \n]+) (?:new|cur) ([^ .:/\0\r\n][^ :/\0\r\n]{0,199})(?::[^ /\0\r\n]{0,54})? (?:0|[1-9][0-9]{0,18})(?=[ \n])"
+)
 # What ends a header.
 _EMPTY_LINE = re.compile(rb"\n\r?\n")
 # The lines of a message in an index.
@@ -58,6 +62,11 @@ _KEYS = ("subject", "from", "message-id", "date", "seconds")
 
 # Lines that go to the library together: where each run of them begins and ends.
 _Runs = List[Tuple[int, int]]
+
+# A message's folder, its unique name, and where its line begins and ends: sorted, they are in the order of the index.
+_Message = Tuple[int, bytes, int, int]
+# The numbers of folders, and the messages.
+_Store = Tuple[Dict[bytes, int], List[_Message]]
 
 
 class _Plan(NamedTuple):
@@ -119,13 +128,78 @@ def _opened(source: Union[str, bytes], buffering: int = -1) -> BinaryIO:
 
 
 def _plan(source: Union[str, bytes], most: int) -> _Plan:
-    """How a store is parted, where a partition ends with the messages that bring it to so many bytes.
+    """How a store is parted, where a partition ends with the messages that bring it to so many bytes."""
+    folders, messages = _plain_store(source) or _checked_store(source)
+    messages.sort()
+    spans = ((begin, end) for _, _, begin, end in messages)
+    return _Plan(_lines_of(folders), list(_parted(_together(spans, most), most)))
 
-    The store itself says which lines are sound: it is loaded with lines that have no bodies.
-    """
+
+def _lines_of(folders: Iterable[bytes]) -> bytes:
+    return b"".join(b"folder %b\n" % folder for folder in folders)
+
+
+def _plain_store(source: Union[str, bytes]) -> Optional[_Store]:
+    """A store of folder lines and plain messages alone, under names that it has once, or None for another."""
+    folders: Dict[bytes, int] = {}
+    messages: List[_Message] = []
+    with _opened(source, 0) as data:
+        for begin, block, size in _blocks(data):
+            if not _take_plain(begin, block, size, folders, messages):
+                return None
+    if len({unique for _, unique, _, _ in messages}) < len(messages):
+        return None
+    try:
+        World.load(_lines_of(folders)).close()
+    except BadLine:
+        return None
+    return folders, messages
+
+
+def _take_plain(
+    begin: int, block: bytes, size: int, folders: Dict[bytes, int], messages: List[_Message]
+) -> bool:
+    """Takes the lines in the first bytes of a block, and answers whether all are plain."""
+    at = 0
+    while at < size:
+        end = block.find(b"\n", at) + 1
+        found = _PLAIN_HEAD.match(block, at)
+        if found and end:
+            folder, unique = found.groups()
+            if folder not in folders:
+                return False
+            messages.append((folders[folder], unique, begin + at, begin + end))
+        else:
+            named = _FOLDER.match(block, at)
+            if named is None or named[1] in folders:
+                return False
+            folders[named[1]] = len(folders)
+        at = end
+    return True
+
+
+def _blocks(data: BinaryIO) -> Iterator[Tuple[int, bytes, int]]:
+    """The bytes of a source from the first on, so many at a time: where they begin, they, and how many of them are whole lines. The last
+    line may have no LF."""
+    at, room = 0, _READ_BYTES
+    while True:
+        block = _read_run(data, at, at + room)
+        size = block.rfind(b"\n") + 1
+        if len(block) < room:
+            yield at, block, len(block)
+            return
+        if size:
+            yield at, block, size
+            at, room = at + size, _READ_BYTES
+        else:
+            room *= 2
+
+
+def _checked_store(source: Union[str, bytes]) -> _Store:
+    """A store that is loaded with lines that have no bodies, so that it says itself which are sound."""
     heads: List[bytes] = []
     folders: Dict[bytes, int] = {}
-    messages: List[Tuple[int, bytes, int, int]] = []
+    messages: List[_Message] = []
     at = 0
     with _opened(source, _READ_BYTES) as lines:
         for line in lines:
@@ -141,11 +215,7 @@ def _plan(source: Union[str, bytes], most: int) -> _Plan:
                     folders[named[1]] = len(folders)
             at = end
     World.load(b"".join(heads)).close()
-    # In the order of the index: by folder, and then by the bytes of unique names.
-    messages.sort()
-    spans = ((begin, end) for _, _, begin, end in messages)
-    lines_of_folders = b"".join(b"folder %b\n" % folder for folder in folders)
-    return _Plan(lines_of_folders, list(_parted(_together(spans, most), most)))
+    return folders, messages
 
 
 def _together(spans: Iterable[Tuple[int, int]], most: int) -> Iterator[_Runs]:
@@ -190,7 +260,7 @@ def _rows_of_runs(data: BinaryIO, folders: bytes, runs: _Runs) -> Iterator[Row]:
     """The rows of messages whose lines are these. A refused one is raised with its number in the source."""
     text = b"".join([folders, *(_read_run(data, *run) for run in runs)])
     try:
-        return _rows(index_lines(text, room=len(text)))
+        return _rows(index_lines(text))
     except BadLine as error:
         line = _line_in(data, runs, error.line - folders.count(b"\n"))
         error.line, error.args = line, (f"line {line}: {type(error)()}",)
@@ -231,8 +301,8 @@ class _File(NamedTuple):
 def _parts_of_tree(tree: str, most: int) -> Iterator[Any]:
     """A tree's partitions: each is of one folder."""
     path = os.path.abspath(tree)
-    for steps in [TOP, *_disk.find_folders(path)]:
-        directory = _disk.directory_of(path, steps)
+    for trail in [TOP, *_disk.find_folders(path)]:
+        directory = _disk.directory_of(path, trail)
         part, size = [], 0
         for file in sorted(_files(directory), key=lambda it: (encoded(it.unique), it.place != "new")):
             part.append((file.place, file.name))
@@ -262,8 +332,7 @@ def _rows_of_files(directory: str, part: Sequence[Tuple[str, str]]) -> List[Row]
             # A line can't say each name of a file, so that they are numbered.
             lines.append(b"file i new %020d 0 %b\n" % (len(uniques), escaped(_header(body))))
             uniques.append(name.partition(":")[0])
-    text = b"".join(lines)
-    printed = index_lines(text, room=len(text))
+    printed = index_lines(b"".join(lines))
     return [Row(directory, unique, *row[2:]) for unique, row in zip(uniques, _rows(printed))]
 
 
@@ -287,16 +356,17 @@ def _read(directory: str, place: str, name: str) -> Optional[bytes]:
 # Rows.
 
 
+_groups: "Callable[[re.Match[str]], Tuple[Any, ...]]" = re.Match.groups
+
+
 def _rows(printed: bytes) -> Iterator[Row]:
     """The rows that an index says."""
     said = decoded(printed)
-    rows = map(_row_of, _ROW.finditer(said))
+    rows = (
+        Row(folder, unique, subject, sender, message_id, date, None if seconds is None else int(seconds))
+        for folder, unique, subject, sender, message_id, date, seconds in map(_groups, _ROW.finditer(said))
+    )
     return map(_unescaped, rows) if "\\" in said else rows
-
-
-def _row_of(found: "re.Match[str]") -> Row:
-    folder, unique, subject, sender, message_id, date, seconds = found.groups()
-    return Row(folder, unique, subject, sender, message_id, date, None if seconds is None else int(seconds))
 
 
 def _unescaped(row: Row) -> Row:

@@ -16,7 +16,7 @@ from ..calls import Answer, Call, Clean, Copy, Deliver, Entry, Expunge, Flag, Mo
 from ..errors import DeolmuttError, NoFolder
 from .errors import NoSnapshot, NoWorker, OtherShards, OtherStore, ShardLost, lost
 from .rendezvous import shard_of
-from .shard import Asked, Ended, Outcome, Request, Shard
+from .shard import Ended, Reply, Request, Shard, UserCall
 from .snapshot import Manifest, ShardPart, read_manifest, remove_others
 
 # A user's name: any bytes, or a text, which is taken as UTF-8.
@@ -26,7 +26,7 @@ _SECONDS = 1.0
 _TIMEOUTS = (asyncio.TimeoutError, TimeoutError)
 
 
-class _Held(NamedTuple):
+class _Live(NamedTuple):
     """A shard that is there: what keeps it on its worker, its proxy, and the word it was born with."""
 
     future: Future
@@ -39,7 +39,7 @@ class _Sent(NamedTuple):
     """A call on its way to a shard, or None for a shard that was known to be lost."""
 
     shard: int
-    held: _Held
+    live: _Live
     call: Any
 
 
@@ -156,25 +156,25 @@ class Mailboxes:
         answer, or an exception, which is not raised, also where a shard is lost.
         """
         ended: Dict[int, Ended] = {}
-        of_shards: Dict[int, Tuple[List[int], List[Asked]]] = {}
+        of_shards: Dict[int, Tuple[List[int], List[UserCall]]] = {}
         for at, (user, call, to) in enumerate(calls):
             shard = self.shard_of(user)
             if to is not None and self.shard_of(to) != shard:
                 ended[at] = OtherStore()
                 continue
-            places, asked = of_shards.setdefault(shard, ([], []))
-            places.append(at)
-            asked.append(Asked(_bytes(user), call, None if to is None else _bytes(to)))
+            positions, asked = of_shards.setdefault(shard, ([], []))
+            positions.append(at)
+            asked.append(UserCall(_bytes(user), call, None if to is None else _bytes(to)))
         sent = [
-            (self._sent(shard, "call_many", asked), places, asked)
-            for shard, (places, asked) in of_shards.items()
+            (self._sent(shard, "call_many", asked), positions, asked)
+            for shard, (positions, asked) in of_shards.items()
         ]
-        for each, places, asked in sent:
+        for each, positions, asked in sent:
             try:
                 ends = self._answer(each)
             except DeolmuttError as error:
-                ends = [error] * len(places)
-            ended.update(zip(places, ends))
+                ends = [error] * len(positions)
+            ended.update(zip(positions, ends))
             self._note(
                 each.shard,
                 [
@@ -281,8 +281,8 @@ class Mailboxes:
             raise OtherShards(f"the snapshot has {count} shards and folders {manifest.folders}")
         numbers = range(len(self)) if shard is None else [shard]
         at = self._other_workers(numbers)
-        held = self._started([(at[number], (path, manifest.shards[number].stores)) for number in numbers])
-        for number, each in zip(numbers, held):
+        made = self._started([(at[number], (path, manifest.shards[number].stores)) for number in numbers])
+        for number, each in zip(numbers, made):
             self._shards[number] = each
             self._since[number] = []
             self._lost.pop(number, None)
@@ -292,9 +292,9 @@ class Mailboxes:
 
     def close(self) -> None:
         """Lets all mailboxes go, which were nowhere but in the workers' memory and in snapshots."""
-        for shard, held in enumerate(self._shards):
+        for shard, live in enumerate(self._shards):
             self._lost[shard] = "the mailboxes were closed"
-            held.future.release()
+            live.future.release()
 
     def __enter__(self) -> Mailboxes:
         return self
@@ -330,9 +330,9 @@ class Mailboxes:
         the one that has the fewest then."""
         workers, moved = self._workers(), list(shards)
         load = {worker: 0 for worker in workers}
-        for shard, held in enumerate(self._shards):
-            if shard not in moved and held.worker in load:
-                load[held.worker] += 1
+        for shard, live in enumerate(self._shards):
+            if shard not in moved and live.worker in load:
+                load[live.worker] += 1
         chosen: Dict[int, str] = {}
         for shard in moved:
             others = [worker for worker in workers if worker != self._shards[shard].worker] or workers
@@ -340,17 +340,17 @@ class Mailboxes:
             load[chosen[shard]] += 1
         return chosen
 
-    def _started(self, places: Sequence[Tuple[str, Tuple[Any, ...]]]) -> List[_Held]:
+    def _started(self, wanted: Sequence[Tuple[str, Tuple[Any, ...]]]) -> List[_Live]:
         """Shards on these workers, each with what it is loaded from."""
         width = len(self._folders)
         futures = [
             self._client.submit(
                 Shard, width, *given, actor=True, pure=False, workers=[worker], allow_other_workers=False
             )
-            for worker, given in places
+            for worker, given in wanted
         ]
-        held = []
-        for future, (worker, _) in zip(futures, places):
+        made = []
+        for future, (worker, _) in zip(futures, wanted):
             error = future.exception()
             if error is not None:
                 raise error
@@ -359,16 +359,16 @@ class Mailboxes:
             # Dask makes a call again where its way to the worker broke and the actor seems to be made
             # anew. A proxy without a future of its own does not.
             actor._future = None
-            held.append(_Held(future, actor, actor.born().result(), worker))
-        return held
+            made.append(_Live(future, actor, actor.born().result(), worker))
+        return made
 
     def _sent(self, shard: int, method: str, *given: Any) -> _Sent:
         """A call of a shard's method, on its way, if the shard is not known to be lost."""
-        held = self._shards[shard]
+        live = self._shards[shard]
         if shard in self._lost:
-            return _Sent(shard, held, None)
-        request = Request(held.born, method, given)
-        return _Sent(shard, held, held.actor.run(pickle.dumps(request, pickle.HIGHEST_PROTOCOL)))
+            return _Sent(shard, live, None)
+        request = Request(live.born, method, given)
+        return _Sent(shard, live, live.actor.run(pickle.dumps(request, pickle.HIGHEST_PROTOCOL)))
 
     def _answer(self, sent: _Sent) -> Any:
         """What a call came to. Whatever Dask raises means that it is not known whether it was made."""
@@ -380,18 +380,18 @@ class Mailboxes:
                 break
             except _TIMEOUTS:
                 # Dask leaves some calls to a lost actor without an answer.
-                if sent.held.future.status != "finished" or self._client.status != "running":
+                if sent.live.future.status != "finished" or self._client.status != "running":
                     raise self._noted_lost(sent, "its worker is gone") from None
             except Exception as error:
                 raise self._noted_lost(sent, f"{type(error).__name__}: {error}") from error
-        outcome: Outcome = pickle.loads(answer)
-        if outcome.error is not None:
-            raise outcome.error
-        return outcome.value
+        reply: Reply = pickle.loads(answer)
+        if reply.error is not None:
+            raise reply.error
+        return reply.value
 
     def _noted_lost(self, sent: _Sent, why: str) -> ShardLost:
         """Keeps later calls from a shard that is lost, unless it was restored meanwhile."""
-        if self._shards[sent.shard] is sent.held:
+        if self._shards[sent.shard] is sent.live:
             self._lost.setdefault(sent.shard, why)
         return self._lost_error(sent.shard, why)
 

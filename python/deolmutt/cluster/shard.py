@@ -8,7 +8,7 @@ import uuid
 from typing import Any, Dict, Iterable, Iterator, List, NamedTuple, Optional, Tuple, Union
 
 from .. import errors
-from .._settling import call_many
+from .._settling import Settling, call_many
 from .._tree import MOST_FOLDERS, store_name
 from ..calls import Answer, Call, Copy, Deliver, Entry, Expunge, Move
 from ..errors import DeolmuttError
@@ -29,14 +29,14 @@ class Request(NamedTuple):
     given: Tuple[Any, ...]
 
 
-class Outcome(NamedTuple):
+class Reply(NamedTuple):
     """What a method of a shard came to. A fault of the way to the shard is none of these."""
 
     value: Any
     error: Optional[Exception]
 
 
-class Asked(NamedTuple):
+class UserCall(NamedTuple):
     """A call for a user, whose folders are numbered from 0. `to` is another user to move or copy to."""
 
     user: bytes
@@ -60,6 +60,7 @@ class _Store:
         self.world = World.load(self._heads() if lines is None else lines)
         self.users: Dict[bytes, int] = {user: at * width for at, user in enumerate(users)}
         self.kept: Dict[str, Kept] = dict(_kept_in(lines)) if lines else {}
+        self._settling = Settling(self.world, self._count)
 
     def _heads(self) -> bytes:
         return b"".join(folder_line(store_name(number)) for number in range(self._count))
@@ -77,7 +78,7 @@ class _Store:
         return ended
 
     def deliver(self, folder: int, uniques: List[str], bodies: List[bytes]) -> Dict[int, DeolmuttError]:
-        """Delivers messages to a folder, and answers which were refused, by their places."""
+        """Delivers messages to a folder, and answers which were refused, by their positions."""
         calls: List[Call] = [Deliver(folder, *message) for message in zip(uniques, bodies)]
         refused = {at: end for at, end in enumerate(self._made(calls)) if isinstance(end, DeolmuttError)}
         if refused:
@@ -89,7 +90,7 @@ class _Store:
         ended: List[Ended] = []
         while len(ended) < len(calls):
             try:
-                ended += call_many(self.world, calls[len(ended) :], self.world.settle)
+                ended += call_many(self.world, calls[len(ended) :], self._settle)
             except DeolmuttError as error:
                 ended += [*error.done, error]
                 error.done = ()
@@ -110,12 +111,18 @@ class _Store:
             elif isinstance(call, Expunge):
                 del kept[call.unique]
 
+    def _settle(self) -> None:
+        self._settling.settle(self.lines)
+
     def lines(self) -> Iterator[bytes]:
         """The store's `folder` and `file` lines."""
+        now = int(time.time())
         yield self._heads()
         for number in range(len(self.users) * self._width):
             for entry in self.world.list(number):
-                date, body = self.kept[entry.unique].date, self.world.read(entry.unique)
+                # Amid a batch that settles, what it has delivered so far is not kept yet.
+                kept = self.kept.get(entry.unique)
+                date, body = kept.date if kept else now, self.world.read(entry.unique)
                 yield file_line(store_name(number), entry.place.value, entry.name, date, body)
 
 
@@ -146,7 +153,7 @@ class Shard:
         return self._born
 
     def run(self, request: bytes) -> bytes:
-        """Calls a method, as a pickled `Request` says, and answers a pickled `Outcome`.
+        """Calls a method, as a pickled `Request` says, and answers a pickled `Reply`.
 
         What it raises is answered too, so that what Dask raises is always Dask's own. Pickled, a batch
         is one piece for Dask, which would look at each part of a list.
@@ -155,21 +162,21 @@ class Shard:
         if born != self._born:
             raise OSError("the shard was made anew")
         try:
-            outcome = Outcome(getattr(self, method)(*given), None)
+            reply = Reply(getattr(self, method)(*given), None)
         except Exception as error:
-            outcome = Outcome(None, error)
-        return pickle.dumps(outcome, pickle.HIGHEST_PROTOCOL)
+            reply = Reply(None, error)
+        return pickle.dumps(reply, pickle.HIGHEST_PROTOCOL)
 
     def deliver_many(
         self, user: bytes, folder: int, uniques: List[str], bodies: List[bytes]
     ) -> Dict[int, DeolmuttError]:
-        """Delivers messages of one user, and answers which were refused, by their places. To send an answer
+        """Delivers messages of one user, and answers which were refused, by their positions. To send an answer
         for each would take half as long as to deliver them."""
         store = self._home(user)
         number = self._number(store, user, folder)
         return store.deliver(number, uniques, bodies)
 
-    def call_many(self, asked: List[Asked]) -> List[Ended]:
+    def call_many(self, asked: List[UserCall]) -> List[Ended]:
         """Makes calls of some users, those of one store in their order, and answers how each ended."""
         ended: List[Optional[Ended]] = [None] * len(asked)
         of_stores: Dict[int, Tuple[_Store, List[int], List[Call]]] = {}
@@ -179,11 +186,11 @@ class Shard:
             except DeolmuttError as error:
                 ended[at] = error
                 continue
-            _, places, calls = of_stores.setdefault(id(store), (store, [], []))
-            places.append(at)
+            _, positions, calls = of_stores.setdefault(id(store), (store, [], []))
+            positions.append(at)
             calls.append(call)
-        for store, places, calls in of_stores.values():
-            for at, end in zip(places, store.make(calls)):
+        for store, positions, calls in of_stores.values():
+            for at, end in zip(positions, store.make(calls)):
                 ended[at] = end
         return [end for end in ended if end is not None]
 
@@ -233,7 +240,7 @@ class Shard:
             raise errors.NoFolder()
         return store.users[user] + folder
 
-    def _placed(self, asked: Asked) -> Tuple[_Store, Call]:
+    def _placed(self, asked: UserCall) -> Tuple[_Store, Call]:
         """The store of a call, and the call by the store's own numbers."""
         store, call = self._home(asked.user), asked.call
         placed = call._replace(folder=self._number(store, asked.user, call.folder))
