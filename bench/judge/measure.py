@@ -1,7 +1,10 @@
 #!/usr/bin/env python3
-"""Measures maildir_judge: time on one core, and peak memory, over lawful logs of 10,000, 100,000 and 1,000,000 calls.
+"""Measures maildir_judge: processor time, page faults and peak memory, over lawful logs of 10,000, 100,000 and 1,000,000 calls.
 
     measure.py PROGRAM [CALLS..]
+
+The time is the least of five runs. A message is a unique name that was ever in a folder; its memory is a share of the peak less that over
+an empty log. The program does not hold the log.
 """
 
 import os
@@ -14,6 +17,7 @@ import time
 import logs
 
 SIZES = [10_000, 100_000, 1_000_000]
+TURNS = 5
 
 
 def pin():
@@ -22,12 +26,13 @@ def pin():
         os.sched_setaffinity(0, {max(os.sched_getaffinity(0))})
 
 
-def seconds_of(program, log):
-    """The seconds that the program takes over a log, and its status."""
+def cost_of(program, log):
+    """The seconds of a processor that the program takes over a log, its page faults, and its status."""
     with open(log, 'rb') as stdin:
-        began = time.perf_counter()
-        done = subprocess.run([program], stdin=stdin, stdout=subprocess.DEVNULL, check=False)
-        return time.perf_counter() - began, done.returncode
+        child = subprocess.Popen([program], stdin=stdin, stdout=subprocess.DEVNULL)
+        _, status, used = os.wait4(child.pid, 0)
+        child.returncode = os.waitstatus_to_exitcode(status)
+    return used.ru_utime + used.ru_stime, used.ru_minflt, child.returncode
 
 
 def peak_of(program, log):
@@ -59,11 +64,12 @@ def main():
         for calls in sizes:
             with open(log, 'wb') as file:
                 file.writelines(line + b'\n' for line in logs.lawful(calls))
-            seconds, status = sorted(seconds_of(program, log) for _ in range(3))[1]
+            seconds, faults, status = min(cost_of(program, log) for _ in range(TURNS))
             peak = peak_of(program, log)
             messages = calls // logs.CALLS_A_MESSAGE
             print(f'{calls} calls, {messages} messages, {os.path.getsize(log)} bytes: status {status}, {seconds:.2f} s, '
-                  f'{seconds / calls * 1e6:.2f} us a call, peak {peak} bytes, {(peak - least) / messages:.0f} bytes a message')
+                  f'{seconds / calls * 1e6:.2f} us a call, {faults} page faults, peak {peak} bytes, {(peak - least) / messages:.0f} bytes a '
+                  f'message')
 
 
 main()

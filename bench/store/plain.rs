@@ -474,8 +474,16 @@ fn steps(writers: u64) {
     println!("{least} {made}");
 }
 
+/// The nanoseconds that the flag changes take, with nobody who lists.
+fn undisturbed_writing() -> u64 {
+    let store = store(false);
+    let start = Instant::now();
+    write(&store, 1, 1);
+    start.elapsed().as_nanos() as u64
+}
+
 fn lists() {
-    let (mut alone, mut beside) = (Vec::new(), Vec::new());
+    let (mut alone, mut beside, mut undisturbed, mut held) = (Vec::new(), Vec::new(), Vec::new(), Vec::new());
     for _ in 0..ROUNDS {
         let store = store(false);
         let mut pass = Pass::default();
@@ -485,9 +493,12 @@ fn lists() {
         }
         alone.push(start.elapsed().as_nanos() as u64 / LISTINGS);
         let done = AtomicBool::new(false);
+        let writing = AtomicU64::new(u64::MAX);
         thread::scope(|scope| {
             scope.spawn(|| {
+                let start = Instant::now();
                 write(&store, 1, 1);
+                writing.store(start.elapsed().as_nanos() as u64, Ordering::SeqCst);
                 done.store(true, Ordering::SeqCst);
             });
             let start = Instant::now();
@@ -498,8 +509,11 @@ fn lists() {
             }
             beside.push((start.elapsed().as_nanos() as u64).checked_div(listings).unwrap_or(u64::MAX));
         });
+        held.push(writing.into_inner());
+        undisturbed.push(undisturbed_writing());
     }
-    println!("{} {}", alone.iter().min().unwrap(), beside.iter().min().unwrap());
+    let least = |times: &[u64]| *times.iter().min().unwrap();
+    println!("{} {} {} {}", least(&alone), least(&beside), least(&undisturbed), least(&held));
 }
 
 fn main() {

@@ -13,9 +13,15 @@ from .refused import Refused
 SECONDS_BETWEEN_SAMPLES = 1.0
 
 
+def keeps_work() -> bool:
+    """Whether the gate of this kit keeps what earlier runs passed. Some kits prove all from nothing at each run, and take no `--anew`."""
+    told = subprocess.run(["rt", "help"], stdin=subprocess.DEVNULL, capture_output=True, text=True, errors="replace", check=False)
+    return "--anew" in told.stdout
+
+
 def gate_command(cores: int | None) -> list[str]:
     """The gate from nothing, whatever earlier runs on this machine kept, on the first so many processors alone where a number is given."""
-    gate = ["rt", "ci", "--anew"]
+    gate = ["rt", "ci", *(["--anew"] if keeps_work() else [])]
     return gate if cores is None else ["taskset", "-c", f"0-{cores - 1}", *gate]
 
 
