@@ -7,7 +7,7 @@ from functools import lru_cache
 from typing import Iterable, Iterator, NamedTuple, Optional
 
 from ._names import fresh_unique
-from ._settling import Settling, call_many
+from ._settling import call_many, settle
 from .calls import Answer, Call, Deliver, Expunge, Flag, Place, Seen
 from .errors import BadFlag, Failed, NoSpareFolder, OtherInfo, TooManyJobs
 from .lines import file_line, folder_line
@@ -82,7 +82,6 @@ class Tree:
         self._dates: dict[str, float] = {}
         self._contents: dict[int, dict[str, Message]] = {}
         self._known_changes = world.changes
-        self._settling = Settling(world, len(folders) + len(spare))
 
     # Folders.
 
@@ -249,7 +248,7 @@ class Tree:
                 raise answer
 
     def _settle(self) -> None:
-        self._settling.settle(self._lines)
+        settle(self.world, self._lines)
 
     def _lines(self) -> Iterator[bytes]:
         """The `folder` and `file` lines of all that the world holds."""

@@ -8,7 +8,7 @@ import uuid
 from typing import Any, Dict, Iterable, Iterator, List, NamedTuple, Optional, Tuple, Union
 
 from .. import errors
-from .._settling import Settling, call_many
+from .._settling import call_many, settle
 from .._tree import MOST_FOLDERS, store_name
 from ..calls import Answer, Call, Copy, Deliver, Entry, Expunge, Move
 from ..errors import DeolmuttError
@@ -60,7 +60,6 @@ class _Store:
         self.world = World.load(self._heads() if lines is None else lines)
         self.users: Dict[bytes, int] = {user: at * width for at, user in enumerate(users)}
         self.kept: Dict[str, Kept] = dict(_kept_in(lines)) if lines else {}
-        self._settling = Settling(self.world, self._count)
 
     def _heads(self) -> bytes:
         return b"".join(folder_line(store_name(number)) for number in range(self._count))
@@ -112,7 +111,7 @@ class _Store:
                 del kept[call.unique]
 
     def _settle(self) -> None:
-        self._settling.settle(self.lines)
+        settle(self.world, self.lines)
 
     def lines(self) -> Iterator[bytes]:
         """The store's `folder` and `file` lines."""

@@ -1,5 +1,5 @@
-/* So many calls, given as the argument, in worlds of 1,000 calls each, which settle now and then. Prints the peak of the memory in KiB, which
-   is to be the same for any number of calls. */
+/* So many calls, given as the argument: 1,000 in a world of their own, which is freed, and 1,000 in one world that is kept to the end and
+   settles now and then, in turn. Prints the peak of the memory in KiB, which is to be the same for any number of calls. */
 #include "deolmutt.h"
 
 #include <stdio.h>
@@ -14,6 +14,31 @@ static void must(int is_so, const char *what) {
         fprintf(stderr, "leaks: %s\n", what);
         exit(1);
     }
+}
+
+static void call(deolmutt_world *world, int kind, const char *unique, const char *text, size_t length, int wanted) {
+    deolmutt_answer answer;
+    uint64_t job = 0;
+    must(deolmutt_call(world, kind, 0, (const uint8_t *)unique, strlen(unique), 0, (const uint8_t *)text, length, NULL, 0, 7, 9, NULL, &job,
+                       &answer) == DEOLMUTT_OK, unique);
+    must(answer.kind == wanted, unique);
+}
+
+/* Messages that come and go, four calls each, beside one that stays. */
+static void calls_of_the_kept_world(deolmutt_world *world, long from) {
+    uint64_t job = 0;
+    char unique[24];
+    long at;
+    for (at = from; at < from + EACH / 4; at++) {
+        sprintf(unique, "kept%ld", at);
+        call(world, DEOLMUTT_DELIVER, unique, "Subject: x\n", 11, DEOLMUTT_DELIVERED);
+        if (at == 0)
+            continue;
+        call(world, DEOLMUTT_SEEN, unique, "S", 1, DEOLMUTT_FLAGS);
+        call(world, DEOLMUTT_FLAG, unique, "T", 1, DEOLMUTT_FLAGS);
+        call(world, DEOLMUTT_EXPUNGE, unique, NULL, 0, DEOLMUTT_EXPUNGED);
+    }
+    must(deolmutt_settle(world, &job) == DEOLMUTT_OK && job == 0, "settle");
 }
 
 static void calls_of_a_world(void) {
@@ -49,12 +74,17 @@ static void calls_of_a_world(void) {
 }
 
 int main(int count, char **words) {
-    long left = count > 1 ? atol(words[1]) : EACH;
+    long left = count > 1 ? atol(words[1]) : 2 * EACH, from;
     struct rusage used;
-    while (left > 0) {
+    deolmutt_world *kept = NULL;
+    uint64_t line = 0;
+    must(deolmutt_load((const uint8_t *)"folder a\n", 9, &kept, &line) == DEOLMUTT_OK, "load");
+    for (from = 0; left > 0; from += EACH / 4) {
         calls_of_a_world();
-        left -= EACH;
+        calls_of_the_kept_world(kept, from);
+        left -= 2 * EACH;
     }
+    must(deolmutt_free(kept) == DEOLMUTT_OK, "free");
     getrusage(RUSAGE_SELF, &used);
     printf("%ld\n", used.ru_maxrss);
     return 0;
