@@ -53,6 +53,29 @@ pub fn split(name: &[u8]) -> Option<(&[u8], Info)>
     Some((unique, info))
 }
 
+/// The unique part of a message's name, where nobody asks for the info: the first part of what `split`
+/// gives.
+#[tactic(auto, unfolding(crate::specs::Names::is_message_name))]
+pub fn message_unique(name: &[u8]) -> Option<&[u8]>
+    ensures { option_map (λ unique. unique.now) result ≡ option_map (λ parts. parts.0) (split_of name.now) }
+{
+    let unique = unique_part(name);
+    if unique.is_empty() || name.starts_with(b".") {
+        return None;
+    }
+    Some(unique)
+}
+
+/// What stands before the first colon, or all of a name without one.
+fn unique_part(name: &[u8]) -> &[u8]
+    ensures { result.now ≡ unique_of name.now }
+{
+    match first_colon(name) {
+        Some(at) => &name[..at],
+        None => name,
+    }
+}
+
 /// The parts of any name.
 fn parts(name: &[u8]) -> (&[u8], Info)
     ensures unique { result.0.now ≡ unique_of name.now }

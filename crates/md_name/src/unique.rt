@@ -80,13 +80,12 @@ fn is_maildir_unique(name: &[u8]) -> bool
     !name.is_empty() && !name.starts_with(b".") && !name.contains(&COLON) && !name.contains(&SLASH)
 }
 
-/// Whether NUL, LF or CR is among the bytes.
-fn holds_terminator(bytes: &[u8]) -> bool
+/// Whether NUL, LF or CR is among the bytes, of which none may stand in a name or a host.
+pub fn holds_terminator(bytes: &[u8]) -> bool
     ensures { result ≡ list_any is_terminator bytes.now }
 {
-    bytes
-        .iter()
-        .any(|byte| matches!(*byte, b'\0' | b'\n' | b'\r'))
+    // One byte is looked for after the other, since each look goes by many bytes at once.
+    bytes.contains(&b'\0') | bytes.contains(&b'\n') | bytes.contains(&b'\r')
 }
 
 /// Whether a made name may have the host. Once escaped it's no shorter, so a longer one is out at once.

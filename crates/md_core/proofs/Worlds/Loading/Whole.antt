@@ -11,7 +11,7 @@ use Rattle.md_core.specs.declared.world.looking.Seen.{Seen}
 use Rattle.md_core.specs.Looking.{IsLookOf, is_message_of, is_tmp_of, entries_before}
 use Rattle.md_core.specs.Submitting.{uses}
 use Rattle.md_core.specs.Used.{is_among}
-use Rattle.md_core.proofs.Lists.Any.{either_first}
+use Rattle.md_name.proofs.Either.{either_first}
 use Rattle.md_core.proofs.Worlds.Loading.Order.{before-none}
 use Rattle.md_core.proofs.Worlds.Loading.Faults.{or_none}
 
