@@ -12,7 +12,7 @@ use Rattle.md_log.specs.declared.error.LineFault.TheVariants.{BadLine}
 use Rattle.md_log.specs.Bind.{◌>>=◌}
 use Rattle.md_log.specs.Words.{Rest, word_at, cut_at, nonempty_word, is_space}
 use Rattle.md_log.specs.Names.{after_names, name_of, names_of, names_at}
-use Rattle.md_log.proofs.Cuts.{any_by_place, place_within}
+use Rattle.md_name.proofs.Firsts.{any_by_place, place_within}
 
 -- how much is left of a line
 abbrev pub size_of : Rest → ℕ

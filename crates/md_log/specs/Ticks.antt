@@ -1,5 +1,5 @@
 -- When a step took effect.
-use Rattle.std.specs.Prelude.{ℕ, List, length, nat_le, nat_lt, not, Option, Some, None, Result, Ok, Err, if◌then◌else◌, slice_index}
+use Rattle.std.specs.Prelude.{ℕ, List, length, nat_le, nat_lt, not, Some, None, Result, Ok, Err, if◌then◌else◌, slice_index}
 use Rattle.std.specs.Char.{is_ascii_digit}
 use Rattle.md_log.specs.declared.error.LineFault.{LineFault}
 use Rattle.md_log.specs.declared.error.LineFault.TheVariants.{BadLine, BadNumber}

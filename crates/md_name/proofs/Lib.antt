@@ -2,6 +2,7 @@ pub mod Bits
 pub mod Colons
 pub mod Digits
 pub mod Either
+pub mod Firsts
 pub mod Flagged
 pub mod Hosts
 pub mod Made

@@ -2,11 +2,10 @@
 use Rattle.std.proofs.Common.{◌≡◌, ℕ, ◌+◌, List, [], ◌∷◌, ◌++◌, Option, Some, None, Result, Ok, Err, is_some, true, false, refl, ap, ◌∙◌, sym, append-nil, append_assoc}
 use Rattle.md_script.specs.declared.error.PlayKind.{PlayKind}
 use Rattle.md_script.specs.declared.error.PlayError.{PlayError}
-use Rattle.md_script.specs.declared.run.Printed.{Printed}
 use Rattle.md_script.specs.declared.run.Progress.{Progress}
 use Rattle.md_script.specs.Printed.{Tells}
 use Rattle.md_script.specs.Step.{line_step}
-use Rattle.md_script.specs.Transcript.{Transcript, run_from, with_text_before, go_on}
+use Rattle.md_script.specs.Transcript.{Transcript, run_from, go_on}
 use Rattle.md_script.specs.Progress.{outcome, outcome_by, usable, session_unless, IsFresh}
 
 module _ {S : Type 0} (step : S → List ℕ → Result (S × List ℕ) PlayKind) (r : Option PlayError) (none : r ≡ None)

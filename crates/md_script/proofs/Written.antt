@@ -1,13 +1,12 @@
 -- Flags that stand in a name as they print.
 use Rattle.std.proofs.Common.{ℕ, zero, suc, ◌≡◌, ◌+◌, ◌-◌, ◌<◌, ◌≤◌, Bool, true, false, cond, T, not, ◌&&◌, List, [], ◌∷◌, Option, Some, None, is_some, map, filter, length, get_or, take, drop, refl, sym, ap, subst, ◌∙◌, arith, lt-ltb, below_more, length-take-le}
-use Rattle.std.specs.Prelude.{nat_eq, nat_lt, codes, position}
-use Rattle.std.specs.List.{list_any, list_all, starts_with, position_or_len}
+use Rattle.std.specs.Prelude.{nat_eq, codes, position}
+use Rattle.std.specs.List.{list_any, list_all, starts_with}
 use Rattle.std.specs.Ordering.{nat_cmp, eq_by_cmp}
 use Rattle.std.specs.Cmp.{nat_cmp_total}
 use Rattle.std.specs.FinSet as set
 use Rattle.std.specs.FinMap.Entries.{find, where_key, below_all, is_sorted, is_sorted-where_key, is_some-find, same_entries}
 use Rattle.std.specs.declared.cmp.Ordering.TheVariants.{Less, Equal, Greater}
-use Rattle.std.proofs.lemmas.Bool.Decides.{nat_tests}
 use Rattle.std.proofs.lemmas.List.Sums.{position_or_len_is}
 use Rattle.memchr.specs.Find.{Nowhere, NoneBefore, Passes, is_byte}
 use Rattle.md_name.specs.declared.info.Info.{Info}
@@ -15,6 +14,7 @@ use Rattle.md_name.specs.declared.info.Info.TheVariants.{Two, Opaque}
 use Rattle.md_name.specs.Letters.{is_letter, letters, Set, spelling}
 use Rattle.md_name.specs.Names.{begins_with_dot, unique_of, info_of, info_by, flags_of, split_of, is_message_name}
 use Rattle.md_name.proofs.Colons.{unique_of-found, info_of-found, unique_of-not_found, info_of-not_found}
+use Rattle.md_name.proofs.Firsts.{placed, unplaced}
 use Rattle.md_name.proofs.Flagged.{from_list-spelling}
 use Rattle.md_name.proofs.Sets.{IsOfLetters-from_list}
 use Rattle.md_view.proofs.Keyed.{both, first, second, less, is_less}
@@ -116,15 +116,6 @@ written text letters starts is all rises =
     ∙ ap letters_text (ap (λ (xs : List ℕ). spelling (set.from_list xs)) (sym is) ∙ spelled letters all rises)
 
 -- a name that a colon stands in, at the first place where a search finds it, and one where it finds none
-placed : (p : ℕ → Bool) (xs : List ℕ) (at : ℕ) → at < length xs → position_or_len p xs ≡ at → position p xs ≡ Some at
-placed p xs at within is =
-    (λ i. cond (nat_lt (is i) (length xs)) (Some (is i)) None) ∙ ap (λ b. cond b (Some at) None) (lt-ltb at (length xs) within)
-
-unplaced : (p : ℕ → Bool) (xs : List ℕ) → position_or_len p xs ≡ length xs → position p xs ≡ None
-unplaced p xs is =
-    let never : nat_lt (position_or_len p xs) (length xs) ≡ false = grind (arith, nat_tests) in
-    ap (λ b. cond b (Some (position_or_len p xs)) None) never
-
 message : (name : List ℕ) → begins_with_dot name ≡ false → 0 < length (unique_of name) → is_message_name name ≡ true
 unfolding is_message_name
 message name dotless some = λ i. not (dotless i) && lt-ltb 0 (length (unique_of name)) some i

@@ -1,6 +1,6 @@
 pub mod Keyed
 pub mod Merged
-pub mod Colons
+pub mod Parts
 pub mod Readings
 pub mod MadeOf
 pub mod Paths

@@ -1,17 +1,12 @@
 // What a listing shows of a message.
-ghost use Rattle.std.specs.Prelude.{◌≡◌, true, false, IfOk, MatchOption};
-ghost use Rattle.md_name.specs.Names.{is_message_name, unique_of};
+ghost use Rattle.std.specs.Prelude.{◌≡◌, IfOk};
 ghost use Rattle.md_dirs.specs.Rows.{row_shown};
 ghost use Rattle.md_view.specs.Rows.{entry_of_row};
 
 use md_dirs::{Place, RowRef};
-use md_name::Bytes;
-use memchr::memchr;
+use md_name::{Bytes, message_unique};
 use std::alloc::{AllocError, Global};
 use std::marker::Model;
-
-/// The byte that ends the unique part of a name.
-const COLON: u8 = b':';
 
 /// What a listing shows of a message: its unique name, whether it is in new or cur, its whole file name, and its size in bytes.
 #[derive(Debug, PartialEq, Drop)]
@@ -119,39 +114,17 @@ impl<'a> EntryRef<'a> {
     }
 
     // The entry of a row of a directory, if it is a message's.
+    #[tactic(auto, using(crate::proofs::Parts::entry_by))]
     pub(crate) fn of_row(place: Place, row: RowRef<'a>) -> Option<EntryRef<'a>>
         ensures { result ≡ entry_of_row place (row_shown row.entry) }
     {
-        let Some(unique) = message_unique(row.name) else {
-            return None;
-        };
+        let unique = message_unique(row.name)?;
         Some(EntryRef {
             unique,
             place,
             name: row.name,
             size: row.size,
         })
-    }
-}
-
-// The unique part of a message's name. `md_name::split` reads the info too, which no entry needs.
-#[tactic(auto, unfolding(md_name::specs::Names::is_message_name))]
-fn message_unique(name: &[u8]) -> Option<&[u8]>
-    ensures { MatchOption result (is_message_name name.now ≡ false) (λ unique. (is_message_name name.now ≡ true) × (unique.now ≡ unique_of name.now)) }
-{
-    let unique = unique_part(name);
-    if unique.is_empty() || name.starts_with(b".") {
-        return None;
-    }
-    Some(unique)
-}
-
-fn unique_part(name: &[u8]) -> &[u8]
-    ensures { result.now ≡ unique_of name.now }
-{
-    match memchr(COLON, name) {
-        Some(at) => &name[..at],
-        None => name,
     }
 }
 

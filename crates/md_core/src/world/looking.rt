@@ -13,7 +13,7 @@ ghost use Rattle.md_core.specs.Used.{is_among};
 use crate::error::CoreError;
 use crate::used::{NameSet, UsedNames};
 use md_dirs::{Dirs, Place, RowRef};
-use md_name::split;
+use md_name::{holds_terminator, split};
 use std::alloc::{AllocError, Global};
 
 /// The longest file name of the usual systems, in bytes.
@@ -104,12 +104,11 @@ impl Seen {
     }
 }
 
-// Whether a file name holds what none may. One byte is looked for after the other, since each look goes by many bytes at once.
+// Whether a file name holds what none may.
 fn holds_separator(name: &[u8]) -> bool
     ensures { result ≡ list_any (λ b. is_slash b || is_terminator b) name.now }
 {
-    let terminator = name.contains(&b'\0') | name.contains(&b'\n') | name.contains(&b'\r');
-    name.contains(&b'/') | terminator
+    name.contains(&b'/') | holds_terminator(name)
 }
 
 // Whether no file has the name.

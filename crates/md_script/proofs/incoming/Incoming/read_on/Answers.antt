@@ -1,4 +1,4 @@
-use Rattle.std.proofs.Common.{◌≡◌, ◌+◌, ◌≤◌, [], ◌++◌, length, take, drop, ap, subst, ◌∙◌, arith, length-drop}
+use Rattle.std.proofs.Common.{◌+◌, ◌≤◌, [], ◌++◌, length, take, drop, ap, subst, ◌∙◌, arith, length-drop}
 use Rattle.std.proofs.lemmas.List.{length-take-le}
 use Rattle.md_head.specs.Header.{lines_of}
 use Rattle.md_script.specs.Progress.{outcome}

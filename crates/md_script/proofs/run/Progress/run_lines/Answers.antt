@@ -1,5 +1,4 @@
-use Rattle.std.proofs.Common.{◌+◌, ◌∙◌, ap, sym, arith}
-use Rattle.md_head.specs.Header.{lines_of}
+use Rattle.std.proofs.Common.{◌+◌, ◌∙◌, arith}
 use Rattle.md_script.proofs.Runs.{outcome_more, outcome_refused}
 use Rattle.md_script.proofs.run.Progress.run_lines.Goals as goal
 

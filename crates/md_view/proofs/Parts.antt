@@ -1,0 +1,21 @@
+-- The entry of a row, from the unique part of its name.
+use Rattle.std.proofs.Common.{◌≡◌, ◌∙◌, ℕ, None, Some, Option, List, refl, ap}
+use Rattle.std.specs.Option.{option_map}
+use Rattle.md_dirs.specs.declared.paths.Place.{Place}
+use Rattle.md_dirs.specs.declared.rows.Row.{Row}
+use Rattle.md_name.specs.declared.info.Info.{Info}
+use Rattle.md_name.specs.Names.{split_of}
+use Rattle.md_view.specs.declared.entry.Entry.{Entry}
+use Rattle.md_view.specs.Rows.{entry_of_row}
+
+abbrev entry_with : Place → Row → List ℕ → Entry
+entry_with place row unique = record { unique = unique; place = place; name = row.name; size = row.size }
+
+by_parts : (place : Place) (row : Row) (parts : Option (List ℕ × Info))
+    → option_map (entry_with place row) (option_map (λ (p : List ℕ × Info). p.0) parts) ≡ option_map (λ (p : List ℕ × Info). entry_with place row p.0) parts
+by_parts place row None = refl
+by_parts place row (Some p) = refl
+
+pub entry_by : (place : Place) (row : Row) (unique : Option (List ℕ)) → unique ≡ option_map (λ (p : List ℕ × Info). p.0) (split_of row.name)
+    → option_map (entry_with place row) unique ≡ entry_of_row place row
+entry_by place row unique is = ap (option_map (entry_with place row)) is ∙ by_parts place row (split_of row.name)
