@@ -10,11 +10,12 @@ import unittest
 from support import PYTHON, needs_library
 
 CALLS = int(os.environ.get("DEOLMUTT_CALLS", "200000"))
-# Where the peak of some calls is taken: the mailbox is loaded anew at least once before.
+# Where the peak of some calls is taken.
 SOME = 100_000
-# The process grows by what the allocator and Python keep as holes. What is in use does not grow: not by a byte for each of eight calls.
+# The process grows by what the allocator and Python keep as holes. What is in use grows by the 24 bytes that directories keep of 64 files
+# that are gone, in a row that doubles where it is full: by less than a byte for each of four calls.
 MOST_GROWTH_KIB = 4096
-MOST_GROWTH_IN_USE = 1 / 8
+MOST_GROWTH_IN_USE = 1 / 4
 
 # Delivers, flags, reads and removes messages; the store settles by itself. After some calls and after all it prints the peaks so far: of the
 # process, in KiB; of what the C library's allocator has given out, in bytes, 0 where it doesn't say; and how many blocks Python has.
@@ -67,7 +68,7 @@ class MemoryTest(unittest.TestCase):
         process, in_use, blocks = (after - before for before, after in zip(some, all_of_them))
         self.assertLess(process, MOST_GROWTH_KIB, "KiB")
         self.assertLess(in_use, (CALLS - SOME) * MOST_GROWTH_IN_USE, "bytes given out")
-        self.assertLess(blocks, (CALLS - SOME) * MOST_GROWTH_IN_USE / 100, "blocks of Python's")
+        self.assertLess(blocks, (CALLS - SOME) * MOST_GROWTH_IN_USE / 200, "blocks of Python's")
 
 
 if __name__ == "__main__":
