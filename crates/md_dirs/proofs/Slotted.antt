@@ -1,5 +1,5 @@
 -- Files in blocks, and the list that they are.
-use Rattle.std.proofs.Common.{ℕ, zero, suc, ◌≡◌, ◌+◌, ◌-◌, ◌*◌, ◌/◌, ◌%◌, ◌<◌, ◌≤◌, ◌++◌, List, [], ◌∷◌, Option, Some, None, Bool, true, false, ◌&&◌, refl, sym, ap, subst, ◌∙◌, arith, length, get_or, slice_get, slice_set, reverse, flat_map, is_none, append_assoc, append-nil}
+use Rattle.std.proofs.Common.{ℕ, zero, suc, ◌≡◌, ◌+◌, ◌-◌, ◌*◌, ◌/◌, ◌%◌, ◌<◌, ◌≤◌, ◌++◌, List, [], ◌∷◌, Option, Some, None, Bool, true, false, ◌&&◌, refl, sym, ap, subst, ◌∙◌, arith, length, get_or, slice_get, slice_set, reverse, is_none, append_assoc, append-nil}
 use Rattle.std.proofs.Common.{length-append}
 use Rattle.std.specs.List.{list_all}
 use Rattle.std.proofs.lemmas.List.{set-append_left, set-append_right, reverse-append}
@@ -62,12 +62,6 @@ module _ {X : Type 0} where
   at-right (x ∷ xs) ys i =
       ap (at (x ∷ (xs ++ ys))) (let e : length (x ∷ xs) + i ≡ suc (length xs + i) = omega arith in e) ∙ at-right xs ys i
 
-  -- no place is behind all
-  set-past : (xs : List (Option X)) (i : ℕ) (x : Option X) → length xs ≤ i → slice_set xs i x ≡ xs
-  set-past [] i x h = refl
-  set-past (y ∷ ys) zero x h = absurd (omega arith)
-  set-past (y ∷ ys) (suc i) x h = ap (λ zs. y ∷ zs) (set-past ys i x (omega arith))
-
   -- all from behind is all
   list_all-end : (p : Option X → Bool) (xs : List (Option X)) (x : Option X) → list_all p (xs ++ x ∷ []) ≡ true → (list_all p xs ≡ true) × (p x ≡ true)
   list_all-end p [] x h = (refl, ends (p x) h)
@@ -112,9 +106,12 @@ set-places : (xs : List (Option Kept)) (i : ℕ) (f : Option Kept → Option Kep
 unfolding places
 set-places xs i f none = set-padded 64 xs i f none
 
--- nothing changes behind all places of a block
-pub set-none : (xs : List (Option Kept)) (i : ℕ) (f : Option Kept → Option Kept) → length xs ≤ i → slice_set xs i (f (slot_at xs i)) ≡ xs
-set-none xs i f h = set-past xs i (f (slot_at xs i)) h
+-- where there is no file, nothing changes
+pub set-absent : (f : Option Kept → Option Kept) → f None ≡ None → (xs : List (Option Kept)) (i : ℕ) → slot_at xs i ≡ None →
+    slice_set xs i (f (slot_at xs i)) ≡ xs
+set-absent f none [] i is = refl
+set-absent f none (x ∷ xs) zero is = ap (λ y. y ∷ xs) (ap f is ∙ none ∙ sym is)
+set-absent f none (x ∷ xs) (suc i) is = ap (λ ys. x ∷ ys) (set-absent f none xs i is)
 
 module _ {Z : Type 0} where
   pub length-blocks : (bs : List (Vec (Option Kept) Z)) → length (in_blocks bs) ≡ 64 * length bs

@@ -1,4 +1,4 @@
-use Rattle.std.proofs.Common.{◌≡◌, ◌/◌, ◌++◌, Result, Ok, Err, OnOk, OnErr, ap, refl, arith}
+use Rattle.std.proofs.Common.{◌/◌, ◌++◌, Result, Ok, Err, OnOk, OnErr, ap, refl, arith}
 use Rattle.md_dirs.specs.Files.{grown_slot}
 use Rattle.md_dirs.specs.Places.{places}
 use Rattle.md_dirs.proofs.Slotted.{changed-block, changed-tail, kept-block}
