@@ -8,11 +8,14 @@ use crate::files::{Kept, grow_slot, release_slot};
 use std::alloc::{AllocError, Global};
 use std::mem::replace;
 
-// How many files a block has. Where all of them are gone, their block is 24 bytes.
+// How many files a block has. Small, so that a few files that stay keep little room for those that are gone; and large, so that
+// the 24 bytes of a block of none are little.
 const BLOCK: usize = 64;
 
-/// The files by their numbers. A file that is gone keeps its place, since no number is used again; but a block whose files are
-/// all gone keeps no room for them.
+/// The files by their numbers. No number is used again, so a file that is gone keeps its place; but a block whose files are all
+/// gone is empty, and keeps no room for them.
+///
+/// A file comes into the tail, which is a block once it has as many as one.
 #[derive(Drop)]
 pub struct Slots {
     alloc: Global,

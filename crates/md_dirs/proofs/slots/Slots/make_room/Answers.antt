@@ -8,4 +8,4 @@ returns-clause-number c =
     let s = c.args.self.now in
     let blocks = length-blocks s.blocks.items in
     let sum = length-append (in_blocks s.blocks.items) s.tail.items in
-    grind (arith, blocks, sum, s.blocks.ok.0, s.tail.ok.0, c.len.ensures, c.len-2.ensures, c.checked_mul.ensures, c.checked_add.ensures, c.in_ok-before.ensures.value, c.in_ok-number.ensures.value)
+    grind (arith, blocks, sum)
