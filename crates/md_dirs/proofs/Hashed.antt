@@ -27,12 +27,6 @@ use Rattle.md_dirs.proofs.Sound.{by_path, by_number, file-within, sound-bare, so
 use Rattle.md_dirs.proofs.Steps.{lt_true, link-refusal, rename-refusal}
 use Rattle.md_dirs.proofs.Counted.{hits, paths-insert, paths-remove, map-set, length-files, file-slot, slot-set_same, slot-set_other, slot-last, slot-early, held-none, let_go-counted, let_go-files}
 
--- a slot that is read at its number
-pub slot-read : (slots : List (Option Kept)) (n : ℕ) (slot : Option Kept) → n < length slots → slot ≡ get_or slots n slot → slot_at slots n ≡ slot
-slot-read [] n slot within is = absurd (omega arith)
-slot-read (s ∷ ss) zero slot within is = sym is
-slot-read (s ∷ ss) (suc n) slot within is = slot-read ss n slot (omega arith) is
-
 one-hit : (n m : ℕ) → n ≡ m → hits n (Some m) ≡ 1
 one-hit n m same = let t : (m == n) ≡ true = grind (arith, nat_tests) in ap (λ b. cond b 1 0) t
 
@@ -139,34 +133,31 @@ module _ (folders : ℕ) (names : PathMap) (slots : List (Option Kept)) (whole :
   grown-names more now None = refl
   grown-names more now (Some k) = refl
 
-  grown-is : (p : Path) (more : List ℕ) (now n : ℕ) (slot : Option Kept) → finmap.get names p ≡ Some n → slot ≡ get_or slots n slot →
-      kept_state folders names (slice_set slots n (grown_slot more now slot)) ≡ after_append more now start (file_at start p)
-  grown-is p more now n slot at read =
-      let is = slot-read slots n slot (slot-number p n at) read in
+  grown-is : (p : Path) (more : List ℕ) (now n : ℕ) → finmap.get names p ≡ Some n →
+      kept_state folders names (slice_set slots n (grown_slot more now (slot_at slots n))) ≡ after_append more now start (file_at start p)
+  grown-is p more now n at =
       (λ i. record start {
-        files = (map-set (option_map (λ (k : Kept). k.file)) slots n (grown_slot more now slot)
-            ∙ ap (slice_set (files_of slots) n) (grown-file more now slot ∙
-            ap (file_with_more more now) (ap (option_map (λ (k : Kept). k.file)) (sym is) ∙ sym (file-slot slots n)))) i;
+        files = (map-set (option_map (λ (k : Kept). k.file)) slots n (grown_slot more now (slot_at slots n))
+            ∙ ap (slice_set (files_of slots) n) (grown-file more now (slot_at slots n) ∙ ap (file_with_more more now) (sym (file-slot slots n)))) i;
       })
       ∙ ap (after_append more now start) (sym at)
 
-  pub append-done : (p : Path) (more : List ℕ) (now n : ℕ) (slot : Option Kept) (k k' : ℕ) → finmap.get names p ≡ Some n → slot ≡ get_or slots n slot →
-      k' ≡ k + 1 →
-      Obeys {T = Unit {0}} (append p more now) (sure start k) (Ok tt) (sure (kept_state folders names (slice_set slots n (grown_slot more now slot))) k')
-  append-done p more now n slot k k' at read counted =
-      made _ _ _ _ k k' (ap (λ x. cond (is_some x) None (Some NotFound)) at) (grown-is p more now n slot at read) counted
+  pub append-done : (p : Path) (more : List ℕ) (now n k k' : ℕ) → finmap.get names p ≡ Some n → k' ≡ k + 1 →
+      Obeys {T = Unit {0}} (append p more now) (sure start k) (Ok tt)
+      (sure (kept_state folders names (slice_set slots n (grown_slot more now (slot_at slots n)))) k')
+  append-done p more now n k k' at counted =
+      made _ _ _ _ k k' (ap (λ x. cond (is_some x) None (Some NotFound)) at) (grown-is p more now n at) counted
 
-  pub counted-grown : (p : Path) (more : List ℕ) (now n : ℕ) (slot : Option Kept) → finmap.get names p ≡ Some n → slot ≡ get_or slots n slot →
-      IsCounted folders names (slice_set slots n (grown_slot more now slot))
-  counted-grown p more now n slot at read = record {
-    sound = subst IsSound (sym (grown-is p more now n slot at read)) (sound-appended start whole.sound more now (file_at start p));
+  pub counted-grown : (p : Path) (more : List ℕ) (now n : ℕ) → finmap.get names p ≡ Some n →
+      IsCounted folders names (slice_set slots n (grown_slot more now (slot_at slots n)))
+  counted-grown p more now n at = record {
+    sound = subst IsSound (sym (grown-is p more now n at)) (sound-appended start whole.sound more now (file_at start p));
     counted = λ m. whole.counted m ∙ by_number m n
         (λ same.
-        let is = slot-read slots n slot (slot-number p n at) read in
-        ap (λ k. names_held (slot_at slots k)) same ∙ ap names_held is ∙ sym (grown-names more now slot)
-        ∙ sym (ap (λ k. names_held (slot_at (slice_set slots n (grown_slot more now slot)) k)) same ∙
-        ap names_held (slot-set_same slots n (grown_slot more now slot) (slot-number p n at))))
-        (λ differ. sym (ap names_held (slot-set_other slots n m (grown_slot more now slot) differ)));
+        ap (λ k. names_held (slot_at slots k)) same ∙ sym (grown-names more now (slot_at slots n))
+        ∙ sym (ap (λ k. names_held (slot_at (slice_set slots n (grown_slot more now (slot_at slots n))) k)) same ∙
+        ap names_held (slot-set_same slots n (grown_slot more now (slot_at slots n)) (slot-number p n at))))
+        (λ differ. sym (ap names_held (slot-set_other slots n m (grown_slot more now (slot_at slots n)) differ)));
   }
 
   -- one more name
@@ -328,11 +319,11 @@ module _ (folders : ℕ) (names : PathMap) (slots : List (Option Kept)) (whole :
       ap (λ rows. slice_get rows i) (sym (rows-shown folder place))
 
   -- the bytes of a path's file
-  pub slot-bytes : (p : Path) (n : ℕ) (slot : Option Kept) → finmap.get names p ≡ Some n → slot ≡ get_or slots n slot →
+  pub slot-bytes : (p : Path) (n : ℕ) (slot : Option Kept) → finmap.get names p ≡ Some n → slot ≡ slot_at slots n →
       option_map (λ (k : Kept). k.file.bytes) slot ≡ bytes_at_path start p
   slot-bytes p n slot at read =
       let file : file_by (files_of slots) n ≡ option_map (λ (k : Kept). k.file) slot =
-      file-slot slots n ∙ ap (option_map (λ (k : Kept). k.file)) (slot-read slots n slot (slot-number p n at) read) in
+      file-slot slots n ∙ ap (option_map (λ (k : Kept). k.file)) (sym read) in
       twice slot ∙ sym (ap (λ o. option_map (λ (f : File). f.bytes) (option_and_then (file_by (files_of slots)) o)) at ∙
       ap (option_map (λ (f : File). f.bytes)) file)
     where

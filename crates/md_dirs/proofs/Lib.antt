@@ -19,3 +19,4 @@ pub mod Looked
 pub mod Blocked
 pub mod Keys
 pub mod Keyed
+pub mod Slotted

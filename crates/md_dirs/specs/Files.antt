@@ -46,6 +46,11 @@ abbrev pub named_again : Option Kept → Option Kept
 named_again None = None
 named_again (Some k) = Some (record k { names = k.names + 1 })
 
+-- a file with so many names
+abbrev pub with_names : ℕ → Option Kept → Option Kept
+with_names names None = None
+with_names names (Some k) = Some (record k { names = names })
+
 -- a file with one name less, or none where that was its last
 abbrev pub named_less : Option Kept → Option Kept
 named_less None = None

@@ -9,6 +9,8 @@ pub mod Plain
 pub mod Failing
 pub mod Index
 pub mod Files
+pub mod Places
+pub mod Slots
 pub mod Find
 pub mod NameKey
 pub mod Positions

@@ -3,9 +3,11 @@ ghost use Rattle.std.specs.Prelude.{◌≡◌, ◌<◌, [], ◌∷◌, ◌++◌,
 ghost use Rattle.std.specs.FinMap as finmap;
 ghost use Rattle.md_dirs.specs.Index.{PathMap};
 ghost use Rattle.md_dirs.specs.Files.{slot_at, named_again};
+ghost use Rattle.md_dirs.specs.Slots.{slots_of};
 
 use crate::files::Kept;
 use crate::paths::{File, Path};
+use crate::slots::Slots;
 use std::alloc::{AllocError, Global};
 
 /// Paths, each with the number of its file.
@@ -21,43 +23,41 @@ pub trait Paths {
 // Adds a file at the end of the files, with a path as its one name.
 pub fn add_file<N: Paths>(
     names: &mut N,
-    slots: &mut Vec<Option<Kept>>,
+    slots: &mut Slots,
     alloc: Global,
     path: Path,
     file: File,
 ) -> Result<(), AllocError>
-    ensures names { OnOk result (N.names names.new ≡ finmap.insert (N.names names.old) path (length slots.old.items)) }
-    ensures slots { OnOk result (slots.new.items ≡ slots.old.items ++ Some (record { file = file; names = 1 }) ∷ []) }
+    ensures names { OnOk result (N.names names.new ≡ finmap.insert (N.names names.old) path (length (slots_of slots.old))) }
+    ensures slots { OnOk result (slots_of slots.new ≡ slots_of slots.old ++ Some (record { file = file; names = 1 }) ∷ []) }
     ensures same_names { OnErr result (N.names names.new ≡ N.names names.old) }
-    ensures same_slots { OnErr result (slots.new.items ≡ slots.old.items) }
+    ensures same_slots { OnErr result (slots_of slots.new ≡ slots_of slots.old) }
 {
-    slots.reserve(1)?;
-    let number = slots.len();
+    let number = slots.make_room()?;
     names.put(alloc, path, number)?;
-    slots.push(Some(Kept { file, names: 1 }))?;
+    slots.push(Kept { file, names: 1 });
     Ok(())
 }
 
 // Gives a file one more name. Where memory is wanting, its count is as it was.
 pub fn add_name<N: Paths>(
     names: &mut N,
-    slots: &mut Vec<Option<Kept>>,
+    slots: &mut Slots,
     alloc: Global,
     path: Path,
     file: usize,
 ) -> Result<(), AllocError>
-    requires { file < length slots.old.items }
+    requires { file < length (slots_of slots.old) }
     ensures names { OnOk result (N.names names.new ≡ finmap.insert (N.names names.old) path file) }
-    ensures slots { OnOk result (slots.new.items ≡ slice_set slots.old.items file (named_again (slot_at slots.old.items file))) }
+    ensures slots { OnOk result (slots_of slots.new ≡ slice_set (slots_of slots.old) file (named_again (slot_at (slots_of slots.old) file))) }
     ensures same_names { OnErr result (N.names names.new ≡ N.names names.old) }
-    ensures same_slots { OnErr result (slots.new.items ≡ slots.old.items) }
+    ensures same_slots { OnErr result (slots_of slots.new ≡ slots_of slots.old) }
 {
-    let slot = &mut slots[file];
-    let Some(kept) = slot else {
+    let Some(kept) = slots.get(file) else {
         return names.put(alloc, path, file);
     };
     let more = kept.names.checked_add(1).ok_or(AllocError)?;
     names.put(alloc, path, file)?;
-    kept.names = more;
+    slots.set_names(file, more);
     Ok(())
 }

@@ -4,9 +4,11 @@ ghost use Rattle.md_dirs.specs.State.{file_by};
 ghost use Rattle.md_dirs.specs.Calls.{is_one_file};
 ghost use Rattle.md_dirs.specs.Rows.{row_shown, row_by};
 ghost use Rattle.md_dirs.specs.Files.{files_of, grown_slot, named_less, let_go};
+ghost use Rattle.md_dirs.specs.Slots.{slots_of};
 
 use crate::paths::File;
 use crate::rows::RowRef;
+use crate::slots::Slots;
 use std::alloc::AllocError;
 
 /// A file, and how many names it has.
@@ -52,21 +54,21 @@ pub fn release_slot(slot: &mut Option<Kept>)
 }
 
 // Takes a name from the file of a number.
-pub fn release_one(slots: &mut Vec<Option<Kept>>, file: Option<usize>)
-    requires { MatchOption file (Unit {0}) (λ n. n < length slots.old.items) }
-    ensures { slots.new.items ≡ let_go file slots.old.items }
+pub fn release_one(slots: &mut Slots, file: Option<usize>)
+    requires { MatchOption file (Unit {0}) (λ n. n < length (slots_of slots.old)) }
+    ensures { slots_of slots.new ≡ let_go file (slots_of slots.old) }
 {
     if let Some(file) = file {
-        release_slot(&mut slots[file]);
+        slots.release(file);
     }
 }
 
 // What a directory shows of a name and its file.
-pub fn shown_row<'a>(slots: &'a [Option<Kept>], name: &'a [u8], file: usize) -> RowRef<'a>
-    requires { IsSome (file_by (files_of slots.now) file) }
-    ensures { row_shown result ≡ row_by name.now (file_by (files_of slots.now) file) }
+pub fn shown_row<'a>(slots: &'a Slots, name: &'a [u8], file: usize) -> RowRef<'a>
+    requires { IsSome (file_by (files_of (slots_of slots.now)) file) }
+    ensures { row_shown result ≡ row_by name.now (file_by (files_of (slots_of slots.now)) file) }
 {
-    let Some(kept) = &slots[file] else {
+    let Some(kept) = slots.get(file) else {
         unreachable!();
     };
     RowRef {

@@ -9,10 +9,11 @@ mod tree;
 use crate::calls::{DirError, Dirs};
 use crate::changes::{add_file, add_name};
 use crate::count::Count;
-use crate::files::{Kept, grow_slot, is_same, release_one, shown_row};
+use crate::files::{is_same, release_one, shown_row};
 use crate::image::ImageFile;
 use crate::paths::{File, Path, Place};
 use crate::rows::{Row, RowRef, copied_row};
+use crate::slots::Slots;
 use load::Loading;
 use md_name::Bytes;
 use std::alloc::Global;
@@ -31,21 +32,22 @@ pub struct IndexDirs {
     alloc: Global,
     folders: u32,
     names: Tree,
-    slots: Vec<Option<Kept>>,
+    slots: Slots,
     calls: Count,
 }
 
 impl Model for IndexDirs {
     ghost use Rattle.md_dirs.specs.State.{Counted, counted_code};
     ghost use Rattle.md_dirs.specs.Files.{IsCounted, kept_state};
+    ghost use Rattle.md_dirs.specs.Slots.{slots_of};
 
     ghost Value = { Counted };
 
     ghost coded = { counted_code };
 
-    ghost view = { λ d. record { state = kept_state d.folders d.names d.slots.items; calls = d.calls.value } };
+    ghost view = { λ d. record { state = kept_state d.folders d.names (slots_of d.slots); calls = d.calls.value } };
 
-    ghost invariant = { λ d. IsCounted d.folders d.names d.slots.items };
+    ghost invariant = { λ d. IsCounted d.folders d.names (slots_of d.slots) };
 }
 
 impl IndexDirs {
@@ -62,7 +64,7 @@ impl IndexDirs {
             alloc,
             folders,
             names: Tree::new(alloc),
-            slots: Vec::new(alloc),
+            slots: Slots::new(alloc),
             calls: Count::zero(),
         }
     }
@@ -125,7 +127,7 @@ impl Dirs for IndexDirs {
             self.calls.raise();
             return Err(DirError::NotFound);
         };
-        grow_slot(&mut self.slots[file], bytes, now)?;
+        self.slots.grow(file, bytes, now)?;
         self.calls.raise();
         Ok(())
     }
@@ -221,9 +223,7 @@ impl Dirs for IndexDirs {
 
     fn read(&self, folder: u32, place: Place, name: &[u8]) -> Option<&[u8]> {
         let file = self.names.file_of(folder, place, name)?;
-        let Some(kept) = &self.slots[file] else {
-            return None;
-        };
+        let kept = self.slots.get(file)?;
         Some(kept.file.bytes.as_slice())
     }
 }

@@ -15,6 +15,7 @@ mod name_key;
 mod paths;
 mod plain;
 mod rows;
+mod slots;
 
 pub use calls::{DirError, Dirs};
 pub use fail_at::FailAt;

@@ -16,7 +16,7 @@ static void must(int is_so, const char *what) {
     }
 }
 
-static void call(deolmutt_world *world, int kind, const char *unique, const char *text, size_t length, int wanted) {
+static void call(deolmutt_world *world, uint32_t kind, const char *unique, const char *text, size_t length, uint64_t wanted) {
     deolmutt_answer answer;
     uint64_t job = 0;
     must(deolmutt_call(world, kind, 0, (const uint8_t *)unique, strlen(unique), 0, (const uint8_t *)text, length, NULL, 0, 7, 9, NULL, &job,

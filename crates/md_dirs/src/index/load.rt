@@ -6,6 +6,7 @@ use crate::files::Kept;
 use crate::image::ImageFile;
 use crate::index::loose::LooseTree;
 use crate::paths::File;
+use crate::slots::Slots;
 use std::alloc::Global;
 use std::marker::Model;
 
@@ -14,20 +15,21 @@ use std::marker::Model;
 pub struct Loading {
     pub folders: u32,
     pub names: LooseTree,
-    pub slots: Vec<Option<Kept>>,
+    pub slots: Slots,
 }
 
 impl Model for Loading {
     ghost use Rattle.md_dirs.specs.State.{State, state_code};
     ghost use Rattle.md_dirs.specs.Files.{IsCounted, kept_state};
+    ghost use Rattle.md_dirs.specs.Slots.{slots_of};
 
     ghost Value = { State };
 
     ghost coded = { state_code };
 
-    ghost view = { λ d. kept_state d.folders d.names d.slots.items };
+    ghost view = { λ d. kept_state d.folders d.names (slots_of d.slots) };
 
-    ghost invariant = { λ d. IsCounted d.folders d.names d.slots.items };
+    ghost invariant = { λ d. IsCounted d.folders d.names (slots_of d.slots) };
 }
 
 impl Loading {
@@ -43,7 +45,7 @@ impl Loading {
         Loading {
             folders,
             names: LooseTree::new(alloc),
-            slots: Vec::new(alloc),
+            slots: Slots::new(alloc),
         }
     }
 
@@ -58,17 +60,16 @@ impl Loading {
         if self.names.file_at(&file.path).is_some() {
             return Err(DirError::Exists);
         }
-        self.slots.reserve(1)?;
-        let number = self.slots.len();
+        let number = self.slots.make_room()?;
         self.names.put(alloc, file.path, number)?;
         let made = File {
             bytes: file.bytes,
             stamp: file.stamp,
         };
-        self.slots.push(Some(Kept {
+        self.slots.push(Kept {
             file: made,
             names: 1,
-        }))?;
+        });
         Ok(())
     }
 }

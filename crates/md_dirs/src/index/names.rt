@@ -4,17 +4,19 @@ ghost use Rattle.std.specs.Option.{option_map};
 ghost use Rattle.std.specs.FinMap as finmap;
 ghost use Rattle.md_dirs.specs.State.{file_by};
 ghost use Rattle.md_dirs.specs.Files.{files_of, name_row};
+ghost use Rattle.md_dirs.specs.Slots.{slots_of};
 ghost use Rattle.md_dirs.specs.Rows.{is_named as is_named_by};
 ghost use Rattle.md_dirs.specs.Plain.{IsAt, IsGap};
 ghost use Rattle.md_dirs.specs.Keys.{IsKeyOf};
 ghost use Rattle.md_dirs.specs.Index.{name_cmp, order_at, FitsAt, get_name, Renames};
 
-use crate::files::{Kept, shown_row};
+use crate::files::shown_row;
 use crate::finding::{Edge, InOrder, edge_place};
 use crate::index::key::key_of;
 use crate::index::positions::{Near, Positions};
 use crate::name_key::NameKey;
 use crate::rows::{Row, is_named};
+use crate::slots::Slots;
 use indexmap::IndexMap;
 use std::alloc::{AllocError, Global};
 use std::cmp::Ordering;
@@ -323,9 +325,9 @@ impl Names {
     }
 
     /// All rows, copied. It is refused only when out of memory.
-    pub fn rows(&self, alloc: Global, slots: &[Option<Kept>]) -> Result<Vec<Row>, AllocError>
-        requires { All (λ e. IsSome (file_by (files_of slots.now) e.1)) (finmap.entries self.now) }
-        ensures { IfOk result (λ shown. shown.items ≡ map (name_row (files_of slots.now)) (finmap.entries self.now)) }
+    pub fn rows(&self, alloc: Global, slots: &Slots) -> Result<Vec<Row>, AllocError>
+        requires { All (λ e. IsSome (file_by (files_of (slots_of slots.now)) e.1)) (finmap.entries self.now) }
+        ensures { IfOk result (λ shown. shown.items ≡ map (name_row (files_of (slots_of slots.now))) (finmap.entries self.now)) }
     {
         let count = self.count();
         let mut shown = Vec::with_capacity(alloc, count)?;

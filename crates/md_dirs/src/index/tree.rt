@@ -7,14 +7,15 @@ ghost use Rattle.md_dirs.specs.State.{file_by};
 ghost use Rattle.md_dirs.specs.Rows.{is_named};
 ghost use Rattle.md_dirs.specs.Index.{directory_number, directory_at, rows_in};
 ghost use Rattle.md_dirs.specs.Files.{files_of, name_row};
+ghost use Rattle.md_dirs.specs.Slots.{slots_of};
 
 use crate::changes::Paths;
-use crate::files::Kept;
 use crate::finding::InOrder;
 use crate::index::names::Names;
 use crate::name_key::NameKey;
 use crate::paths::{Path, Place, number_of};
 use crate::rows::Row;
+use crate::slots::Slots;
 use std::alloc::{AllocError, Global};
 use std::marker::Model;
 
@@ -134,10 +135,10 @@ impl Tree {
         alloc: Global,
         folder: u32,
         place: Place,
-        slots: &[Option<Kept>],
+        slots: &Slots,
     ) -> Result<Vec<Row>, AllocError>
-        requires { All (λ e. IsSome (file_by (files_of slots.now) e.1)) (rows_in self.now folder place) }
-        ensures { IfOk result (λ shown. shown.items ≡ map (name_row (files_of slots.now)) (rows_in self.now folder place)) }
+        requires { All (λ e. IsSome (file_by (files_of (slots_of slots.now)) e.1)) (rows_in self.now folder place) }
+        ensures { IfOk result (λ shown. shown.items ≡ map (name_row (files_of (slots_of slots.now))) (rows_in self.now folder place)) }
     {
         let number = number_of(folder, place);
         if number >= self.directories.len() {

@@ -7,24 +7,22 @@ ghost use Rattle.md_dirs.specs.State.{file_by};
 ghost use Rattle.md_dirs.specs.Rows.{is_named as is_named_by};
 ghost use Rattle.md_dirs.specs.Index.{rows_in, named_row};
 ghost use Rattle.md_dirs.specs.Files.{files_of, name_row};
+ghost use Rattle.md_dirs.specs.Slots.{slots_of};
 
 use crate::changes::Paths;
-use crate::files::{Kept, shown_row};
+use crate::files::shown_row;
 use crate::finding::first_place;
 use crate::paths::{Path, Place};
 use crate::plain::search::{directory, find_name, find_row};
 use crate::rows::{Row, is_named};
+use crate::slots::Slots;
 use std::alloc::{AllocError, Global};
 use std::marker::Model;
 
 // What a directory shows of rows, copied.
-fn copied_rows(
-    alloc: Global,
-    rows: &[(Path, usize)],
-    slots: &[Option<Kept>],
-) -> Result<Vec<Row>, AllocError>
-    requires { All (λ e. IsSome (file_by (files_of slots.now) e.1)) rows.now }
-    ensures { IfOk result (λ shown. shown.items ≡ map (name_row (files_of slots.now)) (map named_row rows.now)) }
+fn copied_rows(alloc: Global, rows: &[(Path, usize)], slots: &Slots) -> Result<Vec<Row>, AllocError>
+    requires { All (λ e. IsSome (file_by (files_of (slots_of slots.now)) e.1)) rows.now }
+    ensures { IfOk result (λ shown. shown.items ≡ map (name_row (files_of (slots_of slots.now))) (map named_row rows.now)) }
 {
     let mut shown = Vec::with_capacity(alloc, rows.len())?;
     for (path, file) in rows {
@@ -127,10 +125,10 @@ impl PathList {
         alloc: Global,
         folder: u32,
         place: Place,
-        slots: &[Option<Kept>],
+        slots: &Slots,
     ) -> Result<Vec<Row>, AllocError>
-        requires { All (λ e. IsSome (file_by (files_of slots.now) e.1)) (rows_in self.now folder place) }
-        ensures { IfOk result (λ shown. shown.items ≡ map (name_row (files_of slots.now)) (rows_in self.now folder place)) }
+        requires { All (λ e. IsSome (file_by (files_of (slots_of slots.now)) e.1)) (rows_in self.now folder place) }
+        ensures { IfOk result (λ shown. shown.items ≡ map (name_row (files_of (slots_of slots.now))) (rows_in self.now folder place)) }
     {
         copied_rows(alloc, directory(&self.rows, folder, place), slots)
     }

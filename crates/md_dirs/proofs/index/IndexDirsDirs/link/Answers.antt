@@ -1,18 +1,19 @@
 use Rattle.std.proofs.Common.{◌∙◌, sym}
 use Rattle.md_dirs.proofs.Hashed.{slot-number, link-done, counted-linked, absent}
+use Rattle.md_dirs.specs.Slots.{slots_of}
 use Rattle.md_dirs.proofs.index.IndexDirsDirs.link.Goals as goal
 
 pub add_name-requires : goal.add_name-requires
 add_name-requires c =
     let s = c.self.inside in
-    slot-number s.folders s.names s.slots.items c.self.invariant c.args.old.now c.in-Some.file (sym c.file_at.ensures ∙ c.in-Some.is)
+    slot-number s.folders s.names (slots_of s.slots) c.self.invariant c.args.old.now c.in-Some.file (sym c.file_at.ensures ∙ c.in-Some.is)
 
 pub invariant_of-self-2 : goal.invariant_of-self-2
 invariant_of-self-2 c =
     let s = c.self.inside in
     let none = sym c.file_at-2.ensures ∙ absent c.file_at-2.result (sym c.is_some.ensures ∙ c.if-is_some.false) in
     rw (c.in_ok-add_name.ensures.names, c.in_ok-add_name.ensures.slots, c.in_ok-name.ensures)
-    (counted-linked s.folders s.names s.slots.items c.self.invariant c.args.old.now c.args.new.now c.in-Some.file (sym c.file_at.ensures ∙
+    (counted-linked s.folders s.names (slots_of s.slots) c.self.invariant c.args.old.now c.args.new.now c.in-Some.file (sym c.file_at.ensures ∙
     c.in-Some.is) c.if-new-self.false none)
 
 pub returns : goal.returns
@@ -21,6 +22,6 @@ returns c =
     let none = sym c.file_at-2.ensures ∙ absent c.file_at-2.result (sym c.is_some.ensures ∙ c.if-is_some.false) in
     record {
       meets = rw (← c.self.view_is, c.in_ok-add_name.ensures.names, c.in_ok-add_name.ensures.slots, c.in_ok-name.ensures)
-          (link-done s.folders s.names s.slots.items c.self.invariant c.args.old.now c.args.new.now c.in-Some.file _ _ (sym c.file_at.ensures ∙
+          (link-done s.folders s.names (slots_of s.slots) c.self.invariant c.args.old.now c.args.new.now c.in-Some.file _ _ (sym c.file_at.ensures ∙
           c.in-Some.is) c.if-new-self.false none c.raise-2.ensures);
     }

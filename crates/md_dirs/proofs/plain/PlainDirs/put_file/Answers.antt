@@ -2,6 +2,7 @@ use Rattle.std.proofs.Common.{◌∙◌, sym}
 use Rattle.md_dirs.specs.declared.paths.File.{File}
 use Rattle.md_dirs.specs.declared.image.ImageFile.{ImageFile}
 use Rattle.md_dirs.proofs.Hashed.{counted-made, absent}
+use Rattle.md_dirs.specs.Slots.{slots_of}
 use Rattle.md_dirs.proofs.plain.PlainDirs.put_file.Goals as goal
 
 -- the file as it is made
@@ -13,4 +14,4 @@ invariant_of-self-2 c =
     let s = c.self.inside in
     let none = sym c.file_at.ensures ∙ absent c.file_at.result (sym c.is_some.ensures ∙ c.if-is_some.false) in
     rw (c.in_ok-add_file.ensures.names, c.in_ok-add_file.ensures.slots)
-    (counted-made s.folders s.names s.slots.items c.self.invariant c.args.file.path (made_of c.args.file) c.if-file-self.false none)
+    (counted-made s.folders s.names (slots_of s.slots) c.self.invariant c.args.file.path (made_of c.args.file) c.if-file-self.false none)

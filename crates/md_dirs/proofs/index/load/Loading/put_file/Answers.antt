@@ -1,7 +1,8 @@
-use Rattle.std.proofs.Common.{◌≡◌, ◌∙◌, sym, length, arith}
+use Rattle.std.proofs.Common.{◌∙◌, sym}
 use Rattle.md_dirs.specs.declared.paths.File.{File}
 use Rattle.md_dirs.specs.declared.image.ImageFile.{ImageFile}
 use Rattle.md_dirs.proofs.Hashed.{counted-made, absent}
+use Rattle.md_dirs.specs.Slots.{slots_of}
 use Rattle.md_dirs.proofs.index.load.Loading.put_file.Goals as goal
 
 -- the file as it is made
@@ -12,6 +13,5 @@ pub invariant_of-self-2 : goal.invariant_of-self-2
 invariant_of-self-2 c =
     let s = c.self.inside in
     let none = sym c.file_at.ensures ∙ absent c.file_at.result (sym c.is_some.ensures ∙ c.if-is_some.false) in
-    let number : c.len-number.result ≡ length s.slots.items = omega (arith, c.len-number.ensures, c.in_ok-reserve.ensures.len, s.slots.ok.0) in
-    rw (c.in_ok-put.ensures.ok, c.in_ok-push.ensures.items, c.in_ok-reserve.ensures.items, number)
-    (counted-made s.folders s.names s.slots.items c.self.invariant c.args.file.path (made_of c.args.file) c.if-file-self.false none)
+    rw (c.in_ok-put.ensures.ok, c.push.ensures, c.in_ok-number.ensures.same, c.in_ok-number.ensures.number)
+    (counted-made s.folders s.names (slots_of s.slots) c.self.invariant c.args.file.path (made_of c.args.file) c.if-file-self.false none)

@@ -3,13 +3,14 @@ use Rattle.std.specs.FinMap as finmap
 use Rattle.md_dirs.specs.Files.{files_of, name_row}
 use Rattle.md_dirs.specs.Index.{directory_number, directory_at, rows_in, names_of}
 use Rattle.md_dirs.proofs.Directories.{no-rows, rows-in, read-directory}
+use Rattle.md_dirs.specs.Slots.{slots_of}
 use Rattle.md_dirs.proofs.index.tree.Tree.rows_of.Goals as goal
 
 pub returns-then-number-len : goal.returns-then-number-len
 returns-then-number-len c =
     let t = c.self.inside.directories in
     let past : length t.items ≤ directory_number c.args.folder c.args.place = omega (arith, t.ok.0, c.number_of-number.ensures.number) in
-    rw (← c.self.view_is) (c.new.ensures.items ∙ sym (ap (map (name_row (files_of c.args.slots.now))) (no-rows t.items c.args.folder c.args.place past)))
+    rw (← c.self.view_is) (c.new.ensures.items ∙ sym (ap (map (name_row (files_of (slots_of c.args.slots.now)))) (no-rows t.items c.args.folder c.args.place past)))
 
 pub rows-requires : goal.rows-requires
 rows-requires c =
