@@ -1,5 +1,5 @@
 -- What is found by what is kept of a message, where a path of it is added, is what the law has.
-use Rattle.std.proofs.Common.{ℕ, zero, suc, ◌≡◌, ◌≢◌, ◌<◌, ◌≤◌, ◌↔◌, ◌⊎◌, inl, inr, List, Option, Some, None, true, refl, sym, ap, subst, ◌∙◌, arith}
+use Rattle.std.proofs.Common.{ℕ, suc, ◌≡◌, ◌≢◌, ◌<◌, ◌≤◌, ◌↔◌, inl, inr, List, Option, Some, None, refl, sym, ap, subst, ◌∙◌, arith}
 use Rattle.md_dirs.specs.State.{file_at}
 use Rattle.md_dirs.specs.declared.paths.Path.{Path}
 use Rattle.md_dirs.proofs.Sound.{by_path, by_number}
@@ -11,11 +11,11 @@ use Rattle.md_judge.specs.declared.judge.directories.Spot.{Spot}
 use Rattle.md_judge.specs.declared.judge.acts.Change.{Change}
 use Rattle.md_judge.specs.declared.judge.mail.Message.{Message}
 use Rattle.md_judge.specs.Logs.{Log}
-use Rattle.md_judge.specs.Told.{at, is_message, IsOf, IsMessageAt, IsThere}
-use Rattle.md_judge.specs.Law.{turn, Adds, TwoNames, UsedAgain}
-use Rattle.md_judge.specs.Changes.{IsPathOf, Leads}
+use Rattle.md_judge.specs.Told.{at, IsMessageAt, IsThere}
+use Rattle.md_judge.specs.Law.{turn, Adds, TwoNames}
+use Rattle.md_judge.specs.Changes.{IsPathOf}
 use Rattle.md_judge.proofs.Lawful.{none}
-use Rattle.md_judge.specs.Messages.{WasFile, AddFinds, AreTwo, RecallsMessage, Recalled, Leaving, IsAddition, BrokenByAdding}
+use Rattle.md_judge.specs.Messages.{WasFile, AddFinds, RecallsMessage, Recalled, IsAddition, BrokenByAdding}
 
 -- one option names one path
 one_path : (path : Spot → Path) (o : Option (Spot × ℕ)) (p q : Path) (m n : ℕ) → IsPathOf path o p m → IsPathOf path o q n → p ≡ q

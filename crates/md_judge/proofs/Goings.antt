@@ -1,5 +1,5 @@
 -- What is found by what is kept of a message, where a path of it was taken, is what the law has.
-use Rattle.std.proofs.Common.{ℕ, suc, ◌≡◌, ◌≢◌, ◌<◌, ◌↔◌, List, Option, Some, None, true, refl, sym, subst, ◌∙◌, arith}
+use Rattle.std.proofs.Common.{ℕ, suc, ◌≡◌, ◌↔◌, Option, Some, true, refl, sym, subst, ◌∙◌, arith}
 use Rattle.md_dirs.specs.State.{file_at}
 use Rattle.md_dirs.specs.declared.paths.Path.{Path}
 use Rattle.md_dirs.specs.declared.paths.Place.TheVariants.{Cur}

@@ -9,3 +9,5 @@ pub mod Comings
 pub mod Goings
 pub mod Claiming
 pub mod Reading
+pub mod Times
+pub mod Listed

@@ -1,5 +1,5 @@
 -- The law: what no step of a lawful log does. Each clause says of a step that it breaks it.
-use Rattle.std.specs.Prelude.{ℕ, suc, ◌≡◌, ◌≢◌, ◌<◌, ◌≤◌, ◌-◌, List, Option, Some, None, Bool, true, slice_get, ◌⊎◌, IsTrue}
+use Rattle.std.specs.Prelude.{ℕ, suc, ◌≡◌, ◌≢◌, ◌<◌, ◌≤◌, ◌-◌, List, Option, Some, None, true, slice_get, ◌⊎◌, IsTrue}
 use Rattle.std.specs.FinSet as set
 use Rattle.md_dirs.specs.Path.{path_of}
 use Rattle.md_dirs.specs.State.{State, file_at, file_by}
@@ -21,8 +21,8 @@ use Rattle.md_log.specs.declared.line.Said.TheVariants as said
 use Rattle.md_log.specs.declared.line.Call.{Call}
 use Rattle.md_log.specs.declared.line.Call.TheVariants as call
 use Rattle.md_log.specs.declared.line.Step.{Step}
-use Rattle.md_judge.specs.Logs.{Log, Numbered}
-use Rattle.md_judge.specs.Told.{ask_at, ask_between, moment, at, is_message, IsStep, IsOf, IsMessageAt, IsThere, IsSeen, IsUnflushed, IsCut, WasInCur, IsMaker, IsReading, IsWholeReading, Shows, IsListing, IsSpan, IsOwn, ActsOn, Looks}
+use Rattle.md_judge.specs.Logs.{Log}
+use Rattle.md_judge.specs.Told.{ask_at, ask_between, moment, at, is_message, IsOf, IsMessageAt, IsThere, IsSeen, IsUnflushed, IsCut, WasInCur, IsMaker, IsReading, IsWholeReading, Shows, IsListing, IsSpan, IsOwn, ActsOn, Looks}
 
 -- a step of a log, with the directories before and after it
 pub record Turn : Type 0 where

@@ -9,3 +9,4 @@ pub mod Recalls
 pub mod Messages
 pub mod Claims
 pub mod Readings
+pub mod Listings

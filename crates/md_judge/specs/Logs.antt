@@ -1,6 +1,5 @@
 -- A log, read: what there is at its beginning, and its steps.
-use Rattle.std.specs.Prelude.{ℕ, suc, ◌≡◌, Bool, true, false, not, ◌==◌, List, [], ◌∷◌, ◌++◌, length, max, nat_lt, Option, Some, None, Result, Ok, Err, is_some, if◌then◌else◌, codes, slice_index}
-use Rattle.std.specs.FinMap as finmap
+use Rattle.std.specs.Prelude.{ℕ, suc, Bool, true, not, ◌==◌, List, [], ◌∷◌, ◌++◌, length, max, nat_lt, Result, Ok, Err, is_some, if◌then◌else◌, codes}
 use Rattle.std.specs.Str.{bytes_eq}
 use Rattle.md_dirs.specs.State.{State, bare, file_at}
 use Rattle.md_dirs.specs.Calls.{with_new_file, with_path, empty_file}

@@ -16,7 +16,7 @@ use Rattle.md_judge.specs.declared.judge.files.Filed.{Filed}
 use Rattle.md_judge.specs.declared.judge.tables.Names.{Names}
 use Rattle.md_judge.specs.Logs.{Log}
 use Rattle.md_judge.specs.Told.{at, moment, is_message, IsSeen, IsUnflushed, IsCut, WasInCur, IsMaker}
-use Rattle.md_judge.specs.Law.{Turn, turn, MakesMessage, WritesSeen, ShowsCut, Mixed, NotFlushed, MovedBack, CleanedEarly}
+use Rattle.md_judge.specs.Law.{Turn, MakesMessage, WritesSeen, ShowsCut, Mixed, NotFlushed, MovedBack, CleanedEarly}
 use Rattle.md_judge.specs.Changes.{Leads}
 use Rattle.md_judge.specs.Files.{facts_at, is_message_in, named_by}
 

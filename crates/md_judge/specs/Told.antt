@@ -1,6 +1,6 @@
 -- What a log tells: the directories at each moment, by the definitions of the directory calls, and what was done to each file.
 -- Moments are numbered from 0: moment 0 is the beginning, and the step of a number goes from the moment of that number to the next.
-use Rattle.std.specs.Prelude.{ℕ, suc, ◌≡◌, ◌≢◌, ◌<◌, ◌≤◌, List, [], ◌∷◌, ◌++◌, Option, Some, None, Bool, true, false, take, slice_get, max, if◌then◌else◌, ◌||◌, ◌&&◌, not, length, ◌==◌, ◌⊎◌, fold}
+use Rattle.std.specs.Prelude.{ℕ, suc, ◌≡◌, ◌≢◌, ◌<◌, ◌≤◌, List, [], Some, Bool, true, false, take, slice_get, max, if◌then◌else◌, ◌&&◌, not, length, ◌==◌, fold}
 use Rattle.std.specs.Str.{bytes_eq}
 use Rattle.md_dirs.specs.State.{State, file_at}
 use Rattle.md_dirs.specs.Calls as dirs

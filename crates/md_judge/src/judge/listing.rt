@@ -1,7 +1,16 @@
 //! Readings of directories, and listings.
+ghost use Rattle.std.specs.Prelude.{◌≡◌, ℕ, List, Some, None};
+ghost use Rattle.std.specs.Option.{option_copied};
+ghost use Rattle.md_log.specs.declared.line.Step.{Step};
+ghost use Rattle.md_judge.specs.Logs.{Log};
+ghost use Rattle.md_judge.specs.Law.{turn};
+ghost use Rattle.md_judge.specs.Found.{Notes};
+ghost use Rattle.md_judge.specs.Listings.{lacking, is_lacking, was_at_each, ListFinds, LeavesOut, IsCompleted, BrokenByListing};
+
 use super::directories::{Directory, Spot};
+use super::found::Found;
 use super::known::Known;
-use super::mail::Mail;
+use super::mail::{Mail, Message};
 use super::since::{is_there_since, was_there_since};
 use super::tables::Names;
 use super::trial::Open;
@@ -123,28 +132,59 @@ impl Listing {
         self.shown.clear();
     }
 
-    /// A message that was there at each reading of the listing, and that none shows.
-    fn lacking(&self, mail: &Mail, folder: u32) -> Option<u32> {
-        for unique in mail.present(folder)?.iter() {
-            if !self.shown.contains(unique) && self.was_there(mail, folder, *unique) {
-                return Some(*unique);
-            }
-        }
-        None
+    /// The first message of the folder that the listing lacks.
+    fn lacking(&self, mail: &Mail, folder: u32) -> Option<u32>
+        ensures finds { result ≡ lacking self.now mail.now folder }
+        ensures law { (line : ℕ → ℕ) (name : ℕ → List ℕ) (first begin i : ℕ) (l : Log) (x : Step)
+            → IsCompleted line name first begin i folder l x self.now mail.now
+            → ((u : ℕ) → result ≡ Some u → LeavesOut (turn l i x) begin folder (name u))
+            × (result ≡ None → (unique : List ℕ) → LeavesOut (turn l i x) begin folder unique → ⊥) }
+    {
+        self.first_lacking(mail, folder)
+    }
+
+    fn first_lacking(&self, mail: &Mail, folder: u32) -> Option<u32>
+        ensures { result ≡ lacking self.now mail.now folder }
+    {
+        mail.present(folder)?
+            .iter()
+            .copied()
+            .find(|unique| self.lacks(mail, folder, *unique))
+    }
+
+    /// Whether no reading of the listing shows a message that was there at each.
+    fn lacks(&self, mail: &Mail, folder: u32, unique: u32) -> bool
+        ensures { result ≡ is_lacking self.now mail.now folder unique }
+    {
+        !self.shown.contains(&unique) && self.was_there(mail.message((folder, unique)))
     }
 
     /// Whether a message was there at each reading.
-    fn was_there(&self, mail: &Mail, folder: u32, unique: u32) -> bool {
-        let Some(message) = mail.message((folder, unique)) else {
-            return false;
-        };
-        for span in self.spans.iter() {
-            if !message.was_there(span.0, span.1) {
-                return false;
-            }
+    fn was_there(&self, message: Option<&Message>) -> bool
+        ensures { result ≡ was_at_each self.now.spans.items (option_copied message.entry) }
+    {
+        match message {
+            None => false,
+            Some(message) => self
+                .spans
+                .iter()
+                .all(|span| message.was_there(span.0, span.1)),
         }
-        true
     }
+}
+
+/// A listing of a folder is complete: whether it lacks a message that was there at each of its readings.
+fn check_listing(found: &mut Found, listing: &Listing, mail: &Mail, folder: u32)
+    ensures finds { Notes (ListFinds listing.now mail.now folder) found.old found.new }
+    ensures law { (line : ℕ → ℕ) (name : ℕ → List ℕ) (first begin i : ℕ) (l : Log) (x : Step)
+        → IsCompleted line name first begin i folder l x listing.now mail.now → Notes (BrokenByListing (turn l i x)) found.old found.new }
+{
+    let lacking = listing.lacking(mail, folder);
+    let before = match lacking {
+        None => None,
+        Some(unique) => mail.put_at((folder, unique)),
+    };
+    found.note(lacking.is_some(), Clause::Unlisted, before);
 }
 
 /// A name that a part shows, and that was in the directory at no moment since the first part.
@@ -240,10 +280,7 @@ impl Watch {
         }
         listing.finish(&known.names, place, (first, self.now), &done.shown)?;
         if listing.is_complete() {
-            if let Some(unique) = listing.lacking(&self.mail, folder) {
-                let before = self.mail.put_at((folder, unique));
-                self.found.note(true, Clause::Unlisted, before);
-            }
+            check_listing(&mut self.found, listing, &self.mail, folder);
             listing.clear();
         }
         Ok(())

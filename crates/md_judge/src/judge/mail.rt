@@ -1,6 +1,8 @@
 //! The messages of folders.
-ghost use Rattle.std.specs.Prelude.{◌≡◌, ◌↔◌, IsTrue};
+ghost use Rattle.std.specs.Prelude.{◌≡◌, ◌↔◌, IsTrue, slice_get};
+ghost use Rattle.std.specs.Option.{option_copied};
 ghost use Rattle.md_judge.specs.Messages.{WasFile};
+ghost use Rattle.md_judge.specs.Listings.{was_in, was_through, message_of};
 
 use super::befores::line_before;
 use md_log::LineFault;
@@ -56,22 +58,16 @@ impl Message {
     }
 
     /// Whether it was there from a moment to another, which is no later than now.
-    pub(super) fn was_there(&self, first: usize, last: usize) -> bool {
+    pub(super) fn was_there(&self, first: usize, last: usize) -> bool
+        ensures { result ≡ was_in self.now first last }
+    {
         if self.count > 0 && self.since <= first {
             return true;
         }
-        let Some(past) = &self.more else {
-            return false;
-        };
-        for time in past.times.iter().rev() {
-            if time.1 < last {
-                return false;
-            }
-            if time.0 <= first {
-                return true;
-            }
+        match &self.more {
+            None => false,
+            Some(past) => was_through(past.times.as_slice(), first, last),
         }
-        false
     }
 
     /// The line at which it went last.
@@ -109,6 +105,22 @@ impl Message {
         }
         Ok(())
     }
+}
+
+/// Whether one of some times, each after the other, goes from a moment to another.
+fn was_through(times: &[(usize, usize)], first: usize, last: usize) -> bool
+    ensures { result ≡ was_through times.now first last }
+{
+    for at in (0..times.len()).rev() {
+        let (begin, end) = times[at];
+        if end < last {
+            return false;
+        }
+        if begin <= first {
+            return true;
+        }
+    }
+    false
 }
 
 /// Since when a message in cur shows flags: in how many paths now, and the last moment when it did.
@@ -153,7 +165,9 @@ impl Mail {
         Ok(())
     }
 
-    pub(super) fn message(&self, key: Key) -> Option<&Message> {
+    pub(super) fn message(&self, key: Key) -> Option<&Message>
+        ensures { option_copied result ≡ message_of self.now key.0 key.1 }
+    {
         self.messages.get(&key)
     }
 
@@ -180,7 +194,9 @@ impl Mail {
     }
 
     /// The unique names that are in a folder.
-    pub(super) fn present(&self, folder: u32) -> Option<&BTreeSet<u32>> {
+    pub(super) fn present(&self, folder: u32) -> Option<&BTreeSet<u32>>
+        ensures { option_copied result ≡ slice_get self.now.present.items folder }
+    {
         self.present.get(folder as usize)
     }
 
