@@ -38,7 +38,7 @@ from_each p [] passes = refl
 from_each p (y ∷ xs) passes = and_from (p y) (list_all p xs) (passes 0 y refl) (from_each p xs (λ k x is. passes (suc k) x is))
 
 -- what is found is in the list and passes
-found_is : {X : Type 0} (p : X → Bool) (xs : List X) (x : X) → find p xs ≡ Some x → IsIn xs x × (p x ≡ true)
+pub found_is : {X : Type 0} (p : X → Bool) (xs : List X) (x : X) → find p xs ≡ Some x → IsIn xs x × (p x ≡ true)
 found_is p [] x is = absurd cc
 found_is p (y ∷ xs) x is = elim (p y) as (λ b. p y ≡ b → IsIn (y ∷ xs) x × (p x ≡ true)) [
   | true ↦ λ passes. let same : y ≡ x = cc in ((0, ap Some same), subst (λ z. p z ≡ true) same passes)
@@ -46,7 +46,7 @@ found_is p (y ∷ xs) x is = elim (p y) as (λ b. p y ≡ b → IsIn (y ∷ xs) 
 ] refl
 
 -- what passes is found, or another before it
-is_found : {X : Type 0} (p : X → Bool) (xs : List X) (k : ℕ) (x : X) → slice_get xs k ≡ Some x → p x ≡ true → IsSome (find p xs)
+pub is_found : {X : Type 0} (p : X → Bool) (xs : List X) (k : ℕ) (x : X) → slice_get xs k ≡ Some x → p x ≡ true → IsSome (find p xs)
 is_found p [] k x is passes = absurd cc
 is_found p (y ∷ xs) zero x is passes = let same : y ≡ x = cc in let it : p y ≡ true = subst (λ z. p z ≡ true) (sym same) passes in cc
 is_found p (y ∷ xs) (suc k) x is passes = elim (p y) as (λ b. p y ≡ b → IsSome (find p (y ∷ xs))) [
