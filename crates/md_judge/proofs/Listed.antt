@@ -229,27 +229,27 @@ module _ (line : ℕ → ℕ) (name : ℕ → List ℕ) (first begin i folder : 
       let ends = of.3 in
       subst (λ (n : ℕ). was_in a p.0 n ≡ true) (sym ends) (subst (λ (n : ℕ). was_in a n (line of.1) ≡ true) (sym begins) was-there))
 
-  lacks : (u : ℕ) → is_lacking s mail folder u ≡ true → LeavesOut t begin folder (name u)
-  lacks u lacked =
+  lacks : (u : ℕ) → IsIn (present_in mail folder) u → is_lacking s mail folder u ≡ true → LeavesOut t begin folder (name u)
+  lacks u in_it lacked =
       let shown = ordered.contains nat_cmp s.shown u in
       let parts = and_parts (not shown) (was_at_each s.spans.items (message_of mail folder u)) lacked in
       let unshown = not-true shown parts.0 in (
-        λ m n place from to new reading. there u (message_of mail folder u) (is.recalls u) parts.1 m n (place, from, to, new, reading),
-        λ listed. let is-shown = (is.shown u).1 listed in both_ways shown unshown is-shown,
+        λ m n place from to new reading. there u (message_of mail folder u) (is.recalls u in_it) parts.1 m n (place, from, to, new, reading),
+        λ listed. let is-shown = (is.shown u in_it).1 listed in both_ways shown unshown is-shown,
       )
 
-  is-lacked : (u : ℕ) → LeavesOut t begin folder (name u) → Is u i → is_lacking s mail folder u ≡ true
-  is-lacked u out now =
+  is-lacked : (u : ℕ) → IsIn (present_in mail folder) u → LeavesOut t begin folder (name u) → Is u i → is_lacking s mail folder u ≡ true
+  is-lacked u in_it out now =
       let shown = ordered.contains nat_cmp s.shown u in
       and_from (not shown) (was_at_each s.spans.items (message_of mail folder u))
-      (not_from_false shown (false_from_ne_true shown (λ showing. out.1 ((is.shown u).0 showing))))
-      (at-each u (message_of mail folder u) (is.recalls u) now out.0)
+      (not_from_false shown (false_from_ne_true shown (λ showing. out.1 ((is.shown u in_it).0 showing))))
+      (at-each u (message_of mail folder u) (is.recalls u in_it) now out.0)
 
   -- ---- all messages
 
   -- the message that is found is one that the listing leaves out
   pub left-out : (u : ℕ) → lacking s mail folder ≡ Some u → LeavesOut t begin folder (name u)
-  left-out u found = lacks u (found_is (is_lacking s mail folder) (present_in mail folder) u found).1
+  left-out u found = let it = found_is (is_lacking s mail folder) (present_in mail folder) u found in lacks u it.0 it.1
 
   is-found : (unique : List ℕ) → LeavesOut t begin folder unique → IsSome (lacking s mail folder)
   is-found unique out =
@@ -260,7 +260,7 @@ module _ (line : ℕ → ℕ) (name : ℕ → List ℕ) (first begin i folder : 
       let same = sym number.1 in
       let mine = subst (λ (v : List ℕ). LeavesOut t begin folder v) same out in
       let here = subst (λ (v : List ℕ). IsThere (at l i) folder v) same now in
-      is_found (is_lacking s mail folder) (present_in mail folder) number.2.0 number.0 number.2.1 (is-lacked number.0 mine here)
+      is_found (is_lacking s mail folder) (present_in mail folder) number.2.0 number.0 number.2.1 (is-lacked number.0 number.2 mine here)
 
   -- where none is found it leaves out none
   pub all-listed : lacking s mail folder ≡ None → (unique : List ℕ) → LeavesOut t begin folder unique → ⊥

@@ -75,7 +75,7 @@ module _ (line : ℕ → ℕ) (name : ℕ → List ℕ) (begin i folder : ℕ) (
       let found = found_is (λ (u : ℕ). not (was_since d u first)) names u (value (shown_wrongly d names first) some).1 in
       let unkept = not-true (was_since d u first) found.1 in
       let named = slice_get-map name names found.0.0 ∙ ap (option_map name) found.0.1 in
-      let absent = (never line l begin i x (path u) d u first (is.named u)).0
+      let absent = (never line l begin i x (path u) d u first (is.named u found.0)).0
       (λ since. both_ways (was_since d u first) unkept ((kept-since d u first).1 since)) in
       (begin, name u, found.0.0, is.reading, named, absent)
 
@@ -85,7 +85,7 @@ module _ (line : ℕ → ℕ) (name : ℕ → List ℕ) (begin i folder : ℕ) (
       let u = mapped name names wrong.2 wrong.1 wrong.4 in
       let absent = subst (λ (b : ℕ). (j : ℕ) → b ≤ j → j ≤ i → file_at (at l j) (path u.0) ≡ None) began
       (subst (λ (n : List ℕ). (j : ℕ) → wrong.0 ≤ j → j ≤ i → file_at (at l j) (path_of folder place n) ≡ None) (sym u.2) wrong.5) in
-      let unkept = (never line l begin i x (path u.0) d u.0 first (is.named u.0)).1 absent in
+      let unkept = (never line l begin i x (path u.0) d u.0 first (is.named u.0 (wrong.2, u.1))).1 absent in
       is_found (λ (u : ℕ). not (was_since d u first)) names wrong.2 u.0 u.1
       (not_from_false (was_since d u.0 first) (false_from_ne_true (was_since d u.0 first) (λ since. unkept ((kept-since d u.0 first).0 since))))
 
@@ -103,7 +103,7 @@ module _ (line : ℕ → ℕ) (name : ℕ → List ℕ) (begin i folder : ℕ) (
         is.reading,
         all,
         λ showing. both_ways (ordered.contains nat_cmp kept.shown e.0)
-            (not-true (ordered.contains nat_cmp kept.shown e.0) parts.1) ((is.shown e.0).1 showing),
+            (not-true (ordered.contains nat_cmp kept.shown e.0) parts.1) ((is.shown e found.0).1 showing),
       )
 
   lacking : Lacks t folder place → IsSome (lacked d kept first)
@@ -120,7 +120,7 @@ module _ (line : ℕ → ℕ) (name : ℕ → List ℕ) (begin i folder : ℕ) (
       let contains = ordered.contains nat_cmp kept.shown e.0.0 in
       is_found (is_lacked kept first) d.names.entries e.2.0 e.0 e.2.1
       (and_from (nat_le e.0.1.since first) (not contains) (le-leb e.0.1.since first since)
-      (not_from_false contains (false_from_ne_true contains (λ showing. unshown ((is.shown e.0.0).0 showing)))))
+      (not_from_false contains (false_from_ne_true contains (λ showing. unshown ((is.shown e.0 e.2).0 showing)))))
 
   -- ---- both
 

@@ -87,16 +87,17 @@ abbrev pub PartFinds : Directory → Reading → Reply → List ℕ → ℕ → 
 PartFinds d reading r names first clause.NotADirectory = IsSome (wrong_name d reading r names first) ⊎ (r ≡ reply.NotFound)
 PartFinds d reading r names first c = ⊥
 
--- A step is a part of a reading that began with this step, numbers stand for names, and what is kept of the reading and of each name of
--- its directory is what the log tells.
+-- A step is a part of a reading that began with this step, numbers stand for names, and what is kept of the reading, of the names
+-- that the part shows and of those of its directory is what the log tells.
 pub record IsPartOf (line : ℕ → ℕ) (name : ℕ → List ℕ) (begin i folder : ℕ) (place : Place) (l : Log) (x : Step) (d : Directory)
     (kept : Reading) (r : Reply) (names : List ℕ) (first : ℕ) : Type 0 where
   pub call : x.call ≡ call.List folder place r (map name names)
   pub reading : IsReading l begin i x.actor folder place
-  pub named : (u : ℕ) → IsNameOf line l begin i (path_of folder place (name u)) d u first
+  pub named : (u : ℕ) → IsIn names u → IsNameOf line l begin i (path_of folder place (name u)) d u first
   pub since : (e : ℕ × Named) → IsIn d.names.entries e → IsHereSince line l begin i (path_of folder place (name e.0)) e.1 first
   pub numbered : (n : List ℕ) → IsHere l (path_of folder place n) i → (e : ℕ × Named) × (name e.0 ≡ n) × IsIn d.names.entries e
-  pub shown : (u : ℕ) → (ordered.contains nat_cmp kept.shown u ≡ true) ↔ Shows l begin i x.actor folder place (name u)
+  pub shown : (e : ℕ × Named) → IsIn d.names.entries e
+      → (ordered.contains nat_cmp kept.shown e.0 ≡ true) ↔ Shows l begin i x.actor folder place (name e.0)
 
 -- the clause is broken by a part of a reading
 abbrev pub BrokenByPart : Turn → Clause → Type 0
