@@ -11,3 +11,4 @@ pub mod Claiming
 pub mod Reading
 pub mod Times
 pub mod Listed
+pub mod Parts

@@ -38,7 +38,7 @@ from_each p [] passes = refl
 from_each p (y ∷ xs) passes = and_from (p y) (list_all p xs) (passes 0 y refl) (from_each p xs (λ k x is. passes (suc k) x is))
 
 -- what is found is in the list and passes
-found_is : {X : Type 0} (p : X → Bool) (xs : List X) (x : X) → find p xs ≡ Some x → IsIn xs x × (p x ≡ true)
+pub found_is : {X : Type 0} (p : X → Bool) (xs : List X) (x : X) → find p xs ≡ Some x → IsIn xs x × (p x ≡ true)
 found_is p [] x is = absurd cc
 found_is p (y ∷ xs) x is = elim (p y) as (λ b. p y ≡ b → IsIn (y ∷ xs) x × (p x ≡ true)) [
   | true ↦ λ passes. let same : y ≡ x = cc in ((0, ap Some same), subst (λ z. p z ≡ true) same passes)
@@ -46,7 +46,7 @@ found_is p (y ∷ xs) x is = elim (p y) as (λ b. p y ≡ b → IsIn (y ∷ xs) 
 ] refl
 
 -- what passes is found, or another before it
-is_found : {X : Type 0} (p : X → Bool) (xs : List X) (k : ℕ) (x : X) → slice_get xs k ≡ Some x → p x ≡ true → IsSome (find p xs)
+pub is_found : {X : Type 0} (p : X → Bool) (xs : List X) (k : ℕ) (x : X) → slice_get xs k ≡ Some x → p x ≡ true → IsSome (find p xs)
 is_found p [] k x is passes = absurd cc
 is_found p (y ∷ xs) zero x is passes = let same : y ≡ x = cc in let it : p y ≡ true = subst (λ z. p z ≡ true) (sym same) passes in cc
 is_found p (y ∷ xs) (suc k) x is passes = elim (p y) as (λ b. p y ≡ b → IsSome (find p (y ∷ xs))) [
@@ -229,27 +229,27 @@ module _ (line : ℕ → ℕ) (name : ℕ → List ℕ) (first begin i folder : 
       let ends = of.3 in
       subst (λ (n : ℕ). was_in a p.0 n ≡ true) (sym ends) (subst (λ (n : ℕ). was_in a n (line of.1) ≡ true) (sym begins) was-there))
 
-  lacks : (u : ℕ) → is_lacking s mail folder u ≡ true → LeavesOut t begin folder (name u)
-  lacks u lacked =
+  lacks : (u : ℕ) → IsIn (present_in mail folder) u → is_lacking s mail folder u ≡ true → LeavesOut t begin folder (name u)
+  lacks u in_it lacked =
       let shown = ordered.contains nat_cmp s.shown u in
       let parts = and_parts (not shown) (was_at_each s.spans.items (message_of mail folder u)) lacked in
       let unshown = not-true shown parts.0 in (
-        λ m n place from to new reading. there u (message_of mail folder u) (is.recalls u) parts.1 m n (place, from, to, new, reading),
-        λ listed. let is-shown = (is.shown u).1 listed in both_ways shown unshown is-shown,
+        λ m n place from to new reading. there u (message_of mail folder u) (is.recalls u in_it) parts.1 m n (place, from, to, new, reading),
+        λ listed. let is-shown = (is.shown u in_it).1 listed in both_ways shown unshown is-shown,
       )
 
-  is-lacked : (u : ℕ) → LeavesOut t begin folder (name u) → Is u i → is_lacking s mail folder u ≡ true
-  is-lacked u out now =
+  is-lacked : (u : ℕ) → IsIn (present_in mail folder) u → LeavesOut t begin folder (name u) → Is u i → is_lacking s mail folder u ≡ true
+  is-lacked u in_it out now =
       let shown = ordered.contains nat_cmp s.shown u in
       and_from (not shown) (was_at_each s.spans.items (message_of mail folder u))
-      (not_from_false shown (false_from_ne_true shown (λ showing. out.1 ((is.shown u).0 showing))))
-      (at-each u (message_of mail folder u) (is.recalls u) now out.0)
+      (not_from_false shown (false_from_ne_true shown (λ showing. out.1 ((is.shown u in_it).0 showing))))
+      (at-each u (message_of mail folder u) (is.recalls u in_it) now out.0)
 
   -- ---- all messages
 
   -- the message that is found is one that the listing leaves out
   pub left-out : (u : ℕ) → lacking s mail folder ≡ Some u → LeavesOut t begin folder (name u)
-  left-out u found = lacks u (found_is (is_lacking s mail folder) (present_in mail folder) u found).1
+  left-out u found = let it = found_is (is_lacking s mail folder) (present_in mail folder) u found in lacks u it.0 it.1
 
   is-found : (unique : List ℕ) → LeavesOut t begin folder unique → IsSome (lacking s mail folder)
   is-found unique out =
@@ -260,7 +260,7 @@ module _ (line : ℕ → ℕ) (name : ℕ → List ℕ) (first begin i folder : 
       let same = sym number.1 in
       let mine = subst (λ (v : List ℕ). LeavesOut t begin folder v) same out in
       let here = subst (λ (v : List ℕ). IsThere (at l i) folder v) same now in
-      is_found (is_lacking s mail folder) (present_in mail folder) number.2.0 number.0 number.2.1 (is-lacked number.0 mine here)
+      is_found (is_lacking s mail folder) (present_in mail folder) number.2.0 number.0 number.2.1 (is-lacked number.0 number.2 mine here)
 
   -- where none is found it leaves out none
   pub all-listed : lacking s mail folder ≡ None → (unique : List ℕ) → LeavesOut t begin folder unique → ⊥

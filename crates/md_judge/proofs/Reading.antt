@@ -1,8 +1,9 @@
 -- What is kept of the names of a directory tells which were there at some moment of a reading, and which at each.
-use Rattle.std.proofs.Common.{ℕ, ◌≡◌, ◌≤◌, ◌↔◌, inl, inr, Option, Some, None, IsSomeAnd, refl, arith}
-use Rattle.std.proofs.lemmas.Bool.{cases_lt}
+use Rattle.std.proofs.Common.{ℕ, ◌≡◌, ◌≤◌, ◌↔◌, inl, inr, true, Option, Some, None, IsSomeAnd, refl, arith}
+use Rattle.std.proofs.lemmas.Bool.{cases_lt, false≢true, leb-true, le-leb, or_cases, or_left, or_right}
 use Rattle.std.specs.Ordering.{nat_cmp}
 use Rattle.std.specs.BTreeMap.{get}
+use Rattle.std.specs.Option.{is_some}
 use Rattle.md_dirs.specs.State.{file_at}
 use Rattle.md_dirs.specs.declared.paths.Path.{Path}
 use Rattle.md_log.specs.declared.line.Step.{Step}
@@ -11,7 +12,7 @@ use Rattle.md_judge.specs.declared.judge.directories.Named.{Named}
 use Rattle.md_judge.specs.Logs.{Log}
 use Rattle.md_judge.specs.Told.{at}
 use Rattle.md_judge.specs.Law.{turn, IsNeverThere, IsAlwaysThere}
-use Rattle.md_judge.specs.Readings.{WasSince, IsHere, RecallsWas, IsNameOf, IsHereSince}
+use Rattle.md_judge.specs.Readings.{was_late, was_since, WasSince, IsHere, RecallsWas, IsNameOf, IsHereSince}
 use Rattle.md_judge.proofs.Claiming.{up, down, came, after}
 
 -- whether a path is there at a moment
@@ -21,6 +22,20 @@ here {C = C} l p j there gone = by (file_at (at l j) p) refl
     by : (o : Option ℕ) → file_at (at l j) p ≡ o → C
     by None is = gone is
     by (Some n) is = there (λ none. cc)
+
+-- whether a name was there at a line or after it
+late-kept : (o : Option ℕ) (first : ℕ) → (was_late o first ≡ true) ↔ IsSomeAnd o (λ last. first ≤ last)
+late-kept None first = (λ h. false≢true h, λ h. absurd h)
+late-kept (Some last) first = (leb-true first last, le-leb first last)
+
+pub kept-since : (d : Directory) (name first : ℕ) → (was_since d name first ≡ true) ↔ WasSince d name first
+kept-since d name first =
+    let was = get nat_cmp d.was name in
+    let late = late-kept was first in
+    let there = is_some (get nat_cmp d.names name) in (
+      λ since. elim (or_cases (was_late was first) there since) [ inl had ↦ inr (late.0 had) | inr has ↦ inl has ],
+      λ since. elim since [ inl has ↦ or_right (was_late was first) there has | inr had ↦ or_left (was_late was first) there (late.1 had) ],
+    )
 
 module _ (line : ℕ → ℕ) (l : Log) (begin i : ℕ) (x : Step) (p : Path) (d : Directory) (name first : ℕ)
     (is : IsNameOf line l begin i p d name first) where

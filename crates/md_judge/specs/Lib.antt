@@ -8,5 +8,5 @@ pub mod Files
 pub mod Recalls
 pub mod Messages
 pub mod Claims
-pub mod Readings
 pub mod Listings
+pub mod Readings

@@ -104,9 +104,11 @@ pub record IsCompleted (line : ℕ → ℕ) (name : ℕ → List ℕ) (first beg
   pub rises : (a b : ℕ) → a < b → line a < line b
   pub spans : (a b : ℕ) → IsIn s.spans.items (a, b)
       ↔ ((m n : ℕ) × (a ≡ line m) × (b ≡ line n) × IsCounted (turn l i x) begin folder m n)
-  pub shown : (u : ℕ) → (ordered.contains nat_cmp s.shown u ≡ true) ↔ WasListed (turn l i x) begin folder (name u)
   pub present : (unique : List ℕ) → IsThere (at l i) folder unique → (u : ℕ) × (name u ≡ unique) × IsIn (present_in mail folder) u
-  pub recalls : (u : ℕ) → RecalledTimes line (λ j. IsThere (at l j) folder (name u)) i (message_of mail folder u)
+  pub shown : (u : ℕ) → IsIn (present_in mail folder) u
+      → (ordered.contains nat_cmp s.shown u ≡ true) ↔ WasListed (turn l i x) begin folder (name u)
+  pub recalls : (u : ℕ) → IsIn (present_in mail folder) u
+      → RecalledTimes line (λ j. IsThere (at l j) folder (name u)) i (message_of mail folder u)
 
 -- the clause is broken where a listing is complete
 abbrev pub BrokenByListing : Turn → Clause → Type 0

@@ -41,6 +41,16 @@ pub(super) struct Directory {
     pub(super) was: BTreeMap<u32, usize>,
 }
 
+impl Directory {
+    /// The line that last made a name be there or go.
+    pub(super) fn last_change(&self, name: u32) -> Option<usize> {
+        match self.names.get(&name) {
+            Some(named) => line_before(named.since),
+            None => self.was.get(&name).copied(),
+        }
+    }
+}
+
 /// The directories, three for each folder: tmp, new and cur.
 #[derive(Drop)]
 pub(super) struct Directories {
@@ -86,11 +96,8 @@ impl Directories {
 
     /// The line that last made a path be there or go.
     pub(super) fn last_change(&self, spot: Spot) -> Option<usize> {
-        let directory = self.directory(spot.folder, spot.place)?;
-        match directory.names.get(&spot.name) {
-            Some(named) => line_before(named.since),
-            None => directory.was.get(&spot.name).copied(),
-        }
+        self.directory(spot.folder, spot.place)?
+            .last_change(spot.name)
     }
 
     /// What is known of a path.

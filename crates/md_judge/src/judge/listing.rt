@@ -1,13 +1,16 @@
 //! Readings of directories, and listings.
 ghost use Rattle.std.specs.Prelude.{◌≡◌, ℕ, List, Some, None};
-ghost use Rattle.std.specs.Option.{option_copied};
+ghost use Rattle.std.specs.Option.{option_copied, option_map};
+ghost use Rattle.md_dirs.specs.declared.paths.Place.{Place};
 ghost use Rattle.md_log.specs.declared.line.Step.{Step};
 ghost use Rattle.md_judge.specs.Logs.{Log};
 ghost use Rattle.md_judge.specs.Law.{turn};
 ghost use Rattle.md_judge.specs.Found.{Notes};
+ghost use Rattle.md_judge.specs.declared.judge.directories.Named.{Named};
+ghost use Rattle.md_judge.specs.Readings.{shown_wrongly, lacked, wrong_name, PartFinds, IsPartOf, BrokenByPart};
 ghost use Rattle.md_judge.specs.Listings.{lacking, is_lacking, was_at_each, ListFinds, LeavesOut, IsCompleted, BrokenByListing};
 
-use super::directories::{Directory, Spot};
+use super::directories::Directory;
 use super::found::Found;
 use super::known::Known;
 use super::mail::{Mail, Message};
@@ -187,8 +190,53 @@ fn check_listing(found: &mut Found, listing: &Listing, mail: &Mail, folder: u32)
     found.note(lacking.is_some(), Clause::Unlisted, before);
 }
 
+/// A part of a reading, whose first part had the line `first`: whether no directory gives it.
+fn check_part(
+    found: &mut Found,
+    directory: &Directory,
+    reading: &Reading,
+    reply: Reply,
+    names: &[u32],
+    first: usize,
+)
+    ensures finds { Notes (PartFinds directory.now reading.now reply names.now first) found.old found.new }
+    ensures law { (line : ℕ → ℕ) (name : ℕ → List ℕ) (begin i folder : ℕ) (place : Place) (l : Log) (x : Step)
+        → IsPartOf line name begin i folder place l x directory.now reading.now reply names.now first
+        → Notes (BrokenByPart (turn l i x)) found.old found.new }
+{
+    let wrong = wrong_name(directory, reading, reply, names, first);
+    let before = match wrong {
+        None => None,
+        Some(name) => directory.last_change(name),
+    };
+    let is_wrong = wrong.is_some() || reply == Reply::NotFound;
+    found.note(is_wrong, Clause::NotADirectory, before);
+}
+
+/// A name that a part shows, or lacks where it is the last, as no directory does.
+fn wrong_name(
+    directory: &Directory,
+    reading: &Reading,
+    reply: Reply,
+    names: &[u32],
+    first: usize,
+) -> Option<u32>
+    ensures { result ≡ wrong_name directory.now reading.now reply names.now first }
+{
+    match reply {
+        Reply::Ok => match shown_wrongly(directory, names, first) {
+            None => lacked(directory, reading, first),
+            Some(name) => Some(name),
+        },
+        Reply::More => shown_wrongly(directory, names, first),
+        Reply::NotFound | Reply::Exists | Reply::Fault => None,
+    }
+}
+
 /// A name that a part shows, and that was in the directory at no moment since the first part.
-fn shown_wrongly(directory: &Directory, names: &[u32], first: usize) -> Option<u32> {
+fn shown_wrongly(directory: &Directory, names: &[u32], first: usize) -> Option<u32>
+    ensures { result ≡ shown_wrongly directory.now names.now first }
+{
     names
         .iter()
         .copied()
@@ -196,7 +244,9 @@ fn shown_wrongly(directory: &Directory, names: &[u32], first: usize) -> Option<u
 }
 
 /// A name that a whole reading lacks, and that was there since its first part.
-fn lacked(directory: &Directory, reading: &Reading, first: usize) -> Option<u32> {
+fn lacked(directory: &Directory, reading: &Reading, first: usize) -> Option<u32>
+    ensures { result ≡ option_map (λ (e : ℕ × Named). e.0) (lacked directory.now reading.now first) }
+{
     for (name, named) in directory.names.iter() {
         if is_there_since(*named, first) && !reading.shown.contains(name) {
             return Some(*name);
@@ -223,44 +273,15 @@ impl Watch {
         };
         listing.looked = Some(self.now);
         let first = listing.reading(place).show(self.now, names)?;
-        let wrong = self.wrong_name(known, &mut listing, folder, place, reply, names, first);
-        if let Some(name) = wrong {
-            let before = known.directories.last_change(Spot {
-                folder,
-                place,
-                name,
-            });
-            self.found.note(true, Clause::NotADirectory, before);
+        if let Some(directory) = known.directories.directory(folder, place) {
+            let reading = listing.reading(place);
+            check_part(&mut self.found, directory, reading, reply, names, first);
         }
-        self.found
-            .note(reply == Reply::NotFound, Clause::NotADirectory, None);
         if reply != Reply::More {
             self.end_reading(known, &mut listing, folder, place, reply, first)?;
         }
         self.listings.insert(key, listing)?;
         Ok(())
-    }
-
-    /// A name that a part shows or lacks as no directory does.
-    fn wrong_name(
-        &self,
-        known: &Known,
-        listing: &mut Listing,
-        folder: u32,
-        place: Place,
-        reply: Reply,
-        names: &[u32],
-        first: usize,
-    ) -> Option<u32> {
-        let directory = known.directories.directory(folder, place)?;
-        match reply {
-            Reply::Ok => match shown_wrongly(directory, names, first) {
-                None => lacked(directory, listing.reading(place), first),
-                shown => shown,
-            },
-            Reply::More => shown_wrongly(directory, names, first),
-            Reply::NotFound | Reply::Exists | Reply::Fault => None,
-        }
     }
 
     /// A reading is over: with its last part, or by a failure, which drops it.

@@ -1,16 +1,17 @@
 //! Since when names are in a directory, and until when they were.
-ghost use Rattle.std.specs.Prelude.{◌≡◌, ◌↔◌, ◌≤◌, ℕ, IsTrue};
+ghost use Rattle.std.specs.Prelude.{◌≡◌, ◌↔◌, ℕ, IsTrue};
+ghost use Rattle.std.specs.Bool.{nat_le};
 ghost use Rattle.md_dirs.specs.declared.paths.Path.{Path};
 ghost use Rattle.md_log.specs.declared.line.Step.{Step};
 ghost use Rattle.md_judge.specs.Logs.{Log};
 ghost use Rattle.md_judge.specs.Law.{turn, IsNeverThere, IsAlwaysThere};
-ghost use Rattle.md_judge.specs.Readings.{WasSince, IsNameOf, IsHereSince};
+ghost use Rattle.md_judge.specs.Readings.{was_since, IsNameOf, IsHereSince};
 
 use super::directories::{Directory, Named};
 
 /// Whether a directory had a name at a moment since the first of a reading.
 pub(super) fn was_there_since(directory: &Directory, name: u32, first: usize) -> bool
-    ensures kept { IsTrue result ↔ WasSince directory.now name first }
+    ensures kept { result ≡ was_since directory.now name first }
     ensures law { (line : ℕ → ℕ) (l : Log) (begin i : ℕ) (x : Step) (p : Path) → IsNameOf line l begin i p directory.now name first
         → (IsTrue result → ⊥) ↔ IsNeverThere (turn l i x) begin p }
 {
@@ -19,7 +20,7 @@ pub(super) fn was_there_since(directory: &Directory, name: u32, first: usize) ->
 
 /// Whether a name is there, or was at a line or after it.
 fn is_kept_since(directory: &Directory, name: u32, line: usize) -> bool
-    ensures { IsTrue result ↔ WasSince directory.now name line }
+    ensures { result ≡ was_since directory.now name line }
 {
     let was = match directory.was.get(&name) {
         None => false,
@@ -30,7 +31,7 @@ fn is_kept_since(directory: &Directory, name: u32, line: usize) -> bool
 
 /// Whether a name that is there was there at each moment since the first of a reading.
 pub(super) fn is_there_since(named: Named, first: usize) -> bool
-    ensures kept { IsTrue result ↔ (named.since ≤ first) }
+    ensures kept { result ≡ nat_le named.since first }
     ensures law { (line : ℕ → ℕ) (l : Log) (begin i : ℕ) (x : Step) (p : Path) → IsHereSince line l begin i p named first
         → IsTrue result ↔ IsAlwaysThere (turn l i x) begin p }
 {
