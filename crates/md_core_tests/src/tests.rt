@@ -8,12 +8,13 @@ mod mailbox;
 mod memory;
 mod pairs;
 mod runs;
+mod scene;
 mod settles;
 mod small;
 mod submits;
 mod threads;
 
-use md_core::{Call, CoreError, Event, JobId, RunStop, StepOut, SubmitRefused, World};
+use md_core::{Answer, Call, CoreError, Event, JobId, RunStop, StepOut, World};
 use md_dirs::{Bytes, Dirs, Place, PlainDirs};
 use std::alloc::{AllocError, Global};
 use std::process::Abort;
@@ -47,97 +48,88 @@ fn delivery(
 fn load<D: Dirs + Drop>(alloc: Global, dirs: D) -> Result<World<D>, CoreError> {
     match World::load(alloc, dirs) {
         Ok(world) => Ok(world),
-        Err(refused) => World::load(alloc, refused.dirs).map_err(|refused| refused.error),
+        Err(refused) => match World::load(alloc, refused.dirs) {
+            Ok(world) => Ok(world),
+            Err(refused) => Err(refused.error),
+        },
     }
 }
 
-fn submit<D: Dirs>(
+// Submits a call, once more where memory was wanting, and gives its refusal alone.
+fn submitted<D: Dirs>(
     rt: &impl Abort,
     world: &mut World<D>,
     call: Call,
-) -> Result<JobId, SubmitRefused> {
+) -> Result<JobId, CoreError> {
     let jobs = world.jobs();
-    match world.submit(call) {
+    let refused = match world.submit(call) {
+        Ok(job) => return Ok(job),
+        Err(refused) => refused,
+    };
+    assert!(rt; world.jobs() == jobs);
+    if refused.error != CoreError::NoMemory {
+        return Err(refused.error);
+    }
+    match world.submit(refused.call) {
         Ok(job) => Ok(job),
-        Err(refused) => {
-            assert_eq!(rt; world.jobs(), jobs);
-            if refused.error == CoreError::NoMemory {
-                return world.submit(refused.call);
-            }
-            Err(refused)
-        }
+        Err(refused) => Err(refused.error),
     }
 }
 
+// What a refused step leaves: the log, the effects and the answer.
+fn shown<D: Dirs>(world: &World<D>, job: JobId) -> (usize, usize, Option<Answer>) {
+    (world.log().len(), world.effects().len(), world.answer(job))
+}
+
+fn step_once<D: Dirs>(world: &mut World<D>, job: JobId, now: u64) -> Result<StepOut, CoreError> {
+    world.step(job, now, None)
+}
+
+// A refused step leaves what is shown, and is made again where memory was wanting.
 fn step<D: Dirs>(
     rt: &impl Abort,
     world: &mut World<D>,
     job: JobId,
     now: u64,
 ) -> Result<StepOut, CoreError> {
-    step_by(rt, world, job, now, None)
+    let before = shown(world, job);
+    let out = step_once(world, job, now);
+    assert!(rt; out.is_ok() || shown(world, job) == before);
+    if matches!(out, Err(CoreError::NoMemory)) {
+        return step_once(world, job, now);
+    }
+    out
 }
 
-// A refused step leaves the log, the effects and the answer, and is made again where memory was wanting.
-fn step_by<D: Dirs>(
-    rt: &impl Abort,
-    world: &mut World<D>,
-    job: JobId,
-    now: u64,
-    own: Option<u64>,
-) -> Result<StepOut, CoreError> {
-    let events = world.log().len();
-    let effects = world.effects().len();
-    let answer = world.answer(job);
-    match world.step(job, now, own) {
-        Ok(out) => Ok(out),
-        Err(error) => {
-            assert_eq!(rt; world.log().len(), events);
-            assert_eq!(rt; world.effects().len(), effects);
-            assert_eq!(rt; world.answer(job), answer);
-            if error == CoreError::NoMemory {
-                return world.step(job, now, own);
-            }
-            Err(error)
-        }
-    }
+fn run_once<D: Dirs>(world: &mut World<D>, events: &[Event]) -> Option<RunStop> {
+    world.run(events).err()
 }
 
 // Runs steps from the beginning of a world.
 fn run<D: Dirs>(rt: &impl Abort, world: &mut World<D>, events: &[Event]) -> Option<RunStop> {
-    let stop = world.run(events).err()?;
-    assert_eq!(rt; world.log().len(), stop.at);
+    let stop = run_once(world, events)?;
+    assert!(rt; world.log().len() == stop.at && stop.at <= events.len());
     if stop.error != CoreError::NoMemory {
         return Some(stop);
     }
-    assert!(rt; stop.at <= events.len());
-    let next = world.run(&events[stop.at..]).err()?;
+    let next = run_once(world, &events[stop.at..])?;
     Some(RunStop {
         at: stop.at.saturating_add(next.at),
         error: next.error,
     })
 }
 
-// Submits a call, and gives its refusal alone.
-fn submitted<D: Dirs>(
-    rt: &impl Abort,
-    world: &mut World<D>,
-    call: Call,
-) -> Result<JobId, CoreError> {
-    match submit(rt, world, call) {
-        Ok(job) => Ok(job),
-        Err(refused) => Err(refused.error),
-    }
+// The delivery of six bytes by fours, under a unique name.
+fn letter(alloc: Global, folder: u32, unique: &[u8]) -> Result<Call, AllocError> {
+    delivery(alloc, folder, unique, copied(alloc, BODY)?, 4)
 }
 
-// Submits the delivery of six bytes by fours.
 fn submit_one<D: Dirs>(
     rt: &impl Abort,
     alloc: Global,
     world: &mut World<D>,
 ) -> Result<JobId, CoreError> {
-    let call = delivery(alloc, 0, NAME, copied(alloc, BODY)?, 4)?;
-    submitted(rt, world, call)
+    submitted(rt, world, letter(alloc, 0, NAME)?)
 }
 
 // A world of one job, which delivers six bytes by fours.
@@ -147,7 +139,7 @@ fn one_delivery<D: Dirs + Drop>(
     dirs: D,
 ) -> Result<World<D>, CoreError> {
     let mut world = load(alloc, dirs)?;
-    submit_one(rt, alloc, &mut world)?;
+    assert!(rt; submit_one(rt, alloc, &mut world) == Ok(1));
     Ok(world)
 }
 
@@ -155,13 +147,25 @@ fn plain_delivery(rt: &impl Abort, alloc: Global) -> Result<World<PlainDirs>, Co
     one_delivery(rt, alloc, PlainDirs::new(alloc, 1))
 }
 
-// Whether a directory of folder 0 has these names, with these sizes, in their order.
-fn has_names<D: Dirs>(world: &World<D>, place: Place, names: &[(&[u8], u64)]) -> bool {
-    let all_there = names.iter().enumerate().all(|(at, (name, size))| {
-        match world.names(0, place, at) {
-            Some(row) => row.name == *name && row.size == *size,
-            None => false,
+fn has_name<D: Dirs>(
+    world: &World<D>,
+    folder: u32,
+    place: Place,
+    at: usize,
+    name: (&[u8], u64),
+) -> bool {
+    match world.names(folder, place, at) {
+        Some(row) => row.name == name.0 && row.size == name.1,
+        None => false,
+    }
+}
+
+// Whether a directory has these names, with these sizes, in their order.
+fn has_names<D: Dirs>(world: &World<D>, folder: u32, place: Place, names: &[(&[u8], u64)]) -> bool {
+    for (at, name) in names.iter().enumerate() {
+        if !has_name(world, folder, place, at, *name) {
+            return false;
         }
-    });
-    all_there && world.names(0, place, names.len()).is_none()
+    }
+    world.names(folder, place, names.len()).is_none()
 }

@@ -1,15 +1,16 @@
 // Calls from their submit to their answer: each of the seven, refused ones, ones that lack memory amid their steps, and ones over a call
 // that fails. What they answer is taken from what the calls mean, and the names from maildir(5).
-use super::loads::{Named, directories};
-use super::{BODY, NAME, copied, delivery, has_names, load};
+use super::loads::{Named, world_of};
+use super::mailbox::letters;
+use super::scene::{Scene, plays};
+use super::{BODY, NAME, copied, has_names, letter, load, shown};
 use md_core::Answer::{Cleaned, Copied, Delivered, Expunged, Fault, Moved};
-use md_core::{Answer, Call, CallError, CoreError, JobId, World};
+use md_core::{Answer, Call, CallError, CoreError, JobId, SubmitRefused, World};
 use md_dirs::Place::{Cur, New, Tmp};
 use md_dirs::{Dirs, FailAt, PlainDirs};
-use md_name::{Flags, NameError};
+use md_name::Flags;
 use std::alloc::{AllocError, Global};
 use std::process::Abort;
-use std::test::Fail;
 
 // A moment, in seconds, at which the clean of a file that was stamped at 0 takes it.
 const NOW: u64 = 129_600;
@@ -45,19 +46,38 @@ fn answered<D: Dirs>(
     call: Call,
 ) -> Result<Answer, CoreError> {
     let jobs = world.jobs();
-    let refused = match world.call(call, NOW, None) {
-        Ok(answer) => return Ok(answer),
+    match world.call(call, NOW, None) {
+        Ok(answer) => Ok(answer),
         Err(CallError::NoMemory { job }) => {
             assert!(rt; world.jobs() == job && job > jobs);
-            return goes_on(rt, world, job);
+            goes_on(rt, world, job)
         }
-        Err(CallError::Refused(refused)) => refused,
-    };
-    assert!(rt; world.jobs() == jobs);
+        Err(CallError::Refused(refused)) => {
+            assert!(rt; world.jobs() == jobs);
+            again(world, refused)
+        }
+    }
+}
+
+// A refused call is made again where memory was wanting.
+fn again<D: Dirs>(world: &mut World<D>, refused: SubmitRefused) -> Result<Answer, CoreError> {
     if refused.error != CoreError::NoMemory {
         return Err(refused.error);
     }
     once(world, refused.call)
+}
+
+// Whether a call is answered as it should be.
+fn is_answered<D: Dirs>(
+    rt: &impl Abort,
+    world: &mut World<D>,
+    call: Result<Call, AllocError>,
+    want: Answer,
+) -> bool {
+    match call {
+        Ok(call) => answered(rt, world, call) == Ok(want),
+        Err(_) => false,
+    }
 }
 
 // A call on the message u of folder 0: each of the errands, by its number.
@@ -99,210 +119,198 @@ fn errand(alloc: Global, number: u32, letter: Flags) -> Result<Call, AllocError>
     })
 }
 
-// The errands in turn by their numbers, with their letters and what each is answered.
-fn errands() -> Result<[(u32, Flags, Answer); 5], NameError> {
-    let (seen, trashed) = (Flags::parse(b"S")?, Flags::parse(b"T")?);
-    Ok([
-        (0, seen, Answer::Flags(seen)),
-        (1, trashed, Answer::Flags(Flags::parse(b"ST")?)),
-        (2, seen, Copied),
-        (3, seen, Moved),
-        (4, seen, Expunged),
-    ])
-}
-
 // Whether each errand on the message is answered as it should be.
-fn errands_are_answered<D: Dirs>(
-    rt: &impl Abort,
-    alloc: Global,
-    world: &mut World<D>,
-    wants: &[(u32, Flags, Answer)],
-) -> Result<bool, CoreError> {
-    for (number, letter, want) in wants {
-        let call = errand(alloc, *number, *letter)?;
-        if answered(rt, world, call)? != *want {
-            return Ok(false);
-        }
-    }
-    Ok(true)
+fn errands_are_answered(rt: &impl Abort, alloc: Global, world: &mut World<PlainDirs>) -> bool {
+    let (seen, trashed) = (letters(b"S"), letters(b"T"));
+    let both = letters(b"ST");
+    is_answered(rt, world, errand(alloc, 0, seen), Answer::Flags(seen))
+        && is_answered(rt, world, errand(alloc, 1, trashed), Answer::Flags(both))
+        && is_answered(rt, world, errand(alloc, 2, seen), Copied)
+        && is_answered(rt, world, errand(alloc, 3, seen), Moved)
+        && is_answered(rt, world, errand(alloc, 4, seen), Expunged)
 }
 
-// A world of the message u in new, and of an old file in tmp.
-fn world_of_two(alloc: Global) -> Result<World<PlainDirs>, CoreError> {
+/// A world of the message u in new, and of an old file in tmp.
+pub(super) fn world_of_two(alloc: Global) -> Result<World<PlainDirs>, CoreError> {
     let files: [Named<'_>; 2] = [(0, New, b"u", 0), (0, Tmp, b"x", 0)];
-    match directories(alloc, &files) {
-        Ok(dirs) => load(alloc, dirs),
-        Err(_) => Err(CoreError::NoMemory),
-    }
+    world_of(alloc, &files)
 }
 
 // A delivery and a clean beside the errands.
-fn delivers_and_cleans<D: Dirs>(
-    rt: &impl Abort,
-    alloc: Global,
-    world: &mut World<D>,
-) -> Result<bool, CoreError> {
-    let call = delivery(alloc, 0, NAME, copied(alloc, BODY)?, 4)?;
-    Ok(
-        answered(rt, world, call)? == Delivered
-            && answered(rt, world, Call::Clean { folder: 0 })? == Cleaned(1),
-    )
+fn delivers_and_cleans(rt: &impl Abort, alloc: Global, world: &mut World<PlainDirs>) -> bool {
+    is_answered(rt, world, letter(alloc, 0, NAME), Delivered)
+        && is_answered(rt, world, Ok(Call::Clean { folder: 0 }), Cleaned(1))
 }
 
 // What is left: the delivery, and the copy, which read the bytes that they were given.
 fn are_left(world: &World<PlainDirs>) -> bool {
-    has_names(world, New, &[(NAME, 6)])
-        && has_names(world, Tmp, &[])
-        && has_names(world, Cur, &[])
+    has_names(world, 0, New, &[(NAME, 6)])
+        && has_names(world, 0, Tmp, &[])
+        && has_names(world, 0, Cur, &[])
+        && has_names(world, 1, Cur, &[(b"w:2,ST", 1)])
         && world.read(NAME) == Some(BODY)
         && world.read(b"w") == Some(b"u".as_slice())
         && world.read(b"u") == None
-        && world
-            .names(1, Cur, 0)
-            .is_some_and(|row| row.name == b"w:2,ST".as_slice())
-        && world.names(1, Cur, 1).is_none()
+}
+
+/// Each call in turn, in a world of two files.
+pub(super) fn answers_each(rt: &impl Abort, alloc: Global, world: &mut World<PlainDirs>) -> bool {
+    errands_are_answered(rt, alloc, world)
+        && delivers_and_cleans(rt, alloc, world)
+        && are_left(world)
+        && world.jobs() == 7
 }
 
 #[test]
-fn each_call_is_answered(rt: HostRuntime) -> Result<(), Fail> {
-    let wants = errands()?;
-    let mut world = world_of_two(rt.alloc())?;
-    assert!(rt; errands_are_answered(&rt, rt.alloc(), &mut world, &wants)?);
-    assert!(rt; delivers_and_cleans(&rt, rt.alloc(), &mut world)?);
-    assert!(rt; are_left(&world) && world.jobs() == 7);
-    Ok(())
+fn each_call_is_answered(rt: HostRuntime) {
+    plays(&rt, rt.alloc(), Scene::EachCall);
 }
 
-// A call that is refused, and the call in the refusal, where it was not for want of memory.
-fn refused<D: Dirs>(
-    rt: &impl Abort,
-    world: &mut World<D>,
-    call: Call,
-) -> Option<(CoreError, Call)> {
-    let jobs = world.jobs();
-    let Err(CallError::Refused(refused)) = world.call(call, NOW, None) else {
-        return None;
+/// A call that is refused, and the call in the refusal, where it was not for want of memory.
+pub(super) fn gives_back(alloc: Global, world: &mut World<PlainDirs>) -> bool {
+    let Ok(call) = letter(alloc, 2, NAME) else {
+        return false;
     };
-    assert!(rt; world.jobs() == jobs && world.log().is_empty());
-    Some((refused.error, refused.call))
-}
-
-#[test]
-fn a_refused_call_comes_back(rt: HostRuntime) -> Result<(), Fail> {
-    let mut world = world_of_two(rt.alloc())?;
-    let call = delivery(rt.alloc(), 2, NAME, copied(rt.alloc(), BODY)?, 4)?;
-    let back = refused(&rt, &mut world, call);
-    assert!(rt;
-        matches!(
-            back,
-            Some((
-                CoreError::NoFolder,
-                Call::Deliver {
-                    folder: 2,
-                    chunk: 4,
-                    ..
-                }
-            ))
+    let Err(CallError::Refused(refused)) = world.call(call, NOW, None) else {
+        return false;
+    };
+    world.jobs() == 0
+        && world.log().is_empty()
+        && refused.error == CoreError::NoFolder
+        && matches!(
+            refused.call,
+            Call::Deliver {
+                folder: 2,
+                chunk: 4,
+                ..
+            }
         )
-    );
-    Ok(())
-}
-
-// A delivery by a call that may lack memory amid its five steps: then its job has no answer, and takes those that are left.
-fn is_delivered(rt: &impl Abort, alloc: Global) -> Result<(), CoreError> {
-    let mut world = load(alloc, PlainDirs::new(alloc, 1))?;
-    let call = delivery(alloc, 0, NAME, copied(alloc, BODY)?, 4)?;
-    assert!(rt; answered(rt, &mut world, call)? == Delivered);
-    assert!(rt; world.jobs() == 1 && world.log().len() == 5 && world.effects().len() == 1);
-    assert!(rt; has_names(&world, New, &[(NAME, 6)]) && has_names(&world, Tmp, &[]));
-    Ok(())
 }
 
 #[test]
-fn a_call_that_lacks_memory_goes_on(rt: HostRuntime) -> Result<(), Fail> {
-    Ok(is_delivered(&rt, rt.alloc())?)
+fn a_refused_call_comes_back(rt: HostRuntime) {
+    plays(&rt, rt.alloc(), Scene::RefusedCall);
 }
 
-// What a delivery answers over directories whose call number `at` fails.
-fn delivers(alloc: Global, at: u64) -> Result<(World<FailAt<PlainDirs>>, Answer), CoreError> {
-    let mut world = load(alloc, FailAt::new(PlainDirs::new(alloc, 1), at))?;
-    let call = delivery(alloc, 0, NAME, copied(alloc, BODY)?, 4)?;
-    let answer = once(&mut world, call)?;
-    Ok((world, answer))
+/// A delivery by a call that may lack memory amid its five steps: then its job has no answer, and takes those that are left.
+pub(super) fn is_delivered(rt: &impl Abort, alloc: Global, world: &mut World<PlainDirs>) -> bool {
+    is_answered(rt, world, letter(alloc, 0, NAME), Delivered)
+        && shown(world, 1) == (5, 1, Some(Delivered))
+        && world.jobs() == 1
+        && has_names(world, 0, New, &[(NAME, 6)])
+        && has_names(world, 0, Tmp, &[])
 }
 
-// A delivery makes five calls: the create, two appends, the link and the unlink.
-fn is_fault_or_done(rt: &impl Abort, alloc: Global, at: u64) -> Result<(), CoreError> {
-    let (world, answer) = delivers(alloc, at)?;
-    let is_done = at >= 5;
-    assert!(rt;
-        answer == if is_done { Delivered } else { Fault },
-        "call {at} failed"
-    );
-    assert!(rt; has_names(&world, New, &[(NAME, 6)]) == is_done);
-    assert!(rt; has_names(&world, Tmp, &[]) == (at != 5));
-    Ok(())
-}
-
-// A call that lacks memory counts as well, so a row begins anew where one was refused.
 #[test]
-fn a_fault_is_an_answer(rt: HostRuntime) -> Result<(), Fail> {
-    for at in 1..7 {
-        if is_fault_or_done(&rt, rt.alloc(), at).is_err() {
-            is_fault_or_done(&rt, rt.alloc(), at)?;
-        }
+fn a_call_that_lacks_memory_goes_on(rt: HostRuntime) {
+    plays(&rt, rt.alloc(), Scene::LackingCall);
+}
+
+// What the delivery of a message is answered, which is made once.
+fn delivers(alloc: Global, world: &mut World<FailAt<PlainDirs>>, unique: &[u8]) -> Option<Answer> {
+    match letter(alloc, 0, unique) {
+        Ok(call) => once(world, call).ok(),
+        Err(_) => None,
     }
-    Ok(())
+}
+
+// A delivery makes five calls: the create, two appends, the link and the unlink. Of these, call number `at` fails.
+fn is_fault_or_done(alloc: Global, world: &mut World<FailAt<PlainDirs>>, at: u64) -> Option<bool> {
+    let answer = delivers(alloc, world, NAME)?;
+    let is_done = at >= 5;
+    let wanted = if is_done { Delivered } else { Fault };
+    Some(
+        answer == wanted
+            && has_names(world, 0, New, &[(NAME, 6)]) == is_done
+            && has_names(world, 0, Tmp, &[]) == (at != 5),
+    )
 }
 
 // After a call that ended in a fault the next one is answered as ever.
-fn goes_on_after_a_fault(rt: &impl Abort, alloc: Global) -> Result<(), CoreError> {
-    let (mut world, answer) = delivers(alloc, 1)?;
-    assert!(rt; answer == Fault && world.jobs() == 1);
-    let next = delivery(alloc, 0, b"u", copied(alloc, BODY)?, 4)?;
-    assert!(rt; once(&mut world, next)? == Delivered);
-    assert!(rt; has_names(&world, New, &[(b"u", 6)]));
-    Ok(())
+fn goes_on_after_a_fault(alloc: Global, world: &mut World<FailAt<PlainDirs>>) -> Option<bool> {
+    let first = delivers(alloc, world, NAME)?;
+    let jobs = world.jobs();
+    let next = delivers(alloc, world, b"u")?;
+    Some(first == Fault && jobs == 1 && next == Delivered && has_names(world, 0, New, &[(b"u", 6)]))
 }
 
-#[test]
-fn calls_go_on_after_a_fault(rt: HostRuntime) -> Result<(), Fail> {
-    if goes_on_after_a_fault(&rt, rt.alloc()).is_err() {
-        goes_on_after_a_fault(&rt, rt.alloc())?;
+// What comes of a delivery, or of the next one, over directories whose call number `at` fails. None where memory was wanting.
+fn comes(alloc: Global, at: u64, is_next: bool) -> Option<bool> {
+    let mut world = load(alloc, FailAt::new(PlainDirs::new(alloc, 1), at)).ok()?;
+    if is_next {
+        goes_on_after_a_fault(alloc, &mut world)
+    } else {
+        is_fault_or_done(alloc, &mut world, at)
     }
-    Ok(())
 }
 
-// The directories of a world whose one delivery is done are those of a new world, which takes the name of a file that is gone.
-fn begins_anew(rt: &impl Abort, alloc: Global) -> Result<bool, CoreError> {
-    let mut world = world_of_two(alloc)?;
-    answered(rt, &mut world, Call::Clean { folder: 0 })?;
-    let mut world = load(alloc, world.into_dirs())?;
-    let call = delivery(alloc, 0, b"x", copied(alloc, BODY)?, 4)?;
-    let answer = answered(rt, &mut world, call)?;
-    Ok(answer == Delivered && world.jobs() == 1 && has_names(&world, New, &[(b"u", 1), (b"x", 6)]))
+// A call that lacks memory counts as well, so this begins anew where one was refused.
+fn comes_right(alloc: Global, at: u64, is_next: bool) -> bool {
+    match comes(alloc, at, is_next) {
+        Some(is_right) => is_right,
+        None => comes(alloc, at, is_next) == Some(true),
+    }
 }
 
 #[test]
-fn directories_outlive_their_world(rt: HostRuntime) -> Result<(), Fail> {
-    assert!(rt; begins_anew(&rt, rt.alloc())?);
-    Ok(())
+fn a_fault_is_an_answer(rt: HostRuntime) {
+    for at in 1..7 {
+        assert!(rt; comes_right(rt.alloc(), at, false), "call {at} failed");
+    }
+}
+
+#[test]
+fn calls_go_on_after_a_fault(rt: HostRuntime) {
+    assert!(rt; comes_right(rt.alloc(), 1, true));
+}
+
+/// The directories of a world whose clean of one file is done.
+pub(super) fn cleaned(rt: &impl Abort, alloc: Global) -> Result<PlainDirs, CoreError> {
+    let mut world = world_of_two(alloc)?;
+    assert!(rt; is_answered(rt, &mut world, Ok(Call::Clean { folder: 0 }), Cleaned(1)));
+    Ok(world.into_dirs())
+}
+
+/// A new world of these directories takes the name of the file that is gone.
+pub(super) fn begins_anew(rt: &impl Abort, alloc: Global, world: &mut World<PlainDirs>) -> bool {
+    is_answered(rt, world, letter(alloc, 0, b"x"), Delivered)
+        && world.jobs() == 1
+        && has_names(world, 0, New, &[(b"u", 1), (b"x", 6)])
+}
+
+#[test]
+fn directories_outlive_their_world(rt: HostRuntime) {
+    plays(&rt, rt.alloc(), Scene::NewWorld);
 }
 
 fn text_of(alloc: Global, error: &CallError) -> Result<String, AllocError> {
-    match format!(in alloc; "{error}") {
-        Ok(text) => Ok(text),
-        Err(_) => format!(in alloc; "{error}"),
+    format!(in alloc; "{error}")
+}
+
+fn is_text(alloc: Global, error: &CallError, want: &str) -> bool {
+    match text_of(alloc, error) {
+        Ok(text) => text.as_str() == want,
+        Err(_) => false,
+    }
+}
+
+fn is_told(alloc: Global, error: &CallError, want: &str) -> bool {
+    is_text(alloc, error, want) || is_text(alloc, error, want)
+}
+
+/// The texts of both errors of a call.
+pub(super) fn are_told(alloc: Global, world: &mut World<PlainDirs>) -> bool {
+    let lacking = CallError::NoMemory { job: 7 };
+    match world.call(Call::Clean { folder: 2 }, NOW, None) {
+        Ok(_) => false,
+        Err(refused) => {
+            is_told(alloc, &lacking, "no memory amid the steps of job 7")
+                && is_told(alloc, &refused, "no folder")
+        }
     }
 }
 
 #[test]
-fn call_errors_have_their_texts(rt: HostRuntime) -> Result<(), Fail> {
-    let lacking = CallError::NoMemory { job: 7 };
-    assert!(rt; text_of(rt.alloc(), &lacking)?.as_str() == "no memory amid the steps of job 7");
-    let mut world = world_of_two(rt.alloc())?;
-    if let Err(refused) = world.call(Call::Clean { folder: 2 }, NOW, None) {
-        assert!(rt; text_of(rt.alloc(), &refused)?.as_str() == "no folder");
-    }
-    Ok(())
+fn call_errors_have_their_texts(rt: HostRuntime) {
+    plays(&rt, rt.alloc(), Scene::CallErrors);
 }

@@ -1,6 +1,7 @@
 // Calls over directories of which one call fails.
 use super::loads::{Named, directories};
-use super::{BODY, NAME, copied, has_names, load, one_delivery, submitted};
+use super::mailbox::letters;
+use super::{BODY, NAME, copied, has_names, load, one_delivery, step_once, submitted};
 use DirCall::{Append, Create, Link, List, Rename, Unlink};
 use md_core::Answer::{Cleaned, Delivered, Fault};
 use md_core::DirReply::{Fault as Failed, Ok as Done};
@@ -10,7 +11,6 @@ use md_dirs::{Dirs, FailAt, Place, PlainDirs};
 use md_name::Flags;
 use std::alloc::{AllocError, Global};
 use std::process::Abort;
-use std::test::Fail;
 
 // The calls of a delivery with their replies, and whether its name is left in tmp and in new. Where it is in new the delivery answers
 // Delivered, and else Fault.
@@ -70,6 +70,22 @@ static WANTS: [Want; 6] = [
     ),
 ];
 
+// Whether a step of job 1, which has no answer yet, makes this call and gets this reply.
+fn is_step<D: Dirs>(
+    world: &mut World<D>,
+    now: u64,
+    call: DirCall,
+    reply: DirReply,
+) -> Result<bool, CoreError> {
+    if world.answer(1).is_some() {
+        return Ok(false);
+    }
+    match step_once(world, 1, now) {
+        Ok(out) => Ok(out.call == call && out.reply == reply),
+        Err(error) => Err(error),
+    }
+}
+
 /// Takes steps of job 1 with these calls and replies, and gives its answer.
 pub(super) fn answered<D: Dirs>(
     rt: &impl Abort,
@@ -78,47 +94,54 @@ pub(super) fn answered<D: Dirs>(
     steps: &[(DirCall, DirReply)],
 ) -> Result<Option<Answer>, CoreError> {
     for (call, reply) in steps {
-        assert!(rt; world.answer(1).is_none());
-        let out = world.step(1, now, None)?;
-        assert!(rt; out.call == *call && out.reply == *reply, "{call:?}");
+        assert!(rt; is_step(world, now, *call, *reply)?, "{call:?}");
     }
     Ok(world.answer(1))
 }
 
 // Whether the names of a delivery are left where they are wanted.
-fn is_left<D: Dirs>(world: &World<D>, want: &Want) -> bool {
+fn is_left(world: &World<FailAt<PlainDirs>>, want: &Want) -> bool {
     let there: [(&[u8], u64); 1] = [(NAME, BODY.len() as u64)];
     let (in_tmp, in_new) = (usize::from(want.1), usize::from(want.2));
-    has_names(world, Place::Tmp, &there[..in_tmp])
-        && has_names(world, Place::New, &there[..in_new])
+    has_names(world, 0, Place::Tmp, &there[..in_tmp])
+        && has_names(world, 0, Place::New, &there[..in_new])
         && world.effects().len() == in_new
 }
 
 // A delivery does what is wanted.
-fn does<D: Dirs>(rt: &impl Abort, world: &mut World<D>, want: &Want) -> Result<(), CoreError> {
+fn does(
+    rt: &impl Abort,
+    world: &mut World<FailAt<PlainDirs>>,
+    want: &Want,
+) -> Result<bool, CoreError> {
     let answer = answered(rt, world, 1000, want.0)?;
-    assert!(rt; answer == Some(if want.2 { Delivered } else { Fault }));
-    assert!(rt; is_left(world, want));
-    Ok(())
+    let wanted = if want.2 { Delivered } else { Fault };
+    Ok(answer == Some(wanted) && is_left(world, want))
 }
 
-// A delivery over directories whose call number `at` fails does what is wanted.
-fn delivers(rt: &impl Abort, alloc: Global, at: u64, want: &Want) -> Result<(), CoreError> {
+// Whether a delivery over directories whose call number `at` fails does what is wanted.
+fn delivers(rt: &impl Abort, alloc: Global, at: u64, want: &Want) -> Result<bool, CoreError> {
     let dirs = FailAt::new(PlainDirs::new(alloc, 1), at);
     let mut world = one_delivery(rt, alloc, dirs)?;
     does(rt, &mut world, want)
 }
 
 // A call that lacks memory counts as well, so a row begins anew where one was refused.
-#[test]
-fn a_fault_undoes_a_delivery_or_leaves_it_delivered(rt: HostRuntime) -> Result<(), Fail> {
-    for (at, want) in WANTS.iter().enumerate() {
-        let at = at as u64 + 1;
-        if delivers(&rt, rt.alloc(), at, want).is_err() {
-            delivers(&rt, rt.alloc(), at, want)?;
-        }
+fn delivers_so(rt: &impl Abort, alloc: Global, at: u64, want: &Want) -> bool {
+    match delivers(rt, alloc, at, want) {
+        Ok(does) => does,
+        Err(_) => delivers(rt, alloc, at, want) == Ok(true),
     }
-    Ok(())
+}
+
+#[test]
+fn a_fault_undoes_a_delivery_or_leaves_it_delivered(rt: HostRuntime) {
+    for (at, want) in WANTS.iter().enumerate() {
+        assert!(rt;
+            delivers_so(&rt, rt.alloc(), at as u64 + 1, want),
+            "after {at} calls"
+        );
+    }
 }
 
 // The calls of a job with their replies, and the names that are left where it acts, with their sizes.
@@ -161,26 +184,26 @@ fn failing(
 }
 
 // The job of a call takes the steps that are wanted and leaves these names, and gives its answer.
-fn leaves<D: Dirs>(
+fn leaves(
     rt: &impl Abort,
-    world: &mut World<D>,
+    world: &mut World<FailAt<PlainDirs>>,
     call: Call,
     place: Place,
     want: &Left,
 ) -> Result<Option<Answer>, CoreError> {
     submitted(rt, world, call)?;
     let answer = answered(rt, world, 129_600, want.0)?;
-    assert!(rt; has_names(world, place, want.1));
+    assert!(rt; has_names(world, 0, place, want.1));
     Ok(answer)
 }
 
-// A flag change that takes these flags away.
-fn without(alloc: Global, remove: Flags) -> Result<Call, AllocError> {
+// A flag change that takes S away.
+fn without(alloc: Global) -> Result<Call, AllocError> {
     Ok(Call::Flag {
         folder: 0,
         unique: copied(alloc, b"u")?,
         add: Flags::empty(),
-        remove,
+        remove: letters(b"S"),
         tries: 1,
     })
 }
@@ -188,29 +211,31 @@ fn without(alloc: Global, remove: Flags) -> Result<Call, AllocError> {
 fn flags(
     rt: &impl Abort,
     alloc: Global,
-    seen: Flags,
     at: u64,
     want: &Left,
 ) -> Result<Option<Answer>, CoreError> {
-    let call = without(alloc, seen)?;
+    let call = without(alloc)?;
     let mut world = failing(alloc, &[(0, Cur, b"u:2,S", 0)], at)?;
     leaves(rt, &mut world, call, Cur, want)
 }
 
+fn is_flagged(rt: &impl Abort, alloc: Global, at: u64, want: &Left) -> bool {
+    let answer = match flags(rt, alloc, at, want) {
+        Ok(answer) => Ok(answer),
+        Err(_) => flags(rt, alloc, at, want),
+    };
+    let none = Answer::Flags(Flags::empty());
+    answer == Ok(Some(if at == 3 { none } else { Fault }))
+}
+
 #[test]
-fn a_fault_leaves_the_flags(rt: HostRuntime) -> Result<(), Fail> {
-    let seen = Flags::parse(b"S")?;
+fn a_fault_leaves_the_flags(rt: HostRuntime) {
     for (at, want) in FLAGS.iter().enumerate() {
-        let at = at as u64 + 1;
-        let answer = match flags(&rt, rt.alloc(), seen, at, want) {
-            Ok(answer) => answer,
-            Err(_) => flags(&rt, rt.alloc(), seen, at, want)?,
-        };
-        let none = Answer::Flags(Flags::empty());
-        let wanted = if at == 3 { none } else { Fault };
-        assert_eq!(rt; answer, Some(wanted), "call {at} failed");
+        assert!(rt;
+            is_flagged(&rt, rt.alloc(), at as u64 + 1, want),
+            "after {at} calls"
+        );
     }
-    Ok(())
 }
 
 fn cleans(
@@ -224,16 +249,20 @@ fn cleans(
     leaves(rt, &mut world, Call::Clean { folder: 0 }, Tmp, want)
 }
 
+fn is_cleaned(rt: &impl Abort, alloc: Global, at: u64, want: &Left) -> bool {
+    let answer = match cleans(rt, alloc, at, want) {
+        Ok(answer) => Ok(answer),
+        Err(_) => cleans(rt, alloc, at, want),
+    };
+    answer == Ok(Some(if at == 4 { Cleaned(2) } else { Fault }))
+}
+
 #[test]
-fn a_fault_ends_a_clean(rt: HostRuntime) -> Result<(), Fail> {
+fn a_fault_ends_a_clean(rt: HostRuntime) {
     for (at, want) in CLEANS.iter().enumerate() {
-        let at = at as u64 + 1;
-        let answer = match cleans(&rt, rt.alloc(), at, want) {
-            Ok(answer) => answer,
-            Err(_) => cleans(&rt, rt.alloc(), at, want)?,
-        };
-        let wanted = if at == 4 { Cleaned(2) } else { Fault };
-        assert_eq!(rt; answer, Some(wanted), "call {at} failed");
+        assert!(rt;
+            is_cleaned(&rt, rt.alloc(), at as u64 + 1, want),
+            "after {at} calls"
+        );
     }
-    Ok(())
 }

@@ -1,11 +1,11 @@
 // Names that no script can write, and directories that are given back. Which others a world may begin with, and what it finds in them, is
 // in crates/examples/data/. The bytes of each file are its name.
-use super::{copied, delivery, submitted};
-use md_core::{CoreError, World};
+use super::scene::{Scene, plays};
+use super::{copied, delivery, step, submitted};
+use md_core::{CoreError, LoadRefused, World};
 use md_dirs::{Bytes, DirError, Dirs, ImageFile, Path, Place, PlainDirs};
 use std::alloc::Global;
 use std::process::Abort;
-use std::test::Fail;
 
 /// A file by its folder, its place, its name and its stamp.
 pub(super) type Named<'a> = (u32, Place, &'a [u8], u64);
@@ -35,87 +35,119 @@ pub(super) fn directories(alloc: Global, files: &[Named<'_>]) -> Result<PlainDir
     }
 }
 
-// Whether directories hold these files and no other.
-fn holds(dirs: &PlainDirs, files: &[Named<'_>]) -> bool {
-    let mut count = 0usize;
-    for folder in 0..2 {
-        for place in [Place::Tmp, Place::New, Place::Cur] {
-            for at in 0..files.len() {
-                if dirs.row_at(folder, place, at).is_some() {
-                    count = count.saturating_add(1);
-                }
-            }
-        }
+/// A world of these files in two folders.
+pub(super) fn world_of(alloc: Global, files: &[Named<'_>]) -> Result<World<PlainDirs>, CoreError> {
+    match directories(alloc, files) {
+        Ok(dirs) => super::load(alloc, dirs),
+        Err(_) => Err(CoreError::NoMemory),
     }
-    let all_there = files.iter().all(|(folder, place, name, _)| dirs.read(*folder, *place, name)
-        == Some(*name));
-    all_there && count == files.len()
 }
 
-// Loads directories of these files, and once more where a growth was refused. After each refusal the directories are the same.
+// How many of the first rows of a directory are there.
+fn count(dirs: &PlainDirs, folder: u32, place: Place, most: usize) -> usize {
+    let mut count = 0usize;
+    for at in 0..most {
+        if dirs.row_at(folder, place, at).is_some() {
+            count = count.saturating_add(1);
+        }
+    }
+    count
+}
+
+// How many rows there are in a folder.
+fn count_in(dirs: &PlainDirs, folder: u32, most: usize) -> usize {
+    count(dirs, folder, Place::Tmp, most)
+        .saturating_add(count(dirs, folder, Place::New, most))
+        .saturating_add(count(dirs, folder, Place::Cur, most))
+}
+
+// Whether directories hold these files and no other.
+fn holds(dirs: &PlainDirs, files: &[Named<'_>]) -> bool {
+    for (folder, place, name, _) in files {
+        if dirs.read(*folder, *place, name) != Some(*name) {
+            return false;
+        }
+    }
+    let most = files.len();
+    count_in(dirs, 0, most).saturating_add(count_in(dirs, 1, most)) == most
+}
+
+// Loads directories, and once more where a growth was refused. After each refusal the directories are the same.
 fn load(
     rt: &impl Abort,
     alloc: Global,
+    dirs: PlainDirs,
     files: &[Named<'_>],
-) -> Result<Result<World<PlainDirs>, CoreError>, DirError> {
-    let refused = match World::load(alloc, directories(alloc, files)?) {
-        Ok(world) => return Ok(Ok(world)),
-        Err(refused) => refused,
-    };
-    assert!(rt; holds(&refused.dirs, files));
-    if refused.error != CoreError::NoMemory {
-        return Ok(Err(refused.error));
+) -> Result<World<PlainDirs>, CoreError> {
+    match World::load(alloc, dirs) {
+        Ok(world) => Ok(world),
+        Err(refused) => {
+            assert!(rt; holds(&refused.dirs, files));
+            load_again(alloc, refused)
+        }
     }
-    Ok(World::load(alloc, refused.dirs).map_err(|refused| refused.error))
 }
 
-// Whether directories of these files are refused so.
-fn is_refused(
-    rt: &impl Abort,
+fn load_again(
     alloc: Global,
-    files: &[Named<'_>],
-    want: Option<CoreError>,
-) -> Result<bool, DirError> {
-    Ok(load(rt, alloc, files)?.err() == want)
+    refused: LoadRefused<PlainDirs>,
+) -> Result<World<PlainDirs>, CoreError> {
+    if refused.error != CoreError::NoMemory {
+        return Err(refused.error);
+    }
+    match World::load(alloc, refused.dirs) {
+        Ok(world) => Ok(world),
+        Err(refused) => Err(refused.error),
+    }
+}
+
+// Whether directories of one file of folder 0 are refused for its name.
+fn is_refused(rt: &impl Abort, alloc: Global, place: Place, name: &[u8]) -> bool {
+    let files: [Named<'_>; 1] = [(0, place, name, 0)];
+    match directories(alloc, &files) {
+        Ok(dirs) => load(rt, alloc, dirs, &files).err() == Some(CoreError::BadName),
+        Err(_) => false,
+    }
 }
 
 static SEPARATED: [&[u8]; 5] = [b"a/b", b"\0", b"a\n", b"\ra", b"u:2,/"];
 
 // Whether a name is bad in each place.
-fn is_bad(rt: &impl Abort, alloc: Global, name: &[u8]) -> Result<bool, DirError> {
-    let want = Some(CoreError::BadName);
-    Ok(
-        is_refused(rt, alloc, &[(0, Place::Tmp, name, 0)], want)?
-            && is_refused(rt, alloc, &[(0, Place::New, name, 0)], want)?
-            && is_refused(rt, alloc, &[(0, Place::Cur, name, 0)], want)?,
-    )
+fn is_bad(rt: &impl Abort, alloc: Global, name: &[u8]) -> bool {
+    is_refused(rt, alloc, Place::Tmp, name)
+        && is_refused(rt, alloc, Place::New, name)
+        && is_refused(rt, alloc, Place::Cur, name)
 }
 
 #[test]
-fn names_have_no_separator(rt: HostRuntime) -> Result<(), Fail> {
-    for name in SEPARATED {
-        assert!(rt; is_bad(&rt, rt.alloc(), name)?, "{name:?}");
+fn names_have_no_separator(rt: HostRuntime) {
+    for name in SEPARATED.iter() {
+        assert!(rt; is_bad(&rt, rt.alloc(), name), "{name:?}");
     }
-    Ok(())
 }
 
-// Directories of a message are taken, and what it reads is its bytes.
-fn is_read(rt: &impl Abort, alloc: Global) -> Result<bool, DirError> {
+/// Directories of a message are taken, and what it reads is its bytes.
+pub(super) fn is_read(world: &World<PlainDirs>) -> bool {
+    world.read(b"\xff\xfe") == Some(b"\xff\xfe:2,S".as_slice())
+        && world.read(b"\xff") == None
+        && world.read(b"") == None
+}
+
+/// A world of a message under a name of any bytes.
+pub(super) fn world_of_bytes(
+    rt: &impl Abort,
+    alloc: Global,
+) -> Result<World<PlainDirs>, CoreError> {
     let files: [Named<'_>; 1] = [(1, Place::Cur, b"\xff\xfe:2,S", 0)];
-    Ok(match load(rt, alloc, &files)? {
-        Ok(world) => {
-            world.read(b"\xff\xfe") == Some(b"\xff\xfe:2,S".as_slice())
-                && world.read(b"\xff") == None
-                && world.read(b"") == None
-        }
-        Err(_) => false,
-    })
+    match directories(alloc, &files) {
+        Ok(dirs) => load(rt, alloc, dirs, &files),
+        Err(_) => Err(CoreError::NoMemory),
+    }
 }
 
 #[test]
-fn a_name_of_any_bytes_is_read(rt: HostRuntime) -> Result<(), Fail> {
-    assert!(rt; is_read(&rt, rt.alloc())?);
-    Ok(())
+fn a_name_of_any_bytes_is_read(rt: HostRuntime) {
+    plays(&rt, rt.alloc(), Scene::AnyBytes);
 }
 
 /// The stamp of the first file of tmp of folder 0, once a delivery began at this moment.
@@ -127,8 +159,13 @@ pub(super) fn stamp_at(
 ) -> Result<Option<u64>, CoreError> {
     let call = delivery(alloc, 0, b"u", copied(alloc, b"")?, 1)?;
     let job = submitted(rt, world, call)?;
-    if world.step(job, now, None).is_err() {
-        world.step(job, now, None)?;
+    step(rt, world, job, now)?;
+    Ok(stamp(world))
+}
+
+fn stamp(world: &World<PlainDirs>) -> Option<u64> {
+    match world.names(0, Place::Tmp, 0) {
+        Some(row) => Some(row.stamp),
+        None => None,
     }
-    Ok(world.names(0, Place::Tmp, 0).map(|row| row.stamp))
 }

@@ -38,7 +38,8 @@ pub(super) struct Mailbox {
     second: Option<Message>,
 }
 
-fn letters(text: &[u8]) -> Flags {
+/// The flags of these letters.
+pub(super) fn letters(text: &[u8]) -> Flags {
     match Flags::parse(text) {
         Ok(flags) => flags,
         Err(_) => Flags::empty(),

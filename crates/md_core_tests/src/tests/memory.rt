@@ -1,11 +1,10 @@
 // What a refused growth leaves of the clock: a refused step is made again at an earlier moment.
 use super::loads::stamp_at;
-use super::plain_delivery;
-use md_core::{Answer, CoreError, World};
+use super::scene::{Scene, plays};
+use md_core::{Answer, World};
 use md_dirs::PlainDirs;
 use std::alloc::Global;
 use std::process::Abort;
-use std::test::Fail;
 
 fn is_taken(world: &mut World<PlainDirs>, now: u64) -> bool {
     world.step(1, now, None).is_ok()
@@ -24,20 +23,19 @@ fn clock_after(rt: &impl Abort, world: &mut World<PlainDirs>) -> u64 {
     clock
 }
 
-// Whether the next file has the clock for its stamp.
-fn leaves_the_clock(
+/// Whether the next file has the clock for its stamp.
+pub(super) fn leaves_the_clock(
     rt: &impl Abort,
     alloc: Global,
     world: &mut World<PlainDirs>,
-) -> Result<bool, CoreError> {
+) -> bool {
     let clock = clock_after(rt, world);
-    let is_done = world.answer(1) == Some(Answer::Delivered);
-    Ok(is_done && stamp_at(rt, alloc, world, 0)? == Some(clock) && world.log().len() == 6)
+    world.answer(1) == Some(Answer::Delivered)
+        && stamp_at(rt, alloc, world, 0) == Ok(Some(clock))
+        && world.log().len() == 6
 }
 
 #[test]
-fn a_refused_step_leaves_the_clock(rt: HostRuntime) -> Result<(), Fail> {
-    let mut world = plain_delivery(&rt, rt.alloc())?;
-    assert!(rt; leaves_the_clock(&rt, rt.alloc(), &mut world)?);
-    Ok(())
+fn a_refused_step_leaves_the_clock(rt: HostRuntime) {
+    plays(&rt, rt.alloc(), Scene::Clock);
 }

@@ -1,12 +1,11 @@
 // Two errands on one message, in every order of their steps, beside a mailbox that knows nothing of steps and tries.
-use super::loads::{Named, directories};
+use super::loads::{Named, world_of};
 use super::mailbox::{Kind, Mailbox, after_alone, answer_alone, call, is_other, mailbox_of};
-use super::{load, step, submitted};
+use super::{step, submitted};
 use md_core::{Answer, CoreError, StepOut, World};
 use md_dirs::{Place, PlainDirs};
 use std::alloc::Global;
 use std::process::Abort;
-use std::test::Fail;
 
 // Where the message is at the beginning.
 static STARTS: [Named<'static>; 4] = [
@@ -166,6 +165,19 @@ fn plays(
     Ok(false)
 }
 
+// Whether the calls of both are submitted, to a world that has no job.
+fn submits_both(
+    rt: &impl Abort,
+    alloc: Global,
+    world: &mut World<PlainDirs>,
+    kinds: [Kind; 2],
+    tries: u64,
+) -> Result<(), CoreError> {
+    submitted(rt, world, call(alloc, kinds[0], 0, tries)?)?;
+    submitted(rt, world, call(alloc, kinds[1], 1, tries)?)?;
+    Ok(())
+}
+
 // Plays two jobs in a world that has none.
 fn plays_both(
     rt: &impl Abort,
@@ -175,17 +187,23 @@ fn plays_both(
     tries: u64,
     order: &mut Order,
 ) -> Result<bool, CoreError> {
-    for job in 0..2usize {
-        submitted(rt, world, call(alloc, kinds[job], job, tries)?)?;
-    }
+    submits_both(rt, alloc, world, kinds, tries)?;
     let mut watch = Watch::new(kinds, tries, mailbox_of(world));
     plays(rt, world, &mut watch, order)
 }
 
-fn world_of(alloc: Global, start: Named<'static>) -> Result<World<PlainDirs>, CoreError> {
-    match directories(alloc, &[start]) {
-        Ok(dirs) => load(alloc, dirs),
-        Err(_) => Err(CoreError::NoMemory),
+// Whether two jobs in an order are right.
+fn is_right(
+    rt: &impl Abort,
+    alloc: Global,
+    start: Named<'static>,
+    kinds: [Kind; 2],
+    tries: u64,
+    order: &mut Order,
+) -> bool {
+    match world_of(alloc, &[start]) {
+        Ok(mut world) => plays_both(rt, alloc, &mut world, kinds, tries, order) == Ok(true),
+        Err(_) => false,
     }
 }
 
@@ -196,36 +214,40 @@ fn meets(
     start: Named<'static>,
     kinds: [Kind; 2],
     tries: u64,
-) -> Result<Option<u64>, CoreError> {
+) -> Option<u64> {
     let mut order = Order { bits: 0, count: 0 };
     for orders in 1..100_000u64 {
-        let mut world = world_of(alloc, start)?;
-        let is_right = plays_both(rt, alloc, &mut world, kinds, tries, &mut order)?;
-        if !is_right {
-            return Ok(None);
+        if !is_right(rt, alloc, start, kinds, tries, &mut order) {
+            return None;
         }
         if !order.advance() {
-            return Ok(Some(orders));
+            return Some(orders);
         }
     }
-    Ok(None)
+    None
+}
+
+// How many orders every two errands on a message have, with so many tries.
+fn meet_at(rt: &impl Abort, alloc: Global, start: Named<'static>, tries: u64) -> u64 {
+    let mut orders = 0u64;
+    for first in KINDS.iter() {
+        for second in KINDS.iter() {
+            let met = meets(rt, alloc, start, [*first, *second], tries);
+            assert!(rt; met.is_some(), "{first:?} {second:?}, {tries}");
+            orders = orders.saturating_add(met.unwrap_or(0));
+        }
+    }
+    orders
 }
 
 // With two tries none is lost, and with one only where the other job touched the message.
 #[test]
-fn every_two_errands_meet(rt: HostRuntime) -> Result<(), Fail> {
+fn every_two_errands_meet(rt: HostRuntime) {
     let mut orders = 0u64;
-    for tries in [1, 2] {
-        for start in STARTS {
-            for first in KINDS {
-                for second in KINDS {
-                    let met = meets(&rt, rt.alloc(), start, [first, second], tries)?;
-                    assert!(rt; met.is_some(), "{first:?} {second:?}, {tries}");
-                    orders = orders.saturating_add(met.unwrap_or(0));
-                }
-            }
-        }
+    for start in STARTS.iter() {
+        let once = meet_at(&rt, rt.alloc(), *start, 1);
+        let twice = meet_at(&rt, rt.alloc(), *start, 2);
+        orders = orders.saturating_add(once).saturating_add(twice);
     }
     assert!(rt; orders > 1000, "{orders}");
-    Ok(())
 }

@@ -3,7 +3,6 @@ use super::{copied, plain_delivery};
 use md_core::{Answer, Call, Change, CoreError, DirReply, Effect, World};
 use md_dirs::{Place, PlainDirs};
 use std::alloc::{AllocError, Global};
-use std::test::Fail;
 
 fn is_send<T: Send>(x: T) -> T {
     x
@@ -22,10 +21,11 @@ fn sent_effect(effect: Effect) -> Effect {
 }
 
 #[test]
-fn worlds_may_cross_threads(rt: HostRuntime) -> Result<(), Fail> {
-    let world = sent_world(plain_delivery(&rt, rt.alloc())?);
-    assert_eq!(rt; world.jobs(), 1);
-    Ok(())
+fn worlds_may_cross_threads(rt: HostRuntime) {
+    match plain_delivery(&rt, rt.alloc()) {
+        Ok(world) => assert!(rt; sent_world(world).jobs() == 1),
+        Err(_) => panic!(rt; "no world"),
+    }
 }
 
 #[test]
@@ -36,10 +36,12 @@ fn calls_may_cross_threads(rt: HostRuntime) {
 
 #[test]
 fn a_fault_alone_is_a_fault(rt: HostRuntime) {
-    assert!(rt; DirReply::Fault.is_fault());
-    for reply in [DirReply::Ok, DirReply::Exists, DirReply::NotFound] {
-        assert!(rt; !reply.is_fault());
-    }
+    assert!(rt;
+        DirReply::Fault.is_fault()
+            && !DirReply::Ok.is_fault()
+            && !DirReply::Exists.is_fault()
+            && !DirReply::NotFound.is_fault()
+    );
 }
 
 static ERRORS: [CoreError; 14] = [
@@ -75,21 +77,26 @@ answered
 no memory
 ";
 
-fn push_line(alloc: Global, texts: &mut String, error: CoreError) -> Result<(), AllocError> {
-    let line = format!(in alloc; "{error}\n")?;
-    texts.push_str(line.as_str())
+// The texts of all errors, a line for each.
+fn texts_of(alloc: Global) -> Result<String, AllocError> {
+    let mut texts = String::new(alloc);
+    for error in ERRORS.iter() {
+        let line = format!(in alloc; "{error}\n")?;
+        texts.push_str(line.as_str())?;
+    }
+    Ok(texts)
+}
+
+fn are_texts(alloc: Global) -> bool {
+    match texts_of(alloc) {
+        Ok(texts) => texts.as_str() == TEXTS,
+        Err(_) => false,
+    }
 }
 
 #[test]
-fn errors_have_their_texts(rt: HostRuntime) -> Result<(), Fail> {
-    let mut texts = String::new(rt.alloc());
-    for error in ERRORS {
-        if push_line(rt.alloc(), &mut texts, error).is_err() {
-            push_line(rt.alloc(), &mut texts, error)?;
-        }
-    }
-    assert!(rt; texts.as_str() == TEXTS, "{texts}");
-    Ok(())
+fn errors_have_their_texts(rt: HostRuntime) {
+    assert!(rt; are_texts(rt.alloc()) || are_texts(rt.alloc()));
 }
 
 fn change(alloc: Global, folder: u32) -> Result<Change, AllocError> {
@@ -133,15 +140,23 @@ fn is_copied(alloc: Global, effect: &Effect) -> bool {
     }
 }
 
-#[test]
-fn effects_are_copied(rt: HostRuntime) -> Result<(), Fail> {
-    for kind in 0..4 {
-        let effect = sent_effect(Effect {
-            job: 3,
-            answer: Answer::Moved,
-            change: change(rt.alloc(), kind)?,
-        });
-        assert!(rt; is_copied(rt.alloc(), &effect), "{kind}");
+fn is_kind_copied(alloc: Global, kind: u32) -> bool {
+    match change(alloc, kind) {
+        Ok(change) => {
+            let effect = sent_effect(Effect {
+                job: 3,
+                answer: Answer::Moved,
+                change,
+            });
+            is_copied(alloc, &effect)
+        }
+        Err(_) => false,
     }
-    Ok(())
+}
+
+#[test]
+fn effects_are_copied(rt: HostRuntime) {
+    for kind in 0..4 {
+        assert!(rt; is_kind_copied(rt.alloc(), kind), "{kind}");
+    }
 }

@@ -1,11 +1,11 @@
 // Each refusal of a call, and which of several comes first.
-use super::{NAME, delivery, load, plain_delivery, submitted};
+use super::scene::{Scene, plays};
+use super::{NAME, delivery, submitted};
 use CoreError::{BadChunk, BadUnique, BodyTooLong, NameUsed, NoFolder, TooManyJobs};
 use md_core::{Call, CoreError, World};
 use md_dirs::{Bytes, PlainDirs};
 use std::alloc::{AllocError, Global};
 use std::process::Abort;
-use std::test::Fail;
 
 const MOST_BYTES: usize = 16_777_216;
 
@@ -45,41 +45,39 @@ fn zeros(alloc: Global, len: usize) -> Result<Bytes, AllocError> {
     }))
 }
 
-// Why a delivery is refused, if it is.
-fn refusal(
+// Whether a delivery is refused so.
+fn is_refused(
     rt: &impl Abort,
     alloc: Global,
     world: &mut World<PlainDirs>,
     row: (u32, &[u8], usize, u64),
-) -> Result<Option<CoreError>, AllocError> {
-    let call = delivery(alloc, row.0, row.1, zeros(alloc, row.2)?, row.3)?;
-    Ok(submitted(rt, world, call).err())
+    want: Option<CoreError>,
+) -> bool {
+    match row_delivery(alloc, row) {
+        Ok(call) => submitted(rt, world, call).err() == want,
+        Err(_) => false,
+    }
 }
 
-fn are_refused(
-    rt: &impl Abort,
-    alloc: Global,
-    world: &mut World<PlainDirs>,
-) -> Result<(), AllocError> {
+fn row_delivery(alloc: Global, row: (u32, &[u8], usize, u64)) -> Result<Call, AllocError> {
+    delivery(alloc, row.0, row.1, zeros(alloc, row.2)?, row.3)
+}
+
+pub(super) fn are_refused(rt: &impl Abort, alloc: Global, world: &mut World<PlainDirs>) -> bool {
     for (at, (folder, unique, len, chunk, want)) in ROWS.iter().enumerate() {
-        assert!(rt;
-            refusal(rt, alloc, world, (*folder, unique, *len, *chunk))? == *want,
-            "row {at}"
-        );
+        let row = (*folder, *unique, *len, *chunk);
+        assert!(rt; is_refused(rt, alloc, world, row, *want), "row {at}");
     }
-    Ok(())
+    world.jobs() == 3
 }
 
 #[test]
-fn a_delivery_is_refused_for_its_first_fault(rt: HostRuntime) -> Result<(), Fail> {
-    let mut world = plain_delivery(&rt, rt.alloc())?;
-    are_refused(&rt, rt.alloc(), &mut world)?;
-    assert!(rt; world.jobs() == 3);
-    Ok(())
+fn a_delivery_is_refused_for_its_first_fault(rt: HostRuntime) {
+    plays(&rt, rt.alloc(), Scene::Deliveries);
 }
 
 // The delivery of an empty message, under a number.
-fn numbered(alloc: Global, number: u32) -> Result<Call, AllocError> {
+fn numbered(alloc: Global, number: u64) -> Result<Call, AllocError> {
     let name = match format!(in alloc; "{number}") {
         Ok(name) => name,
         Err(_) => format!(in alloc; "{number}")?,
@@ -87,25 +85,35 @@ fn numbered(alloc: Global, number: u32) -> Result<Call, AllocError> {
     delivery(alloc, 0, name.as_bytes(), zeros(alloc, 0)?, 1)
 }
 
-// The first 10,000 are accepted.
-fn fills(rt: &impl Abort, alloc: Global, world: &mut World<PlainDirs>) -> Result<(), AllocError> {
-    for number in 0..10_000u32 {
-        let call = numbered(alloc, number)?;
-        assert!(rt; submitted(rt, world, call) == Ok(u64::from(number) + 1));
+// Whether the delivery of a number is accepted, as the job after it.
+fn is_accepted(rt: &impl Abort, alloc: Global, world: &mut World<PlainDirs>, number: u64) -> bool {
+    match numbered(alloc, number) {
+        Ok(call) => submitted(rt, world, call) == Ok(number.saturating_add(1)),
+        Err(_) => false,
     }
-    Ok(())
 }
 
-fn is_full(rt: &impl Abort, alloc: Global, world: &mut World<PlainDirs>) -> Result<(), AllocError> {
-    fills(rt, alloc, world)?;
-    for (folder, unique, len, chunk, want) in FULL {
-        assert!(rt; refusal(rt, alloc, world, (folder, unique, len, chunk))? == Some(want));
+// The first 10,000 are accepted.
+pub(super) fn is_full(rt: &impl Abort, alloc: Global, world: &mut World<PlainDirs>) -> bool {
+    for number in 0..10_000u64 {
+        if !is_accepted(rt, alloc, world, number) {
+            return false;
+        }
     }
-    Ok(())
+    refuses_more(rt, alloc, world)
+}
+
+fn refuses_more(rt: &impl Abort, alloc: Global, world: &mut World<PlainDirs>) -> bool {
+    for (folder, unique, len, chunk, want) in FULL.iter() {
+        let row = (*folder, *unique, *len, *chunk);
+        if !is_refused(rt, alloc, world, row, Some(*want)) {
+            return false;
+        }
+    }
+    true
 }
 
 #[test]
-fn the_ten_thousandth_job_is_the_last(rt: HostRuntime) -> Result<(), Fail> {
-    let mut world = load(rt.alloc(), PlainDirs::new(rt.alloc(), 1))?;
-    Ok(is_full(&rt, rt.alloc(), &mut world)?)
+fn the_ten_thousandth_job_is_the_last(rt: HostRuntime) {
+    plays(&rt, rt.alloc(), Scene::FullWorld);
 }

@@ -1,11 +1,10 @@
 // Worlds that cross threads, alone and inside a lock, over directories of md_dirs and over a wrapper of them.
 use super::{copied, delivery, has_names, load, submitted};
-use md_core::{Answer, CoreError, JobId, World};
+use md_core::{Answer, Call, CoreError, JobId, World};
 use md_dirs::{Dirs, FailAt, Place, PlainDirs};
-use std::alloc::Global;
+use std::alloc::{AllocError, Global};
 use std::process::Abort;
 use std::sync::{Mutex, Wait};
-use std::test::Fail;
 use std::thread;
 use std::thread::Threads;
 
@@ -23,20 +22,19 @@ fn two_deliveries<D: Dirs + Drop>(
     dirs: D,
 ) -> Result<World<D>, CoreError> {
     let mut world = load(alloc, dirs)?;
-    delivers_both(rt, alloc, &mut world)?;
+    assert!(rt; delivers(rt, alloc, &mut world, b"a") && delivers(rt, alloc, &mut world, b"b"));
     Ok(world)
 }
 
-fn delivers_both<D: Dirs>(
-    rt: &impl Abort,
-    alloc: Global,
-    world: &mut World<D>,
-) -> Result<(), CoreError> {
-    for unique in [b"a", b"b"] {
-        let call = delivery(alloc, 0, unique, copied(alloc, b"x")?, 4)?;
-        submitted(rt, world, call)?;
+fn one_byte(alloc: Global, unique: &[u8]) -> Result<Call, AllocError> {
+    delivery(alloc, 0, unique, copied(alloc, b"x")?, 4)
+}
+
+fn delivers<D: Dirs>(rt: &impl Abort, alloc: Global, world: &mut World<D>, unique: &[u8]) -> bool {
+    match one_byte(alloc, unique) {
+        Ok(call) => submitted(rt, world, call).is_ok(),
+        Err(_) => false,
     }
-    Ok(())
 }
 
 // Takes the steps of both jobs, one of them once more where it found no memory.
@@ -48,7 +46,7 @@ fn finished<D: Dirs>(mut world: World<D>) -> World<D> {
 }
 
 fn both_are_there<D: Dirs>(world: &World<D>) -> bool {
-    has_names(world, Place::New, &[(b"a", 1), (b"b", 1)]) && has_names(world, Place::Tmp, &[])
+    has_names(world, 0, Place::New, &[(b"a", 1), (b"b", 1)]) && has_names(world, 0, Place::Tmp, &[])
 }
 
 fn step_behind(rt: &impl Wait, lock: &Mutex<World<Wrapped>>, job: JobId) {
@@ -71,18 +69,29 @@ fn step_by_turns<R: Threads + Wait + Abort + Sync>(rt: &R, lock: &Mutex<World<Wr
     assert!(rt; one == Some(Answer::Delivered) && two == Some(Answer::Delivered));
 }
 
-#[test]
-fn a_world_goes_to_a_thread_and_back(rt: HostRuntime) -> Result<(), Fail> {
-    let world = two_deliveries(&rt, rt.alloc(), PlainDirs::new(rt.alloc(), 1))?;
-    let ((), world) = thread::join(&rt, || (), move || finished(world));
-    assert!(rt; both_are_there(&world));
-    Ok(())
+fn goes_and_returns<R: Threads + Wait + Sync>(rt: &R, world: World<PlainDirs>) -> bool {
+    let ((), world) = thread::join(rt, || (), move || finished(world));
+    both_are_there(&world)
 }
 
 #[test]
-fn a_world_stands_behind_a_lock(rt: HostRuntime) -> Result<(), Fail> {
-    let lock = Mutex::new(two_deliveries(&rt, rt.alloc(), wrapped(rt.alloc()))?);
-    step_by_turns(&rt, &lock);
-    assert!(rt; both_are_there(&lock.into_inner()));
-    Ok(())
+fn a_world_goes_to_a_thread_and_back(rt: HostRuntime) {
+    match two_deliveries(&rt, rt.alloc(), PlainDirs::new(rt.alloc(), 1)) {
+        Ok(world) => assert!(rt; goes_and_returns(&rt, world)),
+        Err(_) => panic!(rt; "no world"),
+    }
+}
+
+fn stands_behind_a_lock<R: Threads + Wait + Abort + Sync>(rt: &R, world: World<Wrapped>) -> bool {
+    let lock = Mutex::new(world);
+    step_by_turns(rt, &lock);
+    both_are_there(&lock.into_inner())
+}
+
+#[test]
+fn a_world_stands_behind_a_lock(rt: HostRuntime) {
+    match two_deliveries(&rt, rt.alloc(), wrapped(rt.alloc())) {
+        Ok(world) => assert!(rt; stands_behind_a_lock(&rt, world)),
+        Err(_) => panic!(rt; "no world"),
+    }
 }
