@@ -135,7 +135,7 @@ class MailboxesTest(ClusterCase):
         self.assertEqual([bytes(it) for it in bodies], [boxes.read("bob", name) for name in names])
         self.assertEqual([[], []], [boxes.list("bob"), boxes.list("ann", "archive")])
         too_long = bytes(MOST_BYTES + 1)
-        for refused, wrong, body in ((NameUsed, "0.a", b""), (BadUnique, "a/b", b""), (BodyTooLong, "a", too_long)):
+        for refused, wrong, body in ((NameUsed, "0.a", b""), (BadUnique, "a\0b", b""), (BodyTooLong, "a", too_long)):
             first, second = f"1.{refused.__name__}", f"2.{refused.__name__}"
             with self.assertRaises(refused):
                 boxes.deliver_many("bob", [b"x", body, b"yz"], [first, wrong, second])
@@ -329,7 +329,7 @@ class LostWorkerTest(ClusterCase):
         user = next(user for user in USERS if boxes.shard_of(user) == 0)
         worker = self.worker_of(boxes, 0)
         names = [f"{at}.a" for at in range(9000)]
-        sent = boxes._sent(0, "deliver_many", user, 0, names, Records.of(names, [bytes(2000)] * 9000))
+        sent = boxes._sent(0, "deliver_many", user, 0, Records.of(names, [bytes(2000)] * 9000))
         worker.kill()
         began = time.monotonic()
         with self.assertRaises(ShardLost):

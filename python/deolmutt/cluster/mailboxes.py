@@ -203,7 +203,7 @@ class Mailboxes:
             raise ValueError(f"{len(bodies)} messages have {len(names)} names")
         name, shard = _bytes(user), self.shard_of(user)
         refused: Dict[int, DeolmuttError] = self._ask(
-            shard, "deliver_many", name, self._number(folder), names, Records.of(names, bodies)
+            shard, "deliver_many", name, self._number(folder), Records.of(names, bodies)
         )
         self._note(shard, ((name, unique) for at, unique in enumerate(names) if at not in refused))
         for error in refused.values():

@@ -77,10 +77,10 @@ class _Store:
         self._note(calls, ended)
         return ended
 
-    def deliver(self, folder: int, uniques: List[str], records: Records) -> Dict[int, DeolmuttError]:
+    def deliver(self, folder: int, records: Records) -> Dict[int, DeolmuttError]:
         """Delivers messages to a folder, and answers which were refused, by their positions."""
         records.name_folder(folder)
-        refused = self._delivered(records)
+        refused, uniques = self._delivered(records), records.uniques()
         if refused:
             uniques = [unique for at, unique in enumerate(uniques) if at not in refused]
         self.kept.update(dict.fromkeys(uniques, Kept(folder, int(time.time()))))
@@ -189,14 +189,12 @@ class Shard:
             reply = Reply(None, error)
         return pickle.dumps(reply, pickle.HIGHEST_PROTOCOL)
 
-    def deliver_many(
-        self, user: bytes, folder: int, uniques: List[str], records: Records
-    ) -> Dict[int, DeolmuttError]:
+    def deliver_many(self, user: bytes, folder: int, records: Records) -> Dict[int, DeolmuttError]:
         """Delivers messages of one user, and answers which were refused, by their positions. To send an answer
         for each would take half as long as to deliver them."""
         store = self._home(user)
         number = self._number(store, user, folder)
-        return store.deliver(number, uniques, records)
+        return store.deliver(number, records)
 
     def call_many(self, asked: List[UserCall]) -> List[Ended]:
         """Makes calls of some users, those of one store in their order, and answers how each ended."""
