@@ -141,7 +141,7 @@ class MailboxesTest(ClusterCase):
                 boxes.deliver_many("bob", [b"x", body, b"yz"], [first, wrong, second])
             self.assertEqual([b"x", b"yz"], [boxes.read("bob", name) for name in (first, second)])
         with self.assertRaises(TypeError):
-            boxes.deliver_many("bob", [b"x", 5], ["8.a", "9.a"])  # type: ignore[list-item]
+            boxes.deliver_many("bob", [b"x", 5], ["8.a", "9.a"])
         self.assertEqual(6, len(boxes.list("bob")))
 
     def test_refused_ones_amid_a_batch_that_settles(self) -> None:
@@ -158,6 +158,12 @@ class MailboxesTest(ClusterCase):
     def test_a_client_that_sends_by_the_scheduler(self) -> None:
         address = self.client.scheduler.address
         with Client(address, direct_to_workers=False, set_as_default=False) as client, Mailboxes(client, 2) as boxes:
+            names = boxes.deliver_many("ann", [b"x" * 50_000, b"y"])
+            self.assertEqual([b"x" * 50_000, b"y"], [boxes.read("ann", name) for name in names])
+
+    def test_a_worker_in_the_same_process(self) -> None:
+        how = {"processes": False, "n_workers": 1, "threads_per_worker": 1, "dashboard_address": None}
+        with Client(set_as_default=False, **how) as client, Mailboxes(client, 2) as boxes:
             names = boxes.deliver_many("ann", [b"x" * 50_000, b"y"])
             self.assertEqual([b"x" * 50_000, b"y"], [boxes.read("ann", name) for name in names])
 

@@ -9,7 +9,7 @@ from types import TracebackType
 from typing import Any, Dict, Iterable, List, NamedTuple, Optional, Sequence, Tuple, Union
 
 from distributed import Actor, Client, Future
-from distributed.protocol import Serialized, serialize
+from distributed.protocol.serialize import Serialized, serialize
 
 from .._names import fresh_unique
 from .._tree import MOST_FOLDERS

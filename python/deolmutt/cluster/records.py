@@ -27,7 +27,7 @@ _DELIVER = asked(Deliver(0, "", b""))
 _DELIVERED = _ANSWER.pack(1, 0)
 # No store takes a unique name with it.
 _BETWEEN = "\0"
-_Bytes = Union[bytes, bytearray, memoryview]
+_Bytes = Union[bytearray, memoryview]
 
 
 class Records:
@@ -38,13 +38,13 @@ class Records:
         self._uniques = uniques
         self._starts = starts
         # The folder is written into it.
-        self._data = bytearray(data) if memoryview(data).readonly else data
+        self._data: _Bytes = bytearray(data) if memoryview(data).readonly else data
 
     @classmethod
     def of(cls, uniques: Sequence[str], bodies: Sequence[bytes]) -> Records:
         """The deliveries of these messages, to a folder that is not named yet."""
         names = list(map(encoded, uniques))
-        texts = list(bodies if set(map(type, bodies)) <= {bytes} else map(_bytes, bodies))
+        texts = list(bodies) if set(map(type, bodies)) <= {bytes} else list(map(_bytes, bodies))
         pack, kind, piece = _RECORD.pack, _DELIVER.kind, _DELIVER.number
         parts: List[bytes] = [b""] * (3 * len(names))
         parts[0::3] = [pack(kind, 0, 0, 0, len(name), len(text), 0, piece) for name, text in zip(names, texts)]
@@ -83,7 +83,7 @@ def _joined(uniques: Sequence[str]) -> Union[str, List[str]]:
 class Made(NamedTuple):
     """How many deliveries were answered, which of them without success, and what refused the next one."""
 
-    count: int
+    answered: int
     failed: Dict[int, Failed]
     refused: Optional[DeolmuttError]
 
@@ -102,7 +102,7 @@ class RecordWorld(World):
                 len(records) - first, ctypes.byref(self._length),
             )  # fmt: skip
             count = self._length.value
-        answers = given[: count * _ANSWER.size]
+        answers = bytes(memoryview(given)[: count * _ANSWER.size])
         failed = {} if answers == _DELIVERED * count else _failed(answers, first)
         return Made(count, failed, None if status == OK else refusal(status))
 

@@ -7,6 +7,8 @@ import time
 import uuid
 from typing import Any, Dict, Iterable, Iterator, List, NamedTuple, Optional, Tuple, Union
 
+from distributed.protocol.serialize import Serialized, deserialize
+
 from .. import errors
 from .._settling import Settling, call_many
 from .._tree import MOST_FOLDERS, store_name
@@ -92,7 +94,7 @@ class _Store:
         at = 0
         while at < len(records):
             made = self.world.deliver_records(records, at)
-            at += made.count
+            at += made.answered
             refused.update(made.failed)
             error = self._settled() if isinstance(made.refused, TooManyJobs) else made.refused
             if error is not None:
@@ -174,12 +176,13 @@ class Shard:
         """A word that no other shard has, nor this one where it was made anew."""
         return self._born
 
-    def run(self, request: bytes, *buffers: bytes) -> bytes:
-        """Calls a method, as a `Request` says, pickled with these buffers, and answers a pickled `Reply`.
+    def run(self, *parts: Any) -> bytes:
+        """Calls a method, as a `Request` says, which is pickled with buffers, and answers a pickled `Reply`.
 
         What it raises is answered too, so that what Dask raises is always Dask's own. Pickled, a batch
         is one piece for Dask, which would look at each part of a list.
         """
+        request, *buffers = map(_received, parts)
         born, method, given = pickle.loads(request, buffers=buffers)
         if born != self._born:
             raise OSError("the shard was made anew")
@@ -270,3 +273,8 @@ class Shard:
                 raise OtherStore()
             placed = placed._replace(to=self._number(store, to, placed.to))
         return store, placed
+
+
+def _received(part: Any) -> Any:
+    """The bytes of a part. To a worker in the process of its client, Dask hands a part as it was made."""
+    return deserialize(part.header, part.frames) if isinstance(part, Serialized) else part
