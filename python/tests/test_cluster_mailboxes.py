@@ -11,9 +11,11 @@ from typing import Any, Dict, List, Set
 from cluster_support import NO_DASK, Cluster, ClusterCase, needs_cluster, needs_dask
 
 from deolmutt.calls import Place
-from deolmutt.errors import BodyTooLong, NameUsed, NoFolder, NotThere, NotTrashed
+from deolmutt.errors import BadUnique, BodyTooLong, NameUsed, NoFolder, NotThere, NotTrashed
 
 if not NO_DASK:
+    from distributed import Client
+
     from deolmutt.cluster import (
         Mailboxes,
         MissingShard,
@@ -26,6 +28,7 @@ if not NO_DASK:
         WrongChecksum,
         shard_of,
     )
+    from deolmutt.cluster.records import Records
 
 USERS = [b"user%d" % number for number in range(200)]
 # Users of any bytes: none at all, no UTF-8, line ends, NUL, a slash, and a long one.
@@ -120,6 +123,49 @@ class MailboxesTest(ClusterCase):
             boxes.deliver_many("ann", [b"x"] * 1000)
         self.assertEqual(12_000, len(boxes.list("ann")))
         boxes.deliver("ann", b"z")
+
+    def test_a_batch_delivers_all_that_is_not_refused(self) -> None:
+        boxes = self.mailboxes(1, folders=("inbox", "archive"))
+        boxes.deliver("ann", b"x", "0.a")
+        names = [f"{at}.a" for at in range(1, 5)]
+        bodies: List[Any] = [b"one", bytearray(b"\0two"), memoryview(b"three"), b""]
+        self.assertEqual(names, boxes.deliver_many("bob", bodies, names, "archive"))
+        self.assertEqual([], boxes.deliver_many("bob", [], [], "archive"))
+        self.assertEqual([(Place.NEW, *it) for it in zip(names, (3, 4, 5, 0))], boxes.list("bob", "archive"))
+        self.assertEqual([bytes(it) for it in bodies], [boxes.read("bob", name) for name in names])
+        self.assertEqual([[], []], [boxes.list("bob"), boxes.list("ann", "archive")])
+        too_long = bytes(MOST_BYTES + 1)
+        for refused, wrong, body in ((NameUsed, "0.a", b""), (BadUnique, "a\0b", b""), (BodyTooLong, "a", too_long)):
+            first, second = f"1.{refused.__name__}", f"2.{refused.__name__}"
+            with self.assertRaises(refused):
+                boxes.deliver_many("bob", [b"x", body, b"yz"], [first, wrong, second])
+            self.assertEqual([b"x", b"yz"], [boxes.read("bob", name) for name in (first, second)])
+        with self.assertRaises(TypeError):
+            boxes.deliver_many("bob", [b"x", 5], ["8.a", "9.a"])
+        self.assertEqual(6, len(boxes.list("bob")))
+
+    def test_refused_ones_amid_a_batch_that_settles(self) -> None:
+        boxes = self.mailboxes(1)
+        names = [f"{at}.a" for at in range(12_000)]
+        # A name that is used before it settles, after that, and at the end.
+        for at in (5, 10_003, 11_999):
+            names[at] = "4.a"
+        with self.assertRaises(NameUsed):
+            boxes.deliver_many("ann", [b"x"] * len(names), names)
+        self.assertEqual(set(names), {entry.unique for entry in boxes.list("ann")})
+        self.assertEqual([(1, 11_997)], boxes.counts())
+
+    def test_a_client_that_sends_by_the_scheduler(self) -> None:
+        address = self.client.scheduler.address
+        with Client(address, direct_to_workers=False, set_as_default=False) as client, Mailboxes(client, 2) as boxes:
+            names = boxes.deliver_many("ann", [b"x" * 50_000, b"y"])
+            self.assertEqual([b"x" * 50_000, b"y"], [boxes.read("ann", name) for name in names])
+
+    def test_a_worker_in_the_same_process(self) -> None:
+        how = {"processes": False, "n_workers": 1, "threads_per_worker": 1, "dashboard_address": None}
+        with Client(set_as_default=False, **how) as client, Mailboxes(client, 2) as boxes:
+            names = boxes.deliver_many("ann", [b"x" * 50_000, b"y"])
+            self.assertEqual([b"x" * 50_000, b"y"], [boxes.read("ann", name) for name in names])
 
     def test_the_largest_message(self) -> None:
         boxes = self.mailboxes(2)
@@ -288,7 +334,8 @@ class LostWorkerTest(ClusterCase):
         boxes = self.mailboxes(2)
         user = next(user for user in USERS if boxes.shard_of(user) == 0)
         worker = self.worker_of(boxes, 0)
-        sent = boxes._sent(0, "deliver_many", user, 0, [f"{at}.a" for at in range(9000)], [bytes(2000)] * 9000)
+        names = [f"{at}.a" for at in range(9000)]
+        sent = boxes._sent(0, "deliver_many", user, 0, Records.of(names, [bytes(2000)] * 9000))
         worker.kill()
         began = time.monotonic()
         with self.assertRaises(ShardLost):

@@ -22,7 +22,8 @@ from ..world import World
 # Lines: a file that all workers reach, by its path, or the bytes themselves.
 Lines = Union[str, "os.PathLike[str]", bytes]
 
-_PARTITION_BYTES = 1 << 24
+# A worker asks for more work once it has done two partitions, and waits some 7 ms for it: small ones cost more than they spread.
+_PARTITION_BYTES = 1 << 25
 # So many bytes of lines go to the library together: what is near stays near.
 _TOGETHER = 1 << 17
 _READ_BYTES = 1 << 18

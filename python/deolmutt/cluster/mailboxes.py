@@ -9,12 +9,14 @@ from types import TracebackType
 from typing import Any, Dict, Iterable, List, NamedTuple, Optional, Sequence, Tuple, Union
 
 from distributed import Actor, Client, Future
+from distributed.protocol.serialize import Serialized, serialize
 
 from .._names import fresh_unique
 from .._tree import MOST_FOLDERS
 from ..calls import Answer, Call, Clean, Copy, Deliver, Entry, Expunge, Flag, Move, Seen
 from ..errors import DeolmuttError, NoFolder
 from .errors import NoSnapshot, NoWorker, OtherShards, OtherStore, ShardLost, lost
+from .records import Records
 from .rendezvous import shard_of
 from .shard import Ended, Reply, Request, Shard, UserCall
 from .snapshot import Manifest, ShardPart, read_manifest, remove_others
@@ -201,7 +203,7 @@ class Mailboxes:
             raise ValueError(f"{len(bodies)} messages have {len(names)} names")
         name, shard = _bytes(user), self.shard_of(user)
         refused: Dict[int, DeolmuttError] = self._ask(
-            shard, "deliver_many", name, self._number(folder), names, list(bodies)
+            shard, "deliver_many", name, self._number(folder), Records.of(names, bodies)
         )
         self._note(shard, ((name, unique) for at, unique in enumerate(names) if at not in refused))
         for error in refused.values():
@@ -367,8 +369,7 @@ class Mailboxes:
         live = self._shards[shard]
         if shard in self._lost:
             return _Sent(shard, live, None)
-        request = Request(live.born, method, given)
-        return _Sent(shard, live, live.actor.run(pickle.dumps(request, pickle.HIGHEST_PROTOCOL)))
+        return _Sent(shard, live, live.actor.run(*_packed(Request(live.born, method, given))))
 
     def _answer(self, sent: _Sent) -> Any:
         """What a call came to. Whatever Dask raises means that it is not known whether it was made."""
@@ -420,6 +421,20 @@ class Mailboxes:
         if first is not None:
             raise first
         return answers
+
+
+def _packed(request: Request) -> List[Serialized]:
+    """A request as it is sent: pickled, and its large parts beside that, of which Dask makes no copy."""
+    buffers: List[pickle.PickleBuffer] = []
+    pickled = pickle.dumps(request, pickle.HIGHEST_PROTOCOL, buffer_callback=buffers.append)
+    return [_as_it_is(memoryview(pickled)), *(_as_it_is(buffer.raw()) for buffer in buffers)]
+
+
+def _as_it_is(part: memoryview) -> Serialized:
+    """Bytes that Dask does not compress, which takes longer than to send them."""
+    header, frames = serialize(part)
+    header["compression"] = (False,) * len(frames)
+    return Serialized(header, frames)
 
 
 def _bytes(user: User) -> bytes:

@@ -7,14 +7,16 @@ import time
 import uuid
 from typing import Any, Dict, Iterable, Iterator, List, NamedTuple, Optional, Tuple, Union
 
+from distributed.protocol.serialize import Serialized, deserialize
+
 from .. import errors
 from .._settling import call_many, settle
 from .._tree import MOST_FOLDERS, store_name
 from ..calls import Answer, Call, Copy, Deliver, Entry, Expunge, Move
-from ..errors import DeolmuttError
+from ..errors import DeolmuttError, TooManyJobs
 from ..lines import decoded, file_line, folder_line, parted
-from ..world import World
 from .errors import OtherStore
+from .records import Records, RecordWorld
 from .snapshot import PREFIX, Part, ShardPart, read_part, write_durably
 
 # How a call ended: an answer, or an exception that is not raised.
@@ -57,7 +59,7 @@ class _Store:
     def __init__(self, width: int, lines: Optional[bytes] = None, users: Iterable[bytes] = ()) -> None:
         self._width = width
         self._count = MOST_FOLDERS // width * width
-        self.world = World.load(self._heads() if lines is None else lines)
+        self.world = RecordWorld(self._heads() if lines is None else lines)
         self.users: Dict[bytes, int] = {user: at * width for at, user in enumerate(users)}
         self.kept: Dict[str, Kept] = dict(_kept_in(lines)) if lines else {}
 
@@ -76,14 +78,36 @@ class _Store:
         self._note(calls, ended)
         return ended
 
-    def deliver(self, folder: int, uniques: List[str], bodies: List[bytes]) -> Dict[int, DeolmuttError]:
+    def deliver(self, folder: int, records: Records) -> Dict[int, DeolmuttError]:
         """Delivers messages to a folder, and answers which were refused, by their positions."""
-        calls: List[Call] = [Deliver(folder, *message) for message in zip(uniques, bodies)]
-        refused = {at: end for at, end in enumerate(self._made(calls)) if isinstance(end, DeolmuttError)}
+        records.name_folder(folder)
+        refused, uniques = self._delivered(records), records.uniques()
         if refused:
             uniques = [unique for at, unique in enumerate(uniques) if at not in refused]
         self.kept.update(dict.fromkeys(uniques, Kept(folder, int(time.time()))))
         return refused
+
+    def _delivered(self, records: Records) -> Dict[int, DeolmuttError]:
+        """Makes deliveries, and answers which were refused: those after one are made too."""
+        refused: Dict[int, DeolmuttError] = {}
+        at = 0
+        while at < len(records):
+            made = self.world.deliver_records(records, at)
+            at += made.answered
+            refused.update(made.failed)
+            error = self._settled() if isinstance(made.refused, TooManyJobs) else made.refused
+            if error is not None:
+                refused[at] = error
+                at += 1
+        return refused
+
+    def _settled(self) -> Optional[DeolmuttError]:
+        """Settles the world, and answers what refused it."""
+        try:
+            self._settle()
+        except DeolmuttError as error:
+            return error
+        return None
 
     def _made(self, calls: List[Call]) -> List[Ended]:
         ended: List[Ended] = []
@@ -151,13 +175,14 @@ class Shard:
         """A word that no other shard has, nor this one where it was made anew."""
         return self._born
 
-    def run(self, request: bytes) -> bytes:
-        """Calls a method, as a pickled `Request` says, and answers a pickled `Reply`.
+    def run(self, *parts: Any) -> bytes:
+        """Calls a method, as a `Request` says, which is pickled with buffers, and answers a pickled `Reply`.
 
         What it raises is answered too, so that what Dask raises is always Dask's own. Pickled, a batch
         is one piece for Dask, which would look at each part of a list.
         """
-        born, method, given = pickle.loads(request)
+        request, *buffers = map(_received, parts)
+        born, method, given = pickle.loads(request, buffers=buffers)
         if born != self._born:
             raise OSError("the shard was made anew")
         try:
@@ -166,14 +191,12 @@ class Shard:
             reply = Reply(None, error)
         return pickle.dumps(reply, pickle.HIGHEST_PROTOCOL)
 
-    def deliver_many(
-        self, user: bytes, folder: int, uniques: List[str], bodies: List[bytes]
-    ) -> Dict[int, DeolmuttError]:
+    def deliver_many(self, user: bytes, folder: int, records: Records) -> Dict[int, DeolmuttError]:
         """Delivers messages of one user, and answers which were refused, by their positions. To send an answer
         for each would take half as long as to deliver them."""
         store = self._home(user)
         number = self._number(store, user, folder)
-        return store.deliver(number, uniques, bodies)
+        return store.deliver(number, records)
 
     def call_many(self, asked: List[UserCall]) -> List[Ended]:
         """Makes calls of some users, those of one store in their order, and answers how each ended."""
@@ -249,3 +272,8 @@ class Shard:
                 raise OtherStore()
             placed = placed._replace(to=self._number(store, to, placed.to))
         return store, placed
+
+
+def _received(part: Any) -> Any:
+    """The bytes of a part. To a worker in the process of its client, Dask hands a part as it was made."""
+    return deserialize(part.header, part.frames) if isinstance(part, Serialized) else part
