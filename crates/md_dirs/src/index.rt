@@ -207,6 +207,8 @@ impl Dirs for IndexDirs {
         self.folders
     }
 
+    // A listing asks this for each line.
+    #[inline(always)]
     fn row_at(&self, folder: u32, place: Place, at: usize) -> Option<RowRef<'_>> {
         let (name, file) = self.names.row_at(folder, place, at)?;
         Some(shown_row(&self.slots, name, file))
