@@ -98,7 +98,8 @@ LeavesOut t begin folder unique = WasThere t begin folder unique × (WasListed t
 
 -- A step completes a reading of new or cur that began with this step, and a listing of the folder that began with that. The lines of steps
 -- rise, numbers stand for unique names, and what is kept of the listing and of the folder's messages is what the log tells.
-pub record IsCompleted (line : ℕ → ℕ) (name : ℕ → List ℕ) (first begin i folder : ℕ) (l : Log) (x : Step) (s : Listing) (mail : Mail) : Type 0 where
+pub record IsCompleted (line : ℕ → ℕ) (name : ℕ → List ℕ) (first begin i folder : ℕ) (l : Log) (x : Step) (s : Listing) (mail : Mail)
+    : Type 0 where
   pub listing : IsListing l begin i x.actor folder
   pub reading : IsCounted (turn l i x) begin folder first i
   pub rises : (a b : ℕ) → a < b → line a < line b

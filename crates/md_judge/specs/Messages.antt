@@ -58,7 +58,8 @@ Leaving path c folder unique leaving =
     ⊎ ((leaving ≡ 0) × ((q : Path) (n : ℕ) → IsPathOf path c.taken q n → IsOf q folder unique → ⊥))
 
 -- A step adds this path of a message, and what is kept of the message is what the log tells.
-pub record IsAddition (path : Spot → Path) (l : Log) (i : ℕ) (c : Change) (spot : Spot) (file leaving : ℕ) (m : Option Message) : Type 0 where
+pub record IsAddition (path : Spot → Path) (l : Log) (i : ℕ) (c : Change) (spot : Spot) (file leaving : ℕ) (m : Option Message)
+    : Type 0 where
   pub leads : Leads path c (at l i) (at l (suc i))
   pub added : c.added ≡ Some (spot, file)
   pub shown : is_message (path spot) ≡ true

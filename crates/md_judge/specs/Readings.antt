@@ -78,7 +78,8 @@ lacked d reading first = find (is_lacked reading first) d.names.entries
 
 -- the first name that a part shows, or lacks where it is the last, as no directory does
 abbrev pub wrong_name : Directory → Reading → Reply → List ℕ → ℕ → Option ℕ
-wrong_name d reading reply.Ok names first = option_or (shown_wrongly d names first) (option_map (λ (e : ℕ × Named). e.0) (lacked d reading first))
+wrong_name d reading reply.Ok names first =
+    option_or (shown_wrongly d names first) (option_map (λ (e : ℕ × Named). e.0) (lacked d reading first))
 wrong_name d reading reply.More names first = shown_wrongly d names first
 wrong_name d reading r names first = None
 
