@@ -6,7 +6,7 @@ use prog.Atomic.{either}
 use Rattle.logbook.specs.Pages.{Cell, Nib, View, cell, adds, keeps, gives, no_nib, step, Moves, Goes}
 use Rattle.md_core.specs.declared.jobs.call.Call.{Call}
 use Rattle.md_store.specs.declared.entered.Entered.{Entered}
-use Rattle.md_store.specs.Rolls.{calls_of, no_entry, next_from, Follows, AreUsed, MadeNone, first_pen, IsChained, MayEnter, MakesPen, Looks, Enters}
+use Rattle.md_store.specs.Rolls.{calls_of, no_entry, next_from, Follows, AreUsed, MadeNone, first_pen, IsChained, MayEnter, MakesPen, FindsAll, AddsCall}
 
 -- who has the next pen has seen all entries: what a longer list had behind these, another pen made
 pub sole : (pen from : ℕ) (entries more : List Entered) → Follows from (entries ++ more) → MadeNone pen (entries ++ more) → pen ≡ next_from from entries → more ≡ []
@@ -131,14 +131,14 @@ module _ (seen : List Entered) (pen : Nib) (ask : Entered) (may : MayEnter pen) 
   holder = (seen, (pen, None))
 
   abbrev Looking : List Cell → List Entered → Type 0
-  Looking cells entries = (0 < length cells) × ((cell cells 0).1 ≡ true) × Goes IsChained none_shown any_move 0 holder (headed 0) (Looks (step 0 0 0 ask) holder) cells entries
+  Looking cells entries = (0 < length cells) × ((cell cells 0).1 ≡ true) × Goes IsChained none_shown any_move 0 holder (headed 0) (FindsAll (step 0 0 0 ask) holder) cells entries
 
   -- the cells after an exchange that changes nothing
   same-cells : (head : ℕ) (others : List Cell) → set ((head, true) ∷ others) 0 (headed 0 head, true) ≡ (head, true) ∷ others
   same-cells head others = ap (λ (n : ℕ). (n, true) ∷ others) (head-same head)
 
   -- whatever the roll is, who has a pen can look
-  pub looks : Moves IsChained none_shown any_move 0 holder (headed 0) (Looks (step 0 0 0 ask) holder)
+  pub looks : Moves IsChained none_shown any_move 0 holder (headed 0) (FindsAll (step 0 0 0 ask) holder)
   looks cells entries kept begun away =
       let same = kept.cells_are in
       let here : List Cell = (kept.head, true) ∷ kept.others in
@@ -162,10 +162,10 @@ module _ (seen : List Entered) (pen : Nib) (ask : Entered) (may : MayEnter pen) 
 
 module _ (seen : List Entered) (pen : Nib) (ask : Entered) (may : MayEnter pen) (mine : pen.key ≡ next_from first_pen seen) (by : ask.by ≡ pen.key) where
   abbrev Entering : List Cell → List Entered → Type 0
-  Entering cells entries = (0 < length cells) × ((cell cells 0).1 ≡ true) × Goes IsChained none_shown any_move 0 (holder seen pen ask may) (headed 0) (Enters (step 0 0 0 ask) (holder seen pen ask may)) cells entries
+  Entering cells entries = (0 < length cells) × ((cell cells 0).1 ≡ true) × Goes IsChained none_shown any_move 0 (holder seen pen ask may) (headed 0) (AddsCall (step 0 0 0 ask) (holder seen pen ask may)) cells entries
 
   -- whatever the roll is, who has the next pen enters a call behind all that was seen
-  pub enters : Moves IsChained none_shown any_move 0 (holder seen pen ask may) (headed 0) (Enters (step 0 0 0 ask) (holder seen pen ask may))
+  pub enters : Moves IsChained none_shown any_move 0 (holder seen pen ask may) (headed 0) (AddsCall (step 0 0 0 ask) (holder seen pen ask may))
   enters cells entries kept begun away =
       let same = kept.cells_are in
       let here : List Cell = (kept.head, true) ∷ kept.others in

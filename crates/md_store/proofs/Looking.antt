@@ -7,7 +7,7 @@ use Rattle.md_view.specs.Named.{Named, AreMessages}
 use Rattle.md_store.specs.declared.error.ListError.{ListError}
 use Rattle.md_store.specs.declared.rule.Knowledge.{Knowledge}
 use Rattle.md_store.specs.Histories.{named_after, IsLegalFrom}
-use Rattle.md_store.specs.Listing.{seen_in, IsLooked, Looks}
+use Rattle.md_store.specs.Listing.{seen_in, IsLooked, Sees}
 use Rattle.md_store.specs.Pages.{Log, Page}
 use Rattle.md_store.specs.Publishing.{Learns}
 
@@ -16,7 +16,7 @@ module _ (v w : Knowledge) (p : Page) (s : Learns v p p w) (opened : v.opened �
   opening-is = sym (s.2.0 opened).0
 
   looks : (held : List Effect) (folder : ℕ) (new : Option (List Entry)) (entries : List Entry) (front : Log) →
-      IsLooked p held folder new entries front → Looks v held folder new entries front
+      IsLooked p held folder new entries front → Sees v held folder new entries front
   looks held folder new entries front k =
       let log : p.front.log ≡ front.log = ap (λ (f : Log). f.log) (sym k.front_is) in
       let names : p.names ≡ named_after v.opening front.log = sym s.3.names ∙ (λ i. named_after (opening-is i) (log i)) in
@@ -31,6 +31,6 @@ module _ (v w : Knowledge) (p : Page) (s : Learns v p p w) (opened : v.opened �
 
   pub all-looks : (held : List Effect) (folder : ℕ) (new : Option (List Entry)) {V : Type 0} (items : V → List Entry) (front : V →
       Log) (res : Result V ListError)
-      → IfOk res (λ r. IsLooked p held folder new (items r) (front r)) → IfOk res (λ r. Looks v held folder new (items r) (front r))
+      → IfOk res (λ r. IsLooked p held folder new (items r) (front r)) → IfOk res (λ r. Sees v held folder new (items r) (front r))
   all-looks held folder new items front (Ok r) k = looks held folder new (items r) (front r) k
   all-looks held folder new items front (Err e) k = tt

@@ -34,7 +34,7 @@ pub record IsLooked (p : Page) (held : List Effect) (folder : ℕ) (new : Option
   pub entries_are : entries ≡ seen_in new folder p.names.names
 
 -- What a seat that knows its store saw: a legal history which begins with what was held, and these entries at its end.
-pub record Looks (v : Knowledge) (held : List Effect) (folder : ℕ) (new : Option (List Entry))
+pub record Sees (v : Knowledge) (held : List Effect) (folder : ℕ) (new : Option (List Entry))
     (entries : List Entry) (front : Log) : Type 0 where
   pub book_is : front.book ≡ v.held.book
   pub held_begins : IsPrefix held front.log

@@ -67,10 +67,10 @@ MayEnter n = n.right ≡ may_write
 abbrev pub MakesPen : Step Entered → View Entered ℕ → ℕ → View Entered ℕ → Type 0
 MakesPen step before found after = (after.1.0.right ≡ may_make) × (found ≡ 0 → after.1.0.key ≡ first_pen)
 
--- a step looked: the pen that it had made none of the entries, which are chained
-abbrev pub Looks : Step Entered → View Entered ℕ → ℕ → View Entered ℕ → Type 0
-Looks step before found after = (after.1.0 ≡ before.1.0) × Follows first_pen after.0 × MadeNone before.1.0.key after.0
+-- a step found that all entries were seen: the pen that it had made none of the entries, which are chained
+abbrev pub FindsAll : Step Entered → View Entered ℕ → ℕ → View Entered ℕ → Type 0
+FindsAll step before found after = (after.1.0 ≡ before.1.0) × Follows first_pen after.0 × MadeNone before.1.0.key after.0
 
 -- a step entered what was asked for, behind all that was seen
-abbrev pub Enters : Step Entered → View Entered ℕ → ℕ → View Entered ℕ → Type 0
-Enters step before found after = after.0 ≡ before.0 ++ step.ask ∷ []
+abbrev pub AddsCall : Step Entered → View Entered ℕ → ℕ → View Entered ℕ → Type 0
+AddsCall step before found after = after.0 ≡ before.0 ++ step.ask ∷ []

@@ -6,7 +6,7 @@ ghost use Rattle.md_view.specs.Named.{AreMessages};
 ghost use Rattle.md_view.specs.Readings.{IsInOrder};
 ghost use Rattle.md_store.specs.declared.error.ListError.TheVariants as refusal;
 ghost use Rattle.md_store.specs.Histories.{named_after, IsLegalFrom};
-ghost use Rattle.md_store.specs.Listing.{seen_in, IsLooked, Looks};
+ghost use Rattle.md_store.specs.Listing.{seen_in, IsLooked, Sees};
 ghost use Rattle.md_store.specs.Publishing.{IsOf};
 
 use crate::book::Front;
@@ -166,7 +166,7 @@ fn entered(
     requires order { IfSome x.2 (λ entries. IsInOrder entries.now) }
     ensures kept { IsOf (view reader.place).opening (view reader.place).held.book (view result.0.place) }
     ensures entries { IfOk result.1 (λ r.
-        Looks (view reader.place) x.entry.3.now.log x.entry.1 (option_map (λ entries. entries.now) x.entry.2) r.0.items r.1) }
+        Sees (view reader.place) x.entry.3.now.log x.entry.1 (option_map (λ entries. entries.now) x.entry.2) r.0.items r.1) }
     ensures no_folder { IfErr result.1 (λ e. e ≡ refusal.NoFolder → (view reader.place).opening.folders ≤ x.entry.1) }
     ensures no_memory { IfErr result.1 (λ e. e ≡ refusal.NoMemory → x.entry.1 < (view reader.place).opening.folders) }
 {

@@ -55,17 +55,17 @@ impl Play<Entered, u64> for MakePen {
     ghost then = { MakesPen };
 }
 
-/// A step that looks whether all entries were seen.
-struct Look;
+/// A step that finds whether all entries were seen.
+struct FindAll;
 
-impl Play<Entered, u64> for Look {
-    ghost use Rattle.md_store.specs.Rolls.{Looks};
+impl Play<Entered, u64> for FindAll {
+    ghost use Rattle.md_store.specs.Rolls.{FindsAll};
 
-    ghost then = { Looks };
+    ghost then = { FindsAll };
 }
 
 /// A step that asks for no entry.
-impl Plain<(), Entered, u64> for Look {
+impl Plain<(), Entered, u64> for FindAll {
     ghost use Rattle.std.specs.Prelude.{None};
     ghost use Rattle.md_store.specs.Rolls.{no_entry};
 
@@ -74,16 +74,16 @@ impl Plain<(), Entered, u64> for Look {
     ghost state = { λ nothing. None };
 }
 
-/// A step that enters a call.
-struct Enter;
+/// A step that adds a call.
+struct AddCall;
 
-impl Play<Entered, u64> for Enter {
-    ghost use Rattle.md_store.specs.Rolls.{Enters};
+impl Play<Entered, u64> for AddCall {
+    ghost use Rattle.md_store.specs.Rolls.{AddsCall};
 
-    ghost then = { Enters };
+    ghost then = { AddsCall };
 }
 
-impl Plain<(&Call, &Pen, &Pen), Entered, u64> for Enter {
+impl Plain<(&Call, &Pen, &Pen), Entered, u64> for AddCall {
     ghost use Rattle.std.specs.Prelude.{None};
 
     ghost ask = { λ x. record { call = x.0.now; by = x.1.now.nib.key; next = x.2.now.nib.key } };
@@ -104,7 +104,7 @@ fn new_pen(head: &Head, seen: &mut Reached) -> (u64, Pen)
     ensures pen { (result.1.book ≡ seen.old.book) × MayEnter result.1.nib }
     ensures first { result.0 ≡ 0 → result.1.nib.key ≡ first_pen }
 {
-    let mut offer: Update = seen.plain::<NoTrade, (), Look>(&());
+    let mut offer: Update = seen.plain::<NoTrade, (), FindAll>(&());
     let mut pen = seen.no_pen();
     let found = head.compare_exchange::<MakePen, NoTrade>(0, 1, seen, &mut offer, &mut pen);
     // The pen enters a call once the word that it makes is there.
@@ -209,11 +209,11 @@ impl Roll {
         let (_found, next) = new_pen(&self.head, &mut self.seen.again());
         let mut offer: Update = self
             .seen
-            .plain::<NoTrade, (&Call, &Pen, &Pen), Enter>(&(&call, &self.pen, &next));
+            .plain::<NoTrade, (&Call, &Pen, &Pen), AddCall>(&(&call, &self.pen, &next));
         let job = world.submit(call)?;
         let _found = self
             .head
-            .compare_exchange::<Enter, NoTrade>(0, 0, &mut self.seen, &mut offer, &mut self.pen);
+            .compare_exchange::<AddCall, NoTrade>(0, 0, &mut self.seen, &mut offer, &mut self.pen);
         self.pen = next;
         Ok(job)
     }
@@ -235,10 +235,10 @@ impl Roll {
     {
         let mut both = self.seen.again();
         both.learn(&excerpt.seen);
-        let mut offer: Update = both.plain::<NoTrade, (), Look>(&());
+        let mut offer: Update = both.plain::<NoTrade, (), FindAll>(&());
         let _found = self
             .head
-            .compare_exchange::<Look, NoTrade>(0, 0, &mut both, &mut offer, &mut self.pen);
+            .compare_exchange::<FindAll, NoTrade>(0, 0, &mut both, &mut offer, &mut self.pen);
     }
 }
 
