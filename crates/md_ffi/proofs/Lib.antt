@@ -1,4 +1,5 @@
 pub mod FlagBits
+pub mod Listed
 pub mod Records
 pub mod Refused
 pub mod Slots

@@ -1,5 +1,5 @@
 -- What is read of a world, as C has it.
-use Rattle.std.specs.Prelude.{ℕ, ◌==◌, ◌++◌, List, Option, Some, None, Result, Ok, Err, length, ok_or, flat_map, nat_lt, slice_get, if◌then◌else◌}
+use Rattle.std.specs.Prelude.{ℕ, ◌==◌, ◌++◌, ◌<◌, ◌^◌, List, Option, Some, None, Result, Ok, Err, length, ok_or, flat_map, nat_lt, slice_get, if◌then◌else◌}
 use Rattle.std.specs.Option.{option_map}
 use Rattle.std.specs.FinMap as finmap
 use Rattle.std.specs.Int.{w32, w64, to_le_bytes}
@@ -37,6 +37,10 @@ eight_bytes n = to_le_bytes w64 n
 -- a message of a listing: its place, the length of its name, its size, and its name
 abbrev pub entry_bytes : Entry → List ℕ
 entry_bytes e = four_bytes (place_number e.place) ++ four_bytes (length e.name) ++ eight_bytes e.size ++ e.name
+
+-- the length of the name fits in 4 bytes
+abbrev pub HasShortName : Entry → Type 0
+HasShortName e = length e.name < 2 ^ 32
 
 -- the messages of a folder, one after another
 abbrev pub entries_bytes : List Entry → List ℕ

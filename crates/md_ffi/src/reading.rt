@@ -1,25 +1,25 @@
 //! What a world shows: the messages of a folder, the bytes of one, and names.
-ghost use Rattle.std.specs.Prelude.{◌≡◌, ◌++◌, ◌⊎◌, Ok, Err, OnOk, MatchResult};
+ghost use Rattle.std.specs.Prelude.{◌≡◌, ◌≤◌, ◌+◌, ◌++◌, ◌⊎◌, Ok, Err, IfSome, IsSome, All, MatchResult, length, take, drop};
 ghost use Rattle.md_script.specs.declared.error.PlayKind.TheVariants.{NoMemory};
 ghost use Rattle.md_ffi.specs.Doing.{OnHeld};
 ghost use Rattle.md_ffi.specs.Laying.{Gives};
 ghost use Rattle.md_ffi.specs.Numbers.{status_number};
-ghost use Rattle.md_ffi.specs.Reading.{four_bytes, eight_bytes, entry_bytes, entries_bytes, listed, message_at, name_at};
+ghost use Rattle.md_ffi.specs.Reading.{four_bytes, eight_bytes, entry_bytes, entries_bytes, HasShortName, listed, message_at, name_at};
 ghost use Rattle.md_ffi.specs.declared.refusal.Refusal.TheVariants.{Kind};
 
 use crate::handle::Handle;
 use crate::held::Held;
 use crate::refusal::{NO_MEMORY, Refusal, status};
-use crate::room::lay;
+use crate::room::{lay, lay_at};
 use crate::shown::{place_number, place_of};
 use md_core::{CoreError, World};
 use md_dirs::IndexDirs;
 use md_script::PlayKind;
 use md_view::{EntryRef, ViewError, list_lent};
-use std::alloc::{AllocError, Global};
+use std::alloc::Global;
 
-// What most messages take in a listing, in bytes.
-const ENTRY_ROOM: usize = 80;
+// What stands before the name of a message in a listing, in bytes.
+const HEADER: usize = 16;
 
 // What stands before the name of a message in a listing: its place, and the lengths of its name and of its bytes. It is copied in one piece,
 // since each copy costs as much as a name.
@@ -38,46 +38,72 @@ fn header(place: u32, length: u32, size: u64) -> [u8; 16]
     ]
 }
 
-// Appends a message of a listing: its place, the lengths of its name and of its bytes, and its name.
-fn push_entry(out: &mut Vec<u8>, entry: &EntryRef<'_>) -> Result<(), AllocError>
-    ensures { OnOk result (out.new.items ≡ out.old.items ++ entry_bytes entry.now) }
+// How many bytes messages take in a listing. None where a name is longer than 4 bytes can say or the sum is too great to be a length, which no
+// memory comes to.
+#[tactic(auto, using(crate::proofs::Listed::length_entry, crate::proofs::Listed::length_more, crate::proofs::Listed::short_more))]
+fn listing_length(entries: &[EntryRef<'_>]) -> Option<usize>
+    ensures length { IfSome result (λ n. n ≡ length (entries_bytes entries.now)) }
+    ensures names { IsSome result → All HasShortName entries.now }
 {
-    // No name is so long.
-    let Ok(length) = u32::try_from(entry.name().len()) else {
-        return Err(AllocError);
-    };
-    out.extend_from_slice(&header(place_number(entry.place()), length, entry.size()))?;
-    out.extend_from_slice(entry.name())
-}
-
-fn push_entries(out: &mut Vec<u8>, entries: &[EntryRef<'_>]) -> Result<(), AllocError>
-    ensures { OnOk result (out.new.items ≡ out.old.items ++ entries_bytes entries.now) }
-{
+    let mut whole: usize = 0;
     for entry in entries {
-        push_entry(out, entry)?;
+        let Ok(name) = u32::try_from(entry.name().len()) else {
+            return None;
+        };
+        whole = whole.checked_add(HEADER + name as usize)?;
     }
-    Ok(())
+    Some(whole)
 }
 
-// The messages of a folder, as bytes.
+// Lays a message of a listing at a position of a buffer that has room for it there: its place, the lengths of its name and of its bytes, and
+// its name. It gives the position after it.
+#[tactic(auto, using(crate::proofs::Listed::length_entry, crate::proofs::Listed::length_header, crate::proofs::Listed::ends_alike_after))]
+fn lay_entry(entry: &EntryRef<'_>, out: &mut [u8], at: usize) -> usize
+    requires name { HasShortName entry.now }
+    requires room { at + length (entry_bytes entry.now) ≤ length out.old }
+    ensures after { result ≡ at + length (entry_bytes entry.now) }
+    ensures front { take result out.new ≡ take at out.old ++ entry_bytes entry.now }
+    ensures rest { drop result out.new ≡ drop result out.old }
+{
+    let name = entry.name();
+    let before = header(place_number(entry.place()), name.len() as u32, entry.size());
+    let named = lay_at(&before, out, at);
+    lay_at(name, out, named)
+}
+
+// Lays messages at the front of a buffer, one after another.
+#[tactic(auto, using(crate::proofs::Listed::one_more, crate::proofs::Listed::length_more, crate::proofs::Listed::has_room, crate::proofs::Listed::ends_alike_after))]
+fn lay_entries(entries: &[EntryRef<'_>], out: &mut [u8])
+    requires names { All HasShortName entries.now }
+    requires room { length (entries_bytes entries.now) ≤ length out.old }
+    ensures { out.new ≡ entries_bytes entries.now ++ drop (length (entries_bytes entries.now)) out.old }
+{
+    let mut at = 0;
+    for entry in entries {
+        at = lay_entry(entry, out, at);
+    }
+}
+
+// The messages of a folder, lent by the world.
 #[tactic(auto, unfolding(crate::specs::Reading::listed))]
-fn listing(alloc: Global, world: &World<IndexDirs>, folder: u32) -> Result<Vec<u8>, Refusal>
+fn listing<'a>(
+    alloc: Global,
+    world: &'a World<IndexDirs>,
+    folder: u32,
+) -> Result<Vec<EntryRef<'a>>, Refusal>
     ensures { MatchResult result
-        (λ bytes. listed world.now folder ≡ Ok bytes.items)
+        (λ entries. listed world.now folder ≡ Ok (entries_bytes entries.items))
         (λ e. (e ≡ Kind NoMemory) ⊎ (listed world.now folder ≡ Err e)) }
 {
-    let entries = match list_lent(alloc, world, folder) {
-        Ok(entries) => entries,
-        Err(ViewError::NoFolder) => {
-            return Err(Refusal::Kind(PlayKind::Core(CoreError::NoFolder)));
-        }
-        Err(ViewError::NoMemory) => return Err(NO_MEMORY),
-    };
-    let mut out = Vec::with_capacity(alloc, entries.len().saturating_mul(ENTRY_ROOM))?;
-    push_entries(&mut out, &entries)?;
-    Ok(out)
+    match list_lent(alloc, world, folder) {
+        Ok(entries) => Ok(entries),
+        Err(ViewError::NoFolder) => Err(Refusal::Kind(PlayKind::Core(CoreError::NoFolder))),
+        Err(ViewError::NoMemory) => Err(NO_MEMORY),
+    }
 }
 
+// Lays the messages of a folder straight into a buffer, since a copy beside it would take as much memory again. The first look over them
+// tells how long they are, so that a buffer without room for all of them stays as it was.
 fn list(
     alloc: Global,
     held: &Held,
@@ -87,8 +113,16 @@ fn list(
 ) -> Result<(), Refusal>
     ensures { Gives (listed held.now.world folder) out.old out.new length.old length.new (status_number result) }
 {
-    let bytes = listing(alloc, &held.world, folder)?;
-    lay(&bytes, out, length)
+    let entries = listing(alloc, &held.world, folder)?;
+    let Some(whole) = listing_length(&entries) else {
+        return Err(NO_MEMORY);
+    };
+    *length = whole;
+    if out.len() < whole {
+        return Err(Refusal::Room);
+    }
+    lay_entries(&entries, out);
+    Ok(())
 }
 
 #[tactic(auto, unfolding(crate::specs::Reading::message_at))]

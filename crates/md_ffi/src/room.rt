@@ -1,4 +1,5 @@
 //! What is laid into a caller's buffer.
+ghost use Rattle.std.specs.Prelude.{◌≡◌, ◌≤◌, ◌+◌, ◌++◌, length, take, drop};
 ghost use Rattle.md_ffi.specs.Laying.{Lays};
 ghost use Rattle.md_ffi.specs.Numbers.{status_number};
 
@@ -13,6 +14,18 @@ pub(crate) fn lay(bytes: &[u8], out: &mut [u8], whole: &mut usize) -> Result<(),
     if out.len() < bytes.len() {
         return Err(Refusal::Room);
     }
-    out[..bytes.len()].copy_from_slice(bytes);
+    lay_at(bytes, out, 0);
     Ok(())
+}
+
+/// Copies bytes to a position of a buffer that has room for them there, and gives the position after them.
+pub(crate) fn lay_at(bytes: &[u8], out: &mut [u8], at: usize) -> usize
+    requires { at + length bytes.now ≤ length out.old }
+    ensures after { result ≡ at + length bytes.now }
+    ensures front { take result out.new ≡ take at out.old ++ bytes.now }
+    ensures rest { drop result out.new ≡ drop result out.old }
+{
+    let after = at + bytes.len();
+    out[at..after].copy_from_slice(bytes);
+    after
 }

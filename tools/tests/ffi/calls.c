@@ -292,6 +292,8 @@ static void test_reading(void) {
     memset(out, '.', sizeof out);
     CHECK(deolmutt_list(world, 0, NULL, 0, &length) == DEOLMUTT_ROOM && length == 2 * 16 + 5 + 1);
     CHECK(deolmutt_list(world, 0, out, length - 1, &length) == DEOLMUTT_ROOM && out[0] == '.');
+    CHECK(deolmutt_list(world, 0, out, 38, &length) == DEOLMUTT_OK && length == 38 && out[0] != '.' && out[38] == '.');
+    CHECK(deolmutt_list(world, 0, out, 39, &length) == DEOLMUTT_OK && length == 38 && out[38] == '.');
     CHECK(deolmutt_list(world, 0, out, sizeof out, &length) == DEOLMUTT_OK && length == 38 && out[38] == '.');
     CHECK(little(out, 4) == DEOLMUTT_CUR && little(out + 4, 4) == 5 && little(out + 8, 8) == 5 && memcmp(out + 16, "u:2,S", 5) == 0);
     CHECK(little(out + 21, 4) == DEOLMUTT_NEW && little(out + 25, 4) == 1 && memcmp(out + 37, "v", 1) == 0);

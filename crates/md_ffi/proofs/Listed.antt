@@ -1,0 +1,59 @@
+-- The messages of a listing as bytes, and what a buffer has of them.
+use Rattle.std.proofs.Common.{arith, ℕ, zero, suc, ◌≡◌, ◌≤◌, ◌<◌, ◌+◌, ◌++◌, List, [], ◌∷◌, All, length, take, drop, get_or, refl, sym, ap, subst, ◌∙◌}
+use Rattle.std.proofs.Math.Seq.{take-suc}
+use Rattle.std.proofs.lemmas.Grind.{flat_map-append}
+use Rattle.std.proofs.lemmas.List.{length-append, append-nil}
+use Rattle.std.proofs.lemmas.List.Elements.{All-append, All-cons, All-nil}
+use Rattle.std.proofs.lemmas.List.Folds.{length-flat_map-take}
+use Rattle.std.specs.List.{flat_map}
+use Rattle.md_view.specs.declared.entry.Entry.{Entry}
+use Rattle.md_ffi.specs.Reading.{four_bytes, eight_bytes, entry_bytes, entries_bytes, place_number, HasShortName}
+use Rattle.md_ffi.proofs.Records.{ends-alike}
+
+-- what stands before a name takes 16 bytes
+pub length_header : (p l s : ℕ) → length (four_bytes p ++ four_bytes l ++ eight_bytes s) ≡ 16
+unfolding four_bytes eight_bytes
+length_header p l s = refl
+
+pub length_entry : (e : Entry) → length (entry_bytes e) ≡ 16 + length e.name
+length_entry e =
+    let before : List ℕ = four_bytes (place_number e.place) ++ four_bytes (length e.name) ++ eight_bytes e.size in
+    length-append before e.name ∙ ap (λ (n : ℕ). n + length e.name) (length_header (place_number e.place) (length e.name) e.size)
+
+next-take : (es : List Entry) (i : ℕ) (e : Entry) → i < length es → e ≡ get_or es i e → take (i + 1) es ≡ take i es ++ e ∷ []
+next-take es i e less is =
+    let next : i + 1 ≡ suc i = omega arith in
+    ap (λ (n : ℕ). take n es) next ∙ take-suc es i e less ∙ ap (λ (x : Entry). take i es ++ x ∷ []) (sym is)
+
+-- one message more
+pub one_more : (es : List Entry) (i : ℕ) (e : Entry) → i < length es → e ≡ get_or es i e
+    → flat_map entry_bytes (take (i + 1) es) ≡ flat_map entry_bytes (take i es) ++ entry_bytes e
+one_more es i e less is =
+    ap (flat_map entry_bytes) (next-take es i e less is) ∙ flat_map-append entry_bytes (take i es) (e ∷ [])
+    ∙ ap (λ (bytes : List ℕ). flat_map entry_bytes (take i es) ++ bytes) (append-nil (entry_bytes e))
+
+pub short_more : (es : List Entry) (i : ℕ) (e : Entry) → i < length es → e ≡ get_or es i e
+    → HasShortName e → All HasShortName (take i es) → All HasShortName (take (i + 1) es)
+short_more es i e less is short all =
+    subst (All HasShortName) (sym (next-take es i e less is))
+    (All-append HasShortName (take i es) (e ∷ []) all (All-cons HasShortName e [] short (All-nil HasShortName)))
+
+pub length_more : (es : List Entry) (i : ℕ) (e : Entry) → i < length es → e ≡ get_or es i e
+    → length (flat_map entry_bytes (take (i + 1) es)) ≡ length (flat_map entry_bytes (take i es)) + length (entry_bytes e)
+length_more es i e less is = ap length (one_more es i e less is) ∙ length-append (flat_map entry_bytes (take i es)) (entry_bytes e)
+
+-- what is before a message and the message take no more than all
+pub has_room : (es : List Entry) (i : ℕ) (e : Entry) → i < length es → e ≡ get_or es i e
+    → length (flat_map entry_bytes (take i es)) + length (entry_bytes e) ≤ length (entries_bytes es)
+has_room es i e less is =
+    subst (λ (x : Entry). length (flat_map entry_bytes (take i es)) + length (entry_bytes x) ≤ length (entries_bytes es)) (sym is)
+    (length-flat_map-take entry_bytes es i e less)
+
+-- lists that end alike from a position on do so from each later one on
+pub ends_alike_after : (n k : ℕ) (xs ys : List ℕ) → drop n xs ≡ drop n ys → drop (n + k) xs ≡ drop (n + k) ys
+ends_alike_after n zero xs ys same =
+    let none : n + 0 ≡ n = omega arith in
+    ap (λ (i : ℕ). drop i xs) none ∙ same ∙ sym (ap (λ (i : ℕ). drop i ys) none)
+ends_alike_after n (suc k) xs ys same =
+    let next : n + suc k ≡ (n + k) + 1 = omega arith in
+    ap (λ (i : ℕ). drop i xs) next ∙ ends-alike (n + k) xs ys (ends_alike_after n k xs ys same) ∙ sym (ap (λ (i : ℕ). drop i ys) next)
