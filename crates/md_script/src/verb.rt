@@ -15,7 +15,7 @@ pub enum Mode {
 }
 
 /// The first word of a command.
-#[derive(Clone, Copy, Debug, PartialEq, Eq)]
+#[derive(Clone, Copy)]
 pub(crate) enum Verb {
     Folder,
     File,
@@ -31,7 +31,7 @@ pub(crate) enum Verb {
 }
 
 /// The word after `job`.
-#[derive(Clone, Copy, Debug, PartialEq, Eq)]
+#[derive(Clone, Copy)]
 pub(crate) enum JobVerb {
     Deliver,
     Seen,

@@ -4,14 +4,14 @@ use md_dirs::Bytes;
 use std::alloc::{AllocError, Global};
 
 /// A message, by its folder and its unique name.
-#[derive(Debug, Drop)]
+#[derive(Drop)]
 pub(crate) struct Message {
     pub(crate) folder: u32,
     pub(crate) unique: Bytes,
 }
 
 /// What a call is about, as an answer to it names it.
-#[derive(Debug, Drop)]
+#[derive(Drop)]
 pub(crate) enum About {
     /// One message, looked for in new or in cur, or delivered.
     One(Message),

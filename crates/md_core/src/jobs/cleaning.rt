@@ -21,7 +21,7 @@ const LEAST_SECONDS: u64 = 129_600;
 const LIST: DirCall = DirCall::List(Place::Tmp);
 
 /// How far a clean has come.
-#[derive(Debug, Drop)]
+#[derive(Drop)]
 pub enum Stage {
     /// The directory is listed.
     Look,
@@ -34,7 +34,7 @@ pub enum Stage {
 }
 
 /// A clean of a folder.
-#[derive(Debug, Drop)]
+#[derive(Drop)]
 pub struct Cleaning {
     pub folder: u32,
     pub stage: Stage,

@@ -16,7 +16,7 @@ use std::alloc::{AllocError, Global};
 use std::marker::Model;
 
 /// How far a delivery has come.
-#[derive(Clone, Copy, Debug)]
+#[derive(Clone, Copy)]
 pub enum Stage {
     /// Nothing was done.
     Start,
@@ -32,7 +32,7 @@ pub enum Stage {
 const MOST_SECONDS: u64 = 86_400;
 
 /// A delivery of a body, in pieces of `chunk` bytes, by way of a file in tmp.
-#[derive(Debug, Drop)]
+#[derive(Drop)]
 pub struct Delivery {
     pub tmp: Path,
     pub body: Bytes,

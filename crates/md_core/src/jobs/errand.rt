@@ -20,7 +20,7 @@ use std::alloc::Global;
 use std::marker::Model;
 
 /// How far an errand has come. So many tries are left, with this one.
-#[derive(Debug, Drop)]
+#[derive(Drop)]
 pub enum Stage {
     /// The message is looked for in this place.
     Look { place: Place, tries: u64 },
@@ -29,7 +29,7 @@ pub enum Stage {
 }
 
 /// An errand on the message of a unique name.
-#[derive(Debug, Drop)]
+#[derive(Drop)]
 pub struct Errand {
     pub folder: u32,
     pub unique: Bytes,

@@ -18,7 +18,7 @@ use std::alloc::{AllocError, Global};
 use std::marker::Model;
 
 /// How far a job has come. One that is answered holds nothing but its answer: the task lies in a box, so that its room goes with it.
-#[derive(Debug, Drop)]
+#[derive(Drop)]
 pub(crate) enum Progress {
     Working(Box<Task>),
     Answered(Answer),

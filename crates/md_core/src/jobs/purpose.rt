@@ -23,7 +23,7 @@ use md_name::{Flags, Info, split, with_flags};
 use std::alloc::Global;
 
 /// What an errand is for.
-#[derive(Debug, Drop)]
+#[derive(Drop)]
 pub enum Purpose {
     /// A new message goes to cur, its flags joined by these.
     Seen(Flags),
@@ -38,7 +38,7 @@ pub enum Purpose {
 }
 
 /// What an errand does with a message that it found.
-#[derive(Clone, Copy, Debug)]
+#[derive(Clone, Copy)]
 pub enum Decision {
     /// It ends without an effect.
     Refuse(Refusal),
@@ -49,7 +49,7 @@ pub enum Decision {
 }
 
 /// A directory call that an errand makes, with its paths.
-#[derive(Debug, Drop)]
+#[derive(Drop)]
 pub enum Deed {
     Rename { old: Path, new: Path },
     Link { old: Path, new: Path },

@@ -6,7 +6,7 @@ ghost use Rattle.md_core.specs.Machines.Refusals.{refused_by};
 use crate::jobs::answer::Answer;
 
 /// Why a job had no effect.
-#[derive(Clone, Copy, Debug)]
+#[derive(Clone, Copy)]
 pub enum Refusal {
     /// No message of that name is where the call acts.
     NotThere,

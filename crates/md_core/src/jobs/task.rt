@@ -16,7 +16,7 @@ use md_dirs::Dirs;
 use std::alloc::Global;
 
 /// What a job does, and how far it has come.
-#[derive(Debug, Drop)]
+#[derive(Drop)]
 pub enum Task {
     Deliver(Delivery),
     Errand(Errand),

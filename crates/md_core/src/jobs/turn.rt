@@ -9,7 +9,7 @@ use crate::jobs::step::{DirCall, DirReply, StepOut};
 use md_dirs::{DirError, Dirs, Place, Row};
 
 /// What a turn shows, and the effect, where it was one.
-#[derive(Debug, Drop)]
+#[derive(Drop)]
 pub(crate) struct Turned {
     pub(crate) out: StepOut,
     pub(crate) effect: Option<Effect>,
