@@ -1,13 +1,22 @@
 -- Where the keys of two names differ, they go as the names do.
-use Rattle.std.proofs.Common.{ℕ, zero, suc, ◌≡◌, ◌+◌, ◌-◌, ◌*◌, ◌^◌, ◌<◌, ◌≤◌, List, [], ◌∷◌, refl, sym, ap, ◌∙◌, arith, drop, get_or}
+use Rattle.std.proofs.Common.{ℕ, zero, suc, ◌≡◌, ◌+◌, ◌-◌, ◌*◌, ◌^◌, ◌<◌, ◌≤◌, List, [], ◌∷◌, refl, sym, ap, ◌∙◌, arith, drop, take, get_or, Fits, w8}
+use Rattle.std.proofs.Math.Facts.{Fits-lt-pow}
 use Rattle.std.proofs.Math.Nat.{pow-suc, mul-le-mul_right, pow-le-pow_right}
 use Rattle.std.proofs.lemmas.Cmp.{ranked, nat_list_cmp_total}
+use Rattle.std.proofs.lemmas.List.{get_or_default}
 use Rattle.std.proofs.lemmas.List.Elements.{All-head, All-tail}
 use Rattle.std.specs.declared.cmp.Ordering.{Ordering}
 use Rattle.std.specs.declared.cmp.Ordering.TheVariants.{Less, Equal, Greater}
 use Rattle.std.specs.Ordering.{nat_cmp, ordering_then, ordering_reverse}
 use Rattle.std.specs.Cmp.Lexicographic.{slice_cmp}
+use Rattle.std.specs.Int.{w128, byte_worth, sum_through, from_be_bytes}
 use Rattle.md_dirs.specs.Keys.{key_from, AreBytes, IsKeyOf}
+
+pub are-bytes : (s : List ℕ) → ((k : ℕ) → Fits w8 (get_or s k 0)) → AreBytes s
+are-bytes s fits = λ k d h.
+    let small : get_or s k 0 < 2 ^ 8 = Fits-lt-pow (fits k) in
+    let e = get_or_default s k d 0 h in
+    omega (arith, small, e)
 
 pub some_power : (n : ℕ) → 0 < 256 ^ n
 some_power zero = omega arith
@@ -72,6 +81,12 @@ key_from-next n [] (suc at) = let e = key_from-none n in omega (arith, e)
 key_from-next n (b ∷ s) zero = refl
 key_from-next n (b ∷ s) (suc at) = key_from-next n s at
 
+key_from-taken : (n : ℕ) (s : List ℕ) → key_from n (take n s) ≡ key_from n s
+unfolding key_from
+key_from-taken zero s = refl
+key_from-taken (suc n) [] = refl
+key_from-taken (suc n) (b ∷ s) = ap (λ k. b * 256 ^ n + k) (key_from-taken n s)
+
 pub rest-step : (key byte m n at next k : ℕ) (s : List ℕ) → m ≡ suc n → next ≡ suc at → byte ≡ get_or s at 0 →
     key * 256 ^ m + key_from m (drop at s) ≡ k → (key * 256 + byte) * 256 ^ n + key_from n (drop next s) ≡ k
 rest-step key byte m n at next k s hm hn hb h =
@@ -98,3 +113,28 @@ key-fits key byte at within hb h =
     let up : 256 ^ suc at ≤ 256 ^ 16 = pow-le-pow_right {n = 256} (omega arith) {i = suc at} {j = 16} (omega arith) in
     let below = key-grows key byte at (suc at) refl hb h in
     omega (arith, up, below)
+
+worth : (i b : ℕ) → byte_worth i b ≡ b * 256 ^ i
+worth zero b = omega arith
+worth (suc i) b = refl
+
+-- the worth of the bytes up to one of the first 16, and the key of what is behind it
+summed : (at : ℕ) → at < 16 → (s : List ℕ) →
+    sum_through (λ i. byte_worth (15 - i) (get_or s i 0)) at + key_from (15 - at) (drop (suc at) s) ≡ key_from 16 s
+summed zero h s = sym (key_from-next 15 s 0)
+summed (suc at) h s =
+    let n = 15 - suc at in
+    let e : 15 - at ≡ suc n = omega arith in
+    let next = key_from-next n s (suc at) in
+    let w = worth n (get_or s (suc at) 0) in
+    let sum = sum_through (λ i. byte_worth (15 - i) (get_or s i 0)) at in
+    let before : sum + key_from (suc n) (drop (suc at) s) ≡ key_from 16 s = ap (λ m. sum + key_from m (drop (suc at) s)) (sym e) ∙ summed at (omega arith) s in
+    omega (arith, next, w, before)
+
+-- 16 bytes as one number are the key of the name that they begin
+pub key-of-first : (s : List ℕ) → from_be_bytes w128 (take 16 s) ≡ key_from 16 s
+unfolding key_from
+key-of-first s =
+    let all = summed 15 (omega arith) (take 16 s) in
+    let same = key_from-taken 16 s in
+    omega (arith, all, same)

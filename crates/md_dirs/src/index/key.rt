@@ -1,9 +1,8 @@
 // The sort keys of names.
 ghost use Rattle.md_dirs.specs.Keys.{IsKeyOf};
 
-/// The sort key of a name: its first 16 bytes as one number, the first highest, and zeros behind a shorter name. Where the keys
-/// of two names differ, they go as the names do.
-pub fn key_of(name: &[u8]) -> u128
+// The key of a name that may be shorter than a key, byte by byte.
+fn short_key(name: &[u8]) -> u128
     ensures { IsKeyOf result name.now }
 {
     let mut key: u128 = 0;
@@ -12,4 +11,15 @@ pub fn key_of(name: &[u8]) -> u128
         key = key * 256 + byte as u128;
     }
     key
+}
+
+/// The sort key of a name: its first 16 bytes as one number, the first highest, and zeros behind a shorter name. Where the keys
+/// of two names differ, they go as the names do.
+pub fn key_of(name: &[u8]) -> u128
+    ensures { IsKeyOf result name.now }
+{
+    match name.first_chunk::<16>() {
+        Some(first) => u128::from_be_bytes(*first),
+        None => short_key(name),
+    }
 }

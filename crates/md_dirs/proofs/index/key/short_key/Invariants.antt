@@ -1,6 +1,6 @@
 use Rattle.std.proofs.Common.{◌≡◌, ◌+◌, ◌-◌, ◌*◌, ◌^◌, ◌<◌, ◌≤◌, drop}
 use Rattle.md_dirs.specs.Keys.{key_from}
-use Rattle.md_dirs.proofs.index.key.key_of.Given as goal
+use Rattle.md_dirs.proofs.index.key.short_key.Given as goal
 
 abbrev pub invariant-loop-at : goal.invariant-loop-at
 invariant-loop-at l = record {
