@@ -9,7 +9,7 @@ use Rattle.md_dirs.proofs.Ordered.{by_number, swapped}
 pub as-key : {j k : ℕ} {s t : List ℕ} → j ≡ k → s ≡ t → IsKeyOf k t → IsKeyOf j s
 as-key number name is = record { key = number ∙ is.key ∙ ap (key_from 16) (sym name); bytes = rw name is.bytes }
 
-abbrev name-of : Row → List ℕ
+abbrev pub name-of : Row → List ℕ
 name-of row = row.0
 
 pub no-keys : AreKeysOf [] []

@@ -20,3 +20,4 @@ pub mod Blocked
 pub mod Keys
 pub mod Keyed
 pub mod Slotted
+pub mod Sorting

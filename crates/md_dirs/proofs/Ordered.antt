@@ -221,16 +221,10 @@ module _ (rows : Rows) (order : List ℕ) (is : IsOrderOf rows order) where
         }
 
 -- rows that stand in order themselves
-pub in-turn : (rows : Rows) (order : List ℕ) → T (is_sorted name_cmp rows) → length order ≡ length rows → ((k : ℕ) → k < length order → get_or order k 0 ≡ k) →
-    IsOrderOf rows order
-in-turn rows order sorted count turn = record {
-  within = All-from_get_or (λ i. i < length rows) order 0 (λ k h. omega (arith, h, turn k h, count));
-  lists = ext_get_or ([], 0) _ _ (length-at rows order ∙ count) (λ k lt.
-      let h : k < length order = omega (arith, lt, length-at rows order) in
-      at-order rows order k h ∙ ap (λ i. get_or rows i ([], 0)) (turn k h))
-      ∙ sym (entries-from_sorted name_cmp rows sorted)
-      ∙ ap finmap.entries (same_map name_total name_exact _ _ (λ q. get-from_sorted name_cmp rows q sorted ∙ sym (get-from_entries name_total rows q)));
-}
+pub listed-itself : (rows : Rows) → T (is_sorted name_cmp rows) → rows ≡ listed rows
+listed-itself rows sorted =
+    sym (entries-from_sorted name_cmp rows sorted)
+    ∙ ap finmap.entries (same_map name_total name_exact _ _ (λ q. get-from_sorted name_cmp rows q sorted ∙ sym (get-from_entries name_total rows q)))
 
 -- a new name in the place of the one that goes
 put-above : (n : List ℕ) (v : ℕ) (es : Rows) → T (below_all name_cmp n es) → put name_cmp n v es ≡ (n, v) ∷ es

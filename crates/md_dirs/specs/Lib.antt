@@ -14,3 +14,4 @@ pub mod Slots
 pub mod Find
 pub mod NameKey
 pub mod Positions
+pub mod Sortable

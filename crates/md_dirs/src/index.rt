@@ -4,6 +4,7 @@ mod load;
 mod loose;
 mod names;
 mod positions;
+mod sorting;
 mod tree;
 
 use crate::calls::{DirError, Dirs};

@@ -1,12 +1,12 @@
 // Names in the order of their coming, before they are sorted.
-ghost use Rattle.std.specs.Prelude.{◌≡◌, ◌<◌, ◌^◌, ℕ, OnOk, OnErr, IfOk, EachIndex, slice_index_or, length, vec_len};
+ghost use Rattle.std.specs.Prelude.{◌≡◌, ◌<◌, ◌^◌, ℕ, OnOk, OnErr, IfOk, vec_len};
 ghost use Rattle.std.specs.FinMap as finmap;
 ghost use Rattle.md_dirs.specs.Keys.{AreKeysOf};
 ghost use Rattle.md_dirs.specs.Index.{directory_at};
 
 use crate::index::key::key_of;
 use crate::index::names::Names;
-use crate::index::positions::Positions;
+use crate::index::sorting::order_of;
 use crate::index::tree::Tree;
 use crate::name_key::NameKey;
 use crate::paths::{Path, number_of};
@@ -22,6 +22,8 @@ struct LooseNames {
 
 impl Model for LooseNames {
     ghost use Rattle.std.specs.FinMap.{from_entries};
+    ghost use Rattle.std.specs.Str.{bytes_eq};
+    ghost use Rattle.indexmap.specs.IndexMap.{IsUnique};
     ghost use Rattle.md_dirs.specs.Index.{NameMap, name_code};
 
     ghost Value = { NameMap };
@@ -29,18 +31,8 @@ impl Model for LooseNames {
     ghost coded = { name_code };
 
     ghost view = { λ d. from_entries d.rows.entries };
-}
 
-// The numbers below one, in turn.
-fn in_turn(alloc: Global, count: usize) -> Result<Positions, AllocError>
-    ensures long { IfOk result (λ order. length order ≡ count) }
-    ensures each { IfOk result (λ order. EachIndex order (λ k. slice_index_or order k 0 ≡ k)) }
-{
-    let mut order = Positions::new(alloc);
-    for at in 0..count {
-        order.insert(order.end(), at)?;
-    }
-    Ok(order)
+    ghost invariant = { λ d. IsUnique bytes_eq d.rows };
 }
 
 // The sort key of each row.
@@ -87,10 +79,9 @@ impl LooseNames {
     fn sorted(self, alloc: Global) -> Result<Names, AllocError>
         ensures { IfOk result (λ names. names ≡ self) }
     {
-        let LooseNames { mut rows } = self;
-        rows.sort_unstable_keys()?;
+        let LooseNames { rows } = self;
         let keys = keys_of_rows(alloc, &rows)?;
-        let order = in_turn(alloc, rows.len())?;
+        let order = order_of(alloc, &rows, &keys)?;
         Ok(Names { rows, keys, order })
     }
 }

@@ -1,0 +1,98 @@
+-- Sorted by their keys, and by their names where keys are equal, rows are in order of names.
+use Rattle.std.proofs.Common.{ℕ, ◌≡◌, ◌+◌, ◌<◌, List, [], ◌∷◌, false, map, length, get_or, All, refl, sym, ap, subst, ◌∙◌, arith, true≢false}
+use Rattle.std.proofs.lemmas.List.{get_or-map, length-map}
+use Rattle.std.proofs.lemmas.List.Sorted.{IsPermutation-map, All-permutation}
+use Rattle.std.proofs.lemmas.Map.Keys.{IsDistinct-IsPermutation}
+use Rattle.std.specs.declared.cmp.Ordering.{Ordering}
+use Rattle.std.specs.declared.cmp.Ordering.TheVariants.{Less, Equal, Greater}
+use Rattle.std.specs.Ordering.{nat_cmp, is_lt, ordering_then}
+use Rattle.std.specs.Cmp.Lexicographic.{nat_list_eq_equiv}
+use Rattle.std.specs.List.{IsDistinct}
+use Rattle.std.specs.List.Sorted.{IsPermutation, IsSorted}
+use Rattle.std.specs.Map.{keys_of}
+use Rattle.std.specs.FinMap as finmap
+use Rattle.indexmap.proofs.MapLemmas.{lookup_permutation}
+use Rattle.md_dirs.specs.Index.{name_cmp, rows_at, IsOrderOf}
+use Rattle.md_dirs.specs.Keys.{IsKeyOf}
+use Rattle.md_dirs.specs.Sortable.{Sortable, row_number, row_at, IsSortable, AreSortable}
+use Rattle.md_dirs.proofs.Keyed.{name-of}
+use Rattle.md_dirs.proofs.Keys.{by_keys}
+use Rattle.md_dirs.proofs.NameRows.{Row, same, rising, reordered-loose}
+use Rattle.md_dirs.proofs.Ordered.{listed-itself}
+
+-- as tuples are compared
+abbrev pub sortable_cmp : Sortable → Sortable → Ordering
+sortable_cmp x y = ordering_then (ordering_then (nat_cmp x.0 y.0) (name_cmp x.1.now y.1.now)) (nat_cmp x.2 y.2)
+
+tie : (b c : Ordering) → is_lt (ordering_then b c) ≡ false → is_lt b ≡ false
+tie Less c h = h
+tie Equal c h = refl
+tie Greater c h = refl
+
+not-below : (x y : Sortable) → IsKeyOf x.0 x.1.now → IsKeyOf y.0 y.1.now → is_lt (sortable_cmp x y) ≡ false → is_lt (name_cmp x.1.now y.1.now) ≡ false
+not-below x y kx ky h = by (nat_cmp x.0 y.0) refl
+  where
+    with-keys : (r : Ordering) → r ≡ nat_cmp x.0 y.0 → is_lt (ordering_then (ordering_then r (name_cmp x.1.now y.1.now)) (nat_cmp x.2 y.2)) ≡ false
+    with-keys r is = ap (λ o. is_lt (ordering_then (ordering_then o (name_cmp x.1.now y.1.now)) (nat_cmp x.2 y.2))) is ∙ h
+
+    by : (r : Ordering) → r ≡ nat_cmp x.0 y.0 → is_lt (name_cmp x.1.now y.1.now) ≡ false
+    by Less is = absurd (true≢false (with-keys Less is))
+    by Equal is = tie (name_cmp x.1.now y.1.now) (nat_cmp x.2 y.2) (with-keys Equal is)
+    by Greater is = ap is_lt (by_keys x.0 y.0 x.1.now y.1.now kx ky Greater is (λ e. let clash : Equal ≡ Greater = e ∙ sym is in cc))
+
+module _ (rows : List Row) where
+  name-at : (y : Sortable) (ys : List Sortable) (k : ℕ) (d : List ℕ) → All (IsSortable rows) ys → k < length ys →
+      get_or (keys_of (map (row_at rows) ys)) k d ≡ (get_or ys k y).1.now
+  name-at y ys k d each h =
+      let long : length (map (row_at rows) ys) ≡ length ys = length-map ys (row_at rows) in
+      get_or-map name-of (map (row_at rows) ys) k (row_at rows y) d (omega (arith, h, long))
+      ∙ ap name-of (get_or-map (row_at rows) ys k y (row_at rows y) h)
+      ∙ (each k y h).name
+
+  sorted-names : (ys : List Sortable) → All (IsSortable rows) ys → IsSorted sortable_cmp ys → IsSorted name_cmp (keys_of (map (row_at rows) ys))
+  sorted-names [] each sorted k d from within = absurd (omega (arith, within))
+  sorted-names (y ∷ ys) each sorted k d from within =
+      let long : length (map (row_at rows) (y ∷ ys)) ≡ length (y ∷ ys) = length-map (y ∷ ys) (row_at rows) in
+      let long' : length (keys_of (map (row_at rows) (y ∷ ys))) ≡ length (map (row_at rows) (y ∷ ys)) = length-map (map (row_at rows) (y ∷ ys)) name-of in
+      let next : k + 1 < length (y ∷ ys) = omega (arith, within, long, long') in
+      let here : k < length (y ∷ ys) = omega (arith, next) in
+      let above = get_or (y ∷ ys) (k + 1) y in
+      let below = get_or (y ∷ ys) k y in
+      (λ i. is_lt (name_cmp (name-at y (y ∷ ys) (k + 1) d each next i) (name-at y (y ∷ ys) k d each here i)))
+      ∙ not-below above below (each (k + 1) y next).key (each k y here).key (sorted k y from next)
+
+  module _ (xs ys : List Sortable) (sortable : AreSortable rows xs) (moved : IsPermutation xs ys) (sorted : IsSorted sortable_cmp ys)
+      (unique : IsDistinct same (keys_of rows)) where
+    abbrev listed : List Row
+    listed = map (row_at rows) ys
+
+    each : All (IsSortable rows) ys
+    each = All-permutation (IsSortable rows) xs ys moved sortable.each
+
+    rows-moved : IsPermutation rows listed
+    rows-moved = subst (λ es. IsPermutation es listed) sortable.rows_are (IsPermutation-map (row_at rows) xs ys moved)
+
+    listed-unique : IsDistinct same (keys_of listed)
+    listed-unique = IsDistinct-IsPermutation same nat_list_eq_equiv.symm (keys_of rows) (keys_of listed) (IsPermutation-map name-of rows listed rows-moved) unique
+
+    by-numbers : (zs : List Sortable) → rows_at rows (map row_number zs) ≡ map (row_at rows) zs
+    by-numbers [] = refl
+    by-numbers (z ∷ zs) = ap (λ es. row_at rows z ∷ es) (by-numbers zs)
+
+    pub order-is : IsOrderOf rows (map row_number ys)
+    order-is = record {
+      within = λ k d h. numbered ys each k d h;
+      lists = by-numbers ys
+          ∙ listed-itself listed (rising listed (sorted-names ys each sorted) listed-unique)
+          ∙ ap finmap.entries (reordered-loose rows listed (λ q.
+          lookup_permutation nat_list_eq_equiv rows listed rows-moved listed-unique (same q) (nat_list_eq_equiv.congr q)));
+    }
+      where
+        numbered : (zs : List Sortable) → All (IsSortable rows) zs → All (λ i. i < length rows) (map row_number zs)
+        numbered [] all k d h = absurd (omega (arith, h))
+        numbered (z ∷ zs) all k d h =
+            let long : length (map row_number (z ∷ zs)) ≡ length (z ∷ zs) = length-map (z ∷ zs) row_number in
+            let inner : k < length (z ∷ zs) = omega (arith, h, long) in
+            let is = get_or-map row_number (z ∷ zs) k z d inner in
+            let below = (all k z inner).within in
+            omega (arith, is, below)
