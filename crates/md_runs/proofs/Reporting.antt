@@ -1,5 +1,5 @@
 -- Runs on threads: why there is no report, and what the next answer adds to one.
-use Rattle.std.proofs.Common.{◌≡◌, ℕ, ◌+◌, ◌<◌, ◌==◌, ◌++◌, inl, inr, true, List, Err, refl, sym, ap, subst, ◌∙◌, zero, suc, is_some, not, Option, Some, None, Bool, All, [], ◌∷◌, arith, add-one, append_assoc, append-nil, length, length-append, map}
+use Rattle.std.proofs.Common.{◌≡◌, ℕ, ◌+◌, ◌<◌, ◌==◌, ◌++◌, inl, inr, true, List, Err, refl, sym, ap, subst, ◌∙◌, zero, suc, is_some, not, Option, Some, None, All, [], ◌∷◌, arith, add-one, append_assoc, append-nil, length, length-append, map}
 use Rattle.std.specs.Prelude.{slice_index_or}
 use Rattle.std.specs.List.{list_all}
 use Rattle.std.proofs.lemmas.Bool.{eqb-true}

@@ -37,12 +37,12 @@ pub fn run_threads<R: Threads + Wait + Sync, S: Source, T: Sink>(
     ensures { RunsThreads (S.state source.old) (S.state source.new) (T.state sink.old) (T.state sink.new) result }
 {
     let script = read_script(alloc, source)?;
-    let text = threads_text(rt, alloc, threads, &script)?;
+    let text = threads_text(rt, alloc, threads, script)?;
     write_whole(sink, &text)?;
     Ok(())
 }
 
-/// What the threads print of a script.
+/// What the threads print of a script, which is let go before they begin: its memory is theirs.
 ///
 /// The type of the store's lock keeps the jobs and the files that the store was opened with. So the world that it leaves is known to be
 /// theirs.
@@ -50,11 +50,12 @@ fn threads_text<R: Threads + Wait + Sync>(
     rt: &R,
     alloc: Global,
     threads: usize,
-    script: &[u8],
+    script: Vec<u8>,
 ) -> Result<Vec<u8>, RunFault>
-    ensures { MatchResult result (λ text. Reports script.now text.items) (IsUnreported script.now) }
+    ensures { MatchResult result (λ text. Reports script.items text.items) (IsUnreported script.items) }
 {
-    let made = set_up(alloc, script)?;
+    let made = set_up(alloc, &script)?;
+    drop(script);
     let Made { names, world } = made;
     let jobs = world.jobs();
     let shared = share(rt, alloc, threads, &names, world)?;
