@@ -1,17 +1,17 @@
 -- Sorted by their keys, and by their names where keys are equal, rows are in order of names.
-use Rattle.std.proofs.Common.{ℕ, ◌≡◌, ◌+◌, ◌<◌, List, [], ◌∷◌, false, map, length, get_or, All, refl, sym, ap, subst, ◌∙◌, arith, true≢false}
+use Rattle.std.proofs.Common.{ℕ, ◌≡◌, ◌+◌, ◌<◌, List, [], ◌∷◌, Option, Some, None, true, false, map, length, get_or, All, refl, sym, ap, subst, ◌∙◌, arith, true≢false}
 use Rattle.std.proofs.lemmas.List.{get_or-map, length-map}
-use Rattle.std.proofs.lemmas.List.Sorted.{IsPermutation-map, All-permutation}
+use Rattle.std.proofs.lemmas.List.Sorted.{IsPermutation-map, IsPermutation-sym, All-permutation, Contains-permutation}
 use Rattle.std.proofs.lemmas.Map.Keys.{IsDistinct-IsPermutation}
+use Rattle.std.proofs.lemmas.Map.Views.{Contains-from_lookup, lookup-from_Contains}
 use Rattle.std.specs.declared.cmp.Ordering.{Ordering}
 use Rattle.std.specs.declared.cmp.Ordering.TheVariants.{Less, Equal, Greater}
 use Rattle.std.specs.Ordering.{nat_cmp, is_lt, ordering_then}
-use Rattle.std.specs.Cmp.Lexicographic.{nat_list_eq_equiv}
+use Rattle.std.specs.Cmp.Lexicographic.{bytes_decides, nat_list_eq_equiv}
 use Rattle.std.specs.List.{IsDistinct}
 use Rattle.std.specs.List.Sorted.{IsPermutation, IsSorted}
-use Rattle.std.specs.Map.{keys_of}
+use Rattle.std.specs.Map.{keys_of, lookup}
 use Rattle.std.specs.FinMap as finmap
-use Rattle.indexmap.proofs.MapLemmas.{lookup_permutation}
 use Rattle.md_dirs.specs.Index.{name_cmp, rows_at, IsOrderOf}
 use Rattle.md_dirs.specs.Keys.{IsKeyOf}
 use Rattle.md_dirs.specs.Sortable.{Sortable, row_number, row_at, IsSortable, AreSortable}
@@ -39,6 +39,23 @@ not-below x y kx ky h = by (nat_cmp x.0 y.0) refl
     by Less is = absurd (true≢false (with-keys Less is))
     by Equal is = tie (name_cmp x.1.now y.1.now) (nat_cmp x.2 y.2) (with-keys Equal is)
     by Greater is = ap is_lt (by_keys x.0 y.0 x.1.now y.1.now kx ky Greater is (λ e. let clash : Equal ≡ Greater = e ∙ sym is in cc))
+
+-- a name that rows have is found also where they have changed places
+module _ (es fs : List Row) (moved : IsPermutation es fs) (unique : IsDistinct same (keys_of es)) (unique' : IsDistinct same (keys_of fs)) (q : List ℕ) where
+  name-exact : (x y : List ℕ) → same x y ≡ true → x ≡ y
+  name-exact x y = (bytes_decides x y).0
+
+  hit : (gs hs : List Row) → IsPermutation gs hs → IsDistinct same (keys_of hs) → (file : ℕ) → lookup (same q) gs ≡ Some file → lookup (same q) hs ≡ Some file
+  hit gs hs moves differ file is = lookup-from_Contains nat_list_eq_equiv q file hs differ
+      (Contains-permutation gs hs (q, file) moves (Contains-from_lookup name-exact q file gs is))
+
+  pub found-moved : lookup (same q) fs ≡ lookup (same q) es
+  found-moved = by (lookup (same q) es) refl (lookup (same q) fs) refl
+    where
+      by : (a : Option ℕ) → lookup (same q) es ≡ a → (b : Option ℕ) → lookup (same q) fs ≡ b → lookup (same q) fs ≡ lookup (same q) es
+      by (Some file) is b is' = hit es fs moved unique' file is ∙ sym is
+      by None is None is' = is' ∙ sym is
+      by None is (Some file) is' = let back = hit fs es (IsPermutation-sym es fs moved) unique file is' in cc
 
 module _ (rows : List Row) where
   name-at : (y : Sortable) (ys : List Sortable) (k : ℕ) (d : List ℕ) → All (IsSortable rows) ys → k < length ys →
@@ -85,7 +102,7 @@ module _ (rows : List Row) where
       lists = by-numbers ys
           ∙ listed-itself listed (rising listed (sorted-names ys each sorted) listed-unique)
           ∙ ap finmap.entries (reordered-loose rows listed (λ q.
-          lookup_permutation nat_list_eq_equiv rows listed rows-moved listed-unique (same q) (nat_list_eq_equiv.congr q)));
+          found-moved rows listed rows-moved unique listed-unique q));
     }
       where
         numbered : (zs : List Sortable) → All (IsSortable rows) zs → All (λ i. i < length rows) (map row_number zs)

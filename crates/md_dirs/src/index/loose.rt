@@ -1,12 +1,10 @@
 // Names in the order of their coming, before they are sorted.
 ghost use Rattle.std.specs.Prelude.{◌≡◌, ◌<◌, ◌^◌, ℕ, OnOk, OnErr, IfOk, vec_len};
 ghost use Rattle.std.specs.FinMap as finmap;
-ghost use Rattle.md_dirs.specs.Keys.{AreKeysOf};
 ghost use Rattle.md_dirs.specs.Index.{directory_at};
 
-use crate::index::key::key_of;
 use crate::index::names::Names;
-use crate::index::sorting::order_of;
+use crate::index::sorting::sorted_index;
 use crate::index::tree::Tree;
 use crate::name_key::NameKey;
 use crate::paths::{Path, number_of};
@@ -33,22 +31,6 @@ impl Model for LooseNames {
     ghost view = { λ d. from_entries d.rows.entries };
 
     ghost invariant = { λ d. IsUnique bytes_eq d.rows };
-}
-
-// The sort key of each row.
-fn keys_of_rows(
-    alloc: Global,
-    rows: &IndexMap<NameKey<'static>, usize>,
-) -> Result<Vec<u128>, AllocError>
-    ensures { IfOk result (λ keys. AreKeysOf rows.now.entries keys.items) }
-{
-    let count = rows.len();
-    let mut keys = Vec::with_capacity(alloc, count)?;
-    for at in 0..count {
-        let (name, _) = rows.get_index(at).unwrap();
-        keys.push(key_of(name.as_slice()))?;
-    }
-    Ok(keys)
 }
 
 impl LooseNames {
@@ -80,8 +62,7 @@ impl LooseNames {
         ensures { IfOk result (λ names. names ≡ self) }
     {
         let LooseNames { rows } = self;
-        let keys = keys_of_rows(alloc, &rows)?;
-        let order = order_of(alloc, &rows, &keys)?;
+        let (keys, order) = sorted_index(alloc, &rows)?;
         Ok(Names { rows, keys, order })
     }
 }

@@ -1,7 +1,4 @@
 use Rattle.md_dirs.proofs.index.loose.LooseNames.sorted.Goals as goal
 
 pub invariant_of-result : goal.invariant_of-result
-invariant_of-result c = record {
-  keyed = c.in_ok-keys.ensures;
-  ordered = c.in_ok-order.ensures;
-}
+invariant_of-result c = c.in_ok-keys.ensures
