@@ -20,4 +20,5 @@ pub mod Blocked
 pub mod Keys
 pub mod Keyed
 pub mod Slotted
+pub mod Searched
 pub mod Sorting

@@ -5,6 +5,7 @@ mod loose;
 mod names;
 mod positions;
 mod sorting;
+mod tops;
 mod tree;
 
 use crate::calls::{DirError, Dirs};

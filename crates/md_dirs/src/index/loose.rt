@@ -63,7 +63,7 @@ impl LooseNames {
     {
         let LooseNames { rows } = self;
         let (keys, order) = sorted_index(alloc, &rows)?;
-        Ok(Names { rows, keys, order })
+        Names::of(alloc, rows, keys, order)
     }
 }
 

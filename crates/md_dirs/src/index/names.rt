@@ -2,18 +2,20 @@
 ghost use Rattle.std.specs.Prelude.{◌≡◌, ◌<◌, ◌+◌, ◌^◌, [], None, OnOk, OnErr, IfOk, IfErr, IfSome, IsSome, IsTrue, All, length, map, slice_get, slice_index_or, slice_set, find as first_with};
 ghost use Rattle.std.specs.Option.{option_map};
 ghost use Rattle.std.specs.FinMap as finmap;
+ghost use Rattle.std.specs.FinMap.{from_entries};
 ghost use Rattle.md_dirs.specs.State.{file_by};
 ghost use Rattle.md_dirs.specs.Files.{files_of, name_row};
 ghost use Rattle.md_dirs.specs.Slots.{slots_of};
 ghost use Rattle.md_dirs.specs.Rows.{is_named as is_named_by};
 ghost use Rattle.md_dirs.specs.Plain.{IsAt, IsGap};
-ghost use Rattle.md_dirs.specs.Keys.{IsKeyOf};
-ghost use Rattle.md_dirs.specs.Index.{name_cmp, order_at, FitsAt, get_name, Renames};
+ghost use Rattle.md_dirs.specs.Keys.{IsKeyOf, IsIndexOf};
+ghost use Rattle.md_dirs.specs.Index.{name_cmp, order_at, IsBetween, FitsAt, get_name, Renames};
 
 use crate::files::shown_row;
 use crate::finding::{Edge, InOrder, edge_place};
 use crate::index::key::key_of;
 use crate::index::positions::{Near, Positions};
+use crate::index::tops::{Tops, top_of};
 use crate::name_key::NameKey;
 use crate::rows::{Row, is_named};
 use crate::slots::Slots;
@@ -26,12 +28,21 @@ use std::marker::Model;
 /// positions of its rows in order of the names.
 ///
 /// A search compares sort keys, which stand side by side, and reads a name only where they are equal: a name is reached by two
-/// addresses.
+/// addresses. It begins by the last keys of the blocks of positions, which stand side by side too.
 #[derive(Drop)]
 pub struct Names {
     pub(crate) rows: IndexMap<NameKey<'static>, usize>,
-    pub(crate) keys: Vec<u128>,
-    pub(crate) order: Positions,
+    keys: Vec<u128>,
+    order: Positions,
+    tops: Tops,
+}
+
+/// Where a row may stand: at `low` or behind it, and before `high`; and the block that is looked into first.
+#[derive(Clone, Copy)]
+struct Stretch {
+    low: usize,
+    high: usize,
+    block: usize,
 }
 
 impl Model for Names {
@@ -69,6 +80,25 @@ fn replace_row(
 }
 
 impl Names {
+    /// The names of rows, whose keys and order these are.
+    pub(crate) fn of(
+        alloc: Global,
+        rows: IndexMap<NameKey<'static>, usize>,
+        keys: Vec<u128>,
+        order: Positions,
+    ) -> Result<Self, AllocError>
+        requires { IsIndexOf rows.entries keys.items order }
+        ensures { IfOk result (λ names. names ≡ from_entries rows.entry.entries) }
+    {
+        let tops = Tops::of(alloc, &keys, &order)?;
+        Ok(Names {
+            rows,
+            keys,
+            order,
+            tops,
+        })
+    }
+
     /// No name. It takes no memory.
     pub fn new(alloc: Global) -> Self
         ensures { result ≡ finmap.empty }
@@ -77,6 +107,7 @@ impl Names {
             rows: IndexMap::new(alloc),
             keys: Vec::new(alloc),
             order: Positions::new(alloc),
+            tops: Tops::new(alloc),
         }
     }
 
@@ -114,52 +145,78 @@ impl Names {
         }
     }
 
-    // Where the row of a name of a key is, or where it would go: by halving over the blocks' last rows, and then in one block.
+    // Where a name of a key may stand, by the last rows of blocks: those of the block that is guessed and of the one before it, and where
+    // the guess was wrong by halving.
+    fn narrow(&self, end: Near, key: u128, name: &[u8]) -> Result<Near, Stretch>
+        requires end { end.at ≡ length (finmap.entries self.now) }
+        requires key { IsKeyOf key name.now }
+        ensures found { IfOk result (λ near. IsAt name_cmp (finmap.entries self.now) name.now near.at) }
+        ensures between { IfErr result (λ s. IsBetween (finmap.entries self.now) name.now s.low s.high) }
+    {
+        let mut stretch = Stretch {
+            low: 0,
+            high: end.at,
+            block: 0,
+        };
+        let mut behind = end.block;
+        let mut guesses = 2;
+        let mut guess = self.tops.guess(key);
+        while stretch.block < behind {
+            let middle = if guesses > 0 && stretch.block <= guess {
+                guess.min(behind - 1)
+            } else {
+                stretch.block + (behind - stretch.block) / 2
+            };
+            guesses = if guesses > 0 { guesses - 1 } else { 0 };
+            guess = middle.saturating_sub(1);
+            let Some(at) = self.order.last_of(middle) else {
+                break;
+            };
+            if at < stretch.low || stretch.high <= at {
+                break;
+            }
+            let near = Near { at, block: middle };
+            match self.compare_at(near, key, name) {
+                Ordering::Less => {
+                    stretch.low = at + 1;
+                    stretch.block = middle + 1;
+                }
+                Ordering::Equal => return Ok(near),
+                Ordering::Greater => {
+                    stretch.high = at;
+                    behind = middle;
+                }
+            }
+        }
+        Err(stretch)
+    }
+
+    // Where the row of a name of a key is, or where it would go: by halving in the block where it may stand.
     fn search(&self, key: u128, name: &[u8]) -> Result<Near, Near>
         requires key { IsKeyOf key name.now }
         ensures found { IfOk result (λ near. IsAt name_cmp (finmap.entries self.now) name.now near.at) }
         ensures absent { IfErr result (λ near. IsGap name_cmp (finmap.entries self.now) name.now near.at) }
     {
         let end = self.order.end();
-        let mut low = 0;
-        let mut high = end.at;
         // Names come in the order of time, so the last row is looked at first.
-        if high > 0 {
+        if end.at > 0 {
             let last = Near {
-                at: high - 1,
+                at: end.at - 1,
                 block: end.block,
             };
             if self.compare_at(last, key, name).is_lt() {
                 return Err(end);
             }
         }
-        let mut block = 0;
-        let mut behind = end.block;
-        'blocks: while block < behind {
-            let middle = block + (behind - block) / 2;
-            let Some(last) = self.order.last_of(middle) else {
-                break;
-            };
-            if last < low || high <= last {
-                break;
-            }
-            let near = Near {
-                at: last,
-                block: middle,
-            };
-            match self.compare_at(near, key, name) {
-                Ordering::Less => {
-                    low = last + 1;
-                    block = middle + 1;
-                }
-                Ordering::Equal => return Ok(near),
-                Ordering::Greater => {
-                    high = last;
-                    behind = middle;
-                }
-            }
-        }
-        'rows: while low < high {
+        let Stretch {
+            mut low,
+            mut high,
+            block,
+        } = match self.narrow(end, key, name) {
+            Ok(near) => return Ok(near),
+            Err(stretch) => stretch,
+        };
+        while low < high {
             let middle = Near {
                 at: low + (high - low) / 2,
                 block,
@@ -239,18 +296,22 @@ impl Names {
         };
         self.rows.reserve(1)?;
         self.keys.reserve(1)?;
+        self.tops.reserve()?;
         self.order.insert(near, last)?;
         self.keys.push_reserved(key);
         let Ok(_none) = self.rows.insert(name, file) else {
             unreachable!();
         };
+        let top = top_of(&self.keys, &self.order, near.block);
+        let blocks = self.order.blocks();
+        self.tops.note(near.block, blocks, top);
         Ok(())
     }
 
-    /// Takes a name away, and gives the number of its file. It takes no memory. The last row of the table takes the place that
-    /// comes free there, and in the order the positions after it in its block move.
-    pub fn take(&mut self, name: &[u8]) -> Option<usize>
-        ensures file { result ≡ finmap.get self.old name.now }
+    // Takes a name away, and gives the number of its file, and the block where its position was. The last row of the table takes the place
+    // that comes free there.
+    fn take_row(&mut self, name: &[u8]) -> Option<(usize, usize)>
+        ensures file { option_map (λ taken. taken.0) result ≡ finmap.get self.old name.now }
         ensures gone { self.new ≡ finmap.remove self.old name.now }
     {
         let Ok(near) = self.search(key_of(name), name) else {
@@ -265,6 +326,19 @@ impl Names {
         self.order.remove(near);
         self.keys.swap_remove(gone);
         let (_, file) = self.rows.swap_remove_index(gone).unwrap();
+        Some((file, near.block))
+    }
+
+    /// Takes a name away, and gives the number of its file. It takes no memory. In the table the last row takes the place that comes free,
+    /// and in the order the positions after it in its block move.
+    pub fn take(&mut self, name: &[u8]) -> Option<usize>
+        ensures file { result ≡ finmap.get self.old name.now }
+        ensures gone { self.new ≡ finmap.remove self.old name.now }
+    {
+        let (file, block) = self.take_row(name)?;
+        let top = top_of(&self.keys, &self.order, block);
+        let blocks = self.order.blocks();
+        self.tops.note(block, blocks, top);
         Some(file)
     }
 
@@ -286,6 +360,9 @@ impl Names {
                 let row = self.order.get_near(near);
                 replace_row(&mut self.rows, row, new, file)?;
                 self.keys[row] = key;
+                let top = top_of(&self.keys, &self.order, near.block);
+                let blocks = self.order.blocks();
+                self.tops.note(near.block, blocks, top);
                 return Ok(());
             }
         }

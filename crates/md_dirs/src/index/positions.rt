@@ -295,6 +295,11 @@ impl Positions {
         count_before(&self.blocks, &self.ends, self.blocks.len())
     }
 
+    /// How many blocks there are.
+    pub fn blocks(&self) -> usize {
+        self.blocks.len()
+    }
+
     /// The end of the list.
     pub fn end(&self) -> Near
         ensures { result.at ≡ length self.now }

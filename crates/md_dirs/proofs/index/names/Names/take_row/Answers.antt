@@ -9,8 +9,8 @@ use Rattle.lists.proofs.Maps.{drop-absent}
 use Rattle.md_dirs.proofs.Keyed.{key-goes, as-key}
 use Rattle.md_dirs.proofs.NameRows.{name_total, name_exact, get-loose, taken-loose}
 use Rattle.md_dirs.proofs.Ordered.{key-at, file-at, in-table, read, go-row}
-use Rattle.md_dirs.proofs.index.names.Names.take.Goals as goal
-use Rattle.md_dirs.proofs.index.names.Names.take.Goals.{Joined-unwrap}
+use Rattle.md_dirs.proofs.index.names.Names.take_row.Goals as goal
+use Rattle.md_dirs.proofs.index.names.Names.take_row.Goals.{Joined-unwrap}
 
 pub returns-in_default-clause-file : goal.returns-in_default-clause-file
 returns-in_default-clause-file c = sym (get-entries c.args.self.now c.args.name.now ∙ c.in_default.ensures.absent.absent)
