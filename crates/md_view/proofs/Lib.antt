@@ -11,6 +11,7 @@ pub mod Ordered
 pub mod Moments
 pub mod LawHolds
 pub mod Made
+pub mod Owning
 pub mod Waiting
 pub mod Fitting
 pub mod Placing

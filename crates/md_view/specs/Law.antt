@@ -56,7 +56,7 @@ pub record IsGoodListing (names : ℕ → Names) (folder i j : ℕ) (entries : L
 -- a listing has begun: its new was read at a moment of the run
 pub record HasBegun (r : Run) (l : BegunListing) : Type 0 where
   pub past : l.begun ≤ length r.events
-  pub new : l.new.items ≡ reading_of (names_at r l.begun) l.folder New
+  pub new : l.new ≡ reading_of (names_at r l.begun) l.folder New
 
 -- a run goes on: by events, or by a call that is submitted
 abbrev pub Continues : Run → Run → Type 0

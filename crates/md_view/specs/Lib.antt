@@ -3,3 +3,4 @@ pub mod Rows
 pub mod Law
 pub mod Named
 pub mod Held
+pub mod Owned

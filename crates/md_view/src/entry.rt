@@ -61,6 +61,17 @@ impl<'a> Model for EntryRef<'a> {
 }
 
 impl<'a> EntryRef<'a> {
+    pub(crate) fn new(unique: &'a [u8], place: Place, name: &'a [u8], size: u64) -> Self
+        ensures { result ≡ record { unique = unique.now; place = place; name = name.now; size = size } }
+    {
+        EntryRef {
+            unique,
+            place,
+            name,
+            size,
+        }
+    }
+
     /// The unique name of the message.
     pub fn unique(&self) -> &'a [u8]
         ensures { result.now ≡ self.now.unique }

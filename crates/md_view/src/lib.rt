@@ -9,6 +9,7 @@ mod joining;
 pub mod laws;
 mod listing;
 mod names;
+mod owned;
 mod read;
 
 pub use entry::{Entry, EntryRef};

@@ -4,10 +4,11 @@ ghost use Rattle.md_core.specs.Runs.{dirs_of};
 ghost use Rattle.md_view.specs.Readings.{reading_refusal};
 ghost use Rattle.md_view.specs.Law.{names_at, listing_of, HasBegun, IsGoodListing};
 
-use crate::entry::{Entry, EntryRef, copied, lend};
+use crate::entry::{Entry, EntryRef, copied};
 use crate::error::ViewError;
 use crate::joining::join_owned;
-use crate::read::{lent_reading, reading};
+use crate::owned::Owned;
+use crate::read::lent_reading;
 use md_core::World;
 use md_dirs::{Dirs, Place};
 use std::alloc::Global;
@@ -22,7 +23,7 @@ pub struct BegunListing {
     /// How many steps the world had taken when new was read.
     pub begun: usize,
     /// The entries of new, in order of unique name.
-    pub new: Vec<Entry>,
+    new: Owned,
 }
 
 impl BegunListing {
@@ -38,7 +39,8 @@ impl BegunListing {
         ensures refusal { IfErr result (λ error. error ≡ reading_refusal (dirs_of world.now) folder) }
     {
         world.interleaves();
-        let new = reading(alloc, world, folder, Place::New)?;
+        let new = lent_reading(alloc, world, folder, Place::New)?;
+        let new = Owned::copied(alloc, &new)?;
         let begun = world.log().len();
         Ok(BegunListing { folder, begun, new })
     }
@@ -71,7 +73,7 @@ impl BegunListing {
         md_core::laws::names_show_their_directories();
         md_core::laws::legal_histories_keep_messages_out_of_new();
         let cur = lent_reading(alloc, world, self.folder, Place::Cur)?;
-        let new = lend(alloc, &self.new)?;
+        let new = self.new.lent(alloc)?;
         Ok(join_owned(alloc, new, cur)?)
     }
 }

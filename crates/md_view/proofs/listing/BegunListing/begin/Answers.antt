@@ -14,6 +14,6 @@ returns-clause-begun g c =
     let steps : length c.log-begun.result.now ≡ length r.events = ap length c.log-begun.ensures ∙ length-map r.events (λ (e : Occurrence). e.event) in
     record {
       past = omega (arith, steps);
-      new = c.in_ok-new.ensures.entries ∙ ap (λ (n : Names). reading_of n c.args.folder New) (names-now r c.interleaves.ensures.shown)
+      new = c.in_ok-new-2.ensures ∙ c.deref.ensures.value ∙ c.in_ok-new.ensures.entries ∙ ap (λ (n : Names). reading_of n c.args.folder New) (names-now r c.interleaves.ensures.shown)
           ∙ ap (λ k. reading_of (names_at r k) c.args.folder New) (sym steps);
     }

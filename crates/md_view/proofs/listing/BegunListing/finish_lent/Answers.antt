@@ -12,7 +12,7 @@ use Rattle.md_view.proofs.listing.BegunListing.finish_lent.Goals as goal
 
 pub join_owned-requires-clause-new : goal.join_owned-requires-clause-new
 join_owned-requires-clause-new g c =
-    subst (λ (es : List Entry). IsInOrder es) (sym (c.in_ok-new.ensures ∙ c.deref.ensures.value ∙ c.requires.new))
+    subst (λ (es : List Entry). IsInOrder es) (sym (c.in_ok-new.ensures ∙ c.requires.new))
     (in-order _ (reading-sorted c.args.self.now.folder New (names_at c.args.world.now c.args.self.now.begun)))
 
 pub returns-clause-law : goal.returns-clause-law
@@ -21,7 +21,7 @@ returns-clause-law g c =
     let folder = c.args.self.now.folder in
     let begun = c.args.self.now.begun in
     let new : c.in_ok-new.new.items ≡ reading_of (names_at r begun) folder New =
-    c.in_ok-new.ensures ∙ c.deref.ensures.value ∙ c.requires.new in
+    c.in_ok-new.ensures ∙ c.requires.new in
     let cur : c.in_ok-cur.cur.items ≡ reading_of (names_at r (length r.events)) folder Cur =
     c.in_ok-cur.ensures.entries ∙ ap (λ (n : Names). reading_of n folder Cur) (names-now r c.interleaves.ensures.shown) in
     subst (IsGoodListing (names_at r) folder begun (length r.events)) (sym (c.in_ok-join_owned.ensures ∙ (λ i. join_of (new i) (cur i))))

@@ -1,0 +1,108 @@
+// Entries that own their names together.
+ghost use Rattle.std.specs.Prelude.{◌≡◌, ◌++◌, IfOk, OnOk};
+ghost use Rattle.md_view.specs.Owned.{entry_of, IsWithin};
+
+use crate::entry::EntryRef;
+use md_dirs::Place;
+use std::alloc::{AllocError, Global};
+use std::marker::Model;
+
+/// Where the names of an entry stand in a text: the whole name, and behind it the unique one.
+#[derive(Debug, Clone, Copy)]
+struct Piece {
+    start: usize,
+    middle: usize,
+    end: usize,
+    place: Place,
+    size: u64,
+}
+
+impl Piece {
+    // Appends the names of an entry.
+    fn put(text: &mut Vec<u8>, entry: &EntryRef<'_>) -> Result<Piece, AllocError>
+        ensures text { OnOk result (text.new.items ≡ (text.old.items ++ entry.now.name) ++ entry.now.unique) }
+        ensures within { IfOk result (IsWithin text.new.items) }
+        ensures entry { IfOk result (λ piece. entry_of text.new.items piece ≡ entry.now) }
+    {
+        let start = text.len();
+        text.extend_from_slice(entry.name())?;
+        let middle = text.len();
+        text.extend_from_slice(entry.unique())?;
+        Ok(Piece {
+            start,
+            middle,
+            end: text.len(),
+            place: entry.place(),
+            size: entry.size(),
+        })
+    }
+
+    // The entry, lent by its text.
+    fn lent(self, text: &[u8]) -> EntryRef<'_>
+        requires { IsWithin text.now self }
+        ensures { result ≡ entry_of text.now self }
+    {
+        let Piece {
+            start,
+            middle,
+            end,
+            place,
+            size,
+        } = self;
+        EntryRef::new(&text[middle..end], place, &text[start..middle], size)
+    }
+}
+
+/// Entries that own their names, which stand one behind another: they take two allocations, however many there are. Contracts see the
+/// entries.
+#[derive(Debug, Drop)]
+pub struct Owned {
+    text: Vec<u8>,
+    pieces: Vec<Piece>,
+}
+
+impl Model for Owned {
+    ghost use Rattle.std.specs.Prelude.{List, map, All};
+    ghost use Rattle.md_view.specs.declared.entry.Entry.{Entry};
+    ghost use Rattle.md_view.specs.Owned.{entry_of, IsWithin};
+
+    ghost Value = { List Entry };
+
+    ghost view = { λ o. map (entry_of o.text.items) o.pieces.items };
+
+    ghost invariant = { λ o. All (IsWithin o.text.items) o.pieces.items };
+}
+
+impl Owned {
+    /// Copies of entries. It is refused only when out of memory.
+    pub fn copied(alloc: Global, entries: &[EntryRef<'_>]) -> Result<Owned, AllocError>
+        ensures { IfOk result (λ owned. owned ≡ entries.now) }
+    {
+        let mut text = Vec::with_capacity(alloc, length_of(entries))?;
+        let mut pieces = Vec::with_capacity(alloc, entries.len())?;
+        for entry in entries {
+            pieces.push(Piece::put(&mut text, entry)?)?;
+        }
+        Ok(Owned { text, pieces })
+    }
+
+    /// The entries, lent one by one. It is refused only when out of memory.
+    pub fn lent(&self, alloc: Global) -> Result<Vec<EntryRef<'_>>, AllocError>
+        ensures { IfOk result (λ all. all.items ≡ self.now) }
+    {
+        let mut all = Vec::with_capacity(alloc, self.pieces.len())?;
+        for piece in &self.pieces {
+            all.push(piece.lent(&self.text))?;
+        }
+        Ok(all)
+    }
+}
+
+// How many bytes the names of entries have.
+fn length_of(entries: &[EntryRef<'_>]) -> usize {
+    let mut bytes: usize = 0;
+    for entry in entries {
+        bytes = bytes.saturating_add(entry.name().len() + entry.unique().len());
+    }
+    bytes
+}
