@@ -5,7 +5,7 @@ ghost use Rattle.md_cli.specs.Program.{Ends, IsWithin, Performs, Reported, Write
 use crate::command::{Answer, command};
 use crate::refusal::refusal_line;
 use md_runs::{Run, RunFault, run_index, run_threads};
-use md_script::{PlayKind, Sink, Source, play, write_whole};
+use md_script::{PlayKind, Sink, Source, play_last, write_whole};
 use std::alloc::Global;
 use std::sync::Wait;
 use std::thread::Threads;
@@ -60,7 +60,7 @@ fn perform<R: Threads + Wait + Sync, S: Source, T: Sink>(
     ensures { Performs run (S.state source.old) (S.state source.new) (T.state sink.old) (T.state sink.new) result }
 {
     match run {
-        Run::Play => Ok(play(alloc, source, sink)?),
+        Run::Play => Ok(play_last(alloc, source, sink)?),
         Run::Threads(count) => run_threads(rt, alloc, count as usize, source, sink),
         Run::Index(count) => Ok(run_index(rt, alloc, count as usize, source, sink)?),
     }

@@ -33,7 +33,7 @@ pub use error::{PlayError, PlayKind};
 pub use folders::Folders;
 pub use lines::count_lines;
 pub use listing::push_entries;
-pub use player::{play, transcript, transcript_over, write_whole};
+pub use player::{play, play_last, transcript, transcript_over, write_whole};
 pub use reading::read_script;
 pub use run::Printed;
 pub use setup::{Setup, image};

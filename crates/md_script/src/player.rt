@@ -1,6 +1,6 @@
 //! A script, played.
-ghost use Rattle.std.specs.Prelude.{◌+◌, ◌≤◌, IfOk};
-ghost use Rattle.md_script.specs.Sessions.{transcript};
+ghost use Rattle.std.specs.Prelude.{◌≡◌, ◌+◌, ◌≤◌, IfOk};
+ghost use Rattle.md_script.specs.Sessions.{transcript, new_session};
 ghost use Rattle.md_script.specs.Printed.{Prints};
 ghost use Rattle.md_script.specs.Play.{Plays, Writes};
 ghost use Rattle.md_script.specs.Reading.{most_reads};
@@ -14,6 +14,7 @@ use crate::storage::Storage;
 use crate::store::StoreSession;
 use md_dirs::IndexDirs;
 use std::alloc::{AllocError, Global};
+use std::mem::forget;
 
 /// Plays a script: reads it to its end, in at most 1,048,576 reads, runs its lines over a store while it reads, up to the first that is
 /// refused, and then writes what they printed. Of the script it keeps only the line that hasn't ended, and what jobs hold.
@@ -29,7 +30,37 @@ pub fn play<S: Source, T: Sink>(
     ensures play { Plays (S.state source.old) (S.state source.new) (T.state sink.old) (T.state sink.new) result }
     ensures reads { (S.state source.new).reads ≤ (S.state source.old).reads + most_reads }
 {
-    let printed = run_source(alloc, source, &mut StoreSession::<IndexDirs>::new(alloc))?;
+    let mut session = StoreSession::<IndexDirs>::new(alloc);
+    play_in(&mut session, alloc, source, sink)
+}
+
+/// The same, as the last thing that a process does: its store is left as it is, and not given back name by name and body by body, since the
+/// system takes all memory of a process at its end. That is a tenth of the work of some scripts.
+pub fn play_last<S: Source, T: Sink>(
+    alloc: Global,
+    source: &mut S,
+    sink: &mut T,
+) -> Result<(), PlayError>
+    ensures play { Plays (S.state source.old) (S.state source.new) (T.state sink.old) (T.state sink.new) result }
+    ensures reads { (S.state source.new).reads ≤ (S.state source.old).reads + most_reads }
+{
+    let mut session = StoreSession::<IndexDirs>::new(alloc);
+    let played = play_in(&mut session, alloc, source, sink);
+    forget(session);
+    played
+}
+
+fn play_in<S: Source, T: Sink>(
+    session: &mut StoreSession<IndexDirs>,
+    alloc: Global,
+    source: &mut S,
+    sink: &mut T,
+) -> Result<(), PlayError>
+    requires { session.old ≡ new_session }
+    ensures play { Plays (S.state source.old) (S.state source.new) (T.state sink.old) (T.state sink.new) result }
+    ensures reads { (S.state source.new).reads ≤ (S.state source.old).reads + most_reads }
+{
+    let printed = run_source(alloc, source, session)?;
     write_whole(sink, &printed.text)?;
     match printed.refusal {
         None => Ok(()),
