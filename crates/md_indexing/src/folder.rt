@@ -8,19 +8,19 @@ use md_core::World;
 use md_dirs::Dirs;
 use md_head::Summary;
 use md_script::push_summary;
-use md_view::{Entry, ViewError, list};
+use md_view::{EntryRef, ViewError, list_lent};
 use std::alloc::{AllocError, Global};
 
-/// The listing of a folder now. It is refused as `md_view::list` is.
-pub fn listing<D: Dirs>(
+/// The listing of a folder now, each entry lent by the world. It is refused as `md_view::list_lent` is.
+pub fn listing<'a, D: Dirs>(
     alloc: Global,
-    world: &World<D>,
+    world: &'a World<D>,
     folder: u32,
-) -> Result<Vec<Entry>, ViewError>
+) -> Result<Vec<EntryRef<'a>>, ViewError>
     ensures { IfOk result (λ all. all.items ≡ listing_in (mailbox_of (dirs_of world.now)) folder) }
 {
     world.interleaves();
-    list(alloc, world, folder)
+    list_lent(alloc, world, folder)
 }
 
 /// The bytes of the message of a unique name, and none where it isn't there.

@@ -10,7 +10,7 @@ use crate::indexer::Indexer;
 use md_core::World;
 use md_dirs::{Dirs, IndexDirs};
 use md_head::{HeadError, summary};
-use md_view::Entry;
+use md_view::EntryRef;
 use std::alloc::{AllocError, Global};
 
 /// Makes a summary after the other, and keeps none: each is appended as soon as it is made.
@@ -38,7 +38,7 @@ fn push_messages<D: Dirs>(
     alloc: Global,
     world: &World<D>,
     name: &[u8],
-    entries: &[Entry],
+    entries: &[EntryRef<'_>],
     out: &mut Vec<u8>,
 ) -> Result<(), AllocError>
     ensures { OnOk result (out.new.items ≡ out.old.items ++ flat_map (message_text (mailbox_of (dirs_of world.now)) name.now) entries.now) }
@@ -54,12 +54,12 @@ fn push_message<D: Dirs>(
     alloc: Global,
     world: &World<D>,
     name: &[u8],
-    entry: &Entry,
+    entry: &EntryRef<'_>,
     out: &mut Vec<u8>,
 ) -> Result<(), AllocError>
     ensures { OnOk result (out.new.items ≡ out.old.items ++ message_text (mailbox_of (dirs_of world.now)) name.now entry.now) }
 {
-    let unique = entry.unique.as_slice();
+    let unique = entry.unique();
     let made = summary(alloc, bytes_of(world, unique)).map_err(|HeadError::NoMemory| AllocError)?;
     push_indexed(out, name, unique, &made)
 }

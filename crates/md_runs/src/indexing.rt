@@ -15,6 +15,7 @@ use md_dirs::{Dirs, ImageFile};
 use md_indexing::{load, refused};
 use md_script::{PlayError, PlayKind, Setup, Sink, Source, image, read_script, write_whole};
 use std::alloc::{AllocError, Global};
+use std::mem::forget;
 use std::sync::Wait;
 use std::thread::Threads;
 use workers::push_folder;
@@ -26,6 +27,8 @@ use workers::push_folder;
 /// Nothing is written where a line is refused, `not in this run` where it has another command than `folder` and `file`; nor where the
 /// store can't be opened, which has the number of the last line; nor at the refusals of line 0: `ReadFault`, `TooLong`, `TooManyReads`
 /// and `NoMemory`. After `WriteFault`, at line 0 too, nothing is known of what was written.
+///
+/// It is the last thing that a process does: the memory of the store isn't given back.
 pub fn run_index<R: Threads + Wait + Sync, S: Source, T: Sink>(
     rt: &R,
     alloc: Global,
@@ -78,7 +81,10 @@ fn text_over<R: Threads + Wait + Sync>(
         (λ kind. kind ≢ NoMemory → index_over (names_of names.now) files.items ≡ Err kind) }
 {
     let world = load(alloc, names, files)?;
-    Ok(folders_text(rt, alloc, workers, &world, names)?)
+    let text = folders_text(rt, alloc, workers, &world, names);
+    // The process ends soon, and the system takes its memory at once.
+    forget(world);
+    Ok(text?)
 }
 
 /// The index of folders of these names, of which the first has the number 0.

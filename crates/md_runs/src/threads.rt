@@ -15,6 +15,7 @@ use report::ended;
 use setting_up::{Made, set_up};
 use sharing::share;
 use std::alloc::Global;
+use std::mem::forget;
 use std::sync::Wait;
 use std::thread::Threads;
 
@@ -26,6 +27,8 @@ use std::thread::Threads;
 /// the store can't be opened or a job not be submitted, which has the number of the last line; nor where `NoReader` or `Closed` is
 /// answered, or at the refusals of line 0: `ReadFault`, `TooLong`, `TooManyReads` and `NoMemory`. After `WriteFault`, at line 0 too,
 /// nothing is known of what was written.
+///
+/// It is the last thing that a process does: the memory of the store isn't given back.
 pub fn run_threads<R: Threads + Wait + Sync, S: Source, T: Sink>(
     rt: &R,
     alloc: Global,
@@ -59,6 +62,8 @@ fn threads_text<R: Threads + Wait + Sync>(
     let Made { names, world } = made;
     let jobs = world.jobs();
     let shared = share(rt, alloc, threads, &names, world)?;
-    let text = ended(alloc, &shared.world, &shared.folders, jobs)?;
-    Ok(text)
+    let text = ended(alloc, &shared.world, &shared.folders, jobs);
+    // The process ends soon, and the system takes its memory at once.
+    forget(shared);
+    Ok(text?)
 }

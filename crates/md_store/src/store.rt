@@ -21,11 +21,15 @@ use crate::pass::Pass;
 use crate::reading::FirstReading;
 use crate::step::StoreStep;
 use crate::ticket::Ticket;
+use crossbeam_utils::Backoff;
 use md_core::{Call, CoreError, JobId, SubmitRefused, World};
 use md_dirs::{Bytes, Dirs};
 use md_view::Entry;
 use std::alloc::Global;
 use std::sync::{Mutex, MutexGuard, Wait};
+
+/// How often a thread tries the lock before it sleeps. After the first tries it yields the processor between them.
+const MOST_TRIES: u32 = 4_096;
 
 /// A store that threads share: a world inside a lock, and what of it is published. Each caller has a pass of the same naming type.
 pub struct Store<D: Dirs, J: Naming> {
@@ -40,7 +44,16 @@ impl<D: Dirs, J: Naming> Store<D, J> {
     /// Lends the store inside its lock, so that a caller submits, steps and reads under one lock, with clauses that say exactly what each does;
     /// `Locked::lags` says what is known of it at first. It waits until the lock is free, and other threads wait until the guard is let go, by
     /// `MutexGuard::unlock`. Listings need no lock.
+    ///
+    /// A thread tries for a while, some milliseconds at most, before it sleeps: who sleeps is woken long after the lock is free.
     pub fn lock<R: Wait>(&self, rt: &R) -> MutexGuard<'_, Locked<D, J>> {
+        let backoff = Backoff::new();
+        for _ in 0..MOST_TRIES {
+            if let Some(guard) = self.lock.try_lock() {
+                return guard;
+            }
+            backoff.snooze();
+        }
         self.lock.lock(rt)
     }
 
@@ -53,7 +66,7 @@ impl<D: Dirs, J: Naming> Store<D, J> {
             (λ r. IsWhy call (plain_refusal J.opening.folders call) r.error) }
         ensures why { IfErr result (λ r. RefusesCall J.begun call r.error) }
     {
-        let mut guard = self.lock.lock(rt);
+        let mut guard = self.lock(rt);
         guard.lags();
         let made = guard.submit(call);
         MutexGuard::unlock(guard);
@@ -69,7 +82,7 @@ impl<D: Dirs, J: Naming> Store<D, J> {
             (λ r. IsWhy call (plain_refusal J.opening.folders call) r.error) }
         ensures why { IfErr result (λ r. RefusesCall J.begun call r.error) }
     {
-        let mut guard = self.lock.lock(rt);
+        let mut guard = self.lock(rt);
         guard.lags();
         let made = guard.issue(call);
         MutexGuard::unlock(guard);
@@ -100,7 +113,7 @@ impl<D: Dirs, J: Naming> Store<D, J> {
         ensures error { IfErr result (λ e. (e ≡ core.NoJob) ⊎ (e ≡ core.Answered) ⊎ (e ≡ core.NoMemory)) }
         ensures why { IfErr result (RefusesSince J.begun job) }
     {
-        let mut guard = self.lock.lock(rt);
+        let mut guard = self.lock(rt);
         guard.lags();
         md_core::laws::each_call_has_its_job();
         let made = guard.step(rt, pass, job, now, own);
@@ -127,7 +140,7 @@ impl<D: Dirs, J: Naming> Store<D, J> {
         ensures error { IfErr result (λ e. (e ≡ core.Answered) ⊎ (e ≡ core.NoMemory)) }
         ensures why { IfErr result (RefusesSince J.begun ticket.now.job) }
     {
-        let mut guard = self.lock.lock(rt);
+        let mut guard = self.lock(rt);
         guard.recalls(ticket);
         guard.lags();
         md_core::laws::each_call_has_its_job();
@@ -145,7 +158,7 @@ impl<D: Dirs, J: Naming> Store<D, J> {
         ensures legal { IsLegalFrom J.opening pass.new }
         ensures unchanged { OnErr result (pass.new ≡ pass.old) }
     {
-        let mut guard = self.lock.lock(rt);
+        let mut guard = self.lock(rt);
         guard.lags();
         let made = guard.catch_up(rt, pass);
         MutexGuard::unlock(guard);
@@ -162,7 +175,7 @@ impl<D: Dirs, J: Naming> Store<D, J> {
     ) -> Result<Option<Bytes>, StoreError>
         ensures { IfOk result (λ bytes. ReadsSince J.begun unique.now bytes) }
     {
-        let guard = self.lock.lock(rt);
+        let guard = self.lock(rt);
         guard.lags();
         md_core::laws::worlds_show_their_traces();
         let read = guard.read(alloc, unique);

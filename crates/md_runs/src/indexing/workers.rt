@@ -10,7 +10,7 @@ use md_core::World;
 use md_dirs::Dirs;
 use md_index::{Indexed, Message, OpenGate, index};
 use md_indexing::{bytes_of, listing, push_indexed};
-use md_view::Entry;
+use md_view::EntryRef;
 use std::alloc::{AllocError, Global};
 use std::sync::Wait;
 use std::thread::Threads;
@@ -55,14 +55,14 @@ fn push_all(out: &mut Vec<u8>, name: &[u8], all: &[Indexed]) -> Result<(), Alloc
 fn messages<'a, D: Dirs>(
     alloc: Global,
     world: &'a World<D>,
-    entries: &'a [Entry],
+    entries: &[EntryRef<'a>],
 ) -> Result<Vec<Message<'a>>, AllocError>
     ensures { IfOk result (λ all. map indexed_of all.items ≡ map (indexed_in (mailbox_of (dirs_of world.now))) entries.now) }
 {
     let mut all = Vec::new(alloc);
     all.reserve(entries.len())?;
     for entry in entries {
-        let unique = entry.unique.as_slice();
+        let unique = entry.unique();
         let bytes = bytes_of(world, unique);
         all.push(Message { unique, bytes })?;
     }

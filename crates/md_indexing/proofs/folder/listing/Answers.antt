@@ -9,5 +9,5 @@ use Rattle.md_indexing.proofs.folder.listing.Goals as goal
 pub returns : goal.returns
 returns g c =
     subst (λ (s : State). let names : Names = names_of (mailbox_of s) in
-    IfOk c.list.result (λ all. all.items ≡ join_of (reading_of names c.args.folder New) (reading_of names c.args.folder Cur)))
-    c.interleaves.ensures.shown.dirs c.list.ensures.entries
+    IfOk c.list_lent.result (λ all. all.items ≡ join_of (reading_of names c.args.folder New) (reading_of names c.args.folder Cur)))
+    c.interleaves.ensures.shown.dirs c.list_lent.ensures.entries
