@@ -159,16 +159,10 @@ impl Names {
             block: 0,
         };
         let mut behind = end.block;
-        let mut guesses = 2;
         let mut guess = self.tops.guess(key);
         while stretch.block < behind {
-            let middle = if guesses > 0 && stretch.block <= guess {
-                guess.min(behind - 1)
-            } else {
-                stretch.block + (behind - stretch.block) / 2
-            };
-            guesses = if guesses > 0 { guesses - 1 } else { 0 };
-            guess = middle.saturating_sub(1);
+            let middle = guess.middle(stretch.block, behind);
+            guess = guess.before(middle);
             let Some(at) = self.order.last_of(middle) else {
                 break;
             };

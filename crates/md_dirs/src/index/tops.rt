@@ -1,4 +1,6 @@
 // Where a search among blocks of rows begins.
+ghost use Rattle.std.specs.Prelude.{◌<◌, ◌≤◌, ◌+◌, ◌^◌};
+
 use crate::index::positions::{Near, Positions};
 use std::alloc::{AllocError, Global};
 
@@ -7,6 +9,36 @@ use std::alloc::{AllocError, Global};
 #[derive(Drop)]
 pub struct Tops {
     keys: Vec<u128>,
+}
+
+/// Which block is looked at next: that which is guessed, then the one before it, and then the middle one.
+#[derive(Clone, Copy)]
+pub enum Guess {
+    First(usize),
+    Second(usize),
+    None,
+}
+
+impl Guess {
+    /// The block to look at, of those from one on and before another.
+    pub fn middle(self, first: usize, behind: usize) -> usize
+        requires { first < behind }
+        ensures within { (first ≤ result) × (result < behind) }
+        ensures few { result + 1 < 2 ^ 64 }
+    {
+        match self {
+            Guess::First(block) | Guess::Second(block) if first <= block => block.min(behind - 1),
+            _ => first + (behind - first) / 2,
+        }
+    }
+
+    /// The next guess, after a look at a block.
+    pub fn before(self, block: usize) -> Guess {
+        match self {
+            Guess::First(_) => Guess::Second(block.saturating_sub(1)),
+            Guess::Second(_) | Guess::None => Guess::None,
+        }
+    }
 }
 
 impl Tops {
@@ -29,8 +61,8 @@ impl Tops {
     }
 
     /// The first block whose last row has no key below that.
-    pub fn guess(&self, key: u128) -> usize {
-        self.keys.partition_point(|top| *top < key)
+    pub fn guess(&self, key: u128) -> Guess {
+        Guess::First(self.keys.partition_point(|top| *top < key))
     }
 
     /// Makes room for one block more.
