@@ -42,6 +42,6 @@ module _ (m : NameMap) (name : List ℕ) where
       let rows = finmap.entries m in
       let row = get_or rows high ([], 0) in
       let ends : EndsAbove name_cmp rows name high = by_number high (length rows) (λ end. inl end)
-          (λ beside. let within : high < length rows = omega (arith, beside, between.within) in inr (row, within, get_or_default rows high ([], 0) row within, between.above within)) in
+      (λ beside. let within : high < length rows = omega (arith, beside, between.within) in inr (row, within, get_or_default rows high ([], 0) row within, between.above within)) in
       gap-between name_total name_exact rows name low high (is_true _ (entries_sorted m))
       (below-all low (omega (arith, between.ordered, between.within)) between.below) meet ends

@@ -21,6 +21,8 @@ loop-entry-preserved c =
     let before : map (entry_of new) ps ≡ take c.loop-entry.entry-index c.args.entries.now =
     ap (λ t. map (entry_of t) ps) text ∙ kept-entries (old ++ entry.name) entry.unique ps all ∙ kept-entries old entry.name ps c.loop-entry.invariant.0
     ∙ c.loop-entry.invariant.1 in
-    rw (c.in_ok-push.ensures.items)
-    (All-push (IsWithin new) ps piece within c.in_ok-put.ensures.within, map_push (entry_of new) ps piece ∙ (λ i. before i ++ c.in_ok-put.ensures.entry i ∷ [])
-    ∙ sym (take_more entries at entry here ∙ ap (λ e. take at entries ++ e ∷ []) (sym c.entry-item.is)))
+    rw (c.in_ok-push.ensures.items) (
+      All-push (IsWithin new) ps piece within c.in_ok-put.ensures.within,
+      map_push (entry_of new) ps piece ∙ (λ i. before i ++ c.in_ok-put.ensures.entry i ∷ [])
+          ∙ sym (take_more entries at entry here ∙ ap (λ e. take at entries ++ e ∷ []) (sym c.entry-item.is)),
+    )
