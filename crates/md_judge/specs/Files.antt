@@ -1,5 +1,5 @@
 -- What the judge keeps of files: how a step changes it, and which clauses the judge finds by it.
-use Rattle.std.specs.Prelude.{ℕ, ◌≡◌, ◌≢◌, ◌<◌, ◌+◌, ◌-◌, ◌==◌, ◌||◌, ◌⊎◌, List, Option, Some, None, Bool, true, false, length, slice_get, is_some, unwrap_or, if◌then◌else◌}
+use Rattle.std.specs.Prelude.{ℕ, ◌≡◌, ◌≢◌, ◌<◌, ◌+◌, ◌-◌, ◌/◌, ◌%◌, ◌==◌, ◌||◌, ◌⊎◌, List, Option, Some, None, Bool, true, false, length, slice_get, is_some, unwrap_or, if◌then◌else◌}
 use Rattle.std.specs.Option.{option_map}
 use Rattle.md_dirs.specs.declared.paths.Place.{Place}
 use Rattle.md_dirs.specs.declared.paths.Place.TheVariants.{Tmp, New, Cur}
@@ -23,14 +23,13 @@ abbrev pub no_facts : NameFacts
 no_facts = record { unique = None; flags = None }
 
 -- what the two parts of a name say; the last number stands for the end of a name that is no message's
-abbrev pub facts_by : List (Option ℕ) → Option (ℕ × ℕ) → NameFacts
-facts_by flags None = no_facts
-facts_by flags (Some parts) =
-    if parts.1 == 4294967295 then no_facts else record { unique = Some parts.0; flags = unwrap_or (slice_get flags parts.1) None }
+abbrev pub facts_by : List (Option ℕ) → ℕ → ℕ → NameFacts
+facts_by flags front ending =
+    if ending == 4294967295 then no_facts else record { unique = Some front; flags = unwrap_or (slice_get flags ending) None }
 
 -- what the name of a number says
 abbrev pub name_facts : Names → ℕ → NameFacts
-name_facts names name = facts_by names.flags.items (slice_get names.parts.items name)
+name_facts names name = facts_by names.flags.items (name / 4294967296) (name % 4294967296)
 
 abbrev pub unique_by : Place → NameFacts → Option ℕ
 unique_by Tmp facts = None

@@ -32,7 +32,7 @@ use known::{Act, Known, NO_ACT};
 use md_dirs::{Bytes, Path};
 use md_log::{Call, Clause, LineFault, Step};
 use std::alloc::Global;
-use tables::Table;
+use tables::{Name, Table};
 use watch::Watch;
 
 /// What a log tells so far.
@@ -120,7 +120,9 @@ impl Judge {
                 unique,
             } => {
                 let unique = self.known.names.unique(unique.as_slice())?;
-                self.watch.answer(actor, *said, (*folder, unique))
+                self.watch
+                    .answer(&self.known, actor, *said, (*folder, unique));
+                Ok(())
             }
             call => self.watch.call(&self.known, actor, call, &self.act),
         }
@@ -136,7 +138,7 @@ impl Judge {
         self.watch.found.before(clause)
     }
 
-    fn numbers(&mut self, names: &[Bytes]) -> Result<Vec<u32>, LineFault> {
+    fn numbers(&mut self, names: &[Bytes]) -> Result<Vec<Name>, LineFault> {
         let mut numbers = Vec::new(self.alloc);
         for name in names {
             let number = self.known.names.number(name.as_slice())?;

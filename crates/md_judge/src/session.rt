@@ -9,6 +9,9 @@ use std::alloc::Global;
 /// The byte that a line begins with that is passed over.
 const COMMENT: u8 = b'#';
 
+/// The most lines that a log has: each is a moment, which is kept in four bytes.
+const MOST_LINES: u64 = 4_294_967_294;
+
 /// A log that is being read, and what was found so far.
 #[derive(Drop)]
 pub struct Session {
@@ -118,6 +121,9 @@ impl Session {
     pub(crate) fn take(&mut self, number: u64, text: &[u8]) -> Result<(), LogFault> {
         if let [] | [COMMENT, ..] = text {
             return Ok(());
+        }
+        if number > MOST_LINES {
+            return Err(fault_at(number, LineFault::NoMemory));
         }
         match read_line(self.alloc, &self.folders, self.has_begun, text) {
             Ok(Line::Step(step)) => self.take_step(number, step, text),

@@ -2,7 +2,7 @@
 ghost use Rattle.std.specs.Prelude.{◌≡◌, ◌↔◌, IsTrue};
 ghost use Rattle.md_judge.specs.Claims.{IsRefused};
 
-use super::befores::{Mark, NO_MARK};
+use super::befores::{Mark, Moment, NO_MARK, moment_of};
 use super::mail::Key;
 use md_log::LineFault;
 use std::alloc::Global;
@@ -11,8 +11,6 @@ use std::collections::BTreeMap;
 /// What an actor did about a message since its last answer about it.
 #[derive(Clone, Copy)]
 pub(super) struct About {
-    /// The actor's first line after that answer; 0 before any.
-    from: usize,
     /// The line of its last call on the message; 0 where there is none.
     pub(super) act: usize,
     was_refused: bool,
@@ -24,7 +22,6 @@ pub(super) struct About {
 }
 
 const NOTHING: About = About {
-    from: 0,
     act: 0,
     was_refused: false,
     is_added: false,
@@ -73,7 +70,10 @@ const NO_LINES: Lines = Lines {
 /// What each actor did about each message.
 #[derive(Drop)]
 pub(super) struct Actors {
+    /// There is nothing where the actor did nothing about the message since it answered about it.
     about: BTreeMap<(u32, Key), About>,
+    /// The actor's first line after its last answer about the message, where there is one.
+    begun: BTreeMap<(u32, Key), Moment>,
     /// The folders that had the message when a step of the actor took it from its own, with the step's line.
     moved: BTreeMap<((u32, Key), u32), usize>,
     lines: Vec<Lines>,
@@ -83,6 +83,7 @@ impl Actors {
     pub(super) fn new(alloc: Global) -> Self {
         Actors {
             about: BTreeMap::new(alloc),
+            begun: BTreeMap::new(alloc),
             moved: BTreeMap::new(alloc),
             lines: Vec::new(alloc),
         }
@@ -101,7 +102,7 @@ impl Actors {
             lines.first = at;
         }
         if let Some(key) = lines.answered.take() {
-            self.about(actor, key)?.from = at;
+            self.begun.insert((actor, key), moment_of(at))?;
         }
         Ok(())
     }
@@ -133,22 +134,22 @@ impl Actors {
     }
 
     /// The actor answers about the message, so that nothing was done since.
-    pub(super) fn told(&mut self, actor: u32, key: Key) -> Result<(), LineFault> {
-        self.about.insert((actor, key), NOTHING)?;
+    pub(super) fn told(&mut self, actor: u32, key: Key) {
+        self.about.remove(&(actor, key));
+        self.begun.remove(&(actor, key));
         if let Some(lines) = self.lines.get_mut(actor as usize) {
             lines.answered = Some(key);
         }
-        Ok(())
     }
 
     /// The first line of the span of an answer.
-    pub(super) fn first_line(&self, actor: u32, about: &About) -> usize {
-        match about.from {
-            0 => match self.lines.get(actor as usize) {
-                None => 0,
-                Some(lines) => lines.first,
-            },
-            line => line,
+    pub(super) fn first_line(&self, actor: u32, key: Key) -> usize {
+        if let Some(begun) = self.begun.get(&(actor, key)) {
+            return *begun as usize;
+        }
+        match self.lines.get(actor as usize) {
+            None => 0,
+            Some(lines) => lines.first,
         }
     }
 }

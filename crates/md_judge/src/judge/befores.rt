@@ -5,6 +5,14 @@ use md_log::Clause;
 /// The number of a line that something was done at, or none where that isn't known.
 pub(super) type Mark = u32;
 
+/// A moment, as tables keep it: no log has more lines than 4,294,967,294.
+pub(super) type Moment = u32;
+
+/// A moment that comes to be kept.
+pub(super) fn moment_of(moment: usize) -> Moment {
+    u32::try_from(moment).unwrap_or(u32::MAX)
+}
+
 /// No line is known.
 pub(super) const NO_MARK: Mark = 0;
 

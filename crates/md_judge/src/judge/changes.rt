@@ -7,7 +7,6 @@ use super::flags::TRASHED;
 use super::goings::{Going, check_taken};
 use super::known::{Act, Known};
 use super::watch::Watch;
-use md_dirs::Place;
 use md_log::{Clause, LineFault};
 
 impl Watch {
@@ -128,9 +127,7 @@ impl Watch {
         };
         let key = (spot.folder, unique);
         self.mail.add(at, key, file)?;
-        if spot.place == Place::Cur
-            && let Some(flags) = known.names.facts(spot.name).flags
-        {
+        if let Some(flags) = known.other_flags(spot) {
             self.mail.hold(at, key, flags)?;
         }
         self.mail.copy(file, unique)
@@ -166,9 +163,7 @@ impl Watch {
         };
         let key = (spot.folder, unique);
         self.mail.take(at, key)?;
-        if spot.place == Place::Cur
-            && let Some(flags) = known.names.facts(spot.name).flags
-        {
+        if let Some(flags) = known.other_flags(spot) {
             self.mail.unhold(at, key, flags);
         }
         self.mail.uncopy(file, unique);

@@ -5,7 +5,8 @@ ghost use Rattle.md_dirs.specs.Index.{directory_number};
 ghost use Rattle.md_judge.specs.Known.{file_in, Puts, Makes};
 
 use super::acts::Change;
-use super::befores::line_before;
+use super::befores::{Moment, line_before, moment_of};
+use super::tables::Name;
 use md_dirs::Place;
 use md_log::LineFault;
 use std::alloc::Global;
@@ -16,14 +17,14 @@ use std::collections::BTreeMap;
 pub(super) struct Spot {
     pub(super) folder: u32,
     pub(super) place: Place,
-    pub(super) name: u32,
+    pub(super) name: Name,
 }
 
 /// A name that is there: its file, and the first moment at which it is there.
 #[derive(Clone, Copy)]
 pub(super) struct Named {
     pub(super) file: u32,
-    pub(super) since: usize,
+    pub(super) since: Moment,
 }
 
 /// What was known of a path.
@@ -31,22 +32,22 @@ pub(super) struct Named {
 pub(super) struct Kept {
     spot: Spot,
     named: Option<Named>,
-    was: Option<usize>,
+    was: Option<Moment>,
 }
 
 /// One directory: the names that are there, and the last moments of those that were.
 #[derive(Drop)]
 pub(super) struct Directory {
-    pub(super) names: BTreeMap<u32, Named>,
-    pub(super) was: BTreeMap<u32, usize>,
+    pub(super) names: BTreeMap<Name, Named>,
+    pub(super) was: BTreeMap<Name, Moment>,
 }
 
 impl Directory {
     /// The line that last made a name be there or go.
-    pub(super) fn last_change(&self, name: u32) -> Option<usize> {
+    pub(super) fn last_change(&self, name: Name) -> Option<usize> {
         match self.names.get(&name) {
-            Some(named) => line_before(named.since),
-            None => self.was.get(&name).copied(),
+            Some(named) => line_before(named.since as usize),
+            None => Some(*self.was.get(&name)? as usize),
         }
     }
 }
@@ -146,7 +147,10 @@ impl Directories {
         ensures { OnOk result (Puts spot (Some file) self.old.all.items self.new.all.items) }
     {
         if let Some(directory) = self.all.get_mut(number_of(spot.folder, spot.place)) {
-            let named = Named { file, since: at };
+            let named = Named {
+                file,
+                since: moment_of(at),
+            };
             directory.names.insert(spot.name, named)?;
         }
         Ok(())
@@ -164,7 +168,7 @@ impl Directories {
     fn since(&self, spot: Spot) -> Option<usize> {
         let directory = self.directory(spot.folder, spot.place)?;
         let named = directory.names.get(&spot.name)?;
-        Some(named.since)
+        Some(named.since as usize)
     }
 
     /// A path was there for the last time at the moment `at`.
@@ -173,7 +177,7 @@ impl Directories {
     {
         if let Some(directory) = self.all.get_mut(number_of(spot.folder, spot.place)) {
             directory.names.remove(&spot.name);
-            directory.was.insert(spot.name, at)?;
+            directory.was.insert(spot.name, moment_of(at))?;
         }
         Ok(())
     }

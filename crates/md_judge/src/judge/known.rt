@@ -13,7 +13,7 @@ use super::acts::{
 };
 use super::directories::{Directories, Spot};
 use super::files::MOST_FILES;
-use super::tables::Names;
+use super::tables::{NameFacts, Names};
 use md_dirs::{Path, Place};
 use md_log::{Call, Deed, LineFault, Naming, Reply, Step};
 use std::alloc::Global;
@@ -85,6 +85,16 @@ impl Known {
         ensures { result ≡ is_message_in self.now.names spot }
     {
         self.unique_at(spot).is_some()
+    }
+
+    /// The flags of a message's path in cur, where another name showed the same flags before.
+    pub(super) fn other_flags(&self, spot: Spot) -> Option<u64> {
+        let NameFacts { unique, flags } = self.names.facts(spot.name);
+        let flags = flags?;
+        if spot.place != Place::Cur || self.names.chief(unique?, flags) == Some(spot.name) {
+            return None;
+        }
+        Some(flags)
     }
 
     /// A file that is there at the beginning.

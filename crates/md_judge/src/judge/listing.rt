@@ -15,7 +15,7 @@ use super::found::Found;
 use super::known::Known;
 use super::mail::{Mail, Message};
 use super::since::{is_there_since, was_there_since};
-use super::tables::Names;
+use super::tables::{Name, Names};
 use super::trial::Open;
 use super::watch::Watch;
 use md_dirs::Place;
@@ -27,7 +27,7 @@ use std::collections::BTreeSet;
 #[derive(Drop)]
 struct Reading {
     first: Option<usize>,
-    shown: BTreeSet<u32>,
+    shown: BTreeSet<Name>,
 }
 
 impl Reading {
@@ -39,7 +39,7 @@ impl Reading {
     }
 
     /// A part of the reading shows names at the moment `at`. It gives the moment of the first part.
-    fn show(&mut self, at: usize, names: &[u32]) -> Result<usize, LineFault> {
+    fn show(&mut self, at: usize, names: &[Name]) -> Result<usize, LineFault> {
         let first = self.first.unwrap_or(at);
         self.first = Some(first);
         for name in names {
@@ -110,7 +110,7 @@ impl Listing {
         names: &Names,
         place: Place,
         span: (usize, usize),
-        shown: &BTreeSet<u32>,
+        shown: &BTreeSet<Name>,
     ) -> Result<(), LineFault> {
         for name in shown.iter() {
             if let Some(unique) = names.facts(*name).unique {
@@ -196,7 +196,7 @@ fn check_part(
     directory: &Directory,
     reading: &Reading,
     reply: Reply,
-    names: &[u32],
+    names: &[Name],
     first: usize,
 )
     ensures finds { Notes (PartFinds directory.now reading.now reply names.now first) found.old found.new }
@@ -218,9 +218,9 @@ fn wrong_name(
     directory: &Directory,
     reading: &Reading,
     reply: Reply,
-    names: &[u32],
+    names: &[Name],
     first: usize,
-) -> Option<u32>
+) -> Option<Name>
     ensures { result ≡ wrong_name directory.now reading.now reply names.now first }
 {
     match reply {
@@ -234,7 +234,7 @@ fn wrong_name(
 }
 
 /// A name that a part shows, and that was in the directory at no moment since the first part.
-fn shown_wrongly(directory: &Directory, names: &[u32], first: usize) -> Option<u32>
+fn shown_wrongly(directory: &Directory, names: &[Name], first: usize) -> Option<Name>
     ensures { result ≡ shown_wrongly directory.now names.now first }
 {
     names
@@ -244,7 +244,7 @@ fn shown_wrongly(directory: &Directory, names: &[u32], first: usize) -> Option<u
 }
 
 /// A name that a whole reading lacks, and that was there since its first part.
-fn lacked(directory: &Directory, reading: &Reading, first: usize) -> Option<u32>
+fn lacked(directory: &Directory, reading: &Reading, first: usize) -> Option<Name>
     ensures { result ≡ option_map (λ (e : ℕ × Named). e.0) (lacked directory.now reading.now first) }
 {
     for (name, named) in directory.names.iter() {
@@ -264,7 +264,7 @@ impl Watch {
         folder: u32,
         place: Place,
         reply: Reply,
-        names: &[u32],
+        names: &[Name],
     ) -> Result<(), LineFault> {
         let key = (actor, folder);
         let mut listing = match self.listings.remove(&key) {

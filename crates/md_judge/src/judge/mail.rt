@@ -130,6 +130,19 @@ pub(super) struct Held {
     pub(super) last: usize,
 }
 
+impl Held {
+    /// The same of some paths and of others.
+    pub(super) fn and(self, others: Option<Held>) -> Held {
+        match others {
+            None => self,
+            Some(others) => Held {
+                count: self.count.saturating_add(others.count),
+                last: self.last.max(others.last),
+            },
+        }
+    }
+}
+
 /// How many paths a message has, and the first moment since which it has one.
 #[derive(Clone, Copy)]
 pub(super) struct Presence {
@@ -146,6 +159,7 @@ pub(super) struct Mail {
     present: Vec<BTreeSet<u32>>,
     /// How many paths of messages of a unique name a file has.
     copies: BTreeMap<(u32, u32), u32>,
+    /// Of paths whose names are not the first that showed these flags.
     held: BTreeMap<(u32, (u32, u64)), Held>,
 }
 

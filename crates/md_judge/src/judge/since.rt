@@ -8,9 +8,10 @@ ghost use Rattle.md_judge.specs.Law.{turn, IsNeverThere, IsAlwaysThere};
 ghost use Rattle.md_judge.specs.Readings.{was_since, IsNameOf, IsHereSince};
 
 use super::directories::{Directory, Named};
+use super::tables::Name;
 
 /// Whether a directory had a name at a moment since the first of a reading.
-pub(super) fn was_there_since(directory: &Directory, name: u32, first: usize) -> bool
+pub(super) fn was_there_since(directory: &Directory, name: Name, first: usize) -> bool
     ensures kept { result ≡ was_since directory.now name first }
     ensures law { (line : ℕ → ℕ) (l : Log) (begin i : ℕ) (x : Step) (p : Path) → IsNameOf line l begin i p directory.now name first
         → (IsTrue result → ⊥) ↔ IsNeverThere (turn l i x) begin p }
@@ -19,12 +20,12 @@ pub(super) fn was_there_since(directory: &Directory, name: u32, first: usize) ->
 }
 
 /// Whether a name is there, or was at a line or after it.
-fn is_kept_since(directory: &Directory, name: u32, line: usize) -> bool
+fn is_kept_since(directory: &Directory, name: Name, line: usize) -> bool
     ensures { result ≡ was_since directory.now name line }
 {
     let was = match directory.was.get(&name) {
         None => false,
-        Some(last) => *last >= line,
+        Some(last) => *last as usize >= line,
     };
     was || directory.names.contains_key(&name)
 }
@@ -35,5 +36,5 @@ pub(super) fn is_there_since(named: Named, first: usize) -> bool
     ensures law { (line : ℕ → ℕ) (l : Log) (begin i : ℕ) (x : Step) (p : Path) → IsHereSince line l begin i p named first
         → IsTrue result ↔ IsAlwaysThere (turn l i x) begin p }
 {
-    named.since <= first
+    named.since as usize <= first
 }

@@ -4,7 +4,7 @@ ghost use Rattle.md_judge.specs.Files.{name_facts};
 
 use super::flags::bits_of;
 use md_log::LineFault;
-use md_name::split;
+use md_name::{Info, split};
 use std::alloc::Global;
 use std::collections::BTreeMap;
 
@@ -57,7 +57,13 @@ const NO_FACTS: NameFacts = NameFacts {
 };
 
 /// The number that stands for the end of a name that is no message's.
-const NO_ENDING: u32 = u32::MAX;
+const NO_ENDING: u64 = 4_294_967_295;
+
+/// How many numbers there are for the ends of names.
+const ENDINGS: u64 = 4_294_967_296;
+
+/// A name by the numbers of its two parts: that of the unique part, or of a name that is no message's, times `ENDINGS`, and that of its end.
+pub(super) type Name = u64;
 
 /// Names, with what they say. Of a message's name the unique part is kept once, and so is what comes after it.
 #[derive(Drop)]
@@ -66,10 +72,10 @@ pub(super) struct Names {
     endings: Table,
     /// The flags of each ending.
     flags: Vec<Option<u64>>,
+    /// The ending that came first with these flags.
+    chiefs: BTreeMap<u64, u64>,
     /// Names that are no message's.
     others: Table,
-    numbers: BTreeMap<(u32, u32), u32>,
-    parts: Vec<(u32, u32)>,
 }
 
 impl Names {
@@ -78,9 +84,8 @@ impl Names {
             uniques: Table::new(alloc),
             endings: Table::new(alloc),
             flags: Vec::new(alloc),
+            chiefs: BTreeMap::new(alloc),
             others: Table::new(alloc),
-            numbers: BTreeMap::new(alloc),
-            parts: Vec::new(alloc),
         }
     }
 
@@ -88,44 +93,55 @@ impl Names {
         Ok(self.uniques.number(unique)?.0)
     }
 
-    pub(super) fn number(&mut self, name: &[u8]) -> Result<u32, LineFault> {
-        let parts = self.cut(name)?;
-        if let Some(number) = self.numbers.get(&parts) {
-            return Ok(*number);
-        }
-        let count = self.parts.len();
-        if count >= MOST_WORDS {
-            return Err(LineFault::NoMemory);
-        }
-        self.numbers.insert(parts, count as u32)?;
-        self.parts.push(parts)?;
-        Ok(count as u32)
-    }
-
-    /// The numbers of a name's two parts.
-    fn cut(&mut self, name: &[u8]) -> Result<(u32, u32), LineFault> {
+    pub(super) fn number(&mut self, name: &[u8]) -> Result<Name, LineFault> {
         match split(name) {
-            None => Ok((self.others.number(name)?.0, NO_ENDING)),
+            None => {
+                let (number, _) = self.others.number(name)?;
+                Ok(name_of(number, NO_ENDING))
+            }
             Some((unique, info)) => {
-                let ending = name.get(unique.len()..).unwrap_or(&[]);
-                let (ending, is_new) = self.endings.number(ending)?;
-                if is_new {
-                    self.flags.push(info.flags().map(bits_of))?;
-                }
-                Ok((self.unique(unique)?, ending))
+                let ending = self.ending(name.get(unique.len()..).unwrap_or(&[]), info)?;
+                Ok(name_of(self.unique(unique)?, ending))
             }
         }
     }
 
-    pub(super) fn facts(&self, name: u32) -> NameFacts
+    /// The number of what comes after a unique part, and says this.
+    fn ending(&mut self, ending: &[u8], info: Info) -> Result<u64, LineFault> {
+        let (number, is_new) = self.endings.number(ending)?;
+        let number = number as u64;
+        if is_new {
+            let flags = info.flags().map(bits_of);
+            self.flags.push(flags)?;
+            if let Some(flags) = flags {
+                let _chief = self.chiefs.entry(flags)?.or_insert(number);
+            }
+        }
+        Ok(number)
+    }
+
+    /// The name of a message that shows these flags, and that comes to be kept by its path alone.
+    pub(super) fn chief(&self, unique: u32, flags: u64) -> Option<Name> {
+        let ending = self.chiefs.get(&flags)?;
+        Some(name_of(unique, *ending))
+    }
+
+    pub(super) fn facts(&self, name: Name) -> NameFacts
         ensures { result ≡ name_facts self.now name }
     {
-        match self.parts.get(name as usize) {
-            None | Some((_, NO_ENDING)) => NO_FACTS,
-            Some((unique, ending)) => NameFacts {
-                unique: Some(*unique),
-                flags: self.flags.get(*ending as usize).copied().unwrap_or(None),
-            },
+        let ending = name % ENDINGS;
+        if ending == NO_ENDING {
+            return NO_FACTS;
+        }
+        NameFacts {
+            unique: Some((name / ENDINGS) as u32),
+            flags: self.flags.get(ending as usize).copied().unwrap_or(None),
         }
     }
+}
+
+fn name_of(front: u32, ending: u64) -> Name {
+    (front as u64)
+        .saturating_mul(ENDINGS)
+        .saturating_add(ending)
 }

@@ -2,6 +2,7 @@
 use super::acts::{Change, NO_CHANGE, defined_at, defined_between, naming_change};
 use super::directories::{Directories, Directory, Kept, Spot};
 use super::since::was_there_since;
+use super::tables::Name;
 use md_dirs::Place;
 use md_log::{Deed, LineFault, Naming, Reply};
 use std::alloc::Global;
@@ -28,7 +29,7 @@ pub(super) enum Asked {
         reader: Reader,
         place: Place,
         reply: Reply,
-        shown: BTreeSet<u32>,
+        shown: BTreeSet<Name>,
     },
     Answer,
 }
@@ -89,7 +90,7 @@ fn is_same(one: Option<Spot>, two: Option<Spot>) -> bool {
 #[derive(Drop)]
 pub(super) struct Open {
     pub(super) first: usize,
-    pub(super) shown: BTreeSet<u32>,
+    pub(super) shown: BTreeSet<Name>,
 }
 
 /// What a call that is tried did, so that it can be taken back.
@@ -107,7 +108,7 @@ enum Undone {
     Part {
         reader: Reader,
         was_open: bool,
-        names: Vec<u32>,
+        names: Vec<Name>,
     },
     /// A reading was ended.
     End {
@@ -310,7 +311,7 @@ impl Trial {
 /// Whether each name that a part shows was there since the reading's first part.
 fn is_rightly_shown(
     directory: &Directory,
-    shown: &BTreeSet<u32>,
+    shown: &BTreeSet<Name>,
     open: Option<&Open>,
     now: usize,
 ) -> bool {
@@ -321,14 +322,19 @@ fn is_rightly_shown(
 }
 
 /// Whether a reading that ends has shown each name that was there all the while.
-fn is_whole(directory: &Directory, shown: &BTreeSet<u32>, open: Option<&Open>, now: usize) -> bool {
+fn is_whole(
+    directory: &Directory,
+    shown: &BTreeSet<Name>,
+    open: Option<&Open>,
+    now: usize,
+) -> bool {
     let first = first_of(open, now);
     for (name, named) in directory.names.iter() {
         let was_shown = match open {
             None => false,
             Some(open) => open.shown.contains(name),
         };
-        if named.since <= first && !was_shown && !shown.contains(name) {
+        if named.since as usize <= first && !was_shown && !shown.contains(name) {
             return false;
         }
     }
