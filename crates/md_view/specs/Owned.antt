@@ -5,7 +5,12 @@ use Rattle.md_view.specs.declared.owned.Piece.{Piece}
 
 -- the entry of a piece of a text
 abbrev pub entry_of : List ℕ → Piece → Entry
-entry_of text p = record { unique = slice_range text p.middle p.end; place = p.place; name = slice_range text p.start p.middle; size = p.size }
+entry_of text p = record {
+  unique = slice_range text p.middle p.end;
+  place = p.place;
+  name = slice_range text p.start p.middle;
+  size = p.size;
+}
 
 -- the names of a piece lie in a text
 pub record IsWithin (text : List ℕ) (p : Piece) : Type 0 where
