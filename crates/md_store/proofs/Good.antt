@@ -18,7 +18,7 @@ use Rattle.md_view.proofs.LawHolds.{good-listing, LegalKeepPlaces}
 use Rattle.md_view.proofs.Readings.{reading-sorted}
 use Rattle.md_store.specs.declared.error.ListError.{ListError}
 use Rattle.md_store.specs.Histories.{IsLegalFrom, read_at, listing}
-use Rattle.md_store.specs.Listing.{IsGoodFrom, Finishes, Reading}
+use Rattle.md_store.specs.Listing.{IsGoodFrom, Finishes, Lists, Reading}
 use Rattle.md_store.proofs.Beginnings.{no_longer, cut_at_end, begins_later}
 
 -- a reading is in order
@@ -62,3 +62,20 @@ finishes keep items opening first now (Ok v) legal are new begun is = record {
       (good-from opening now (keep opening.folders opening.names now legal) are first.folder first.history begun);
 }
 finishes keep items opening first now (Err e) legal are new begun is = tt
+
+-- what a listing of two readings gives
+pub lists : {V : Type 0} (items : V → List Entry) (opening : Named) (before : List Effect) (first : Reading) (folder : ℕ) (now : List Effect)
+    → (res : Result V ListError) → first.folder ≡ folder → IsPrefix before first.history → IsLegalFrom opening first.history → IsLegalFrom opening now
+    → OnOk res (IsPrefix first.history now) → IfOk res (λ v. Finishes opening first now (items v)) → IfOk res (λ v. Lists folder opening before now (items v))
+lists items opening before first folder now (Ok v) same held early legal told is =
+    subst (λ f. Lists f opening before now (items v)) same
+    (record {
+      h1 = first.history;
+      held_begins = held;
+      h1_begins = told;
+      first_legal = early;
+      legal = legal;
+      entries_are = is.entries_are ∙ ap (λ (es : List Entry). join_of es (read_at first.folder Cur opening now)) is.new_is;
+      law = is.law;
+    })
+lists items opening before first folder now (Err e) same held early legal told is = tt

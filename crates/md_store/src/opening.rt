@@ -18,7 +18,7 @@ use crate::store::Store;
 use crate::writing::publish;
 use md_core::World;
 use md_dirs::Dirs;
-use md_view::Names;
+use md_view::TreeNames;
 use std::alloc::{AllocError, Global};
 use std::marker::Model;
 use std::sync::{Mutex, Wait};
@@ -137,7 +137,7 @@ fn page<D: Dirs>(alloc: Global, world: &World<D>, front: &Front) -> Result<Shown
     ensures page { IfOk result (λ p. (p.names ≡ named_of world.now.image) × (p.front ≡ front.now)) }
     ensures messages { IfOk result (λ p. AreMessages p.names) }
 {
-    let Ok(names) = Names::of(alloc, world) else {
+    let Ok(names) = TreeNames::of(alloc, world) else {
         return Err(AllocError);
     };
     names.are_messages();

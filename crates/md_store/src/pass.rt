@@ -16,7 +16,7 @@ use crate::rule::{Learning, StoreReader};
 use crate::shown::Shown;
 use core::mem::replace_with;
 use md_dirs::Place;
-use md_view::{Entry, Names, join};
+use md_view::{Entry, TreeNames};
 use std::alloc::{AllocError, Global};
 use std::marker::{Model, PhantomData};
 
@@ -208,25 +208,15 @@ fn look(
 // New of a folder, or the join of a first reading with its cur.
 fn seen(
     alloc: Global,
-    names: &Names,
+    names: &TreeNames,
     folder: u32,
     first: Option<&[Entry]>,
 ) -> Result<Vec<Entry>, AllocError>
     requires { IfSome first (λ entries. IsInOrder entries.now) }
     ensures { IfOk result (λ all. all.items ≡ seen_in (option_map (λ entries. entries.now) first.entry) folder names.now.names) }
 {
-    let Some(new) = first else {
-        return copied(alloc, names.entries(folder, Place::New));
-    };
-    join(alloc, new, names.entries(folder, Place::Cur)).map_err(|_| AllocError)
-}
-
-fn copied(alloc: Global, entries: &[Entry]) -> Result<Vec<Entry>, AllocError>
-    ensures { IfOk result (λ all. all.items ≡ entries.now) }
-{
-    let mut all = Vec::with_capacity(alloc, entries.len())?;
-    for entry in entries {
-        all.push(entry.again(alloc)?)?;
+    match first {
+        None => names.read(alloc, folder, Place::New),
+        Some(new) => names.join_cur(alloc, new, folder),
     }
-    Ok(all)
 }

@@ -5,12 +5,12 @@ use atomic_table::{Join, Split};
 use crossbeam_utils::rule::{Outcome, Protocol};
 use left_right::reader::Reader;
 use left_right::writer::Writer;
-use md_view::Names;
+use md_view::TreeNames;
 
 /// What a seat knows. No value of it is made.
 pub struct Knowledge {
     pub opened: bool,
-    pub opening: Names,
+    pub opening: TreeNames,
     pub held: Front,
 }
 

@@ -5,7 +5,7 @@ ghost use Rattle.md_store.specs.Publishing.{page_after};
 use crate::book::Front;
 use left_right::Absorb;
 use md_core::Effect;
-use md_view::Names;
+use md_view::TreeNames;
 use std::alloc::AllocError;
 use std::marker::Model;
 
@@ -39,7 +39,7 @@ impl Post {
 /// The names, and the history that led to them from the opening names.
 #[derive(Drop)]
 pub struct Shown {
-    names: Names,
+    names: TreeNames,
     front: Front,
 }
 
@@ -57,7 +57,7 @@ impl Model for Shown {
 }
 
 impl Shown {
-    pub fn new(names: Names, front: Front) -> Shown
+    pub fn new(names: TreeNames, front: Front) -> Shown
         ensures { (result.front ≡ front) × (result.names ≡ names) }
     {
         Shown { names, front }
@@ -69,7 +69,7 @@ impl Shown {
         &self.front
     }
 
-    pub fn names(&self) -> &Names
+    pub fn names(&self) -> &TreeNames
         ensures { result.now ≡ self.now.names }
     {
         &self.names

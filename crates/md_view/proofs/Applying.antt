@@ -100,6 +100,14 @@ module _ (n : Named) (fs : List FolderLists) (held : AreHeld n fs) where
       let never : true ≡ false = sym message ∙ other in
       cc)
 
+  -- a name that is there is a message's
+  pub there-message : (folder : ℕ) (place : Place) (name : List ℕ) → is_there n folder place name ≡ true → is_message_name name ≡ true
+  there-message folder place name is = by (is_message_name name) refl
+    where
+      by : (b : Bool) → is_message_name name ≡ b → b ≡ true
+      by true it = refl
+      by false it = let never : false ≡ true = sym (there-other folder place name it) ∙ is in cc
+
   module _ (folder : ℕ) (f : FolderLists) (at : slice_get fs folder ≡ Some f) (place : Place) (name : List ℕ) where
     pub there-none : entry_with (unique_of name) (list_of place f) ≡ None → is_there n folder place name ≡ false
     there-none none = is-false _ (λ is.

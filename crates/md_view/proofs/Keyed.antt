@@ -83,7 +83,7 @@ lookup-append u (x ∷ xs) ys =
 pub get-by_unique : (u : List ℕ) (es : List Entry) → get (by_unique es) u ≡ lookup u es
 get-by_unique u es = get-from_entries nat_list_cmp_total (map with_unique es) u
 
-values-keyed : (es : List Entry) → map (λ (x : List ℕ × Entry). x.1) (map with_unique es) ≡ es
+pub values-keyed : (es : List Entry) → map (λ (x : List ℕ × Entry). x.1) (map with_unique es) ≡ es
 values-keyed [] = refl
 values-keyed (e ∷ es) = ap (λ (rest : List Entry). e ∷ rest) (values-keyed es)
 

@@ -15,6 +15,7 @@ pub mod Owning
 pub mod Waiting
 pub mod Fitting
 pub mod Placing
+pub mod Trees
 pub mod Holding
 pub mod Changing
 pub mod Applying

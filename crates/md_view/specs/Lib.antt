@@ -4,3 +4,4 @@ pub mod Law
 pub mod Named
 pub mod Held
 pub mod Owned
+pub mod Trees

@@ -16,5 +16,5 @@ pub use entry::{Entry, EntryRef};
 pub use error::ViewError;
 pub use joining::join;
 pub use listing::{BegunListing, list, list_lent};
-pub use names::Names;
+pub use names::{EntryTree, Names, NamesIn, TreeNames};
 pub use read::reading;

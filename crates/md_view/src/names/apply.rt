@@ -6,6 +6,7 @@ ghost use Rattle.md_view.specs.Named.{after_change, fits as fits_names};
 ghost use Rattle.md_view.specs.Held.{entry_with, listed_in, held_names, AreHeld, HoldNames};
 
 use crate::entry::Entry;
+use crate::names::entry_list::EntryList;
 use crate::names::fits::{fits_add, fits_remove, fits_rename};
 use crate::names::folder::FolderNames;
 use md_core::Change;
@@ -14,9 +15,9 @@ use md_name::{Bytes, split};
 use std::alloc::{AllocError, Global};
 
 /// Makes a change where it fits, and otherwise none.
-pub fn apply_to(
+pub fn apply_to<L: EntryList>(
     alloc: Global,
-    folders: &mut Vec<FolderNames>,
+    folders: &mut Vec<FolderNames<L>>,
     change: &Change,
 ) -> Result<(), AllocError>
     requires { HoldNames folders.old.items }
@@ -84,9 +85,9 @@ fn entry_of(alloc: Global, place: Place, name: &[u8], size: u64) -> Result<Entry
 }
 
 // Adds a message, where that fits.
-fn add(
+fn add<L: EntryList>(
     alloc: Global,
-    folders: &mut Vec<FolderNames>,
+    folders: &mut Vec<FolderNames<L>>,
     folder: u32,
     place: Place,
     name: &[u8],
@@ -105,7 +106,7 @@ fn add(
 }
 
 // Takes a message away, where that fits. It takes no memory.
-fn remove(folders: &mut Vec<FolderNames>, folder: u32, place: Place, name: &[u8])
+fn remove<L: EntryList>(folders: &mut Vec<FolderNames<L>>, folder: u32, place: Place, name: &[u8])
     requires { HoldNames folders.old.items }
     ensures { AreHeld (after_change (held_names folders.old.items) (Remove folder place name.now)) folders.new.items }
 {
@@ -116,9 +117,9 @@ fn remove(folders: &mut Vec<FolderNames>, folder: u32, place: Place, name: &[u8]
 }
 
 // Gives a message another name, where that fits.
-fn rename(
+fn rename<L: EntryList>(
     alloc: Global,
-    folders: &mut Vec<FolderNames>,
+    folders: &mut Vec<FolderNames<L>>,
     folder: u32,
     place: Place,
     name: &[u8],
@@ -149,9 +150,9 @@ fn rename(
 }
 
 // Gives a message another name of the same unique name in its directory, where that fits. Its entry is looked for once, and none moves.
-fn rename_here(
+fn rename_here<L: EntryList>(
     alloc: Global,
-    folders: &mut Vec<FolderNames>,
+    folders: &mut Vec<FolderNames<L>>,
     folder: u32,
     place: Place,
     unique: &[u8],
@@ -173,9 +174,9 @@ fn rename_here(
 }
 
 // Gives a message a name in another directory or of another unique name. The new entry is put in before the old one is taken out.
-fn rename_away(
+fn rename_away<L: EntryList>(
     alloc: Global,
-    folders: &mut Vec<FolderNames>,
+    folders: &mut Vec<FolderNames<L>>,
     folder: u32,
     place: Place,
     name: &[u8],
@@ -215,10 +216,15 @@ fn is_one_place(
 }
 
 // The size of the message of a unique name in a directory.
-fn size_of(folders: &[FolderNames], folder: u32, place: Place, unique: &[u8]) -> u64
+fn size_of<L: EntryList>(
+    folders: &[FolderNames<L>],
+    folder: u32,
+    place: Place,
+    unique: &[u8],
+) -> u64
     requires { IsSome (entry_with unique.now (listed_in folders.now folder place)) }
     ensures { IfSome (entry_with unique.now (listed_in folders.now folder place)) (λ entry. result ≡ entry.size) }
 {
     let lists = &folders[folder as usize];
-    lists.find(place, unique).unwrap().size
+    lists.find(place, unique).unwrap().size()
 }

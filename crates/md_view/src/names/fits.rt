@@ -7,13 +7,19 @@ ghost use Rattle.md_core.specs.declared.jobs.effect.Change.TheVariants.{Rename, 
 ghost use Rattle.md_view.specs.Named.{fits as fits_names, is_listed as is_listed_in, is_free as is_free_name, is_there as is_name_there};
 ghost use Rattle.md_view.specs.Held.{has_unique, held_names, HoldNames};
 
+use crate::names::entry_list::EntryList;
 use crate::names::folder::FolderNames;
 use md_dirs::Place;
 use md_name::split;
 
 /// Whether an addition fits: its directory is new or cur of a folder that is there, and the name is a message's whose unique name no other
 /// message has.
-pub fn fits_add(folders: &[FolderNames], folder: u32, place: Place, name: &[u8]) -> bool
+pub fn fits_add<L: EntryList>(
+    folders: &[FolderNames<L>],
+    folder: u32,
+    place: Place,
+    name: &[u8],
+) -> bool
     requires { HoldNames folders.now }
     ensures { result ≡ (is_listed_in (held_names folders.now) folder place && is_free_name (held_names folders.now).names name.now) }
 {
@@ -22,8 +28,8 @@ pub fn fits_add(folders: &[FolderNames], folder: u32, place: Place, name: &[u8])
 
 /// Whether a rename fits: its directories are new or cur of folders that are there, the old name is there, and the new name is a message's
 /// whose unique name no other message has.
-pub fn fits_rename(
-    folders: &[FolderNames],
+pub fn fits_rename<L: EntryList>(
+    folders: &[FolderNames<L>],
     folder: u32,
     place: Place,
     name: &[u8],
@@ -41,7 +47,12 @@ pub fn fits_rename(
 }
 
 /// Whether a removal fits: its directory is new or cur of a folder that is there, and the name is there.
-pub fn fits_remove(folders: &[FolderNames], folder: u32, place: Place, name: &[u8]) -> bool
+pub fn fits_remove<L: EntryList>(
+    folders: &[FolderNames<L>],
+    folder: u32,
+    place: Place,
+    name: &[u8],
+) -> bool
     requires { HoldNames folders.now }
     ensures { result ≡ fits_names (held_names folders.now) (Remove folder place name.now) }
 {
@@ -49,14 +60,19 @@ pub fn fits_remove(folders: &[FolderNames], folder: u32, place: Place, name: &[u
 }
 
 // Whether this is new or cur of a folder that is there.
-fn is_listed(folders: &[FolderNames], folder: u32, place: Place) -> bool
+fn is_listed<L: EntryList>(folders: &[FolderNames<L>], folder: u32, place: Place) -> bool
     ensures { result ≡ is_listed_in (held_names folders.now) folder place }
 {
     (folder as usize) < folders.len() && !matches!(place, Place::Tmp)
 }
 
 // Whether a message has this name in this directory.
-fn is_there(folders: &[FolderNames], folder: u32, place: Place, name: &[u8]) -> bool
+fn is_there<L: EntryList>(
+    folders: &[FolderNames<L>],
+    folder: u32,
+    place: Place,
+    name: &[u8],
+) -> bool
     requires { HoldNames folders.now }
     ensures { result ≡ is_name_there (held_names folders.now) folder place name.now }
 {
@@ -67,13 +83,13 @@ fn is_there(folders: &[FolderNames], folder: u32, place: Place, name: &[u8]) -> 
         return false;
     };
     match lists.find(place, unique) {
-        Some(entry) => entry.name.as_slice() == name,
+        Some(entry) => entry.name() == name,
         None => false,
     }
 }
 
 // Whether some message has a unique name.
-fn is_taken(folders: &[FolderNames], unique: &[u8]) -> bool
+fn is_taken<L: EntryList>(folders: &[FolderNames<L>], unique: &[u8]) -> bool
     ensures { result ≡ list_any (has_unique unique.now) folders.now }
 {
     for lists in folders {
@@ -85,7 +101,7 @@ fn is_taken(folders: &[FolderNames], unique: &[u8]) -> bool
 }
 
 // Whether a message may get this name: no other has its unique name.
-fn is_free(folders: &[FolderNames], name: &[u8]) -> bool
+fn is_free<L: EntryList>(folders: &[FolderNames<L>], name: &[u8]) -> bool
     requires { HoldNames folders.now }
     ensures { result ≡ is_free_name (held_names folders.now).names name.now }
 {
@@ -96,7 +112,7 @@ fn is_free(folders: &[FolderNames], name: &[u8]) -> bool
 }
 
 // The same for a message that has an old name.
-fn is_free_beside(folders: &[FolderNames], old: &[u8], name: &[u8]) -> bool
+fn is_free_beside<L: EntryList>(folders: &[FolderNames<L>], old: &[u8], name: &[u8]) -> bool
     requires names { HoldNames folders.now }
     requires message { is_message_name old.now ≡ true }
     ensures { result ≡ is_free_name (finmap.remove (held_names folders.now).names (unique_of old.now)) name.now }

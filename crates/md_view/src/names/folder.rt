@@ -6,13 +6,13 @@ ghost use Rattle.md_core.specs.Mailbox.{mailbox_of, is_tmp};
 ghost use Rattle.md_core.specs.Runs.{dirs_of};
 ghost use Rattle.md_view.specs.Named.{named_of};
 ghost use Rattle.md_view.specs.Held.{list_of, entry_with, has_unique, renamed, DiffersIn, AreHeld};
-ghost use Rattle.md_view.specs.Readings.{reading_of, reading_refusal};
+ghost use Rattle.md_view.specs.Readings.{reading_of, reading_refusal, IsInOrder};
 ghost use Rattle.md_dirs.specs.declared.paths.Place.TheVariants.{New, Cur};
 ghost use Rattle.md_view.specs.declared.error.ViewError.TheVariants.{NoMemory};
 
-use crate::entry::Entry;
+use crate::entry::{Entry, EntryRef, copied};
 use crate::error::ViewError;
-use crate::names::list::{find_entry, put_entry, rename_entry, take_entry};
+use crate::names::entry_list::EntryList;
 use crate::read::reading;
 use md_core::World;
 use md_dirs::{Dirs, Place};
@@ -21,48 +21,24 @@ use std::marker::Model;
 
 /// The messages of new and of cur of one folder, each list in order of unique name.
 #[derive(Drop)]
-pub struct FolderNames {
-    in_new: Vec<Entry>,
-    in_cur: Vec<Entry>,
+pub struct FolderNames<L: EntryList> {
+    in_new: L,
+    in_cur: L,
 }
 
-impl Model for FolderNames {
+impl<L: EntryList> Model for FolderNames<L> {
     ghost use Rattle.std.specs.Prelude.{◌≡◌};
     ghost use Rattle.md_view.specs.Readings.{IsInOrder};
     ghost use Rattle.md_view.specs.Held.{FolderLists};
 
     ghost Value = { FolderLists };
 
-    ghost view = { λ f. record { in_new = f.in_new.items; in_cur = f.in_cur.items } };
+    ghost view = { λ f. record { in_new = L.shown f.in_new; in_cur = L.shown f.in_cur } };
 
-    ghost invariant = { λ f. IsInOrder f.in_new.items × IsInOrder f.in_cur.items };
+    ghost invariant = { λ f. IsInOrder (L.shown f.in_new) × IsInOrder (L.shown f.in_cur) };
 }
 
-impl FolderNames {
-    /// The messages of a folder of a world now.
-    pub fn of<D: Dirs>(
-        alloc: Global,
-        world: &World<D>,
-        folder: u32,
-    ) -> Result<FolderNames, ViewError>
-        ensures new { IfOk result (λ lists. lists.in_new ≡ reading_of (names_of (mailbox_of (dirs_of world.now))) folder New) }
-        ensures cur { IfOk result (λ lists. lists.in_cur ≡ reading_of (names_of (mailbox_of (dirs_of world.now))) folder Cur) }
-        ensures refusal { IfErr result (λ error. error ≡ reading_refusal (dirs_of world.now) folder) }
-    {
-        let in_new = reading(alloc, world, folder, Place::New)?;
-        let in_cur = reading(alloc, world, folder, Place::Cur)?;
-        Ok(FolderNames { in_new, in_cur })
-    }
-
-    /// A copy.
-    pub fn again(&self, alloc: Global) -> Result<FolderNames, AllocError>
-        ensures { IfOk result (λ lists. lists ≡ self.now) }
-    {
-        let in_new = entries_again(alloc, &self.in_new)?;
-        let in_cur = entries_again(alloc, &self.in_cur)?;
-        Ok(FolderNames { in_new, in_cur })
-    }
-
+impl FolderNames<Vec<Entry>> {
     /// The messages of a directory.
     pub fn list(&self, place: Place) -> &[Entry]
         ensures { result.now ≡ list_of place self.now }
@@ -73,22 +49,63 @@ impl FolderNames {
             Place::Cur => &self.in_cur,
         }
     }
+}
+
+impl<L: EntryList> FolderNames<L> {
+    /// The messages of a folder of a world now.
+    pub fn of<D: Dirs>(
+        alloc: Global,
+        world: &World<D>,
+        folder: u32,
+    ) -> Result<FolderNames<L>, ViewError>
+        ensures new { IfOk result (λ lists. lists.in_new ≡ reading_of (names_of (mailbox_of (dirs_of world.now))) folder New) }
+        ensures cur { IfOk result (λ lists. lists.in_cur ≡ reading_of (names_of (mailbox_of (dirs_of world.now))) folder Cur) }
+        ensures refusal { IfErr result (λ error. error ≡ reading_refusal (dirs_of world.now) folder) }
+    {
+        let in_new = reading(alloc, world, folder, Place::New)?;
+        let in_cur = reading(alloc, world, folder, Place::Cur)?;
+        Ok(FolderNames {
+            in_new: L::of(alloc, in_new)?,
+            in_cur: L::of(alloc, in_cur)?,
+        })
+    }
+
+    /// A copy.
+    pub fn again(&self, alloc: Global) -> Result<FolderNames<L>, AllocError>
+        ensures { IfOk result (λ lists. lists ≡ self.now) }
+    {
+        Ok(FolderNames {
+            in_new: list_again(alloc, &self.in_new)?,
+            in_cur: list_again(alloc, &self.in_cur)?,
+        })
+    }
+
+    /// The messages of a directory, lent one by one.
+    pub fn lent(&self, alloc: Global, place: Place) -> Result<Vec<EntryRef<'_>>, AllocError>
+        ensures { IfOk result (λ all. all.items ≡ list_of place self.now) }
+    {
+        match place {
+            Place::Tmp => Ok(Vec::new(alloc)),
+            Place::New => self.in_new.lent(alloc),
+            Place::Cur => self.in_cur.lent(alloc),
+        }
+    }
 
     /// Whether a message has a unique name.
     pub fn has(&self, unique: &[u8]) -> bool
         ensures { result ≡ has_unique unique.now self.now }
     {
-        find_entry(&self.in_new, unique).is_some() || find_entry(&self.in_cur, unique).is_some()
+        self.in_new.find(unique).is_some() || self.in_cur.find(unique).is_some()
     }
 
     /// The entry of a unique name in a directory.
-    pub fn find(&self, place: Place, unique: &[u8]) -> Option<&Entry>
-        ensures { option_map (λ entry. entry.now) result ≡ entry_with unique.now (list_of place self.now) }
+    pub fn find(&self, place: Place, unique: &[u8]) -> Option<EntryRef<'_>>
+        ensures { result ≡ entry_with unique.now (list_of place self.now) }
     {
         match place {
             Place::Tmp => None,
-            Place::New => find_entry(&self.in_new, unique),
-            Place::Cur => find_entry(&self.in_cur, unique),
+            Place::New => self.in_new.find(unique),
+            Place::Cur => self.in_cur.find(unique),
         }
     }
 
@@ -100,8 +117,8 @@ impl FolderNames {
     {
         match place {
             Place::Tmp => Ok(()),
-            Place::New => put_entry(&mut self.in_new, entry),
-            Place::Cur => put_entry(&mut self.in_cur, entry),
+            Place::New => self.in_new.put(entry),
+            Place::Cur => self.in_cur.put(entry),
         }
     }
 
@@ -120,8 +137,8 @@ impl FolderNames {
     {
         match place {
             Place::Tmp => Ok(()),
-            Place::New => rename_entry(alloc, &mut self.in_new, unique, name, to_name),
-            Place::Cur => rename_entry(alloc, &mut self.in_cur, unique, name, to_name),
+            Place::New => self.in_new.rename(alloc, unique, name, to_name),
+            Place::Cur => self.in_cur.rename(alloc, unique, name, to_name),
         }
     }
 
@@ -131,24 +148,25 @@ impl FolderNames {
     {
         match place {
             Place::Tmp => {}
-            Place::New => take_entry(&mut self.in_new, unique),
-            Place::Cur => take_entry(&mut self.in_cur, unique),
+            Place::New => self.in_new.take(unique),
+            Place::Cur => self.in_cur.take(unique),
         }
     }
 }
 
-fn entries_again(alloc: Global, entries: &[Entry]) -> Result<Vec<Entry>, AllocError>
-    ensures { IfOk result (λ copies. copies.items ≡ entries.now) }
+fn list_again<L: EntryList>(alloc: Global, list: &L) -> Result<L, AllocError>
+    requires { IsInOrder (L.shown list.now) }
+    ensures { IfOk result (λ copy. L.shown copy ≡ L.shown list.now) }
 {
-    let mut copies = Vec::with_capacity(alloc, entries.len())?;
-    for entry in entries {
-        copies.push(entry.again(alloc)?)?;
-    }
-    Ok(copies)
+    let all = list.lent(alloc)?;
+    L::of(alloc, copied(alloc, &all)?)
 }
 
 /// The messages of all folders of a world now.
-pub fn all_of<D: Dirs>(alloc: Global, world: &World<D>) -> Result<Vec<FolderNames>, ViewError>
+pub fn all_of<L: EntryList, D: Dirs>(
+    alloc: Global,
+    world: &World<D>,
+) -> Result<Vec<FolderNames<L>>, ViewError>
     ensures names { IfOk result (λ folders. AreHeld (named_of (dirs_of world.now)) folders.items) }
     ensures refusal { IfErr result (λ error. error ≡ NoMemory) }
 {
@@ -163,7 +181,10 @@ pub fn all_of<D: Dirs>(alloc: Global, world: &World<D>) -> Result<Vec<FolderName
 }
 
 /// A copy of all folders.
-pub fn all_again(alloc: Global, folders: &[FolderNames]) -> Result<Vec<FolderNames>, AllocError>
+pub fn all_again<L: EntryList>(
+    alloc: Global,
+    folders: &[FolderNames<L>],
+) -> Result<Vec<FolderNames<L>>, AllocError>
     ensures { IfOk result (λ copies. copies.items ≡ folders.now) }
 {
     let mut copies = Vec::with_capacity(alloc, folders.len())?;

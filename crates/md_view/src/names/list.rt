@@ -1,10 +1,11 @@
-// Entries in order of unique name: where one is, by halving, and how one comes and goes.
+// Entries in order of unique name in one vector: where one is, by halving, and how one comes and goes.
 ghost use Rattle.std.specs.Prelude.{◌≡◌, IsTrue, ◌↔◌, None, Some, OnOk, OnErr, length};
 ghost use Rattle.std.specs.Option.{option_map};
 ghost use Rattle.md_view.specs.Readings.{IsInOrder};
 ghost use Rattle.md_view.specs.Held.{entry_with, place_for, renamed, HasAt, DiffersAt};
 
-use crate::entry::Entry;
+use crate::entry::{Entry, EntryRef, lend};
+use crate::names::entry_list::EntryList;
 use md_name::Bytes;
 use std::alloc::{AllocError, Global};
 
@@ -38,7 +39,7 @@ fn is_at(entries: &[Entry], at: usize, unique: &[u8]) -> bool
 }
 
 /// The entry of a unique name.
-pub fn find_entry<'a>(entries: &'a [Entry], unique: &[u8]) -> Option<&'a Entry>
+fn find_entry<'a>(entries: &'a [Entry], unique: &[u8]) -> Option<&'a Entry>
     requires { IsInOrder entries.now }
     ensures { option_map (λ entry. entry.now) result ≡ entry_with unique.now entries.now }
 {
@@ -51,7 +52,7 @@ pub fn find_entry<'a>(entries: &'a [Entry], unique: &[u8]) -> Option<&'a Entry>
 }
 
 /// Puts an entry in its place, or in that of the entry of its unique name, if there is one.
-pub fn put_entry(entries: &mut Vec<Entry>, entry: Entry) -> Result<(), AllocError>
+fn put_entry(entries: &mut Vec<Entry>, entry: Entry) -> Result<(), AllocError>
     requires { IsInOrder entries.old.items }
     ensures ok { OnOk result (DiffersAt entry.unique (Some entry) entries.old.items entries.new.items) }
     ensures err { OnErr result (entries.new.items ≡ entries.old.items) }
@@ -66,7 +67,7 @@ pub fn put_entry(entries: &mut Vec<Entry>, entry: Entry) -> Result<(), AllocErro
 }
 
 /// Gives the entry of a unique name another name, if it has the old one. No entry moves.
-pub fn rename_entry(
+fn rename_entry(
     alloc: Global,
     entries: &mut Vec<Entry>,
     unique: &[u8],
@@ -87,12 +88,49 @@ pub fn rename_entry(
 }
 
 /// Takes the entry of a unique name out, if there is one.
-pub fn take_entry(entries: &mut Vec<Entry>, unique: &[u8])
+fn take_entry(entries: &mut Vec<Entry>, unique: &[u8])
     requires { IsInOrder entries.old.items }
     ensures { DiffersAt unique.now None entries.old.items entries.new.items }
 {
     let at = place_of(entries, unique);
     if is_at(entries, at, unique) {
         let _gone = entries.remove(at);
+    }
+}
+
+impl EntryList for Vec<Entry> {
+    ghost shown = { λ v. v.items };
+
+    fn of(_alloc: Global, all: Vec<Entry>) -> Result<Self, AllocError> {
+        Ok(all)
+    }
+
+    fn lent(&self, alloc: Global) -> Result<Vec<EntryRef<'_>>, AllocError> {
+        lend(alloc, self.as_slice())
+    }
+
+    fn find(&self, unique: &[u8]) -> Option<EntryRef<'_>> {
+        match find_entry(self.as_slice(), unique) {
+            None => None,
+            Some(entry) => Some(entry.lent()),
+        }
+    }
+
+    fn put(&mut self, entry: Entry) -> Result<(), AllocError> {
+        put_entry(self, entry)
+    }
+
+    fn rename(
+        &mut self,
+        alloc: Global,
+        unique: &[u8],
+        name: &[u8],
+        to_name: &[u8],
+    ) -> Result<(), AllocError> {
+        rename_entry(alloc, self, unique, name, to_name)
+    }
+
+    fn take(&mut self, unique: &[u8]) {
+        take_entry(self, unique)
     }
 }

@@ -1,4 +1,4 @@
-// The names of a store: worked changes, each way in which a change doesn't fit, and many changes.
+// The names of a store, kept in both ways: worked changes, each way in which a change doesn't fit, and many changes.
 ghost use Rattle.std.specs.Prelude.{◌≡◌, IfOk};
 ghost use Rattle.md_view.specs.Readings.{reading_of};
 
@@ -6,7 +6,7 @@ use super::{are, world};
 use md_core::{Change, World};
 use md_dirs::{Dirs, Place, PlainDirs};
 use md_name::Bytes;
-use md_view::{Entry, Names, ViewError, reading};
+use md_view::{Entry, Names, TreeNames, ViewError, reading};
 use std::alloc::{AllocError, Global};
 use std::process::Abort;
 use std::test::Fail;
@@ -70,19 +70,39 @@ static MISFITS: &[Row] = &[
     Row::Remove(0, Place::Cur, b".u"),
 ];
 
+// The same names, in vectors and in trees.
+#[derive(Drop)]
+struct Both {
+    names: Names,
+    trees: TreeNames,
+}
+
 // The names of one folder with these files, each of them as long as its name.
-fn names_of(alloc: Global, files: &[(Place, &[u8])]) -> Result<Names, Fail> {
+fn names_of(alloc: Global, files: &[(Place, &[u8])]) -> Result<Both, Fail> {
     let world = world(alloc, files)?;
     named(alloc, &world)
 }
 
-fn named(alloc: Global, world: &World<PlainDirs>) -> Result<Names, Fail> {
-    Ok(Names::of(alloc, world)?)
+fn named(alloc: Global, world: &World<PlainDirs>) -> Result<Both, Fail> {
+    let names = Names::of(alloc, world)?;
+    let trees = TreeNames::of(alloc, world)?;
+    Ok(Both { names, trees })
 }
 
-fn apply(alloc: Global, names: &mut Names, row: Row) -> Result<(), ViewError> {
-    let change = row.change(alloc)?;
-    names.apply(&change)
+fn change(both: &mut Both, change: &Change) -> Result<(), ViewError> {
+    both.names.apply(change)?;
+    both.trees.apply(change)
+}
+
+fn apply(alloc: Global, both: &mut Both, row: Row) -> Result<(), ViewError> {
+    let made = row.change(alloc)?;
+    change(both, &made)
+}
+
+// Whether a directory of folder 0 has these names, both ways.
+fn have(alloc: Global, both: &Both, place: Place, names: &[&[u8]]) -> Result<bool, AllocError> {
+    let read = both.trees.read(alloc, 0, place)?;
+    Ok(are(both.names.entries(0, place), names) && are(&read, names))
 }
 
 // The entries of the names of a world are its reading.
@@ -109,23 +129,24 @@ fn is_one_byte(entry: Option<&Entry>, unique: &[u8]) -> bool {
 #[test]
 fn a_message_shows_its_new_name(rt: HostRuntime) -> Result<(), Fail> {
     let alloc = rt.alloc();
-    let mut names = names_of(alloc, &[])?;
-    apply(alloc, &mut names, Row::Add(0, Place::Cur, b"u:2,S"))?;
+    let mut both = names_of(alloc, &[])?;
+    apply(alloc, &mut both, Row::Add(0, Place::Cur, b"u:2,S"))?;
     apply(
         alloc,
-        &mut names,
+        &mut both,
         Row::Rename(0, Place::Cur, b"u:2,S", 0, Place::Cur, b"u:2,FS"),
     )?;
-    assert!(rt; are(names.entries(0, Place::Cur), &[b"u:2,FS"]));
-    assert!(rt; is_one_byte(names.entries(0, Place::Cur).first(), b"u"));
-    assert!(rt; names.entries(0, Place::New).is_empty());
+    assert!(rt; have(alloc, &both, Place::Cur, &[b"u:2,FS"])?);
+    assert!(rt; have(alloc, &both, Place::New, &[])?);
+    assert!(rt; is_one_byte(both.names.entries(0, Place::Cur).first(), b"u"));
+    assert!(rt; is_one_byte(both.trees.read(alloc, 0, Place::Cur)?.first(), b"u"));
     Ok(())
 }
 
 #[test]
 fn a_message_goes_from_new_to_cur_and_away(rt: HostRuntime) -> Result<(), Fail> {
     let alloc = rt.alloc();
-    let mut names = names_of(
+    let mut both = names_of(
         alloc,
         &[
             (Place::New, b"a"),
@@ -133,38 +154,76 @@ fn a_message_goes_from_new_to_cur_and_away(rt: HostRuntime) -> Result<(), Fail> 
             (Place::Cur, b"b:2,S"),
         ],
     )?;
-    let before = names.again(alloc)?;
+    let before = again(alloc, &both)?;
     apply(
         alloc,
-        &mut names,
+        &mut both,
         Row::Rename(0, Place::New, b"a", 0, Place::Cur, b"a:2,"),
     )?;
     apply(
         alloc,
-        &mut names,
+        &mut both,
         Row::Rename(0, Place::New, b"c", 0, Place::New, b"d"),
     )?;
-    assert!(rt; are(names.entries(0, Place::New), &[b"d"]));
-    assert!(rt; are(names.entries(0, Place::Cur), &[b"a:2,", b"b:2,S"]));
-    apply(alloc, &mut names, Row::Remove(0, Place::Cur, b"b:2,S"))?;
-    assert!(rt; are(names.entries(0, Place::Cur), &[b"a:2,"]));
-    assert!(rt; are(before.entries(0, Place::New), &[b"a", b"c"]));
-    assert!(rt; names.folders() == 1);
+    assert!(rt; have(alloc, &both, Place::New, &[b"d"])?);
+    assert!(rt; have(alloc, &both, Place::Cur, &[b"a:2,", b"b:2,S"])?);
+    apply(alloc, &mut both, Row::Remove(0, Place::Cur, b"b:2,S"))?;
+    assert!(rt; have(alloc, &both, Place::Cur, &[b"a:2,"])?);
+    assert!(rt; have(alloc, &before, Place::New, &[b"a", b"c"])?);
+    assert!(rt; both.names.folders() == 1 && both.trees.folders() == 1);
     Ok(())
+}
+
+fn again(alloc: Global, both: &Both) -> Result<Both, AllocError> {
+    let names = both.names.again(alloc)?;
+    let trees = both.trees.again(alloc)?;
+    Ok(Both { names, trees })
 }
 
 #[test]
 fn a_change_that_does_not_fit_changes_nothing(rt: HostRuntime) -> Result<(), Fail> {
     let alloc = rt.alloc();
-    let mut names = names_of(alloc, &[(Place::New, b"v"), (Place::Cur, b"u:2,S")])?;
-    names.apply(&Change::Same)?;
+    let mut both = names_of(alloc, &[(Place::New, b"v"), (Place::Cur, b"u:2,S")])?;
+    change(&mut both, &Change::Same)?;
     for row in MISFITS {
-        apply(alloc, &mut names, *row)?;
-        assert!(rt; are(names.entries(0, Place::New), &[b"v"]));
-        assert!(rt; are(names.entries(0, Place::Cur), &[b"u:2,S"]));
+        apply(alloc, &mut both, *row)?;
+        assert!(rt; have(alloc, &both, Place::New, &[b"v"])?);
+        assert!(rt; have(alloc, &both, Place::Cur, &[b"u:2,S"])?);
     }
-    assert!(rt; names.entries(0, Place::Tmp).is_empty());
-    assert!(rt; names.entries(1, Place::Cur).is_empty());
+    assert!(rt; have(alloc, &both, Place::Tmp, &[])?);
+    assert!(rt; both.names.entries(1, Place::Cur).is_empty());
+    assert!(rt; both.trees.read(alloc, 1, Place::Cur)?.is_empty());
+    Ok(())
+}
+
+// New of a world, read now, and cur as its trees have it.
+fn joined(
+    alloc: Global,
+    world: &World<PlainDirs>,
+    trees: &TreeNames,
+) -> Result<Vec<Entry>, ViewError> {
+    let new = reading(alloc, world, 0, Place::New)?;
+    Ok(trees.join_cur(alloc, &new, 0)?)
+}
+
+#[test]
+fn a_reading_of_new_is_joined_with_cur(rt: HostRuntime) -> Result<(), Fail> {
+    let alloc = rt.alloc();
+    let world = world(
+        alloc,
+        &[
+            (Place::New, b"a"),
+            (Place::New, b"c"),
+            (Place::Cur, b"b:2,S"),
+        ],
+    )?;
+    let mut both = named(alloc, &world)?;
+    apply(
+        alloc,
+        &mut both,
+        Row::Rename(0, Place::New, b"a", 0, Place::Cur, b"a:2,"),
+    )?;
+    assert!(rt; are(&joined(alloc, &world, &both.trees)?, &[b"a:2,", b"b:2,S", b"c"]));
     Ok(())
 }
 
@@ -178,28 +237,37 @@ fn digits(alloc: Global, number: u32) -> Result<Bytes, AllocError> {
     Ok(name)
 }
 
-fn add_many(alloc: Global, names: &mut Names, count: u32) -> Result<(), ViewError> {
+// Adds the messages below a number that leave this rest when halved.
+fn add_many(alloc: Global, both: &mut Both, count: u32, rest: u32) -> Result<(), ViewError> {
     for number in 0..count {
-        let change = Change::Add {
-            folder: 0,
-            place: Place::New,
-            name: digits(alloc, number)?,
-            size: 1,
-        };
-        names.apply(&change)?;
+        if number % 2 == rest {
+            add(alloc, both, number)?;
+        }
     }
     Ok(())
 }
 
+fn add(alloc: Global, both: &mut Both, number: u32) -> Result<(), ViewError> {
+    let made = Change::Add {
+        folder: 0,
+        place: Place::New,
+        name: digits(alloc, number)?,
+        size: 1,
+    };
+    change(both, &made)
+}
+
 #[test]
-fn many_names_come_in_the_order_of_time(rt: HostRuntime) -> Result<(), Fail> {
+fn many_names_come_into_their_order(rt: HostRuntime) -> Result<(), Fail> {
     let alloc = rt.alloc();
-    let mut names = names_of(alloc, &[])?;
-    add_many(alloc, &mut names, 10_000)?;
-    let all = names.entries(0, Place::New);
+    let mut both = names_of(alloc, &[])?;
+    add_many(alloc, &mut both, 10_000, 0)?;
+    add_many(alloc, &mut both, 10_000, 1)?;
+    let all = both.names.entries(0, Place::New);
     assert!(rt; all.len() == 10_000);
     assert!(rt; is_one_byte(all.first(), b"00000"));
     assert!(rt; is_one_byte(all.last(), b"09999"));
+    assert!(rt; both.trees.read(alloc, 0, Place::New)?.as_slice() == all);
     Ok(())
 }
 
@@ -210,8 +278,9 @@ fn is_shared<T: Send + Sync>(x: T) -> T {
 #[test]
 fn names_may_cross_threads(rt: HostRuntime) -> Result<(), Fail> {
     let alloc = rt.alloc();
-    let names = is_shared(names_of(alloc, &[(Place::New, b"v")])?);
-    assert!(rt; names.folders() == 1);
+    let Both { names, trees } = names_of(alloc, &[(Place::New, b"v")])?;
+    assert!(rt; is_shared(names).folders() == 1);
+    assert!(rt; is_shared(trees).folders() == 1);
     let entry = is_shared(Entry {
         unique: Bytes::copied(alloc, b"v")?,
         place: Place::New,

@@ -10,7 +10,7 @@ use Rattle.md_view.proofs.Applying.{within-listed, add-held}
 use Rattle.md_view.proofs.names.apply.add.Goals as goal
 
 pub returns-clause-ok : goal.returns-clause-ok
-returns-clause-ok c =
+returns-clause-ok g c =
     let fs = c.args.folders.now.items in
     let n = held_names fs in
     let fit = subst (λ (l : List FolderLists). fits (held_names l) (Add c.args.folder c.args.place c.args.name.now c.args.size) ≡ true) c.deref.ensures.value

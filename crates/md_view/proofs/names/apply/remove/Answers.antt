@@ -3,12 +3,19 @@ use Rattle.std.proofs.lemmas.Option.{slice_get_read}
 use Rattle.md_core.specs.declared.jobs.effect.Change.TheVariants.{Remove}
 use Rattle.md_view.specs.Named.{fits}
 use Rattle.md_view.specs.Held.{FolderLists, DiffersIn, held_names}
-use Rattle.md_view.proofs.Rows.{and-first}
-use Rattle.md_view.proofs.Applying.{within-listed, remove-held}
+use Rattle.md_view.proofs.Rows.{and-first, and-second}
+use Rattle.md_view.proofs.Applying.{within-listed, there-message, remove-held}
 use Rattle.md_view.proofs.names.apply.remove.Goals as goal
 
+pub unique_part-requires : goal.unique_part-requires
+unique_part-requires g c =
+    let fs = c.args.folders.now.items in
+    let fit = subst (λ (l : List FolderLists). fits (held_names l) (Remove c.args.folder c.args.place c.args.name.now) ≡ true) c.deref.ensures.value
+    (sym c.fits_remove.ensures ∙ c.if-fits_remove.true) in
+    there-message (held_names fs) fs c.requires c.args.folder c.args.place c.args.name.now (and-second _ _ fit)
+
 pub returns-then-fits_remove : goal.returns-then-fits_remove
-returns-then-fits_remove c =
+returns-then-fits_remove g c =
     let fs = c.args.folders.now.items in
     let n = held_names fs in
     let fit = subst (λ (l : List FolderLists). fits (held_names l) (Remove c.args.folder c.args.place c.args.name.now) ≡ true) c.deref.ensures.value

@@ -6,7 +6,7 @@ use Rattle.md_view.proofs.Renaming.{unfit-held, unfit-there, unfit-name}
 use Rattle.md_view.proofs.names.apply.rename.Goals as goal
 
 pub returns-in_default-clause-ok : goal.returns-in_default-clause-ok
-returns-in_default-clause-ok c =
+returns-in_default-clause-ok g c =
     let fs = c.args.folders.now.items in
     let n = held_names fs in
     let name = c.args.name.now in
@@ -17,7 +17,7 @@ returns-in_default-clause-ok c =
     (unfit-there n fs c.requires c.args.folder c.args.place name c.args.to_folder c.args.to_place to_name none)
 
 pub returns-in_default-split-clause-ok : goal.returns-in_default-split-clause-ok
-returns-in_default-split-clause-ok c =
+returns-in_default-split-clause-ok g c =
     let fs = c.args.folders.now.items in
     let n = held_names fs in
     let name = c.args.name.now in

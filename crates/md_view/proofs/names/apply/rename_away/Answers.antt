@@ -6,7 +6,7 @@ use Rattle.md_view.proofs.Applying.{within-listed, rename-from, rename-to, renam
 use Rattle.md_view.proofs.names.apply.rename_away.Goals as goal
 
 pub size_of-size-requires : goal.size_of-size-requires
-size_of-size-requires c =
+size_of-size-requires g c =
     let fs = c.args.folders.now.items in
     let name = c.args.name.now in
     let to_name = c.args.to_name.now in
@@ -14,7 +14,7 @@ size_of-size-requires c =
     c.unique_part-unique.result.now c.deref.result.now c.deref.ensures.value c.unique_part-unique.ensures
 
 pub returns-clause-ok : goal.returns-clause-ok
-returns-clause-ok c =
+returns-clause-ok g c =
     let fs = c.args.folders.now.items in
     let n = held_names fs in
     let folder = c.args.folder in
@@ -26,19 +26,19 @@ returns-clause-ok c =
     let unique = c.unique_part-unique.result.now in
     let f = c.index_mut-to_lists.result.now in
     let f' = c.put.new.self in
-    let g = c.index_mut-lists.result.now in
-    let g' = c.take.new.self in
+    let h = c.index_mut-lists.result.now in
+    let h' = c.take.new.self in
     let to = rename-to n fs c.requires.names folder place name to_folder to_place to_name c.requires.fits in
     let from = rename-from n fs c.requires.names folder place name to_folder to_place to_name c.requires.fits in
     let within = within-listed n fs c.requires.names to_folder to_place to in
     let low = within-listed n fs c.requires.names folder place from in
     let at = slice_get_read fs _ to_folder f refl within c.index_mut-to_lists.ensures.value in
-    let there = slice_get_read (slice_set fs to_folder f') _ folder g refl
+    let there = slice_get_read (slice_set fs to_folder f') _ folder h refl
     (subst (λ k. folder < k) (sym (length-set fs to_folder f')) low) c.index_mut-lists.ensures.value in
     rename-moved n fs c.requires.names folder place name to_folder to_place to_name c.requires.fits f f' at
     (rename-put n fs c.requires.names folder place name to_folder to_place to_name c.requires.fits
     unique c.deref.result.now c.deref.ensures.value c.unique_part-unique.ensures c.size_of-size.result c.size_of-size.ensures
     c.in_ok-entry.entry c.in_ok-entry.ensures f f' c.in_ok-put.ensures.ok)
-    g g' there
-    (subst (λ (u : List ℕ). DiffersIn place u None g g') c.unique_part-unique.ensures c.take.ensures)
+    h h' there
+    (subst (λ (u : List ℕ). DiffersIn place u None h h') c.unique_part-unique.ensures c.take.ensures)
     c.requires.away

@@ -9,7 +9,7 @@ use Rattle.md_view.proofs.Renaming.{here-held}
 use Rattle.md_view.proofs.names.apply.rename_here.Goals as goal
 
 pub returns-clause-ok : goal.returns-clause-ok
-returns-clause-ok c =
+returns-clause-ok g c =
     let fs = c.args.folders.now.items in
     let n = held_names fs in
     let name = c.args.name.now in

@@ -8,7 +8,7 @@ use Rattle.md_view.proofs.Applying.{free-known}
 use Rattle.md_view.proofs.names.fits.is_free.Goals as goal
 
 pub returns-in-Some : goal.returns-in-Some
-returns-in-Some c =
+returns-in-Some g c =
     let says = if-some (is_message_name c.args.name.now) (unique_of c.args.name.now, info_of c.args.name.now) (c.in-Some.unique.now, c.in-Some.field-0-1)
     (sym c.in-Some.ensures) in
     free-known (held_names c.args.folders.now) c.args.folders.now c.requires c.args.name.now says.0 c.is_taken.result

@@ -9,7 +9,7 @@ use Rattle.md_view.proofs.Applying.{free-same, free-beside}
 use Rattle.md_view.proofs.names.fits.is_free_beside.Goals as goal
 
 pub returns-then-eq : goal.returns-then-eq
-returns-then-eq c =
+returns-then-eq g c =
     let old = if-some (is_message_name c.args.old.now) (unique_of c.args.old.now, info_of c.args.old.now) (c.in-Some.old_unique.now, c.in-Some.field-0-1)
     (sym c.in-Some.ensures) in
     let new = if-some (is_message_name c.args.name.now) (unique_of c.args.name.now, info_of c.args.name.now)
@@ -21,7 +21,7 @@ returns-then-eq c =
     (ap (λ (x : List ℕ × Info). x.0) new.1 ∙ same ∙ sym (ap (λ (x : List ℕ × Info). x.0) old.1))
 
 pub returns-else-eq : goal.returns-else-eq
-returns-else-eq c =
+returns-else-eq g c =
     let old = if-some (is_message_name c.args.old.now) (unique_of c.args.old.now, info_of c.args.old.now) (c.in-Some.old_unique.now, c.in-Some.field-0-1)
     (sym c.in-Some.ensures) in
     let new = if-some (is_message_name c.args.name.now) (unique_of c.args.name.now, info_of c.args.name.now)

@@ -16,7 +16,7 @@ item-get : (fs : List FolderLists) (i : ℕ) (r : Bor FolderLists) → IsItemAt 
 item-get fs i r is = slice_get_read fs _ i r.now refl (ltb-true _ _ (sym is.0)) is.1
 
 pub returns-in_default : goal.returns-in_default
-returns-in_default c =
+returns-in_default g c =
     let past : length c.args.folders.now ≤ c.args.folder = elim (cases_lt c.args.folder (length c.args.folders.now)) [
       | inl low ↦ let never : false ≡ true = c.in_default.ensures.lookup.0 ∙ lt-ltb _ _ low in cc
       | inr high ↦ high
@@ -24,23 +24,23 @@ returns-in_default c =
     sym (there-past (held_names c.args.folders.now) c.args.folders.now c.requires c.args.folder c.args.place c.args.name.now past)
 
 pub returns-in_default-split : goal.returns-in_default-split
-returns-in_default-split c =
+returns-in_default-split g c =
     sym (there-other (held_names c.args.folders.now) c.args.folders.now c.requires c.args.folder c.args.place c.args.name.now
     (no-parts (is_message_name c.args.name.now) (unique_of c.args.name.now, info_of c.args.name.now) c.in_default-split.ensures))
 
 pub returns-in-Some-find : goal.returns-in-Some-find
-returns-in-Some-find c =
+returns-in-Some-find g c =
     let says = if-some (is_message_name c.args.name.now) (unique_of c.args.name.now, info_of c.args.name.now)
     (c.in-Some-split.unique.now, c.in-Some-split.field-0-1) (sym c.in-Some-split.ensures) in
     let at : slice_get c.args.folders.now c.args.folder ≡ Some c.in-Some.lists.now =
     item-get c.args.folders.now c.args.folder c.in-Some.lists c.in-Some.ensures.lookup in
-    c.eq.ensures ∙ ap (λ (v : List ℕ). pointwise nat_eq v c.args.name.now) c.as_slice.ensures
+    c.eq.ensures ∙ ap (λ (v : List ℕ). pointwise nat_eq v c.args.name.now) c.name.ensures
     ∙ sym (there-found
-    (held_names c.args.folders.now) c.args.folders.now c.requires c.args.folder c.in-Some.lists.now at c.args.place c.args.name.now c.in-Some-find.entry.now
+    (held_names c.args.folders.now) c.args.folders.now c.requires c.args.folder c.in-Some.lists.now at c.args.place c.args.name.now c.in-Some-find.entry
     (ap (λ (x : List ℕ × Info). entry_with x.0 (list_of c.args.place c.in-Some.lists.now)) says.1 ∙ sym c.in-Some-find.ensures))
 
 pub returns-in-None : goal.returns-in-None
-returns-in-None c =
+returns-in-None g c =
     let says = if-some (is_message_name c.args.name.now) (unique_of c.args.name.now, info_of c.args.name.now)
     (c.in-Some-split.unique.now, c.in-Some-split.field-0-1) (sym c.in-Some-split.ensures) in
     let at : slice_get c.args.folders.now c.args.folder ≡ Some c.in-Some.lists.now =

@@ -1,5 +1,5 @@
 use Rattle.md_view.proofs.Holding.{held-is, holds}
-use Rattle.md_view.proofs.names.Names.of.Goals as goal
+use Rattle.md_view.proofs.names.NamesIn.of.Goals as goal
 
 pub invariant_of-result : goal.invariant_of-result
 invariant_of-result g c = holds _ c.in_ok-folders.folders.items c.in_ok-folders.ensures.names
