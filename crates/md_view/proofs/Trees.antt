@@ -6,7 +6,8 @@ use Rattle.std.specs.Ordering.{is_eq, is_lt, eq_by_cmp, match_ordering, nat_cmp}
 use Rattle.std.specs.Cmp.Lexicographic.{slice_cmp}
 use Rattle.std.specs.Cmp.{eq_by_cmp_equiv}
 use Rattle.std.specs.BTreeMap.{insert_entry}
-use Rattle.std.specs.Map.{lookup, lookup_key, set_value, remove_entry}
+use Rattle.std.specs.Map.{lookup, lookup_key, set_value, remove_entry, keys_of}
+use Rattle.std.specs.List.{AllByRecursion}
 use Rattle.std.specs.FinMap.Entries.{find, is_sorted, below_all, put, where_key, by_order, is_sorted-put, find-put, is_sorted-where_key, same_entries}
 use Rattle.std.proofs.lemmas.Cmp.{nat_list_cmp_total}
 use Rattle.std.proofs.lemmas.Map.Lookups.{exact_bytes}
@@ -64,6 +65,23 @@ module _ {A : Type 0} where
         | true ↦ λ h. absurd cc
         | false ↦ λ h. found-none u ls h
       ] none
+
+  -- a name that is above the last key is no key
+  above-none : (u last : List ℕ) (ls : List (Vec ℕ A × Leaf)) → name_cmp last u ≡ Less
+      → AllByRecursion (λ (k : Vec ℕ A). is_lt (name_cmp last k.items) ≡ false) (keys_of ls) → lookup (is_key u) ls ≡ None
+  above-none u last [] above below = refl
+  above-none u last (l ∷ ls) above below =
+      elim (is_key u l.0) as (λ b. is_key u l.0 ≡ b → cond b (Some l.1) (lookup (is_key u) ls) ≡ None) [
+        | true ↦ λ is.
+            let lower : is_lt (name_cmp last l.0.items) ≡ true = ap (λ (w : List ℕ). is_lt (name_cmp last w)) (sym (tie-same u l.0.items is)) ∙ ap is_lt above in
+            let never : false ≡ true = sym below.0 ∙ lower in
+            cc
+        | false ↦ λ is. above-none u last ls above below.1
+      ] refl
+
+  pub behind-none : (u last : List ℕ) (ls : List (Vec ℕ A × Leaf)) → name_cmp last u ≡ Less
+      → AllByRecursion (λ (k : Vec ℕ A). is_lt (name_cmp last k.items) ≡ false) (keys_of ls) → entry_with u (entries_in ls) ≡ None
+  behind-none u last ls above below = found-none u ls (above-none u last ls above below)
 
   pub found : (u : List ℕ) (k : Vec ℕ A) (leaf : Leaf) (ls : List (Vec ℕ A × Leaf)) → lookup_key (is_key u) ls ≡ Some k
       → lookup (is_key u) ls ≡ Some leaf → entry_with u (entries_in ls) ≡ Some (entry_at (k, leaf))

@@ -1,5 +1,6 @@
 // Entries in order of unique name in a tree.
-ghost use Rattle.std.specs.Prelude.{◌≡◌, [], OnOk, OnErr};
+ghost use Rattle.std.specs.Prelude.{◌≡◌, [], None, IsTrue, OnOk, OnErr};
+ghost use Rattle.md_view.specs.Held.{entry_with};
 ghost use Rattle.md_view.specs.Trees.{renamed_leaf};
 
 use crate::entry::{Entry, EntryRef};
@@ -55,6 +56,16 @@ impl EntryTree {
             leaves: BTreeMap::new(alloc),
         }
     }
+
+    // Whether a unique name is behind those of all entries. Names mostly come in the order of time, so the last entry is looked at first.
+    fn is_behind(&self, unique: &[u8]) -> bool
+        ensures { IsTrue result → entry_with unique.now self.now ≡ None }
+    {
+        match self.leaves.last_key_value() {
+            None => true,
+            Some((last, _)) => last.as_slice().cmp(unique).is_lt(),
+        }
+    }
 }
 
 impl EntryList for EntryTree {
@@ -82,6 +93,9 @@ impl EntryList for EntryTree {
     }
 
     fn find(&self, unique: &[u8]) -> Option<EntryRef<'_>> {
+        if self.is_behind(unique) {
+            return None;
+        }
         let (unique, leaf) = self.leaves.get_key_value(unique)?;
         Some(EntryRef::new(
             unique.as_slice(),

@@ -4,6 +4,9 @@ use Rattle.md_view.specs.Trees.{entry_at}
 use Rattle.md_view.proofs.Trees.{found, found-none}
 use Rattle.md_view.proofs.names.tree.EntryTreeEntryList.find.Goals as goal
 
+pub returns-then-is_behind : goal.returns-then-is_behind
+returns-then-is_behind c = sym (c.is_behind.ensures c.if-is_behind.true)
+
 pub returns-in_err-unique : goal.returns-in_err-unique
 returns-in_err-unique c =
     let u = c.args.unique.now in
