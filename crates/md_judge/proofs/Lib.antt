@@ -12,3 +12,6 @@ pub mod Reading
 pub mod Times
 pub mod Listed
 pub mod Parts
+pub mod Cuts
+pub mod Tables
+pub mod Numbers

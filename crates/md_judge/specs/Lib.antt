@@ -1,6 +1,8 @@
 pub mod Logs
 pub mod Told
 pub mod Law
+pub mod Words
+pub mod Names
 pub mod Changes
 pub mod Known
 pub mod Found

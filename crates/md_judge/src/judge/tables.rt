@@ -1,44 +1,246 @@
 //! Words by numbers.
-ghost use Rattle.std.specs.Prelude.{◌≡◌};
+ghost use Rattle.std.specs.Prelude.{◌≡◌, ◌≢◌, ◌↔◌, ◌<◌, ◌+◌, ◌*◌, ◌/◌, ◌%◌, ◌++◌, ◌∷◌, [], ℕ, List, Some, None, length, slice_get, option_map, if◌then◌else◌, IsTrue, IfOk, IfSome, IfNone, OnOk, OnErr};
+ghost use Rattle.std.specs.Option.{option_copied};
+ghost use Rattle.md_name.specs.Names.{split_of};
 ghost use Rattle.md_judge.specs.Files.{name_facts};
+ghost use Rattle.md_judge.specs.Words.{begin_of, hash_of, AreApart, Finds};
+ghost use Rattle.md_judge.specs.Names.{StandFor, IsNumber, AreNumbered, KeepNumbers, IsUnique};
 
 use super::flags::bits_of;
 use md_log::LineFault;
 use md_name::{Info, split};
 use std::alloc::Global;
 use std::collections::BTreeMap;
+use std::hash::{FoldHasher, Hasher};
+use std::marker::Model;
 
 /// The most words that a table numbers.
 const MOST_WORDS: usize = 4_000_000_000;
 
-/// Words, numbered from 0 in the order in which they came.
+/// Words in the order in which they came, one after another in one text of at most 4,294,967,295 bytes.
 #[derive(Drop)]
-pub(super) struct Table {
-    alloc: Global,
-    numbers: BTreeMap<Vec<u8>, u32>,
+struct Words {
+    text: Vec<u8>,
+    /// Where each word ends.
+    ends: Vec<u32>,
 }
 
-impl Table {
-    pub(super) fn new(alloc: Global) -> Self {
-        Table {
-            alloc,
-            numbers: BTreeMap::new(alloc),
+impl Model for Words {
+    ghost use Rattle.std.specs.Prelude.{ℕ, List, length};
+    ghost use Rattle.md_judge.specs.Words.{cut, Rises};
+
+    ghost Value = { List (List ℕ) };
+
+    ghost view = { λ w. cut 0 w.ends.items w.text.items };
+
+    ghost invariant = { λ w. Rises 0 w.ends.items (length w.text.items) };
+}
+
+impl Words {
+    fn new(alloc: Global) -> Self
+        ensures { result ≡ [] }
+    {
+        Words {
+            text: Vec::new(alloc),
+            ends: Vec::new(alloc),
         }
     }
 
-    /// The number of a word, and whether it is new.
-    pub(super) fn number(&mut self, word: &[u8]) -> Result<(u32, bool), LineFault> {
-        if let Some(number) = self.numbers.get(word) {
-            return Ok((*number, false));
+    fn len(&self) -> usize
+        ensures { result ≡ length self.now }
+    {
+        self.ends.len()
+    }
+
+    fn word(&self, number: u32) -> Option<&[u8]>
+        ensures { option_copied result ≡ slice_get self.now number }
+    {
+        let end = *self.ends.get(number as usize)?;
+        let begin = begin_of(&self.ends, number);
+        self.text.get(begin as usize..end as usize)
+    }
+
+    /// Whether the word of a number is this one.
+    fn is_at(&self, number: u32, word: &[u8]) -> bool
+        ensures { IsTrue result ↔ (slice_get self.now number ≡ Some word.now) }
+    {
+        match self.word(number) {
+            None => false,
+            Some(found) => found == word,
         }
-        let count = self.numbers.len();
+    }
+
+    /// One more word. Where memory is refused, the words are as they were.
+    fn push(&mut self, word: &[u8]) -> Result<(), LineFault>
+        ensures ok { OnOk result (self.new ≡ self.old ++ word.now ∷ []) }
+        ensures err { OnErr result (self.new ≡ self.old) }
+    {
+        let Ok(end) = u32::try_from(self.text.len().saturating_add(word.len())) else {
+            return Err(LineFault::NoMemory);
+        };
+        self.ends.reserve(1)?;
+        self.text.extend_from_slice(word)?;
+        self.ends.push_reserved(end);
+        Ok(())
+    }
+}
+
+/// Where a word begins: the first at 0, and each other where that before it ends.
+fn begin_of(ends: &[u32], number: u32) -> u32
+    ensures { number < length ends.now → result ≡ begin_of 0 ends.now number }
+{
+    if number == 0 {
+        return 0;
+    }
+    ends.get(number as usize - 1).copied().unwrap_or(0)
+}
+
+/// The hash by which a word is looked for.
+fn hash_of(word: &[u8]) -> u32
+    ensures { result ≡ hash_of word.now }
+{
+    let mut hasher = FoldHasher::default();
+    hasher.write(word);
+    (hasher.finish() % 4_294_967_296) as u32
+}
+
+/// The numbers under which words are looked for.
+#[derive(Drop)]
+struct Index {
+    alloc: Global,
+    /// The word that came first with a hash.
+    by_hash: BTreeMap<u32, u32>,
+    /// The words that came when another had their hash: so words that are made to have one take no longer than others.
+    others: BTreeMap<Vec<u8>, u32>,
+}
+
+impl Index {
+    fn new(alloc: Global) -> Self {
+        Index {
+            alloc,
+            by_hash: BTreeMap::new(alloc),
+            others: BTreeMap::new(alloc),
+        }
+    }
+
+    /// Puts a number for a word that has this hash. Other words keep theirs, also where memory is refused.
+    fn put(&mut self, hash: u32, word: &[u8], number: u32) -> Result<(), LineFault>
+        requires { hash ≡ hash_of word.now }
+        ensures keeps { (other : List ℕ) (n : ℕ) → other ≢ word.now → Finds self.old other n → Finds self.new other n }
+        ensures put { OnOk result (Finds self.new word.now number) }
+    {
+        if !self.by_hash.contains_key(&hash) {
+            self.by_hash.insert(hash, number)?;
+            return Ok(());
+        }
+        let key = Vec::from_slice(self.alloc, word)?;
+        self.others.insert(key, number)?;
+        Ok(())
+    }
+
+    /// The number of a word that has this hash: it is put for it, and it is the word's.
+    fn find(&self, hash: u32, words: &Words, word: &[u8]) -> Option<u32>
+        requires { hash ≡ hash_of word.now }
+        ensures there { IfSome result (λ n. slice_get words.now n ≡ Some word.now) }
+        ensures none { IfNone result ((n : ℕ) → Finds self.now word.now n → slice_get words.now n ≡ Some word.now → ⊥) }
+    {
+        match checked(words, self.by_hash.get(&hash), word) {
+            None => checked(words, self.others.get(word), word),
+            Some(number) => Some(number),
+        }
+    }
+}
+
+/// The number, where the word of that number is this one.
+fn checked(words: &Words, number: Option<&u32>, word: &[u8]) -> Option<u32>
+    ensures there { IfSome result (λ n. slice_get words.now n ≡ Some word.now) }
+    ensures none { IfNone result ((n : ℕ) → option_copied number.entry ≡ Some n → slice_get words.now n ≡ Some word.now → ⊥) }
+{
+    match number {
+        Some(number) if words.is_at(*number, word) => Some(*number),
+        _ => None,
+    }
+}
+
+/// Words, numbered from 0 in the order in which they came: each word has one number, and two words have two.
+#[derive(Drop)]
+pub(super) struct Table {
+    words: Words,
+    index: Index,
+}
+
+impl Model for Table {
+    ghost use Rattle.std.specs.Prelude.{ℕ, List};
+    ghost use Rattle.md_judge.specs.Words.{IsTable};
+
+    ghost Value = { List (List ℕ) };
+
+    ghost view = { λ t. t.words };
+
+    ghost invariant = { λ t. IsTable t.words t.index };
+}
+
+impl Table {
+    pub(super) fn new(alloc: Global) -> Self
+        ensures { result ≡ [] }
+    {
+        Table {
+            words: Words::new(alloc),
+            index: Index::new(alloc),
+        }
+    }
+
+    /// The number of a word, and whether it is new. It takes about log n in the words. Where memory is refused, the words are as they were.
+    pub(super) fn number(&mut self, word: &[u8]) -> Result<(u32, bool), LineFault>
+        ensures found { IfOk result (λ r. slice_get self.new r.0 ≡ Some word.now) }
+        ensures grows { IfOk result (λ r. self.new ≡ (if r.1 then self.old ++ word.now ∷ [] else self.old)) }
+        ensures is_new { IfOk result (λ r. IsTrue r.1 → r.0 ≡ length self.old) }
+        ensures few { IfOk result (λ r. r.0 < 4000000000) }
+        ensures refused { OnErr result (self.new ≡ self.old) }
+    {
+        let hash = hash_of(word);
+        if let Some(number) = self.find(hash, word) {
+            return Ok((number, false));
+        }
+        Ok((self.add(hash, word)?, true))
+    }
+
+    /// Nothing is done: two words have two numbers.
+    #[inline(always)]
+    fn are_apart(&self)
+        ensures { AreApart self.now }
+    {
+        let _ = &self.words;
+    }
+
+    /// The number of a word that has this hash.
+    fn find(&self, hash: u32, word: &[u8]) -> Option<u32>
+        requires { hash ≡ hash_of word.now }
+        ensures there { IfSome result (λ n. slice_get self.now n ≡ Some word.now) }
+        ensures few { IfSome result (λ n. n < 4000000000) }
+        ensures none { IfNone result ((n : ℕ) → slice_get self.now n ≡ Some word.now → ⊥) }
+    {
+        self.index.find(hash, &self.words, word)
+    }
+
+    /// Numbers a word that has this hash and no number.
+    fn add(&mut self, hash: u32, word: &[u8]) -> Result<u32, LineFault>
+        requires hashed { hash ≡ hash_of word.now }
+        requires is_new { (n : ℕ) → slice_get self.old n ≡ Some word.now → ⊥ }
+        ensures ok { OnOk result (self.new ≡ self.old ++ word.now ∷ []) }
+        ensures number { IfOk result (λ n. n ≡ length self.old) }
+        ensures few { IfOk result (λ n. n < 4000000000) }
+        ensures err { OnErr result (self.new ≡ self.old) }
+    {
+        let count = self.words.len();
         if count >= MOST_WORDS {
             return Err(LineFault::NoMemory);
         }
         let number = count as u32;
-        let word = Vec::from_slice(self.alloc, word)?;
-        self.numbers.insert(word, number)?;
-        Ok((number, true))
+        // Where memory is refused after this, the number is put for a word that is not there.
+        self.index.put(hash, word, number)?;
+        self.words.push(word)?;
+        Ok(number)
     }
 }
 
@@ -60,7 +262,7 @@ const NO_FACTS: NameFacts = NameFacts {
 const NO_ENDING: u64 = 4_294_967_295;
 
 /// How many numbers there are for the ends of names.
-const ENDINGS: u64 = 4_294_967_296;
+pub(super) const ENDINGS: u64 = 4_294_967_296;
 
 /// A name by the numbers of its two parts: that of the unique part, or of a name that is no message's, times `ENDINGS`, and that of its end.
 pub(super) type Name = u64;
@@ -89,35 +291,89 @@ impl Names {
         }
     }
 
-    pub(super) fn unique(&mut self, unique: &[u8]) -> Result<u32, LineFault> {
+    /// The number of a unique name. Where memory is refused, no number stands for another name than before.
+    pub(super) fn unique(&mut self, unique: &[u8]) -> Result<u32, LineFault>
+        ensures number { IfOk result (λ u. slice_get self.new.uniques u ≡ Some unique.now) }
+        ensures endings { self.new.endings ≡ self.old.endings }
+        ensures keeps { KeepNumbers self.old self.new }
+    {
         Ok(self.uniques.number(unique)?.0)
     }
 
-    pub(super) fn number(&mut self, name: &[u8]) -> Result<Name, LineFault> {
+    /// The number of a name, for ever: two names have two, and a name has one. Where memory is refused, no number stands for another name than before.
+    pub(super) fn number(&mut self, name: &[u8]) -> Result<Name, LineFault>
+        ensures number { IfOk result (λ n. IsNumber self.new name.now n) }
+        ensures keeps { KeepNumbers self.old self.new }
+        ensures facts { IfOk result (λ n. IsUnique self.new (split_of name.now) (name_facts self.new n).unique) }
+        ensures numbered { OnOk result (AreNumbered self.new) }
+    {
+        let number = self.number_of(name)?;
+        self.are_numbered();
+        Ok(number)
+    }
+
+    fn number_of(&mut self, name: &[u8]) -> Result<Name, LineFault>
+        ensures number { IfOk result (λ n. IsNumber self.new name.now n) }
+        ensures keeps { KeepNumbers self.old self.new }
+    {
         match split(name) {
-            None => {
-                let (number, _) = self.others.number(name)?;
-                Ok(name_of(number, NO_ENDING))
-            }
-            Some((unique, info)) => {
-                let ending = self.ending(name.get(unique.len()..).unwrap_or(&[]), info)?;
-                Ok(name_of(self.unique(unique)?, ending))
-            }
+            None => self.other(name),
+            Some((unique, info)) => self.message(name, unique, info),
         }
     }
 
+    /// The number of a name that is no message's.
+    fn other(&mut self, name: &[u8]) -> Result<Name, LineFault>
+        ensures number { IfOk result (λ n. StandFor self.new name.now None (n / 4294967296) (n % 4294967296)) }
+        ensures keeps { KeepNumbers self.old self.new }
+    {
+        let (number, _) = self.others.number(name)?;
+        Ok(name_of(number, NO_ENDING))
+    }
+
+    /// The number of a message's name that has this unique part.
+    fn message(&mut self, name: &[u8], unique: &[u8], info: Info) -> Result<Name, LineFault>
+        ensures number { IfOk result (λ n. StandFor self.new name.now (Some (unique.now, info)) (n / 4294967296) (n % 4294967296)) }
+        ensures keeps { KeepNumbers self.old self.new }
+    {
+        let ending = self.ending(name.get(unique.len()..).unwrap_or(&[]), info)?;
+        Ok(name_of(self.unique(unique)?, ending))
+    }
+
     /// The number of what comes after a unique part, and says this.
-    fn ending(&mut self, ending: &[u8], info: Info) -> Result<u64, LineFault> {
+    fn ending(&mut self, ending: &[u8], info: Info) -> Result<u64, LineFault>
+        ensures number { IfOk result (λ n. slice_get self.new.endings n ≡ Some ending.now) }
+        ensures few { IfOk result (λ n. n < 4294967295) }
+        ensures keeps { KeepNumbers self.old self.new }
+    {
         let (number, is_new) = self.endings.number(ending)?;
         let number = number as u64;
         if is_new {
-            let flags = info.flags().map(bits_of);
-            self.flags.push(flags)?;
-            if let Some(flags) = flags {
-                let _chief = self.chiefs.entry(flags)?.or_insert(number);
-            }
+            self.note_flags(number, info)?;
         }
         Ok(number)
+    }
+
+    /// Keeps what a new ending says.
+    fn note_flags(&mut self, ending: u64, info: Info) -> Result<(), LineFault>
+        ensures { (self.new.uniques ≡ self.old.uniques) × (self.new.endings ≡ self.old.endings) × (self.new.others ≡ self.old.others) }
+    {
+        let flags = info.flags().map(bits_of);
+        self.flags.push(flags)?;
+        if let Some(flags) = flags {
+            let _chief = self.chiefs.entry(flags)?.or_insert(ending);
+        }
+        Ok(())
+    }
+
+    /// Nothing is done: numbers are those of names.
+    #[inline(always)]
+    fn are_numbered(&self)
+        ensures { AreNumbered self.now }
+    {
+        self.uniques.are_apart();
+        self.endings.are_apart();
+        self.others.are_apart();
     }
 
     /// The name of a message that shows these flags, and that comes to be kept by its path alone.
@@ -140,7 +396,10 @@ impl Names {
     }
 }
 
-fn name_of(front: u32, ending: u64) -> Name {
+/// A name by the numbers of its two parts.
+pub(super) fn name_of(front: u32, ending: u64) -> Name
+    ensures { ending < 4294967296 → result ≡ front * 4294967296 + ending }
+{
     (front as u64)
         .saturating_mul(ENDINGS)
         .saturating_add(ending)

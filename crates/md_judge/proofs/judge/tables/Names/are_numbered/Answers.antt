@@ -1,0 +1,5 @@
+use Rattle.md_judge.proofs.Numbers.{numbered}
+use Rattle.md_judge.proofs.judge.tables.Names.are_numbered.Goals as goal
+
+pub returns : goal.returns
+returns c = numbered c.args.self.now (c.are_apart.ensures, c.are_apart-2.ensures, c.are_apart-3.ensures)

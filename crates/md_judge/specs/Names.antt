@@ -1,0 +1,31 @@
+-- Which numbers stand for which names.
+use Rattle.std.specs.Prelude.{ℕ, ◌≡◌, ◌<◌, ◌/◌, ◌%◌, List, Option, Some, None, length, drop, slice_get}
+use Rattle.md_name.specs.declared.info.Info.{Info}
+use Rattle.md_name.specs.Names.{split_of}
+use Rattle.md_judge.specs.declared.judge.tables.Names.{Names}
+
+-- the two parts of a number stand for a name: for the unique part and what comes after it, or for a name that is no message's as a whole
+abbrev pub StandFor : Names → List ℕ → Option (List ℕ × Info) → ℕ → ℕ → Type 0
+StandFor names name None front ending = (ending ≡ 4294967295) × (slice_get names.others front ≡ Some name)
+StandFor names name (Some parts) front ending =
+    (ending < 4294967295) × (slice_get names.uniques front ≡ Some parts.0) × (slice_get names.endings ending ≡ Some (drop (length parts.0) name))
+
+-- the number stands for the name
+abbrev pub IsNumber : Names → List ℕ → ℕ → Type 0
+IsNumber names name n = StandFor names name (split_of name) (n / 4294967296) (n % 4294967296)
+
+-- Two names have two numbers, and a name has one.
+pub record AreNumbered (names : Names) : Type 0 where
+  pub apart : (a b : List ℕ) (n : ℕ) → IsNumber names a n → IsNumber names b n → a ≡ b
+  pub one : (a : List ℕ) (m n : ℕ) → IsNumber names a m → IsNumber names a n → m ≡ n
+
+-- names stand for what they stood for
+abbrev pub KeepNumbers : Names → Names → Type 0
+KeepNumbers old new = (name : List ℕ) (n : ℕ) → IsNumber old name n → IsNumber new name n
+
+-- the number that is kept of a unique name is that of the name's unique part, where it is a message's
+abbrev pub IsUnique : Names → Option (List ℕ × Info) → Option ℕ → Type 0
+IsUnique names None None = Unit {0}
+IsUnique names None (Some u) = ⊥
+IsUnique names (Some parts) None = ⊥
+IsUnique names (Some parts) (Some u) = slice_get names.uniques u ≡ Some parts.0
