@@ -1,5 +1,5 @@
 -- What the judge keeps of listings and of a folder's messages beside what a log tells of them, and what it finds by it beside the law.
-use Rattle.std.specs.Prelude.{ℕ, suc, ◌≡◌, ◌≢◌, ◌↔◌, ◌<◌, ◌≤◌, ◌⊎◌, ◌&&◌, ◌||◌, not, List, [], ◌∷◌, Option, Some, None, Bool, true, false, IsSome, slice_get}
+use Rattle.std.specs.Prelude.{ℕ, suc, ◌≡◌, ◌≢◌, ◌↔◌, ◌<◌, ◌≤◌, ◌⊎◌, ◌&&◌, ◌||◌, not, List, [], ◌∷◌, Option, Some, None, Bool, true, false, IsSome, slice_get, ◌==◌, if◌then◌else◌}
 use Rattle.std.specs.Bool.{nat_lt, nat_le}
 use Rattle.std.specs.List.{list_all, find}
 use Rattle.std.specs.Option.{option_map, unwrap_or}
@@ -39,9 +39,14 @@ was_in m first last = (nat_lt 0 m.count && nat_le m.since first) || was_through 
 abbrev pub message_cmp : ℕ × ℕ → ℕ × ℕ → Ordering
 message_cmp a b = ordering_then (nat_cmp a.0 b.0) (nat_cmp a.1 b.1)
 
--- what is kept of a message
+-- the first of two messages, where it is in this folder, and else the other
+abbrev pub first_or : Option Message → ℕ → Option Message → Option Message
+first_or None folder other = other
+first_or (Some first) folder other = if first.folder == folder then Some first else other
+
+-- what is kept of a message: by the number of its unique name, in the folder where that came first, and by both in others
 abbrev pub message_of : Mail → ℕ → ℕ → Option Message
-message_of mail folder unique = get message_cmp mail.messages (folder, unique)
+message_of mail folder unique = first_or (slice_get mail.first.items unique) folder (get message_cmp mail.others (folder, unique))
 
 -- the messages that a folder has, by the numbers of their unique names
 abbrev pub present_in : Mail → ℕ → List ℕ

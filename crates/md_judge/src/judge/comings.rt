@@ -34,7 +34,7 @@ pub(super) fn check_added(found: &mut Found, message: Option<&Message>, file: u3
     found.note(
         message.count > leaving,
         Clause::TwoNames,
-        line_before(message.since),
+        line_before(message.since as usize),
     );
 }
 

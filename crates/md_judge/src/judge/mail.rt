@@ -4,7 +4,7 @@ ghost use Rattle.std.specs.Option.{option_copied};
 ghost use Rattle.md_judge.specs.Messages.{WasFile};
 ghost use Rattle.md_judge.specs.Listings.{was_in, was_through, message_of};
 
-use super::befores::line_before;
+use super::befores::{Moment, line_before, moment_of};
 use md_log::LineFault;
 use std::alloc::Global;
 use std::collections::{BTreeMap, BTreeSet};
@@ -15,11 +15,12 @@ pub(super) type Key = (u32, u32);
 /// The message of a unique name in a folder.
 #[derive(Drop)]
 pub(super) struct Message {
+    folder: u32,
     /// How many paths it has, and the first moment since which it has one.
     pub(super) count: u32,
     /// The first file that it was.
     file: u32,
-    pub(super) since: usize,
+    pub(super) since: Moment,
     /// What few messages have.
     more: Option<Box<Past>>,
 }
@@ -33,9 +34,13 @@ struct Past {
     files: BTreeSet<u32>,
 }
 
+/// The folder of a message that is none.
+const NO_FOLDER: u32 = u32::MAX;
+
 impl Message {
-    fn new(since: usize, file: u32) -> Self {
+    fn new(folder: u32, since: Moment, file: u32) -> Self {
         Message {
+            folder,
             count: 0,
             file,
             since,
@@ -61,7 +66,7 @@ impl Message {
     pub(super) fn was_there(&self, first: usize, last: usize) -> bool
         ensures { result ≡ was_in self.now first last }
     {
-        if self.count > 0 && self.since <= first {
+        if self.count > 0 && self.since as usize <= first {
             return true;
         }
         match &self.more {
@@ -150,15 +155,90 @@ pub(super) struct Presence {
     pub(super) since: usize,
 }
 
+/// How many paths of messages of a unique name a file has.
+#[derive(Clone, Copy)]
+struct Copies {
+    unique: u32,
+    count: u32,
+}
+
+const NO_COPIES: Copies = Copies {
+    unique: 0,
+    count: 0,
+};
+
+/// How many paths of messages of each unique name the files have. Nearly every file is a message of one name alone, which is kept by the number of the file.
+#[derive(Drop)]
+struct Copied {
+    first: Vec<Copies>,
+    others: BTreeMap<(u32, u32), u32>,
+}
+
+impl Copied {
+    fn new(alloc: Global) -> Self {
+        Copied {
+            first: Vec::new(alloc),
+            others: BTreeMap::new(alloc),
+        }
+    }
+
+    /// Whether the file has a path of a message of the unique name.
+    fn has(&self, file: u32, unique: u32) -> bool {
+        if let Some(first) = self.first.get(file as usize)
+            && first.unique == unique
+            && first.count > 0
+        {
+            return true;
+        }
+        match self.others.get(&(file, unique)) {
+            None => false,
+            Some(count) => *count > 0,
+        }
+    }
+
+    /// One path more. Where the place of the first unique name is free, any name takes it.
+    fn add(&mut self, file: u32, unique: u32) -> Result<(), LineFault> {
+        for _ in self.first.len()..=file as usize {
+            self.first.push(NO_COPIES)?;
+        }
+        if let Some(first) = self.first.get_mut(file as usize)
+            && (first.unique == unique || first.count == 0)
+        {
+            first.unique = unique;
+            first.count = first.count.saturating_add(1);
+            return Ok(());
+        }
+        let count = self.others.entry((file, unique))?.or_insert(0);
+        *count = count.saturating_add(1);
+        Ok(())
+    }
+
+    /// One path fewer.
+    fn remove(&mut self, file: u32, unique: u32) {
+        if let Some(first) = self.first.get_mut(file as usize)
+            && first.unique == unique
+            && first.count > 0
+        {
+            first.count -= 1;
+            return;
+        }
+        if let Some(count) = self.others.get_mut(&(file, unique)) {
+            *count = count.saturating_sub(1);
+        }
+    }
+}
+
 /// The messages of all folders.
 #[derive(Drop)]
 pub(super) struct Mail {
     alloc: Global,
-    messages: BTreeMap<Key, Message>,
+    /// The message of each unique name in the folder where it came first, by the number of the name.
+    first: Vec<Message>,
+    /// Those in other folders.
+    others: BTreeMap<Key, Message>,
     /// The unique names that are in each folder.
     present: Vec<BTreeSet<u32>>,
-    /// How many paths of messages of a unique name a file has.
-    copies: BTreeMap<(u32, u32), u32>,
+    copied: Copied,
     /// Of paths whose names are not the first that showed these flags.
     held: BTreeMap<(u32, (u32, u64)), Held>,
 }
@@ -167,9 +247,10 @@ impl Mail {
     pub(super) fn new(alloc: Global) -> Self {
         Mail {
             alloc,
-            messages: BTreeMap::new(alloc),
+            first: Vec::new(alloc),
+            others: BTreeMap::new(alloc),
             present: Vec::new(alloc),
-            copies: BTreeMap::new(alloc),
+            copied: Copied::new(alloc),
             held: BTreeMap::new(alloc),
         }
     }
@@ -182,12 +263,47 @@ impl Mail {
     pub(super) fn message(&self, key: Key) -> Option<&Message>
         ensures { option_copied result ≡ message_of self.now key.0 key.1 }
     {
-        self.messages.get(&key)
+        match self.first.get(key.1 as usize) {
+            Some(first) if first.folder == key.0 => Some(first),
+            _ => self.others.get(&key),
+        }
+    }
+
+    fn message_mut(&mut self, key: Key) -> Option<&mut Message> {
+        if self.is_first(key) {
+            self.first.get_mut(key.1 as usize)
+        } else {
+            self.others.get_mut(&key)
+        }
+    }
+
+    /// Whether the unique name came to this folder first.
+    fn is_first(&self, key: Key) -> bool {
+        match self.first.get(key.1 as usize) {
+            None => false,
+            Some(first) => first.folder == key.0,
+        }
+    }
+
+    /// Where the message never was in its folder, there comes one that has no path yet.
+    fn begin(&mut self, at: Moment, key: Key, file: u32) -> Result<(), LineFault> {
+        for _ in self.first.len()..=key.1 as usize {
+            self.first.push(Message::new(NO_FOLDER, 0, 0))?;
+        }
+        if let Some(first) = self.first.get_mut(key.1 as usize)
+            && first.folder == NO_FOLDER
+        {
+            *first = Message::new(key.0, at, file);
+        }
+        if !self.is_first(key) && !self.others.contains_key(&key) {
+            self.others.insert(key, Message::new(key.0, at, file))?;
+        }
+        Ok(())
     }
 
     /// How many paths the message has.
     pub(super) fn count(&self, key: Key) -> u32 {
-        match self.messages.get(&key) {
+        match self.message(key) {
             None => 0,
             Some(message) => message.count,
         }
@@ -195,16 +311,16 @@ impl Mail {
 
     /// The message, where it ever was in its folder.
     pub(super) fn presence(&self, key: Key) -> Option<Presence> {
-        let message = self.messages.get(&key)?;
+        let message = self.message(key)?;
         Some(Presence {
             count: message.count,
-            since: message.since,
+            since: message.since as usize,
         })
     }
 
     /// The line that put the message there, the last time that it came.
     pub(super) fn put_at(&self, key: Key) -> Option<usize> {
-        line_before(self.messages.get(&key)?.since)
+        line_before(self.message(key)?.since as usize)
     }
 
     /// The unique names that are in a folder.
@@ -216,10 +332,7 @@ impl Mail {
 
     /// Whether the file is a message of the unique name in any folder.
     pub(super) fn is_copied(&self, file: u32, unique: u32) -> bool {
-        match self.copies.get(&(file, unique)) {
-            None => false,
-            Some(count) => *count > 0,
-        }
+        self.copied.has(file, unique)
     }
 
     pub(super) fn held(&self, key: Key, flags: u64) -> Option<Held> {
@@ -242,12 +355,15 @@ impl Mail {
     /// The message has one more path, from the moment `at` on.
     pub(super) fn add(&mut self, at: usize, key: Key, file: u32) -> Result<(), LineFault> {
         let alloc = self.alloc;
-        let message = self.messages.entry(key)?.or_insert(Message::new(at, file));
-        if message.count == 0 {
-            message.since = at;
+        let at = moment_of(at);
+        self.begin(at, key, file)?;
+        if let Some(message) = self.message_mut(key) {
+            if message.count == 0 {
+                message.since = at;
+            }
+            message.count = message.count.saturating_add(1);
+            message.be(alloc, file)?;
         }
-        message.count = message.count.saturating_add(1);
-        message.be(alloc, file)?;
         if let Some(present) = self.present.get_mut(key.0 as usize) {
             present.insert(key.1)?;
         }
@@ -257,7 +373,7 @@ impl Mail {
     /// The message is a further file.
     pub(super) fn turn(&mut self, key: Key, file: u32) -> Result<(), LineFault> {
         let alloc = self.alloc;
-        match self.messages.get_mut(&key) {
+        match self.message_mut(key) {
             None => Ok(()),
             Some(message) => message.be(alloc, file),
         }
@@ -266,10 +382,10 @@ impl Mail {
     /// The message has one path fewer: where it has none, the moment `at` was its last.
     pub(super) fn take(&mut self, at: usize, key: Key) -> Result<(), LineFault> {
         let alloc = self.alloc;
-        if let Some(message) = self.messages.get_mut(&key) {
+        if let Some(message) = self.message_mut(key) {
             message.count = message.count.saturating_sub(1);
             if message.count == 0 {
-                let time = (message.since, at);
+                let time = (message.since as usize, at);
                 message.past(alloc)?.times.push(time)?;
                 if let Some(present) = self.present.get_mut(key.0 as usize) {
                     present.remove(&key.1);
@@ -281,15 +397,11 @@ impl Mail {
 
     /// One more path of the file is a message of the unique name.
     pub(super) fn copy(&mut self, file: u32, unique: u32) -> Result<(), LineFault> {
-        let count = self.copies.entry((file, unique))?.or_insert(0);
-        *count = count.saturating_add(1);
-        Ok(())
+        self.copied.add(file, unique)
     }
 
     pub(super) fn uncopy(&mut self, file: u32, unique: u32) {
-        if let Some(count) = self.copies.get_mut(&(file, unique)) {
-            *count = count.saturating_sub(1);
-        }
+        self.copied.remove(file, unique);
     }
 
     /// One more path in cur shows these flags, from the moment `at` on.
