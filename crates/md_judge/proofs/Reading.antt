@@ -12,7 +12,7 @@ use Rattle.md_judge.specs.declared.judge.directories.Named.{Named}
 use Rattle.md_judge.specs.Logs.{Log}
 use Rattle.md_judge.specs.Told.{at}
 use Rattle.md_judge.specs.Law.{turn, IsNeverThere, IsAlwaysThere}
-use Rattle.md_judge.specs.Readings.{was_late, was_since, WasSince, IsHere, RecallsWas, IsNameOf, IsHereSince}
+use Rattle.md_judge.specs.Readings.{was_late, was_of, was_since, WasSince, IsHere, RecallsWas, IsNameOf, IsHereSince}
 use Rattle.md_judge.proofs.Claiming.{up, down, came, after}
 
 -- whether a path is there at a moment
@@ -30,7 +30,7 @@ late-kept (Some last) first = (leb-true first last, le-leb first last)
 
 pub kept-since : (d : Directory) (name first : ℕ) → (was_since d name first ≡ true) ↔ WasSince d name first
 kept-since d name first =
-    let was = get nat_cmp d.was name in
+    let was = was_of d name in
     let late = late-kept was first in
     let there = is_some (get nat_cmp d.names name) in (
       λ since. elim (or_cases (was_late was first) there since) [ inl had ↦ inr (late.0 had) | inr has ↦ inl has ],
@@ -61,13 +61,13 @@ module _ (line : ℕ → ℕ) (l : Log) (begin i : ℕ) (x : Step) (p : Path) (d
   since-not : WasSince d name first → IsNeverThere (turn l i x) begin p → ⊥
   since-not since never = elim since [
     | inl there ↦ is.there.0 there (never i is.ordered (omega arith))
-    | inr was ↦ late (get nat_cmp d.was name) (is.was (λ there. there (never i is.ordered (omega arith)))) was never
+    | inr was ↦ late (was_of d name) (is.was (λ there. there (never i is.ordered (omega arith)))) was never
   ]
 
   here-since : (j : ℕ) → begin ≤ j → j ≤ i → IsHere l p j → WasSince d name first
   here-since j from to there = here l p i
       (λ now. inl (is.there.1 now))
-      (λ gone. inr (early (get nat_cmp d.was name) (is.was (λ now. now gone)) j from to there))
+      (λ gone. inr (early (was_of d name) (is.was (λ now. now gone)) j from to there))
 
   -- by what is kept it was there at no moment of the reading just where it was at none
   pub never : (WasSince d name first → ⊥) ↔ IsNeverThere (turn l i x) begin p

@@ -3,6 +3,7 @@ pub mod Told
 pub mod Law
 pub mod Words
 pub mod Names
+pub mod Mixed
 pub mod Changes
 pub mod Known
 pub mod Found

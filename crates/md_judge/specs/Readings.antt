@@ -20,14 +20,19 @@ use Rattle.md_judge.specs.declared.judge.directories.Directory.{Directory}
 use Rattle.md_judge.specs.declared.judge.directories.Named.{Named}
 use Rattle.md_judge.specs.declared.judge.listing.Reading.{Reading}
 use Rattle.md_judge.specs.Logs.{Log}
+use Rattle.md_judge.specs.Mixed.{mixed_name}
 use Rattle.md_judge.specs.Told.{at, IsReading, Shows}
 use Rattle.md_judge.specs.Law.{Turn, NotADirectory}
 use Rattle.md_judge.specs.Claims.{IsLastMoment, IsSince}
 use Rattle.md_judge.specs.Listings.{IsIn}
 
+-- the last moment of a name that was in the directory, which is kept by a number that stands for the name's
+abbrev pub was_of : Directory → ℕ → Option ℕ
+was_of d name = get nat_cmp d.was (mixed_name name)
+
 -- the name is there, or was at a line or after it
 abbrev pub WasSince : Directory → ℕ → ℕ → Type 0
-WasSince d name first = IsSome (get nat_cmp d.names name) ⊎ IsSomeAnd (get nat_cmp d.was name) (λ last. first ≤ last)
+WasSince d name first = IsSome (get nat_cmp d.names name) ⊎ IsSomeAnd (was_of d name) (λ last. first ≤ last)
 
 -- the path is there at a moment
 abbrev pub IsHere : Log → Path → ℕ → Type 0
@@ -44,7 +49,7 @@ pub record IsNameOf (line : ℕ → ℕ) (l : Log) (begin i : ℕ) (p : Path) (d
   pub begins : first ≡ line begin
   pub ordered : begin ≤ i
   pub there : IsSome (get nat_cmp d.names name) ↔ IsHere l p i
-  pub was : (IsHere l p i → ⊥) → RecallsWas line l p i (get nat_cmp d.was name)
+  pub was : (IsHere l p i → ⊥) → RecallsWas line l p i (was_of d name)
 
 -- A reading goes from this step to that, the lines of steps rise, and a path is there since when the log tells.
 pub record IsHereSince (line : ℕ → ℕ) (l : Log) (begin i : ℕ) (p : Path) (named : Named) (first : ℕ) : Type 0 where
@@ -62,7 +67,7 @@ was_late (Some last) first = nat_le first last
 
 -- the name is there, or was at a line or after it
 abbrev pub was_since : Directory → ℕ → ℕ → Bool
-was_since d name first = was_late (get nat_cmp d.was name) first || is_some (get nat_cmp d.names name)
+was_since d name first = was_late (was_of d name) first || is_some (get nat_cmp d.names name)
 
 -- the first name that a part shows and that its directory had at no moment of the reading
 abbrev pub shown_wrongly : Directory → List ℕ → ℕ → Option ℕ

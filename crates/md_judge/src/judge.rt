@@ -19,6 +19,7 @@ mod goings;
 mod known;
 mod listing;
 mod mail;
+mod mixed;
 mod order;
 mod since;
 mod tables;

@@ -3,9 +3,11 @@ ghost use Rattle.std.specs.Prelude.{◌≡◌, Some, None, OnOk, slice_get};
 ghost use Rattle.std.specs.Option.{option_copied};
 ghost use Rattle.md_dirs.specs.Index.{directory_number};
 ghost use Rattle.md_judge.specs.Known.{file_in, Puts, Makes};
+ghost use Rattle.md_judge.specs.Readings.{was_of};
 
 use super::acts::Change;
 use super::befores::{Moment, line_before, moment_of};
+use super::mixed::mixed_name;
 use super::tables::Name;
 use md_dirs::Place;
 use md_log::LineFault;
@@ -39,15 +41,23 @@ pub(super) struct Kept {
 #[derive(Drop)]
 pub(super) struct Directory {
     pub(super) names: BTreeMap<Name, Named>,
-    pub(super) was: BTreeMap<Name, Moment>,
+    /// By mixed names.
+    was: BTreeMap<Name, Moment>,
 }
 
 impl Directory {
+    /// The last moment of a name that was there.
+    pub(super) fn was(&self, name: Name) -> Option<Moment>
+        ensures { result ≡ was_of self.now name }
+    {
+        self.was.get(&mixed_name(name)).copied()
+    }
+
     /// The line that last made a name be there or go.
     pub(super) fn last_change(&self, name: Name) -> Option<usize> {
         match self.names.get(&name) {
             Some(named) => line_before(named.since as usize),
-            None => Some(*self.was.get(&name)? as usize),
+            None => Some(self.was(name)? as usize),
         }
     }
 }
@@ -112,7 +122,7 @@ impl Directories {
             Some(directory) => Kept {
                 spot,
                 named: directory.names.get(&spot.name).copied(),
-                was: directory.was.get(&spot.name).copied(),
+                was: directory.was(spot.name),
             },
         }
     }
@@ -133,10 +143,10 @@ impl Directories {
         }
         match kept.was {
             None => {
-                directory.was.remove(&spot.name);
+                directory.was.remove(&mixed_name(spot.name));
             }
             Some(was) => {
-                directory.was.insert(spot.name, was)?;
+                directory.was.insert(mixed_name(spot.name), was)?;
             }
         }
         Ok(())
@@ -177,7 +187,8 @@ impl Directories {
     {
         if let Some(directory) = self.all.get_mut(number_of(spot.folder, spot.place)) {
             directory.names.remove(&spot.name);
-            directory.was.insert(spot.name, moment_of(at))?;
+            let name = mixed_name(spot.name);
+            directory.was.insert(name, moment_of(at))?;
         }
         Ok(())
     }

@@ -23,9 +23,9 @@ pub(super) fn was_there_since(directory: &Directory, name: Name, first: usize) -
 fn is_kept_since(directory: &Directory, name: Name, line: usize) -> bool
     ensures { result ≡ was_since directory.now name line }
 {
-    let was = match directory.was.get(&name) {
+    let was = match directory.was(name) {
         None => false,
-        Some(last) => *last as usize >= line,
+        Some(last) => last as usize >= line,
     };
     was || directory.names.contains_key(&name)
 }

@@ -47,7 +47,7 @@ impl Watch {
         let Some(cur) = known.directories.directory(key.0, Place::Cur) else {
             return others;
         };
-        let was = cur.was.get(&name).copied();
+        let was = cur.was(name);
         let count = u32::from(cur.names.contains_key(&name));
         if count == 0 && was.is_none() {
             return others;

@@ -1,0 +1,28 @@
+//! Numbers in no order.
+//!
+//! The leaves of a tree are half full where its keys come in rising order, and some two thirds full where they come in no order. So tables
+//! whose order nothing goes by have the keys of what is numbered as it comes mixed.
+ghost use Rattle.std.specs.Prelude.{◌≡◌};
+ghost use Rattle.md_judge.specs.Mixed.{mixed, mixed_name};
+
+use super::tables::{ENDINGS, Name, name_of};
+
+/// A number that stands for another, so that rising numbers come in no order. Two numbers have two.
+#[tactic(auto, unfolding(crate::specs::Mixed::mixed))]
+pub(super) fn mixed(number: u32) -> u32
+    ensures { result ≡ mixed number }
+{
+    let folded = number ^ (number >> 16);
+    let turned = folded.wrapping_mul(0x85eb_ca6b);
+    let folded = turned ^ (turned >> 13);
+    let turned = folded.wrapping_mul(0xc2b2_ae35);
+    turned ^ (turned >> 16)
+}
+
+/// A name that stands for another: the number of its first part is mixed.
+#[tactic(auto, unfolding(crate::specs::Mixed::mixed_name))]
+pub(super) fn mixed_name(name: Name) -> Name
+    ensures { result ≡ mixed_name name }
+{
+    name_of(mixed((name / ENDINGS) as u32), name % ENDINGS)
+}
