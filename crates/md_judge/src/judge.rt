@@ -21,6 +21,7 @@ mod listing;
 mod mail;
 mod mixed;
 mod order;
+mod pairs;
 mod since;
 mod tables;
 mod told;

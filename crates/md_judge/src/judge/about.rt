@@ -2,8 +2,9 @@
 ghost use Rattle.std.specs.Prelude.{◌≡◌, ◌↔◌, IsTrue};
 ghost use Rattle.md_judge.specs.Claims.{IsRefused};
 
-use super::befores::{Mark, Moment, NO_MARK, moment_of};
+use super::befores::{Mark, Moment, NO_MARK, line_at, mark_of, moment_of};
 use super::mail::Key;
+use super::pairs::Pairs;
 use md_log::LineFault;
 use std::alloc::Global;
 use std::collections::BTreeMap;
@@ -11,8 +12,8 @@ use std::collections::BTreeMap;
 /// What an actor did about a message since its last answer about it.
 #[derive(Clone, Copy)]
 pub(super) struct About {
-    /// The line of its last call on the message; 0 where there is none.
-    pub(super) act: usize,
+    /// The line of its last call on the message.
+    pub(super) act: Mark,
     was_refused: bool,
     pub(super) is_added: bool,
     pub(super) is_changed: bool,
@@ -22,7 +23,7 @@ pub(super) struct About {
 }
 
 const NOTHING: About = About {
-    act: 0,
+    act: NO_MARK,
     was_refused: false,
     is_added: false,
     is_changed: false,
@@ -33,16 +34,19 @@ const NOTHING: About = About {
 impl About {
     /// Notes a call on the message.
     pub(super) fn note_act(&mut self, line: usize, was_refused: bool) {
-        self.act = line;
+        self.act = mark_of(line);
         self.was_refused = was_refused;
+    }
+
+    /// Notes a step that changed the message's paths.
+    pub(super) fn note_change(&mut self, line: usize) {
+        self.changed_at = mark_of(line);
+        self.is_changed = true;
     }
 
     /// The line of the last call on it.
     pub(super) fn act_line(&self) -> Option<usize> {
-        match self.act {
-            0 => None,
-            line => Some(line),
-        }
+        line_at(self.act)
     }
 
     /// Whether there was a call on it, and the last one was refused.
@@ -71,9 +75,9 @@ const NO_LINES: Lines = Lines {
 #[derive(Drop)]
 pub(super) struct Actors {
     /// There is nothing where the actor did nothing about the message since it answered about it.
-    about: BTreeMap<(u32, Key), About>,
+    about: Pairs<About>,
     /// The actor's first line after its last answer about the message, where there is one.
-    begun: BTreeMap<(u32, Key), Moment>,
+    begun: Pairs<Moment>,
     /// The folders that had the message when a step of the actor took it from its own, with the step's line.
     moved: BTreeMap<((u32, Key), u32), usize>,
     lines: Vec<Lines>,
@@ -82,8 +86,8 @@ pub(super) struct Actors {
 impl Actors {
     pub(super) fn new(alloc: Global) -> Self {
         Actors {
-            about: BTreeMap::new(alloc),
-            begun: BTreeMap::new(alloc),
+            about: Pairs::new(alloc),
+            begun: Pairs::new(alloc),
             moved: BTreeMap::new(alloc),
             lines: Vec::new(alloc),
         }
@@ -102,13 +106,14 @@ impl Actors {
             lines.first = at;
         }
         if let Some(key) = lines.answered.take() {
-            self.begun.insert((actor, key), moment_of(at))?;
+            self.begun.insert(actor, key, moment_of(at))?;
         }
         Ok(())
     }
 
-    pub(super) fn about(&mut self, actor: u32, key: Key) -> Result<&mut About, LineFault> {
-        Ok(self.about.entry((actor, key))?.or_insert(NOTHING))
+    /// Keeps what the actor did about the message since its last answer.
+    pub(super) fn keep(&mut self, actor: u32, key: Key, about: About) -> Result<(), LineFault> {
+        self.about.insert(actor, key, about)
     }
 
     /// The actor took the message from its folder at a line, while another folder had it.
@@ -130,13 +135,13 @@ impl Actors {
 
     /// What the actor did about the message since its last answer.
     pub(super) fn done(&self, actor: u32, key: Key) -> About {
-        self.about.get(&(actor, key)).copied().unwrap_or(NOTHING)
+        self.about.get(actor, key).unwrap_or(NOTHING)
     }
 
     /// The actor answers about the message, so that nothing was done since.
     pub(super) fn told(&mut self, actor: u32, key: Key) {
-        self.about.remove(&(actor, key));
-        self.begun.remove(&(actor, key));
+        self.about.remove(actor, key);
+        self.begun.remove(actor, key);
         if let Some(lines) = self.lines.get_mut(actor as usize) {
             lines.answered = Some(key);
         }
@@ -144,8 +149,8 @@ impl Actors {
 
     /// The first line of the span of an answer.
     pub(super) fn first_line(&self, actor: u32, key: Key) -> usize {
-        if let Some(begun) = self.begun.get(&(actor, key)) {
-            return *begun as usize;
+        if let Some(begun) = self.begun.get(actor, key) {
+            return begun as usize;
         }
         match self.lines.get(actor as usize) {
             None => 0,

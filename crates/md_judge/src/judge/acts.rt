@@ -86,9 +86,10 @@ impl Watch {
         reply: Reply,
     ) -> Result<(), LineFault> {
         if let Some(unique) = known.unique_at(spot) {
-            let at = self.now;
-            let about = self.actors.about(actor, (spot.folder, unique))?;
-            about.note_act(at, reply != Reply::Ok);
+            let key = (spot.folder, unique);
+            let mut about = self.actors.done(actor, key);
+            about.note_act(self.now, reply != Reply::Ok);
+            self.actors.keep(actor, key, about)?;
         }
         Ok(())
     }

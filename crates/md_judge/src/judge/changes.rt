@@ -1,6 +1,6 @@
 //! Changes of paths: the clauses that they break, and what is kept of them.
 use super::acts::Change;
-use super::befores::{line_before, mark_of};
+use super::befores::line_before;
 use super::comings::{check_added, leaving};
 use super::directories::Spot;
 use super::flags::TRASHED;
@@ -78,11 +78,10 @@ impl Watch {
         if let Some(unique) = known.unique_at(spot) {
             let key = (spot.folder, unique);
             let is_added = self.mail.count(key) == 0;
-            let line = mark_of(self.now);
-            let about = self.actors.about(actor, key)?;
-            about.changed_at = line;
-            about.is_changed = true;
+            let mut about = self.actors.done(actor, key);
+            about.note_change(self.now);
             about.is_added = about.is_added || is_added;
+            self.actors.keep(actor, key, about)?;
         }
         Ok(())
     }
@@ -99,14 +98,13 @@ impl Watch {
         };
         let key = (spot.folder, unique);
         let is_gone = self.mail.count(key) == 0;
-        let line = mark_of(self.now);
-        let about = self.actors.about(actor, key)?;
-        about.changed_at = line;
-        about.is_changed = true;
+        let mut about = self.actors.done(actor, key);
+        about.note_change(self.now);
+        about.is_unlinked = about.is_unlinked || (is_gone && is_unlink);
+        self.actors.keep(actor, key, about)?;
         if !is_gone {
             return Ok(());
         }
-        about.is_unlinked = about.is_unlinked || is_unlink;
         let folders = self.mail.folders_with(unique)?;
         for folder in folders.iter() {
             self.actors.note_moved(actor, key, *folder, self.now)?;
@@ -147,10 +145,9 @@ impl Watch {
         };
         let key = (spot.folder, unique);
         self.mail.turn(key, new)?;
-        let line = mark_of(self.now);
-        let about = self.actors.about(actor, key)?;
-        about.is_changed = true;
-        about.changed_at = line;
+        let mut about = self.actors.done(actor, key);
+        about.note_change(self.now);
+        self.actors.keep(actor, key, about)?;
         self.mail.uncopy(old, unique);
         self.mail.copy(new, unique)
     }

@@ -54,7 +54,7 @@ impl Claim {
     {
         match self.looked {
             None => false,
-            Some(line) => line > self.about.act,
+            Some(line) => line > self.about.act as usize,
         }
     }
 
