@@ -274,7 +274,7 @@ pub(super) struct Names {
     endings: Table,
     /// The flags of each ending.
     flags: Vec<Option<u64>>,
-    /// The ending that came first with these flags.
+    /// The ending that came first with these flags, but for the empty one: names in cur mostly have an info.
     chiefs: BTreeMap<u64, u64>,
     /// Names that are no message's.
     others: Table,
@@ -349,19 +349,21 @@ impl Names {
         let (number, is_new) = self.endings.number(ending)?;
         let number = number as u64;
         if is_new {
-            self.note_flags(number, info)?;
+            self.note_flags(number, ending, info)?;
         }
         Ok(number)
     }
 
     /// Keeps what a new ending says.
-    fn note_flags(&mut self, ending: u64, info: Info) -> Result<(), LineFault>
+    fn note_flags(&mut self, number: u64, ending: &[u8], info: Info) -> Result<(), LineFault>
         ensures { (self.new.uniques ≡ self.old.uniques) × (self.new.endings ≡ self.old.endings) × (self.new.others ≡ self.old.others) }
     {
         let flags = info.flags().map(bits_of);
         self.flags.push(flags)?;
-        if let Some(flags) = flags {
-            let _chief = self.chiefs.entry(flags)?.or_insert(ending);
+        if let Some(flags) = flags
+            && !ending.is_empty()
+        {
+            let _chief = self.chiefs.entry(flags)?.or_insert(number);
         }
         Ok(())
     }
