@@ -66,15 +66,6 @@ pushed [] x (suc k) y is = cc
 pushed (z ∷ xs) x zero y is = inl is
 pushed (z ∷ xs) x (suc k) y is = elim (pushed xs x k y is) [ inl old ↦ inl old | inr new ↦ inr (ap suc new.0, new.1) ]
 
-pub push_here : {X : Type 0} (xs : List X) (x : X) → slice_get (xs ++ x ∷ []) (length xs) ≡ Some x
-push_here [] x = refl
-push_here (z ∷ xs) x = push_here xs x
-
-pub push_keeps : {X : Type 0} (xs : List X) (x : X) (k : ℕ) (y : X) → slice_get xs k ≡ Some y → slice_get (xs ++ x ∷ []) k ≡ Some y
-push_keeps [] x k y is = cc
-push_keeps (z ∷ xs) x zero y is = is
-push_keeps (z ∷ xs) x (suc k) y is = push_keeps xs x k y is
-
 -- a word that was not there keeps words apart
 pub apart_push : (words : List (List ℕ)) (word : List ℕ) → AreApart words → ((n : ℕ) → slice_get words n ≡ Some word → ⊥)
     → AreApart (words ++ word ∷ [])

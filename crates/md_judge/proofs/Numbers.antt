@@ -1,5 +1,5 @@
 -- Numbers of names: two names have two, and a name has one.
-use Rattle.std.proofs.Common.{◌≡◌, ℕ, ◌/◌, ◌%◌, List, ◌++◌, Option, Some, None, length, take, drop, slice_get, refl, sym, ap, ◌∙◌, arith}
+use Rattle.std.proofs.Common.{◌≡◌, ℕ, ◌/◌, ◌%◌, List, ◌++◌, Option, Some, None, length, take, drop, refl, sym, ap, ◌∙◌, arith}
 use Rattle.std.specs.Prelude.{if◌then◌else◌, true, false}
 use Rattle.std.proofs.lemmas.List.{take-append-drop, length-take, take_min}
 use Rattle.md_name.specs.declared.info.Info.{Info}
@@ -7,7 +7,7 @@ use Rattle.std.specs.List.{position_or_len}
 use Rattle.md_name.specs.Names.{is_colon, split_of, unique_of, is_message_name, info_of}
 use Rattle.md_judge.specs.declared.judge.tables.Names.{Names}
 use Rattle.md_judge.specs.Words.{AreApart}
-use Rattle.md_judge.specs.Names.{StandFor, AreNumbered, KeepNumbers}
+use Rattle.md_judge.specs.Names.{StandFor, AreNumbered}
 
 -- the words of all three tables are kept apart
 abbrev pub ArePartsApart : Names → Type 0
@@ -57,15 +57,3 @@ module _ (names : Names) where
     apart = λ a b n sa sb. names_apart a b (split_of a) (split_of b) (n / 4294967296) (n % 4294967296) refl refl sa sb;
     one = λ a m n sm sn. one_number a (split_of a) m n apart sm sn;
   }
-
--- what a table had it has still
-abbrev pub Grows : List (List ℕ) → List (List ℕ) → Type 0
-Grows old new = (k : ℕ) (word : List ℕ) → slice_get old k ≡ Some word → slice_get new k ≡ Some word
-
-stand_still : (old new : Names) (a : List ℕ) (p : Option (List ℕ × Info)) (front ending : ℕ) → Grows old.uniques new.uniques
-    → Grows old.endings new.endings → Grows old.others new.others → StandFor old a p front ending → StandFor new a p front ending
-stand_still old new a None front ending u e o s = (s.0, o front a s.1)
-stand_still old new a (Some p) front ending u e o s = (s.0, u front p.0 s.1, e ending (drop (length p.0) a) s.2)
-
-pub keep : (old new : Names) → Grows old.uniques new.uniques → Grows old.endings new.endings → Grows old.others new.others → KeepNumbers old new
-keep old new u e o name n s = stand_still old new name (split_of name) (n / 4294967296) (n % 4294967296) u e o s

@@ -1,6 +1,6 @@
 use Rattle.std.proofs.Common.{◌≡◌, ◌+◌, ◌++◌, ◌∷◌, [], length, ap, ◌∙◌, arith, length-append}
 use Rattle.md_judge.proofs.Cuts.{rises_push, cut_push}
-use Rattle.md_judge.proofs.judge.tables.Words.push.Goals as goal
+use Rattle.md_judge.proofs.judge.texts.Words.push.Goals as goal
 
 pub invariant_of-self-2 : goal.invariant_of-self-2
 invariant_of-self-2 c =

@@ -2,7 +2,7 @@ use Rattle.std.proofs.Common.{◌≡◌, ◌<◌, ◌≤◌, Some, length, slice
 use Rattle.std.proofs.lemmas.Option.{slice_get_read, slice_get_past}
 use Rattle.md_judge.specs.Words.{cut, begin_of}
 use Rattle.md_judge.proofs.Cuts.{rises_at, cut_at, length-cut, part_at}
-use Rattle.md_judge.proofs.judge.tables.Words.word.Goals as goal
+use Rattle.md_judge.proofs.judge.texts.Words.word.Goals as goal
 
 pub returns-in_err-end : goal.returns-in_err-end
 returns-in_err-end c =

@@ -1,6 +1,6 @@
 use Rattle.std.proofs.Common.{sym, ap, ◌∙◌, arith, unwrap_or, Option, ℕ}
 use Rattle.md_judge.proofs.Cuts.{begin_before}
-use Rattle.md_judge.proofs.judge.tables.begin_of.Goals as goal
+use Rattle.md_judge.proofs.judge.texts.begin_of.Goals as goal
 
 pub returns : goal.returns
 returns c = λ within.
