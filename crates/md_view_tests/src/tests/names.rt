@@ -223,7 +223,12 @@ fn a_reading_of_new_is_joined_with_cur(rt: HostRuntime) -> Result<(), Fail> {
         &mut both,
         Row::Rename(0, Place::New, b"a", 0, Place::Cur, b"a:2,"),
     )?;
-    assert!(rt; are(&joined(alloc, &world, &both.trees)?, &[b"a:2,", b"b:2,S", b"c"]));
+    assert!(rt;
+        are(
+            &joined(alloc, &world, &both.trees)?,
+            &[b"a:2,", b"b:2,S", b"c"]
+        )
+    );
     Ok(())
 }
 
