@@ -28,8 +28,11 @@ use md_view::Entry;
 use std::alloc::Global;
 use std::sync::{Mutex, MutexGuard, Wait};
 
-/// How often a thread tries the lock before it sleeps. After the first tries it yields the processor between them.
-const MOST_TRIES: u32 = 4_096;
+/// How often a thread tries the lock before it sleeps.
+const MOST_TRIES: u32 = 128;
+
+/// How often a thread waits between two tries: for a moment at first, and then it yields the processor.
+const PAUSES: u32 = 32;
 
 /// A store that threads share: a world inside a lock, and what of it is published. Each caller has a pass of the same naming type.
 pub struct Store<D: Dirs, J: Naming> {
@@ -45,14 +48,17 @@ impl<D: Dirs, J: Naming> Store<D, J> {
     /// `Locked::lags` says what is known of it at first. It waits until the lock is free, and other threads wait until the guard is let go, by
     /// `MutexGuard::unlock`. Listings need no lock.
     ///
-    /// A thread tries for a while, some milliseconds at most, before it sleeps: who sleeps is woken long after the lock is free.
+    /// A thread tries for a while, some milliseconds at most, before it sleeps: who sleeps is woken long after the lock is free. It tries
+    /// seldom, so that the thread that has the lock mostly takes it again, with all that a step needs still in its caches.
     pub fn lock<R: Wait>(&self, rt: &R) -> MutexGuard<'_, Locked<D, J>> {
         let backoff = Backoff::new();
         for _ in 0..MOST_TRIES {
             if let Some(guard) = self.lock.try_lock() {
                 return guard;
             }
-            backoff.snooze();
+            for _ in 0..PAUSES {
+                backoff.snooze();
+            }
         }
         self.lock.lock(rt)
     }
