@@ -8,7 +8,8 @@ use Rattle.md_judge.specs.declared.judge.tables.Names.{Names}
 abbrev pub StandFor : Names → List ℕ → Option (List ℕ × Info) → ℕ → ℕ → Type 0
 StandFor names name None front ending = (ending ≡ 4294967295) × (slice_get names.others front ≡ Some name)
 StandFor names name (Some parts) front ending =
-    (ending < 4294967295) × (slice_get names.uniques front ≡ Some parts.0) × (slice_get names.endings ending ≡ Some (drop (length parts.0) name))
+    (ending < 4294967295) × (slice_get names.uniques front ≡ Some parts.0)
+    × (slice_get names.endings ending ≡ Some (drop (length parts.0) name))
 
 -- the number stands for the name
 abbrev pub IsNumber : Names → List ℕ → ℕ → Type 0

@@ -7,7 +7,8 @@ ghost use Rattle.md_judge.specs.Mixed.{mixed, mixed_name};
 
 use super::tables::{ENDINGS, Name, name_of};
 
-/// A number that stands for another, so that rising numbers come in no order. Two numbers have two.
+/// A number that stands for another, so that rising numbers come in no order. Two numbers have two, since each step can be undone: a shift
+/// by half of the bits or some fewer that is added without carry, and a product with an odd number.
 #[tactic(auto, unfolding(crate::specs::Mixed::mixed))]
 pub(super) fn mixed(number: u32) -> u32
     ensures { result ≡ mixed number }
