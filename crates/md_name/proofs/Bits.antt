@@ -1,12 +1,13 @@
 -- What the code's steps on a word do to the set of its letters.
-use Rattle.std.proofs.Common.{◌≡◌, ◌≢◌, ◌++◌, List, [], ◌∷◌, ℕ, zero, suc, cond, length, get_or, take, ◌+◌, ◌-◌, ◌*◌, ◌/◌, ◌%◌, ◌^◌, ◌<◌, Bool, true, false, ◌&&◌, ◌||◌, not, refl, sym, ap, ◌∙◌, arith, ⊎_elim}
+use Rattle.std.proofs.Common.{◌≡◌, ◌≤◌, ◌≢◌, ◌++◌, List, [], ◌∷◌, ℕ, zero, suc, cond, length, get_or, take, ◌+◌, ◌-◌, ◌*◌, ◌/◌, ◌%◌, ◌^◌, ◌<◌, Bool, true, false, ◌&&◌, ◌||◌, not, refl, sym, ap, subst, ◌∙◌, arith, ⊎_elim}
 use Rattle.std.specs.Prelude.{◌==◌, nat_eq, min, bit_or, bit_and, filter}
-use Rattle.std.proofs.lemmas.List.{append_assoc, take_more}
+use Rattle.std.proofs.lemmas.List.{append_assoc, append-nil, take_all, take_more}
 use Rattle.std.proofs.lemmas.List.Elements.{filter-append}
 use Rattle.std.proofs.lemmas.Bool.Decides.{nat_tests, eqb_tells}
-use Rattle.std.proofs.lemmas.Nat.Bits.{bit_at-zero, bit_at-lt, bit_at_or, bit_at_and, bit_at_not, shr_and_one, bit_at_set_same, bit_at_set_other}
+use Rattle.std.proofs.lemmas.Nat.Bits.{bit_at-zero, bit_at-lt, bit_at_or, bit_at_and, bit_at_not, shr_and_one, bit_at_above, bit_at_set_same, bit_at_set_other}
 use Rattle.std.proofs.lemmas.Nat.{pow_below}
-use Rattle.std.proofs.Math.Nat.{mod-le}
+use Rattle.std.proofs.Math.Nat.{mod-le, lt-mul-div-succ}
+use Rattle.std.proofs.lemmas.Nat.{pow_pos}
 use Rattle.std.specs.Int.{bit_at, bit_not, w64}
 use Rattle.std.specs.Ordering.{nat_cmp}
 use Rattle.std.specs.Cmp.{nat_cmp_total, unsigned_tied}
@@ -144,6 +145,12 @@ module _ (s : Set) (w i : ℕ) (seen : letters_in w ≡ s) (within : i < 52) whe
       ∙ filter-append among (take i letters) (letter_at i ∷ [])
       ∙ ap (λ b. filter among (take i letters) ++ cond b (letter_at i ∷ []) []) (ap (λ t. set.contains t (letter_at i)) (sym seen) ∙ at_place w i within)
 
+  -- with a place more whose bit is not set, they are the same
+  spelled-no_more : bit_at w i ≡ 0 → filter (λ c. set.contains s c) (take (i + 1) letters) ≡ filter (λ c. set.contains s c) (take i letters)
+  unfolding among
+  spelled-no_more clear =
+      spelled ∙ ap (λ b. filter among (take i letters) ++ cond (b == 1) (letter_at i ∷ []) []) clear ∙ append-nil (filter among (take i letters))
+
   -- so is a text that they stand behind
   pub spelled-more : (before text : List ℕ) → text ≡ before ++ filter (λ c. set.contains s c) (take i letters)
       → text ++ cond (bit_at w i == 1) (letter_at i ∷ []) [] ≡ before ++ filter (λ c. set.contains s c) (take (i + 1) letters)
@@ -152,3 +159,26 @@ module _ (s : Set) (w i : ℕ) (seen : letters_in w ≡ s) (within : i < 52) whe
       ap (λ cs. cs ++ cond (bit_at w i == 1) (letter_at i ∷ []) []) is
       ∙ append_assoc before (filter among (take i letters)) (cond (bit_at w i == 1) (letter_at i ∷ []) [])
       ∙ ap (λ cs. before ++ cs) (sym spelled)
+
+-- where no bit is set from a place on, no letter from there on is in the set
+spelled-rest : (s : Set) (w i k : ℕ) → letters_in w ≡ s → w < 2 ^ i → i + k ≤ 52
+    → filter (λ c. set.contains s c) (take (i + k) letters) ≡ filter (λ c. set.contains s c) (take i letters)
+spelled-rest s w i zero seen small within = ap (λ n. filter (λ c. set.contains s c) (take n letters)) (omega arith)
+spelled-rest s w i (suc k) seen small within =
+    ap (λ n. filter (λ c. set.contains s c) (take n letters)) (omega arith)
+    ∙ spelled-no_more s w (i + k) seen (omega arith) (bit_at_above w i (i + k) small (omega arith))
+    ∙ spelled-rest s w i k seen small (omega arith)
+
+below_by_quotient : (w b : ℕ) → 0 < b → w / b ≡ 0 → w < b
+below_by_quotient w b some none = let small = subst (λ n. w < b * (n + 1)) none (lt-mul-div-succ w some) in omega arith
+
+-- so they are those of all letters
+pub spelled-whole : (s : Set) (w i : ℕ) → letters_in w ≡ s → w / 2 ^ i ≡ 0 → i < 52
+    → filter (λ c. set.contains s c) letters ≡ filter (λ c. set.contains s c) (take i letters)
+unfolding listed
+spelled-whole s w i seen none within =
+    let long : length letters ≡ 52 = ap length each-letter in
+    let end : 52 ≡ i + (52 - i) = omega arith in
+    sym (ap (filter (λ c. set.contains s c)) (take_all 52 letters (omega (arith, long))))
+    ∙ ap (λ n. filter (λ c. set.contains s c) (take n letters)) end
+    ∙ spelled-rest s w i (52 - i) seen (below_by_quotient w (2 ^ i) (pow_pos i) none) (omega arith)

@@ -1,9 +1,9 @@
 -- The first colon of a name, and the parts on both sides of it.
-use Rattle.std.proofs.Common.{◌≡◌, ℕ, ◌+◌, Option, Bool, true, false, cond, List, length, take, drop, None, Some, refl, sym, ap, ◌∙◌, arith}
+use Rattle.std.proofs.Common.{◌≡◌, ℕ, ◌+◌, Option, Bool, true, false, cond, List, length, take, drop, None, Some, refl, sym, ap, ◌∙◌, ◌<◌, arith, length-take-le}
 use Rattle.std.specs.Prelude.{position}
 use Rattle.std.proofs.lemmas.List.Sums.{position_or_len_is}
-use Rattle.std.specs.List.{after_first}
-use Rattle.md_name.proofs.Firsts.{placed, unplaced, found, not_found}
+use Rattle.std.specs.List.{after_first, position_or_len}
+use Rattle.md_name.proofs.Firsts.{placed, unplaced, place_within, found, not_found}
 use Rattle.memchr.specs.Find.{IsFirstByte, is_byte}
 use Rattle.md_name.specs.declared.info.Info.TheVariants.{Bare}
 use Rattle.md_name.specs.Names.{is_colon, unique_of, info_text, info_of, info_by}
@@ -38,3 +38,19 @@ unique_of-not_found name h = sym (not_found is_colon name h).1
 pub info_of-not_found : (name : List ℕ) → position is_colon name ≡ None → Bare ≡ info_of name
 unfolding info_text info_by
 info_of-not_found name h = ap (λ b. info_by (cond b (Some (after_first is_colon name)) None)) (sym (not_found is_colon name h).0)
+
+-- ---- a name with its unique part
+
+length_is_place : (name unique : List ℕ) → unique ≡ unique_of name → position_or_len is_colon name ≡ length unique
+unfolding unique_of
+length_is_place name unique is = sym (ap length is ∙ length-take-le (position_or_len is_colon name) name (place_within is_colon name))
+
+pub colon_behind : (name unique : List ℕ) → unique ≡ unique_of name → length unique < length name → Some (length unique) ≡ position is_colon name
+colon_behind name unique is within = sym (placed is_colon name (length unique) within (length_is_place name unique is))
+
+pub no_colon : (name unique : List ℕ) → unique ≡ unique_of name → (length unique < length name → ⊥) → None ≡ position is_colon name
+no_colon name unique is without =
+    let place = length_is_place name unique is in
+    let most = place_within is_colon name in
+    let whole : position_or_len is_colon name ≡ length name = omega (arith, place, most, without) in
+    sym (unplaced is_colon name whole)

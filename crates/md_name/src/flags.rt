@@ -1,5 +1,5 @@
 //! The flags of a message, a set of ASCII letters.
-ghost use Rattle.std.specs.Prelude.{◌≡◌, ◌++◌, ◌<◌, ◌≤◌, ℕ, filter, true, false, MatchResult, OnOk};
+ghost use Rattle.std.specs.Prelude.{◌≡◌, ◌++◌, ◌<◌, ◌≤◌, ℕ, filter, take, length, true, false, MatchResult, OnOk, OnErr};
 ghost use Rattle.std.specs.List.{list_all};
 ghost use Rattle.std.specs.FinSet as set;
 ghost use Rattle.md_name.specs.declared.error.NameError.TheVariants.{NoMemory, BadFlag};
@@ -125,12 +125,19 @@ impl Flags {
         Ok(text)
     }
 
-    /// Writes the letters after a text.
-    pub(crate) fn write_onto(self, text: &mut Vec<u8>) -> Result<(), AllocError>
-        ensures { OnOk result (text.new.items ≡ text.old.items ++ spelling self) }
+    /// Appends the letters of the flags in ASCII order, each once. It takes memory only where the text has no room for them. Where memory
+    /// runs out, the text is as it was, or has some of the letters more.
+    pub fn write_onto(self, text: &mut Vec<u8>) -> Result<(), AllocError>
+        ensures ok { OnOk result (text.new.items ≡ text.old.items ++ spelling self) }
+        ensures err { OnErr result (take (length text.old.items) text.new.items ≡ text.old.items) }
     {
         for (place, letter) in LETTERS.iter().enumerate() {
-            if (self.word >> place) & 1 == 1 {
+            let left = self.word >> place;
+            // Most flags are among the first letters.
+            if left == 0 {
+                return Ok(());
+            }
+            if left & 1 == 1 {
                 text.push(*letter)?;
             }
         }

@@ -87,13 +87,24 @@ fn parts(name: &[u8]) -> (&[u8], Info)
     }
 }
 
-/// Where the unique part of a name ends at a colon.
+/// Where the unique part of a name ends at a colon, which is the first.
 #[tactic(auto, using(crate::proofs::Colons::colon_place))]
-fn first_colon(name: &[u8]) -> Option<usize>
+pub fn first_colon(name: &[u8]) -> Option<usize>
     ensures found { result ≡ position is_colon name.now }
     ensures within { IfSome result (λ at. at < length name.now) }
 {
     memchr(COLON, name)
+}
+
+/// The same from the unique part of the name: no byte is looked at.
+#[tactic(auto, using(crate::proofs::Colons::colon_behind, crate::proofs::Colons::no_colon))]
+pub fn colon_after(name: &[u8], unique: &[u8]) -> Option<usize>
+    requires { unique.now ≡ unique_of name.now }
+    ensures found { result ≡ position is_colon name.now }
+    ensures within { IfSome result (λ at. at < length name.now) }
+{
+    let at = unique.len();
+    if at < name.len() { Some(at) } else { None }
 }
 
 /// The info that the text after a colon says.

@@ -1,7 +1,7 @@
 //! Worked names, and names that broke other programs.
 use md_name::{
-    Bytes, Flags, Info, NameError, UniqueParts, is_unique_name, laws, make_unique, split,
-    with_flags,
+    Bytes, Flags, Info, NameError, UniqueParts, first_colon, is_unique_name, laws, make_unique,
+    split, with_flags,
 };
 use std::alloc::{AllocError, Global};
 use std::test::Fail;
@@ -168,6 +168,20 @@ fn flags_are_read_joined_and_written(rt: HostRuntime) -> Result<(), Fail> {
     assert!(rt; is_text(with_flags(rt.alloc(), b"u", joined), b"u:2,FSa"));
     assert!(rt; Info::Two(joined).flags() == Some(joined));
     Ok(())
+}
+
+#[test]
+fn flags_are_appended(rt: HostRuntime) -> Result<(), Fail> {
+    let mut text = Vec::from_slice(rt.alloc(), b"u:2,")?;
+    Flags::parse(b"zSA")?.write_onto(&mut text)?;
+    assert!(rt; text.as_slice() == b"u:2,ASz".as_slice());
+    Ok(())
+}
+
+#[test]
+fn the_first_colon_is_found(rt: HostRuntime) {
+    assert!(rt; first_colon(b"a:b:2,S") == Some(1));
+    assert!(rt; first_colon(b"s,S=5") == None);
 }
 
 #[test]

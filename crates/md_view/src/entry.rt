@@ -1,10 +1,11 @@
 // What a listing shows of a message.
-ghost use Rattle.std.specs.Prelude.{◌≡◌, IfOk};
+ghost use Rattle.std.specs.Prelude.{◌≡◌, ◌<◌, IfOk, IfSome, length, position};
 ghost use Rattle.md_dirs.specs.Rows.{row_shown};
+ghost use Rattle.md_name.specs.Names.{is_colon};
 ghost use Rattle.md_view.specs.Rows.{entry_of_row};
 
 use md_dirs::{Place, RowRef};
-use md_name::{Bytes, message_unique};
+use md_name::{Bytes, colon_after, first_colon, message_unique};
 use std::alloc::{AllocError, Global};
 use std::marker::Model;
 
@@ -39,6 +40,7 @@ impl Entry {
             place: self.place,
             name: self.name.as_slice(),
             size: self.size,
+            is_own: false,
         }
     }
 }
@@ -50,14 +52,20 @@ pub struct EntryRef<'a> {
     place: Place,
     name: &'a [u8],
     size: u64,
+    // The unique name is known to be that of the name, whose colon is found by it with no look.
+    is_own: bool,
 }
 
 impl<'a> Model for EntryRef<'a> {
+    ghost use Rattle.std.specs.Prelude.{◌≡◌, true};
+    ghost use Rattle.md_name.specs.Names.{unique_of};
     ghost use Rattle.md_view.specs.declared.entry.Entry.{Entry};
 
     ghost Value = { Entry };
 
     ghost view = { λ e. record { unique = e.unique.now; place = e.place; name = e.name.now; size = e.size } };
+
+    ghost invariant = { λ e. e.is_own ≡ true → e.unique.now ≡ unique_of e.name.now };
 }
 
 impl<'a> EntryRef<'a> {
@@ -69,6 +77,7 @@ impl<'a> EntryRef<'a> {
             place,
             name,
             size,
+            is_own: false,
         }
     }
 
@@ -93,6 +102,18 @@ impl<'a> EntryRef<'a> {
         self.name
     }
 
+    /// Where the first colon of the whole name is, before the info. Of a directory's entry no byte is looked at.
+    pub fn colon(&self) -> Option<usize>
+        ensures found { result ≡ position is_colon self.now.name }
+        ensures within { IfSome result (λ at. at < length self.now.name) }
+    {
+        if self.is_own {
+            colon_after(self.name, self.unique)
+        } else {
+            first_colon(self.name)
+        }
+    }
+
     /// The size of the message in bytes.
     pub fn size(&self) -> u64
         ensures { result ≡ self.now.size }
@@ -109,6 +130,7 @@ impl<'a> EntryRef<'a> {
             place: self.place,
             name: self.name,
             size: self.size,
+            is_own: self.is_own,
         }
     }
 
@@ -125,7 +147,7 @@ impl<'a> EntryRef<'a> {
     }
 
     // The entry of a row of a directory, if it is a message's.
-    #[tactic(auto, using(crate::proofs::Parts::entry_by))]
+    #[tactic(auto, using(crate::proofs::Parts::entry_by, crate::proofs::Parts::own_unique))]
     pub(crate) fn of_row(place: Place, row: RowRef<'a>) -> Option<EntryRef<'a>>
         ensures { result ≡ entry_of_row place (row_shown row.entry) }
     {
@@ -135,6 +157,7 @@ impl<'a> EntryRef<'a> {
             place,
             name: row.name,
             size: row.size,
+            is_own: true,
         })
     }
 }
