@@ -7,7 +7,8 @@ use Rattle.std.proofs.lemmas.List.{length-set, set-append_left, set-append_right
 use Rattle.std.proofs.lemmas.List.Concat.{flat_map-append, get_or-flat_map}
 use Rattle.std.specs.declared.vec.Vec.{Vec}
 use Rattle.md_dirs.specs.declared.index.positions.Spot.{Spot}
-use Rattle.md_dirs.specs.Positions.{joined, start, IsSpot, AreEnds}
+use Rattle.md_dirs.specs.declared.index.positions.Part.{Part}
+use Rattle.md_dirs.specs.Positions.{joined, start, IsSpot, IsPart, AreEnds}
 
 module _ {Z : Type 0} where
   abbrev items : Vec ℕ Z → List ℕ
@@ -194,6 +195,28 @@ module _ {Z : Type 0} where
       let one = start-cons c (remove bs k) j in
       let two = start-cons c bs (suc j) in
       omega (arith, rest, one, two)
+
+-- a block is a part of the list
+pub part-of : {Z : Type 0} (blocks : List (Vec ℕ Z)) (k : ℕ) (b : Vec ℕ Z) (part : Part) → k < length blocks → b ≡ get_or blocks k b →
+    part.before ≡ start blocks k → part.positions.now ≡ b.items → IsPart (joined blocks) part
+part-of blocks k b part within is before items =
+    let next = start-next blocks k b within is in
+    let most = start-most blocks (k + 1) in
+    let long = ap length items in
+    record {
+      within = omega (arith, next, most, long, before);
+      each = λ i h.
+          ap (λ xs. get_or xs i 0) items ∙ sym (ap (λ n. get_or (joined blocks) (n + i) 0) before ∙ at-spot blocks k i b 0 within is (omega (arith, h, long)));
+    }
+
+-- so is nothing
+pub no-part : (positions : List ℕ) (part : Part) → part.before ≡ 0 → part.positions.now ≡ [] → IsPart positions part
+no-part positions part before none =
+    let long = ap length none in
+    record {
+      within = omega (arith, before, long);
+      each = λ i h. absurd (omega (arith, h, long));
+    }
 
 by_order : {C : Type 0} (a b : ℕ) → (a < b → C) → (b ≤ a → C) → C
 by_order {C = C} a b below not_below = elim (nat_lt a b) as (λ t. nat_lt a b ≡ t → C) [

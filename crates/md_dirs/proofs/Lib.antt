@@ -13,6 +13,7 @@ pub mod NameRows
 pub mod Renamed
 pub mod Ordered
 pub mod Zones
+pub mod Edges
 pub mod Directories
 pub mod Sliced
 pub mod Looked

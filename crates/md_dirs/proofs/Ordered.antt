@@ -36,7 +36,7 @@ by_number {C = C} j k is not_is = elim (nat_eq j k) as (λ b. nat_eq j k ≡ b �
 ] refl
 
 -- a later row in order has a later name
-rises : (es : Rows) (j k : ℕ) → T (is_sorted name_cmp es) → j < k → k < length es → name_cmp (get_or es j ([], 0)).0 (get_or es k ([], 0)).0 ≡ Less
+pub rises : (es : Rows) (j k : ℕ) → T (is_sorted name_cmp es) → j < k → k < length es → name_cmp (get_or es j ([], 0)).0 (get_or es k ([], 0)).0 ≡ Less
 rises [] j k h lt within = absurd (omega arith)
 rises (e ∷ es) j zero h lt within = absurd (omega arith)
 rises (e ∷ es) zero (suc k) h lt within = below-at e.0 es k ([], 0) (omega arith) (first _ _ h)

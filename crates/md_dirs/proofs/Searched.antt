@@ -1,14 +1,45 @@
 -- Where a search among rows in order ends.
-use Rattle.std.proofs.Common.{ℕ, zero, suc, List, [], ◌≡◌, refl, subst, arith, inl, inr, ◌+◌, ◌-◌, ◌<◌, ◌≤◌, IsTrue, length, take, get_or}
+use Rattle.std.proofs.Common.{ℕ, zero, suc, List, [], ◌≡◌, ◌∙◌, refl, sym, ap, subst, arith, inl, inr, ◌+◌, ◌-◌, ◌<◌, ◌≤◌, IsTrue, length, take, get_or}
 use Rattle.std.proofs.lemmas.List.{get_or_default}
-use Rattle.std.specs.declared.cmp.Ordering.TheVariants.{Less, Equal}
+use Rattle.std.specs.declared.cmp.Ordering.TheVariants.{Less, Equal, Greater}
 use Rattle.std.specs.FinMap as finmap
 use Rattle.std.specs.FinMap.{entries_sorted}
-use Rattle.md_dirs.specs.Index.{NameMap, name_cmp, order_at, IsBetween}
+use Rattle.md_dirs.specs.Index.{NameMap, name_cmp, order_at, IsBetween, IsOrderOf}
 use Rattle.md_dirs.specs.Plain.{IsAt, IsGap}
 use Rattle.md_dirs.proofs.NameRows.{name_total, name_exact}
-use Rattle.md_dirs.proofs.Ordered.{by_number}
+use Rattle.md_dirs.proofs.Ordered.{by_number, listed, long, at-place}
 use Rattle.md_dirs.proofs.Sorted.{is_true, all_below, all_below-to, at-row, gap-between, EndsAbove}
+
+-- the row of a place in the order of the names
+module _ (rows : List (List ℕ × ℕ)) (order : List ℕ) (is : IsOrderOf rows order) (at row : ℕ) (within : at < length (listed rows)) (read : row ≡ get_or order at 0) where
+  inner : at < length order
+  inner = let same = long rows order is in omega (arith, within, same)
+
+  pub row-within : row < length rows
+  row-within = let low = is.within at 0 inner in omega (arith, low, read)
+
+  pub looked : (name : List ℕ) → order_at rows row name ≡ order_at (listed rows) at name
+  looked name = sym (ap (λ (e : List ℕ × ℕ). name_cmp e.0 name) (at-place rows order is at inner ∙ ap (λ i. get_or rows i ([], 0)) (sym read)))
+
+-- halving goes on behind a row that is below a name, or before one that is above it
+module _ (rows : List (List ℕ × ℕ)) (name : List ℕ) (low high m : ℕ) (between : IsBetween rows name low high) (from : low ≤ m) (to : m < high) where
+  pub goes-behind : order_at rows m name ≡ Less → IsBetween rows name (m + 1) high
+  goes-behind less =
+      let one : m ≡ m + 1 - 1 = omega arith in
+      record {
+        ordered = omega arith;
+        within = between.within;
+        below = λ h. subst (λ n. order_at rows n name ≡ Less) one less;
+        above = between.above;
+      }
+
+  pub goes-before : order_at rows m name ≡ Greater → IsBetween rows name low m
+  goes-before greater = record {
+    ordered = from;
+    within = omega (arith, between.within);
+    below = between.below;
+    above = λ h. greater;
+  }
 
 module _ (m : NameMap) (name : List ℕ) where
   -- a row that was looked at is below the name: so is all up to it

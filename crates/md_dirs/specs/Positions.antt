@@ -2,6 +2,7 @@
 use Rattle.std.specs.Prelude.{ℕ, ◌≡◌, ◌<◌, ◌≤◌, ◌+◌, List, length, take, slice_index_or, flat_map}
 use Rattle.std.specs.declared.vec.Vec.{Vec}
 use Rattle.md_dirs.specs.declared.index.positions.Spot.{Spot}
+use Rattle.md_dirs.specs.declared.index.positions.Part.{Part}
 
 -- the positions of blocks, one block after another
 abbrev pub joined : {Z : Type 0} → List (Vec ℕ Z) → List ℕ
@@ -27,3 +28,8 @@ IsRoom blocks s = (s.block ≤ length blocks) × (place blocks s ≤ start block
 pub record AreEnds {Z : Type 0} (blocks : List (Vec ℕ Z)) (ends : List ℕ) : Type 0 where
   pub long : length ends ≡ length blocks
   pub each : (k : ℕ) → k < length blocks → slice_index_or ends k 0 ≡ start blocks (k + 1)
+
+-- positions that stand side by side in a list
+pub record IsPart (positions : List ℕ) (part : Part) : Type 0 where
+  pub within : part.before + length part.positions.now ≤ length positions
+  pub each : (k : ℕ) → k < length part.positions.now → slice_index_or part.positions.now k 0 ≡ slice_index_or positions (part.before + k) 0

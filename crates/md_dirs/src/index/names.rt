@@ -8,12 +8,13 @@ ghost use Rattle.md_dirs.specs.Files.{files_of, name_row};
 ghost use Rattle.md_dirs.specs.Slots.{slots_of};
 ghost use Rattle.md_dirs.specs.Rows.{is_named as is_named_by};
 ghost use Rattle.md_dirs.specs.Plain.{IsAt, IsGap};
-ghost use Rattle.md_dirs.specs.Keys.{IsKeyOf, IsIndexOf};
+ghost use Rattle.md_dirs.specs.Find.{IsEdge};
+ghost use Rattle.md_dirs.specs.Keys.{AreKeysOf, HasKey, IsIndexOf, sought_name};
 ghost use Rattle.md_dirs.specs.Index.{name_cmp, order_at, IsBetween, FitsAt, get_name, Renames};
 
 use crate::files::shown_row;
-use crate::finding::{Edge, InOrder, edge_place};
-use crate::index::key::key_of;
+use crate::finding::{Edge, InOrder};
+use crate::index::key::{Sought, key_at, key_of};
 use crate::index::positions::{Near, Positions};
 use crate::index::tops::{Tops, top_of};
 use crate::name_key::NameKey;
@@ -79,6 +80,39 @@ fn replace_row(
     Ok(())
 }
 
+// How the name of a row compares with one that is looked for. Apart, since few looks of a search come to it.
+#[inline(never)]
+fn compare_name(
+    rows: &IndexMap<NameKey<'static>, usize>,
+    row: usize,
+    sought: Sought<'_>,
+) -> Ordering
+    requires { row < length rows.now.entries }
+    ensures { result ≡ order_at rows.now.entries row (sought_name sought.entry) }
+{
+    let (name, _) = rows.get_index(row).unwrap();
+    sought.compare(name.as_slice())
+}
+
+// The same by the keys, and where these are equal by the names.
+#[inline(always)]
+fn compare_row(
+    rows: &IndexMap<NameKey<'static>, usize>,
+    keys: &[u128],
+    row: usize,
+    sought: Sought<'_>,
+) -> Ordering
+    requires keyed { AreKeysOf rows.now.entries keys.now }
+    requires within { row < length rows.now.entries }
+    requires key { HasKey sought }
+    ensures { result ≡ order_at rows.now.entries row (sought_name sought.entry) }
+{
+    match keys[row].cmp(&sought.key) {
+        Ordering::Equal => compare_name(rows, row, sought),
+        differs => differs,
+    }
+}
+
 impl Names {
     /// The names of rows, whose keys and order these are.
     pub(crate) fn of(
@@ -120,38 +154,23 @@ impl Names {
         (name.as_slice(), *file)
     }
 
-    // The row at a position that is looked for in a block first. Apart, since few looks of a search come to it.
-    #[inline(never)]
-    fn row_near(&self, near: Near) -> (&[u8], usize)
-        requires { near.at < length (finmap.entries self.now) }
-        ensures { (result.0.now, result.1) ≡ slice_index_or (finmap.entries self.now) near.at ([], 0) }
-    {
-        let (name, file) = self.rows.get_index(self.order.get_near(near)).unwrap();
-        (name.as_slice(), *file)
-    }
-
-    // How the row at a position compares with a name of a key: by the keys, and where these are equal by the names. Inline, so that
-    // a search looks up once where its block is.
+    // How the row at a position compares with a name that is looked for.
     #[inline(always)]
-    fn compare_at(&self, near: Near, key: u128, name: &[u8]) -> Ordering
+    fn compare_at(&self, near: Near, sought: Sought<'_>) -> Ordering
         requires within { near.at < length (finmap.entries self.now) }
-        requires key { IsKeyOf key name.now }
-        ensures { result ≡ order_at (finmap.entries self.now) near.at name.now }
+        requires key { HasKey sought }
+        ensures { result ≡ order_at (finmap.entries self.now) near.at (sought_name sought.entry) }
     {
-        let row = self.order.get_near(near);
-        match self.keys[row].cmp(&key) {
-            Ordering::Equal => self.row_near(near).0.cmp(name),
-            differs => differs,
-        }
+        compare_row(&self.rows, &self.keys, self.order.get_near(near), sought)
     }
 
-    // Where a name of a key may stand, by the last rows of blocks: those of the block that is guessed and of the one before it, and where
+    // Where a name may stand that is looked for, by the last rows of blocks: those of the block that is guessed and of the one before it, and where
     // the guess was wrong by halving.
-    fn narrow(&self, end: Near, key: u128, name: &[u8]) -> Result<Near, Stretch>
+    fn narrow(&self, end: Near, sought: Sought<'_>) -> Result<Near, Stretch>
         requires end { end.at ≡ length (finmap.entries self.now) }
-        requires key { IsKeyOf key name.now }
-        ensures found { IfOk result (λ near. IsAt name_cmp (finmap.entries self.now) name.now near.at) }
-        ensures between { IfErr result (λ s. IsBetween (finmap.entries self.now) name.now s.low s.high) }
+        requires key { HasKey sought }
+        ensures found { IfOk result (λ near. IsAt name_cmp (finmap.entries self.now) (sought_name sought.entry) near.at) }
+        ensures between { IfErr result (λ s. IsBetween (finmap.entries self.now) (sought_name sought.entry) s.low s.high) }
     {
         let mut stretch = Stretch {
             low: 0,
@@ -159,7 +178,7 @@ impl Names {
             block: 0,
         };
         let mut behind = end.block;
-        let mut guess = self.tops.guess(key);
+        let mut guess = self.tops.guess(sought.key);
         while stretch.block < behind {
             let middle = guess.middle(stretch.block, behind);
             guess = guess.before(middle);
@@ -170,7 +189,7 @@ impl Names {
                 break;
             }
             let near = Near { at, block: middle };
-            match self.compare_at(near, key, name) {
+            match self.compare_at(near, sought) {
                 Ordering::Less => {
                     stretch.low = at + 1;
                     stretch.block = middle + 1;
@@ -185,11 +204,57 @@ impl Names {
         Err(stretch)
     }
 
-    // Where the row of a name of a key is, or where it would go: by halving in the block where it may stand.
-    fn search(&self, key: u128, name: &[u8]) -> Result<Near, Near>
-        requires key { IsKeyOf key name.now }
-        ensures found { IfOk result (λ near. IsAt name_cmp (finmap.entries self.now) name.now near.at) }
-        ensures absent { IfErr result (λ near. IsGap name_cmp (finmap.entries self.now) name.now near.at) }
+    // Where rows of a stretch begin whose keys are not below that of a name: those before are below it. By halving, and without a look
+    // at a name.
+    fn pass_keys(&self, stretch: Stretch, sought: Sought<'_>) -> usize
+        requires between { IsBetween (finmap.entries self.now) (sought_name sought) stretch.low stretch.high }
+        requires key { HasKey sought }
+        ensures { IsBetween (finmap.entries self.now) (sought_name sought.entry) result stretch.high }
+    {
+        let part = self.order.part(stretch.block);
+        let mut low = stretch.low;
+        let mut high = stretch.high;
+        while low < high {
+            let at = low + (high - low) / 2;
+            let row = self.order.get_in(part, at);
+            if self.keys[row] < sought.key {
+                low = at + 1;
+            } else {
+                high = at;
+            }
+        }
+        low
+    }
+
+    // Where the row of a name is that is looked for, or where it would go, in a stretch: behind the rows of lower keys, and among those of
+    // its key by halving.
+    fn halve(&self, stretch: Stretch, sought: Sought<'_>) -> Result<Near, Near>
+        requires between { IsBetween (finmap.entries self.now) (sought_name sought) stretch.low stretch.high }
+        requires key { HasKey sought }
+        ensures found { IfOk result (λ near. IsAt name_cmp (finmap.entries self.now) (sought_name sought.entry) near.at) }
+        ensures absent { IfErr result (λ near. IsGap name_cmp (finmap.entries self.now) (sought_name sought.entry) near.at) }
+    {
+        let block = stretch.block;
+        let mut low = self.pass_keys(stretch, sought);
+        let mut high = stretch.high;
+        let mut at = low;
+        while low < high {
+            let near = Near { at, block };
+            match self.compare_at(near, sought) {
+                Ordering::Less => low = at + 1,
+                Ordering::Equal => return Ok(near),
+                Ordering::Greater => high = at,
+            }
+            at = low + (high - low) / 2;
+        }
+        Err(Near { at: low, block })
+    }
+
+    // Where the row of a name is that is looked for, or where it would go: in the block where it may stand.
+    fn search(&self, sought: Sought<'_>) -> Result<Near, Near>
+        requires key { HasKey sought }
+        ensures found { IfOk result (λ near. IsAt name_cmp (finmap.entries self.now) (sought_name sought.entry) near.at) }
+        ensures absent { IfErr result (λ near. IsGap name_cmp (finmap.entries self.now) (sought_name sought.entry) near.at) }
     {
         let end = self.order.end();
         // Names come in the order of time, so the last row is looked at first.
@@ -198,39 +263,25 @@ impl Names {
                 at: end.at - 1,
                 block: end.block,
             };
-            if self.compare_at(last, key, name).is_lt() {
-                return Err(end);
+            match self.compare_at(last, sought) {
+                Ordering::Less => return Err(end),
+                Ordering::Equal => return Ok(last),
+                Ordering::Greater => {}
             }
         }
-        let Stretch {
-            mut low,
-            mut high,
-            block,
-        } = match self.narrow(end, key, name) {
-            Ok(near) => return Ok(near),
-            Err(stretch) => stretch,
-        };
-        while low < high {
-            let middle = Near {
-                at: low + (high - low) / 2,
-                block,
-            };
-            match self.compare_at(middle, key, name) {
-                Ordering::Less => low = middle.at + 1,
-                Ordering::Equal => return Ok(middle),
-                Ordering::Greater => high = middle.at,
-            }
+        match self.narrow(end, sought) {
+            Ok(near) => Ok(near),
+            Err(stretch) => self.halve(stretch, sought),
         }
-        Err(Near { at: low, block })
     }
 
-    // Where the row of a name of a key is that is there.
-    fn place_of(&self, key: u128, name: &[u8]) -> Near
-        requires key { IsKeyOf key name.now }
-        requires there { IsSome (finmap.get self.now name.now) }
-        ensures { IsAt name_cmp (finmap.entries self.now) name.now result.at }
+    // Where the row of a name is that is there.
+    fn place_of(&self, sought: Sought<'_>) -> Near
+        requires key { HasKey sought }
+        requires there { IsSome (finmap.get self.now (sought_name sought)) }
+        ensures { IsAt name_cmp (finmap.entries self.now) (sought_name sought.entry) result.at }
     {
-        let Ok(near) = self.search(key, name) else {
+        let Ok(near) = self.search(sought) else {
             unreachable!();
         };
         near
@@ -246,26 +297,24 @@ impl Names {
         if row < self.order.len() && self.order.get(row) == row {
             return Some(Near { at: row, block: 0 });
         }
-        self.search(key_of(name), name).ok()
+        self.search(Sought {
+            key: key_of(name),
+            unique: name,
+            edge: Edge::Name,
+        })
+        .ok()
     }
 
-    // Whether a name of a key may take the place of the row at a position: it is above the row before and below the row after.
-    fn keeps_place(&self, near: Near, key: u128, name: &[u8]) -> bool
+    // Whether a name that is looked for may take the place of the row at a position: it is above the row before and below the row after.
+    fn keeps_place(&self, near: Near, sought: Sought<'_>) -> bool
         requires within { near.at < length (finmap.entries self.now) }
-        requires key { IsKeyOf key name.now }
-        ensures { IsTrue result → FitsAt (finmap.entries self.now) near.at name.now }
+        requires key { HasKey sought }
+        ensures { IsTrue result → FitsAt (finmap.entries self.now) near.at (sought_name sought.entry) }
     {
         let count = self.count();
         let Near { at, block } = near;
-        let is_after = at == 0
-            || self
-                .compare_at(Near { at: at - 1, block }, key, name)
-                .is_lt();
-        is_after
-            && (at + 1 == count
-                || self
-                    .compare_at(Near { at: at + 1, block }, key, name)
-                    .is_gt())
+        let is_after = at == 0 || self.compare_at(Near { at: at - 1, block }, sought).is_lt();
+        is_after && (at + 1 == count || self.compare_at(Near { at: at + 1, block }, sought).is_gt())
     }
 
     /// The number of the file of a name.
@@ -284,7 +333,12 @@ impl Names {
         let last = self.rows.len();
         let bytes = name.as_slice();
         let key = key_of(bytes);
-        let Err(near) = self.search(key, bytes) else {
+        let sought = Sought {
+            key,
+            unique: bytes,
+            edge: Edge::Name,
+        };
+        let Err(near) = self.search(sought) else {
             self.rows.insert(name, file)?;
             return Ok(());
         };
@@ -308,14 +362,27 @@ impl Names {
         ensures file { option_map (λ taken. taken.0) result ≡ finmap.get self.old name.now }
         ensures gone { self.new ≡ finmap.remove self.old name.now }
     {
-        let Ok(near) = self.search(key_of(name), name) else {
+        let sought = Sought {
+            key: key_of(name),
+            unique: name,
+            edge: Edge::Name,
+        };
+        let Ok(near) = self.search(sought) else {
             return None;
         };
         let gone = self.order.get_near(near);
-        // The last row of the table goes to the position that comes free.
+        // The last row of the table goes to the position that comes free, unless it is the one that goes.
         let last = self.rows.len() - 1;
-        let (end, _) = self.rows.get_index(last).unwrap();
-        let moved = self.place_of(self.keys[last], end.as_slice());
+        let moved = if gone == last {
+            near
+        } else {
+            let (end, _) = self.rows.get_index(last).unwrap();
+            self.place_of(Sought {
+                key: self.keys[last],
+                unique: end.as_slice(),
+                edge: Edge::Name,
+            })
+        };
         self.order.set(moved, gone);
         self.order.remove(near);
         self.keys.swap_remove(gone);
@@ -349,8 +416,14 @@ impl Names {
         ensures err { OnErr result (self.new ≡ self.old) }
     {
         if let Some(near) = self.hashed_place(old) {
-            let key = key_of(new.as_slice());
-            if self.keeps_place(near, key, new.as_slice()) {
+            let unique = new.as_slice();
+            let key = key_of(unique);
+            let sought = Sought {
+                key,
+                unique,
+                edge: Edge::Name,
+            };
+            if self.keeps_place(near, sought) {
                 let row = self.order.get_near(near);
                 replace_row(&mut self.rows, row, new, file)?;
                 self.keys[row] = key;
@@ -365,6 +438,21 @@ impl Names {
         Ok(())
     }
 
+    // Where the names begin that are not below a unique name with a colon.
+    fn info_place(&self, unique: &[u8]) -> usize
+        ensures { IsEdge (finmap.entries self.now) unique.now 3 result }
+    {
+        let sought = Sought {
+            key: key_at(unique, Edge::Info),
+            unique,
+            edge: Edge::Info,
+        };
+        match self.search(sought) {
+            Ok(near) => near.at,
+            Err(near) => near.at,
+        }
+    }
+
     /// The first name that is a unique name, or a unique name, a colon and more (maildir(5)), and the number of its file: by
     /// hash where it is the unique name, and else by halving.
     pub fn find(&self, unique: &[u8]) -> Option<(&[u8], usize)>
@@ -375,7 +463,7 @@ impl Names {
             let (name, file) = self.rows.get_index(at).unwrap();
             return Some((name.as_slice(), *file));
         }
-        let (name, file) = self.row_at(edge_place(self, unique, Edge::Info))?;
+        let (name, file) = self.row_at(self.info_place(unique))?;
         if is_named(name, unique) {
             Some((name, file))
         } else {

@@ -1,6 +1,6 @@
 // A list of positions in blocks.
 ghost use Rattle.std.specs.Prelude.{ℕ, ◌≡◌, ◌<◌, ◌≤◌, ◌+◌, ◌^◌, [], OnOk, OnErr, length, slice_index_or, slice_set, insert, remove};
-ghost use Rattle.md_dirs.specs.Positions.{AreEnds, IsRoom, IsSpot, joined, start, place};
+ghost use Rattle.md_dirs.specs.Positions.{AreEnds, IsPart, IsRoom, IsSpot, joined, start, place};
 
 use std::alloc::{AllocError, Global};
 use std::marker::Model;
@@ -21,6 +21,13 @@ pub(crate) struct Spot {
 pub struct Near {
     pub at: usize,
     pub block: usize,
+}
+
+/// The positions of a block, and how many stand before them.
+#[derive(Clone, Copy)]
+pub struct Part<'a> {
+    before: usize,
+    positions: &'a [usize],
 }
 
 /// A list of positions in blocks: one that comes or goes moves those of its block alone, and a word for each block after it.
@@ -332,6 +339,37 @@ impl Positions {
     {
         let spot = spot_near(&self.blocks, &self.ends, near);
         self.blocks[spot.block][spot.at]
+    }
+
+    /// A block as a part of the list. One that isn't there is empty.
+    pub fn part(&self, block: usize) -> Part<'_>
+        ensures { IsPart self.now result }
+    {
+        match self.blocks.get(block) {
+            Some(positions) => Part {
+                before: count_before(&self.blocks, &self.ends, block),
+                positions: positions.as_slice(),
+            },
+            None => Part {
+                before: 0,
+                positions: &[],
+            },
+        }
+    }
+
+    /// The position at a place, which is mostly in a part. Inline, so that a search reads the part alone.
+    #[inline(always)]
+    pub fn get_in(&self, part: Part<'_>, at: usize) -> usize
+        requires part { IsPart self.now part }
+        requires within { at < length self.now }
+        ensures { result ≡ slice_index_or self.now at 0 }
+    {
+        if let Some(inner) = at.checked_sub(part.before)
+            && let Some(position) = part.positions.get(inner)
+        {
+            return *position;
+        }
+        self.get(at)
     }
 
     /// Puts a position in the place of one.

@@ -283,3 +283,90 @@ fn blocks_are_filled_and_emptied(rt: HostRuntime) {
         }
     }
 }
+
+// A unique name of a number, in one of four shapes: alike in more than 16 bytes, shorter than that, and with a byte 0 or 255 behind
+// it. Those of one shape and length begin alike, and some are the beginnings of others.
+fn unique_of(alloc: Global, number: u32) -> Result<Vec<u8>, AllocError> {
+    let mut unique = Vec::new(alloc);
+    if number % 2 == 0 {
+        unique.extend_from_slice(b"1700000000.M123456P")?;
+    }
+    let mut left = number / 8;
+    for _ in 0..4 {
+        if left > 0 {
+            unique.push(b'0' + (left % 10) as u8)?;
+        }
+        left /= 10;
+    }
+    match number / 2 % 4 {
+        0 | 1 => {}
+        2 => unique.push(0)?,
+        _ => unique.push(255)?,
+    }
+    Ok(unique)
+}
+
+// What comes behind a unique name: information, or bytes below and above the colon.
+static BEHIND: [&[u8]; 8] = [
+    b"", b":2,", b":2,S", b"9:2,", b";2,", b":", b"\x00", b"\xff",
+];
+
+// Whether a name is a unique name, or it with a colon and more.
+fn is_message(name: &[u8], unique: &[u8]) -> bool {
+    match name.strip_prefix(unique) {
+        None => false,
+        Some(rest) => rest.is_empty() || rest[0] == b':',
+    }
+}
+
+// Whether a directory finds the first of the listed names that has a unique name.
+fn finds_first(listed: &mut Listed, unique: &[u8]) -> Result<bool, DirError> {
+    let found = listed.dirs.find(0, Place::Cur, unique)?;
+    let first = listed
+        .names
+        .iter()
+        .find(|named| is_message(named.name.as_slice(), unique));
+    Ok(match (found, first) {
+        (None, None) => true,
+        (Some(row), Some(named)) => row.name.as_slice() == named.name.as_slice(),
+        _ => false,
+    })
+}
+
+// So many names come, in an order that looks random, and each unique name is looked for.
+fn find_all(rt: &impl Abort, alloc: Global, count: u32) -> Result<(), DirError> {
+    let mut listed = Listed::new(alloc);
+    let mut numbers = Numbers { state: 20261126 };
+    let bound = count.max(1);
+    for _ in 0..count {
+        let mut name = unique_of(alloc, numbers.below(bound))?;
+        name.extend_from_slice(BEHIND[numbers.below(8) as usize])?;
+        if listed.file_of(name.as_slice()).is_none() {
+            let path = Path {
+                folder: 0,
+                place: Place::Cur,
+                name: Bytes::copied(alloc, name.as_slice())?,
+            };
+            listed.dirs.create(&path, 1)?;
+            listed.list_name(name, 0)?;
+        }
+    }
+    assert!(rt; listed.is_shown(), "{count} names");
+    for number in 0..bound {
+        let unique = unique_of(alloc, number)?;
+        let finds = finds_first(&mut listed, unique.as_slice())?;
+        assert!(rt; finds, "{number} of {count}");
+    }
+    Ok(())
+}
+
+#[test]
+fn unique_names_are_found_among_many(rt: HostRuntime) {
+    for count in [1u32, 8, 100, 255, 600, 1500] {
+        let done = find_all(&rt, rt.alloc(), count);
+        assert!(rt;
+            matches!(done, Ok(()) | Err(DirError::NoMemory)),
+            "{count} names"
+        );
+    }
+}

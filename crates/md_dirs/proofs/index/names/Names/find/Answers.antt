@@ -7,7 +7,6 @@ use Rattle.md_dirs.specs.Rows.{is_named as is_named_by}
 use Rattle.md_dirs.specs.Index.{name_cmp, get_name}
 use Rattle.md_dirs.proofs.NameRows.{get-loose}
 use Rattle.md_dirs.proofs.Renamed.{found-key}
-use Rattle.md_dirs.proofs.Sorted.{is_true}
 use Rattle.md_dirs.proofs.Zones.{first-is-name, first-is-info}
 use Rattle.md_dirs.proofs.index.names.Names.find.Goals as goal
 use Rattle.md_dirs.proofs.index.names.Names.find.Goals.{In_default}
@@ -39,8 +38,8 @@ pub returns-in_err-name : goal.returns-in_err-name
 returns-in_err-name c =
     let m = c.args.self.now in
     let u = c.args.unique.now in
-    rw (c.from_residual.ensures) (sym (first-is-info u (finmap.entries m) c.edge_place.result (entries_sorted m) (absent
-    (goal.at.returns-in_err-name c).In_default) c.edge_place.ensures ∙
+    rw (c.from_residual.ensures) (sym (first-is-info u (finmap.entries m) c.info_place.result (entries_sorted m) (absent
+    (goal.at.returns-in_err-name c).In_default) c.info_place.ensures ∙
     ap (option_and_then (λ (e : List ℕ × ℕ). cond (is_named_by u e.0) (Some e) None)) (sym c.in_err-name.ensures.row)))
 
 pub returns-then-is_named : goal.returns-then-is_named
@@ -48,7 +47,7 @@ returns-then-is_named c =
     let m = c.args.self.now in
     let u = c.args.unique.now in
     let row : List ℕ × ℕ = (c.in_ok-name.name.now, c.in_ok-name.file) in
-    sym (first-is-info u (finmap.entries m) c.edge_place.result (entries_sorted m) (absent (goal.at.returns-then-is_named c).In_default) c.edge_place.ensures ∙
+    sym (first-is-info u (finmap.entries m) c.info_place.result (entries_sorted m) (absent (goal.at.returns-then-is_named c).In_default) c.info_place.ensures ∙
     ap (option_and_then (λ (e : List ℕ × ℕ). cond (is_named_by u e.0) (Some e) None)) (sym c.in_ok-name.ensures.row) ∙
     ap (λ b. cond b (Some row) None) (sym c.if-is_named.ensures))
 
@@ -57,9 +56,6 @@ returns c =
     let m = c.args.self.now in
     let u = c.args.unique.now in
     let row : List ℕ × ℕ = (c.in_ok-name.name.now, c.in_ok-name.file) in
-    sym (first-is-info u (finmap.entries m) c.edge_place.result (entries_sorted m) (absent (goal.at.returns c).In_default) c.edge_place.ensures ∙
+    sym (first-is-info u (finmap.entries m) c.info_place.result (entries_sorted m) (absent (goal.at.returns c).In_default) c.info_place.ensures ∙
     ap (option_and_then (λ (e : List ℕ × ℕ). cond (is_named_by u e.0) (Some e) None)) (sym c.in_ok-name.ensures.row) ∙
     ap (λ b. cond b (Some row) None) (sym c.if-is_named.ensures))
-
-pub edge_place-requires : goal.edge_place-requires
-edge_place-requires c = is_true _ (entries_sorted c.args.self.now)

@@ -35,12 +35,12 @@ invariant_of-self-then-keeps_place c =
     let new : List ℕ × ℕ = (c.args.new, c.args.file) in
     let there = rw (← c.self.view_is) at c.in-Some.ensures in
     let none = rw (← c.self.view_is) at c.requires in
-    let fits = rw (c.as_slice-in-Some.ensures, ← c.self.view_is) at (c.keeps_place.ensures c.if-keeps_place.true) in
+    let fits = rw (c.as_slice-unique.ensures, ← c.self.view_is) at (c.keeps_place.ensures c.if-keeps_place.true) in
     let view = rw (← c.self.view_is) at (returns-then-keeps_place-clause-ok c) in
     let row = position (goal.at.invariant_of-self-then-keeps_place c).In_ok-replace_row in
     let made = c.in_ok-replace_row.ensures.entries ∙ ap (λ i. slice_set es i new) row in
     let key = ap (λ i. slice_set keys i c.key_of-key.result) row in
-    let is-key = rw c.as_slice.ensures at c.key_of-key.ensures in
+    let is-key = rw c.as_slice-unique.ensures at c.key_of-key.ensures in
     record {
       keyed = rw (made, key) (key-set es keys c.self.invariant.keyed (get_or order c.in-Some.near.at 0) new c.key_of-key.result
           (in-table es order is c.args.old.now c.in-Some.near.at there) is-key);
