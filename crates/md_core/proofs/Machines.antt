@@ -4,3 +4,4 @@ pub mod Deliver
 pub mod Errand
 pub mod Clean
 pub mod EachTurn
+pub mod Wrapping

@@ -19,7 +19,7 @@ pub record JobView : Type 0 where
 
 -- how far a job is, as the program holds it
 abbrev pub standing_by : Progress → Standing
-standing_by (Working room) = working (task_view room.value)
+standing_by (Working task) = working (task_view task)
 standing_by (Answered a) = answered a
 
 -- how far jobs are

@@ -90,3 +90,16 @@ pub record Takes {T : Type 0} (turn : Turn T) (at : Moment) (old : Device)
   pub called : new.calls ≡ old.calls + 1
   pub after : turn.follows out.reply (rows_for turn.asked old.state) ≡ record { task = task; answer = out.answer; effect = effect }
   pub is_effect : out.effect ≡ is_some effect
+
+-- How far a job is after a reply: of one that ended only its answer is kept, so nothing is said of its task.
+pub record FollowsOrEnds {T : Type 0} (follows : After T) (task : T) (answer : Option Answer) (effect : Option Effect) : Type 0 where
+  pub left : T
+  pub after : follows ≡ record { task = left; answer = answer; effect = effect }
+  pub goes_on : answer ≡ None → left ≡ task
+
+-- A turn was taken, and where the job goes on it has this task.
+pub record TakesOrEnds {T : Type 0} (turn : Turn T) (at : Moment) (old : Device)
+    (out : StepOut) (effect : Option Effect) (task : T) (new : Device) : Type 0 where
+  pub left : T
+  pub takes : Takes turn at old out effect left new
+  pub goes_on : out.answer ≡ None → left ≡ task

@@ -9,18 +9,17 @@ use crate::error::CoreError;
 use crate::image::Image;
 use crate::jobs::answer::Answer;
 use crate::jobs::call::{Call, JobId};
-use crate::jobs::cleaning::Cleaning;
 use crate::jobs::step::Moment;
 use crate::jobs::task::Task;
 use crate::jobs::turn::Turned;
 use md_dirs::Dirs;
-use std::alloc::{AllocError, Global};
+use std::alloc::Global;
 use std::marker::Model;
 
-/// How far a job has come. One that is answered holds nothing but its answer: the task lies in a box, so that its room goes with it.
+/// How far a job has come. One that is answered holds nothing but its answer: what the task held is let go.
 #[derive(Drop)]
 pub(crate) enum Progress {
-    Working(Box<Task>),
+    Working(Task),
     Answered(Answer),
 }
 
@@ -44,21 +43,13 @@ impl Model for Job {
 }
 
 impl Job {
-    /// Room for the task of a job, made before its call is taken.
-    pub(crate) fn room(alloc: Global) -> Result<Box<Task>, AllocError> {
-        let idle = Task::Clean(Cleaning::new(0));
-        Box::new(alloc, idle).map_err(|_refused| AllocError)
-    }
-
     /// A job that has not begun.
-    pub(crate) fn new(call: Call, mut room: Box<Task>) -> Job
+    pub(crate) fn new(alloc: Global, call: Call) -> Job
         ensures { result ≡ job_of call }
     {
-        let image = Image::of(&call);
-        *room = Task::new(call);
         Job {
-            call: image,
-            progress: Progress::Working(room),
+            call: Image::of(&call),
+            progress: Progress::Working(Task::new(alloc, call)),
         }
     }
 

@@ -1,5 +1,5 @@
 //! Paths for directory calls.
-ghost use Rattle.std.specs.Prelude.{◌≡◌, IfOk};
+ghost use Rattle.std.specs.Prelude.{◌≡◌, [], IfOk};
 ghost use Rattle.md_dirs.specs.Path.{path_of};
 
 use md_dirs::{Bytes, Path, Place};
@@ -19,4 +19,15 @@ pub(crate) fn path(
         place,
         name: name.again(alloc)?,
     })
+}
+
+/// A directory alone: a path with no name. It takes no memory.
+pub(crate) fn nameless(alloc: Global, folder: u32, place: Place) -> Path
+    ensures { result ≡ path_of folder place [] }
+{
+    Path {
+        folder,
+        place,
+        name: Bytes::of(Vec::new(alloc)),
+    }
 }

@@ -3,7 +3,6 @@
 ghost use Rattle.std.specs.Prelude.{◌≡◌, IfOk, IfErr, MatchResult};
 ghost use Rattle.md_dirs.specs.Path.{path_of};
 ghost use Rattle.md_dirs.specs.Calls.{Obeys};
-ghost use Rattle.md_core.specs.Tasks.Deed.{Rename};
 ghost use Rattle.md_core.specs.Tasks.Views.Purposes.{purpose_view, decision_view, deed_view, refusal_view};
 ghost use Rattle.md_name.specs.Names.{flags_of, flagged};
 ghost use Rattle.md_core.specs.Alone.{is_same_set};
@@ -48,12 +47,12 @@ pub enum Decision {
     Act,
 }
 
-/// A directory call that an errand makes, with its paths.
+/// A directory call that an errand makes on the path that it found, and the path that it makes.
 #[derive(Drop)]
 pub enum Deed {
-    Rename { old: Path, new: Path },
-    Link { old: Path, new: Path },
-    Unlink { old: Path },
+    Rename { new: Path },
+    Link { new: Path },
+    Unlink,
 }
 
 // The info of a message's name. What is no message's name has other info.
@@ -119,19 +118,17 @@ fn copied_name(alloc: Global, fresh: &Bytes, info: Info) -> Result<Bytes, CoreEr
     }
 }
 
-// A message gets its flags by another name in cur.
-fn marked(alloc: Global, old: Path, unique: &Bytes, flags: Flags) -> Result<Deed, CoreError>
+// Where a message of this folder is that has these flags: in cur, by another name.
+fn marked(alloc: Global, folder: u32, unique: &Bytes, flags: Flags) -> Result<Path, CoreError>
     ensures { MatchResult result
-        (λ deed. deed_view deed ≡ Rename old (path_of old.folder Place.Cur (flagged unique.now flags)))
+        (λ path. path ≡ path_of folder Place.Cur (flagged unique.now flags))
         (λ e. e ≡ CoreError.NoMemory) }
 {
-    let name = named(alloc, unique, flags)?;
-    let new = Path {
-        folder: old.folder,
+    Ok(Path {
+        folder,
         place: Place::Cur,
-        name,
-    };
-    Ok(Deed::Rename { old, new })
+        name: named(alloc, unique, flags)?,
+    })
 }
 
 impl Purpose {
@@ -221,30 +218,30 @@ impl Purpose {
         }
     }
 
-    /// What is done with a message of this unique name, place and whole name, in a folder, and the answer where it is done. The names are
-    /// copies, so that a directory call that was made needs no memory, and the info is read once, where it plays a part.
+    /// What is done with a message of this unique name and path, and the answer where it is done. The path that is made is ready then, so
+    /// that a directory call that was made needs no memory, and the info is read once, where it plays a part.
     pub(crate) fn deed(
         &self,
         alloc: Global,
-        folder: u32,
         unique: &Bytes,
-        place: Place,
-        name: &Bytes,
+        old: &Path,
     ) -> Result<(Deed, Answer), CoreError>
-        ensures deed { IfOk result (λ done. deed_view done.0 ≡ deed_by (purpose_view self.now) folder unique.now place name.now (info_in name.now)) }
-        ensures answer { IfOk result (λ done. done.1 ≡ answer_by (purpose_view self.now) (info_in name.now)) }
+        ensures deed { IfOk result (λ done. deed_view old.now done.0 ≡
+            deed_by (purpose_view self.now) old.now.folder unique.now old.now.place old.now.name (info_in old.now.name)) }
+        ensures answer { IfOk result (λ done. done.1 ≡ answer_by (purpose_view self.now) (info_in old.now.name)) }
         ensures memory { IfErr result (λ e. e ≡ CoreError.NoMemory) }
     {
-        let old = path(alloc, folder, place, name)?;
+        let place = old.place;
+        let name = &old.name;
         match self {
             Purpose::Seen(_) | Purpose::Flag { .. } => {
                 let flags = self.wanted(shown(name.as_slice()));
-                let deed = marked(alloc, old, unique, flags)?;
-                Ok((deed, Answer::Flags(flags)))
+                let new = marked(alloc, old.folder, unique, flags)?;
+                Ok((Deed::Rename { new }, Answer::Flags(flags)))
             }
             Purpose::Move { to } => {
                 let new = path(alloc, *to, place, name)?;
-                Ok((Deed::Rename { old, new }, Answer::Moved))
+                Ok((Deed::Rename { new }, Answer::Moved))
             }
             Purpose::Copy { to, fresh } => {
                 let name = copied_name(alloc, fresh, info_of(name.as_slice()))?;
@@ -253,42 +250,42 @@ impl Purpose {
                     place,
                     name,
                 };
-                Ok((Deed::Link { old, new }, Answer::Copied))
+                Ok((Deed::Link { new }, Answer::Copied))
             }
-            Purpose::Expunge => Ok((Deed::Unlink { old }, Answer::Expunged)),
+            Purpose::Expunge => Ok((Deed::Unlink, Answer::Expunged)),
         }
     }
 }
 
 impl Deed {
-    /// Makes the directory call. No clock plays a part in it.
-    pub(crate) fn make<D: Dirs>(&self, dirs: &mut D) -> Result<(), DirError>
-        ensures meets { Obeys (ask_of (asked_of (deed_view self.now)) 0) (D.device dirs.old) result (D.device dirs.new) }
+    /// Makes the directory call on this path. No clock plays a part in it.
+    pub(crate) fn make<D: Dirs>(&self, dirs: &mut D, old: &Path) -> Result<(), DirError>
+        ensures meets { Obeys (ask_of (asked_of (deed_view old.now self.now)) 0) (D.device dirs.old) result (D.device dirs.new) }
     {
         match self {
-            Deed::Rename { old, new } => dirs.rename(old, new),
-            Deed::Link { old, new } => dirs.link(old, new),
-            Deed::Unlink { old } => dirs.unlink(old),
+            Deed::Rename { new } => dirs.rename(old, new),
+            Deed::Link { new } => dirs.link(old, new),
+            Deed::Unlink => dirs.unlink(old),
         }
     }
 
     /// The directory call, as a step shows it.
     pub(crate) fn shown(&self) -> DirCall
-        ensures { result ≡ shown_call (asked_of (deed_view self.now)) }
+        ensures { (old : _) → result ≡ shown_call (asked_of (deed_view old self.now)) }
     {
         match self {
             Deed::Rename { .. } => DirCall::Rename,
             Deed::Link { .. } => DirCall::Link,
-            Deed::Unlink { .. } => DirCall::Unlink,
+            Deed::Unlink => DirCall::Unlink,
         }
     }
 
-    /// What it changed, with a message of this size.
-    pub(crate) fn change(self, size: u64) -> Change
-        ensures { result ≡ change_of (deed_view self) size }
+    /// What it changed on this path, with a message of this size.
+    pub(crate) fn change(self, old: Path, size: u64) -> Change
+        ensures { result ≡ change_of (deed_view old self) size }
     {
         match self {
-            Deed::Rename { old, new } => Change::Rename {
+            Deed::Rename { new } => Change::Rename {
                 folder: old.folder,
                 place: old.place,
                 name: old.name,
@@ -296,13 +293,13 @@ impl Deed {
                 to_place: new.place,
                 to_name: new.name,
             },
-            Deed::Link { new, .. } => Change::Add {
+            Deed::Link { new } => Change::Add {
                 folder: new.folder,
                 place: new.place,
                 name: new.name,
                 size,
             },
-            Deed::Unlink { old } => Change::Remove {
+            Deed::Unlink => Change::Remove {
                 folder: old.folder,
                 place: old.place,
                 name: old.name,
@@ -312,11 +309,11 @@ impl Deed {
 
     /// What it says where a name is there: a link makes a name, and nothing else does.
     pub(crate) fn taken(&self) -> Refusal
-        ensures { refusal_view result ≡ taken_by (deed_view self.now) }
+        ensures { (old : _) → refusal_view result ≡ taken_by (deed_view old self.now) }
     {
         match self {
             Deed::Link { .. } => Refusal::NameTaken,
-            Deed::Rename { .. } | Deed::Unlink { .. } => Refusal::Fault,
+            Deed::Rename { .. } | Deed::Unlink => Refusal::Fault,
         }
     }
 }

@@ -1,6 +1,6 @@
 //! Tasks: what a job that has no answer does, one kind for each call.
 ghost use Rattle.std.specs.Prelude.{◌≡◌, IfOk, IfErr, OnErr};
-ghost use Rattle.md_core.specs.Turn.{Takes, IsUntouched};
+ghost use Rattle.md_core.specs.Turn.{TakesOrEnds, IsUntouched};
 ghost use Rattle.md_core.specs.Tasks.Views.Tasks.{task_view};
 ghost use Rattle.md_core.specs.Machine.{turn_of, new_job, working};
 
@@ -25,7 +25,7 @@ pub enum Task {
 
 impl Task {
     /// The task of a call, not begun.
-    pub(crate) fn new(call: Call) -> Task
+    pub(crate) fn new(alloc: Global, call: Call) -> Task
         ensures { working (task_view result) ≡ new_job call }
     {
         match call {
@@ -40,32 +40,44 @@ impl Task {
                 unique,
                 flags,
                 tries,
-            } => Task::Errand(Errand::new(folder, unique, Purpose::Seen(flags), tries)),
+            } => Task::Errand(Errand::new(alloc, folder, unique, Purpose::Seen(flags), tries)),
             Call::Flag {
                 folder,
                 unique,
                 add,
                 remove,
                 tries,
-            } => Task::Errand(Errand::new(folder, unique, Purpose::Flag { add, remove }, tries)),
+            } => Task::Errand(Errand::new(
+                alloc,
+                folder,
+                unique,
+                Purpose::Flag { add, remove },
+                tries,
+            )),
             Call::Move {
                 folder,
                 unique,
                 to,
                 tries,
-            } => Task::Errand(Errand::new(folder, unique, Purpose::Move { to }, tries)),
+            } => Task::Errand(Errand::new(alloc, folder, unique, Purpose::Move { to }, tries)),
             Call::Expunge {
                 folder,
                 unique,
                 tries,
-            } => Task::Errand(Errand::new(folder, unique, Purpose::Expunge, tries)),
+            } => Task::Errand(Errand::new(alloc, folder, unique, Purpose::Expunge, tries)),
             Call::Copy {
                 folder,
                 unique,
                 to,
                 fresh,
                 tries,
-            } => Task::Errand(Errand::new(folder, unique, Purpose::Copy { to, fresh }, tries)),
+            } => Task::Errand(Errand::new(
+                alloc,
+                folder,
+                unique,
+                Purpose::Copy { to, fresh },
+                tries,
+            )),
             Call::Clean { folder } => Task::Clean(Cleaning::new(folder)),
         }
     }
@@ -81,7 +93,7 @@ impl Task {
         at: Moment,
     ) -> Result<Turned, CoreError>
         ensures ok { IfOk result (λ t.
-            Takes (turn_of job (task_view self.old) at) at (D.device dirs.old) t.out t.effect
+            TakesOrEnds (turn_of job (task_view self.old) at) at (D.device dirs.old) t.out t.effect
             (task_view self.new) (D.device dirs.new)) }
         ensures memory { IfErr result (λ e. e ≡ CoreError.NoMemory) }
         ensures task { OnErr result (self.new ≡ self.old) }

@@ -9,11 +9,9 @@ ghost use Rattle.md_core.specs.Tracing.{trace_of};
 use crate::error::CoreError;
 use crate::jobs::call::{Call, JobId};
 use crate::jobs::job::Job;
-use crate::jobs::task::Task;
 use crate::used::UsedNames;
 use crate::world::World;
 use md_dirs::Dirs;
-use std::alloc::Global;
 
 /// A call that was not submitted, and why.
 #[derive(Debug, Drop)]
@@ -22,13 +20,8 @@ pub struct SubmitRefused {
     pub call: Call,
 }
 
-// Makes room for the job and for its task, and uses the name that its call makes.
-fn prepare(
-    alloc: Global,
-    jobs: &mut Vec<Job>,
-    used: &mut UsedNames,
-    call: &Call,
-) -> Result<Box<Task>, CoreError>
+// Makes room for the job, and uses the name that its call makes.
+fn prepare(jobs: &mut Vec<Job>, used: &mut UsedNames, call: &Call) -> Result<(), CoreError>
     ensures jobs { jobs.new.items ≡ jobs.old.items }
     ensures room { OnOk result (vec_len jobs.new < vec_capacity jobs.new) }
     ensures used { OnOk result ((u : _) → is_among u used.new ≡ (makes u call.now || is_among u used.old)) }
@@ -36,7 +29,6 @@ fn prepare(
     ensures same { OnErr result (used.new ≡ used.old) }
 {
     jobs.reserve(1)?;
-    let room = Job::room(alloc)?;
     match call {
         Call::Deliver { unique, .. } => used.insert(unique.as_slice())?,
         Call::Copy { fresh, .. } => used.insert(fresh.as_slice())?,
@@ -46,7 +38,7 @@ fn prepare(
         Call::Expunge { .. } => {}
         Call::Clean { .. } => {}
     }
-    Ok(room)
+    Ok(())
 }
 
 impl<D: Dirs> World<D> {
@@ -66,11 +58,10 @@ impl<D: Dirs> World<D> {
         if let Some(error) = self.refusal_of(&call) {
             return Err(SubmitRefused { error, call });
         }
-        let room = match prepare(self.alloc, &mut self.jobs, &mut self.used, &call) {
-            Ok(room) => room,
-            Err(error) => return Err(SubmitRefused { error, call }),
-        };
-        self.jobs.push_reserved(Job::new(call, room));
+        if let Err(error) = prepare(&mut self.jobs, &mut self.used, &call) {
+            return Err(SubmitRefused { error, call });
+        }
+        self.jobs.push_reserved(Job::new(self.alloc, call));
         Ok(self.jobs.len() as u64)
     }
 }

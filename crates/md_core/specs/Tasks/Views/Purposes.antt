@@ -1,4 +1,5 @@
 -- What the definitions see of the code's purposes, decisions, deeds and refusals.
+use Rattle.md_dirs.specs.declared.paths.Path.{Path}
 use Rattle.md_core.specs.Tasks.Refusal as refusal
 use Rattle.md_core.specs.Tasks.Purpose as purpose
 use Rattle.md_core.specs.Tasks.Decision as decision
@@ -37,8 +38,8 @@ decision_view (decision_of.Refuse r) = decision.Refuse (refusal_view r)
 decision_view decision_of.Keep = decision.Keep
 decision_view decision_of.Act = decision.Act
 
--- a deed, as the definitions see it
-abbrev pub deed_view : Deed → deed.Deed
-deed_view (deed_of.Rename old new) = deed.Rename old new
-deed_view (deed_of.Link old new) = deed.Link old new
-deed_view (deed_of.Unlink old) = deed.Unlink old
+-- a deed on the file of a path, as the definitions see it
+abbrev pub deed_view : Path → Deed → deed.Deed
+deed_view old (deed_of.Rename new) = deed.Rename old new
+deed_view old (deed_of.Link new) = deed.Link old new
+deed_view old deed_of.Unlink = deed.Unlink old

@@ -1,4 +1,5 @@
 -- What the definitions see of how far the code's tasks have come.
+use Rattle.md_dirs.specs.declared.paths.Path.{Path}
 use Rattle.md_core.specs.Tasks.Errand as errand
 use Rattle.md_core.specs.Tasks.Delivery as delivery
 use Rattle.md_core.specs.Tasks.Cleaning as cleaning
@@ -10,10 +11,10 @@ use Rattle.md_core.specs.declared.jobs.deliver.Stage.TheVariants as delivery_at
 use Rattle.md_core.specs.declared.jobs.cleaning.Stage.{Stage as CleaningStage}
 use Rattle.md_core.specs.declared.jobs.cleaning.Stage.TheVariants as cleaning_at
 
--- how far an errand has come, as the definitions see it
-abbrev pub errand_stage : ErrandStage → errand.Stage
-errand_stage (errand_at.Look place tries) = errand.Look place tries
-errand_stage (errand_at.Act place row tries) = errand.Act place row tries
+-- how far an errand has come, by the path where it looks, or that it found, as the definitions see it
+abbrev pub errand_stage : Path → ErrandStage → errand.Stage
+errand_stage path (errand_at.Look tries) = errand.Look path.place tries
+errand_stage path (errand_at.Act stamp size tries) = errand.Act path.place (record { name = path.name; stamp = stamp; size = size }) tries
 
 -- how far a delivery has come, as the definitions see it
 abbrev pub delivery_stage : DeliveryStage → delivery.Stage

@@ -15,7 +15,7 @@ invariant_of-self-2 g c =
     ap (λ (r : Run). submit_refusal r c.args.call) c.self.view_is ∙ sym c.in_default.ensures in
     rw (c.push_reserved.ensures.items, c.new.ensures, c.prepare.ensures.jobs)
     (submit-world first s.began s.jobs.items s.log.events.items s.log.marks.items held s.clock s.log.effects.items s.used c.args.call c.self.invariant goes
-    c.prepare.new.used c.in-Ok.ensures.used)
+    c.prepare.new.used c.in_default-prepare.ensures.used)
 
 pub returns-clause-theorem : goal.returns-clause-theorem
 returns-clause-theorem g c = interleaves _ (invariant_of-self-2 g c).run
@@ -31,5 +31,5 @@ returns-clause-effects g c =
     rw (c.push_reserved.ensures.items, c.new.ensures, c.prepare.ensures.jobs)
     (ap effects_of (run-submitted first s.began s.jobs.items s.log.events.items s.log.marks.items held s.clock s.log.effects.items s.used c.args.call)
     ∙ effects-submitted first s.began s.jobs.items s.log.events.items s.log.marks.items held s.clock s.log.effects.items s.used c.args.call c.self.invariant
-    goes c.prepare.new.used c.in-Ok.ensures.used
+    goes c.prepare.new.used c.in_default-prepare.ensures.used
     ∙ ap effects_of c.self.view_is)
