@@ -2,6 +2,7 @@ pub mod Firsts
 pub mod Cuts
 pub mod Chunks
 pub mod Places
+pub mod Marks
 pub mod Escaping
 pub mod Numbers
 pub mod Decimals

@@ -1,11 +1,12 @@
 -- Bytes written with escapes, from one byte that is escaped to the next.
-use Rattle.std.proofs.Common.{◌≡◌, ℕ, ◌+◌, ◌-◌, ◌<◌, false, List, [], ◌∷◌, ◌++◌, length, get_or, take, drop, refl, sym, ap, ◌∙◌, arith, add-one, length-take-le, append_assoc, cond, is_ok, OnOk, Result, Ok, Err}
+use Rattle.std.proofs.Common.{◌≡◌, ℕ, ◌+◌, ◌-◌, ◌<◌, ◌≤◌, false, List, [], ◌∷◌, ◌++◌, length, get_or, take, drop, refl, sym, ap, ◌∙◌, arith, add-one, length-take-le, append_assoc, cond, is_ok, OnOk, Result, Ok, Err}
 use Rattle.std.proofs.lemmas.Bool.Decides.{nat_tests}
-use Rattle.std.proofs.lemmas.List.{take-append-drop, get_or-take}
+use Rattle.std.proofs.lemmas.List.{take-append-drop, get_or-take, get_or-drop, drop-drop}
 use Rattle.std.proofs.lemmas.List.Elements.{All-from_get_or, All-head, All-tail}
 use Rattle.std.proofs.Math.Seq.{drop-cons}
 use Rattle.std.specs.List.{All}
-use Rattle.memchr.specs.Find.{Nowhere, NoneBefore, Passes, is_byte3}
+use Rattle.memchr.specs.Find.{Nowhere, NoneBefore, Passes, is_byte3, places_from}
+use Rattle.md_script.proofs.Marks.{Next, next_mark, found_in, none_in}
 use Rattle.md_script.specs.Escapes.{escape, escape_all}
 use Rattle.md_script.proofs.Firsts.{refuted, rest_whole}
 
@@ -40,6 +41,35 @@ escaped_at text at found =
     let parts : take at text ++ get_or text at 0 ∷ drop (at + 1) text ≡ text =
     rw add-one (ap (λ xs. take at text ++ xs) (sym (drop-cons text at 0 high)) ∙ take-append-drop at text) in
     rw rest_whole (ap escape_all (sym parts) ∙ plain_front (take at text) (drop (at + 1) text) (get_or text at 0) all)
+
+-- what was written up to a place of a text, and the marks that are left
+pub record SoFar (before text out : List ℕ) (done : ℕ) (marks : List ℕ) : Type 0 where
+  pub within : done ≤ length text
+  pub left : marks ≡ places_from (is_byte3 92 10 13) text done (length text - done)
+  pub written : out ++ escape_all (drop done text) ≡ before ++ escape_all text
+
+module _ (before text out : List ℕ) (done : ℕ) (marks : List ℕ) (so_far : SoFar before text out done marks) where
+  -- the next mark
+  pub mark_after : (at : ℕ) (rest : List ℕ) → marks ≡ at ∷ rest → Next (is_byte3 92 10 13) text done at rest
+  mark_after at rest is = next_mark (is_byte3 92 10 13) text done (length text - done) at rest (omega (arith, so_far.within)) (sym so_far.left ∙ is)
+
+  -- what is left to write goes on behind it
+  pub goes_on : (at : ℕ) (rest : List ℕ) → marks ≡ at ∷ rest
+      → escape_all (drop done text) ≡ take (at - done) (drop done text) ++ (escape (get_or text at 0) ++ escape_all (drop (at + 1) text))
+  goes_on at rest is =
+      let next = mark_after at rest is in
+      let here : done + (at - done) ≡ at = omega (arith, next.low) in
+      let behind : done + (at - done + 1) ≡ at + 1 = omega (arith, next.low) in
+      let byte : get_or (drop done text) (at - done) 0 ≡ get_or text at 0 = get_or-drop done text (at - done) 0 ∙ ap (λ k. get_or text k 0) here in
+      let others = rest_whole (drop done text) (at - done + 1) ∙ drop-drop (at - done + 1) done text ∙ ap (λ k. drop k text) behind in
+      escaped_at (drop done text) (at - done) (found_in (is_byte3 92 10 13) text done done at rest next (omega arith) next.low)
+      ∙ (λ i. take (at - done) (drop done text) ++ (escape (byte i) ++ escape_all (others i)))
+
+  -- no mark is left
+  pub ends_plain : marks ≡ [] → escape_all (drop done text) ≡ drop done text
+  ends_plain is =
+      escaped_none (drop done text)
+      (none_in (is_byte3 92 10 13) text done (length text - done) done (omega (arith, so_far.within)) (sym so_far.left ∙ is) (omega arith) so_far.within)
 
 -- one turn of the loop that writes them
 pub turned : (out front here rest text whole : List ℕ) → text ≡ front ++ (here ++ rest) → out ++ text ≡ whole → ((out ++ front) ++ here) ++ rest ≡ whole

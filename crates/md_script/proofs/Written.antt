@@ -7,19 +7,16 @@ use Rattle.std.specs.Cmp.{nat_cmp_total}
 use Rattle.std.specs.FinSet as set
 use Rattle.std.specs.FinMap.Entries.{find, where_key, below_all, is_sorted, is_sorted-where_key, is_some-find, same_entries}
 use Rattle.std.specs.declared.cmp.Ordering.TheVariants.{Less, Equal, Greater}
-use Rattle.std.proofs.lemmas.List.Sums.{position_or_len_is}
-use Rattle.memchr.specs.Find.{Nowhere, NoneBefore, Passes, is_byte}
 use Rattle.md_name.specs.declared.info.Info.{Info}
 use Rattle.md_name.specs.declared.info.Info.TheVariants.{Two, Opaque}
 use Rattle.md_name.specs.Letters.{is_letter, letters, Set, spelling}
-use Rattle.md_name.specs.Names.{begins_with_dot, unique_of, info_of, info_by, flags_of, split_of, is_message_name}
+use Rattle.md_name.specs.Names.{is_colon, begins_with_dot, unique_of, info_of, info_by, flags_of, split_of, is_message_name}
 use Rattle.md_name.proofs.Colons.{unique_of-found, info_of-found, unique_of-not_found, info_of-not_found}
-use Rattle.md_name.proofs.Firsts.{placed, unplaced}
 use Rattle.md_name.proofs.Flagged.{from_list-spelling}
 use Rattle.md_name.proofs.Sets.{IsOfLetters-from_list}
 use Rattle.md_view.proofs.Keyed.{both, first, second, less, is_less}
 use Rattle.md_script.specs.Texts.{letters_text, flags_text, flags_by}
-use Rattle.md_script.proofs.Firsts.{first_at, refuted, rest_whole}
+use Rattle.md_script.proofs.Firsts.{rest_whole}
 use Rattle.md_script.proofs.Spelled.{spelled_none}
 
 -- each number is above the one before it
@@ -123,22 +120,17 @@ message name dotless some = λ i. not (dotless i) && lt-ltb 0 (length (unique_of
 by_parts : (name : List ℕ) → is_message_name name ≡ true → flags_text (flags_by (split_of name)) ≡ flags_text (flags_of (info_of name))
 by_parts name is = ap (λ b. flags_text (flags_by (cond b (Some (unique_of name, info_of name)) None))) is
 
-pub bare : (name : List ℕ) → 0 < length name → begins_with_dot name ≡ false → Nowhere (Passes (is_byte 58) name) 0 (length name)
+pub bare : (name : List ℕ) → 0 < length name → begins_with_dot name ≡ false → None ≡ position is_colon name
     → flags_text (flags_by (split_of name)) ≡ letters_text []
 bare name some dotless none =
-    let is : position (is_byte 58) name ≡ None = unplaced (is_byte 58) name
-    (position_or_len_is (is_byte 58) name (length name) 0 (omega arith) (λ k h. refuted _ (none k (omega arith) h)) (λ h. absurd (omega arith))) in
-    by_parts name (message name dotless (subst (λ (u : List ℕ). 0 < length u) (unique_of-not_found name is) some))
-    ∙ ap (λ (x : Info). flags_text (flags_of x)) (sym (info_of-not_found name is)) ∙ ap letters_text spelled_none
+    by_parts name (message name dotless (subst (λ (u : List ℕ). 0 < length u) (unique_of-not_found name (sym none)) some))
+    ∙ ap (λ (x : Info). flags_text (flags_of x)) (sym (info_of-not_found name (sym none))) ∙ ap letters_text spelled_none
 
-pub after_colon : (name : List ℕ) (at : ℕ) → 0 < at → begins_with_dot name ≡ false
-    → NoneBefore (Passes (is_byte 58) name) 0 (length name) at × Passes (is_byte 58) name at
+pub after_colon : (name : List ℕ) (at : ℕ) → 0 < at → begins_with_dot name ≡ false → at < length name → Some at ≡ position is_colon name
     → flags_text (flags_by (split_of name)) ≡ flags_text (flags_of (info_by (Some (take (length name - (at + 1)) (drop (at + 1) name)))))
-after_colon name at some dotless found =
-    let is : position (is_byte 58) name ≡ Some at = placed (is_byte 58) name at found.0.high
-    (first_at 58 name at found) in
-    let long : length (take at name) ≡ at = length-take-le at name (omega (arith, found.0.high)) in
+after_colon name at some dotless within is =
+    let long : length (take at name) ≡ at = length-take-le at name (omega (arith, within)) in
     let front : 0 < length (take at name) = omega (arith, long, some) in
-    by_parts name (message name dotless (subst (λ (u : List ℕ). 0 < length u) (unique_of-found name at is) front))
-    ∙ ap (λ (x : Info). flags_text (flags_of x)) (sym (info_of-found name at is))
+    by_parts name (message name dotless (subst (λ (u : List ℕ). 0 < length u) (unique_of-found name at (sym is)) front))
+    ∙ ap (λ (x : Info). flags_text (flags_of x)) (sym (info_of-found name at (sym is)))
     ∙ ap (λ (t : List ℕ). flags_text (flags_of (info_by (Some t)))) (sym (rest_whole name (at + 1)))

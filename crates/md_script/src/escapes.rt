@@ -5,7 +5,7 @@ ghost use Rattle.md_script.specs.Escapes.{escape, escape_all, meant_by, onto, by
 ghost use Rattle.memchr.specs.Find.{is_byte3};
 
 use crate::error::PlayKind;
-use memchr::{memchr, memchr3};
+use memchr::{memchr_iter, memchr3_iter};
 use std::alloc::{AllocError, Global};
 
 /// Appends bytes in one line: a backslash, a line feed and a carriage return as `\\`, `\n` and `\r`, and any other
@@ -13,13 +13,14 @@ use std::alloc::{AllocError, Global};
 pub(crate) fn push_escaped(out: &mut Vec<u8>, bytes: &[u8]) -> Result<(), AllocError>
     ensures { OnOk result (out.new.items ≡ out.old.items ++ escape_all bytes.now) }
 {
-    let mut left = bytes;
-    while let Some(at) = memchr3(b'\\', b'\n', b'\r', left) {
-        out.extend_from_slice(&left[..at])?;
-        out.extend_from_slice(escape(left[at]))?;
-        left = &left[at + 1..];
+    let mut marks = memchr3_iter(b'\\', b'\n', b'\r', bytes);
+    let mut done = 0;
+    while let Some(at) = marks.next() {
+        out.extend_from_slice(&bytes[done..at])?;
+        out.extend_from_slice(escape(bytes[at]))?;
+        done = at + 1;
     }
-    out.extend_from_slice(left)
+    out.extend_from_slice(&bytes[done..])
 }
 
 /// A backslash, a line feed and a carriage return as two bytes each; other bytes are not written so.
@@ -39,32 +40,21 @@ pub(crate) fn unescape(alloc: Global, text: &[u8]) -> Result<Vec<u8>, PlayKind>
     ensures { Gives (λ bytes. bytes.items) result (unescaped text.now) }
 {
     let mut bytes = Vec::with_capacity(alloc, text.len())?;
-    let mut left = text;
-    while let Some((plain, byte, others)) = cut_escape(left)? {
-        bytes.extend_from_slice(plain)?;
-        bytes.push(byte)?;
-        left = others;
+    let mut marks = memchr_iter(b'\\', text);
+    let mut done = 0;
+    while let Some(at) = marks.next() {
+        // A backslash may be the letter of the escape before.
+        if at >= done {
+            if text.len() - at < 2 {
+                return Err(PlayKind::BadEscape);
+            }
+            bytes.extend_from_slice(&text[done..at])?;
+            bytes.push(meant_by(text[at + 1])?)?;
+            done = at + 2;
+        }
     }
-    bytes.extend_from_slice(left)?;
+    bytes.extend_from_slice(&text[done..])?;
     Ok(bytes)
-}
-
-/// The bytes before the first escape of a text, the byte that it stands for, and what is left after it; `None` where there is none.
-fn cut_escape(text: &[u8]) -> Result<Option<(&[u8], u8, &[u8])>, PlayKind>
-    ensures value { MatchResult result
-        (λ cut. MatchOption cut (unescaped text.now ≡ Ok text.now) (λ c. unescaped text.now ≡ byte_by_letter c.0.now (onto c.1 (unescaped c.2.now))))
-        (λ kind. unescaped text.now ≡ Err kind) }
-    ensures shorter { IfOk result (λ cut. IfSome cut (λ c. length c.2.now < length text.now)) }
-{
-    let Some(at) = memchr(b'\\', text) else {
-        return Ok(None);
-    };
-    let letter = at + 1;
-    if letter >= text.len() {
-        return Err(PlayKind::BadEscape);
-    }
-    let byte = meant_by(text[letter])?;
-    Ok(Some((&text[..at], byte, &text[letter + 1..])))
 }
 
 /// The byte that a backslash and a letter stand for.

@@ -1,14 +1,13 @@
 //! The flags of a message, as they print.
-ghost use Rattle.std.specs.Prelude.{ℕ, suc, ◌≡◌, ◌<◌, ◌++◌, length, slice_index, IfSome, IsTrue, OnOk};
+ghost use Rattle.std.specs.Prelude.{ℕ, suc, ◌≡◌, ◌<◌, ◌++◌, length, position, slice_index, IfSome, IsTrue, OnOk};
 ghost use Rattle.std.specs.List.{list_all};
 ghost use Rattle.md_name.specs.Letters.{is_letter, spelling};
-ghost use Rattle.md_name.specs.Names.{split_of, flags_of, info_by};
+ghost use Rattle.md_name.specs.Names.{is_colon, split_of, flags_of, info_by};
 ghost use Rattle.md_script.specs.Texts.{letters_text, flags_by, flags_text};
 
 use crate::few::push_few;
 use md_name::{Flags, Info, split};
-use memchr::memchr;
-use std::alloc::{AllocError, Global};
+use std::alloc::AllocError;
 
 /// What flags print as where there are none.
 const NO_FLAGS: u8 = b'-';
@@ -16,22 +15,25 @@ const NO_FLAGS: u8 = b'-';
 /// What other info than flags prints as.
 const OTHER_INFO: u8 = b'?';
 
-/// The byte that info follows.
-const COLON: u8 = b':';
-
-/// Appends the flags of a message by its name, or that its info is other than flags.
-pub(crate) fn push_flags(alloc: Global, out: &mut Vec<u8>, name: &[u8]) -> Result<(), AllocError>
+/// Appends the flags of a message by its name, whose first colon is there, or that its info is other than flags.
+pub(crate) fn push_flags(
+    out: &mut Vec<u8>,
+    name: &[u8],
+    colon: Option<usize>,
+) -> Result<(), AllocError>
+    requires colon { colon ≡ position is_colon name.now }
+    requires within { IfSome colon (λ at. at < length name.now) }
     ensures { OnOk result (out.new.items ≡ out.old.items ++ flags_text (flags_by (split_of name.now))) }
 {
-    match written_flags(name) {
+    match written_flags(name, colon) {
         Some(letters) => push_spelled(out, letters),
-        None => push_read_flags(alloc, out, name),
+        None => push_read_flags(out, name),
     }
 }
 
 /// The same of any name, whatever its flags are written like.
 #[tactic(auto, using(crate::proofs::Spelled::spelled_none))]
-fn push_read_flags(alloc: Global, out: &mut Vec<u8>, name: &[u8]) -> Result<(), AllocError>
+fn push_read_flags(out: &mut Vec<u8>, name: &[u8]) -> Result<(), AllocError>
     ensures { OnOk result (out.new.items ≡ out.old.items ++ flags_text (flags_by (split_of name.now))) }
 {
     let Some((_, info)) = split(name) else {
@@ -39,20 +41,22 @@ fn push_read_flags(alloc: Global, out: &mut Vec<u8>, name: &[u8]) -> Result<(), 
     };
     match info {
         Info::Bare => out.push(NO_FLAGS)?,
-        Info::Two(flags) => push_letters(alloc, out, flags)?,
+        Info::Two(flags) => push_letters(out, flags)?,
         Info::Opaque => out.push(OTHER_INFO)?,
     }
     Ok(())
 }
 
 /// Appends the letters of flags in ASCII order, and a hyphen where there are none.
-pub(crate) fn push_letters(alloc: Global, out: &mut Vec<u8>, flags: Flags) -> Result<(), AllocError>
+pub(crate) fn push_letters(out: &mut Vec<u8>, flags: Flags) -> Result<(), AllocError>
     ensures { OnOk result (out.new.items ≡ out.old.items ++ letters_text (spelling flags)) }
 {
-    let Ok(letters) = flags.write(alloc) else {
-        return Err(AllocError);
-    };
-    push_spelled(out, &letters)
+    let before = out.len();
+    flags.write_onto(out)?;
+    if out.len() == before {
+        out.push(NO_FLAGS)?;
+    }
+    Ok(())
 }
 
 /// Appends letters, and a hyphen where there are none.
@@ -68,13 +72,15 @@ fn push_spelled(out: &mut Vec<u8>, letters: &[u8]) -> Result<(), AllocError>
 /// The letters of a message's flags where they stand in its name as they print: in ASCII order, each once. They nearly always do, and
 /// are then copied, where other flags are read and spelled.
 #[tactic(auto, using(crate::proofs::Written::bare, crate::proofs::Written::after_colon))]
-fn written_flags(name: &[u8]) -> Option<&[u8]>
+fn written_flags(name: &[u8], colon: Option<usize>) -> Option<&[u8]>
+    requires colon { colon ≡ position is_colon name.now }
+    requires within { IfSome colon (λ at. at < length name.now) }
     ensures { IfSome result (λ letters. flags_text (flags_by (split_of name.now)) ≡ letters_text letters.now) }
 {
     if name.is_empty() || name.starts_with(b".") {
         return None;
     }
-    let Some(at) = memchr(COLON, name) else {
+    let Some(at) = colon else {
         return Some(&[]);
     };
     if at == 0 {

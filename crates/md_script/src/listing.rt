@@ -6,43 +6,42 @@ use crate::digits::push_number;
 use crate::flags::push_flags;
 use md_dirs::Place;
 use md_view::{Entry, EntryRef};
-use std::alloc::{AllocError, Global};
+use std::alloc::AllocError;
 
 /// Appends the lines of a listing, `PLACE UNIQUE FLAGS SIZE` for each entry.
 ///
 /// The flags are letters in ASCII order, `-` where there are none, and `?` where the info of the name is no list of flags. The size is in
 /// bytes. Where memory runs out, some of the lines may have been appended.
-pub fn push_entries(alloc: Global, out: &mut Vec<u8>, entries: &[Entry]) -> Result<(), AllocError>
+pub fn push_entries(out: &mut Vec<u8>, entries: &[Entry]) -> Result<(), AllocError>
     ensures { OnOk result (out.new.items ≡ out.old.items ++ entries_text entries.now) }
 {
     for entry in entries {
-        push_entry(alloc, out, &entry.lent())?;
+        push_entry(out, &entry.lent())?;
     }
     Ok(())
 }
 
 /// The same for entries that are lent.
 pub(crate) fn push_lent_entries(
-    alloc: Global,
     out: &mut Vec<u8>,
     entries: &[EntryRef<'_>],
 ) -> Result<(), AllocError>
     ensures { OnOk result (out.new.items ≡ out.old.items ++ entries_text entries.now) }
 {
     for entry in entries {
-        push_entry(alloc, out, entry)?;
+        push_entry(out, entry)?;
     }
     Ok(())
 }
 
 /// Appends the line of an entry.
-fn push_entry(alloc: Global, out: &mut Vec<u8>, entry: &EntryRef<'_>) -> Result<(), AllocError>
+fn push_entry(out: &mut Vec<u8>, entry: &EntryRef<'_>) -> Result<(), AllocError>
     ensures { OnOk result (out.new.items ≡ out.old.items ++ entry_line entry.now) }
 {
     push_place(out, entry.place())?;
     out.extend_from_slice(entry.unique())?;
     out.push(b' ')?;
-    push_flags(alloc, out, entry.name())?;
+    push_flags(out, entry.name(), entry.colon())?;
     out.push(b' ')?;
     push_number(out, entry.size())?;
     out.push(b'\n')?;

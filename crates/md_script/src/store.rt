@@ -102,11 +102,21 @@ impl<D: Storage> StoreSession<D> {
     fn open(&mut self) -> Result<(), PlayKind>
         ensures { Opens self.old self.new result }
     {
-        if self.store.is_none() {
-            let files = mem::replace(&mut self.files, Vec::new(self.alloc));
-            let world = open_store(self.alloc, self.folders.count(), files)?;
-            self.store = Some(OpenStore::new(self.alloc, world));
+        if self.store.is_some() {
+            return Ok(());
         }
+        self.open_first()
+    }
+
+    // Opens the store. Apart, since its locals are large, and each command but the first has a store.
+    #[inline(never)]
+    fn open_first(&mut self) -> Result<(), PlayKind>
+        requires { is_some self.old.store ≡ false }
+        ensures { Opens self.old self.new result }
+    {
+        let files = mem::replace(&mut self.files, Vec::new(self.alloc));
+        let world = open_store(self.alloc, self.folders.count(), files)?;
+        self.store = Some(OpenStore::new(self.alloc, world));
         Ok(())
     }
 

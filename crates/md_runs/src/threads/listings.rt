@@ -107,7 +107,7 @@ fn push_listing<J: Naming>(
 {
     push_name(text, name)?;
     let entries = store.list(alloc, pass, folder)?;
-    push_entries(alloc, text, &entries)?;
+    push_entries(text, &entries)?;
     Ok(())
 }
 

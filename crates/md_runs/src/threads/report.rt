@@ -32,7 +32,7 @@ pub(super) fn ended(
         return Err(RunFault::Closed);
     }
     let mut text = Vec::new(alloc);
-    push_answers(alloc, &mut text, world)?;
+    push_answers(&mut text, world)?;
     text.extend_from_slice(folders)?;
     Ok(text)
 }
@@ -47,11 +47,7 @@ fn are_at_zero(steps: &[Event]) -> bool
 }
 
 /// Appends the answers of all jobs. Each job has its answer.
-fn push_answers<D: Dirs>(
-    alloc: Global,
-    text: &mut Vec<u8>,
-    world: &World<D>,
-) -> Result<(), RunFault>
+fn push_answers<D: Dirs>(text: &mut Vec<u8>, world: &World<D>) -> Result<(), RunFault>
     ensures answered { OnOk result (AllAnswered world.now) }
     ensures text { OnOk result (text.new.items ≡ text.old.items ++ answers_text (jobs_of world.now) (length world.now.calls)) }
     ensures stop { IfErr result IsStop }
@@ -61,7 +57,7 @@ fn push_answers<D: Dirs>(
         let Some(answer) = world.answer(job) else {
             return Err(RunFault::Closed);
         };
-        push_answer_line(alloc, text, job, answer)?;
+        push_answer_line(text, job, answer)?;
     }
     Ok(())
 }

@@ -34,7 +34,6 @@ pub(super) fn submit<D: Storage>(
 
 /// Takes one step of a job, and prints it.
 pub(super) fn step<D: Storage>(
-    alloc: Global,
     world: &mut World<D>,
     event: Event,
     out: &mut Vec<u8>,
@@ -54,14 +53,13 @@ pub(super) fn step<D: Storage>(
     world.interleaves();
     // The directories never fail, so that no step is marked.
     let _dirs = world.dirs();
-    push_step(alloc, out, event.job, shown)?;
+    push_step(out, event.job, shown)?;
     Ok(())
 }
 
 /// Takes steps of a job until it is answered, all at one moment, and prints them. A job that has its answer
 /// is refused.
 pub(super) fn finish<D: Storage>(
-    alloc: Global,
     world: &mut World<D>,
     event: Event,
     out: &mut Vec<u8>,
@@ -72,9 +70,9 @@ pub(super) fn finish<D: Storage>(
 {
     // A job that was not refused is there after its step, and has a step left until it is answered.
     md_core::laws::a_step_leaves_its_job_there();
-    step(alloc, world, event, out)?;
+    step(world, event, out)?;
     while world.answer(event.job).is_none() {
-        step(alloc, world, event, out)?;
+        step(world, event, out)?;
     }
     Ok(())
 }
@@ -90,7 +88,7 @@ pub(super) fn list<D: Storage>(
     ensures { Steps (list_in world.now folder) world.now out.old.items out.new.items result }
 {
     let entries = list_lent(alloc, world, folder)?;
-    push_lent_entries(alloc, out, &entries)?;
+    push_lent_entries(out, &entries)?;
     Ok(())
 }
 

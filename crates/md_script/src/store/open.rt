@@ -63,14 +63,14 @@ impl<D: Storage> OpenStore<D> {
     pub(super) fn step(&mut self, event: Event, out: &mut Vec<u8>) -> Result<(), PlayKind>
         ensures { Steps (on_run self.old (step_in self.old.run event)) self.new out.old.items out.new.items result }
     {
-        acts::step(self.alloc, &mut self.world, event, out)
+        acts::step(&mut self.world, event, out)
     }
 
     /// Takes steps of a job until it is answered, and prints them.
     pub(super) fn finish(&mut self, event: Event, out: &mut Vec<u8>) -> Result<(), PlayKind>
         ensures { Steps (on_run self.old (finish_in self.old.run event)) self.new out.old.items out.new.items result }
     {
-        acts::finish(self.alloc, &mut self.world, event, out)
+        acts::finish(&mut self.world, event, out)
     }
 
     /// Prints the messages of a folder.
@@ -106,7 +106,7 @@ impl<D: Storage> OpenStore<D> {
             return Err(PlayKind::NoFirst);
         };
         let entries = listing.finish_lent(self.alloc, &self.world)?;
-        push_lent_entries(self.alloc, out, &entries)?;
+        push_lent_entries(out, &entries)?;
         drop(entries);
         use_up(&mut self.kept, folder);
         Ok(())

@@ -7,7 +7,7 @@ use crate::escapes::push_escaped;
 use crate::flags::push_letters;
 use crate::listing::place_text;
 use md_core::{Answer, DirCall, DirReply, JobId, StepOut};
-use std::alloc::{AllocError, Global};
+use std::alloc::AllocError;
 
 /// `job J`, for a job that was submitted.
 pub(super) fn push_job(out: &mut Vec<u8>, job: JobId) -> Result<(), AllocError>
@@ -20,12 +20,7 @@ pub(super) fn push_job(out: &mut Vec<u8>, job: JobId) -> Result<(), AllocError>
 }
 
 /// `J CALL REPLY`, for a step of the job, and `J answer A` where it answers the job.
-pub(super) fn push_step(
-    alloc: Global,
-    out: &mut Vec<u8>,
-    job: JobId,
-    step: StepOut,
-) -> Result<(), AllocError>
+pub(super) fn push_step(out: &mut Vec<u8>, job: JobId, step: StepOut) -> Result<(), AllocError>
     ensures { OnOk result (out.new.items ≡ out.old.items ++ out_text job step) }
 {
     push_number(out, job)?;
@@ -36,22 +31,17 @@ pub(super) fn push_step(
     out.push(b'\n')?;
     match step.answer {
         None => Ok(()),
-        Some(answer) => push_answer_line(alloc, out, job, answer),
+        Some(answer) => push_answer_line(out, job, answer),
     }
 }
 
 /// Appends `J answer A`, the line of a job's answer. Where memory runs out, some of it may have been appended.
-pub fn push_answer_line(
-    alloc: Global,
-    out: &mut Vec<u8>,
-    job: JobId,
-    answer: Answer,
-) -> Result<(), AllocError>
+pub fn push_answer_line(out: &mut Vec<u8>, job: JobId, answer: Answer) -> Result<(), AllocError>
     ensures { OnOk result (out.new.items ≡ out.old.items ++ answer_line job (Some answer)) }
 {
     push_number(out, job)?;
     out.extend_from_slice(b" answer ")?;
-    push_answer(alloc, out, answer)?;
+    push_answer(out, answer)?;
     out.push(b'\n')?;
     Ok(())
 }
@@ -86,14 +76,14 @@ fn reply_text(reply: DirReply) -> &'static [u8]
     }
 }
 
-fn push_answer(alloc: Global, out: &mut Vec<u8>, answer: Answer) -> Result<(), AllocError>
+fn push_answer(out: &mut Vec<u8>, answer: Answer) -> Result<(), AllocError>
     ensures { OnOk result (out.new.items ≡ out.old.items ++ answer_text answer) }
 {
     match answer {
         Answer::Delivered => out.extend_from_slice(b"delivered"),
         Answer::Flags(flags) => {
             out.extend_from_slice(b"flags ")?;
-            push_letters(alloc, out, flags)
+            push_letters(out, flags)
         }
         Answer::Moved => out.extend_from_slice(b"moved"),
         Answer::Copied => out.extend_from_slice(b"copied"),

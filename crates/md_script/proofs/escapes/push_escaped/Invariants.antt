@@ -1,9 +1,9 @@
-use Rattle.std.proofs.Common.{◌≡◌, ◌++◌, length}
-use Rattle.md_script.specs.Escapes.{escape_all}
+use Rattle.md_script.proofs.Printing.{SoFar}
+use Rattle.std.proofs.Common.{length}
 use Rattle.md_script.proofs.escapes.push_escaped.Given as goal
 
 abbrev pub invariant-loop-at : goal.invariant-loop-at
-invariant-loop-at l = l.out.items ++ escape_all l.left ≡ l.fn.out.items ++ escape_all l.fn.bytes
+invariant-loop-at l = SoFar l.fn.out.items l.fn.bytes l.out.items l.done l.marks
 
 abbrev pub decreases-loop-at : goal.decreases-loop-at
-decreases-loop-at l = length l.left
+decreases-loop-at l = length l.marks

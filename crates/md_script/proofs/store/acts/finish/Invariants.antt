@@ -4,8 +4,8 @@ use Rattle.md_script.specs.Held.{MayWait}
 use Rattle.md_script.proofs.Finishing.{Finishes}
 use Rattle.md_script.proofs.store.acts.finish.Given as goal
 
-abbrev pub invariant-loop-alloc : goal.invariant-loop-alloc
-invariant-loop-alloc g l = (text : List ℕ) × (l.out.items ≡ l.fn.out.items ++ text) × Finishes l.fn.world l.event l.world text × MayWait l.fn.world l.world
+abbrev pub invariant-loop-event : goal.invariant-loop-event
+invariant-loop-event g l = (text : List ℕ) × (l.out.items ≡ l.fn.out.items ++ text) × Finishes l.fn.world l.event l.world text × MayWait l.fn.world l.world
 
-abbrev pub decreases-loop-alloc : goal.decreases-loop-alloc
-decreases-loop-alloc g l = steps_left l.world l.event.job
+abbrev pub decreases-loop-event : goal.decreases-loop-event
+decreases-loop-event g l = steps_left l.world l.event.job
