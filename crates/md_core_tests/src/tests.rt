@@ -17,6 +17,7 @@ mod threads;
 use md_core::{Answer, Call, CoreError, Event, JobId, RunStop, StepOut, World};
 use md_dirs::{Bytes, Dirs, Place, PlainDirs};
 use std::alloc::{AllocError, Global};
+use std::fmt::Display;
 use std::process::Abort;
 
 const NAME: &[u8] = b"1000.M1P7Q1.a";
@@ -55,14 +56,14 @@ fn load<D: Dirs + Drop>(alloc: Global, dirs: D) -> Result<World<D>, CoreError> {
     }
 }
 
-// Submits a call, once more where memory was wanting, and gives its refusal alone.
+// Submits a call, if there was memory to make it, once more where memory was wanting, and gives its refusal alone.
 fn submitted<D: Dirs>(
     rt: &impl Abort,
     world: &mut World<D>,
-    call: Call,
+    call: Result<Call, AllocError>,
 ) -> Result<JobId, CoreError> {
     let jobs = world.jobs();
-    let refused = match world.submit(call) {
+    let refused = match world.submit(call?) {
         Ok(job) => return Ok(job),
         Err(refused) => refused,
     };
@@ -101,6 +102,22 @@ fn step<D: Dirs>(
     out
 }
 
+// Takes steps of a job that has no answer up to its answer.
+fn finish<D: Dirs>(rt: &impl Abort, world: &mut World<D>, job: JobId, now: u64) -> Option<Answer> {
+    let mut told = None;
+    for _ in 0..100 {
+        assert!(rt; world.answer(job) == told);
+        if told.is_some() {
+            return told;
+        }
+        match step(rt, world, job, now) {
+            Ok(out) => told = out.answer,
+            Err(_) => return None,
+        }
+    }
+    None
+}
+
 fn run_once<D: Dirs>(world: &mut World<D>, events: &[Event]) -> Option<RunStop> {
     world.run(events).err()
 }
@@ -129,7 +146,7 @@ fn submit_one<D: Dirs>(
     alloc: Global,
     world: &mut World<D>,
 ) -> Result<JobId, CoreError> {
-    submitted(rt, world, letter(alloc, 0, NAME)?)
+    submitted(rt, world, letter(alloc, 0, NAME))
 }
 
 // A world of one job, which delivers six bytes by fours.
@@ -168,4 +185,23 @@ fn has_names<D: Dirs>(world: &World<D>, folder: u32, place: Place, names: &[(&[u
         }
     }
     world.names(folder, place, names.len()).is_none()
+}
+
+fn text_once<T: Display>(alloc: Global, value: &T) -> Result<String, AllocError> {
+    format!(in alloc; "{value}")
+}
+
+// What a value prints, once more where memory was wanting.
+fn text_of<T: Display>(alloc: Global, value: &T) -> Result<String, AllocError> {
+    match text_once(alloc, value) {
+        Ok(text) => Ok(text),
+        Err(_) => text_once(alloc, value),
+    }
+}
+
+fn is_told<T: Display>(alloc: Global, value: &T, want: &str) -> bool {
+    match text_of(alloc, value) {
+        Ok(text) => text.as_str() == want,
+        Err(_) => false,
+    }
 }

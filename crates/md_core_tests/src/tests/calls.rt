@@ -1,11 +1,11 @@
 // Calls from their submit to their answer: each of the seven, refused ones, ones that lack memory amid their steps, and ones over a call
 // that fails. What they answer is taken from what the calls mean, and the names from maildir(5).
 use super::loads::{Named, world_of};
-use super::mailbox::letters;
+use super::mailbox::{Kind, errand, letters};
 use super::scene::{Scene, plays};
-use super::{BODY, NAME, copied, has_names, letter, load, shown};
+use super::{BODY, NAME, finish, has_names, is_told, letter, load, shown};
 use md_core::Answer::{Cleaned, Copied, Delivered, Expunged, Fault, Moved};
-use md_core::{Answer, Call, CallError, CoreError, JobId, SubmitRefused, World};
+use md_core::{Answer, Call, CallError, CoreError, World};
 use md_dirs::Place::{Cur, New, Tmp};
 use md_dirs::{Dirs, FailAt, PlainDirs};
 use md_name::Flags;
@@ -15,119 +15,71 @@ use std::process::Abort;
 // A moment, in seconds, at which the clean of a file that was stamped at 0 takes it.
 const NOW: u64 = 129_600;
 
-// The job of a call that lacked memory has no answer, and goes on.
-fn goes_on<D: Dirs>(
-    rt: &impl Abort,
-    world: &mut World<D>,
-    job: JobId,
-) -> Result<Answer, CoreError> {
-    for _ in 0..100 {
-        assert!(rt; world.answer(job).is_none());
-        if let Some(answer) = world.step(job, NOW, None)?.answer {
-            return Ok(answer);
-        }
-    }
-    Err(CoreError::NoMemory)
-}
-
 // A call that is made once.
-fn once<D: Dirs>(world: &mut World<D>, call: Call) -> Result<Answer, CoreError> {
-    match world.call(call, NOW, None) {
-        Ok(answer) => Ok(answer),
-        Err(CallError::Refused(refused)) => Err(refused.error),
-        Err(CallError::NoMemory { .. }) => Err(CoreError::NoMemory),
-    }
+fn once<D: Dirs>(world: &mut World<D>, call: Call) -> Option<Answer> {
+    world.call(call, NOW, None).ok()
 }
 
-// A call that is made again, or goes on, where a growth was refused. A refused call is no job, and one that lacks memory is the last.
-fn answered<D: Dirs>(
-    rt: &impl Abort,
-    world: &mut World<D>,
-    call: Call,
-) -> Result<Answer, CoreError> {
+// A call that is made again, or goes on, where a growth was refused.
+fn answered(rt: &impl Abort, world: &mut World<PlainDirs>, call: Call) -> Option<Answer> {
     let jobs = world.jobs();
     match world.call(call, NOW, None) {
-        Ok(answer) => Ok(answer),
-        Err(CallError::NoMemory { job }) => {
-            assert!(rt; world.jobs() == job && job > jobs);
-            goes_on(rt, world, job)
-        }
-        Err(CallError::Refused(refused)) => {
-            assert!(rt; world.jobs() == jobs);
-            again(world, refused)
-        }
+        Ok(answer) => Some(answer),
+        Err(error) => answered_later(rt, world, jobs, error),
     }
 }
 
-// A refused call is made again where memory was wanting.
-fn again<D: Dirs>(world: &mut World<D>, refused: SubmitRefused) -> Result<Answer, CoreError> {
-    if refused.error != CoreError::NoMemory {
-        return Err(refused.error);
+// A refused call is no job, and one that lacks memory is the last, which has no answer, and goes on.
+fn answered_later(
+    rt: &impl Abort,
+    world: &mut World<PlainDirs>,
+    jobs: u64,
+    error: CallError,
+) -> Option<Answer> {
+    match error {
+        CallError::NoMemory { job } => {
+            assert!(rt; world.jobs() == job && job > jobs);
+            finish(rt, world, job, NOW)
+        }
+        CallError::Refused(refused) => {
+            assert!(rt; world.jobs() == jobs && refused.error == CoreError::NoMemory);
+            once(world, refused.call)
+        }
     }
-    once(world, refused.call)
 }
 
 // Whether a call is answered as it should be.
-fn is_answered<D: Dirs>(
+fn is_answered(
     rt: &impl Abort,
-    world: &mut World<D>,
+    world: &mut World<PlainDirs>,
     call: Result<Call, AllocError>,
     want: Answer,
 ) -> bool {
     match call {
-        Ok(call) => answered(rt, world, call) == Ok(want),
+        Ok(call) => answered(rt, world, call) == Some(want),
         Err(_) => false,
     }
 }
 
-// A call on the message u of folder 0: each of the errands, by its number.
-fn errand(alloc: Global, number: u32, letter: Flags) -> Result<Call, AllocError> {
-    let (folder, tries, to) = (0, 1, 1);
-    let unique = copied(alloc, b"u")?;
-    Ok(match number {
-        0 => Call::Seen {
-            folder,
-            unique,
-            flags: letter,
-            tries,
-        },
-        1 => Call::Flag {
-            folder,
-            unique,
-            add: letter,
-            remove: Flags::empty(),
-            tries,
-        },
-        2 => Call::Copy {
-            folder,
-            unique,
-            to,
-            fresh: copied(alloc, b"w")?,
-            tries,
-        },
-        3 => Call::Move {
-            folder,
-            unique,
-            to,
-            tries,
-        },
-        _ => Call::Expunge {
-            folder: to,
-            unique,
-            tries,
-        },
-    })
+// An errand on the message u, which adds these flags.
+fn on_message(alloc: Global, kind: Kind, folder: u32, add: &[u8]) -> Result<Call, AllocError> {
+    let flags = (letters(add), Flags::empty());
+    errand(alloc, kind, (folder, b"u"), flags, b"w", 1)
 }
 
 // Whether each errand on the message is answered as it should be.
 fn errands_are_answered(rt: &impl Abort, alloc: Global, world: &mut World<PlainDirs>) -> bool {
-    let (seen, trashed) = (letters(b"S"), letters(b"T"));
-    let both = letters(b"ST");
-    is_answered(rt, world, errand(alloc, 0, seen), Answer::Flags(seen))
-        && is_answered(rt, world, errand(alloc, 1, trashed), Answer::Flags(both))
-        && is_answered(rt, world, errand(alloc, 2, seen), Copied)
-        && is_answered(rt, world, errand(alloc, 3, seen), Moved)
-        && is_answered(rt, world, errand(alloc, 4, seen), Expunged)
+    let (seen, both) = (Answer::Flags(letters(b"S")), Answer::Flags(letters(b"ST")));
+    is_answered(rt, world, on_message(alloc, Kind::Seen, 0, b"S"), seen)
+        && is_answered(rt, world, on_message(alloc, Kind::Flag, 0, b"T"), both)
+        && is_answered(rt, world, on_message(alloc, Kind::Copy, 0, b""), Copied)
+        && is_answered(rt, world, on_message(alloc, Kind::Move, 0, b""), Moved)
+        && is_answered(
+            rt,
+            world,
+            on_message(alloc, Kind::Expunge, 1, b""),
+            Expunged,
+        )
 }
 
 /// A world of the message u in new, and of an old file in tmp.
@@ -166,25 +118,46 @@ fn each_call_is_answered(rt: HostRuntime) {
     plays(&rt, rt.alloc(), Scene::EachCall);
 }
 
-/// A call that is refused, and the call in the refusal, where it was not for want of memory.
+// How a call is refused, if it is.
+fn refusal(world: &mut World<PlainDirs>, call: Call) -> Option<CallError> {
+    match world.call(call, NOW, None) {
+        Ok(_) => None,
+        Err(error) => Some(error),
+    }
+}
+
+// Whether a call is in its refusal, which was not for want of memory.
+fn is_given_back(error: &CallError) -> bool {
+    match error {
+        CallError::Refused(refused) => {
+            refused.error == CoreError::NoFolder
+                && matches!(
+                    refused.call,
+                    Call::Deliver {
+                        folder: 2,
+                        chunk: 4,
+                        ..
+                    }
+                )
+        }
+        CallError::NoMemory { .. } => false,
+    }
+}
+
+fn refuses(world: &mut World<PlainDirs>, call: Call) -> bool {
+    match refusal(world, call) {
+        Some(error) => is_given_back(&error),
+        None => false,
+    }
+}
+
+/// A call that is refused, and comes back.
 pub(super) fn gives_back(alloc: Global, world: &mut World<PlainDirs>) -> bool {
-    let Ok(call) = letter(alloc, 2, NAME) else {
-        return false;
+    let is_refused = match letter(alloc, 2, NAME) {
+        Ok(call) => refuses(world, call),
+        Err(_) => false,
     };
-    let Err(CallError::Refused(refused)) = world.call(call, NOW, None) else {
-        return false;
-    };
-    world.jobs() == 0
-        && world.log().is_empty()
-        && refused.error == CoreError::NoFolder
-        && matches!(
-            refused.call,
-            Call::Deliver {
-                folder: 2,
-                chunk: 4,
-                ..
-            }
-        )
+    is_refused && world.jobs() == 0 && world.log().is_empty()
 }
 
 #[test]
@@ -209,7 +182,7 @@ fn a_call_that_lacks_memory_goes_on(rt: HostRuntime) {
 // What the delivery of a message is answered, which is made once.
 fn delivers(alloc: Global, world: &mut World<FailAt<PlainDirs>>, unique: &[u8]) -> Option<Answer> {
     match letter(alloc, 0, unique) {
-        Ok(call) => once(world, call).ok(),
+        Ok(call) => once(world, call),
         Err(_) => None,
     }
 }
@@ -234,13 +207,24 @@ fn goes_on_after_a_fault(alloc: Global, world: &mut World<FailAt<PlainDirs>>) ->
     Some(first == Fault && jobs == 1 && next == Delivered && has_names(world, 0, New, &[(b"u", 6)]))
 }
 
+fn comes_in(
+    alloc: Global,
+    world: &mut World<FailAt<PlainDirs>>,
+    at: u64,
+    is_next: bool,
+) -> Option<bool> {
+    if is_next {
+        goes_on_after_a_fault(alloc, world)
+    } else {
+        is_fault_or_done(alloc, world, at)
+    }
+}
+
 // What comes of a delivery, or of the next one, over directories whose call number `at` fails. None where memory was wanting.
 fn comes(alloc: Global, at: u64, is_next: bool) -> Option<bool> {
-    let mut world = load(alloc, FailAt::new(PlainDirs::new(alloc, 1), at)).ok()?;
-    if is_next {
-        goes_on_after_a_fault(alloc, &mut world)
-    } else {
-        is_fault_or_done(alloc, &mut world, at)
+    match load(alloc, FailAt::new(PlainDirs::new(alloc, 1), at)) {
+        Ok(mut world) => comes_in(alloc, &mut world, at, is_next),
+        Err(_) => None,
     }
 }
 
@@ -283,31 +267,21 @@ fn directories_outlive_their_world(rt: HostRuntime) {
     plays(&rt, rt.alloc(), Scene::NewWorld);
 }
 
-fn text_of(alloc: Global, error: &CallError) -> Result<String, AllocError> {
-    format!(in alloc; "{error}")
+fn lack_is_told(alloc: Global) -> bool {
+    let lack = CallError::NoMemory { job: 7 };
+    is_told(alloc, &lack, "no memory amid the steps of job 7")
 }
 
-fn is_text(alloc: Global, error: &CallError, want: &str) -> bool {
-    match text_of(alloc, error) {
-        Ok(text) => text.as_str() == want,
-        Err(_) => false,
+fn refusal_is_told(alloc: Global, world: &mut World<PlainDirs>) -> bool {
+    match refusal(world, Call::Clean { folder: 2 }) {
+        Some(error) => is_told(alloc, &error, "no folder"),
+        None => false,
     }
-}
-
-fn is_told(alloc: Global, error: &CallError, want: &str) -> bool {
-    is_text(alloc, error, want) || is_text(alloc, error, want)
 }
 
 /// The texts of both errors of a call.
 pub(super) fn are_told(alloc: Global, world: &mut World<PlainDirs>) -> bool {
-    let lacking = CallError::NoMemory { job: 7 };
-    match world.call(Call::Clean { folder: 2 }, NOW, None) {
-        Ok(_) => false,
-        Err(refused) => {
-            is_told(alloc, &lacking, "no memory amid the steps of job 7")
-                && is_told(alloc, &refused, "no folder")
-        }
-    }
+    lack_is_told(alloc) && refusal_is_told(alloc, world)
 }
 
 #[test]

@@ -2,9 +2,9 @@
 // in crates/examples/data/. The bytes of each file are its name.
 use super::scene::{Scene, plays};
 use super::{copied, delivery, step, submitted};
-use md_core::{CoreError, LoadRefused, World};
+use md_core::{Call, CoreError, World};
 use md_dirs::{Bytes, DirError, Dirs, ImageFile, Path, Place, PlainDirs};
-use std::alloc::Global;
+use std::alloc::{AllocError, Global};
 use std::process::Abort;
 
 /// A file by its folder, its place, its name and its stamp.
@@ -83,21 +83,8 @@ fn load(
         Ok(world) => Ok(world),
         Err(refused) => {
             assert!(rt; holds(&refused.dirs, files));
-            load_again(alloc, refused)
+            super::load(alloc, refused.dirs)
         }
-    }
-}
-
-fn load_again(
-    alloc: Global,
-    refused: LoadRefused<PlainDirs>,
-) -> Result<World<PlainDirs>, CoreError> {
-    if refused.error != CoreError::NoMemory {
-        return Err(refused.error);
-    }
-    match World::load(alloc, refused.dirs) {
-        Ok(world) => Ok(world),
-        Err(refused) => Err(refused.error),
     }
 }
 
@@ -110,7 +97,7 @@ fn is_refused(rt: &impl Abort, alloc: Global, place: Place, name: &[u8]) -> bool
     }
 }
 
-static SEPARATED: [&[u8]; 5] = [b"a/b", b"\0", b"a\n", b"\ra", b"u:2,/"];
+static SEPARATED: &str = "a/b|\0|a\n|\ra|u:2,/";
 
 // Whether a name is bad in each place.
 fn is_bad(rt: &impl Abort, alloc: Global, name: &[u8]) -> bool {
@@ -121,8 +108,8 @@ fn is_bad(rt: &impl Abort, alloc: Global, name: &[u8]) -> bool {
 
 #[test]
 fn names_have_no_separator(rt: HostRuntime) {
-    for name in SEPARATED.iter() {
-        assert!(rt; is_bad(&rt, rt.alloc(), name), "{name:?}");
+    for name in SEPARATED.split('|') {
+        assert!(rt; is_bad(&rt, rt.alloc(), name.as_bytes()), "{name:?}");
     }
 }
 
@@ -150,17 +137,24 @@ fn a_name_of_any_bytes_is_read(rt: HostRuntime) {
     plays(&rt, rt.alloc(), Scene::AnyBytes);
 }
 
+fn empty(alloc: Global) -> Result<Call, AllocError> {
+    delivery(alloc, 0, b"u", copied(alloc, b"")?, 1)
+}
+
 /// The stamp of the first file of tmp of folder 0, once a delivery began at this moment.
 pub(super) fn stamp_at(
     rt: &impl Abort,
     alloc: Global,
     world: &mut World<PlainDirs>,
     now: u64,
-) -> Result<Option<u64>, CoreError> {
-    let call = delivery(alloc, 0, b"u", copied(alloc, b"")?, 1)?;
-    let job = submitted(rt, world, call)?;
-    step(rt, world, job, now)?;
-    Ok(stamp(world))
+) -> Option<u64> {
+    let Ok(job) = submitted(rt, world, empty(alloc)) else {
+        return None;
+    };
+    if step(rt, world, job, now).is_err() {
+        return None;
+    }
+    stamp(world)
 }
 
 fn stamp(world: &World<PlainDirs>) -> Option<u64> {

@@ -12,7 +12,7 @@ const UNIQUE: &[u8] = b"u";
 static FRESH: [&[u8]; 2] = [b"v", b"w"];
 
 /// An errand on the message `u` of folder 0. A move and a copy go to folder 1.
-#[derive(Clone, Copy, Debug, PartialEq, Eq)]
+#[derive(Clone, Copy)]
 pub(super) enum Kind {
     /// It adds F.
     Seen,
@@ -23,7 +23,7 @@ pub(super) enum Kind {
     Copy,
 }
 
-#[derive(Clone, Copy, PartialEq, Eq)]
+#[derive(Clone, Copy, PartialEq)]
 struct Message {
     folder: u32,
     place: Place,
@@ -31,7 +31,7 @@ struct Message {
 }
 
 /// The message, and the copies that the first and the second job may make.
-#[derive(Clone, Copy, PartialEq, Eq)]
+#[derive(Clone, Copy, PartialEq)]
 pub(super) struct Mailbox {
     message: Option<Message>,
     first: Option<Message>,
@@ -59,10 +59,10 @@ fn acts_in(kind: Kind, place: Place) -> bool {
 
 // The flags after a Seen or a Flag of a message that had these.
 fn wanted(kind: Kind, had: Flags) -> Flags {
-    if kind == Kind::Seen {
-        return had.with(letters(b"F"));
+    match kind {
+        Kind::Seen => had.with(letters(b"F")),
+        _ => had.with(letters(b"R")).without(letters(b"FS")),
     }
-    had.with(letters(b"R")).without(letters(b"FS"))
 }
 
 /// What a call is answered alone.
@@ -92,7 +92,7 @@ pub(super) fn answer_alone(kind: Kind, mailbox: &Mailbox) -> Answer {
 // A message with these flags, where a Seen or a Flag leaves it.
 fn flagged(message: Message, kind: Kind, had: Flags) -> Message {
     let flags = wanted(kind, had);
-    if kind == Kind::Flag && flags == had {
+    if matches!(kind, Kind::Flag) && flags == had {
         return message;
     }
     Message {
@@ -140,23 +140,31 @@ pub(super) fn is_other(mailbox: &Mailbox, earlier: &Mailbox) -> bool {
     mailbox.message != earlier.message
 }
 
-/// The call of job 0 or 1.
-pub(super) fn call(alloc: Global, kind: Kind, job: usize, tries: u64) -> Result<Call, AllocError> {
-    let folder = 0;
+/// The call of an errand on a message, by the folder and the unique name of that, with the flags that it adds and those that it removes.
+/// A Seen removes none. A move and a copy go to folder 1, and a copy has this fresh name.
+pub(super) fn errand(
+    alloc: Global,
+    kind: Kind,
+    on: (u32, &[u8]),
+    flags: (Flags, Flags),
+    fresh: &[u8],
+    tries: u64,
+) -> Result<Call, AllocError> {
+    let folder = on.0;
+    let unique = copied(alloc, on.1)?;
     let to = 1;
-    let unique = copied(alloc, UNIQUE)?;
     Ok(match kind {
         Kind::Seen => Call::Seen {
             folder,
             unique,
-            flags: letters(b"F"),
+            flags: flags.0,
             tries,
         },
         Kind::Flag => Call::Flag {
             folder,
             unique,
-            add: letters(b"R"),
-            remove: letters(b"FS"),
+            add: flags.0,
+            remove: flags.1,
             tries,
         },
         Kind::Move => Call::Move {
@@ -174,10 +182,30 @@ pub(super) fn call(alloc: Global, kind: Kind, job: usize, tries: u64) -> Result<
             folder,
             unique,
             to,
-            fresh: copied(alloc, FRESH[job % 2])?,
+            fresh: copied(alloc, fresh)?,
             tries,
         },
     })
+}
+
+// The flags that an errand adds, and those that it removes.
+fn flags_of(kind: Kind) -> (Flags, Flags) {
+    match kind {
+        Kind::Flag => (letters(b"R"), letters(b"FS")),
+        _ => (letters(b"F"), Flags::empty()),
+    }
+}
+
+/// The call of job 0 or 1.
+pub(super) fn call(alloc: Global, kind: Kind, job: usize, tries: u64) -> Result<Call, AllocError> {
+    errand(
+        alloc,
+        kind,
+        (0, UNIQUE),
+        flags_of(kind),
+        FRESH[job % 2],
+        tries,
+    )
 }
 
 // The message of a unique name in a directory of a world.

@@ -31,7 +31,7 @@ pub(super) fn leaves_the_clock(
 ) -> bool {
     let clock = clock_after(rt, world);
     world.answer(1) == Some(Answer::Delivered)
-        && stamp_at(rt, alloc, world, 0) == Ok(Some(clock))
+        && stamp_at(rt, alloc, world, 0) == Some(clock)
         && world.log().len() == 6
 }
 

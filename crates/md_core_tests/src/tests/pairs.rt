@@ -2,7 +2,7 @@
 use super::loads::{Named, world_of};
 use super::mailbox::{Kind, Mailbox, after_alone, answer_alone, call, is_other, mailbox_of};
 use super::{step, submitted};
-use md_core::{Answer, CoreError, StepOut, World};
+use md_core::{Answer, StepOut, World};
 use md_dirs::{Place, PlainDirs};
 use std::alloc::Global;
 use std::process::Abort;
@@ -138,31 +138,45 @@ impl Watch {
     }
 }
 
+// The job that takes the next step, where one has no answer yet.
+fn next(watch: &Watch, order: &mut Order, choices: &mut u32) -> Option<usize> {
+    match (watch.jobs[0].answer, watch.jobs[1].answer) {
+        (Some(_), Some(_)) => None,
+        (None, Some(_)) => Some(0),
+        (Some(_), None) => Some(1),
+        (None, None) => {
+            let choice = *choices;
+            *choices = choice.saturating_add(1);
+            Some(order.job(choice))
+        }
+    }
+}
+
+// Takes a step of job 0 or 1. Whether it was right.
+fn takes(rt: &impl Abort, world: &mut World<PlainDirs>, watch: &mut Watch, job: usize) -> bool {
+    match step(rt, world, if job == 0 { 1 } else { 2 }, 0) {
+        Ok(out) => watch.notes(job, &out, &mailbox_of(world)),
+        Err(_) => false,
+    }
+}
+
 // Takes all steps of two jobs in an order, which gets the steps past its end. Whether each was right, and both jobs have answers.
 fn plays(
     rt: &impl Abort,
     world: &mut World<PlainDirs>,
     watch: &mut Watch,
     order: &mut Order,
-) -> Result<bool, CoreError> {
+) -> bool {
     let mut choices = 0u32;
     for _ in 0..MOST {
-        let job = match (watch.jobs[0].answer, watch.jobs[1].answer) {
-            (Some(_), Some(_)) => return Ok(true),
-            (None, Some(_)) => 0,
-            (Some(_), None) => 1,
-            (None, None) => {
-                choices = choices.saturating_add(1);
-                order.job(choices.saturating_sub(1))
-            }
+        let Some(job) = next(watch, order, &mut choices) else {
+            return true;
         };
-        let out = step(rt, world, if job == 0 { 1 } else { 2 }, 0)?;
-        let mailbox = mailbox_of(world);
-        if !watch.notes(job, &out, &mailbox) {
-            return Ok(false);
+        if !takes(rt, world, watch, job) {
+            return false;
         }
     }
-    Ok(false)
+    false
 }
 
 // Whether the calls of both are submitted, to a world that has no job.
@@ -172,13 +186,12 @@ fn submits_both(
     world: &mut World<PlainDirs>,
     kinds: [Kind; 2],
     tries: u64,
-) -> Result<(), CoreError> {
-    submitted(rt, world, call(alloc, kinds[0], 0, tries)?)?;
-    submitted(rt, world, call(alloc, kinds[1], 1, tries)?)?;
-    Ok(())
+) -> bool {
+    submitted(rt, world, call(alloc, kinds[0], 0, tries)) == Ok(1)
+        && submitted(rt, world, call(alloc, kinds[1], 1, tries)) == Ok(2)
 }
 
-// Plays two jobs in a world that has none.
+// Plays two jobs in a world that has none. Whether each step was right.
 fn plays_both(
     rt: &impl Abort,
     alloc: Global,
@@ -186,8 +199,10 @@ fn plays_both(
     kinds: [Kind; 2],
     tries: u64,
     order: &mut Order,
-) -> Result<bool, CoreError> {
-    submits_both(rt, alloc, world, kinds, tries)?;
+) -> bool {
+    if !submits_both(rt, alloc, world, kinds, tries) {
+        return false;
+    }
     let mut watch = Watch::new(kinds, tries, mailbox_of(world));
     plays(rt, world, &mut watch, order)
 }
@@ -202,7 +217,7 @@ fn is_right(
     order: &mut Order,
 ) -> bool {
     match world_of(alloc, &[start]) {
-        Ok(mut world) => plays_both(rt, alloc, &mut world, kinds, tries, order) == Ok(true),
+        Ok(mut world) => plays_both(rt, alloc, &mut world, kinds, tries, order),
         Err(_) => false,
     }
 }
@@ -230,10 +245,10 @@ fn meets(
 // How many orders every two errands on a message have, with so many tries.
 fn meet_at(rt: &impl Abort, alloc: Global, start: Named<'static>, tries: u64) -> u64 {
     let mut orders = 0u64;
-    for first in KINDS.iter() {
-        for second in KINDS.iter() {
+    for (at, first) in KINDS.iter().enumerate() {
+        for (other, second) in KINDS.iter().enumerate() {
             let met = meets(rt, alloc, start, [*first, *second], tries);
-            assert!(rt; met.is_some(), "{first:?} {second:?}, {tries}");
+            assert!(rt; met.is_some(), "errands {at} and {other}, {tries}");
             orders = orders.saturating_add(met.unwrap_or(0));
         }
     }

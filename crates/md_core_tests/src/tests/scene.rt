@@ -5,6 +5,7 @@ use super::calls::{
 use super::loads::{is_read, world_of_bytes};
 use super::memory::leaves_the_clock;
 use super::runs::{refuses_steps, stops, takes_five_steps};
+use super::small::may_cross;
 use super::submits::{are_refused, is_full};
 use super::{load, plain_delivery};
 use md_core::{CoreError, World};
@@ -28,6 +29,7 @@ pub(super) enum Scene {
     SixEvents,
     RefusedSteps,
     AnyBytes,
+    Crossing,
 }
 
 fn begun(rt: &impl Abort, alloc: Global, scene: Scene) -> Result<World<PlainDirs>, CoreError> {
@@ -40,7 +42,12 @@ fn begun(rt: &impl Abort, alloc: Global, scene: Scene) -> Result<World<PlainDirs
     }
 }
 
-fn is_played(rt: &impl Abort, alloc: Global, world: &mut World<PlainDirs>, scene: Scene) -> bool {
+fn is_played_in(
+    rt: &impl Abort,
+    alloc: Global,
+    world: &mut World<PlainDirs>,
+    scene: Scene,
+) -> bool {
     match scene {
         Scene::EachCall => answers_each(rt, alloc, world),
         Scene::RefusedCall => gives_back(alloc, world),
@@ -55,12 +62,17 @@ fn is_played(rt: &impl Abort, alloc: Global, world: &mut World<PlainDirs>, scene
         Scene::SixEvents => stops(rt, world, 6),
         Scene::RefusedSteps => refuses_steps(rt, world),
         Scene::AnyBytes => is_read(world),
+        Scene::Crossing => may_cross(world),
+    }
+}
+
+fn is_played(rt: &impl Abort, alloc: Global, scene: Scene) -> bool {
+    match begun(rt, alloc, scene) {
+        Ok(mut world) => is_played_in(rt, alloc, &mut world, scene),
+        Err(_) => false,
     }
 }
 
 pub(super) fn plays(rt: &impl Abort, alloc: Global, scene: Scene) {
-    match begun(rt, alloc, scene) {
-        Ok(mut world) => assert!(rt; is_played(rt, alloc, &mut world, scene)),
-        Err(_) => panic!(rt; "no world"),
-    }
+    assert!(rt; is_played(rt, alloc, scene));
 }

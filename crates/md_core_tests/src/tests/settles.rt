@@ -1,16 +1,16 @@
 // Worlds that begin again with their directories.
 use super::faults::answered;
 use super::loads::stamp_at;
-use super::mailbox::letters;
+use super::mailbox::{Kind, errand, letters};
 use super::{
-    NAME, copied, has_names, load, one_delivery, plain_delivery, step, submit_one, submitted,
+    NAME, finish, has_names, is_told, load, one_delivery, plain_delivery, step, submit_one,
+    submitted,
 };
-use DirCall::{Append, Create, Unlink};
 use md_core::Answer::{Cleaned, Delivered, Expunged, Fault};
-use md_core::DirReply::{Fault as Failed, Ok as Done};
-use md_core::{Answer, Call, CoreError, DirCall, JobId, SettleError, SettleRefused, World};
+use md_core::{Answer, Call, CoreError, JobId, SettleError, SettleRefused, World};
 use md_dirs::Place::{New, Tmp};
 use md_dirs::{Dirs, FailAt, PlainDirs};
+use md_name::Flags;
 use std::alloc::{AllocError, Global};
 use std::process::Abort;
 
@@ -37,37 +37,21 @@ fn settled_again<D: Dirs + Drop>(refused: SettleRefused<D>) -> Result<World<D>, 
     }
 }
 
-// Takes steps of a job up to its answer.
-fn answer<D: Dirs>(rt: &impl Abort, world: &mut World<D>, job: JobId) -> Option<Answer> {
-    for _ in 0..10 {
-        if world.answer(job).is_some() {
-            break;
-        }
-        if step(rt, world, job, 1000).is_err() {
-            return None;
-        }
-    }
-    world.answer(job)
-}
-
 // Submits a call, and takes its steps up to its answer.
 fn answer_to(
     rt: &impl Abort,
     world: &mut World<PlainDirs>,
     call: Result<Call, AllocError>,
 ) -> Option<Answer> {
-    match call {
-        Ok(call) => match submitted(rt, world, call) {
-            Ok(job) => answer(rt, world, job),
-            Err(_) => None,
-        },
+    match submitted(rt, world, call) {
+        Ok(job) => finish(rt, world, job, 1000),
         Err(_) => None,
     }
 }
 
 // Submits the clean of an empty tmp as this job, whose one step answers it.
 fn cleans(rt: &impl Abort, world: &mut World<PlainDirs>, now: u64, job: JobId) -> bool {
-    submitted(rt, world, Call::Clean { folder: 0 }) == Ok(job) && is_clean(rt, world, now, job)
+    submitted(rt, world, Ok(Call::Clean { folder: 0 })) == Ok(job) && is_clean(rt, world, now, job)
 }
 
 fn is_clean(rt: &impl Abort, world: &mut World<PlainDirs>, now: u64, job: JobId) -> bool {
@@ -78,7 +62,7 @@ fn is_clean(rt: &impl Abort, world: &mut World<PlainDirs>, now: u64, job: JobId)
 }
 
 // A world that is settled once, by what is done before and after.
-#[derive(Clone, Copy, PartialEq, Eq)]
+#[derive(Clone, Copy)]
 enum Scene {
     Full,
     Unanswered,
@@ -88,16 +72,16 @@ enum Scene {
 
 // The world of a scene. Where a name is to be freed, it is that of one message.
 fn begun(rt: &impl Abort, alloc: Global, scene: Scene) -> Result<World<PlainDirs>, CoreError> {
-    if scene == Scene::Freed {
-        return delivered(rt, alloc);
+    match scene {
+        Scene::Freed => delivered(rt, alloc),
+        _ => load(alloc, PlainDirs::new(alloc, 1)),
     }
-    load(alloc, PlainDirs::new(alloc, 1))
 }
 
 // A settled world whose one message was delivered.
 fn delivered(rt: &impl Abort, alloc: Global) -> Result<World<PlainDirs>, CoreError> {
     let mut world = plain_delivery(rt, alloc)?;
-    assert!(rt; answer(rt, &mut world, 1) == Some(Delivered));
+    assert!(rt; finish(rt, &mut world, 1, 1000) == Some(Delivered));
     match settle(rt, world) {
         Ok(world) => Ok(world),
         Err(_) => Err(CoreError::NoMemory),
@@ -118,34 +102,35 @@ fn is_after(rt: &impl Abort, alloc: Global, world: &mut World<PlainDirs>, scene:
         Scene::Full => is_empty(world) && cleans(rt, world, 7, 1),
         Scene::Unanswered => false,
         Scene::Freed => submit_one(rt, alloc, world) == Ok(1),
-        Scene::Clock => stamp_at(rt, alloc, world, 0) == Ok(Some(5000)),
+        Scene::Clock => stamp_at(rt, alloc, world, 0) == Some(5000),
     }
 }
 
-// Plays what is before, settles, and plays what is after. The refusal, if it isn't settled.
-fn plays(rt: &impl Abort, alloc: Global, scene: Scene) -> Result<(), SettleError> {
+// Settles a world, and plays what is after. A world is refused in one scene alone.
+fn goes_on(rt: &impl Abort, alloc: Global, world: World<PlainDirs>, scene: Scene) -> bool {
+    match settle(rt, world) {
+        Ok(mut world) => is_after(rt, alloc, &mut world, scene),
+        Err(error) => is_refused(error, scene),
+    }
+}
+
+fn is_refused(error: SettleError, scene: Scene) -> bool {
+    matches!(scene, Scene::Unanswered) && error == SettleError::Unanswered(2)
+}
+
+// Whether what is before, the settling and what is after are right.
+fn is_played(rt: &impl Abort, alloc: Global, scene: Scene) -> bool {
     match begun(rt, alloc, scene) {
         Ok(mut world) => {
             assert!(rt; is_before(rt, alloc, &mut world, scene));
             goes_on(rt, alloc, world, scene)
         }
-        Err(_) => Err(SettleError::NoMemory),
+        Err(_) => false,
     }
 }
 
-fn goes_on(
-    rt: &impl Abort,
-    alloc: Global,
-    world: World<PlainDirs>,
-    scene: Scene,
-) -> Result<(), SettleError> {
-    match settle(rt, world) {
-        Ok(mut world) => {
-            assert!(rt; is_after(rt, alloc, &mut world, scene));
-            Ok(())
-        }
-        Err(error) => Err(error),
-    }
+fn plays(rt: &impl Abort, alloc: Global, scene: Scene) {
+    assert!(rt; is_played(rt, alloc, scene));
 }
 
 // As many jobs as there may be.
@@ -155,7 +140,7 @@ fn fills(rt: &impl Abort, world: &mut World<PlainDirs>) -> bool {
             return false;
         }
     }
-    submitted(rt, world, Call::Clean { folder: 0 }) == Err(CoreError::TooManyJobs)
+    submitted(rt, world, Ok(Call::Clean { folder: 0 })) == Err(CoreError::TooManyJobs)
 }
 
 fn is_empty(world: &World<PlainDirs>) -> bool {
@@ -164,7 +149,7 @@ fn is_empty(world: &World<PlainDirs>) -> bool {
 
 #[test]
 fn a_full_world_settles_and_takes_calls_again(rt: HostRuntime) {
-    assert!(rt; plays(&rt, rt.alloc(), Scene::Full).is_ok());
+    plays(&rt, rt.alloc(), Scene::Full);
 }
 
 // The second of three jobs has begun, and the third has not.
@@ -172,27 +157,12 @@ fn begins_two(rt: &impl Abort, alloc: Global, world: &mut World<PlainDirs>) -> b
     cleans(rt, world, 7, 1)
         && submit_one(rt, alloc, world) == Ok(2)
         && step(rt, world, 2, 7).is_ok()
-        && submitted(rt, world, Call::Clean { folder: 0 }) == Ok(3)
+        && submitted(rt, world, Ok(Call::Clean { folder: 0 })) == Ok(3)
 }
 
 #[test]
 fn the_first_job_without_an_answer_is_named(rt: HostRuntime) {
-    assert!(rt; plays(&rt, rt.alloc(), Scene::Unanswered) == Err(SettleError::Unanswered(2)));
-}
-
-fn text_of(alloc: Global, error: SettleError) -> Result<String, AllocError> {
-    format!(in alloc; "{error}")
-}
-
-fn is_text(alloc: Global, error: SettleError, want: &str) -> bool {
-    match text_of(alloc, error) {
-        Ok(text) => text.as_str() == want,
-        Err(_) => false,
-    }
-}
-
-fn is_told(alloc: Global, error: SettleError, want: &str) -> bool {
-    is_text(alloc, error, want) || is_text(alloc, error, want)
+    plays(&rt, rt.alloc(), Scene::Unanswered);
 }
 
 #[test]
@@ -200,54 +170,56 @@ fn refusals_are_told_in_words(rt: HostRuntime) {
     assert!(rt;
         is_told(
             rt.alloc(),
-            SettleError::Unanswered(12),
+            &SettleError::Unanswered(12),
             "job 12 has no answer"
-        )
+        ) && is_told(rt.alloc(), &SettleError::NoMemory, "no memory")
     );
-    assert!(rt; is_told(rt.alloc(), SettleError::NoMemory, "no memory"));
 }
 
-// Marks the message as trashed.
-fn seen(alloc: Global) -> Result<Call, AllocError> {
-    Ok(Call::Seen {
-        folder: 0,
-        unique: copied(alloc, NAME)?,
-        flags: letters(b"T"),
-        tries: 1,
-    })
-}
-
-// Removes the message.
-fn expunge(alloc: Global) -> Result<Call, AllocError> {
-    Ok(Call::Expunge {
-        folder: 0,
-        unique: copied(alloc, NAME)?,
-        tries: 1,
-    })
+// A call on the message, which adds T where it changes the flags.
+fn on_message(alloc: Global, kind: Kind) -> Result<Call, AllocError> {
+    let flags = (letters(b"T"), Flags::empty());
+    errand(alloc, kind, (0, NAME), flags, b"", 1)
 }
 
 // A name is used while the message is there, and from then up to the next settle.
 fn expunges(rt: &impl Abort, alloc: Global, world: &mut World<PlainDirs>) -> bool {
     submit_one(rt, alloc, world) == Err(CoreError::NameUsed)
-        && answer_to(rt, world, seen(alloc)).is_some()
-        && answer_to(rt, world, expunge(alloc)) == Some(Expunged)
+        && answer_to(rt, world, on_message(alloc, Kind::Seen)).is_some()
+        && answer_to(rt, world, on_message(alloc, Kind::Expunge)) == Some(Expunged)
         && submit_one(rt, alloc, world) == Err(CoreError::NameUsed)
 }
 
 #[test]
 fn a_settled_world_uses_the_names_that_are_there(rt: HostRuntime) {
-    assert!(rt; plays(&rt, rt.alloc(), Scene::Freed).is_ok());
+    plays(&rt, rt.alloc(), Scene::Freed);
 }
 
-// A delivery whose append faults leaves no file. None where memory was wanting.
+// A delivery whose append faults, and its answer. None where memory was wanting.
+fn ends(rt: &impl Abort, alloc: Global, world: &mut World<FailAt<PlainDirs>>) -> Option<Answer> {
+    match answered(
+        rt,
+        alloc,
+        world,
+        1000,
+        "Create Ok, Append(4) Fault, Unlink Ok",
+    ) {
+        Ok(answer) => answer,
+        Err(_) => None,
+    }
+}
+
+// Its world. None where memory was wanting.
 fn faulted(rt: &impl Abort, alloc: Global) -> Option<World<FailAt<PlainDirs>>> {
     let dirs = FailAt::new(PlainDirs::new(alloc, 1), 2);
-    let mut world = one_delivery(rt, alloc, dirs).ok()?;
-    let steps = [(Create, Done), (Append(4), Failed), (Unlink, Done)];
-    match answered(rt, &mut world, 1000, &steps) {
-        Ok(answer) => {
-            assert!(rt; answer == Some(Fault));
-            settle(rt, world).ok()
+    match one_delivery(rt, alloc, dirs) {
+        Ok(mut world) => {
+            let is_fault = ends(rt, alloc, &mut world) == Some(Fault);
+            if is_fault {
+                settle(rt, world).ok()
+            } else {
+                None
+            }
         }
         Err(_) => None,
     }
@@ -261,7 +233,7 @@ fn delivers_again(
 ) -> Option<Answer> {
     assert!(rt; has_names(world, 0, Tmp, &[]) && has_names(world, 0, New, &[]));
     match submit_one(rt, alloc, world) {
-        Ok(job) => answer(rt, world, job),
+        Ok(job) => finish(rt, world, job, 1000),
         Err(_) => None,
     }
 }
@@ -282,5 +254,5 @@ fn a_world_settles_after_a_fault(rt: HostRuntime) {
 // The clock stays, though no file has its stamp.
 #[test]
 fn a_settled_world_keeps_its_clock(rt: HostRuntime) {
-    assert!(rt; plays(&rt, rt.alloc(), Scene::Clock).is_ok());
+    plays(&rt, rt.alloc(), Scene::Clock);
 }

@@ -1,6 +1,6 @@
 // Each refusal of a call, and which of several comes first.
 use super::scene::{Scene, plays};
-use super::{NAME, delivery, submitted};
+use super::{delivery, submitted, text_of};
 use CoreError::{BadChunk, BadUnique, BodyTooLong, NameUsed, NoFolder, TooManyJobs};
 use md_core::{Call, CoreError, World};
 use md_dirs::{Bytes, PlainDirs};
@@ -9,33 +9,41 @@ use std::process::Abort;
 
 const MOST_BYTES: usize = 16_777_216;
 
-// A folder, a unique name, the length of a body and a chunk, and the refusal.
-static ROWS: [(u32, &[u8], usize, u64, Option<CoreError>); 15] = [
-    (1, b".", MOST_BYTES + 1, 0, Some(NoFolder)),
-    (u32::MAX, b"v", 0, 1, Some(NoFolder)),
-    (0, b"", MOST_BYTES + 1, 0, Some(BadUnique)),
-    (0, b"a:b", 0, 1, Some(BadUnique)),
-    (0, b"a/b", 0, 1, Some(BadUnique)),
-    (0, b"a\0", 0, 1, Some(BadUnique)),
-    (0, b"a\n", 0, 1, Some(BadUnique)),
-    (0, b"\ra", 0, 1, Some(BadUnique)),
-    (0, b".a", 0, 1, Some(BadUnique)),
-    (0, NAME, MOST_BYTES + 1, 0, Some(BadChunk)),
-    (0, NAME, MOST_BYTES + 1, 1, Some(BodyTooLong)),
-    (0, NAME, 0, 1, Some(NameUsed)),
-    (0, b"v", MOST_BYTES, u64::MAX, None),
-    (0, b"v", 0, 1, Some(NameUsed)),
-    (0, b"w", 0, 1, None),
+// The unique names of deliveries, between bars.
+static UNIQUES: &str =
+    ".|v||a:b|a/b|a\0|a\n|\ra|.a|1000.M1P7Q1.a|1000.M1P7Q1.a|1000.M1P7Q1.a|v|v|w";
+
+// A folder, the length of a body and a chunk, and the refusal.
+type Row = (u32, usize, u64, Option<CoreError>);
+
+static ROWS: [Row; 15] = [
+    (1, MOST_BYTES + 1, 0, Some(NoFolder)),
+    (u32::MAX, 0, 1, Some(NoFolder)),
+    (0, MOST_BYTES + 1, 0, Some(BadUnique)),
+    (0, 0, 1, Some(BadUnique)),
+    (0, 0, 1, Some(BadUnique)),
+    (0, 0, 1, Some(BadUnique)),
+    (0, 0, 1, Some(BadUnique)),
+    (0, 0, 1, Some(BadUnique)),
+    (0, 0, 1, Some(BadUnique)),
+    (0, MOST_BYTES + 1, 0, Some(BadChunk)),
+    (0, MOST_BYTES + 1, 1, Some(BodyTooLong)),
+    (0, 0, 1, Some(NameUsed)),
+    (0, MOST_BYTES, u64::MAX, None),
+    (0, 0, 1, Some(NameUsed)),
+    (0, 0, 1, None),
 ];
 
 // The same where 10,000 jobs are there.
-static FULL: [(u32, &[u8], usize, u64, CoreError); 6] = [
-    (1, b".", MOST_BYTES + 1, 0, NoFolder),
-    (0, b".", MOST_BYTES + 1, 0, BadUnique),
-    (0, b"7", MOST_BYTES + 1, 0, BadChunk),
-    (0, b"7", MOST_BYTES + 1, 1, BodyTooLong),
-    (0, b"7", 0, 1, TooManyJobs),
-    (0, b"v", 0, 1, TooManyJobs),
+static FULL_UNIQUES: &str = ".|.|7|7|7|v";
+
+static FULL: [Row; 6] = [
+    (1, MOST_BYTES + 1, 0, Some(NoFolder)),
+    (0, MOST_BYTES + 1, 0, Some(BadUnique)),
+    (0, MOST_BYTES + 1, 0, Some(BadChunk)),
+    (0, MOST_BYTES + 1, 1, Some(BodyTooLong)),
+    (0, 0, 1, Some(TooManyJobs)),
+    (0, 0, 1, Some(TooManyJobs)),
 ];
 
 fn zeros(alloc: Global, len: usize) -> Result<Bytes, AllocError> {
@@ -45,30 +53,39 @@ fn zeros(alloc: Global, len: usize) -> Result<Bytes, AllocError> {
     }))
 }
 
+fn row_delivery(alloc: Global, unique: &str, row: Row) -> Result<Call, AllocError> {
+    delivery(alloc, row.0, unique.as_bytes(), zeros(alloc, row.1)?, row.2)
+}
+
 // Whether a delivery is refused so.
 fn is_refused(
     rt: &impl Abort,
     alloc: Global,
     world: &mut World<PlainDirs>,
-    row: (u32, &[u8], usize, u64),
-    want: Option<CoreError>,
+    unique: &str,
+    row: Row,
 ) -> bool {
-    match row_delivery(alloc, row) {
-        Ok(call) => submitted(rt, world, call).err() == want,
-        Err(_) => false,
-    }
+    submitted(rt, world, row_delivery(alloc, unique, row)).err() == row.3
 }
 
-fn row_delivery(alloc: Global, row: (u32, &[u8], usize, u64)) -> Result<Call, AllocError> {
-    delivery(alloc, row.0, row.1, zeros(alloc, row.2)?, row.3)
+// Whether all rows are refused as they say, in their order.
+fn are_refused_so(
+    rt: &impl Abort,
+    alloc: Global,
+    world: &mut World<PlainDirs>,
+    uniques: &str,
+    rows: &[Row],
+) -> bool {
+    let mut count = 0usize;
+    for (unique, row) in uniques.split('|').zip(rows.iter()) {
+        assert!(rt; is_refused(rt, alloc, world, unique, *row), "row {count}");
+        count = count.saturating_add(1);
+    }
+    count == rows.len()
 }
 
 pub(super) fn are_refused(rt: &impl Abort, alloc: Global, world: &mut World<PlainDirs>) -> bool {
-    for (at, (folder, unique, len, chunk, want)) in ROWS.iter().enumerate() {
-        let row = (*folder, *unique, *len, *chunk);
-        assert!(rt; is_refused(rt, alloc, world, row, *want), "row {at}");
-    }
-    world.jobs() == 3
+    are_refused_so(rt, alloc, world, UNIQUES, &ROWS) && world.jobs() == 3
 }
 
 #[test]
@@ -78,19 +95,15 @@ fn a_delivery_is_refused_for_its_first_fault(rt: HostRuntime) {
 
 // The delivery of an empty message, under a number.
 fn numbered(alloc: Global, number: u64) -> Result<Call, AllocError> {
-    let name = match format!(in alloc; "{number}") {
-        Ok(name) => name,
-        Err(_) => format!(in alloc; "{number}")?,
-    };
-    delivery(alloc, 0, name.as_bytes(), zeros(alloc, 0)?, 1)
+    match text_of(alloc, &number) {
+        Ok(name) => row_delivery(alloc, name.as_str(), (0, 0, 1, None)),
+        Err(error) => Err(error),
+    }
 }
 
 // Whether the delivery of a number is accepted, as the job after it.
 fn is_accepted(rt: &impl Abort, alloc: Global, world: &mut World<PlainDirs>, number: u64) -> bool {
-    match numbered(alloc, number) {
-        Ok(call) => submitted(rt, world, call) == Ok(number.saturating_add(1)),
-        Err(_) => false,
-    }
+    submitted(rt, world, numbered(alloc, number)) == Ok(number.saturating_add(1))
 }
 
 // The first 10,000 are accepted.
@@ -100,17 +113,7 @@ pub(super) fn is_full(rt: &impl Abort, alloc: Global, world: &mut World<PlainDir
             return false;
         }
     }
-    refuses_more(rt, alloc, world)
-}
-
-fn refuses_more(rt: &impl Abort, alloc: Global, world: &mut World<PlainDirs>) -> bool {
-    for (folder, unique, len, chunk, want) in FULL.iter() {
-        let row = (*folder, *unique, *len, *chunk);
-        if !is_refused(rt, alloc, world, row, Some(*want)) {
-            return false;
-        }
-    }
-    true
+    are_refused_so(rt, alloc, world, FULL_UNIQUES, &FULL)
 }
 
 #[test]

@@ -31,10 +31,7 @@ fn one_byte(alloc: Global, unique: &[u8]) -> Result<Call, AllocError> {
 }
 
 fn delivers<D: Dirs>(rt: &impl Abort, alloc: Global, world: &mut World<D>, unique: &[u8]) -> bool {
-    match one_byte(alloc, unique) {
-        Ok(call) => submitted(rt, world, call).is_ok(),
-        Err(_) => false,
-    }
+    submitted(rt, world, one_byte(alloc, unique)).is_ok()
 }
 
 // Takes the steps of both jobs, one of them once more where it found no memory.

@@ -1,13 +1,13 @@
 // Calls from their submission to their answer: by two threads at once, refused, taken over by another thread, and with little memory.
-use super::fixtures::{delivery, finish, flagging, lists, message, shows};
+use super::fixtures;
+use super::fixtures::{delivery, finish, listed, lists, lists_later};
 use super::gated::Gated;
-use super::scene::{Plan, Scene, stage};
+use super::scene::{Alone, Both, Plan, Scene, plays};
 use md_core::{Answer, Call, CoreError};
 use md_name::Flags;
-use md_store::{CallError, ListError, Naming, Pass, Store};
+use md_store::{CallError, Naming, Pass, Store};
 use std::alloc::Global;
 use std::sync::Wait;
-use std::test::Fail;
 use std::thread;
 use std::thread::Threads;
 
@@ -28,6 +28,31 @@ fn call<J: Naming, R: Wait>(
     }
 }
 
+// Whether the answer of a delivery went to another thread that stepped its job, which is the first. None where it did not end well.
+fn is_taken(called: &Result<Answer, CallError>) -> Option<bool> {
+    match called {
+        Ok(answer) => (*answer == Answer::Delivered).then_some(false),
+        Err(error) => match error {
+            CallError::Unanswered { job } => (*job == 1).then_some(true),
+            _ => None,
+        },
+    }
+}
+
+// The same of the delivery of a name.
+fn calls<J: Naming, R: Wait>(
+    rt: &R,
+    alloc: Global,
+    store: &Store<Gated, J>,
+    pass: &mut Pass<J>,
+    name: &[u8],
+) -> Option<bool> {
+    match call(rt, alloc, store, pass, name) {
+        Some(called) => is_taken(&called),
+        None => None,
+    }
+}
+
 // Whether a name is delivered by one call, and its message listed.
 fn is_delivered<J: Naming, R: Wait>(
     rt: &R,
@@ -36,11 +61,8 @@ fn is_delivered<J: Naming, R: Wait>(
     pass: &mut Pass<J>,
     name: &[u8],
 ) -> bool {
-    let called = call(rt, alloc, store, pass, name);
-    match store.list(alloc, pass, 0) {
-        Ok(entries) => matches!(called, Some(Ok(Answer::Delivered))) && shows(&entries, name),
-        Err(_) => false,
-    }
+    calls(rt, alloc, store, pass, name) == Some(false)
+        && listed(alloc, store, pass, name) == Ok(true)
 }
 
 // Delivers names of a byte each. Whether each was delivered and then listed.
@@ -79,34 +101,29 @@ pub fn call_at_once<J: Naming + Send + Sync, R: Threads + Wait + Sync>(
     rt: &R,
     alloc: Global,
     store: &Store<Gated, J>,
-    passes: &mut [Pass<J>],
+    one: &mut Pass<J>,
+    two: &mut Pass<J>,
 ) -> bool {
-    match passes {
-        [one, two] => {
-            deliver_both(rt, alloc, store, one, two)
-                && lists(alloc, store, one, 0, b"a b c d e f g h")
-                && lists(alloc, store, two, 0, b"a b c d e f g h")
-        }
-        _ => false,
-    }
+    deliver_both(rt, alloc, store, one, two)
+        && lists(alloc, store, one, 0, "a b c d e f g h")
+        && lists(alloc, store, two, 0, "a b c d e f g h")
 }
 
 #[test]
-fn two_threads_call_at_once(rt: HostRuntime) -> Result<(), Fail> {
+fn two_threads_call_at_once(rt: HostRuntime) {
     let plan = Plan {
-        scene: Scene::Calls,
+        scene: Scene::Both(Both::Calls),
         folders: 1,
         passes: 2,
+        files: "",
+        calls: "",
         wanted: (8, 32, 8),
     };
-    let alloc = rt.alloc();
-    let refused = stage(&rt, alloc, &plan, Vec::new(alloc), Vec::new(alloc))?;
-    assert!(rt; refused.is_none());
-    Ok(())
+    plays(&rt, rt.alloc(), &plan);
 }
 
 // Whether a second delivery under a name is refused, and comes back.
-fn is_given_back(called: Option<Result<Answer, CallError>>) -> bool {
+fn is_given_back(called: &Option<Result<Answer, CallError>>) -> bool {
     match called {
         Some(Err(CallError::Refused(refused))) => {
             refused.error == CoreError::NameUsed
@@ -120,30 +137,24 @@ pub fn call_twice<J: Naming, R: Wait>(
     rt: &R,
     alloc: Global,
     store: &Store<Gated, J>,
-    passes: &mut [Pass<J>],
+    pass: &mut Pass<J>,
 ) -> bool {
-    match passes {
-        [pass] => {
-            is_delivered(rt, alloc, store, pass, b"a")
-                && is_given_back(call(rt, alloc, store, pass, b"a"))
-                && lists(alloc, store, pass, 0, b"a")
-        }
-        _ => false,
-    }
+    is_delivered(rt, alloc, store, pass, b"a")
+        && is_given_back(&call(rt, alloc, store, pass, b"a"))
+        && lists(alloc, store, pass, 0, "a")
 }
 
 #[test]
-fn a_refused_call_comes_back(rt: HostRuntime) -> Result<(), Fail> {
+fn a_refused_call_comes_back(rt: HostRuntime) {
     let plan = Plan {
-        scene: Scene::CallsTwice,
+        scene: Scene::Alone(Alone::CallsTwice),
         folders: 1,
         passes: 1,
+        files: "",
+        calls: "",
         wanted: (1, 4, 1),
     };
-    let alloc = rt.alloc();
-    let refused = stage(&rt, alloc, &plan, Vec::new(alloc), Vec::new(alloc))?;
-    assert!(rt; refused.is_none());
-    Ok(())
+    plays(&rt, rt.alloc(), &plan);
 }
 
 // Steps the first job as soon as it is there. Whether this thread was given its answer.
@@ -172,46 +183,37 @@ fn share_a_job<J: Naming + Send + Sync, R: Threads + Wait + Sync>(
 ) -> bool {
     let (called, taken) = thread::join(
         rt,
-        || call(rt, alloc, store, one, b"a"),
+        || calls(rt, alloc, store, one, b"a"),
         || takes_answer(rt, store, two),
     );
-    match called {
-        Some(Ok(Answer::Delivered)) => !taken,
-        Some(Err(CallError::Unanswered { job: 1 })) => taken,
-        _ => false,
-    }
+    called == Some(taken)
 }
 
 pub fn call_and_take<J: Naming + Send + Sync, R: Threads + Wait + Sync>(
     rt: &R,
     alloc: Global,
     store: &Store<Gated, J>,
-    passes: &mut [Pass<J>],
+    one: &mut Pass<J>,
+    two: &mut Pass<J>,
 ) -> bool {
-    match passes {
-        [one, two] => {
-            share_a_job(rt, alloc, store, one, two)
-                && lists(alloc, store, one, 0, b"a")
-                && lists(alloc, store, two, 0, b"a")
-        }
-        _ => false,
-    }
+    share_a_job(rt, alloc, store, one, two)
+        && lists(alloc, store, one, 0, "a")
+        && lists(alloc, store, two, 0, "a")
 }
 
 #[test]
-fn one_thread_is_given_the_answer(rt: HostRuntime) -> Result<(), Fail> {
+fn one_thread_is_given_the_answer(rt: HostRuntime) {
     let plan = Plan {
-        scene: Scene::CallTaken,
+        scene: Scene::Both(Both::CallTaken),
         folders: 1,
         passes: 2,
+        files: "",
+        calls: "",
         wanted: (1, 4, 1),
     };
     for _ in 0..16 {
-        let alloc = rt.alloc();
-        let refused = stage(&rt, alloc, &plan, Vec::new(alloc), Vec::new(alloc))?;
-        assert!(rt; refused.is_none());
+        plays(&rt, rt.alloc(), &plan);
     }
-    Ok(())
 }
 
 // Calls a flag change. Where there was no memory it is called once more, or its job stepped on.
@@ -230,52 +232,38 @@ fn flag<J: Naming, R: Wait>(
     }
 }
 
-// Calls the change of the message's flags by these letters, once more where there was no memory for the call's words.
+// Calls the flag change of a row, once more where there was no memory for the call's words.
 fn flags<J: Naming, R: Wait>(
     rt: &R,
     alloc: Global,
     store: &Store<Gated, J>,
     pass: &mut Pass<J>,
-    letters: &[u8],
+    row: &str,
 ) -> Option<Answer> {
     for _ in 0..2 {
-        if let Ok(call) = flagging(alloc, b"u", letters) {
+        if let Ok(call) = fixtures::call(alloc, row) {
             return flag(rt, store, pass, call);
         }
     }
     None
 }
 
-// Whether a listing shows both flags, once more where there was no memory.
-fn shows_both<J: Naming>(alloc: Global, store: &Store<Gated, J>, pass: &mut Pass<J>) -> bool {
-    for _ in 0..2 {
-        match store.list(alloc, pass, 0) {
-            Ok(entries) => return shows(&entries, b"u:2,FRS"),
-            Err(ListError::NoMemory) => {}
-            Err(_) => return false,
-        }
-    }
-    false
-}
-
 pub fn call_with_little_memory<J: Naming, R: Wait>(
     rt: &R,
     alloc: Global,
     store: &Store<Gated, J>,
-    passes: &mut [Pass<J>],
+    pass: &mut Pass<J>,
 ) -> bool {
-    match passes {
-        [pass] => {
-            let first = flags(rt, alloc, store, pass, b"F");
-            let second = flags(rt, alloc, store, pass, b"R");
-            first == answer_of(b"FS") && second == answer_of(b"FRS") && told(rt, alloc, store, pass)
-        }
-        _ => false,
-    }
+    let first = flags(rt, alloc, store, pass, "flag u F");
+    let second = flags(rt, alloc, store, pass, "flag u R");
+    first == answer_of(b"FS") && second == answer_of(b"FRS") && told(rt, alloc, store, pass)
 }
 
 fn answer_of(letters: &[u8]) -> Option<Answer> {
-    Flags::parse(letters).ok().map(Answer::Flags)
+    match Flags::parse(letters) {
+        Ok(flags) => Some(Answer::Flags(flags)),
+        Err(_) => None,
+    }
 }
 
 // Whether a listing shows both flags once a further call has published what was left.
@@ -285,26 +273,20 @@ fn told<J: Naming, R: Wait>(
     store: &Store<Gated, J>,
     pass: &mut Pass<J>,
 ) -> bool {
-    flags(rt, alloc, store, pass, b"F") == answer_of(b"FRS") && shows_both(alloc, store, pass)
+    flags(rt, alloc, store, pass, "flag u F") == answer_of(b"FRS")
+        && lists_later(alloc, store, pass, b"u:2,FRS")
 }
 
 // One allocation may be refused, whichever it is: `rt try --test --fail-alloc N..` refuses each in turn.
 #[test]
-fn a_call_has_little_memory(rt: HostRuntime) -> Result<(), Fail> {
+fn a_call_has_little_memory(rt: HostRuntime) {
     let plan = Plan {
-        scene: Scene::CallLater,
+        scene: Scene::Alone(Alone::CallLater),
         folders: 1,
         passes: 1,
+        files: "cur u:2,S",
+        calls: "",
         wanted: (3, 5, 3),
     };
-    let alloc = rt.alloc();
-    let refused = stage(
-        &rt,
-        alloc,
-        &plan,
-        message(alloc, b"u:2,S")?,
-        Vec::new(alloc),
-    )?;
-    assert!(rt; refused.is_none());
-    Ok(())
+    plays(&rt, rt.alloc(), &plan);
 }

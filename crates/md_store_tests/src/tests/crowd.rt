@@ -5,7 +5,6 @@ use md_dirs::ImageFile;
 use std::alloc::Global;
 use std::process::Abort;
 use std::sync::Wait;
-use std::test::Fail;
 use std::thread::Threads;
 
 fn is_played<R: Threads + Wait + Abort + Sync>(
@@ -13,21 +12,29 @@ fn is_played<R: Threads + Wait + Abort + Sync>(
     alloc: Global,
     stampede: &Stampede,
     image: Vec<ImageFile>,
-) -> Result<bool, Fail> {
+) -> bool {
     let plan = Plan {
         scene: Scene::Stampede(stampede),
         folders: 2,
         passes: THREADS,
+        files: "",
+        calls: "",
         wanted: (0, 0, 0),
     };
-    let refused = stage(rt, alloc, &plan, image, Vec::new(alloc))?;
-    Ok(refused.is_none())
+    stage(rt, alloc, &plan, image) == Some(None)
+}
+
+fn is_run<R: Threads + Wait + Abort + Sync>(rt: &R, alloc: Global) -> bool {
+    match image(alloc) {
+        Ok(image) => {
+            let stampede = Stampede::new(alloc, &image, 0, 128);
+            is_played(rt, alloc, &stampede, image)
+        }
+        Err(_) => false,
+    }
 }
 
 #[test]
-fn a_stampede(rt: HostRuntime) -> Result<(), Fail> {
-    let image = image(rt.alloc())?;
-    let stampede = Stampede::new(rt.alloc(), &image, 0, 128);
-    assert!(rt; is_played(&rt, rt.alloc(), &stampede, image)?);
-    Ok(())
+fn a_stampede(rt: HostRuntime) {
+    assert!(rt; is_run(&rt, rt.alloc()));
 }

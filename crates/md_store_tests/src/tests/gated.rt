@@ -1,12 +1,11 @@
 // Directories with a gate at each link, and a listing while another thread waits there, inside the lock.
-use super::fixtures::{deliveries, lists, news};
-use super::scene::{Plan, Scene, stage};
+use super::fixtures::{lists, news};
+use super::scene::{Both, Plan, Scene, plays};
 use md_dirs::{DirError, Dirs, Path, Place, PlainDirs, Row, RowRef};
 use md_store::{Naming, News, Pass, Store};
 use std::alloc::{AllocError, Global};
 use std::sync::atomic::{AtomicBool, Ordering};
 use std::sync::{Arc, Wait};
-use std::test::Fail;
 use std::thread;
 use std::thread::Threads;
 
@@ -145,7 +144,7 @@ fn link_and_look<J: Naming + Send + Sync, R: Threads + Wait + Sync>(
 }
 
 // A listing shows nothing while the link waits, and the message once it was made.
-fn waits_for_no_link<J: Naming + Send + Sync, R: Threads + Wait + Sync>(
+pub fn look_at_gate<J: Naming + Send + Sync, R: Threads + Wait + Sync>(
     rt: &R,
     alloc: Global,
     gate: &Gate,
@@ -155,32 +154,18 @@ fn waits_for_no_link<J: Naming + Send + Sync, R: Threads + Wait + Sync>(
 ) -> bool {
     creates(rt, store, one)
         && link_and_look(rt, alloc, gate, store, one, two)
-        && lists(alloc, store, two, 0, b"a")
-}
-
-pub fn look_at_gate<J: Naming + Send + Sync, R: Threads + Wait + Sync>(
-    rt: &R,
-    alloc: Global,
-    gate: &Gate,
-    store: &Store<Gated, J>,
-    passes: &mut [Pass<J>],
-) -> bool {
-    match passes {
-        [one, two] => waits_for_no_link(rt, alloc, gate, store, one, two),
-        _ => false,
-    }
+        && lists(alloc, store, two, 0, "a")
 }
 
 #[test]
-fn a_listing_waits_for_no_link(rt: HostRuntime) -> Result<(), Fail> {
+fn a_listing_waits_for_no_link(rt: HostRuntime) {
     let plan = Plan {
-        scene: Scene::Gate,
+        scene: Scene::Both(Both::Gate),
         folders: 1,
         passes: 2,
+        files: "",
+        calls: "deliver a",
         wanted: (1, 3, 1),
     };
-    let calls = deliveries(rt.alloc(), b"a")?;
-    let refused = stage(&rt, rt.alloc(), &plan, Vec::new(rt.alloc()), calls)?;
-    assert!(rt; refused.is_none());
-    Ok(())
+    plays(&rt, rt.alloc(), &plan);
 }

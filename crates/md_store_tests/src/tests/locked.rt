@@ -1,12 +1,12 @@
 // A store that is submitted to, stepped and read under one lock.
 use super::fixtures::{delivery, lists};
 use super::gated::Gated;
-use super::scene::{Plan, Scene, stage};
+use super::scene::{Alone, Plan, Scene, plays};
+use super::small::is_read;
 use md_core::Answer;
 use md_store::{Locked, Naming, News, Pass, Store};
 use std::alloc::Global;
 use std::sync::{MutexGuard, Wait};
-use std::test::Fail;
 
 // Submits the delivery of `a`, and makes its four steps. Whether it was delivered.
 fn delivers<J: Naming, R: Wait>(
@@ -37,6 +37,13 @@ fn delivers<J: Naming, R: Wait>(
     false
 }
 
+fn is_a_read<J: Naming>(alloc: Global, locked: &Locked<Gated, J>) -> bool {
+    match locked.read(alloc, b"a") {
+        Ok(read) => is_read(&read, Some(b"x")),
+        Err(_) => false,
+    }
+}
+
 // Whether the bytes of `a` are read, and all is published.
 fn reads<J: Naming, R: Wait>(
     rt: &R,
@@ -44,17 +51,11 @@ fn reads<J: Naming, R: Wait>(
     locked: &mut Locked<Gated, J>,
     pass: &mut Pass<J>,
 ) -> bool {
-    let read = match locked.read(alloc, b"a") {
-        Ok(read) => read,
-        Err(_) => return false,
-    };
-    read.as_ref().map(|bytes| bytes.as_slice()) == Some(b"x".as_slice())
-        && locked.catch_up(rt, pass).is_ok()
-        && pass.len() == 1
+    is_a_read(alloc, locked) && locked.catch_up(rt, pass).is_ok() && pass.len() == 1
 }
 
 // Delivers and reads under one lock, and then lists.
-fn deliver_and_read<J: Naming, R: Wait>(
+pub fn act_locked<J: Naming, R: Wait>(
     rt: &R,
     alloc: Global,
     store: &Store<Gated, J>,
@@ -64,31 +65,18 @@ fn deliver_and_read<J: Naming, R: Wait>(
     let is_delivered = delivers(rt, alloc, &mut guard, pass);
     let is_read = reads(rt, alloc, &mut guard, pass);
     MutexGuard::unlock(guard);
-    is_delivered && is_read && lists(alloc, store, pass, 0, b"a")
-}
-
-pub fn act_locked<J: Naming, R: Wait>(
-    rt: &R,
-    alloc: Global,
-    store: &Store<Gated, J>,
-    passes: &mut [Pass<J>],
-) -> bool {
-    match passes {
-        [pass] => deliver_and_read(rt, alloc, store, pass),
-        _ => false,
-    }
+    is_delivered && is_read && lists(alloc, store, pass, 0, "a")
 }
 
 #[test]
-fn one_lock_holds_a_whole_delivery(rt: HostRuntime) -> Result<(), Fail> {
+fn one_lock_holds_a_whole_delivery(rt: HostRuntime) {
     let plan = Plan {
-        scene: Scene::Locked,
+        scene: Scene::Alone(Alone::Locked),
         folders: 1,
         passes: 1,
+        files: "",
+        calls: "",
         wanted: (1, 4, 1),
     };
-    let alloc = rt.alloc();
-    let refused = stage(&rt, alloc, &plan, Vec::new(alloc), Vec::new(alloc))?;
-    assert!(rt; refused.is_none());
-    Ok(())
+    plays(&rt, rt.alloc(), &plan);
 }

@@ -1,11 +1,12 @@
 // Opens a store for a test, plays a scene there, and looks at its world. The store and its passes are lent to the scenes, so that
 // each is let go in one place alone.
-ghost use Rattle.std.specs.Prelude.{◌≡◌, IfOk};
+ghost use Rattle.std.specs.Prelude.{◌≡◌, IfSome};
 ghost use Rattle.md_view.specs.Named.{named_of};
 ghost use Rattle.md_store.specs.Locks.{IsFresh};
 
 use super::calls::{call_and_take, call_at_once, call_twice, call_with_little_memory};
 use super::caught::catch_up;
+use super::fixtures::{calls, files};
 use super::gated::{Gate, Gated, look_at_gate};
 use super::halves::list_by_two;
 use super::later::flag_later;
@@ -16,81 +17,121 @@ use super::small::refuse_calls;
 use super::stampede::{Stampede, are_beginnings, run_all};
 use super::threads::{deliver_beside_flags, deliver_by_all, deliver_to_another};
 use super::tickets::step_by_tickets;
-use md_core::{Call, World};
+use md_core::World;
 use md_dirs::{ImageFile, PlainDirs};
 use md_store::{Naming, OpenError, OpenRefused, Pass, Prepared, Store, prepare};
 use std::alloc::Global;
 use std::marker::Brand;
 use std::process::Abort;
 use std::sync::Wait;
-use std::test::Fail;
 use std::thread::Threads;
+
+// What is done with one pass.
+#[derive(Clone, Copy)]
+pub enum Alone {
+    Refusals,
+    Flaggers,
+    CallsTwice,
+    CallLater,
+    Locked,
+    Tickets,
+}
+
+// What is done with two passes.
+#[derive(Clone, Copy)]
+pub enum Both {
+    TwoPasses,
+    Newcomer,
+    Gate,
+    Calls,
+    CallTaken,
+    Word,
+    Halves,
+    CaughtUp,
+}
 
 // What a test does with an open store.
 #[derive(Clone, Copy)]
 pub enum Scene<'a> {
     Nothing,
-    Refusals,
-    TwoPasses,
-    Flaggers,
+    Alone(Alone),
+    Both(Both),
     Deliverers,
     DelivererAndFlagger,
-    Newcomer,
-    Gate,
-    Calls,
-    CallsTwice,
-    CallTaken,
-    CallLater,
-    Word,
     Dropped,
-    Halves,
-    CaughtUp,
-    Locked,
-    Tickets,
     Stampede(&'a Stampede),
 }
 
-// A scene, the folders of its world, the passes of its store, and how many jobs, steps and effects the world has after it.
+// A scene, the folders of its world, the passes of its store, the files and the calls of its world, as rows of fixtures, and how many
+// jobs, steps and effects the world has after it.
 #[derive(Clone, Copy)]
 pub struct Plan<'a> {
     pub scene: Scene<'a>,
     pub folders: u32,
     pub passes: usize,
+    pub files: &'a str,
+    pub calls: &'a str,
     pub wanted: (u64, usize, usize),
 }
 
-// Plays a scene over a world of these files and calls. The refusal of the store, if it wasn't opened.
+// Plays a plan, whose store has to be opened.
+pub fn plays<R: Threads + Wait + Abort + Sync>(rt: &R, alloc: Global, plan: &Plan<'_>) {
+    assert!(rt; is_staged(rt, alloc, plan, None));
+}
+
+// Whether a plan ends so: its store is opened, or refused.
+pub fn is_staged<R: Threads + Wait + Abort + Sync>(
+    rt: &R,
+    alloc: Global,
+    plan: &Plan<'_>,
+    refusal: Option<OpenError>,
+) -> bool {
+    match files(alloc, plan.files) {
+        Ok(image) => stage(rt, alloc, plan, image) == Some(refusal),
+        Err(_) => false,
+    }
+}
+
+// Plays a plan over a world of these files. The refusal of the store, if it wasn't opened. None where there was no memory.
 pub fn stage<R: Threads + Wait + Abort + Sync>(
     rt: &R,
     alloc: Global,
     plan: &Plan<'_>,
     image: Vec<ImageFile>,
-    calls: Vec<Call>,
-) -> Result<Option<OpenError>, Fail> {
-    let gate = Gate::new(alloc, !matches!(plan.scene, Scene::Gate))?;
-    let world = world(alloc, plan.folders, image, calls, &gate)?;
-    Ok(play(rt, alloc, world, &gate, plan))
+) -> Option<Option<OpenError>> {
+    match Gate::new(alloc, !matches!(plan.scene, Scene::Both(Both::Gate))) {
+        Ok(gate) => stage_before(rt, alloc, plan, image, &gate),
+        Err(_) => None,
+    }
 }
 
-// A world of so many folders with these files, in which these calls are submitted.
-fn world(
+fn stage_before<R: Threads + Wait + Abort + Sync>(
+    rt: &R,
     alloc: Global,
-    folders: u32,
+    plan: &Plan<'_>,
     image: Vec<ImageFile>,
-    calls: Vec<Call>,
     gate: &Gate,
-) -> Result<World<Gated>, Fail>
-    ensures { IfOk result (λ w. IsFresh w) }
-{
-    let Ok(dirs) = PlainDirs::from_image(alloc, folders, image) else {
-        return Err(Fail::from("no directories"));
-    };
-    let dirs = gate.before(dirs)?;
-    let mut world = World::load(alloc, dirs).map_err(|refused| refused.error)?;
-    for call in calls {
-        world.submit(call).map_err(|refused| refused.error)?;
+) -> Option<Option<OpenError>> {
+    match world(alloc, plan, image, gate) {
+        Some(world) => Some(play(rt, alloc, world, gate, plan)),
+        None => None,
     }
-    Ok(world)
+}
+
+// A world of these files, in which the calls of a plan are submitted.
+fn world(alloc: Global, plan: &Plan<'_>, image: Vec<ImageFile>, gate: &Gate) -> Option<World<Gated>>
+    ensures { IfSome result (λ w. IsFresh w) }
+{
+    let dirs = PlainDirs::from_image(alloc, plan.folders, image).ok()?;
+    let dirs = gate.before(dirs).ok()?;
+    let calls = calls(alloc, plan.calls).ok()?;
+    let mut world = World::load(alloc, dirs).ok()?;
+    for call in calls {
+        if world.submit(call).is_err() {
+            return None;
+        }
+    }
+    Some(world)
 }
 
 // Opens a store of a world, plays a scene there, and closes it; or says why it wasn't opened.
@@ -173,24 +214,55 @@ fn play_scene<J: Naming + Send + Sync, R: Threads + Wait + Sync>(
 ) -> bool {
     match scene {
         Scene::Nothing => true,
-        Scene::Refusals => refuse_calls(rt, alloc, store, passes),
-        Scene::TwoPasses => look_by_two(rt, alloc, store, passes),
-        Scene::Flaggers => flag_later(rt, alloc, store, passes),
+        Scene::Alone(alone) => play_alone(rt, alloc, store, passes, alone),
+        Scene::Both(both) => play_by_two(rt, alloc, store, passes, gate, both),
         Scene::Deliverers => deliver_by_all(rt, alloc, store, passes),
         Scene::DelivererAndFlagger => deliver_beside_flags(rt, alloc, store, passes),
-        Scene::Newcomer => deliver_to_another(rt, alloc, store, passes),
-        Scene::Gate => look_at_gate(rt, alloc, gate, store, passes),
-        Scene::Calls => call_at_once(rt, alloc, store, passes),
-        Scene::CallsTwice => call_twice(rt, alloc, store, passes),
-        Scene::CallTaken => call_and_take(rt, alloc, store, passes),
-        Scene::CallLater => call_with_little_memory(rt, alloc, store, passes),
-        Scene::Word => send_word(rt, alloc, store, passes),
         Scene::Dropped => drop_amid(rt, alloc, store, passes),
-        Scene::Halves => list_by_two(rt, alloc, store, passes),
-        Scene::CaughtUp => catch_up(rt, alloc, store, passes),
-        Scene::Locked => act_locked(rt, alloc, store, passes),
-        Scene::Tickets => step_by_tickets(rt, alloc, store, passes),
         Scene::Stampede(stampede) => run_all(rt, alloc, stampede, store, passes) > 500,
+    }
+}
+
+fn play_alone<J: Naming, R: Wait>(
+    rt: &R,
+    alloc: Global,
+    store: &Store<Gated, J>,
+    passes: &mut [Pass<J>],
+    alone: &Alone,
+) -> bool {
+    match passes {
+        [pass] => match alone {
+            Alone::Refusals => refuse_calls(rt, alloc, store, pass),
+            Alone::Flaggers => flag_later(rt, alloc, store, pass),
+            Alone::CallsTwice => call_twice(rt, alloc, store, pass),
+            Alone::CallLater => call_with_little_memory(rt, alloc, store, pass),
+            Alone::Locked => act_locked(rt, alloc, store, pass),
+            Alone::Tickets => step_by_tickets(rt, alloc, store, pass),
+        },
+        _ => false,
+    }
+}
+
+fn play_by_two<J: Naming + Send + Sync, R: Threads + Wait + Sync>(
+    rt: &R,
+    alloc: Global,
+    store: &Store<Gated, J>,
+    passes: &mut [Pass<J>],
+    gate: &Gate,
+    both: &Both,
+) -> bool {
+    match passes {
+        [one, two] => match both {
+            Both::TwoPasses => look_by_two(rt, alloc, store, one, two),
+            Both::Newcomer => deliver_to_another(rt, alloc, store, one, two),
+            Both::Gate => look_at_gate(rt, alloc, gate, store, one, two),
+            Both::Calls => call_at_once(rt, alloc, store, one, two),
+            Both::CallTaken => call_and_take(rt, alloc, store, one, two),
+            Both::Word => send_word(rt, alloc, store, one, two),
+            Both::Halves => list_by_two(rt, alloc, store, one, two),
+            Both::CaughtUp => catch_up(rt, alloc, store, one, two),
+        },
+        _ => false,
     }
 }
 

@@ -1,41 +1,11 @@
 // What passes see of one another's steps, over one thread.
-use super::fixtures::{DELIVERED, delivery, file, finish, flagging, lists, shows};
+use super::fixtures::{DELIVERED, finish, lists, shows};
 use super::gated::Gated;
-use super::scene::{Plan, Scene, stage};
-use md_core::{Answer, Call};
-use md_dirs::{Bytes, ImageFile, Place};
-use md_name::Flags;
+use super::scene::{Both, Plan, Scene, plays};
+use md_core::Answer;
 use md_store::{FirstReading, Naming, News, Pass, Store};
-use std::alloc::{AllocError, Global};
+use std::alloc::Global;
 use std::sync::Wait;
-use std::test::Fail;
-
-// The jobs 1 and 2 deliver `a` and `b`, 3 expunges `t`, 4 flags it, 5 takes `n` to cur, and 6 copies `c` to the other folder.
-fn calls(alloc: Global) -> Result<Vec<Call>, AllocError> {
-    let mut calls = Vec::new(alloc);
-    calls.push(delivery(alloc, b"a")?)?;
-    calls.push(delivery(alloc, b"b")?)?;
-    calls.push(Call::Expunge {
-        folder: 0,
-        unique: Bytes::copied(alloc, b"t")?,
-        tries: 1,
-    })?;
-    calls.push(flagging(alloc, b"t", b"S")?)?;
-    calls.push(Call::Seen {
-        folder: 0,
-        unique: Bytes::copied(alloc, b"n")?,
-        flags: Flags::parse(b"S").unwrap_or(Flags::empty()),
-        tries: 1,
-    })?;
-    calls.push(Call::Copy {
-        folder: 0,
-        unique: Bytes::copied(alloc, b"c")?,
-        to: 1,
-        fresh: Bytes::copied(alloc, b"d")?,
-        tries: 1,
-    })?;
-    Ok(calls)
-}
 
 // A pass that was told of two effects lists both. One that only lists sees those of an earlier listing in a later one.
 fn is_no_less<J: Naming, R: Wait>(
@@ -46,10 +16,10 @@ fn is_no_less<J: Naming, R: Wait>(
     other: &mut Pass<J>,
 ) -> bool {
     finish(rt, store, told, 1) == DELIVERED
-        && lists(alloc, store, other, 0, b"a c:2,S n t:2,T")
+        && lists(alloc, store, other, 0, "a c:2,S n t:2,T")
         && finish(rt, store, told, 2) == DELIVERED
-        && lists(alloc, store, told, 0, b"a b c:2,S n t:2,T")
-        && lists(alloc, store, other, 0, b"a b c:2,S n t:2,T")
+        && lists(alloc, store, told, 0, "a b c:2,S n t:2,T")
+        && lists(alloc, store, other, 0, "a b c:2,S n t:2,T")
 }
 
 // A pass whose flag is answered NotThere, after another's expunge, lists no such message.
@@ -60,10 +30,10 @@ fn is_gone<J: Naming, R: Wait>(
     one: &mut Pass<J>,
     two: &mut Pass<J>,
 ) -> bool {
-    lists(alloc, store, two, 0, b"a b c:2,S n t:2,T")
+    lists(alloc, store, two, 0, "a b c:2,S n t:2,T")
         && finish(rt, store, one, 3) == (Some(Answer::Expunged), News::Told)
         && finish(rt, store, two, 4) == (Some(Answer::NotThere), News::NoEffect)
-        && lists(alloc, store, two, 0, b"a b c:2,S n")
+        && lists(alloc, store, two, 0, "a b c:2,S n")
 }
 
 // Takes a message from new to cur, and ends a listing that showed it in new.
@@ -106,11 +76,11 @@ fn is_copied<J: Naming, R: Wait>(
     pass: &mut Pass<J>,
 ) -> bool {
     finish(rt, store, pass, 6) == (Some(Answer::Copied), News::Told)
-        && lists(alloc, store, pass, 1, b"d:2,S")
+        && lists(alloc, store, pass, 1, "d:2,S")
 }
 
 // What two passes see.
-fn see<J: Naming, R: Wait>(
+pub fn look_by_two<J: Naming, R: Wait>(
     rt: &R,
     alloc: Global,
     store: &Store<Gated, J>,
@@ -123,36 +93,16 @@ fn see<J: Naming, R: Wait>(
         && is_copied(rt, alloc, store, one)
 }
 
-pub fn look_by_two<J: Naming, R: Wait>(
-    rt: &R,
-    alloc: Global,
-    store: &Store<Gated, J>,
-    passes: &mut [Pass<J>],
-) -> bool {
-    match passes {
-        [one, two] => see(rt, alloc, store, one, two),
-        _ => false,
-    }
-}
-
-fn image(alloc: Global) -> Result<Vec<ImageFile>, AllocError> {
-    let mut image = Vec::new(alloc);
-    image.push(file(alloc, 0, Place::New, b"n")?)?;
-    image.push(file(alloc, 0, Place::Cur, b"t:2,T")?)?;
-    image.push(file(alloc, 0, Place::Cur, b"c:2,S")?)?;
-    Ok(image)
-}
-
+// The jobs 1 and 2 deliver `a` and `b`, 3 expunges `t`, 4 flags it, 5 takes `n` to cur, and 6 copies `c` to the other folder.
 #[test]
-fn a_later_listing_shows_no_less(rt: HostRuntime) -> Result<(), Fail> {
+fn a_later_listing_shows_no_less(rt: HostRuntime) {
     let plan = Plan {
-        scene: Scene::TwoPasses,
+        scene: Scene::Both(Both::TwoPasses),
         folders: 2,
         passes: 2,
+        files: "new n|cur t:2,T|cur c:2,S",
+        calls: "deliver a|deliver b|expunge t|flag t S|seen n S|copy c d",
         wanted: (6, 16, 5),
     };
-    let calls = calls(rt.alloc())?;
-    let refused = stage(&rt, rt.alloc(), &plan, image(rt.alloc())?, calls)?;
-    assert!(rt; refused.is_none());
-    Ok(())
+    plays(&rt, rt.alloc(), &plan);
 }

@@ -1,15 +1,14 @@
 // A pass that learns from another which delivered. A pass that is dropped while others go on.
-use super::fixtures::{DELIVERED, deliveries, finish, lists, news};
+use super::fixtures::{DELIVERED, finish, lists, news};
 use super::gated::Gated;
-use super::scene::{Plan, Scene, stage};
+use super::scene::{Both, Plan, Scene, plays};
 use md_core::Answer;
 use md_store::{Naming, News, Pass, Store};
 use std::alloc::Global;
 use std::sync::Wait;
-use std::test::Fail;
 
 // One pass delivers, and the other, which was told of nothing, learns from it. Whether its listing then shows the message.
-fn learn_and_list<J: Naming, R: Wait>(
+pub fn send_word<J: Naming, R: Wait>(
     rt: &R,
     alloc: Global,
     store: &Store<Gated, J>,
@@ -19,33 +18,20 @@ fn learn_and_list<J: Naming, R: Wait>(
     let is_delivered = finish(rt, store, one, 1) == DELIVERED;
     let knew = one.begins(two);
     two.learn_from(one);
-    is_delivered && !knew && one.begins(two) && two.len() == 1 && lists(alloc, store, two, 0, b"a")
-}
-
-pub fn send_word<J: Naming, R: Wait>(
-    rt: &R,
-    alloc: Global,
-    store: &Store<Gated, J>,
-    passes: &mut [Pass<J>],
-) -> bool {
-    match passes {
-        [one, two] => learn_and_list(rt, alloc, store, one, two),
-        _ => false,
-    }
+    is_delivered && !knew && one.begins(two) && two.len() == 1 && lists(alloc, store, two, 0, "a")
 }
 
 #[test]
-fn a_pass_is_sent_word(rt: HostRuntime) -> Result<(), Fail> {
+fn a_pass_is_sent_word(rt: HostRuntime) {
     let plan = Plan {
-        scene: Scene::Word,
+        scene: Scene::Both(Both::Word),
         folders: 1,
         passes: 2,
+        files: "",
+        calls: "deliver a",
         wanted: (1, 4, 1),
     };
-    let alloc = rt.alloc();
-    let refused = stage(&rt, alloc, &plan, Vec::new(alloc), deliveries(alloc, b"a")?)?;
-    assert!(rt; refused.is_none());
-    Ok(())
+    plays(&rt, rt.alloc(), &plan);
 }
 
 // Makes the three steps of the first job to its link. Whether that was told.
@@ -66,9 +52,9 @@ fn goes_on<J: Naming, R: Wait>(
     pass: &mut Pass<J>,
 ) -> bool {
     finish(rt, store, pass, 1) == (Some(Answer::Delivered), News::NoEffect)
-        && lists(alloc, store, pass, 0, b"a")
+        && lists(alloc, store, pass, 0, "a")
         && finish(rt, store, pass, 2) == DELIVERED
-        && lists(alloc, store, pass, 0, b"a b")
+        && lists(alloc, store, pass, 0, "a b")
 }
 
 pub fn drop_amid<J: Naming, R: Wait>(
@@ -89,21 +75,14 @@ pub fn drop_amid<J: Naming, R: Wait>(
 }
 
 #[test]
-fn others_go_on_without_a_pass(rt: HostRuntime) -> Result<(), Fail> {
+fn others_go_on_without_a_pass(rt: HostRuntime) {
     let plan = Plan {
         scene: Scene::Dropped,
         folders: 1,
         passes: 2,
+        files: "",
+        calls: "deliver a|deliver b",
         wanted: (2, 8, 2),
     };
-    let alloc = rt.alloc();
-    let refused = stage(
-        &rt,
-        alloc,
-        &plan,
-        Vec::new(alloc),
-        deliveries(alloc, b"ab")?,
-    )?;
-    assert!(rt; refused.is_none());
-    Ok(())
+    plays(&rt, rt.alloc(), &plan);
 }

@@ -1,39 +1,39 @@
 // Each call once, over one thread.
-use super::fixtures::{DELIVERED, deliveries, finish, message, news};
+use super::fixtures::{DELIVERED, finish, news};
 use super::gated::Gated;
-use super::scene::{Plan, Scene, stage};
+use super::scene::{Alone, Plan, Scene, is_staged, plays};
 use md_core::{Call, CoreError, SubmitRefused};
 use md_dirs::Bytes;
 use md_store::{ListError, Naming, OpenError, Pass, Store};
 use std::alloc::{AllocError, Global};
 use std::process::Abort;
 use std::sync::Wait;
-use std::test::Fail;
 use std::thread::Threads;
 
-// Opens a store with so many passes, and closes it.
-fn opened<R: Threads + Wait + Abort + Sync>(
+// Whether a store with so many passes is opened and closed, or refused so.
+fn is_opened<R: Threads + Wait + Abort + Sync>(
     rt: &R,
     alloc: Global,
     passes: usize,
-) -> Result<Option<OpenError>, Fail> {
+    refusal: Option<OpenError>,
+) -> bool {
     let plan = Plan {
         scene: Scene::Nothing,
         folders: 1,
         passes,
+        files: "cur u",
+        calls: "deliver a",
         wanted: (1, 0, 0),
     };
-    let calls = deliveries(alloc, b"a")?;
-    stage(rt, alloc, &plan, message(alloc, b"u")?, calls)
+    is_staged(rt, alloc, &plan, refusal)
 }
 
 #[test]
-fn passes_are_1_to_64(rt: HostRuntime) -> Result<(), Fail> {
+fn passes_are_1_to_64(rt: HostRuntime) {
     let refused = Some(OpenError::BadPasses);
     for (passes, refusal) in [(0, refused), (65, refused), (64, None), (2, None)] {
-        assert!(rt; opened(&rt, rt.alloc(), passes)? == refusal, "{passes}");
+        assert!(rt; is_opened(&rt, rt.alloc(), passes, refusal), "{passes}");
     }
-    Ok(())
 }
 
 // The delivery of `hello` and a line end: it takes five steps.
@@ -54,6 +54,14 @@ fn submits<J: Naming, R: Wait>(rt: &R, alloc: Global, store: &Store<Gated, J>) -
     }
 }
 
+/// Whether these bytes were read, or none.
+pub fn is_read(read: &Option<Bytes>, wanted: Option<&[u8]>) -> bool {
+    match read {
+        Some(bytes) => wanted == Some(bytes.as_slice()),
+        None => wanted.is_none(),
+    }
+}
+
 // Whether the bytes of a name are read, or that there are none.
 fn reads<J: Naming, R: Wait>(
     rt: &R,
@@ -63,7 +71,7 @@ fn reads<J: Naming, R: Wait>(
     wanted: Option<&[u8]>,
 ) -> bool {
     match store.read(rt, alloc, unique) {
-        Ok(read) => read.as_ref().map(|bytes| bytes.as_slice()) == wanted,
+        Ok(read) => is_read(&read, wanted),
         Err(_) => false,
     }
 }
@@ -103,32 +111,26 @@ pub fn refuse_calls<J: Naming, R: Wait>(
     rt: &R,
     alloc: Global,
     store: &Store<Gated, J>,
-    passes: &mut [Pass<J>],
+    pass: &mut Pass<J>,
 ) -> bool {
-    match passes {
-        [pass] => {
-            submits(rt, alloc, store)
-                && finish(rt, store, pass, 1) == DELIVERED
-                && reads(rt, alloc, store, b"u", Some(b"hello\n"))
-                && reads(rt, alloc, store, b"v", None)
-                && refuses_name(rt, alloc, store)
-                && refuses_steps(rt, store, pass)
-                && refuses_folder(alloc, store, pass)
-        }
-        _ => false,
-    }
+    submits(rt, alloc, store)
+        && finish(rt, store, pass, 1) == DELIVERED
+        && reads(rt, alloc, store, b"u", Some(b"hello\n"))
+        && reads(rt, alloc, store, b"v", None)
+        && refuses_name(rt, alloc, store)
+        && refuses_steps(rt, store, pass)
+        && refuses_folder(alloc, store, pass)
 }
 
 #[test]
-fn read_and_submit_through_the_lock(rt: HostRuntime) -> Result<(), Fail> {
+fn read_and_submit_through_the_lock(rt: HostRuntime) {
     let plan = Plan {
-        scene: Scene::Refusals,
+        scene: Scene::Alone(Alone::Refusals),
         folders: 1,
         passes: 1,
+        files: "",
+        calls: "",
         wanted: (1, 5, 1),
     };
-    let alloc = rt.alloc();
-    let refused = stage(&rt, alloc, &plan, Vec::new(alloc), Vec::new(alloc))?;
-    assert!(rt; refused.is_none());
-    Ok(())
+    plays(&rt, rt.alloc(), &plan);
 }

@@ -1,19 +1,23 @@
 // Threads that step and list.
-use super::fixtures::{DELIVERED, deliveries, finish, flagging, lists, message, shows};
+use super::fixtures::{DELIVERED, finish, listed, lists};
 use super::gated::Gated;
-use super::scene::{Plan, Scene, stage};
-use md_core::{Answer, Call};
-use md_store::{Naming, News, OpenError, Pass, Store};
-use std::alloc::{AllocError, Global};
+use super::scene::{Both, Plan, Scene, is_staged, plays};
+use md_core::Answer;
+use md_store::{Naming, News, Pass, Store};
+use std::alloc::Global;
 use std::process::Abort;
 use std::sync::Wait;
 use std::sync::atomic::{AtomicU64, Ordering};
-use std::test::Fail;
 use std::thread;
 use std::thread::Threads;
 
 // Four names, of a byte each, for each of four threads.
 const NAMES: &[u8] = b"abcdefghijklmnop";
+
+// Their deliveries.
+const CALLS: &str =
+    "deliver a|deliver b|deliver c|deliver d|deliver e|deliver f|deliver g|deliver h|\
+deliver i|deliver j|deliver k|deliver l|deliver m|deliver n|deliver o|deliver p";
 
 // Whether a delivery is told, and its message then listed.
 fn is_delivered<J: Naming, R: Wait>(
@@ -24,11 +28,7 @@ fn is_delivered<J: Naming, R: Wait>(
     job: u64,
     name: u8,
 ) -> bool {
-    let done = finish(rt, store, pass, job);
-    match store.list(alloc, pass, 0) {
-        Ok(entries) => done == DELIVERED && shows(&entries, &[name]),
-        Err(_) => false,
-    }
+    finish(rt, store, pass, job) == DELIVERED && listed(alloc, store, pass, &[name]) == Ok(true)
 }
 
 // Steps the four deliveries of a thread to their answers, and lists after each. How many of them were told and then listed.
@@ -111,31 +111,33 @@ pub fn deliver_by_all<J: Naming + Send + Sync, R: Threads + Wait + Sync>(
     by_threads(rt, alloc, store, passes, false) == wanted
 }
 
-// Sixteen deliveries by so many threads, of which each takes four.
+// Whether sixteen deliveries are made by so many threads, of which each takes four.
 fn deliver_with<R: Threads + Wait + Abort + Sync>(
     rt: &R,
     alloc: Global,
     threads: usize,
     steps: usize,
     effects: usize,
-) -> Result<Option<OpenError>, Fail> {
+) -> bool {
     let plan = Plan {
         scene: Scene::Deliverers,
         folders: 1,
         passes: threads,
+        files: "cur z",
+        calls: CALLS,
         wanted: (16, steps, effects),
     };
-    let calls = deliveries(alloc, NAMES)?;
-    stage(rt, alloc, &plan, message(alloc, b"z")?, calls)
+    is_staged(rt, alloc, &plan, None)
 }
 
 #[test]
-fn threads_deliver(rt: HostRuntime) -> Result<(), Fail> {
+fn threads_deliver(rt: HostRuntime) {
     for (threads, steps, effects) in [(2, 32, 8), (4, 64, 16)] {
-        let refused = deliver_with(&rt, rt.alloc(), threads, steps, effects)?;
-        assert!(rt; refused.is_none(), "{threads}");
+        assert!(rt;
+            deliver_with(&rt, rt.alloc(), threads, steps, effects),
+            "{threads}"
+        );
     }
-    Ok(())
 }
 
 // One thread delivers while a second flags another message. A third pass lists before and after them: it makes no step, and so it learns
@@ -148,35 +150,26 @@ pub fn deliver_beside_flags<J: Naming + Send + Sync, R: Threads + Wait + Sync>(
 ) -> bool {
     match passes.split_last_mut() {
         Some((third, threads)) => {
-            lists(alloc, store, third, 0, b"z:2,")
+            lists(alloc, store, third, 0, "z:2,")
                 && by_threads(rt, alloc, store, threads, true) == 8
-                && lists(alloc, store, third, 0, b"a b c d z:2,FRST")
+                && lists(alloc, store, third, 0, "a b c d z:2,FRST")
         }
         None => false,
     }
 }
 
 // Four deliveries, and four flags for another message.
-fn deliveries_and_flags(alloc: Global) -> Result<Vec<Call>, AllocError> {
-    let mut calls = deliveries(alloc, b"abcd")?;
-    for letter in b"FRST".chunks(1) {
-        calls.push(flagging(alloc, b"z", letter)?)?;
-    }
-    Ok(calls)
-}
-
 #[test]
-fn a_told_delivery_is_listed(rt: HostRuntime) -> Result<(), Fail> {
+fn a_told_delivery_is_listed(rt: HostRuntime) {
     let plan = Plan {
         scene: Scene::DelivererAndFlagger,
         folders: 1,
         passes: 3,
+        files: "cur z:2,",
+        calls: "deliver a|deliver b|deliver c|deliver d|flag z F|flag z R|flag z S|flag z T",
         wanted: (8, 24, 8),
     };
-    let calls = deliveries_and_flags(rt.alloc())?;
-    let refused = stage(&rt, rt.alloc(), &plan, message(rt.alloc(), b"z:2,")?, calls)?;
-    assert!(rt; refused.is_none());
-    Ok(())
+    plays(&rt, rt.alloc(), &plan);
 }
 
 // How many deliveries of another thread are told and listed there.
@@ -195,28 +188,23 @@ pub fn deliver_to_another<J: Naming + Send + Sync, R: Threads + Wait + Sync>(
     rt: &R,
     alloc: Global,
     store: &Store<Gated, J>,
-    passes: &mut [Pass<J>],
+    mine: &mut Pass<J>,
+    theirs: &mut Pass<J>,
 ) -> bool {
-    match passes {
-        [mine, theirs] => {
-            lists(alloc, store, mine, 0, b"z")
-                && delivered_there(rt, alloc, store, theirs) == 1
-                && lists(alloc, store, mine, 0, b"a z")
-        }
-        _ => false,
-    }
+    lists(alloc, store, mine, 0, "z")
+        && delivered_there(rt, alloc, store, theirs) == 1
+        && lists(alloc, store, mine, 0, "a z")
 }
 
 #[test]
-fn a_listing_enters_anew(rt: HostRuntime) -> Result<(), Fail> {
+fn a_listing_enters_anew(rt: HostRuntime) {
     let plan = Plan {
-        scene: Scene::Newcomer,
+        scene: Scene::Both(Both::Newcomer),
         folders: 1,
         passes: 2,
+        files: "cur z",
+        calls: "deliver a",
         wanted: (1, 4, 1),
     };
-    let calls = deliveries(rt.alloc(), b"a")?;
-    let refused = stage(&rt, rt.alloc(), &plan, message(rt.alloc(), b"z")?, calls)?;
-    assert!(rt; refused.is_none());
-    Ok(())
+    plays(&rt, rt.alloc(), &plan);
 }

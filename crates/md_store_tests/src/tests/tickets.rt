@@ -1,12 +1,11 @@
 // Calls that are stepped by their tickets, the later one first.
 use super::fixtures::{delivery, lists};
 use super::gated::Gated;
-use super::scene::{Plan, Scene, stage};
+use super::scene::{Alone, Plan, Scene, plays};
 use md_core::{Answer, CoreError};
 use md_store::{Naming, Pass, Store, Ticket};
 use std::alloc::Global;
 use std::sync::Wait;
-use std::test::Fail;
 
 // Issues the delivery of a name.
 fn issued<J: Naming, R: Wait>(
@@ -51,12 +50,12 @@ fn deliver_both<J: Naming, R: Wait>(
     a.job() == 1
         && b.job() == 2
         && is_delivered(rt, store, pass, &b.again())
-        && lists(alloc, store, pass, 0, b"b")
+        && lists(alloc, store, pass, 0, "b")
         && is_delivered(rt, store, pass, a)
-        && lists(alloc, store, pass, 0, b"a b")
+        && lists(alloc, store, pass, 0, "a b")
 }
 
-fn issue_both<J: Naming, R: Wait>(
+pub fn step_by_tickets<J: Naming, R: Wait>(
     rt: &R,
     alloc: Global,
     store: &Store<Gated, J>,
@@ -71,28 +70,15 @@ fn issue_both<J: Naming, R: Wait>(
     }
 }
 
-pub fn step_by_tickets<J: Naming, R: Wait>(
-    rt: &R,
-    alloc: Global,
-    store: &Store<Gated, J>,
-    passes: &mut [Pass<J>],
-) -> bool {
-    match passes {
-        [pass] => issue_both(rt, alloc, store, pass),
-        _ => false,
-    }
-}
-
 #[test]
-fn a_ticket_steps_its_own_call(rt: HostRuntime) -> Result<(), Fail> {
+fn a_ticket_steps_its_own_call(rt: HostRuntime) {
     let plan = Plan {
-        scene: Scene::Tickets,
+        scene: Scene::Alone(Alone::Tickets),
         folders: 1,
         passes: 1,
+        files: "",
+        calls: "",
         wanted: (2, 8, 2),
     };
-    let alloc = rt.alloc();
-    let refused = stage(&rt, alloc, &plan, Vec::new(alloc), Vec::new(alloc))?;
-    assert!(rt; refused.is_none());
-    Ok(())
+    plays(&rt, rt.alloc(), &plan);
 }
