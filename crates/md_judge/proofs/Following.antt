@@ -28,7 +28,7 @@ index-small New = lit< tt
 index-small Cur = lit< tt
 
 -- spots of one place of one directory are one
-same-spot : (a b : Spot) → is_same_spot a b ≡ true → a ≡ b
+pub same-spot : (a b : Spot) → is_same_spot a b ≡ true → a ≡ b
 same-spot a b h =
     let parts = and_parts (nat_eq (number_at a) (number_at b)) (eq_by_cmp nat_cmp a.name b.name) h in
     let numbers : 3 * a.folder + place_index a.place ≡ 3 * b.folder + place_index b.place = eqb-true _ _ parts.0 in

@@ -15,3 +15,6 @@ pub mod Parts
 pub mod Cuts
 pub mod Tables
 pub mod Numbers
+pub mod Mixing
+pub mod Moments
+pub mod Recounted

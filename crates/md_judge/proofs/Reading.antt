@@ -16,7 +16,7 @@ use Rattle.md_judge.specs.Readings.{was_late, was_of, was_since, WasSince, IsHer
 use Rattle.md_judge.proofs.Claiming.{up, down, came, after}
 
 -- whether a path is there at a moment
-here : {C : Type 0} (l : Log) (p : Path) (j : ℕ) → (IsHere l p j → C) → (file_at (at l j) p ≡ None → C) → C
+pub here : {C : Type 0} (l : Log) (p : Path) (j : ℕ) → (IsHere l p j → C) → (file_at (at l j) p ≡ None → C) → C
 here {C = C} l p j there gone = by (file_at (at l j) p) refl
   where
     by : (o : Option ℕ) → file_at (at l j) p ≡ o → C

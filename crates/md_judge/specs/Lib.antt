@@ -13,3 +13,4 @@ pub mod Messages
 pub mod Claims
 pub mod Listings
 pub mod Readings
+pub mod Moments

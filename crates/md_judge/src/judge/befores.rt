@@ -1,4 +1,6 @@
 //! The earlier lines that broken clauses go back to.
+ghost use Rattle.std.specs.Prelude.{◌≡◌};
+ghost use Rattle.md_judge.specs.Moments.{kept_moment};
 
 use md_log::Clause;
 
@@ -9,7 +11,9 @@ pub(super) type Mark = u32;
 pub(super) type Moment = u32;
 
 /// A moment that comes to be kept.
-pub(super) fn moment_of(moment: usize) -> Moment {
+pub(super) fn moment_of(moment: usize) -> Moment
+    ensures { result ≡ kept_moment moment }
+{
     u32::try_from(moment).unwrap_or(u32::MAX)
 }
 

@@ -1,9 +1,10 @@
 //! The names that are in directories.
-ghost use Rattle.std.specs.Prelude.{◌≡◌, Some, None, OnOk, slice_get};
+ghost use Rattle.std.specs.Prelude.{◌≡◌, Some, None, OnOk, slice_get, unwrap_or};
 ghost use Rattle.std.specs.Option.{option_copied};
 ghost use Rattle.md_dirs.specs.Index.{directory_number};
 ghost use Rattle.md_judge.specs.Known.{file_in, Puts, Makes};
 ghost use Rattle.md_judge.specs.Readings.{was_of};
+ghost use Rattle.md_judge.specs.Moments.{kept_moment, since_in, was_in, PutsMoments, MakesMoments};
 
 use super::acts::Change;
 use super::befores::{Moment, line_before, moment_of};
@@ -154,13 +155,19 @@ impl Directories {
 
     /// A path is there from the moment `at` on.
     pub(super) fn add(&mut self, at: usize, spot: Spot, file: u32) -> Result<(), LineFault>
-        ensures { OnOk result (Puts spot (Some file) self.old.all.items self.new.all.items) }
+        ensures files { OnOk result (Puts spot (Some file) self.old.all.items self.new.all.items) }
+        ensures moments { OnOk result (PutsMoments spot (Some (kept_moment at)) (was_in self.old.all.items spot) self.old.all.items self.new.all.items) }
+    {
+        let since = moment_of(at);
+        self.put(spot, Named { file, since })
+    }
+
+    /// A path is there.
+    fn put(&mut self, spot: Spot, named: Named) -> Result<(), LineFault>
+        ensures files { OnOk result (Puts spot (Some named.file) self.old.all.items self.new.all.items) }
+        ensures moments { OnOk result (PutsMoments spot (Some named.since) (was_in self.old.all.items spot) self.old.all.items self.new.all.items) }
     {
         if let Some(directory) = self.all.get_mut(number_of(spot.folder, spot.place)) {
-            let named = Named {
-                file,
-                since: moment_of(at),
-            };
             directory.names.insert(spot.name, named)?;
         }
         Ok(())
@@ -168,22 +175,27 @@ impl Directories {
 
     /// A path, which is there, names another file.
     fn turn(&mut self, at: usize, spot: Spot, file: u32) -> Result<(), LineFault>
-        ensures { OnOk result (Puts spot (Some file) self.old.all.items self.new.all.items) }
+        ensures files { OnOk result (Puts spot (Some file) self.old.all.items self.new.all.items) }
+        ensures moments { OnOk result (PutsMoments spot (Some (unwrap_or (since_in self.old.all.items spot) (kept_moment at))) (was_in self.old.all.items spot)
+            self.old.all.items self.new.all.items) }
     {
-        let since = self.since(spot).unwrap_or(at);
-        self.add(since, spot, file)
+        let since = self.since(spot).unwrap_or(moment_of(at));
+        self.put(spot, Named { file, since })
     }
 
     /// Since when a path is there.
-    fn since(&self, spot: Spot) -> Option<usize> {
+    fn since(&self, spot: Spot) -> Option<Moment>
+        ensures { result ≡ since_in self.now.all.items spot }
+    {
         let directory = self.directory(spot.folder, spot.place)?;
         let named = directory.names.get(&spot.name)?;
-        Some(named.since as usize)
+        Some(named.since)
     }
 
     /// A path was there for the last time at the moment `at`.
     fn take(&mut self, at: usize, spot: Spot) -> Result<(), LineFault>
-        ensures { OnOk result (Puts spot None self.old.all.items self.new.all.items) }
+        ensures files { OnOk result (Puts spot None self.old.all.items self.new.all.items) }
+        ensures moments { OnOk result (PutsMoments spot None (Some (kept_moment at)) self.old.all.items self.new.all.items) }
     {
         if let Some(directory) = self.all.get_mut(number_of(spot.folder, spot.place)) {
             directory.names.remove(&spot.name);
@@ -195,7 +207,8 @@ impl Directories {
 
     /// Makes the change of a line.
     pub(super) fn make(&mut self, line: usize, change: Change) -> Result<(), LineFault>
-        ensures { OnOk result (Makes change self.old.all.items self.new.all.items) }
+        ensures files { OnOk result (Makes change self.old.all.items self.new.all.items) }
+        ensures moments { OnOk result (MakesMoments change line self.old.all.items self.new.all.items) }
     {
         let next = line.saturating_add(1);
         if let Some((spot, _)) = change.taken {

@@ -1,12 +1,14 @@
 //! What is known of the directories: the files at paths, how many files were made, and the clock.
-ghost use Rattle.std.specs.Prelude.{◌≡◌, ◌+◌, ◌<◌, ◌⊎◌, ℕ, true, length, OnOk, IfOk};
+ghost use Rattle.std.specs.Prelude.{◌≡◌, ◌+◌, ◌<◌, ◌⊎◌, ℕ, suc, true, length, OnOk, IfOk};
 ghost use Rattle.md_dirs.specs.State.{State, file_at, has_folder};
 ghost use Rattle.md_dirs.specs.declared.paths.Path.{Path};
 ghost use Rattle.md_judge.specs.declared.judge.directories.Spot.{Spot};
-ghost use Rattle.md_judge.specs.Told.{ask_at, ask_between, after_ask};
+ghost use Rattle.md_judge.specs.Logs.{Log};
+ghost use Rattle.md_judge.specs.Told.{at, ask_at, ask_between, after_ask};
 ghost use Rattle.md_judge.specs.Changes.{IsOlder, Leads};
 ghost use Rattle.md_judge.specs.Files.{unique_in, is_message_in};
 ghost use Rattle.md_judge.specs.Known.{EachSpot, IsBelow, files_after, Stands, Holds, Leaves};
+ghost use Rattle.md_judge.specs.Moments.{IsKnownAt, GoesOn};
 
 use super::acts::{
     Change, NO_CHANGE, create_change, is_wrong_at, is_wrong_between, naming_change, unlink_change,
@@ -162,9 +164,12 @@ impl Known {
     }
 
     fn at(&mut self, line: usize, deed: Deed, spot: Spot, reply: Reply) -> Result<Act, LineFault>
-        ensures { (path : Spot → Path) (many now : ℕ) (s : State) → Stands path many → Holds path many s self.old → spot.name < many
+        ensures act { (path : Spot → Path) (many now : ℕ) (s : State) → Stands path many → Holds path many s self.old → spot.name < many
             → has_folder s (path spot) ≡ true
             → IfOk result (λ act. Leaves path many reply (ask_at deed (path spot) now) s self.new act) }
+        ensures moments { (path : Spot → Path) (many now : ℕ) (lines : ℕ → ℕ) (l : Log) (i : ℕ) → IsKnownAt path many lines l i self.old
+            → GoesOn lines l i line (after_ask reply (ask_at deed (path spot) now)) → spot.name < many → has_folder (at l i) (path spot) ≡ true
+            → OnOk result (IsKnownAt path many lines l (suc i) self.new) }
     {
         let file = self.directories.file_at(spot);
         let before = self.directories.last_change(spot);
@@ -190,9 +195,13 @@ impl Known {
         new: Spot,
         reply: Reply,
     ) -> Result<Act, LineFault>
-        ensures { (path : Spot → Path) (many : ℕ) (s : State) → Stands path many → Holds path many s self.old
+        ensures act { (path : Spot → Path) (many : ℕ) (s : State) → Stands path many → Holds path many s self.old
             → old.name < many → new.name < many → has_folder s (path old) ≡ true → has_folder s (path new) ≡ true
             → IfOk result (λ act. Leaves path many reply (ask_between naming (path old) (path new)) s self.new act) }
+        ensures moments { (path : Spot → Path) (many : ℕ) (lines : ℕ → ℕ) (l : Log) (i : ℕ) → IsKnownAt path many lines l i self.old
+            → GoesOn lines l i line (after_ask reply (ask_between naming (path old) (path new))) → old.name < many → new.name < many
+            → has_folder (at l i) (path old) ≡ true → has_folder (at l i) (path new) ≡ true
+            → OnOk result (IsKnownAt path many lines l (suc i) self.new) }
     {
         let file = self.directories.file_at(old);
         let there = self.directories.file_at(new);

@@ -2,13 +2,12 @@
 //!
 //! The leaves of a tree are half full where its keys come in rising order, and some two thirds full where they come in no order. So tables
 //! whose order nothing goes by have the keys of what is numbered as it comes mixed.
-ghost use Rattle.std.specs.Prelude.{◌≡◌};
+ghost use Rattle.std.specs.Prelude.{◌≡◌, ◌<◌, ◌^◌, ℕ};
 ghost use Rattle.md_judge.specs.Mixed.{mixed, mixed_name};
 
 use super::tables::{ENDINGS, Name, name_of};
 
-/// A number that stands for another, so that rising numbers come in no order. Two numbers have two, since each step can be undone: a shift
-/// by half of the bits or some fewer that is added without carry, and a product with an odd number.
+/// A number that stands for another, so that rising numbers come in no order.
 #[tactic(auto, unfolding(crate::specs::Mixed::mixed))]
 pub(super) fn mixed(number: u32) -> u32
     ensures { result ≡ mixed number }
@@ -20,10 +19,12 @@ pub(super) fn mixed(number: u32) -> u32
     turned ^ (turned >> 16)
 }
 
-/// A name that stands for another: the number of its first part is mixed.
+/// A name that stands for another: the number of its first part is mixed. Two names have two, since each step can be undone: a shift by half
+/// of the bits or some fewer that is added without carry, and a product with an odd number.
 #[tactic(auto, unfolding(crate::specs::Mixed::mixed_name))]
 pub(super) fn mixed_name(name: Name) -> Name
-    ensures { result ≡ mixed_name name }
+    ensures value { result ≡ mixed_name name }
+    ensures apart { (other : ℕ) → other < 2 ^ 64 → mixed_name other ≡ result → other ≡ name }
 {
     name_of(mixed((name / ENDINGS) as u32), name % ENDINGS)
 }

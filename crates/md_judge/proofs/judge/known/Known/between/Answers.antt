@@ -1,36 +1,73 @@
-use Rattle.std.proofs.Common.{◌≡◌, ◌<◌, ◌≤◌, ◌⊎◌, inl, inr, is_some, length, sym, ap, ◌∙◌, arith}
-use Rattle.md_dirs.specs.State.{file_at}
-use Rattle.md_judge.specs.Told.{ask_between, after_ask}
-use Rattle.md_judge.specs.Changes.{IsOlder}
-use Rattle.md_judge.specs.Known.{number_at}
+use Rattle.std.proofs.Common.{ℕ, ◌≡◌, ◌<◌, ◌≤◌, ◌⊎◌, true, inl, inr, is_some, length, sym, ap, ◌∙◌, arith}
+use Rattle.md_dirs.specs.State.{State, file_at, has_folder}
+use Rattle.md_dirs.specs.declared.paths.Path.{Path}
+use Rattle.md_judge.specs.declared.judge.directories.Spot.{Spot}
+use Rattle.md_judge.specs.declared.judge.acts.Change.{Change}
+use Rattle.md_judge.specs.declared.judge.known.Known.{Known}
+use Rattle.md_judge.specs.Told.{at, ask_between, after_ask}
+use Rattle.md_judge.specs.Changes.{IsOlder, Leads}
+use Rattle.md_judge.specs.Known.{number_at, Stands, Holds, EachSpot, IsHoused}
+use Rattle.md_judge.proofs.Recounted.{known_on}
 use Rattle.md_judge.proofs.Changing.{overwrites}
 use Rattle.md_judge.proofs.Following.{follows, each-spot, housed, is-older}
 use Rattle.md_judge.proofs.Afters.{between-folders, between-files}
 use Rattle.md_judge.proofs.judge.known.Known.between.Goals as goal
 
-pub returns : goal.returns
-returns c = λ path many s stands holds named named' there there'.
+module _ (c : goal.After-is_wrong_between) (path : Spot → Path) (many : ℕ) (s : State) (stands : Stands path many)
+    (holds : Holds path many s c.args.self.now) (named : c.args.old.name < many) (named' : c.args.new.name < many)
+    (there : has_folder s (path c.args.old) ≡ true) (there' : has_folder s (path c.args.new) ≡ true) where
+  abbrev known : Known
+  known = c.args.self.now
+
+  abbrev change : Change
+  change = c.change_between-change.result
+
+  is : file_at s (path c.args.old) ≡ c.file_at-file.result
+  is = sym (holds.spots c.args.old named) ∙ sym c.file_at-file.ensures
+
+  is' : file_at s (path c.args.new) ≡ c.file_at-there.result
+  is' = sym (holds.spots c.args.new named') ∙ sym c.file_at-there.ensures
+
+  leads : Leads path change s (after_ask c.args.reply (ask_between c.args.naming (path c.args.old) (path c.args.new)) s)
+  leads = c.change_between-change.ensures.leads path s is is'
+
+  each_named : EachSpot (λ q. q.name < many) change
+  each_named = each-spot (λ q. (q ≡ c.args.old) ⊎ (q ≡ c.args.new)) (λ q. q.name < many)
+      (λ q e. elim e [ inl e ↦ rw e named | inr e ↦ rw e named' ]) change c.change_between-change.ensures.spots
+
+  each_housed : IsHoused (length known.directories.all.items) change
+  each_housed =
+      let house = housed path many s known stands holds c.args.old there in
+      let house' = housed path many s known stands holds c.args.new there' in
+      each-spot (λ q. (q ≡ c.args.old) ⊎ (q ≡ c.args.new)) (λ q. number_at q < length known.directories.all.items)
+      (λ q e. elim e [ inl e ↦ rw e house | inr e ↦ rw e house' ]) change c.change_between-change.ensures.spots
+
+pub returns-clause-act : goal.returns-clause-act
+returns-clause-act c = λ path many s stands holds named named' there there'.
     let known = c.args.self.now in
     let old = c.args.old in
     let new = c.args.new in
     let n = c.args.naming in
     let after = after_ask c.args.reply (ask_between n (path old) (path new)) s in
-    let is : file_at s (path old) ≡ c.file_at-file.result = sym (holds.spots old named) ∙ sym c.file_at-file.ensures in
-    let is' : file_at s (path new) ≡ c.file_at-there.result = sym (holds.spots new named') ∙ sym c.file_at-there.ensures in
+    let is = is c path many s stands holds named named' there there' in
+    let is' = is' c path many s stands holds named named' there there' in
     let older : IsOlder c.file_at-file.result known.files = is-older path many s known holds (path old) c.file_at-file.result is in
-    let leads = c.change_between-change.ensures.leads path s is is' in
+    let leads = leads c path many s stands holds named named' there there' in
     let files : length after.files ≡ known.files = between-files (path old) (path new) s n c.args.reply ∙ sym holds.files in
     let more : length s.files ≤ length after.files = rw (between-files (path old) (path new) s n c.args.reply) (omega arith) in
-    let house = housed path many s known stands holds old there in
-    let house' = housed path many s known stands holds new there' in
-    let spots = c.change_between-change.ensures.spots in
     record {
-      holds = follows path many s after known _ c.change_between-change.result stands holds leads c.in_ok-make.ensures
-          (each-spot (λ q. (q ≡ old) ⊎ (q ≡ new)) (λ q. q.name < many)
-          (λ q e. elim e [ inl e ↦ rw e named | inr e ↦ rw e named' ]) c.change_between-change.result spots)
-          (each-spot (λ q. (q ≡ old) ⊎ (q ≡ new)) (λ q. number_at q < length known.directories.all.items)
-          (λ q e. elim e [ inl e ↦ rw e house | inr e ↦ rw e house' ]) c.change_between-change.result spots)
+      holds = follows path many s after known _ c.change_between-change.result stands holds leads c.in_ok-make.ensures.files
+          (each_named c path many s stands holds named named' there there') (each_housed c path many s stands holds named named' there there')
           (rw files (c.change_between-change.ensures.below known.files older)) (between-folders (path old) (path new) s n c.args.reply) more (sym files);
       wrong = c.is_wrong_between.ensures (path old) (path new) s there' (ap is_some is ∙ sym c.is_some-2.ensures) (ap is_some is' ∙ sym c.is_some-3.ensures);
       overwrites = overwrites path _ s after leads;
     }
+
+pub returns-clause-moments : goal.returns-clause-moments
+returns-clause-moments c = λ path many lines l i is goes named named' there there'.
+    known_on path many lines l i c.args.line (after_ask c.args.reply (ask_between c.args.naming (path c.args.old) (path c.args.new))) c.change_between-change.result
+    c.args.self.now _ is goes
+    (leads c path many (at l i) is.stands is.holds named named' there there')
+    (returns-clause-act c path many (at l i) is.stands is.holds named named' there there').holds
+    (each_named c path many (at l i) is.stands is.holds named named' there there')
+    (each_housed c path many (at l i) is.stands is.holds named named' there there') c.in_ok-make.ensures.moments
