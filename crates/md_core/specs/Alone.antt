@@ -66,7 +66,7 @@ abbrev pub seen_alone : Mailbox → List ℕ → Set → Option Entry → Outcom
 seen_alone m u given None = refuse answer.NotThere m
 seen_alone m u given (Some e) = seen_by m u given e (flags_in e)
 
--- Flag: a seen message has (its flags and those added) without those removed. Where that is the same set nothing changes
+-- Flag: a message in cur has (its flags and those added) without those removed. Where that is the same set nothing changes
 abbrev pub flag_by : Mailbox → List ℕ → Set → Set → Entry → Option Set → Outcome
 flag_by m u add remove e None = refuse answer.OtherInfo m
 flag_by m u add remove e (Some had) =
@@ -84,7 +84,7 @@ abbrev pub move_alone : Mailbox → List ℕ → ℕ → Option Entry → Outcom
 move_alone m u to None = refuse answer.NotThere m
 move_alone m u to (Some e) = record { answer = answer.Moved; after = finmap.insert m u (record e { folder = to }) }
 
--- Expunge: a seen message with the flag T (trashed) goes
+-- Expunge: a message in cur with the flag T (trashed) goes
 abbrev pub expunge_by : Mailbox → List ℕ → Option Set → Outcome
 expunge_by m u None = refuse answer.NotTrashed m
 expunge_by m u (Some had) =

@@ -141,7 +141,8 @@ KeepsTmp t k x p = (file_in (state t (k + 1)) p ≡ file_in (state t k) p)
 
 -- The interleaving theorem, of a trace.
 pub record Interleaves (t : Trace) : Type 0 where
-  -- the headline: success is one step of the job's own, at which the call answers as it would alone; any other answer is none
+  -- the headline: success is one step of the job's own, at which the call answers as it would alone; a job with any other answer has no
+  -- effect
   pub acts : (job : ℕ) (c : Call) (a : Answer) → call_at t.calls job ≡ Some c → IsAnswered t job a → Acts t job c a
   -- each effect is the one of its job, answered by then or not
   pub own : (k : ℕ) (x : Step) (e : Effect) → step_at t k ≡ Some x → x.effect ≡ Some e → IsOwnEffect t k x e
@@ -153,7 +154,7 @@ pub record Interleaves (t : Trace) : Type 0 where
   -- the effects are a legal history, and at every moment they give the names of the mailbox
   pub legal : IsLegal t.image.folders (names_of (mailbox_of t.image)) (effects t (length t.steps))
   pub names : (k : ℕ) → names_after (names_of (mailbox_of t.image)) (effects t k) ≡ names_of (box t k)
-  -- no path names another file than before
+  -- from one moment to the next no path comes to name another file
   pub none_overwritten : (k : ℕ) → NoneOverwritten (state t k) (state t (k + 1))
   -- the directories are sound, and each unique name has one path in all new and cur
   pub sound : (k : ℕ) → IsSound (state t k)
@@ -164,7 +165,7 @@ pub record Interleaves (t : Trace) : Type 0 where
   pub others : (k : ℕ) (p : Path) → is_tmp p.place ≡ false → is_message p ≡ false → file_in (state t k) p ≡ file_in t.image p
   -- a file in tmp is changed by its own delivery, or taken away by a clean that saw it to be old
   pub in_tmp : (k : ℕ) (x : Step) (p : Path) → step_at t k ≡ Some x → is_tmp p.place ≡ true → KeepsTmp t k x p
-  -- an answer that came without an effect says what happened
+  -- an answer that came without an effect says what happened, and Delivered how the delivery ended
   pub says : (job : ℕ) (c : Call) (a : Answer) → call_at t.calls job ≡ Some c → IsAnswered t job a → Says t job c a
   -- no job takes more steps than its call may, and one that has taken so many has its answer
   pub bounded : (job : ℕ) (c : Call) → call_at t.calls job ≡ Some c → steps_of t job ≤ most_steps t job c
