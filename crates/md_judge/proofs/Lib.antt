@@ -18,3 +18,9 @@ pub mod Numbers
 pub mod Mixing
 pub mod Moments
 pub mod Recounted
+pub mod Decided
+pub mod Unused
+pub mod Pathed
+pub mod Growing
+pub mod Telling
+pub mod Stepping

@@ -1,7 +1,8 @@
 -- Numbers of names: two names have two, and a name has one.
-use Rattle.std.proofs.Common.{◌≡◌, ℕ, ◌/◌, ◌%◌, List, ◌++◌, Option, Some, None, length, take, drop, refl, sym, ap, ◌∙◌, arith}
+use Rattle.std.proofs.Common.{◌≡◌, ℕ, ◌<◌, ◌≤◌, ◌^◌, ◌/◌, ◌%◌, List, ◌++◌, Option, Some, None, length, take, drop, refl, sym, ap, ◌∙◌, arith}
 use Rattle.std.specs.Prelude.{if◌then◌else◌, true, false}
 use Rattle.std.proofs.lemmas.List.{take-append-drop, length-take, take_min}
+use Rattle.std.proofs.lemmas.Option.{slice_get_within}
 use Rattle.md_name.specs.declared.info.Info.{Info}
 use Rattle.std.specs.List.{position_or_len}
 use Rattle.md_name.specs.Names.{is_colon, split_of, unique_of, is_message_name, info_of}
@@ -12,6 +13,10 @@ use Rattle.md_judge.specs.Names.{StandFor, AreNumbered}
 -- the words of all three tables are kept apart
 abbrev pub ArePartsApart : Names → Type 0
 ArePartsApart names = AreApart names.uniques × AreApart names.endings × AreApart names.others
+
+-- and those that come first in a name are few
+abbrev pub AreFewParts : Names → Type 0
+AreFewParts names = (length names.uniques ≤ 4000000000) × (length names.others ≤ 4000000000)
 
 -- a number by its two parts
 pub two_parts : (m n : ℕ) → m / 4294967296 ≡ n / 4294967296 → m % 4294967296 ≡ n % 4294967296 → m ≡ n
@@ -28,7 +33,7 @@ split_is name parts is = elim (is_message_name name) as (λ b. (if b then Some (
   | false ↦ λ e. cc
 ] is
 
-joined : (name : List ℕ) (parts : List ℕ × Info) → split_of name ≡ Some parts → name ≡ parts.0 ++ drop (length parts.0) name
+pub joined : (name : List ℕ) (parts : List ℕ × Info) → split_of name ≡ Some parts → name ≡ parts.0 ++ drop (length parts.0) name
 joined name parts is =
     let u = split_is name parts is in
     sym (take-append-drop (length parts.0) name)
@@ -52,8 +57,13 @@ module _ (names : Names) where
       (apart.0 (m / 4294967296) (n / 4294967296) p.0 sm.1 sn.1)
       (apart.1 (m % 4294967296) (n % 4294967296) (drop (length p.0) a) sm.2 sn.2)
 
-  pub numbered : ArePartsApart names → AreNumbered names
-  numbered apart = record {
+  few_numbers : AreFewParts names → (a : List ℕ) (p : Option (List ℕ × Info)) (n : ℕ) → StandFor names a p (n / 4294967296) (n % 4294967296) → n < 2 ^ 64
+  few_numbers few a None n s = let low = slice_get_within names.others (n / 4294967296) a s.1 in let many = few.1 in omega (arith, low, many)
+  few_numbers few a (Some p) n s = let low = slice_get_within names.uniques (n / 4294967296) p.0 s.1 in let many = few.0 in omega (arith, low, many)
+
+  pub numbered : ArePartsApart names → AreFewParts names → AreNumbered names
+  numbered apart few = record {
     apart = λ a b n sa sb. names_apart a b (split_of a) (split_of b) (n / 4294967296) (n % 4294967296) refl refl sa sb;
     one = λ a m n sm sn. one_number a (split_of a) m n apart sm sn;
+    few = λ a n s. few_numbers few a (split_of a) n s;
   }

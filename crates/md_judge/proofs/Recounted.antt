@@ -24,7 +24,7 @@ use Rattle.std.proofs.lemmas.Bool.{cases_lt}
 -- ---- a moment further
 
 -- what has held goes on to have held
-longer : (line : ℕ → ℕ) (P : ℕ → Type 0) (i n : ℕ) → IsSince line P i n → P (suc i) → IsSince line P (suc i) n
+pub longer : (line : ℕ → ℕ) (P : ℕ → Type 0) (i n : ℕ) → IsSince line P i n → P (suc i) → IsSince line P (suc i) n
 longer line P i n since now =
     let further : (k : ℕ) → k ≤ suc i → (k ≤ i → P k) → P k = λ k low before. elim (cases_lt i k) [
       | inl high ↦ let last : suc i ≡ k = omega (arith, low, high) in rw (sym last) now
@@ -47,7 +47,7 @@ begun line P i n is before now = inr (
 )
 
 -- what is gone stays gone
-gone : (line : ℕ → ℕ) (l : Log) (p : Path) (i : ℕ) (o : Option ℕ) → RecallsWas line l p i o → (IsHere l p (suc i) → ⊥) → RecallsWas line l p (suc i) o
+pub gone : (line : ℕ → ℕ) (l : Log) (p : Path) (i : ℕ) (o : Option ℕ) → RecallsWas line l p i o → (IsHere l p (suc i) → ⊥) → RecallsWas line l p (suc i) o
 gone line l p i None never now = λ j low here. elim (cases_lt i j) [
   | inl high ↦ let last : j ≡ suc i = omega (arith, low, high) in now (rw (sym last) here)
   | inr low' ↦ never j low' here
@@ -85,7 +85,7 @@ moment_there (Some d) name f is = go (get nat_cmp d.names name) is
     go None is = absurd (let no = is in cc)
     go (Some v) is = (v.since, refl)
 
-file_there : (d : Option Directory) (name m : ℕ) → option_and_then (λ (d : Directory). option_map (λ (n : Named). n.since) (get nat_cmp d.names name)) d ≡ Some m
+pub file_there : (d : Option Directory) (name m : ℕ) → option_and_then (λ (d : Directory). option_map (λ (n : Named). n.since) (get nat_cmp d.names name)) d ≡ Some m
     → (n : ℕ) × (option_and_then (λ (d : Directory). option_map (λ (n : Named). n.file) (get nat_cmp d.names name)) d ≡ Some n)
 file_there None name m is = absurd (let no = is in cc)
 file_there (Some d) name m is = go (get nat_cmp d.names name) is

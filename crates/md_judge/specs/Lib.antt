@@ -14,3 +14,4 @@ pub mod Claims
 pub mod Listings
 pub mod Readings
 pub mod Moments
+pub mod Recalled

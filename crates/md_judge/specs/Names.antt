@@ -1,5 +1,5 @@
 -- Which numbers stand for which names.
-use Rattle.std.specs.Prelude.{ℕ, ◌≡◌, ◌<◌, ◌/◌, ◌%◌, List, Option, Some, None, length, drop, slice_get}
+use Rattle.std.specs.Prelude.{ℕ, ◌≡◌, ◌<◌, ◌/◌, ◌%◌, ◌^◌, List, Option, Some, None, length, drop, slice_get}
 use Rattle.md_name.specs.declared.info.Info.{Info}
 use Rattle.md_name.specs.Names.{split_of}
 use Rattle.md_judge.specs.declared.judge.tables.Names.{Names}
@@ -15,10 +15,11 @@ StandFor names name (Some parts) front ending =
 abbrev pub IsNumber : Names → List ℕ → ℕ → Type 0
 IsNumber names name n = StandFor names name (split_of name) (n / 4294967296) (n % 4294967296)
 
--- Two names have two numbers, and a name has one.
+-- Two names have two numbers, and a name has one, which is a word of 64 bits.
 pub record AreNumbered (names : Names) : Type 0 where
   pub apart : (a b : List ℕ) (n : ℕ) → IsNumber names a n → IsNumber names b n → a ≡ b
   pub one : (a : List ℕ) (m n : ℕ) → IsNumber names a m → IsNumber names a n → m ≡ n
+  pub few : (a : List ℕ) (n : ℕ) → IsNumber names a n → n < 2 ^ 64
 
 -- names stand for what they stood for
 abbrev pub KeepNumbers : Names → Names → Type 0

@@ -2,6 +2,11 @@
 //!
 //! Moments are numbered by the lines of the log: the step of line 7 goes from moment 7 to moment 8, and what the line 3 says of the
 //! beginning is so from moment 4 on.
+ghost use Rattle.std.specs.Prelude.{◌≡◌, ◌<◌, ℕ, suc, Some, slice_get, OnOk};
+ghost use Rattle.md_judge.specs.Logs.{Log};
+ghost use Rattle.md_judge.specs.Told.{at};
+ghost use Rattle.md_judge.specs.Recalled.{IsToldAt, HasFolders};
+
 mod about;
 mod acts;
 mod befores;
@@ -103,7 +108,11 @@ impl Judge {
     }
 
     /// Judges the next step.
-    pub(crate) fn step(&mut self, line: usize, step: Step) -> Result<(), LineFault> {
+    pub(crate) fn step(&mut self, line: usize, step: Step) -> Result<(), LineFault>
+        ensures told { (lines : ℕ → ℕ) (l : Log) (i : ℕ) → IsToldAt lines l i self.old.known
+            → slice_get l.steps i ≡ Some (record { number = line; step = step }) → lines i ≡ line → line < 4294967295
+            → HasFolders (at l i) step.call → OnOk result (IsToldAt lines l (suc i) self.new.known) }
+    {
         let (actor, _) = self.actor_names.number(step.actor.as_slice())?;
         self.act = self.known.step(line, &step)?;
         self.watch.begin(actor)?;
@@ -142,7 +151,10 @@ impl Judge {
         self.watch.found.before(clause)
     }
 
-    fn numbers(&mut self, names: &[Bytes]) -> Result<Vec<Name>, LineFault> {
+    /// The numbers of names.
+    fn numbers(&mut self, names: &[Bytes]) -> Result<Vec<Name>, LineFault>
+        ensures told { (lines : ℕ → ℕ) (l : Log) (i : ℕ) → IsToldAt lines l i self.old.known → OnOk result (IsToldAt lines l i self.new.known) }
+    {
         let mut numbers = Vec::new(self.alloc);
         for name in names {
             let number = self.known.names.number(name.as_slice())?;

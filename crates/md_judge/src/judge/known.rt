@@ -1,14 +1,16 @@
 //! What is known of the directories: the files at paths, how many files were made, and the clock.
-ghost use Rattle.std.specs.Prelude.{◌≡◌, ◌+◌, ◌<◌, ◌⊎◌, ℕ, suc, true, length, OnOk, IfOk};
+ghost use Rattle.std.specs.Prelude.{◌≡◌, ◌+◌, ◌<◌, ◌⊎◌, ℕ, suc, Some, true, length, slice_get, OnOk, IfOk};
 ghost use Rattle.md_dirs.specs.State.{State, file_at, has_folder};
 ghost use Rattle.md_dirs.specs.declared.paths.Path.{Path};
 ghost use Rattle.md_judge.specs.declared.judge.directories.Spot.{Spot};
 ghost use Rattle.md_judge.specs.Logs.{Log};
-ghost use Rattle.md_judge.specs.Told.{at, ask_at, ask_between, after_ask};
+ghost use Rattle.md_judge.specs.Told.{at, ask_at, ask_between, after_ask, after_call};
 ghost use Rattle.md_judge.specs.Changes.{IsOlder, Leads};
 ghost use Rattle.md_judge.specs.Files.{unique_in, is_message_in};
 ghost use Rattle.md_judge.specs.Known.{EachSpot, IsBelow, files_after, Stands, Holds, Leaves};
 ghost use Rattle.md_judge.specs.Moments.{IsKnownAt, GoesOn};
+ghost use Rattle.md_judge.specs.Names.{AreNumbered, KeepNumbers};
+ghost use Rattle.md_judge.specs.Recalled.{IsSpotOf, IsToldAt, HasFolders};
 
 use super::acts::{
     Change, NO_CHANGE, create_change, is_wrong_at, is_wrong_between, naming_change, unlink_change,
@@ -64,7 +66,12 @@ impl Known {
     }
 
     /// A path by numbers.
-    pub(super) fn spot(&mut self, path: &Path) -> Result<Spot, LineFault> {
+    pub(super) fn spot(&mut self, path: &Path) -> Result<Spot, LineFault>
+        ensures spot { IfOk result (λ s. IsSpotOf self.new.names path.now s) }
+        ensures keeps { KeepNumbers self.old.names self.new.names }
+        ensures numbered { OnOk result (AreNumbered self.new.names) }
+        ensures told { (lines : ℕ → ℕ) (l : Log) (i : ℕ) → IsToldAt lines l i self.old → OnOk result (IsToldAt lines l i self.new) }
+    {
         Ok(Spot {
             folder: path.folder,
             place: path.place,
@@ -137,13 +144,20 @@ impl Known {
     }
 
     /// Goes on by a step of this line.
-    pub(super) fn step(&mut self, line: usize, step: &Step) -> Result<Act, LineFault> {
+    pub(super) fn step(&mut self, line: usize, step: &Step) -> Result<Act, LineFault>
+        ensures told { (lines : ℕ → ℕ) (l : Log) (i : ℕ) → IsToldAt lines l i self.old
+            → slice_get l.steps i ≡ Some (record { number = line; step = step.now }) → lines i ≡ line → line < 4294967295
+            → HasFolders (at l i) step.now.call → OnOk result (IsToldAt lines l (suc i) self.new) }
+    {
         self.clock = self.clock.max(step.moment);
         self.call(line, &step.call)
     }
 
     /// Does to paths what a call of this line did that was made.
-    fn call(&mut self, line: usize, call: &Call) -> Result<Act, LineFault> {
+    fn call(&mut self, line: usize, call: &Call) -> Result<Act, LineFault>
+        ensures told { (now : ℕ) (lines : ℕ → ℕ) (l : Log) (i : ℕ) → IsToldAt lines l i self.old
+            → GoesOn lines l i line (after_call call.now now) → HasFolders (at l i) call.now → OnOk result (IsToldAt lines l (suc i) self.new) }
+    {
         match call {
             Call::At { deed, path, reply } => {
                 let spot = self.spot(path)?;
@@ -170,6 +184,9 @@ impl Known {
         ensures moments { (path : Spot → Path) (many now : ℕ) (lines : ℕ → ℕ) (l : Log) (i : ℕ) → IsKnownAt path many lines l i self.old
             → GoesOn lines l i line (after_ask reply (ask_at deed (path spot) now)) → spot.name < many → has_folder (at l i) (path spot) ≡ true
             → OnOk result (IsKnownAt path many lines l (suc i) self.new) }
+        ensures told { (p : Path) (now : ℕ) (lines : ℕ → ℕ) (l : Log) (i : ℕ) → IsToldAt lines l i self.old → AreNumbered self.old.names
+            → IsSpotOf self.old.names p spot → GoesOn lines l i line (after_ask reply (ask_at deed p now)) → has_folder (at l i) p ≡ true
+            → OnOk result (IsToldAt lines l (suc i) self.new) }
     {
         let file = self.directories.file_at(spot);
         let before = self.directories.last_change(spot);
@@ -202,6 +219,9 @@ impl Known {
             → GoesOn lines l i line (after_ask reply (ask_between naming (path old) (path new))) → old.name < many → new.name < many
             → has_folder (at l i) (path old) ≡ true → has_folder (at l i) (path new) ≡ true
             → OnOk result (IsKnownAt path many lines l (suc i) self.new) }
+        ensures told { (p q : Path) (lines : ℕ → ℕ) (l : Log) (i : ℕ) → IsToldAt lines l i self.old → AreNumbered self.old.names
+            → IsSpotOf self.old.names p old → IsSpotOf self.old.names q new → GoesOn lines l i line (after_ask reply (ask_between naming p q))
+            → has_folder (at l i) p ≡ true → has_folder (at l i) q ≡ true → OnOk result (IsToldAt lines l (suc i) self.new) }
     {
         let file = self.directories.file_at(old);
         let there = self.directories.file_at(new);

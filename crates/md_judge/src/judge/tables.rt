@@ -1,5 +1,5 @@
 //! Words by numbers.
-ghost use Rattle.std.specs.Prelude.{◌≡◌, ◌≢◌, ◌<◌, ◌+◌, ◌*◌, ◌/◌, ◌%◌, ◌++◌, ◌∷◌, [], ℕ, List, Some, None, length, slice_get, if◌then◌else◌, IsTrue, IfOk, IfSome, IfNone, OnOk, OnErr};
+ghost use Rattle.std.specs.Prelude.{◌≡◌, ◌≢◌, ◌<◌, ◌≤◌, ◌+◌, ◌*◌, ◌/◌, ◌%◌, ◌++◌, ◌∷◌, [], ℕ, List, Some, None, length, slice_get, if◌then◌else◌, IsTrue, IfOk, IfSome, IfNone, OnOk, OnErr};
 ghost use Rattle.std.specs.Option.{option_copied};
 ghost use Rattle.md_name.specs.Names.{split_of};
 ghost use Rattle.md_judge.specs.Files.{name_facts};
@@ -128,10 +128,11 @@ impl Table {
         Ok((self.add(hash, word)?, true))
     }
 
-    /// Nothing is done: two words have two numbers.
+    /// Nothing is done: two words have two numbers, and there are not too many.
     #[inline(always)]
     fn are_apart(&self)
-        ensures { AreApart self.now }
+        ensures apart { AreApart self.now }
+        ensures few { length self.now ≤ 4000000000 }
     {
         let _ = &self.words;
     }
@@ -219,8 +220,11 @@ impl Names {
         ensures number { IfOk result (λ u. slice_get self.new.uniques u ≡ Some unique.now) }
         ensures endings { self.new.endings ≡ self.old.endings }
         ensures keeps { KeepNumbers self.old self.new }
+        ensures numbered { OnOk result (AreNumbered self.new) }
     {
-        Ok(self.uniques.number(unique)?.0)
+        let (number, _) = self.uniques.number(unique)?;
+        self.are_numbered();
+        Ok(number)
     }
 
     /// The number of a name, for ever: two names have two, and a name has one. Where memory is refused, no number stands for another name than before.

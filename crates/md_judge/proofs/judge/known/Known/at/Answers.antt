@@ -1,4 +1,4 @@
-use Rattle.std.proofs.Common.{ℕ, ◌≡◌, ◌<◌, ◌≤◌, true, is_some, length, sym, ap, ◌∙◌}
+use Rattle.std.proofs.Common.{ℕ, suc, ◌≡◌, ◌<◌, ◌≤◌, ◌^◌, true, is_some, length, refl, sym, ap, subst, ◌∙◌}
 use Rattle.md_dirs.specs.State.{State, file_at, has_folder}
 use Rattle.md_dirs.specs.declared.paths.Path.{Path}
 use Rattle.md_judge.specs.declared.judge.directories.Spot.{Spot}
@@ -7,6 +7,10 @@ use Rattle.md_judge.specs.declared.judge.known.Known.{Known}
 use Rattle.md_judge.specs.Told.{at, ask_at, after_ask}
 use Rattle.md_judge.specs.Changes.{IsOlder, Leads}
 use Rattle.md_judge.specs.Known.{files_after, number_at, Stands, Holds, EachSpot, IsHoused}
+use Rattle.md_judge.specs.Moments.{GoesOn}
+use Rattle.md_judge.specs.Recalled.{HasNumber}
+use Rattle.md_judge.proofs.Pathed.{path_by, path-is}
+use Rattle.md_judge.proofs.Telling.{known-by, comes, told-by}
 use Rattle.md_judge.proofs.Recounted.{known_on}
 use Rattle.md_judge.proofs.Changing.{overwrites}
 use Rattle.md_judge.proofs.Following.{follows, each-spot, housed, is-older}
@@ -64,3 +68,23 @@ returns-clause-moments c = λ path many now lines l i is goes named there.
     (returns-clause-act c path many now (at l i) is.stands is.holds named there).holds
     (each_named c path many now (at l i) is.stands is.holds named there)
     (each_housed c path many now (at l i) is.stands is.holds named there) c.in_ok-make.ensures.moments
+
+pub returns-clause-told : goal.returns-clause-told
+returns-clause-told c = λ p now lines l i told numbered of goes there.
+    let names = c.args.self.now.names in
+    let path = path_by names in
+    let spot = c.args.spot in
+    let same : path spot ≡ p = path-is names numbered p spot of in
+    let goes' : GoesOn lines l i c.args.line (after_ask c.args.reply (ask_at c.args.deed (path spot) now)) =
+    subst (λ q. GoesOn lines l i c.args.line (after_ask c.args.reply (ask_at c.args.deed q now))) (sym same) goes in
+    let there' : has_folder (at l i) (path spot) ≡ true = subst (λ q. has_folder (at l i) q ≡ true) (sym same) there in
+    let low : spot.name < 2 ^ 64 = numbered.few p.name spot.name of.number in
+    let is = known-by lines l i c.args.self.now told numbered in
+    let leads = leads c path (2 ^ 64) now (at l i) is.stands is.holds low there' in
+    let leads' : Leads path c.change_at-change.result (at l i) (at l (suc i)) = subst (Leads path c.change_at-change.result (at l i)) (sym goes'.next) leads in
+    let number : HasNumber names (path spot).name = subst (λ q. HasNumber names q.name) (sym same) (spot.name, of.number) in
+    let each : EachSpot (λ q. HasNumber names (path q).name) c.change_at-change.result =
+    each-spot (λ q. q ≡ spot) (λ q. HasNumber names (path q).name) (λ q e. subst (λ q. HasNumber names (path q).name) (sym e) number)
+    c.change_at-change.result c.change_at-change.ensures.spots in
+    told-by lines l (suc i) names numbered _ (returns-clause-moments c path (2 ^ 64) now lines l i is goes' low there')
+    (comes path c.change_at-change.result l i names leads' each told.numbered) refl

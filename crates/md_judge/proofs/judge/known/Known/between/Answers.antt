@@ -1,4 +1,4 @@
-use Rattle.std.proofs.Common.{ℕ, ◌≡◌, ◌<◌, ◌≤◌, ◌⊎◌, true, inl, inr, is_some, length, sym, ap, ◌∙◌, arith}
+use Rattle.std.proofs.Common.{ℕ, suc, ◌≡◌, ◌<◌, ◌≤◌, ◌^◌, ◌⊎◌, true, inl, inr, is_some, length, refl, sym, ap, subst, ◌∙◌, arith}
 use Rattle.md_dirs.specs.State.{State, file_at, has_folder}
 use Rattle.md_dirs.specs.declared.paths.Path.{Path}
 use Rattle.md_judge.specs.declared.judge.directories.Spot.{Spot}
@@ -7,6 +7,10 @@ use Rattle.md_judge.specs.declared.judge.known.Known.{Known}
 use Rattle.md_judge.specs.Told.{at, ask_between, after_ask}
 use Rattle.md_judge.specs.Changes.{IsOlder, Leads}
 use Rattle.md_judge.specs.Known.{number_at, Stands, Holds, EachSpot, IsHoused}
+use Rattle.md_judge.specs.Moments.{GoesOn}
+use Rattle.md_judge.specs.Recalled.{HasNumber}
+use Rattle.md_judge.proofs.Pathed.{path_by, path-is}
+use Rattle.md_judge.proofs.Telling.{known-by, comes, told-by}
 use Rattle.md_judge.proofs.Recounted.{known_on}
 use Rattle.md_judge.proofs.Changing.{overwrites}
 use Rattle.md_judge.proofs.Following.{follows, each-spot, housed, is-older}
@@ -71,3 +75,33 @@ returns-clause-moments c = λ path many lines l i is goes named named' there the
     (returns-clause-act c path many (at l i) is.stands is.holds named named' there there').holds
     (each_named c path many (at l i) is.stands is.holds named named' there there')
     (each_housed c path many (at l i) is.stands is.holds named named' there there') c.in_ok-make.ensures.moments
+
+pub returns-clause-told : goal.returns-clause-told
+returns-clause-told c = λ p q lines l i told numbered of of' goes there there'.
+    let names = c.args.self.now.names in
+    let path = path_by names in
+    let old = c.args.old in
+    let new = c.args.new in
+    let same : path old ≡ p = path-is names numbered p old of in
+    let same' : path new ≡ q = path-is names numbered q new of' in
+    let goes' : GoesOn lines l i c.args.line (after_ask c.args.reply (ask_between c.args.naming (path old) (path new))) =
+    subst (λ v. GoesOn lines l i c.args.line (after_ask c.args.reply (ask_between c.args.naming v (path new)))) (sym same)
+    (subst (λ w. GoesOn lines l i c.args.line (after_ask c.args.reply (ask_between c.args.naming p w))) (sym same') goes) in
+    let here : has_folder (at l i) (path old) ≡ true = subst (λ v. has_folder (at l i) v ≡ true) (sym same) there in
+    let here' : has_folder (at l i) (path new) ≡ true = subst (λ v. has_folder (at l i) v ≡ true) (sym same') there' in
+    let low : old.name < 2 ^ 64 = numbered.few p.name old.name of.number in
+    let low' : new.name < 2 ^ 64 = numbered.few q.name new.name of'.number in
+    let is = known-by lines l i c.args.self.now told numbered in
+    let leads = leads c path (2 ^ 64) (at l i) is.stands is.holds low low' here here' in
+    let leads' : Leads path c.change_between-change.result (at l i) (at l (suc i)) =
+    subst (Leads path c.change_between-change.result (at l i)) (sym goes'.next) leads in
+    let number : HasNumber names (path old).name = subst (λ v. HasNumber names v.name) (sym same) (old.name, of.number) in
+    let number' : HasNumber names (path new).name = subst (λ v. HasNumber names v.name) (sym same') (new.name, of'.number) in
+    let each : EachSpot (λ s. HasNumber names (path s).name) c.change_between-change.result =
+    each-spot (λ s. (s ≡ old) ⊎ (s ≡ new)) (λ s. HasNumber names (path s).name)
+    (λ s e. elim e [
+      | inl e ↦ subst (λ x. HasNumber names (path x).name) (sym e) number
+      | inr e ↦ subst (λ x. HasNumber names (path x).name) (sym e) number'
+    ]) c.change_between-change.result c.change_between-change.ensures.spots in
+    told-by lines l (suc i) names numbered _ (returns-clause-moments c path (2 ^ 64) lines l i is goes' low low' here here')
+    (comes path c.change_between-change.result l i names leads' each told.numbered) refl

@@ -1,0 +1,7 @@
+use Rattle.std.proofs.Common.{refl}
+use Rattle.md_judge.proofs.Growing.{grows}
+use Rattle.md_judge.proofs.judge.Judge.numbers.Goals as goal
+
+pub loop-name-preserved : goal.loop-name-preserved
+loop-name-preserved c = λ lines l i told.
+    grows lines l i c.loop-name.self.known _ (c.loop-name.invariant lines l i told) c.number.ensures.keeps c.in_ok-number.ensures.numbered refl refl

@@ -1,0 +1,7 @@
+use Rattle.std.proofs.Common.{ℕ}
+use Rattle.md_judge.specs.Logs.{Log}
+use Rattle.md_judge.specs.Recalled.{IsToldAt}
+use Rattle.md_judge.proofs.judge.Judge.numbers.Given as goal
+
+abbrev pub invariant-loop-name : goal.invariant-loop-name
+invariant-loop-name l = (lines : ℕ → ℕ) (log : Log) (i : ℕ) → IsToldAt lines log i l.fn.self.known → IsToldAt lines log i l.self.known

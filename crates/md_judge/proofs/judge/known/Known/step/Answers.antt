@@ -1,0 +1,12 @@
+use Rattle.md_judge.specs.Logs.{Numbered}
+use Rattle.md_judge.specs.Told.{moment, after_step}
+use Rattle.md_judge.proofs.Stepping.{at-next, clocked}
+use Rattle.md_judge.proofs.judge.known.Known.step.Goals as goal
+
+pub returns : goal.returns
+returns c = record {
+  told = λ lines l i told is here short there.
+      let x : Numbered = record { number = c.args.line; step = c.args.step.now } in
+      c.call.ensures.told (after_step (moment l i) x).now lines l i (clocked lines l i c.args.self.now c.max-self.result told)
+      (record { here = here; short = short; next = at-next l i x is }) there;
+}
