@@ -9,11 +9,10 @@ use crate::text::{push_folder, push_message, push_number};
 use md_core::{Answer, Event};
 use md_name::Flags;
 use md_script::PlayKind;
-use std::alloc::{AllocError, Global};
+use std::alloc::AllocError;
 
 /// Appends the line of an answer. Nothing where the log has no word for it, as for a clean.
 pub(crate) fn push_answer(
-    alloc: Global,
     out: &mut Vec<u8>,
     names: &[Vec<u8>],
     about: &About,
@@ -24,7 +23,7 @@ pub(crate) fn push_answer(
         About::Nothing => Ok(()),
         About::One(message) => {
             push_begin(out, event)?;
-            push_one(alloc, out, *answer)?;
+            push_one(out, *answer)?;
             Ok(end(out, names, message)?)
         }
         About::Moved { message, to } => {
@@ -76,13 +75,13 @@ fn push_copied(
 }
 
 // The answer of a job about one message.
-fn push_one(alloc: Global, out: &mut Vec<u8>, answer: Answer) -> Result<(), AllocError> {
+fn push_one(out: &mut Vec<u8>, answer: Answer) -> Result<(), AllocError> {
     match answer {
         Answer::Delivered => out.extend_from_slice(b" answer delivered"),
         Answer::Expunged => out.extend_from_slice(b" answer expunged"),
         Answer::Flags(flags) => {
             out.extend_from_slice(b" answer flags ")?;
-            push_flags(alloc, out, flags)
+            push_flags(out, flags)
         }
         _ => out.extend_from_slice(b" answer failed"),
     }
@@ -102,16 +101,12 @@ fn end(out: &mut Vec<u8>, names: &[Vec<u8>], message: &Message) -> Result<(), Al
 }
 
 /// Appends the comment that has the whole answer, in the words of a script's transcript.
-pub(crate) fn push_comment(
-    alloc: Global,
-    out: &mut Vec<u8>,
-    answer: Answer,
-) -> Result<(), AllocError> {
+pub(crate) fn push_comment(out: &mut Vec<u8>, answer: Answer) -> Result<(), AllocError> {
     out.extend_from_slice(b"# answer ")?;
     match answer {
         Answer::Flags(flags) => {
             out.extend_from_slice(b"flags ")?;
-            push_flags(alloc, out, flags)?;
+            push_flags(out, flags)?;
         }
         Answer::Cleaned(count) => {
             out.extend_from_slice(b"cleaned ")?;
@@ -143,12 +138,11 @@ fn word(answer: Answer) -> &'static [u8] {
 }
 
 // Letters in ASCII order, and a hyphen where there are none.
-fn push_flags(alloc: Global, out: &mut Vec<u8>, flags: Flags) -> Result<(), AllocError> {
-    let Ok(letters) = flags.write(alloc) else {
-        return Err(AllocError);
-    };
-    if letters.is_empty() {
-        return Ok(out.push(b'-')?);
+fn push_flags(out: &mut Vec<u8>, flags: Flags) -> Result<(), AllocError> {
+    let begin = out.len();
+    flags.write_onto(out)?;
+    if out.len() == begin {
+        out.push(b'-')?;
     }
-    out.extend_from_slice(&letters)
+    Ok(())
 }

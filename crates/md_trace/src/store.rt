@@ -111,9 +111,9 @@ impl Store {
     }
 
     fn log_answer(&self, event: Event, answer: Answer, out: &mut Vec<u8>) -> Result<(), PlayKind> {
-        push_comment(self.alloc, out, answer)?;
+        push_comment(out, answer)?;
         match self.about(event.job) {
-            Some(about) => push_answer(self.alloc, out, &self.names, about, event, &answer),
+            Some(about) => push_answer(out, &self.names, about, event, &answer),
             None => Ok(()),
         }
     }
