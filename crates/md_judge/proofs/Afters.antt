@@ -55,11 +55,11 @@ still-files names (Some n) files = elim (has_path_to names n) as (λ b. length (
   | false ↦ length-set files n None
 ]
 
-path-folders : (p : Path) (s : State) (n : Option ℕ) → (with_path p s n).folders ≡ s.folders
+pub path-folders : (p : Path) (s : State) (n : Option ℕ) → (with_path p s n).folders ≡ s.folders
 path-folders p s None = refl
 path-folders p s (Some n) = refl
 
-path-files : (p : Path) (s : State) (n : Option ℕ) → (with_path p s n).files ≡ s.files
+pub path-files : (p : Path) (s : State) (n : Option ℕ) → (with_path p s n).files ≡ s.files
 path-files p s None = refl
 path-files p s (Some n) = refl
 

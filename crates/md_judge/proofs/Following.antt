@@ -22,7 +22,7 @@ place-back Tmp = refl
 place-back New = refl
 place-back Cur = refl
 
-index-small : (p : Place) → place_index p < 3
+pub index-small : (p : Place) → place_index p < 3
 index-small Tmp = lit< tt
 index-small New = lit< tt
 index-small Cur = lit< tt
@@ -42,7 +42,7 @@ same-spot a b h =
 
 module _ (path : Spot → Path) (many : ℕ) (stands : Stands path many) where
   -- spots are one just where their paths are
-  same-test : (a q : Spot) → a.name < many → q.name < many → is_same_spot a q ≡ eq_by_cmp path_cmp (path q) (path a)
+  pub same-test : (a q : Spot) → a.name < many → q.name < many → is_same_spot a q ≡ eq_by_cmp path_cmp (path q) (path a)
   same-test a q ha hq =
       elim (is_same_spot a q) as (λ t. is_same_spot a q ≡ t → t ≡ eq_by_cmp path_cmp (path q) (path a)) [
         | true ↦ λ e. sym (ap (λ x. eq_by_cmp path_cmp (path x) (path a)) (sym (same-spot a q e)) ∙ itself (path a))

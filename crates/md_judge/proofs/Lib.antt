@@ -24,3 +24,4 @@ pub mod Pathed
 pub mod Growing
 pub mod Telling
 pub mod Stepping
+pub mod Beginning

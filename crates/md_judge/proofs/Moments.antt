@@ -26,7 +26,7 @@ Adds began None old new = new ≡ old
 Adds began (Some a) old new = Sets a.0 (Some began) (was_in old a.0) old new
 
 -- a last moment that is put anew stays
-kept : (old : List Directory) (s q : Spot) → after_put s (was_in old s) (was_in old) q ≡ was_in old q
+pub kept : (old : List Directory) (s q : Spot) → after_put s (was_in old s) (was_in old) q ≡ was_in old q
 kept old s q = elim (is_same_spot s q) as (λ b. is_same_spot s q ≡ b → cond b (was_in old s) (was_in old q) ≡ was_in old q) [
   | true ↦ λ e. ap (was_in old) (same-spot s q e)
   | false ↦ λ e. refl

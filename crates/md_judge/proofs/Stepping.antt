@@ -1,5 +1,5 @@
 -- The moment after a step of a log, and what is told where a step leaves directories as they were.
-use Rattle.std.proofs.Common.{ℕ, suc, ◌≡◌, ◌<◌, ◌*◌, inl, inr, ◌∷◌, [], Some, take, slice_get, fold, length, get_or, sym, ap, subst, ◌∙◌, arith}
+use Rattle.std.proofs.Common.{ℕ, suc, ◌≡◌, ◌<◌, ◌*◌, inl, inr, ◌∷◌, [], Some, take, slice_get, fold, length, get_or, Result, Ok, Err, OnOk, sym, ap, subst, ◌∙◌, arith}
 use Rattle.std.proofs.Math.Seq.{take-suc}
 use Rattle.std.proofs.lemmas.List.Sums.{fold-append}
 use Rattle.std.proofs.lemmas.Option.{slice_get_within, get_or_from_slice_get}
@@ -65,3 +65,8 @@ clocked line l i known now told = record {
   files = told.files;
   older = told.older;
 }
+
+-- what holds whatever a call gives holds where it gives a value
+pub on-ok : {A E P : Type 0} (r : Result A E) → P → OnOk r P
+on-ok (Ok x) holds = holds
+on-ok (Err e) holds = tt

@@ -7,7 +7,7 @@ use Rattle.md_judge.specs.declared.judge.directories.Spot.{Spot}
 use Rattle.md_judge.specs.declared.judge.directories.Named.{Named}
 use Rattle.md_judge.specs.declared.judge.directories.Directory.{Directory}
 use Rattle.md_judge.specs.declared.judge.acts.Change.{Change}
-use Rattle.md_judge.specs.Known.{number_at, after_put, after_spot_added, after_spot_taken, EachSpot, IsHoused, Stands, Holds}
+use Rattle.md_judge.specs.Known.{number_at, file_in, after_put, after_spot_added, after_spot_taken, EachSpot, IsHoused, Stands, Holds}
 use Rattle.md_dirs.specs.declared.paths.Path.{Path}
 use Rattle.md_dirs.specs.State.{State}
 use Rattle.md_judge.specs.declared.judge.known.Known.{Known}
@@ -31,6 +31,13 @@ since_in all s = option_and_then (λ (d : Directory). since_of d s.name) (slice_
 -- the last moment at which they had it, as it is kept
 abbrev pub was_in : List Directory → Spot → Option ℕ
 was_in all s = option_and_then (λ (d : Directory). was_of d s.name) (slice_get all (number_at s))
+
+-- Directories are those that were and so many more, in which no name is or was.
+pub record AddsEmpty (more : ℕ) (old new : List Directory) : Type 0 where
+  pub files : (q : Spot) → file_in new q ≡ file_in old q
+  pub since : (q : Spot) → since_in new q ≡ since_in old q
+  pub was : (q : Spot) → was_in new q ≡ was_in old q
+  pub many : length new ≡ length old + more
 
 -- Directories have these moments at a spot, and elsewhere those that they had.
 pub record PutsMoments (s : Spot) (begun ended : Option ℕ) (old new : List Directory) : Type 0 where

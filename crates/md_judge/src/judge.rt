@@ -2,8 +2,9 @@
 //!
 //! Moments are numbered by the lines of the log: the step of line 7 goes from moment 7 to moment 8, and what the line 3 says of the
 //! beginning is so from moment 4 on.
-ghost use Rattle.std.specs.Prelude.{◌≡◌, ◌<◌, ℕ, suc, Some, slice_get, OnOk};
-ghost use Rattle.md_judge.specs.Logs.{Log};
+ghost use Rattle.std.specs.Prelude.{◌≡◌, ◌<◌, ℕ, suc, Some, Ok, true, slice_get, OnOk};
+ghost use Rattle.md_dirs.specs.State.{has_folder};
+ghost use Rattle.md_judge.specs.Logs.{Log, with_file_line, with_also_line};
 ghost use Rattle.md_judge.specs.Told.{at};
 ghost use Rattle.md_judge.specs.Recalled.{IsToldAt, HasFolders};
 
@@ -69,7 +70,10 @@ impl Judge {
     }
 
     /// One more folder, after the others.
-    pub(crate) fn add_folder(&mut self) -> Result<(), LineFault> {
+    pub(crate) fn add_folder(&mut self) -> Result<(), LineFault>
+        ensures told { (lines : ℕ → ℕ) (l l' : Log) → IsToldAt lines l 0 self.old.known
+            → l'.opening ≡ record l.opening { folders = suc l.opening.folders } → OnOk result (IsToldAt lines l' 0 self.new.known) }
+    {
         self.known.directories.add_folder()?;
         self.watch.add_folder()
     }
@@ -85,24 +89,20 @@ impl Judge {
     }
 
     /// A file that is there at the beginning.
-    pub(crate) fn put_file(
-        &mut self,
-        line: usize,
-        path: &Path,
-        stamp: u64,
-    ) -> Result<(), LineFault> {
+    pub(crate) fn put_file(&mut self, line: usize, path: &Path, stamp: u64) -> Result<(), LineFault>
+        ensures told { (lines : ℕ → ℕ) (l l' : Log) → IsToldAt lines l 0 self.old.known → with_file_line l path.now stamp ≡ Ok l' → line < lines 0
+            → has_folder l.opening path.now ≡ true → OnOk result (IsToldAt lines l' 0 self.new.known) }
+    {
         let (spot, file) = self.known.put_file(line, path, stamp)?;
         self.watch.files.make(mark_of(line), None, stamp)?;
         self.watch.put(&self.known, line, spot, file)
     }
 
     /// A further name of a file that is there at the beginning.
-    pub(crate) fn put_name(
-        &mut self,
-        line: usize,
-        path: &Path,
-        old: &Path,
-    ) -> Result<(), LineFault> {
+    pub(crate) fn put_name(&mut self, line: usize, path: &Path, old: &Path) -> Result<(), LineFault>
+        ensures told { (lines : ℕ → ℕ) (l l' : Log) → IsToldAt lines l 0 self.old.known → with_also_line l path.now old.now ≡ Ok l' → line < lines 0
+            → has_folder l.opening path.now ≡ true → OnOk result (IsToldAt lines l' 0 self.new.known) }
+    {
         let (spot, file) = self.known.put_name(line, path, old)?;
         self.watch.put(&self.known, line, spot, file)
     }

@@ -1,10 +1,10 @@
 //! The names that are in directories.
-ghost use Rattle.std.specs.Prelude.{◌≡◌, Some, None, OnOk, slice_get, unwrap_or};
+ghost use Rattle.std.specs.Prelude.{◌≡◌, [], Some, None, OnOk, slice_get, unwrap_or};
 ghost use Rattle.std.specs.Option.{option_copied};
 ghost use Rattle.md_dirs.specs.Index.{directory_number};
 ghost use Rattle.md_judge.specs.Known.{file_in, Puts, Makes};
 ghost use Rattle.md_judge.specs.Readings.{was_of};
-ghost use Rattle.md_judge.specs.Moments.{kept_moment, since_in, was_in, PutsMoments, MakesMoments};
+ghost use Rattle.md_judge.specs.Moments.{kept_moment, since_in, was_in, AddsEmpty, PutsMoments, MakesMoments};
 
 use super::acts::Change;
 use super::befores::{Moment, line_before, moment_of};
@@ -71,20 +71,31 @@ pub(super) struct Directories {
 }
 
 impl Directories {
-    pub(super) fn new(alloc: Global) -> Self {
+    pub(super) fn new(alloc: Global) -> Self
+        ensures { result.all.items ≡ [] }
+    {
         Directories {
             alloc,
             all: Vec::new(alloc),
         }
     }
 
-    pub(super) fn add_folder(&mut self) -> Result<(), LineFault> {
-        for _ in 0..3 {
-            self.all.push(Directory {
-                names: BTreeMap::new(self.alloc),
-                was: BTreeMap::new(self.alloc),
-            })?;
+    pub(super) fn add_folder(&mut self) -> Result<(), LineFault>
+        ensures { OnOk result (AddsEmpty 3 self.old.all.items self.new.all.items) }
+    {
+        for _ in 0..3u8 {
+            self.add_directory()?;
         }
+        Ok(())
+    }
+
+    fn add_directory(&mut self) -> Result<(), LineFault>
+        ensures { OnOk result (AddsEmpty 1 self.old.all.items self.new.all.items) }
+    {
+        self.all.push(Directory {
+            names: BTreeMap::new(self.alloc),
+            was: BTreeMap::new(self.alloc),
+        })?;
         Ok(())
     }
 

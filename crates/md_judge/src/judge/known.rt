@@ -1,9 +1,9 @@
 //! What is known of the directories: the files at paths, how many files were made, and the clock.
-ghost use Rattle.std.specs.Prelude.{◌≡◌, ◌+◌, ◌<◌, ◌⊎◌, ℕ, suc, Some, true, length, slice_get, OnOk, IfOk};
+ghost use Rattle.std.specs.Prelude.{◌≡◌, ◌+◌, ◌<◌, ◌⊎◌, ℕ, suc, Some, Ok, true, length, slice_get, OnOk, IfOk};
 ghost use Rattle.md_dirs.specs.State.{State, file_at, has_folder};
 ghost use Rattle.md_dirs.specs.declared.paths.Path.{Path};
 ghost use Rattle.md_judge.specs.declared.judge.directories.Spot.{Spot};
-ghost use Rattle.md_judge.specs.Logs.{Log};
+ghost use Rattle.md_judge.specs.Logs.{Log, empty_log, with_file_line, with_also_line};
 ghost use Rattle.md_judge.specs.Told.{at, ask_at, ask_between, after_ask, after_call};
 ghost use Rattle.md_judge.specs.Changes.{IsOlder, Leads};
 ghost use Rattle.md_judge.specs.Files.{unique_in, is_message_in};
@@ -56,7 +56,9 @@ pub(super) struct Known {
 }
 
 impl Known {
-    pub(super) fn new(alloc: Global) -> Self {
+    pub(super) fn new(alloc: Global) -> Self
+        ensures told { (lines : ℕ → ℕ) → IsToldAt lines empty_log 0 result }
+    {
         Known {
             names: Names::new(alloc),
             directories: Directories::new(alloc),
@@ -112,7 +114,10 @@ impl Known {
         line: usize,
         path: &Path,
         stamp: u64,
-    ) -> Result<(Spot, u32), LineFault> {
+    ) -> Result<(Spot, u32), LineFault>
+        ensures told { (lines : ℕ → ℕ) (l l' : Log) → IsToldAt lines l 0 self.old → with_file_line l path.now stamp ≡ Ok l' → line < lines 0
+            → has_folder l.opening path.now ≡ true → OnOk result (IsToldAt lines l' 0 self.new) }
+    {
         let spot = self.spot(path)?;
         if self.directories.file_at(spot).is_some() {
             return Err(LineFault::SamePath);
@@ -130,7 +135,10 @@ impl Known {
         line: usize,
         path: &Path,
         old: &Path,
-    ) -> Result<(Spot, u32), LineFault> {
+    ) -> Result<(Spot, u32), LineFault>
+        ensures told { (lines : ℕ → ℕ) (l l' : Log) → IsToldAt lines l 0 self.old → with_also_line l path.now old.now ≡ Ok l' → line < lines 0
+            → has_folder l.opening path.now ≡ true → OnOk result (IsToldAt lines l' 0 self.new) }
+    {
         let spot = self.spot(path)?;
         let old = self.spot(old)?;
         if self.directories.file_at(spot).is_some() {

@@ -205,7 +205,9 @@ pub(super) struct Names {
 }
 
 impl Names {
-    pub(super) fn new(alloc: Global) -> Self {
+    pub(super) fn new(alloc: Global) -> Self
+        ensures { (result.uniques ≡ []) × (result.endings ≡ []) × (result.others ≡ []) }
+    {
         Names {
             uniques: Table::new(alloc),
             endings: Table::new(alloc),

@@ -1,11 +1,7 @@
-use Rattle.std.proofs.Common.{suc, refl, Result, Ok, Err, OnOk}
+use Rattle.std.proofs.Common.{suc, refl}
 use Rattle.md_judge.proofs.Growing.{grows}
+use Rattle.md_judge.proofs.Stepping.{on-ok}
 use Rattle.md_judge.proofs.judge.Judge.step.Goals as goal
-
--- what holds whatever a call gives holds where it gives a value
-on-ok : {A E P : Type 0} (r : Result A E) → P → OnOk r P
-on-ok (Ok x) holds = holds
-on-ok (Err e) holds = tt
 
 pub returns-in-List : goal.returns-in-List
 returns-in-List c = record {

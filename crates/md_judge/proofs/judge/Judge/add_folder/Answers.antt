@@ -1,0 +1,10 @@
+use Rattle.std.proofs.Common.{refl}
+use Rattle.md_judge.proofs.Beginning.{folder-told}
+use Rattle.md_judge.proofs.Stepping.{on-ok}
+use Rattle.md_judge.proofs.judge.Judge.add_folder.Goals as goal
+
+pub returns : goal.returns
+returns c = record {
+  told = λ lines l l' told opening.
+      on-ok c.add_folder-2.result (folder-told lines l l' c.args.self.now.known _ told refl c.in_ok-add_folder.ensures refl opening);
+}

@@ -1,0 +1,5 @@
+use Rattle.md_judge.proofs.Stepping.{on-ok}
+use Rattle.md_judge.proofs.judge.Judge.put_name.Goals as goal
+
+pub returns : goal.returns
+returns c = record { told = λ lines l l' told is short there. on-ok c.put.result (c.in_ok-spot.ensures.told lines l l' told is short there) }
