@@ -23,12 +23,13 @@ use Rattle.md_judge.specs.declared.judge.directories.Directory.{Directory}
 use Rattle.md_judge.specs.declared.judge.directories.Spot.{Spot}
 use Rattle.md_judge.specs.declared.judge.directories.Named.{Named}
 use Rattle.md_judge.specs.declared.judge.known.Known.{Known}
+use Rattle.md_judge.specs.declared.judge.tables.Names.{Names}
 use Rattle.md_judge.specs.Claims.{IsSince}
 use Rattle.md_judge.specs.Known.{number_at, file_of_name, file_in, is_same_spot, Puts}
 use Rattle.md_judge.specs.Logs.{Log, empty_log, with_file_line, with_also_line}
 use Rattle.md_judge.specs.Moments.{since_of, since_in, was_in, AddsEmpty, PutsMoments}
 use Rattle.md_judge.specs.Mixed.{mixed_name}
-use Rattle.md_judge.specs.Names.{StandFor, IsNumber, AreNumbered}
+use Rattle.md_judge.specs.Names.{StandFor, IsNumber, AreNumbered, KeepNumbers}
 use Rattle.md_judge.specs.Readings.{was_of, IsHere, RecallsWas}
 use Rattle.md_judge.specs.Recalled.{spot_of, HasNumber, IsSpotOf, IsToldAt}
 use Rattle.md_judge.specs.Told.{at}
@@ -315,6 +316,29 @@ with-file l path stamp = record l { opening = with_new_file path (empty_file sta
 
 abbrev with-name : Log → Path → Path → Log
 with-name l path old = record l { opening = with_path path l.opening (file_at l.opening old) }
+
+-- what the log does by a line of a file, by whether the path's spot has one
+pub file-said : (line : ℕ → ℕ) (l : Log) (known : Known) → IsToldAt line l 0 known → (path : Path) (spot : Spot) → IsSpotOf known.names path spot
+    → (stamp : ℕ) (b : Bool) → is_some (file_in known.directories.all.items spot) ≡ b
+    → with_file_line l path stamp ≡ (require (not b) SamePath >>= (λ _. Ok (with-file l path stamp)))
+unfolding with_file_line
+file-said line l known told path spot of stamp b is =
+    ap (λ b. require (not b) SamePath >>= (λ _. Ok (with-file l path stamp))) (sym (ap is_some (told-at line l 0 known told path spot of)) ∙ is)
+
+-- a path's spot stays its spot as names get numbers
+pub still-of : (old new : Names) → KeepNumbers old new → (path : Path) (spot : Spot) → IsSpotOf old path spot → IsSpotOf new path spot
+still-of old new keeps path spot of = record { folder = of.folder; place = of.place; number = keeps path.name spot.name of.number }
+
+-- and by a line of a further name
+pub name-said : (line : ℕ → ℕ) (l : Log) (known : Known) → IsToldAt line l 0 known → (path old : Path) (spot at-old : Spot)
+    → IsSpotOf known.names path spot → IsSpotOf known.names old at-old → (a b : Bool)
+    → is_some (file_in known.directories.all.items spot) ≡ a → is_some (file_in known.directories.all.items at-old) ≡ b
+    → with_also_line l path old ≡ (require (not a) SamePath >>= (λ _. require b NoSuchPath >>= (λ _. Ok (with-name l path old))))
+unfolding with_also_line
+name-said line l known told path old spot at-old of of-old a b is is-old =
+    let there : is_some (file_at l.opening path) ≡ a = sym (ap is_some (told-at line l 0 known told path spot of)) ∙ is in
+    let there-old : is_some (file_at l.opening old) ≡ b = sym (ap is_some (told-at line l 0 known told old at-old of-old)) ∙ is-old in
+    λ i. require (not (there i)) SamePath >>= (λ _. require (there-old i) NoSuchPath >>= (λ _. Ok (with-name l path old)))
 
 -- what it then begins with
 file-line : (l l' : Log) (path : Path) (stamp : ℕ) → with_file_line l path stamp ≡ Ok l' → l'.opening ≡ with_new_file path (empty_file stamp) l.opening

@@ -1,9 +1,11 @@
 -- What is known of directories beside what a log tells of paths, where the numbers of names stand for names.
-use Rattle.std.specs.Prelude.{ℕ, ◌≡◌, ◌<◌, ◌≤◌, ◌*◌, ◌^◌, List, Some, None, true, length}
+use Rattle.std.specs.Prelude.{ℕ, ◌≡◌, ◌≢◌, ◌<◌, ◌≤◌, ◌*◌, ◌^◌, List, Some, None, Result, Ok, Err, IsOk, true, length}
 use Rattle.md_dirs.specs.Path.{path_of}
 use Rattle.md_dirs.specs.State.{State, file_at, has_folder}
 use Rattle.md_dirs.specs.declared.paths.Path.{Path}
 use Rattle.md_dirs.specs.declared.paths.Place.{Place}
+use Rattle.md_log.specs.declared.error.LineFault.{LineFault}
+use Rattle.md_log.specs.declared.error.LineFault.TheVariants.{NoMemory}
 use Rattle.md_log.specs.declared.line.Call.{Call}
 use Rattle.md_log.specs.declared.line.Call.TheVariants as call
 use Rattle.md_judge.specs.declared.judge.directories.Spot.{Spot}
@@ -53,3 +55,8 @@ HasFolders s (call.At d p r) = has_folder s p ≡ true
 HasFolders s (call.Between n old new r) = (has_folder s old ≡ true) × (has_folder s new ≡ true)
 HasFolders s (call.List folder place r shown) = Unit {0}
 HasFolders s (call.Answer answer folder unique) = Unit {0}
+
+-- What is answered of a line of the beginning is what the log does: it takes the line, or it refuses it by this fault. But memory may be refused.
+abbrev pub Agrees : {A : Type 0} → Result A LineFault → Result Log LineFault → Type 0
+Agrees (Ok x) log = IsOk log
+Agrees (Err fault) log = fault ≢ NoMemory → log ≡ Err fault

@@ -4,7 +4,7 @@
 //! beginning is so from moment 4 on.
 ghost use Rattle.std.specs.Prelude.{◌≡◌, ◌<◌, ℕ, suc, Some, Ok, true, slice_get, OnOk};
 ghost use Rattle.md_dirs.specs.State.{has_folder};
-ghost use Rattle.md_judge.specs.Logs.{Log, with_file_line, with_also_line};
+ghost use Rattle.md_judge.specs.Logs.{Log, empty_log, with_file_line, with_also_line};
 ghost use Rattle.md_judge.specs.Told.{at};
 ghost use Rattle.md_judge.specs.Recalled.{IsToldAt, HasFolders};
 
@@ -58,7 +58,9 @@ pub(crate) struct Judge {
 }
 
 impl Judge {
-    pub(crate) fn new(alloc: Global) -> Self {
+    pub(crate) fn new(alloc: Global) -> Self
+        ensures told { (lines : ℕ → ℕ) → IsToldAt lines empty_log 0 result.known }
+    {
         Judge {
             alloc,
             actor_names: Table::new(alloc),

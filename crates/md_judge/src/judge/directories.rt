@@ -1,7 +1,8 @@
 //! The names that are in directories.
-ghost use Rattle.std.specs.Prelude.{◌≡◌, [], Some, None, OnOk, slice_get, unwrap_or};
+ghost use Rattle.std.specs.Prelude.{◌≡◌, [], Some, None, IfErr, OnOk, slice_get, unwrap_or};
 ghost use Rattle.std.specs.Option.{option_copied};
 ghost use Rattle.md_dirs.specs.Index.{directory_number};
+ghost use Rattle.md_log.specs.declared.error.LineFault.TheVariants.{NoMemory};
 ghost use Rattle.md_judge.specs.Known.{file_in, Puts, Makes};
 ghost use Rattle.md_judge.specs.Readings.{was_of};
 ghost use Rattle.md_judge.specs.Moments.{kept_moment, since_in, was_in, AddsEmpty, PutsMoments, MakesMoments};
@@ -168,6 +169,7 @@ impl Directories {
     pub(super) fn add(&mut self, at: usize, spot: Spot, file: u32) -> Result<(), LineFault>
         ensures files { OnOk result (Puts spot (Some file) self.old.all.items self.new.all.items) }
         ensures moments { OnOk result (PutsMoments spot (Some (kept_moment at)) (was_in self.old.all.items spot) self.old.all.items self.new.all.items) }
+        ensures fault { IfErr result (λ e. e ≡ NoMemory) }
     {
         let since = moment_of(at);
         self.put(spot, Named { file, since })
@@ -177,6 +179,7 @@ impl Directories {
     fn put(&mut self, spot: Spot, named: Named) -> Result<(), LineFault>
         ensures files { OnOk result (Puts spot (Some named.file) self.old.all.items self.new.all.items) }
         ensures moments { OnOk result (PutsMoments spot (Some named.since) (was_in self.old.all.items spot) self.old.all.items self.new.all.items) }
+        ensures fault { IfErr result (λ e. e ≡ NoMemory) }
     {
         if let Some(directory) = self.all.get_mut(number_of(spot.folder, spot.place)) {
             directory.names.insert(spot.name, named)?;

@@ -1,7 +1,8 @@
 //! What is known of the directories: the files at paths, how many files were made, and the clock.
-ghost use Rattle.std.specs.Prelude.{◌≡◌, ◌+◌, ◌<◌, ◌⊎◌, ℕ, suc, Some, Ok, true, length, slice_get, OnOk, IfOk};
+ghost use Rattle.std.specs.Prelude.{◌≡◌, ◌+◌, ◌<◌, ◌⊎◌, ℕ, suc, Some, Ok, true, length, slice_get, OnOk, IfOk, IfErr};
 ghost use Rattle.md_dirs.specs.State.{State, file_at, has_folder};
 ghost use Rattle.md_dirs.specs.declared.paths.Path.{Path};
+ghost use Rattle.md_log.specs.declared.error.LineFault.TheVariants.{NoMemory, SamePath, NoSuchPath};
 ghost use Rattle.md_judge.specs.declared.judge.directories.Spot.{Spot};
 ghost use Rattle.md_judge.specs.Logs.{Log, empty_log, with_file_line, with_also_line};
 ghost use Rattle.md_judge.specs.Told.{at, ask_at, ask_between, after_ask, after_call};
@@ -10,7 +11,7 @@ ghost use Rattle.md_judge.specs.Files.{unique_in, is_message_in};
 ghost use Rattle.md_judge.specs.Known.{EachSpot, IsBelow, files_after, Stands, Holds, Leaves};
 ghost use Rattle.md_judge.specs.Moments.{IsKnownAt, GoesOn};
 ghost use Rattle.md_judge.specs.Names.{AreNumbered, KeepNumbers};
-ghost use Rattle.md_judge.specs.Recalled.{IsSpotOf, IsToldAt, HasFolders};
+ghost use Rattle.md_judge.specs.Recalled.{IsSpotOf, IsToldAt, HasFolders, Agrees};
 
 use super::acts::{
     Change, NO_CHANGE, create_change, is_wrong_at, is_wrong_between, naming_change, unlink_change,
@@ -73,6 +74,7 @@ impl Known {
         ensures keeps { KeepNumbers self.old.names self.new.names }
         ensures numbered { OnOk result (AreNumbered self.new.names) }
         ensures told { (lines : ℕ → ℕ) (l : Log) (i : ℕ) → IsToldAt lines l i self.old → OnOk result (IsToldAt lines l i self.new) }
+        ensures fault { IfErr result (λ e. e ≡ NoMemory) }
     {
         Ok(Spot {
             folder: path.folder,
@@ -117,6 +119,8 @@ impl Known {
     ) -> Result<(Spot, u32), LineFault>
         ensures told { (lines : ℕ → ℕ) (l l' : Log) → IsToldAt lines l 0 self.old → with_file_line l path.now stamp ≡ Ok l' → line < lines 0
             → has_folder l.opening path.now ≡ true → OnOk result (IsToldAt lines l' 0 self.new) }
+        ensures agrees { (lines : ℕ → ℕ) (l : Log) → IsToldAt lines l 0 self.old → Agrees result (with_file_line l path.now stamp) }
+        ensures fault { IfErr result (λ e. (e ≡ SamePath) ⊎ (e ≡ NoMemory)) }
     {
         let spot = self.spot(path)?;
         if self.directories.file_at(spot).is_some() {
@@ -138,6 +142,8 @@ impl Known {
     ) -> Result<(Spot, u32), LineFault>
         ensures told { (lines : ℕ → ℕ) (l l' : Log) → IsToldAt lines l 0 self.old → with_also_line l path.now old.now ≡ Ok l' → line < lines 0
             → has_folder l.opening path.now ≡ true → OnOk result (IsToldAt lines l' 0 self.new) }
+        ensures agrees { (lines : ℕ → ℕ) (l : Log) → IsToldAt lines l 0 self.old → Agrees result (with_also_line l path.now old.now) }
+        ensures fault { IfErr result (λ e. (e ≡ SamePath) ⊎ (e ≡ NoSuchPath) ⊎ (e ≡ NoMemory)) }
     {
         let spot = self.spot(path)?;
         let old = self.spot(old)?;
@@ -253,7 +259,8 @@ impl Known {
 
 /// How many files there are after a call on one path: a create that was made makes one.
 fn counted(files: u32, deed: Deed, reply: Reply) -> Result<u32, LineFault>
-    ensures { IfOk result (λ count. count ≡ files_after deed reply files) }
+    ensures count { IfOk result (λ count. count ≡ files_after deed reply files) }
+    ensures fault { IfErr result (λ e. e ≡ NoMemory) }
 {
     match (deed, reply) {
         (Deed::Create, Reply::Ok) if files < MOST_FILES => Ok(files + 1),

@@ -1,7 +1,8 @@
 //! Words by numbers.
-ghost use Rattle.std.specs.Prelude.{◌≡◌, ◌≢◌, ◌<◌, ◌≤◌, ◌+◌, ◌*◌, ◌/◌, ◌%◌, ◌++◌, ◌∷◌, [], ℕ, List, Some, None, length, slice_get, if◌then◌else◌, IsTrue, IfOk, IfSome, IfNone, OnOk, OnErr};
+ghost use Rattle.std.specs.Prelude.{◌≡◌, ◌≢◌, ◌<◌, ◌≤◌, ◌+◌, ◌*◌, ◌/◌, ◌%◌, ◌++◌, ◌∷◌, [], ℕ, List, Some, None, length, slice_get, if◌then◌else◌, IsTrue, IfOk, IfErr, IfSome, IfNone, OnOk, OnErr};
 ghost use Rattle.std.specs.Option.{option_copied};
 ghost use Rattle.md_name.specs.Names.{split_of};
+ghost use Rattle.md_log.specs.declared.error.LineFault.TheVariants.{NoMemory};
 ghost use Rattle.md_judge.specs.Files.{name_facts};
 ghost use Rattle.md_judge.specs.Words.{hash_of, AreApart, Finds};
 ghost use Rattle.md_judge.specs.Names.{StandFor, IsNumber, AreNumbered, KeepNumbers, IsUnique};
@@ -51,6 +52,7 @@ impl Index {
         requires { hash ≡ hash_of word.now }
         ensures keeps { (other : List ℕ) (n : ℕ) → other ≢ word.now → Finds self.old other n → Finds self.new other n }
         ensures put { OnOk result (Finds self.new word.now number) }
+        ensures fault { IfErr result (λ e. e ≡ NoMemory) }
     {
         if !self.by_hash.contains_key(&hash) {
             self.by_hash.insert(hash, number)?;
@@ -120,6 +122,7 @@ impl Table {
         ensures is_new { IfOk result (λ r. IsTrue r.1 → r.0 ≡ length self.old) }
         ensures few { IfOk result (λ r. r.0 < 4000000000) }
         ensures refused { OnErr result (self.new ≡ self.old) }
+        ensures fault { IfErr result (λ e. e ≡ NoMemory) }
     {
         let hash = hash_of(word);
         if let Some(number) = self.find(hash, word) {
@@ -155,6 +158,7 @@ impl Table {
         ensures number { IfOk result (λ n. n ≡ length self.old) }
         ensures few { IfOk result (λ n. n < 4000000000) }
         ensures err { OnErr result (self.new ≡ self.old) }
+        ensures fault { IfErr result (λ e. e ≡ NoMemory) }
     {
         let count = self.words.len();
         if count >= MOST_WORDS {
@@ -223,6 +227,7 @@ impl Names {
         ensures endings { self.new.endings ≡ self.old.endings }
         ensures keeps { KeepNumbers self.old self.new }
         ensures numbered { OnOk result (AreNumbered self.new) }
+        ensures fault { IfErr result (λ e. e ≡ NoMemory) }
     {
         let (number, _) = self.uniques.number(unique)?;
         self.are_numbered();
@@ -235,6 +240,7 @@ impl Names {
         ensures keeps { KeepNumbers self.old self.new }
         ensures facts { IfOk result (λ n. IsUnique self.new (split_of name.now) (name_facts self.new n).unique) }
         ensures numbered { OnOk result (AreNumbered self.new) }
+        ensures fault { IfErr result (λ e. e ≡ NoMemory) }
     {
         let number = self.number_of(name)?;
         self.are_numbered();
@@ -244,6 +250,7 @@ impl Names {
     fn number_of(&mut self, name: &[u8]) -> Result<Name, LineFault>
         ensures number { IfOk result (λ n. IsNumber self.new name.now n) }
         ensures keeps { KeepNumbers self.old self.new }
+        ensures fault { IfErr result (λ e. e ≡ NoMemory) }
     {
         match split(name) {
             None => self.other(name),
@@ -255,6 +262,7 @@ impl Names {
     fn other(&mut self, name: &[u8]) -> Result<Name, LineFault>
         ensures number { IfOk result (λ n. StandFor self.new name.now None (n / 4294967296) (n % 4294967296)) }
         ensures keeps { KeepNumbers self.old self.new }
+        ensures fault { IfErr result (λ e. e ≡ NoMemory) }
     {
         let (number, _) = self.others.number(name)?;
         Ok(name_of(number, NO_ENDING))
@@ -264,6 +272,7 @@ impl Names {
     fn message(&mut self, name: &[u8], unique: &[u8], info: Info) -> Result<Name, LineFault>
         ensures number { IfOk result (λ n. StandFor self.new name.now (Some (unique.now, info)) (n / 4294967296) (n % 4294967296)) }
         ensures keeps { KeepNumbers self.old self.new }
+        ensures fault { IfErr result (λ e. e ≡ NoMemory) }
     {
         let ending = self.ending(name.get(unique.len()..).unwrap_or(&[]), info)?;
         Ok(name_of(self.unique(unique)?, ending))
@@ -274,6 +283,7 @@ impl Names {
         ensures number { IfOk result (λ n. slice_get self.new.endings n ≡ Some ending.now) }
         ensures few { IfOk result (λ n. n < 4294967295) }
         ensures keeps { KeepNumbers self.old self.new }
+        ensures fault { IfErr result (λ e. e ≡ NoMemory) }
     {
         let (number, is_new) = self.endings.number(ending)?;
         let number = number as u64;
@@ -285,7 +295,8 @@ impl Names {
 
     /// Keeps what a new ending says.
     fn note_flags(&mut self, number: u64, ending: &[u8], info: Info) -> Result<(), LineFault>
-        ensures { (self.new.uniques ≡ self.old.uniques) × (self.new.endings ≡ self.old.endings) × (self.new.others ≡ self.old.others) }
+        ensures words { (self.new.uniques ≡ self.old.uniques) × (self.new.endings ≡ self.old.endings) × (self.new.others ≡ self.old.others) }
+        ensures fault { IfErr result (λ e. e ≡ NoMemory) }
     {
         let flags = info.flags().map(bits_of);
         self.flags.push(flags)?;

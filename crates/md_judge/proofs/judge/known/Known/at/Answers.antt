@@ -56,7 +56,7 @@ returns-clause-act c = λ path many now s stands holds named there.
     record {
       holds = follows path many s after known _ c.change_at-change.result stands holds leads c.in_ok-make.ensures.files
           (each_named c path many now s stands holds named there) (each_housed c path many now s stands holds named there)
-          (rw files c.change_at-change.ensures.below) (at-folders c.args.deed c.args.reply p now s) more (c.in_ok-files.ensures ∙ sym files);
+          (rw files c.change_at-change.ensures.below) (at-folders c.args.deed c.args.reply p now s) more (c.in_ok-files.ensures.count ∙ sym files);
       wrong = c.is_wrong_at.ensures p now s there (ap is_some is ∙ sym c.is_some.ensures);
       overwrites = overwrites path _ s after leads;
     }
