@@ -25,3 +25,4 @@ pub mod Growing
 pub mod Telling
 pub mod Stepping
 pub mod Beginning
+pub mod Acting

@@ -16,7 +16,7 @@ use Rattle.md_judge.specs.Known.{number_at}
 use Rattle.md_judge.proofs.Recounted.{longer, gone, file_there}
 
 -- a step goes on from the moment before it
-moment-next : (l : Log) (i : ℕ) (x : Numbered) → slice_get l.steps i ≡ Some x → moment l (suc i) ≡ after_step (moment l i) x
+pub moment-next : (l : Log) (i : ℕ) (x : Numbered) → slice_get l.steps i ≡ Some x → moment l (suc i) ≡ after_step (moment l i) x
 moment-next l i x is =
     let start : Moment = record { state = l.opening; now = l.clock } in
     let within = slice_get_within l.steps i x is in

@@ -15,3 +15,4 @@ pub mod Listings
 pub mod Readings
 pub mod Moments
 pub mod Recalled
+pub mod Acts

@@ -5,7 +5,10 @@ ghost use Rattle.md_dirs.specs.declared.paths.Path.{Path};
 ghost use Rattle.md_log.specs.declared.error.LineFault.TheVariants.{NoMemory, SamePath, NoSuchPath};
 ghost use Rattle.md_judge.specs.declared.judge.directories.Spot.{Spot};
 ghost use Rattle.md_judge.specs.Logs.{Log, empty_log, with_file_line, with_also_line};
-ghost use Rattle.md_judge.specs.Told.{at, ask_at, ask_between, after_ask, after_call};
+ghost use Rattle.md_judge.specs.Told.{at, ask_at, ask_between, after_ask, after_call, moment};
+ghost use Rattle.md_log.specs.declared.line.Step.{Step};
+ghost use Rattle.md_judge.specs.Law.{turn};
+ghost use Rattle.md_judge.specs.Acts.{IsActOf};
 ghost use Rattle.md_judge.specs.Changes.{IsOlder, Leads};
 ghost use Rattle.md_judge.specs.Files.{unique_in, is_message_in};
 ghost use Rattle.md_judge.specs.Known.{EachSpot, IsBelow, files_after, Stands, Holds, Leaves};
@@ -162,6 +165,9 @@ impl Known {
         ensures told { (lines : ℕ → ℕ) (l : Log) (i : ℕ) → IsToldAt lines l i self.old
             → slice_get l.steps i ≡ Some (record { number = line; step = step.now }) → lines i ≡ line → line < 4294967295
             → HasFolders (at l i) step.now.call → OnOk result (IsToldAt lines l (suc i) self.new) }
+        ensures acts { (lines : ℕ → ℕ) (l : Log) (i : ℕ) → IsToldAt lines l i self.old
+            → slice_get l.steps i ≡ Some (record { number = line; step = step.now }) → lines i ≡ line → line < 4294967295
+            → HasFolders (at l i) step.now.call → IfOk result (λ act. IsActOf (turn l i step.now) act) }
     {
         self.clock = self.clock.max(step.moment);
         self.call(line, &step.call)
@@ -171,6 +177,9 @@ impl Known {
     fn call(&mut self, line: usize, call: &Call) -> Result<Act, LineFault>
         ensures told { (now : ℕ) (lines : ℕ → ℕ) (l : Log) (i : ℕ) → IsToldAt lines l i self.old
             → GoesOn lines l i line (after_call call.now now) → HasFolders (at l i) call.now → OnOk result (IsToldAt lines l (suc i) self.new) }
+        ensures acts { (now : ℕ) (lines : ℕ → ℕ) (l : Log) (i : ℕ) (x : Step) → IsToldAt lines l i self.old
+            → GoesOn lines l i line (after_call call.now now) → HasFolders (at l i) call.now → x.call ≡ call.now → now ≡ (moment l (suc i)).now
+            → IfOk result (λ act. IsActOf (turn l i x) act) }
     {
         match call {
             Call::At { deed, path, reply } => {

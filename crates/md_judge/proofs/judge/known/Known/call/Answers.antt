@@ -1,10 +1,20 @@
-use Rattle.std.proofs.Common.{suc, ◌≡◌, inl, inr, true, subst, ap, ◌∙◌}
+use Rattle.std.proofs.Common.{suc, ◌≡◌, ◌<◌, ◌^◌, inl, inr, true, Result, Ok, Err, IfOk, refl, sym, subst, ap, ◌∙◌}
 use Rattle.md_dirs.specs.State.{has_folder}
+use Rattle.md_judge.specs.Acts.{IsWrongAsk, IsActOf}
+use Rattle.md_judge.specs.Law.{turn}
 use Rattle.md_judge.specs.Told.{at, ask_at, ask_between, after_ask, after_call}
 use Rattle.md_judge.specs.Moments.{GoesOn}
-use Rattle.md_judge.specs.Recalled.{HasFolders}
+use Rattle.md_judge.specs.Recalled.{IsSpotOf, HasFolders}
+use Rattle.md_judge.proofs.Acting.{acts-at, acts-between, acts-none}
+use Rattle.md_judge.proofs.Pathed.{path_by, path-is}
 use Rattle.md_judge.proofs.Stepping.{rests}
+use Rattle.md_judge.proofs.Telling.{known-by}
 use Rattle.md_judge.proofs.judge.known.Known.call.Goals as goal
+
+-- what follows of a value holds of it where there is one
+if-ok : {A E : Type 0} (r : Result A E) (P Q : A → Type 0) → ((a : A) → P a → Q a) → IfOk r P → IfOk r Q
+if-ok (Ok a) P Q so holds = so a holds
+if-ok (Err e) P Q so holds = tt
 
 pub returns-in_ok-spot-in-At : goal.returns-in_ok-spot-in-At
 returns-in_ok-spot-in-At c = record {
@@ -15,6 +25,24 @@ returns-in_ok-spot-in-At c = record {
       let there' : has_folder (at l i) path ≡ true = subst (HasFolders (at l i)) c.in-At.is there in
       let spot = c.in_ok-spot-in-At.ensures in
       c.at.ensures.told path now lines l i (spot.told lines l i told) spot.numbered spot.spot goes' there';
+  acts = λ now lines l i x told goes there is clock.
+      let path = c.in-At.path in
+      let reply = c.in-At.reply in
+      let deed = c.in-At.deed in
+      let goes' : GoesOn lines l i c.args.line (after_ask reply (ask_at deed path now)) =
+      subst (λ v. GoesOn lines l i c.args.line (after_call v now)) c.in-At.is goes in
+      let there' : has_folder (at l i) path ≡ true = subst (HasFolders (at l i)) c.in-At.is there in
+      let spot = c.in_ok-spot-in-At.ensures in
+      let known = c.spot.new.self in
+      let s = c.in_ok-spot-in-At.spot in
+      let map = path_by known.names in
+      let same : map s ≡ path = path-is known.names spot.numbered path s spot.spot in
+      let by = known-by lines l i known (spot.told lines l i told) spot.numbered in
+      let here : has_folder (at l i) (map s) ≡ true = subst (λ v. has_folder (at l i) v ≡ true) (sym same) there' in
+      let low : s.name < 2 ^ 64 = spot.numbered.few path.name s.name spot.spot.number in
+      if-ok c.at.result _ (λ act. IsActOf (turn l i x) act)
+      (λ act leaves. acts-at l i x act map (2 ^ 64) now deed path (map s) reply _ (is ∙ c.in-At.is) same clock goes'.next leaves)
+      (c.at.ensures.act map (2 ^ 64) now (at l i) by.stands by.holds low here);
 }
 
 pub returns-in_ok-new-in-Between : goal.returns-in_ok-new-in-Between
@@ -31,6 +59,33 @@ returns-in_ok-new-in-Between c = record {
       c.between.ensures.told old new lines l i (second.told lines l i (first.told lines l i told)) second.numbered
       (record { folder = of.folder; place = of.place; number = second.keeps old.name c.in_ok-old-in-Between.old.name of.number }) second.spot
       goes' there'.0 there'.1;
+  acts = λ now lines l i x told goes there is clock.
+      let old = c.in-Between.old in
+      let new = c.in-Between.new in
+      let naming = c.in-Between.naming in
+      let reply = c.in-Between.reply in
+      let goes' : GoesOn lines l i c.args.line (after_ask reply (ask_between naming old new)) =
+      subst (λ v. GoesOn lines l i c.args.line (after_call v now)) c.in-Between.is goes in
+      let there' : (has_folder (at l i) old ≡ true) × (has_folder (at l i) new ≡ true) = subst (HasFolders (at l i)) c.in-Between.is there in
+      let first = c.in_ok-old-in-Between.ensures in
+      let second = c.in_ok-new-in-Between.ensures in
+      let s = c.in_ok-old-in-Between.old in
+      let t = c.in_ok-new-in-Between.new in
+      let of = first.spot in
+      let known = c.spot-in-Between-2.new.self in
+      let of' : IsSpotOf known.names old s =
+      record { folder = of.folder; place = of.place; number = second.keeps old.name s.name of.number } in
+      let map = path_by known.names in
+      let same : map s ≡ old = path-is known.names second.numbered old s of' in
+      let same' : map t ≡ new = path-is known.names second.numbered new t second.spot in
+      let by = known-by lines l i known (second.told lines l i (first.told lines l i told)) second.numbered in
+      let here : has_folder (at l i) (map s) ≡ true = subst (λ v. has_folder (at l i) v ≡ true) (sym same) there'.0 in
+      let here' : has_folder (at l i) (map t) ≡ true = subst (λ v. has_folder (at l i) v ≡ true) (sym same') there'.1 in
+      let low : s.name < 2 ^ 64 = second.numbered.few old.name s.name of'.number in
+      let low' : t.name < 2 ^ 64 = second.numbered.few new.name t.name second.spot.number in
+      if-ok c.between.result _ (λ act. IsActOf (turn l i x) act)
+      (λ act leaves. acts-between l i x act map (2 ^ 64) naming old (map s) new (map t) reply _ (is ∙ c.in-Between.is) same same' goes'.next leaves)
+      (c.between.ensures.act map (2 ^ 64) (at l i) by.stands by.holds low low' here here');
 }
 
 pub returns-in-List : goal.returns-in-List
@@ -41,6 +96,16 @@ returns-in-List c = record {
         | inr is ↦ goes.next ∙ ap (λ v. after_call v now (at l i)) is.3
       ] in
       rests lines l i c.args.self.now told same;
+  acts = λ now lines l i x told goes there is clock.
+      let same : at l (suc i) ≡ at l i = elim c.in-List.is [
+        | inl of ↦ goes.next ∙ ap (λ v. after_call v now (at l i)) of.4
+        | inr of ↦ goes.next ∙ ap (λ v. after_call v now (at l i)) of.3
+      ] in
+      let none : IsWrongAsk (turn l i x) x.call → ⊥ = elim c.in-List.is [
+        | inl of ↦ subst (λ v. IsWrongAsk (turn l i x) v → ⊥) (sym (is ∙ of.4)) (λ wrong. wrong)
+        | inr of ↦ subst (λ v. IsWrongAsk (turn l i x) v → ⊥) (sym (is ∙ of.3)) (λ wrong. wrong)
+      ] in
+      acts-none l i x _ refl refl same none;
 }
 
 pub returns-in-List-2 : goal.returns-in-List-2
@@ -51,4 +116,14 @@ returns-in-List-2 c = record {
         | inr is ↦ goes.next ∙ ap (λ v. after_call v now (at l i)) is.3
       ] in
       rests lines l i c.args.self.now told same;
+  acts = λ now lines l i x told goes there is clock.
+      let same : at l (suc i) ≡ at l i = elim c.in-List.is [
+        | inl of ↦ goes.next ∙ ap (λ v. after_call v now (at l i)) of.4
+        | inr of ↦ goes.next ∙ ap (λ v. after_call v now (at l i)) of.3
+      ] in
+      let none : IsWrongAsk (turn l i x) x.call → ⊥ = elim c.in-List.is [
+        | inl of ↦ subst (λ v. IsWrongAsk (turn l i x) v → ⊥) (sym (is ∙ of.4)) (λ wrong. wrong)
+        | inr of ↦ subst (λ v. IsWrongAsk (turn l i x) v → ⊥) (sym (is ∙ of.3)) (λ wrong. wrong)
+      ] in
+      acts-none l i x _ refl refl same none;
 }
