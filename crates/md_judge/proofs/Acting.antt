@@ -1,20 +1,26 @@
 -- What a call did to paths is what the law has of its step.
-use Rattle.std.proofs.Common.{ℕ, suc, ◌≡◌, ◌↔◌, false, None, IsTrue, IsSome, sym, ap, subst}
+use Rattle.std.proofs.Common.{ℕ, suc, ◌≡◌, ◌↔◌, false, None, IsTrue, IsSome, Result, OnOk, sym, ap, subst}
 use Rattle.md_dirs.specs.State.{State, file_at}
 use Rattle.md_dirs.specs.declared.paths.Path.{Path}
+use Rattle.md_log.specs.declared.clause.Clause.{Clause}
+use Rattle.md_log.specs.declared.clause.Clause.TheVariants as clause
 use Rattle.md_log.specs.declared.line.Reply.{Reply}
 use Rattle.md_log.specs.declared.line.Deed.{Deed}
 use Rattle.md_log.specs.declared.line.Naming.{Naming}
+use Rattle.md_log.specs.declared.line.Call.{Call}
 use Rattle.md_log.specs.declared.line.Call.TheVariants as call
 use Rattle.md_log.specs.declared.line.Step.{Step}
 use Rattle.md_judge.specs.declared.judge.directories.Spot.{Spot}
+use Rattle.md_judge.specs.declared.judge.found.Found.{Found}
 use Rattle.md_judge.specs.declared.judge.known.Known.{Known}
 use Rattle.md_judge.specs.declared.judge.known.Act.{Act}
-use Rattle.md_judge.specs.Acts.{IsWrongAsk, IsActOf}
+use Rattle.md_judge.specs.Acts.{IsOnPaths, IsWrongAsk, IsActOf}
+use Rattle.md_judge.specs.Found.{Has, Keeps, NotesOne}
 use Rattle.md_judge.specs.Known.{Leaves}
-use Rattle.md_judge.specs.Law.{turn, IsWrongReply, Overwrites}
+use Rattle.md_judge.specs.Law.{Turn, turn, IsWrongReply, IsWrongCall, NotADirectory, Overwrites, Overwritten}
 use Rattle.md_judge.specs.Logs.{Log}
 use Rattle.md_judge.specs.Told.{ask_at, ask_between, after_ask, moment, at}
+use Rattle.md_judge.proofs.Sparing.{found-none, found-one, ok-then}
 
 -- where a step leaves directories as they were, no path is overwritten
 pub none-overwritten : (old new : State) → new ≡ old → Overwrites old new → ⊥
@@ -68,3 +74,35 @@ module _ (l : Log) (i : ℕ) (x : Step) (act : Act) where
       λ o. absurd (none-overwritten (at l i) (at l (suc i)) same o),
     );
   }
+
+-- a call on paths is one that no directory answers so just where the law has it
+asked : (t : Turn) (c : Call) → IsOnPaths c → IsWrongAsk t c ↔ IsWrongCall t c
+asked t (call.At d p r) on = (λ h. h, λ h. h)
+asked t (call.Between n old new r) on = (λ h. h, λ h. h)
+asked t (call.List folder place r shown) on = absurd on
+asked t (call.Answer a folder unique) on = absurd on
+
+-- What is found of a step on paths is what the law has, where nothing was found before it and what it found goes by its act.
+module _ {A E : Type 0} (result : Result A E) (t : Turn) (act : Act) (is : IsActOf t act) (begun new : Found)
+    (nothing : (c : Clause) → Has begun.broken c → ⊥) where
+  pub found-overwritten : OnOk result (NotesOne clause.Overwritten (IsSome act.change.turned) begun new)
+      → OnOk result (Has new.broken clause.Overwritten ↔ Overwritten t)
+  found-overwritten notes =
+      ok-then result (NotesOne clause.Overwritten (IsSome act.change.turned) begun new) (Has new.broken clause.Overwritten ↔ Overwritten t)
+      (λ one. found-one clause.Overwritten (IsSome act.change.turned) (Overwritten t) begun new (nothing clause.Overwritten) one is.overwrites) notes
+
+  pub found-wrong : IsOnPaths t.step.call → OnOk result (NotesOne clause.NotADirectory (IsTrue act.is_wrong) begun new)
+      → OnOk result (Has new.broken clause.NotADirectory ↔ NotADirectory t)
+  found-wrong on notes =
+      let same = asked t t.step.call on in
+      let wrong : IsTrue act.is_wrong ↔ NotADirectory t = (λ h. same.0 (is.wrong.0 h), λ h. is.wrong.1 (same.1 h)) in
+      ok-then result (NotesOne clause.NotADirectory (IsTrue act.is_wrong) begun new) (Has new.broken clause.NotADirectory ↔ NotADirectory t)
+      (λ one. found-one clause.NotADirectory (IsTrue act.is_wrong) (NotADirectory t) begun new (nothing clause.NotADirectory) one wrong) notes
+
+-- no path is found overwritten by a step that overwrites none
+pub found-still : {A E : Type 0} (result : Result A E) (t : Turn) (begun there new : Found) → ((c : Clause) → Has begun.broken c → ⊥) → there ≡ begun
+    → (Overwritten t → ⊥) → OnOk result (Keeps clause.Overwritten there new) → OnOk result (Has new.broken clause.Overwritten ↔ Overwritten t)
+found-still result t begun there new nothing same none keeps =
+    ok-then result (Keeps clause.Overwritten there new) (Has new.broken clause.Overwritten ↔ Overwritten t)
+    (λ kept. found-none clause.Overwritten (Overwritten t) there new
+    (subst (λ (f : Found). Has f.broken clause.Overwritten → ⊥) (sym same) (nothing clause.Overwritten)) kept none) keeps

@@ -26,3 +26,4 @@ pub mod Telling
 pub mod Stepping
 pub mod Beginning
 pub mod Acting
+pub mod Sparing

@@ -28,3 +28,16 @@ Has s c = slice_get s.has (clause_index c) ≡ Some true
 -- Besides those that were found before, the clauses are found of which this holds.
 abbrev pub Notes : (Clause → Type 0) → Found → Found → Type 0
 Notes P old new = (c : Clause) → Has new.broken c ↔ (Has old.broken c ⊎ P c)
+
+-- Of the clause nothing else is found than before.
+abbrev pub Keeps : Clause → Found → Found → Type 0
+Keeps c old new = Has new.broken c ↔ Has old.broken c
+
+-- Besides what was found before, the clause is found where this holds.
+abbrev pub NotesOne : Clause → Type 0 → Found → Found → Type 0
+NotesOne c P old new = Has new.broken c ↔ (Has old.broken c ⊎ P)
+
+-- Of the clauses that go by the paths of a step nothing else is found than before.
+pub record KeepsPaths (old new : Found) : Type 0 where
+  pub wrong : Keeps clause.NotADirectory old new
+  pub overwrites : Keeps clause.Overwritten old new

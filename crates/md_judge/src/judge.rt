@@ -2,9 +2,13 @@
 //!
 //! Moments are numbered by the lines of the log: the step of line 7 goes from moment 7 to moment 8, and what the line 3 says of the
 //! beginning is so from moment 4 on.
-ghost use Rattle.std.specs.Prelude.{◌≡◌, ◌<◌, ℕ, suc, Some, Ok, true, slice_get, OnOk};
+ghost use Rattle.std.specs.Prelude.{◌≡◌, ◌<◌, ℕ, suc, Some, Ok, true, slice_get, OnOk, ◌↔◌};
 ghost use Rattle.md_dirs.specs.State.{has_folder};
 ghost use Rattle.md_judge.specs.Logs.{Log, empty_log, with_file_line, with_also_line};
+ghost use Rattle.md_log.specs.declared.clause.Clause.TheVariants as clause;
+ghost use Rattle.md_judge.specs.Acts.{IsOnPaths};
+ghost use Rattle.md_judge.specs.Found.{Has};
+ghost use Rattle.md_judge.specs.Law.{turn, NotADirectory, Overwritten};
 ghost use Rattle.md_judge.specs.Told.{at};
 ghost use Rattle.md_judge.specs.Recalled.{IsToldAt, HasFolders};
 
@@ -114,6 +118,13 @@ impl Judge {
         ensures told { (lines : ℕ → ℕ) (l : Log) (i : ℕ) → IsToldAt lines l i self.old.known
             → slice_get l.steps i ≡ Some (record { number = line; step = step }) → lines i ≡ line → line < 4294967295
             → HasFolders (at l i) step.call → OnOk result (IsToldAt lines l (suc i) self.new.known) }
+        ensures overwritten { (lines : ℕ → ℕ) (l : Log) (i : ℕ) → IsToldAt lines l i self.old.known
+            → slice_get l.steps i ≡ Some (record { number = line; step = step }) → lines i ≡ line → line < 4294967295
+            → HasFolders (at l i) step.call → OnOk result (Has self.new.watch.found.broken clause.Overwritten ↔ Overwritten (turn l i step)) }
+        ensures wrong { (lines : ℕ → ℕ) (l : Log) (i : ℕ) → IsToldAt lines l i self.old.known
+            → slice_get l.steps i ≡ Some (record { number = line; step = step }) → lines i ≡ line → line < 4294967295
+            → HasFolders (at l i) step.call → IsOnPaths step.call
+            → OnOk result (Has self.new.watch.found.broken clause.NotADirectory ↔ NotADirectory (turn l i step)) }
     {
         let (actor, _) = self.actor_names.number(step.actor.as_slice())?;
         self.act = self.known.step(line, &step)?;
@@ -156,6 +167,7 @@ impl Judge {
     /// The numbers of names.
     fn numbers(&mut self, names: &[Bytes]) -> Result<Vec<Name>, LineFault>
         ensures told { (lines : ℕ → ℕ) (l : Log) (i : ℕ) → IsToldAt lines l i self.old.known → OnOk result (IsToldAt lines l i self.new.known) }
+        ensures found { OnOk result (self.new.watch.found ≡ self.old.watch.found) }
     {
         let mut numbers = Vec::new(self.alloc);
         for name in names {

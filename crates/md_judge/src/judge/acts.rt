@@ -1,10 +1,12 @@
 //! Calls on paths: what they are defined to answer, and what they do.
-ghost use Rattle.std.specs.Prelude.{◌≡◌, ◌≢◌, ◌↔◌, ◌<◌, ◌+◌, ◌⊎◌, ℕ, Some, IsTrue, true, is_some, length};
+ghost use Rattle.std.specs.Prelude.{◌≡◌, ◌≢◌, ◌↔◌, ◌<◌, ◌+◌, ◌⊎◌, ℕ, Some, IsTrue, IsSome, OnOk, true, is_some, length};
 ghost use Rattle.md_dirs.specs.State.{State, file_at, has_folder};
 ghost use Rattle.md_dirs.specs.declared.paths.Path.{Path};
 ghost use Rattle.md_judge.specs.Told.{ask_at, ask_between};
 ghost use Rattle.md_log.specs.declared.line.Deed.TheVariants as deed;
+ghost use Rattle.md_log.specs.declared.clause.Clause.TheVariants as clause;
 ghost use Rattle.md_judge.specs.Law.{IsWrongReply, reply_by};
+ghost use Rattle.md_judge.specs.Found.{NotesOne};
 ghost use Rattle.md_judge.specs.Changes.{IsOlder, Leads};
 ghost use Rattle.md_judge.specs.Files.{named_by, turned_by};
 ghost use Rattle.md_judge.specs.Known.{EachSpot, IsBelow};
@@ -63,7 +65,10 @@ impl Watch {
         actor: u32,
         call: &Call,
         act: &Act,
-    ) -> Result<(), LineFault> {
+    ) -> Result<(), LineFault>
+        ensures wrong { OnOk result (NotesOne clause.NotADirectory (IsTrue act.now.is_wrong) self.old.found self.new.found) }
+        ensures overwrites { OnOk result (NotesOne clause.Overwritten (IsSome act.now.change.turned) self.old.found self.new.found) }
+    {
         self.found
             .note(act.is_wrong, Clause::NotADirectory, act.wrong_before);
         let by = Caller {
@@ -84,7 +89,9 @@ impl Watch {
         actor: u32,
         spot: Spot,
         reply: Reply,
-    ) -> Result<(), LineFault> {
+    ) -> Result<(), LineFault>
+        ensures { OnOk result (self.new.found ≡ self.old.found) }
+    {
         if let Some(unique) = known.unique_at(spot) {
             let key = (spot.folder, unique);
             let mut about = self.actors.done(actor, key);

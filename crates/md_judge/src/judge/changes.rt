@@ -1,4 +1,8 @@
 //! Changes of paths: the clauses that they break, and what is kept of them.
+ghost use Rattle.std.specs.Prelude.{◌≡◌, IsSome, OnOk};
+ghost use Rattle.md_log.specs.declared.clause.Clause.TheVariants as clause;
+ghost use Rattle.md_judge.specs.Found.{Keeps, NotesOne, KeepsPaths};
+
 use super::acts::Change;
 use super::befores::line_before;
 use super::comings::{check_added, leaving};
@@ -11,7 +15,10 @@ use md_log::{Clause, LineFault};
 
 impl Watch {
     /// Judges a change of paths that was made, and keeps what it does to messages.
-    pub(super) fn change(&mut self, known: &Known, actor: u32, act: &Act) -> Result<(), LineFault> {
+    pub(super) fn change(&mut self, known: &Known, actor: u32, act: &Act) -> Result<(), LineFault>
+        ensures wrong { OnOk result (Keeps clause.NotADirectory self.old.found self.new.found) }
+        ensures overwrites { OnOk result (NotesOne clause.Overwritten (IsSome act.now.change.turned) self.old.found self.new.found) }
+    {
         let change = act.change;
         self.found.note(
             change.turned.is_some(),
@@ -33,7 +40,9 @@ impl Watch {
     }
 
     /// A path was taken: whether it was a message's that may not go so.
-    fn check_taken(&mut self, known: &Known, spot: Spot, file: u32, is_unlink: bool) {
+    fn check_taken(&mut self, known: &Known, spot: Spot, file: u32, is_unlink: bool)
+        ensures { KeepsPaths self.old.found self.new.found }
+    {
         let Some(unique) = known.unique_at(spot) else {
             return;
         };
@@ -59,7 +68,9 @@ impl Watch {
     }
 
     /// Keeps what a change does to messages. The new name comes first, so that a message that is renamed in its folder is there all the while.
-    fn make(&mut self, known: &Known, actor: u32, change: Change) -> Result<(), LineFault> {
+    fn make(&mut self, known: &Known, actor: u32, change: Change) -> Result<(), LineFault>
+        ensures { OnOk result (self.new.found ≡ self.old.found) }
+    {
         if let Some((spot, file)) = change.added {
             self.note_added(known, actor, spot)?;
             self.add_path(known, self.now.saturating_add(1), spot, file)?;
@@ -74,7 +85,9 @@ impl Watch {
         Ok(())
     }
 
-    fn note_added(&mut self, known: &Known, actor: u32, spot: Spot) -> Result<(), LineFault> {
+    fn note_added(&mut self, known: &Known, actor: u32, spot: Spot) -> Result<(), LineFault>
+        ensures { OnOk result (self.new.found ≡ self.old.found) }
+    {
         if let Some(unique) = known.unique_at(spot) {
             let key = (spot.folder, unique);
             let is_added = self.mail.count(key) == 0;
@@ -92,7 +105,9 @@ impl Watch {
         actor: u32,
         spot: Spot,
         is_unlink: bool,
-    ) -> Result<(), LineFault> {
+    ) -> Result<(), LineFault>
+        ensures { OnOk result (self.new.found ≡ self.old.found) }
+    {
         let Some(unique) = known.unique_at(spot) else {
             return Ok(());
         };
@@ -119,7 +134,9 @@ impl Watch {
         at: usize,
         spot: Spot,
         file: u32,
-    ) -> Result<(), LineFault> {
+    ) -> Result<(), LineFault>
+        ensures { OnOk result (self.new.found ≡ self.old.found) }
+    {
         let Some(unique) = known.unique_at(spot) else {
             return Ok(());
         };
@@ -139,7 +156,9 @@ impl Watch {
         spot: Spot,
         old: u32,
         new: u32,
-    ) -> Result<(), LineFault> {
+    ) -> Result<(), LineFault>
+        ensures { OnOk result (self.new.found ≡ self.old.found) }
+    {
         let Some(unique) = known.unique_at(spot) else {
             return Ok(());
         };
@@ -153,7 +172,9 @@ impl Watch {
     }
 
     /// A path is there for the last time before this step.
-    fn take_path(&mut self, known: &Known, spot: Spot, file: u32) -> Result<(), LineFault> {
+    fn take_path(&mut self, known: &Known, spot: Spot, file: u32) -> Result<(), LineFault>
+        ensures { OnOk result (self.new.found ≡ self.old.found) }
+    {
         let at = self.now;
         let Some(unique) = known.unique_at(spot) else {
             return Ok(());

@@ -6,7 +6,7 @@ ghost use Rattle.md_judge.specs.declared.judge.directories.Spot.{Spot};
 ghost use Rattle.md_judge.specs.Logs.{Log};
 ghost use Rattle.md_judge.specs.Law.{turn};
 ghost use Rattle.md_judge.specs.Recalls.{IsAt, IsChange, BrokenAt, BrokenByChange};
-ghost use Rattle.md_judge.specs.Found.{Notes};
+ghost use Rattle.md_judge.specs.Found.{Notes, KeepsPaths};
 ghost use Rattle.md_judge.specs.Files.{is_message_in, named, facts_at, Changes, AtStep, LeaveStep, ChangeStep, WriteFinds, AtFinds, NamedFinds, LeaveFinds, ChangeFinds};
 
 use super::acts::Change;
@@ -34,7 +34,9 @@ impl Files {
         by: Caller,
         call: &Call,
         act: &Act,
-    ) -> Result<(), LineFault> {
+    ) -> Result<(), LineFault>
+        ensures { OnOk result (KeepsPaths found.old found.new) }
+    {
         if let (Call::At { deed, reply, .. }, Some(spot)) = (call, act.spot) {
             self.at(found, known, by, *deed, spot, *reply, act.file)?;
         }

@@ -1,11 +1,12 @@
 //! Readings of directories, and listings.
-ghost use Rattle.std.specs.Prelude.{◌≡◌, ℕ, List, Some, None};
+ghost use Rattle.std.specs.Prelude.{◌≡◌, ℕ, List, Some, None, OnOk};
 ghost use Rattle.std.specs.Option.{option_copied, option_map};
 ghost use Rattle.md_dirs.specs.declared.paths.Place.{Place};
 ghost use Rattle.md_log.specs.declared.line.Step.{Step};
 ghost use Rattle.md_judge.specs.Logs.{Log};
 ghost use Rattle.md_judge.specs.Law.{turn};
-ghost use Rattle.md_judge.specs.Found.{Notes};
+ghost use Rattle.md_log.specs.declared.clause.Clause.TheVariants as clause;
+ghost use Rattle.md_judge.specs.Found.{Notes, Keeps, KeepsPaths};
 ghost use Rattle.md_judge.specs.declared.judge.directories.Named.{Named};
 ghost use Rattle.md_judge.specs.Readings.{shown_wrongly, lacked, wrong_name, PartFinds, IsPartOf, BrokenByPart};
 ghost use Rattle.md_judge.specs.Listings.{lacking, is_lacking, was_at_each, ListFinds, LeavesOut, IsCompleted, BrokenByListing};
@@ -265,7 +266,9 @@ impl Watch {
         place: Place,
         reply: Reply,
         names: &[Name],
-    ) -> Result<(), LineFault> {
+    ) -> Result<(), LineFault>
+        ensures { OnOk result (Keeps clause.Overwritten self.old.found self.new.found) }
+    {
         let key = (actor, folder);
         let mut listing = match self.listings.remove(&key) {
             Some(listing) => listing,
@@ -293,7 +296,9 @@ impl Watch {
         place: Place,
         reply: Reply,
         first: usize,
-    ) -> Result<(), LineFault> {
+    ) -> Result<(), LineFault>
+        ensures { OnOk result (KeepsPaths self.old.found self.new.found) }
+    {
         let mut done = Reading::none(self.alloc);
         std::mem::swap(listing.reading(place), &mut done);
         if reply != Reply::Ok || place == Place::Tmp {

@@ -1,4 +1,6 @@
 //! What actors told their users, beside what is so.
+ghost use Rattle.md_judge.specs.Found.{KeepsPaths};
+
 use super::claims::{Claim, check_claim};
 use super::flags::bits_of;
 use super::known::Known;
@@ -9,7 +11,9 @@ use md_log::Said;
 
 impl Watch {
     /// An answer about a message.
-    pub(super) fn answer(&mut self, known: &Known, actor: u32, said: Said, key: Key) {
+    pub(super) fn answer(&mut self, known: &Known, actor: u32, said: Said, key: Key)
+        ensures { KeepsPaths self.old.found self.new.found }
+    {
         let claim = self.claim(known, actor, said, key);
         check_claim(&mut self.found, &claim);
         self.actors.told(actor, key);

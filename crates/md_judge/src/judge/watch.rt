@@ -1,4 +1,7 @@
 //! What is kept of files, messages, actors and listings, and the clauses that a step breaks.
+ghost use Rattle.md_log.specs.declared.clause.Clause.{Clause};
+ghost use Rattle.md_judge.specs.Found.{Has};
+
 use super::about::Actors;
 use super::directories::Spot;
 use super::files::Files;
@@ -48,7 +51,9 @@ impl Watch {
     }
 
     /// A step of an actor begins: it breaks nothing so far.
-    pub(super) fn begin(&mut self, actor: u32) -> Result<(), LineFault> {
+    pub(super) fn begin(&mut self, actor: u32) -> Result<(), LineFault>
+        ensures { (c : Clause) → Has self.new.found.broken c → ⊥ }
+    {
         self.found = Found::nothing();
         self.actors.note_line(actor, self.now)
     }

@@ -3,5 +3,8 @@ use Rattle.md_judge.proofs.Growing.{grows}
 use Rattle.md_judge.proofs.judge.Judge.numbers.Goals as goal
 
 pub loop-name-preserved : goal.loop-name-preserved
-loop-name-preserved c = λ lines l i told.
-    grows lines l i c.loop-name.self.known _ (c.loop-name.invariant lines l i told) c.number.ensures.keeps c.in_ok-number.ensures.numbered refl refl
+loop-name-preserved c = record {
+  told = λ lines l i told.
+      grows lines l i c.loop-name.self.known _ (c.loop-name.invariant.told lines l i told) c.number.ensures.keeps c.in_ok-number.ensures.numbered refl refl;
+  found = c.loop-name.invariant.found;
+}

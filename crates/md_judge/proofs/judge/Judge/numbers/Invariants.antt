@@ -1,7 +1,10 @@
-use Rattle.std.proofs.Common.{ℕ}
+use Rattle.std.proofs.Common.{ℕ, ◌≡◌}
 use Rattle.md_judge.specs.Logs.{Log}
 use Rattle.md_judge.specs.Recalled.{IsToldAt}
 use Rattle.md_judge.proofs.judge.Judge.numbers.Given as goal
 
 abbrev pub invariant-loop-name : goal.invariant-loop-name
-invariant-loop-name l = (lines : ℕ → ℕ) (log : Log) (i : ℕ) → IsToldAt lines log i l.fn.self.known → IsToldAt lines log i l.self.known
+invariant-loop-name l = record {
+  told : (lines : ℕ → ℕ) (log : Log) (i : ℕ) → IsToldAt lines log i l.fn.self.known → IsToldAt lines log i l.self.known;
+  found : l.self.watch.found ≡ l.fn.self.watch.found;
+}

@@ -1,0 +1,160 @@
+-- What is noted of the clauses that go by files, messages, readings and answers is nothing of those that go by the paths of a step.
+use Rattle.std.proofs.Common.{ℕ, ◌≡◌, ◌↔◌, ◌⊎◌, inl, inr, List, Option, Some, None, IsTrue, IsSome, is_some, Bool, Result, Ok, Err, OnOk, refl, sym, subst, ◌∙◌}
+use Rattle.md_dirs.specs.declared.paths.Place.{Place}
+use Rattle.md_dirs.specs.declared.paths.Place.TheVariants.{Tmp, New}
+use Rattle.md_log.specs.declared.clause.Clause.{Clause}
+use Rattle.md_log.specs.declared.clause.Clause.TheVariants as clause
+use Rattle.md_log.specs.declared.line.Reply.{Reply}
+use Rattle.md_log.specs.declared.line.Reply.TheVariants as reply
+use Rattle.md_log.specs.declared.line.Deed.{Deed}
+use Rattle.md_log.specs.declared.line.Deed.TheVariants as deed
+use Rattle.md_judge.specs.declared.judge.acts.Change.{Change}
+use Rattle.md_judge.specs.declared.judge.directories.Spot.{Spot}
+use Rattle.md_judge.specs.declared.judge.facts.FileFacts.{FileFacts}
+use Rattle.md_judge.specs.declared.judge.files.Filed.{Filed}
+use Rattle.md_judge.specs.declared.judge.found.Found.{Found}
+use Rattle.md_judge.specs.declared.judge.mail.Message.{Message}
+use Rattle.md_judge.specs.declared.judge.tables.Names.{Names}
+use Rattle.md_judge.specs.Files.{facts_at, named_by, turned_by, WriteFinds, AtFinds, NamedFinds, NameFinds, LeftFinds, LeaveFinds, ChangeFinds}
+use Rattle.md_judge.specs.Found.{Has, Notes, Keeps, NotesOne, KeepsPaths}
+use Rattle.md_judge.specs.Messages.{AddFinds}
+
+-- the clause goes by more than the paths of a step
+abbrev pub GoesByMore : Clause → Type 0
+GoesByMore clause.NotADirectory = ⊥
+GoesByMore clause.Overwritten = ⊥
+GoesByMore c = Unit {0}
+
+-- ---- what is kept
+
+-- of a clause that is not noted nothing else is found
+pub kept : (P : Clause → Type 0) (c : Clause) → (P c → ⊥) → (old new : Found) → Notes P old new → Keeps c old new
+kept P c none old new notes = (
+  λ h. elim ((notes c).0 h) [ inl was ↦ was | inr now ↦ absurd (none now) ],
+  λ h. (notes c).1 (inl h),
+)
+
+pub one-kept : (c : Clause) (old new : Found) → (Has new.broken c ↔ (Has old.broken c ⊎ ⊥)) → Keeps c old new
+one-kept c old new notes = (
+  λ h. elim (notes.0 h) [ inl was ↦ was | inr now ↦ absurd now ],
+  λ h. notes.1 (inl h),
+)
+
+pub keeps-paths : (P : Clause → Type 0) → ((c : Clause) → P c → GoesByMore c) → (old new : Found) → Notes P old new → KeepsPaths old new
+keeps-paths P more old new notes = record {
+  wrong = kept P clause.NotADirectory (more clause.NotADirectory) old new notes;
+  overwrites = kept P clause.Overwritten (more clause.Overwritten) old new notes;
+}
+
+pub keeps-same : (old new : Found) → new ≡ old → KeepsPaths old new
+keeps-same old new same = subst (KeepsPaths old) (sym same) (record { wrong = (λ h. h, λ h. h); overwrites = (λ h. h, λ h. h) })
+
+pub keeps-one : (c : Clause) (a b d : Found) → Keeps c a b → Keeps c b d → Keeps c a d
+keeps-one c a b d first then = (λ h. first.0 (then.0 h), λ h. then.1 (first.1 h))
+
+pub keeps-on : (a b d : Found) → KeepsPaths a b → KeepsPaths b d → KeepsPaths a d
+keeps-on a b d first then = record {
+  wrong = keeps-one clause.NotADirectory a b d first.wrong then.wrong;
+  overwrites = keeps-one clause.Overwritten a b d first.overwrites then.overwrites;
+}
+
+-- one clause is noted, before and after steps that keep it
+pub notes-one : (c : Clause) (P : Type 0) (a b d : Found) → NotesOne c P a b → Keeps c b d → NotesOne c P a d
+notes-one c P a b d first then = (λ h. first.0 (then.0 h), λ h. then.1 (first.1 h))
+
+pub one-notes : (c : Clause) (P : Type 0) (a b d : Found) → Keeps c a b → NotesOne c P b d → NotesOne c P a d
+one-notes c P a b d first then = (
+  λ h. elim (then.0 h) [ inl was ↦ inl (first.0 was) | inr now ↦ inr now ],
+  λ h. then.1 (elim h [ inl was ↦ inl (first.1 was) | inr now ↦ inr now ]),
+)
+
+pub paths-kept : (old new : Found) → (Has new.broken clause.NotADirectory ↔ (Has old.broken clause.NotADirectory ⊎ ⊥))
+    → (Has new.broken clause.Overwritten ↔ (Has old.broken clause.Overwritten ⊎ ⊥)) → KeepsPaths old new
+paths-kept old new wrong overwrites = record {
+  wrong = one-kept clause.NotADirectory old new wrong;
+  overwrites = one-kept clause.Overwritten old new overwrites;
+}
+
+-- a note of a clause is one of this clause, and of no other
+pub noted : (b : Bool) (k : Clause) (P : Type 0) → IsTrue b ↔ P → (old new : Found) → Notes (λ c. IsTrue b × (c ≡ k)) old new → NotesOne k P old new
+noted b k P same old new notes = (
+  λ h. elim ((notes k).0 h) [ inl was ↦ inl was | inr now ↦ inr (same.0 now.0) ],
+  λ h. (notes k).1 (elim h [ inl was ↦ inl was | inr now ↦ inr (same.1 now, refl) ]),
+)
+
+pub unnoted : (b : Bool) (k c : Clause) → (c ≡ k → ⊥) → (old new : Found) → Notes (λ c. IsTrue b × (c ≡ k)) old new → Keeps c old new
+unnoted b k c other old new notes = kept (λ c. IsTrue b × (c ≡ k)) c (λ h. other h.1) old new notes
+
+-- where nothing was found before, the clause is found just where it is noted
+pub found-none : (c : Clause) (P : Type 0) (old new : Found) → (Has old.broken c → ⊥) → Keeps c old new → (P → ⊥) → Has new.broken c ↔ P
+found-none c P old new nothing keeps not = (λ h. absurd (nothing (keeps.0 h)), λ p. absurd (not p))
+
+pub found-one : (c : Clause) (P Q : Type 0) (old new : Found) → (Has old.broken c → ⊥) → NotesOne c P old new → P ↔ Q → Has new.broken c ↔ Q
+found-one c P Q old new nothing notes same = (
+  λ h. elim (notes.0 h) [ inl was ↦ absurd (nothing was) | inr now ↦ same.0 now ],
+  λ q. notes.1 (inr (same.1 q)),
+)
+
+-- A path is found turned, and what is found of other clauses is nothing of the paths of the step.
+pub turned-found : (b : Bool) (t : Option (Spot × ℕ × ℕ)) (old noting joined made : Found) → b ≡ is_some t
+    → Notes (λ c. IsTrue b × (c ≡ clause.Overwritten)) old noting → KeepsPaths noting joined → made ≡ joined
+    → Keeps clause.NotADirectory old made × NotesOne clause.Overwritten (IsSome t) old made
+turned-found b t old noting joined made is notes keeps same =
+    let then = keeps-on noting joined made keeps (keeps-same joined made same) in
+    let turned : IsTrue b ↔ IsSome t = (λ h. sym is ∙ h, λ h. is ∙ h) in (
+      keeps-one clause.NotADirectory old noting made (unnoted b clause.Overwritten clause.NotADirectory (λ e. cc) old noting notes) then.wrong,
+      notes-one clause.Overwritten (IsSome t) old noting made (noted b clause.Overwritten (IsSome t) turned old noting notes) then.overwrites,
+    )
+
+-- what follows where a call gives a value
+pub ok-then : {A E : Type 0} (r : Result A E) (P Q : Type 0) → (P → Q) → OnOk r P → OnOk r Q
+ok-then (Ok x) P Q so holds = so holds
+ok-then (Err e) P Q so holds = tt
+
+-- ---- files
+
+write-more : (actor : ℕ) (r : Reply) (f : Option FileFacts) (c : Clause) → WriteFinds actor r f c → GoesByMore c
+write-more actor reply.Ok (Some f) clause.SeenBeforeWhole found = tt
+write-more actor reply.Ok (Some f) clause.Mixed found = tt
+write-more actor r f c found = absurd found
+
+pub at-more : (message : Bool) (actor : ℕ) (files : List Filed) (d : Deed) (r : Reply) (file : Option ℕ) (c : Clause)
+    → AtFinds message actor files d r file c → GoesByMore c
+at-more message actor files deed.Create reply.Ok file clause.SeenBeforeWhole found = tt
+at-more message actor files deed.Write r (Some n) c found = write-more actor r (facts_at files n) c found
+at-more message actor files d r file c found = absurd found
+
+named-more : (place : Place) (f : Option FileFacts) (c : Clause) → NamedFinds place f c → GoesByMore c
+named-more place (Some f) clause.SeenBeforeWhole found = tt
+named-more place (Some f) clause.NotFlushed found = tt
+named-more New (Some f) clause.MovedBack found = tt
+named-more place f c found = absurd found
+
+name-more : (names : Names) (files : List Filed) (p : Option (Spot × ℕ)) (c : Clause) → NameFinds names files p c → GoesByMore c
+name-more names files None c found = absurd found
+name-more names files (Some p) c found = named-more p.0.place (facts_at files p.1) c found.1
+
+left-more : (actor now : ℕ) (place : Place) (f : Option FileFacts) (c : Clause) → LeftFinds actor now place f c → GoesByMore c
+left-more actor now Tmp (Some f) clause.CleanedEarly found = tt
+left-more actor now place f c found = absurd found
+
+leave-more : (actor now : ℕ) (files : List Filed) (p : Option (Spot × ℕ)) (c : Clause) → LeaveFinds actor now files p c → GoesByMore c
+leave-more actor now files None c found = absurd found
+leave-more actor now files (Some p) c found = left-more actor now p.0.place (facts_at files p.1) c found
+
+pub change-more : (names : Names) (actor now : ℕ) (change : Change) (old new : List Filed) (c : Clause)
+    → ChangeFinds names actor now change old new c → GoesByMore c
+change-more names actor now change old new c found = elim found [
+  | inl named ↦ name-more names old (named_by change) c named
+  | inr left ↦ elim left [
+    | inl taken ↦ leave-more actor now new change.taken c taken
+    | inr turned ↦ leave-more actor now new (turned_by change) c turned
+  ]
+]
+
+-- ---- messages
+
+pub add-more : (m : Option Message) (file leaving : ℕ) (c : Clause) → AddFinds m file leaving c → GoesByMore c
+add-more (Some m) file leaving clause.UsedAgain found = tt
+add-more (Some m) file leaving clause.TwoNames found = tt
+add-more m file leaving c found = absurd found

@@ -1,0 +1,51 @@
+use Rattle.std.proofs.Common.{IsSome, sym, subst, ap}
+use Rattle.std.specs.Option.{option_copied}
+use Rattle.md_log.specs.declared.clause.Clause.TheVariants as clause
+use Rattle.md_judge.specs.declared.judge.watch.Watch.{Watch}
+use Rattle.md_judge.specs.Found.{KeepsPaths}
+use Rattle.md_judge.specs.Messages.{AddFinds}
+use Rattle.md_judge.proofs.Sparing.{keeps-paths, keeps-same, keeps-one, notes-one, turned-found, add-more}
+use Rattle.md_judge.proofs.judge.watch.Watch.change.Goals.{in-Some+in-Some-unique_at, in_default}
+use Rattle.md_judge.proofs.judge.watch.Watch.change.Goals as goal
+
+pub returns-in-Some-taken : goal.returns-in-Some-taken
+returns-in-Some-taken c =
+    let old = c.args.self.now.found in
+    let noting = c.note.new.self in
+    let joined = c.match-change.self.found in
+    let made = c.make.new.self.found in
+    let new = c.check_taken.new.self.found in
+    let turned = c.args.act.now.change.turned in
+    let joins : KeepsPaths noting joined = elim c.match-change.branch [
+      | in-Some+in-Some-unique_at w ↦
+          let message = option_copied w.message-message.result in
+          let file = w.in-Some.file in
+          let leaving = w.leaving-leaving.result in
+          subst (λ (s : Watch). KeepsPaths noting s.found) (sym w.self-is)
+          (keeps-paths (AddFinds message file leaving) (add-more message file leaving) noting w.check_added.new.found w.check_added.ensures.finds)
+      | in_default w ↦ keeps-same noting joined (ap (λ (s : Watch). s.found) w.self-is)
+    ] in
+    let turns = turned-found c.is_some.result turned old noting joined made c.is_some.ensures c.note.ensures joins c.in_ok-make.ensures in
+    record {
+      wrong = keeps-one clause.NotADirectory old made new turns.0 c.check_taken.ensures.wrong;
+      overwrites = notes-one clause.Overwritten (IsSome turned) old made new turns.1 c.check_taken.ensures.overwrites;
+    }
+
+pub returns-in_default : goal.returns-in_default
+returns-in_default c =
+    let old = c.args.self.now.found in
+    let noting = c.note.new.self in
+    let joined = c.match-change.self.found in
+    let made = c.make.new.self.found in
+    let turned = c.args.act.now.change.turned in
+    let joins : KeepsPaths noting joined = elim c.match-change.branch [
+      | in-Some+in-Some-unique_at w ↦
+          let message = option_copied w.message-message.result in
+          let file = w.in-Some.file in
+          let leaving = w.leaving-leaving.result in
+          subst (λ (s : Watch). KeepsPaths noting s.found) (sym w.self-is)
+          (keeps-paths (AddFinds message file leaving) (add-more message file leaving) noting w.check_added.new.found w.check_added.ensures.finds)
+      | in_default w ↦ keeps-same noting joined (ap (λ (s : Watch). s.found) w.self-is)
+    ] in
+    let turns = turned-found c.is_some.result turned old noting joined made c.is_some.ensures c.note.ensures joins c.in_ok-make.ensures in
+    record { wrong = turns.0; overwrites = turns.1 }

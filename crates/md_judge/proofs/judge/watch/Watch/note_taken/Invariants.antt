@@ -1,0 +1,5 @@
+use Rattle.std.proofs.Common.{◌≡◌}
+use Rattle.md_judge.proofs.judge.watch.Watch.note_taken.Given as goal
+
+abbrev pub invariant-loop-folder : goal.invariant-loop-folder
+invariant-loop-folder l = l.self.found ≡ l.fn.self.found
