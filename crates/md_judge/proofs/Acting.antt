@@ -14,7 +14,7 @@ use Rattle.md_judge.specs.declared.judge.directories.Spot.{Spot}
 use Rattle.md_judge.specs.declared.judge.found.Found.{Found}
 use Rattle.md_judge.specs.declared.judge.known.Known.{Known}
 use Rattle.md_judge.specs.declared.judge.known.Act.{Act}
-use Rattle.md_judge.specs.Acts.{IsOnPaths, IsWrongAsk, IsActOf}
+use Rattle.md_judge.specs.Acts.{ReadsNone, IsWrongAsk, IsActOf}
 use Rattle.md_judge.specs.Found.{Has, Keeps, NotesOne}
 use Rattle.md_judge.specs.Known.{Leaves}
 use Rattle.md_judge.specs.Law.{Turn, turn, IsWrongReply, IsWrongCall, NotADirectory, Overwrites, Overwritten}
@@ -75,12 +75,12 @@ module _ (l : Log) (i : ℕ) (x : Step) (act : Act) where
     );
   }
 
--- a call on paths is one that no directory answers so just where the law has it
-asked : (t : Turn) (c : Call) → IsOnPaths c → IsWrongAsk t c ↔ IsWrongCall t c
+-- beside readings, what no directory answers so is what the law has
+asked : (t : Turn) (c : Call) → ReadsNone c → IsWrongAsk t c ↔ IsWrongCall t c
 asked t (call.At d p r) on = (λ h. h, λ h. h)
 asked t (call.Between n old new r) on = (λ h. h, λ h. h)
 asked t (call.List folder place r shown) on = absurd on
-asked t (call.Answer a folder unique) on = absurd on
+asked t (call.Answer a folder unique) on = (λ h. h, λ h. h)
 
 -- What is found of a step on paths is what the law has, where nothing was found before it and what it found goes by its act.
 module _ {A E : Type 0} (result : Result A E) (t : Turn) (act : Act) (is : IsActOf t act) (begun new : Found)
@@ -91,7 +91,7 @@ module _ {A E : Type 0} (result : Result A E) (t : Turn) (act : Act) (is : IsAct
       ok-then result (NotesOne clause.Overwritten (IsSome act.change.turned) begun new) (Has new.broken clause.Overwritten ↔ Overwritten t)
       (λ one. found-one clause.Overwritten (IsSome act.change.turned) (Overwritten t) begun new (nothing clause.Overwritten) one is.overwrites) notes
 
-  pub found-wrong : IsOnPaths t.step.call → OnOk result (NotesOne clause.NotADirectory (IsTrue act.is_wrong) begun new)
+  pub found-wrong : ReadsNone t.step.call → OnOk result (NotesOne clause.NotADirectory (IsTrue act.is_wrong) begun new)
       → OnOk result (Has new.broken clause.NotADirectory ↔ NotADirectory t)
   found-wrong on notes =
       let same = asked t t.step.call on in

@@ -5,12 +5,12 @@ use Rattle.md_log.specs.declared.line.Call.TheVariants as call
 use Rattle.md_judge.specs.declared.judge.known.Act.{Act}
 use Rattle.md_judge.specs.Law.{Turn, IsWrongCall, Overwritten}
 
--- the call is one on paths
-abbrev pub IsOnPaths : Call → Type 0
-IsOnPaths (call.At d p r) = Unit {0}
-IsOnPaths (call.Between n old new r) = Unit {0}
-IsOnPaths (call.List folder place r shown) = ⊥
-IsOnPaths (call.Answer a folder unique) = ⊥
+-- the call reads no directory
+abbrev pub ReadsNone : Call → Type 0
+ReadsNone (call.At d p r) = Unit {0}
+ReadsNone (call.Between n old new r) = Unit {0}
+ReadsNone (call.List folder place r shown) = ⊥
+ReadsNone (call.Answer a folder unique) = Unit {0}
 
 -- the call is one on paths, and is answered as the directories never answer it
 abbrev pub IsWrongAsk : Turn → Call → Type 0

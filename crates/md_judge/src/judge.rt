@@ -6,7 +6,7 @@ ghost use Rattle.std.specs.Prelude.{◌≡◌, ◌<◌, ℕ, suc, Some, Ok, true
 ghost use Rattle.md_dirs.specs.State.{has_folder};
 ghost use Rattle.md_judge.specs.Logs.{Log, empty_log, with_file_line, with_also_line};
 ghost use Rattle.md_log.specs.declared.clause.Clause.TheVariants as clause;
-ghost use Rattle.md_judge.specs.Acts.{IsOnPaths};
+ghost use Rattle.md_judge.specs.Acts.{ReadsNone};
 ghost use Rattle.md_judge.specs.Found.{Has};
 ghost use Rattle.md_judge.specs.Law.{turn, NotADirectory, Overwritten};
 ghost use Rattle.md_judge.specs.Told.{at};
@@ -123,7 +123,7 @@ impl Judge {
             → HasFolders (at l i) step.call → OnOk result (Has self.new.watch.found.broken clause.Overwritten ↔ Overwritten (turn l i step)) }
         ensures wrong { (lines : ℕ → ℕ) (l : Log) (i : ℕ) → IsToldAt lines l i self.old.known
             → slice_get l.steps i ≡ Some (record { number = line; step = step }) → lines i ≡ line → line < 4294967295
-            → HasFolders (at l i) step.call → IsOnPaths step.call
+            → HasFolders (at l i) step.call → ReadsNone step.call
             → OnOk result (Has self.new.watch.found.broken clause.NotADirectory ↔ NotADirectory (turn l i step)) }
     {
         let (actor, _) = self.actor_names.number(step.actor.as_slice())?;

@@ -3,8 +3,8 @@ use Rattle.md_judge.proofs.Growing.{grows}
 use Rattle.md_judge.proofs.Stepping.{on-ok}
 use Rattle.std.proofs.Common.{suc, ◌≡◌, refl, Result, Ok, Err, OnOk, ap, subst, ◌∙◌}
 use Rattle.md_log.specs.declared.clause.Clause.TheVariants as clause
-use Rattle.md_judge.specs.Acts.{IsOnPaths}
-use Rattle.md_judge.specs.Law.{turn, Overwritten}
+use Rattle.md_judge.specs.Acts.{ReadsNone}
+use Rattle.md_judge.specs.Law.{turn, IsWrongCall, NotADirectory, Overwritten}
 use Rattle.md_judge.specs.Logs.{Numbered}
 use Rattle.md_judge.specs.Told.{moment, at, after_step, after_call}
 use Rattle.md_judge.proofs.Acting.{none-overwritten, found-overwritten, found-wrong, found-still}
@@ -22,7 +22,7 @@ returns-in-List c = record {
       at-next l i x is ∙ ap (λ v. after_call v (after_step (moment l i) x).now (at l i)) c.in-List.is in
       found-still c.list.result (turn l i c.args.step) c.begin.new.self.found c.numbers.new.self.watch.found c.list.new.self.found c.begin.ensures
       c.in_ok-names-in-List.ensures.found (none-overwritten (at l i) (at l (suc i)) still) c.list.ensures;
-  wrong = λ lines l i told is here short there on. absurd (subst IsOnPaths c.in-List.is on);
+  wrong = λ lines l i told is here short there on. absurd (subst ReadsNone c.in-List.is on);
 }
 
 pub returns-in-Answer : goal.returns-in-Answer
@@ -36,7 +36,9 @@ returns-in-Answer c = record {
       at-next l i x is ∙ ap (λ v. after_call v (after_step (moment l i) x).now (at l i)) c.in-Answer.is in
       found-none clause.Overwritten (Overwritten (turn l i c.args.step)) c.begin.new.self.found c.answer.new.self.found
       (c.begin.ensures clause.Overwritten) c.answer.ensures.overwrites (none-overwritten (at l i) (at l (suc i)) still);
-  wrong = λ lines l i told is here short there on. absurd (subst IsOnPaths c.in-Answer.is on);
+  wrong = λ lines l i told is here short there on.
+      found-none clause.NotADirectory (NotADirectory (turn l i c.args.step)) c.begin.new.self.found c.answer.new.self.found
+      (c.begin.ensures clause.NotADirectory) c.answer.ensures.wrong (subst (IsWrongCall (turn l i c.args.step)) c.in-Answer.is);
 }
 
 pub returns : goal.returns
