@@ -1,7 +1,6 @@
-use Rattle.std.proofs.Common.{suc, refl}
 use Rattle.md_judge.proofs.Growing.{grows}
 use Rattle.md_judge.proofs.Stepping.{on-ok}
-use Rattle.std.proofs.Common.{suc, ◌≡◌, refl, Result, Ok, Err, OnOk, ap, subst, ◌∙◌}
+use Rattle.std.proofs.Common.{suc, ◌≡◌, refl, ap, subst, ◌∙◌}
 use Rattle.md_log.specs.declared.clause.Clause.TheVariants as clause
 use Rattle.md_judge.specs.Acts.{ReadsNone}
 use Rattle.md_judge.specs.Law.{turn, IsWrongCall, NotADirectory, Overwritten}
