@@ -27,3 +27,4 @@ pub mod Stepping
 pub mod Beginning
 pub mod Acting
 pub mod Sparing
+pub mod Prefixes
