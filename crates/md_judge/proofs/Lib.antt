@@ -28,3 +28,4 @@ pub mod Beginning
 pub mod Acting
 pub mod Sparing
 pub mod Prefixes
+pub mod Housed
