@@ -79,32 +79,40 @@ module _ (folders : List (List ℕ)) (s : State) (same : s.folders ≡ length fo
   unfolding path_at
   path-housed rest =
       then-so IsPath (word_at rest) _ (λ word. then-so IsPath (piece_at word.0) _ (λ first. then-so IsPath (piece_at first.1) _ (λ second.
-      so-then IsFolder IsPath (folder_of folders first.0) _ (folder-housed first.0) (λ folder low. then-so IsPath (directory_of second.0) _ (λ place. then-so IsPath (name_of second.1) _ (λ name. low))))))
+      so-then IsFolder IsPath (folder_of folders first.0) _ (folder-housed first.0) (λ folder low. then-so IsPath (directory_of second.0) _ (λ place.
+      then-so IsPath (name_of second.1) _ (λ name. low))))))
 
+  -- the folders of a call's paths are there
   abbrev Housed : Call → Type 0
   Housed c = HasFolders s c
 
   at-housed : (d : Deed) (rest : Rest) → IfOk (at_line folders d rest) Housed
   unfolding at_line
   at-housed d rest =
-      so-then IsPath Housed (path_at folders rest) _ (path-housed rest) (λ path there. then-so Housed (reply_at path.1) _ (λ answer. then-so Housed (require (may_answer_at d answer.0) BadReply) _ (λ _. then-so Housed (end_at answer.1) _ (λ _. there))))
+      so-then IsPath Housed (path_at folders rest) _ (path-housed rest) (λ path there. then-so Housed (reply_at path.1) _ (λ answer.
+      then-so Housed (require (may_answer_at d answer.0) BadReply) _ (λ _. then-so Housed (end_at answer.1) _ (λ _. there))))
 
   between-housed : (n : Naming) (rest : Rest) → IfOk (between_line folders n rest) Housed
   unfolding between_line
   between-housed n rest =
-      so-then IsPath Housed (path_at folders rest) _ (path-housed rest) (λ old there. so-then IsPath Housed (path_at folders old.1) _ (path-housed old.1) (λ new there-too.
-      then-so Housed (reply_at new.1) _ (λ answer. then-so Housed (require (may_answer_between n answer.0) BadReply) _ (λ _. then-so Housed (end_at answer.1) _ (λ _. (there, there-too))))))
+      so-then IsPath Housed (path_at folders rest) _ (path-housed rest) (λ old there.
+      so-then IsPath Housed (path_at folders old.1) _ (path-housed old.1) (λ new there-too.
+      then-so Housed (reply_at new.1) _ (λ answer. then-so Housed (require (may_answer_between n answer.0) BadReply) _ (λ _.
+      then-so Housed (end_at answer.1) _ (λ _. (there, there-too))))))
 
   list-housed : (rest : Rest) → IfOk (list_line folders rest) Housed
   unfolding list_line
   list-housed rest =
-      then-so Housed (word_at rest) _ (λ first. then-so Housed (folder_of folders first.0) _ (λ folder. then-so Housed (word_at first.1) _ (λ second. then-so Housed (directory_of second.0) _ (λ place.
-      then-so Housed (reply_at second.1) _ (λ answer. then-so Housed (require (may_answer_list answer.0) BadReply) _ (λ _. then-so Housed (names_at answer.1) _ (λ shown. tt)))))))
+      then-so Housed (word_at rest) _ (λ first. then-so Housed (folder_of folders first.0) _ (λ folder. then-so Housed (word_at first.1) _ (λ second.
+      then-so Housed (directory_of second.0) _ (λ place.
+      then-so Housed (reply_at second.1) _ (λ answer. then-so Housed (require (may_answer_list answer.0) BadReply) _ (λ _.
+      then-so Housed (names_at answer.1) _ (λ shown. tt)))))))
 
   about-housed : (answer : Said) (rest : Rest) → IfOk (about_line folders answer rest) Housed
   unfolding about_line
   about-housed answer rest =
-      then-so Housed (word_at rest) _ (λ first. then-so Housed (folder_of folders first.0) _ (λ folder. then-so Housed (word_at first.1) _ (λ second. then-so Housed (unique_name_of second.0) _ (λ unique. then-so Housed (end_at second.1) _ (λ _. tt)))))
+      then-so Housed (word_at rest) _ (λ first. then-so Housed (folder_of folders first.0) _ (λ folder. then-so Housed (word_at first.1) _ (λ second.
+      then-so Housed (unique_name_of second.0) _ (λ unique. then-so Housed (end_at second.1) _ (λ _. tt)))))
 
   flags-housed : (rest : Rest) → IfOk (flags_line folders rest) Housed
   unfolding flags_line
@@ -143,7 +151,8 @@ module _ (folders : List (List ℕ)) (s : State) (same : s.folders ≡ length fo
   step-line-housed : (first : List ℕ) (rest : Rest) → IfOk (step_line folders first rest) IsStepHoused
   unfolding step_line
   step-line-housed first rest =
-      then-so IsStepHoused (when_of first) _ (λ when. then-so IsStepHoused (word_at rest) _ (λ actor. then-so IsStepHoused (word_at actor.1) _ (λ third.
+      then-so IsStepHoused (when_of first) _ (λ when. then-so IsStepHoused (word_at rest) _ (λ actor.
+      then-so IsStepHoused (word_at actor.1) _ (λ third.
       so-then (λ v. (rest : Rest) → IfOk (call_line folders v rest) Housed) IsStepHoused (verb_of third.0) _ (verb-housed third.0) (λ v so.
       so-then Housed IsStepHoused (call_line folders v third.1) _ (so third.1) (λ c there. there)))))
 
@@ -157,27 +166,34 @@ module _ (folders : List (List ℕ)) (s : State) (same : s.folders ≡ length fo
 
   folder-line-housed : (rest : Rest) → IfOk (folder_line rest) IsLineHoused
   unfolding folder_line
-  folder-line-housed rest = then-so IsLineHoused (word_at rest) _ (λ word. then-so IsLineHoused (name_of word.0) _ (λ name. then-so IsLineHoused (end_at word.1) _ (λ _. tt)))
+  folder-line-housed rest =
+      then-so IsLineHoused (word_at rest) _ (λ word. then-so IsLineHoused (name_of word.0) _ (λ name.
+      then-so IsLineHoused (end_at word.1) _ (λ _. tt)))
 
   allow-line-housed : (rest : Rest) → IfOk (allow_line rest) IsLineHoused
   unfolding allow_line
-  allow-line-housed rest = then-so IsLineHoused (word_at rest) _ (λ word. then-so IsLineHoused (allowed_by (clause_named word.0)) _ (λ c. then-so IsLineHoused (end_at word.1) _ (λ _. tt)))
+  allow-line-housed rest =
+      then-so IsLineHoused (word_at rest) _ (λ word. then-so IsLineHoused (allowed_by (clause_named word.0)) _ (λ c.
+      then-so IsLineHoused (end_at word.1) _ (λ _. tt)))
 
   file-line-housed : (rest : Rest) → IfOk (file_line folders rest) IsLineHoused
   unfolding file_line
   file-line-housed rest =
       so-then IsPath IsLineHoused (path_at folders rest) _ (path-housed rest) (λ path there.
-      then-so IsLineHoused (word_at path.1) _ (λ word. then-so IsLineHoused (number_of word.0) _ (λ stamp. then-so IsLineHoused (end_at word.1) _ (λ _. there))))
+      then-so IsLineHoused (word_at path.1) _ (λ word. then-so IsLineHoused (number_of word.0) _ (λ stamp.
+      then-so IsLineHoused (end_at word.1) _ (λ _. there))))
 
   also-line-housed : (rest : Rest) → IfOk (also_line folders rest) IsLineHoused
   unfolding also_line
   also-line-housed rest =
       so-then IsPath IsLineHoused (path_at folders rest) _ (path-housed rest) (λ path there.
-      so-then IsPath IsLineHoused (path_at folders path.1) _ (path-housed path.1) (λ old there-too. then-so IsLineHoused (end_at old.1) _ (λ _. (there, there-too))))
+      so-then IsPath IsLineHoused (path_at folders path.1) _ (path-housed path.1) (λ old there-too.
+      then-so IsLineHoused (end_at old.1) _ (λ _. (there, there-too))))
 
   step-said : (first : List ℕ) (rest : Rest) → IfOk (step_line folders first rest >>= (λ x. Ok (line.Step x))) IsLineHoused
   step-said first rest = so-then IsStepHoused IsLineHoused (step_line folders first rest) _ (step-line-housed first rest) (λ x there. there)
 
+  -- what is so of both arms of a first word
   arm : (begun b : Bool) (x y : Option _) (first : List ℕ) (rest : Rest) → IfOk (line_by folders begun x first rest) IsLineHoused
       → IfOk (line_by folders begun y first rest) IsLineHoused → IfOk (line_by folders begun (cond b x y) first rest) IsLineHoused
   arm begun true x y first rest a c = a
