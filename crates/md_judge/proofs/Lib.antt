@@ -29,3 +29,4 @@ pub mod Acting
 pub mod Sparing
 pub mod Prefixes
 pub mod Housed
+pub mod Verdicts

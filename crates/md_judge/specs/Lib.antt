@@ -16,3 +16,4 @@ pub mod Readings
 pub mod Moments
 pub mod Recalled
 pub mod Acts
+pub mod Verdict

@@ -2,9 +2,10 @@
 //!
 //! Moments are numbered by the lines of the log: the step of line 7 goes from moment 7 to moment 8, and what the line 3 says of the
 //! beginning is so from moment 4 on.
-ghost use Rattle.std.specs.Prelude.{◌≡◌, ◌<◌, ℕ, suc, Some, Ok, true, slice_get, OnOk, ◌↔◌};
+ghost use Rattle.std.specs.Prelude.{◌≡◌, ◌<◌, ℕ, suc, Some, Ok, true, slice_get, OnOk, ◌↔◌, ◌⊎◌, IsTrue};
 ghost use Rattle.md_dirs.specs.State.{has_folder};
 ghost use Rattle.md_judge.specs.Logs.{Log, empty_log, with_file_line, with_also_line};
+ghost use Rattle.md_log.specs.declared.clause.Clause.{Clause};
 ghost use Rattle.md_log.specs.declared.clause.Clause.TheVariants as clause;
 ghost use Rattle.md_judge.specs.Acts.{ReadsNone};
 ghost use Rattle.md_judge.specs.Found.{Has};
@@ -79,18 +80,25 @@ impl Judge {
     pub(crate) fn add_folder(&mut self) -> Result<(), LineFault>
         ensures told { (lines : ℕ → ℕ) (l l' : Log) → IsToldAt lines l 0 self.old.known
             → l'.opening ≡ record l.opening { folders = suc l.opening.folders } → OnOk result (IsToldAt lines l' 0 self.new.known) }
+        ensures allowed { OnOk result (self.new.allowed ≡ self.old.allowed) }
     {
         self.known.directories.add_folder()?;
         self.watch.add_folder()
     }
 
     /// The clause is not judged.
-    pub(crate) fn allow(&mut self, clause: Clause) {
+    pub(crate) fn allow(&mut self, clause: Clause)
+        ensures allowed { (c : Clause) → Has self.new.allowed c ↔ (Has self.old.allowed c ⊎ (c ≡ clause)) }
+        ensures known { self.new.known ≡ self.old.known }
+    {
         self.allowed.add(clause);
     }
 
     /// Goes on to the moment of a line, which is after those of the lines before it.
-    pub(crate) fn go_to(&mut self, moment: usize) {
+    pub(crate) fn go_to(&mut self, moment: usize)
+        ensures known { self.new.known ≡ self.old.known }
+        ensures allowed { self.new.allowed ≡ self.old.allowed }
+    {
         self.watch.go_to(moment);
     }
 
@@ -98,6 +106,7 @@ impl Judge {
     pub(crate) fn put_file(&mut self, line: usize, path: &Path, stamp: u64) -> Result<(), LineFault>
         ensures told { (lines : ℕ → ℕ) (l l' : Log) → IsToldAt lines l 0 self.old.known → with_file_line l path.now stamp ≡ Ok l' → line < lines 0
             → has_folder l.opening path.now ≡ true → OnOk result (IsToldAt lines l' 0 self.new.known) }
+        ensures allowed { OnOk result (self.new.allowed ≡ self.old.allowed) }
     {
         let (spot, file) = self.known.put_file(line, path, stamp)?;
         self.watch.files.make(mark_of(line), None, stamp)?;
@@ -108,6 +117,7 @@ impl Judge {
     pub(crate) fn put_name(&mut self, line: usize, path: &Path, old: &Path) -> Result<(), LineFault>
         ensures told { (lines : ℕ → ℕ) (l l' : Log) → IsToldAt lines l 0 self.old.known → with_also_line l path.now old.now ≡ Ok l' → line < lines 0
             → has_folder l.opening path.now ≡ true → OnOk result (IsToldAt lines l' 0 self.new.known) }
+        ensures allowed { OnOk result (self.new.allowed ≡ self.old.allowed) }
     {
         let (spot, file) = self.known.put_name(line, path, old)?;
         self.watch.put(&self.known, line, spot, file)
@@ -125,6 +135,7 @@ impl Judge {
             → slice_get l.steps i ≡ Some (record { number = line; step = step }) → lines i ≡ line → line < 4294967295
             → HasFolders (at l i) step.call → ReadsNone step.call
             → OnOk result (Has self.new.watch.found.broken clause.NotADirectory ↔ NotADirectory (turn l i step)) }
+        ensures allowed { OnOk result (self.new.allowed ≡ self.old.allowed) }
     {
         let (actor, _) = self.actor_names.number(step.actor.as_slice())?;
         self.act = self.known.step(line, &step)?;
@@ -155,7 +166,9 @@ impl Judge {
     }
 
     /// Whether the last step breaks the clause, which is not allowed.
-    pub(crate) fn is_broken(&self, clause: Clause) -> bool {
+    pub(crate) fn is_broken(&self, clause: Clause) -> bool
+        ensures { IsTrue result ↔ (Has self.now.watch.found.broken clause × (Has self.now.allowed clause → ⊥)) }
+    {
         self.watch.found.is_broken(clause) && !self.allowed.contains(clause)
     }
 
@@ -168,6 +181,7 @@ impl Judge {
     fn numbers(&mut self, names: &[Bytes]) -> Result<Vec<Name>, LineFault>
         ensures told { (lines : ℕ → ℕ) (l : Log) (i : ℕ) → IsToldAt lines l i self.old.known → OnOk result (IsToldAt lines l i self.new.known) }
         ensures found { OnOk result (self.new.watch.found ≡ self.old.watch.found) }
+        ensures allowed { OnOk result (self.new.allowed ≡ self.old.allowed) }
     {
         let mut numbers = Vec::new(self.alloc);
         for name in names {

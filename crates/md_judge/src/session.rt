@@ -1,4 +1,13 @@
 //! A log whose lines come one by one.
+ghost use Rattle.std.specs.Prelude.{ℕ, suc, ◌≡◌, ◌<◌, ◌++◌, ◌∷◌, [], Some, None, Ok, OnOk, length, slice_get};
+ghost use Rattle.md_log.specs.declared.clause.Clause.TheVariants as clause;
+ghost use Rattle.md_judge.specs.Found.{Has};
+ghost use Rattle.md_judge.specs.Law.{Overwritten, turn};
+ghost use Rattle.md_judge.specs.Logs.{Log, is_passed_over, with_line, with_text};
+ghost use Rattle.md_judge.specs.Recalled.{IsToldAt, HasFolders};
+ghost use Rattle.md_judge.specs.Told.{at};
+ghost use Rattle.md_judge.specs.Verdict.{HasNoTicks, HasRead, IsHeadOf, IsOverwritten, IsBroken, AddsFinding, KeepsHead};
+
 use crate::judge::Judge;
 use crate::log::{Finding, HEAD};
 use crate::stretch::{Placed, Stretch};
@@ -118,24 +127,33 @@ impl Session {
     }
 
     /// Takes a line in, unless it is passed over.
-    pub(crate) fn take(&mut self, number: u64, text: &[u8]) -> Result<(), LogFault> {
-        if let [] | [COMMENT, ..] = text {
+    pub(crate) fn take(&mut self, number: u64, text: &[u8]) -> Result<(), LogFault>
+        ensures read { (l l' : Log) → HasRead number l self.old → with_text l number text.now ≡ Ok l' → HasNoTicks l'
+            → OnOk result (HasRead (suc number) l' self.new) }
+    {
+        if is_passed_over(text) {
             return Ok(());
         }
         if number > MOST_LINES {
             return Err(fault_at(number, LineFault::NoMemory));
         }
-        match read_line(self.alloc, &self.folders, self.has_begun, text) {
-            Ok(Line::Step(step)) => self.take_step(number, step, text),
-            Ok(line) => {
-                let taken = self.take_head(number, line);
+        let line = match read_line(self.alloc, &self.folders, self.has_begun, text) {
+            Ok(line) => line,
+            Err(fault) => return Err(fault_at(number, fault)),
+        };
+        match line {
+            Line::Step(step) => self.take_step(number, step, text),
+            head => {
+                let taken = self.take_head(number, head);
                 taken.map_err(|fault| fault_at(number, fault))
             }
-            Err(fault) => Err(fault_at(number, fault)),
         }
     }
 
-    fn take_head(&mut self, number: u64, line: Line) -> Result<(), LineFault> {
+    fn take_head(&mut self, number: u64, line: Line) -> Result<(), LineFault>
+        ensures read { (l l' : Log) → HasRead number l self.old → l.steps ≡ [] → IsHeadOf l.opening line → with_line l number line ≡ Ok l'
+            → OnOk result (HasRead (suc number) l' self.new) }
+    {
         self.judge.go_to(number as usize);
         match line {
             Line::Folder { name } => {
@@ -153,7 +171,11 @@ impl Session {
     }
 
     /// Judges a step, or lets it wait where it has ticks.
-    fn take_step(&mut self, number: u64, step: Step, text: &[u8]) -> Result<(), LogFault> {
+    fn take_step(&mut self, number: u64, step: Step, text: &[u8]) -> Result<(), LogFault>
+        ensures read { (l : Log) → HasRead number l self.old → step.ticks ≡ None → number < 4294967295
+            → HasFolders (at l (length l.steps)) step.call
+            → OnOk result (HasRead (suc number) (record l { steps = l.steps ++ record { number = number; step = step } ∷ [] }) self.new) }
+    {
         self.has_begun = true;
         if step.ticks.is_some() {
             let waits = self.stretch.add(self.alloc, number as usize, step, text);
@@ -165,7 +187,9 @@ impl Session {
     }
 
     /// Judges the steps that wait, in an order that their ticks and replies allow.
-    fn judge_stretch(&mut self) -> Result<(), LogFault> {
+    fn judge_stretch(&mut self) -> Result<(), LogFault>
+        ensures idle { self.old.stretch.steps.items ≡ [] → (result ≡ Ok tt) × (self.new ≡ self.old) }
+    {
         if self.stretch.is_empty() {
             return Ok(());
         }
@@ -198,22 +222,51 @@ impl Session {
         line: u64,
         step: Step,
         text: &[u8],
-    ) -> Result<(), LineFault> {
+    ) -> Result<(), LineFault>
+        ensures keeps { OnOk result (KeepsHead self.old self.new) }
+        ensures told { (lines : ℕ → ℕ) (l : Log) (i : ℕ) → IsToldAt lines l i self.old.judge.known
+            → slice_get l.steps i ≡ Some (record { number = moment; step = step }) → lines i ≡ moment → moment < 4294967295
+            → HasFolders (at l i) step.call → OnOk result (IsToldAt lines l (suc i) self.new.judge.known) }
+        ensures found { (lines : ℕ → ℕ) (l : Log) (i : ℕ) → IsToldAt lines l i self.old.judge.known
+            → slice_get l.steps i ≡ Some (record { number = moment; step = step }) → lines i ≡ moment → moment < 4294967295
+            → HasFolders (at l i) step.call
+            → OnOk result (AddsFinding line (Overwritten (turn l i step) × (Has self.old.judge.allowed clause.Overwritten → ⊥)) self.old self.new) }
+    {
         self.judge.go_to(moment);
         self.judge.step(moment, step)?;
         for clause in CLAUSES {
-            if self.judge.is_broken(clause) {
-                let before = self.judge.before(clause);
-                let before = before.map(|moment| self.stretch.line_at(moment));
-                self.findings.push(Finding {
-                    line,
-                    clause,
-                    before,
-                })?;
-                self.passages.add(text)?;
-            }
+            self.note(line, clause, text)?;
         }
         Ok(())
+    }
+
+    /// Keeps a clause, where the step that was judged last breaks it.
+    fn note(&mut self, line: u64, clause: Clause, text: &[u8]) -> Result<(), LineFault>
+        ensures keeps { OnOk result (KeepsHead self.old self.new) }
+        ensures judge { OnOk result (self.new.judge ≡ self.old.judge) }
+        ensures found { OnOk result (AddsFinding line (IsOverwritten clause × IsBroken self.old.judge) self.old self.new) }
+    {
+        if self.judge.is_broken(clause) {
+            let before = self.judge.before(clause);
+            let before = before.map(|moment| self.stretch.line_at(moment));
+            self.findings.push(Finding {
+                line,
+                clause,
+                before,
+            })?;
+            self.passages.add(text)?;
+        }
+        Ok(())
+    }
+}
+
+/// Whether a line says nothing: it is empty or a comment.
+fn is_passed_over(text: &[u8]) -> bool
+    ensures { result ≡ is_passed_over text.now }
+{
+    match text {
+        [] => true,
+        [first, ..] => *first == COMMENT,
     }
 }
 

@@ -1,4 +1,6 @@
 //! Steps with ticks that follow one another in a log, and wait for an order.
+ghost use Rattle.std.specs.Prelude.{◌≡◌, ◌↔◌, [], IsTrue};
+
 use md_log::{LineFault, Step};
 use std::alloc::Global;
 use std::collections::BTreeMap;
@@ -22,7 +24,10 @@ pub(crate) struct Stretch {
 }
 
 impl Stretch {
-    pub(crate) fn new(alloc: Global) -> Self {
+    pub(crate) fn new(alloc: Global) -> Self
+        ensures waits { result.steps.items ≡ [] }
+        ensures moved { result.moved.entries ≡ [] }
+    {
         Stretch {
             steps: Vec::new(alloc),
             texts: Vec::new(alloc),
@@ -31,12 +36,16 @@ impl Stretch {
         }
     }
 
-    pub(crate) fn is_empty(&self) -> bool {
+    pub(crate) fn is_empty(&self) -> bool
+        ensures { IsTrue result ↔ (self.now.steps.items ≡ []) }
+    {
         self.steps.is_empty()
     }
 
     /// Whether each step so far was placed where it stands.
-    pub(crate) fn is_in_order(&self) -> bool {
+    pub(crate) fn is_in_order(&self) -> bool
+        ensures { IsTrue result ↔ (self.now.moved.entries ≡ []) }
+    {
         self.moved.is_empty()
     }
 

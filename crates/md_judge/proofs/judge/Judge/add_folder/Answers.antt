@@ -7,4 +7,5 @@ pub returns : goal.returns
 returns c = record {
   told = λ lines l l' told opening.
       on-ok c.add_folder-2.result (folder-told lines l l' c.args.self.now.known _ told refl c.in_ok-add_folder.ensures refl opening);
+  allowed = on-ok c.add_folder-2.result refl;
 }

@@ -7,4 +7,5 @@ loop-name-preserved c = record {
   told = λ lines l i told.
       grows lines l i c.loop-name.self.known _ (c.loop-name.invariant.told lines l i told) c.number.ensures.keeps c.in_ok-number.ensures.numbered refl refl;
   found = c.loop-name.invariant.found;
+  allowed = c.loop-name.invariant.allowed;
 }

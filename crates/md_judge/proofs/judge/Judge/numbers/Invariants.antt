@@ -7,4 +7,5 @@ abbrev pub invariant-loop-name : goal.invariant-loop-name
 invariant-loop-name l = record {
   told : (lines : ℕ → ℕ) (log : Log) (i : ℕ) → IsToldAt lines log i l.fn.self.known → IsToldAt lines log i l.self.known;
   found : l.self.watch.found ≡ l.fn.self.watch.found;
+  allowed : l.self.allowed ≡ l.fn.self.allowed;
 }

@@ -1,5 +1,9 @@
+use Rattle.std.proofs.Common.{refl}
 use Rattle.md_judge.proofs.Stepping.{on-ok}
 use Rattle.md_judge.proofs.judge.Judge.put_file.Goals as goal
 
 pub returns : goal.returns
-returns c = record { told = λ lines l l' told is short there. on-ok c.put.result (c.in_ok-spot.ensures.told lines l l' told is short there) }
+returns c = record {
+  told = λ lines l l' told is short there. on-ok c.put.result (c.in_ok-spot.ensures.told lines l l' told is short there);
+  allowed = on-ok c.put.result refl;
+}

@@ -22,6 +22,7 @@ returns-in-List c = record {
       found-still c.list.result (turn l i c.args.step) c.begin.new.self.found c.numbers.new.self.watch.found c.list.new.self.found c.begin.ensures
       c.in_ok-names-in-List.ensures.found (none-overwritten (at l i) (at l (suc i)) still) c.list.ensures;
   wrong = λ lines l i told is here short there on. absurd (subst ReadsNone c.in-List.is on);
+  allowed = on-ok c.list.result c.in_ok-names-in-List.ensures.allowed;
 }
 
 pub returns-in-Answer : goal.returns-in-Answer
@@ -38,6 +39,7 @@ returns-in-Answer c = record {
   wrong = λ lines l i told is here short there on.
       found-none clause.NotADirectory (NotADirectory (turn l i c.args.step)) c.begin.new.self.found c.answer.new.self.found
       (c.begin.ensures clause.NotADirectory) c.answer.ensures.wrong (subst (IsWrongCall (turn l i c.args.step)) c.in-Answer.is);
+  allowed = refl;
 }
 
 pub returns : goal.returns
@@ -49,4 +51,5 @@ returns c = record {
   wrong = λ lines l i told is here short there on.
       found-wrong c.call.result (turn l i c.args.step) _ (c.in_ok-self.ensures.acts lines l i told is here short there)
       c.begin.new.self.found c.call.new.self.found c.begin.ensures on c.call.ensures.wrong;
+  allowed = on-ok c.call.result refl;
 }

@@ -1,0 +1,434 @@
+-- What a session holds that has read a log so far, as it reads one more line.
+use Rattle.std.proofs.Common.{ℕ, zero, suc, ◌≡◌, ◌<◌, ◌≤◌, ◌+◌, ◌⊎◌, inl, inr, ◌↔◌, true, nat_lt, Bool, false, not, max, is_some, is_none, is_ok, List, [], ◌++◌, ◌∷◌, Option, Some, None, Result, Ok, Err, OnOk, IfOk, length, get_or, slice_get, refl, sym, ap, subst, ◌∙◌, arith}
+use Rattle.std.proofs.lemmas.Result.{IfOk-at_ok}
+use Rattle.std.proofs.lemmas.List.{length_push}
+use Rattle.std.proofs.lemmas.Option.{slice_get_within, slice_get-get_or, get_or_from_slice_get}
+use Rattle.std.proofs.lemmas.Bool.{cases_lt, lt-ltb}
+use Rattle.md_dirs.specs.State.{State, file_at}
+use Rattle.md_dirs.specs.Calls.{empty_file, with_new_file, with_path}
+use Rattle.md_dirs.specs.declared.paths.Path.{Path}
+use Rattle.md_log.specs.declared.error.LineFault.{LineFault}
+use Rattle.md_log.specs.declared.error.LineFault.TheVariants.{SamePath, NoSuchPath, SameFolder, TooManyFolders}
+use Rattle.md_log.specs.Bind.{◌>>=◌}
+use Rattle.md_log.specs.Words.{require, word_at}
+use Rattle.std.specs.Prelude.{if◌then◌else◌}
+use Rattle.md_log.specs.declared.line.Line.{Line}
+use Rattle.md_log.specs.declared.line.Line.TheVariants as line
+use Rattle.md_log.specs.Heads.{head_of}
+use Rattle.md_log.specs.Calls.{step_line}
+use Rattle.md_log.specs.Lines.{line_of, line_by}
+use Rattle.md_log.specs.Folders.{most_folders, place_of, with_folder}
+use Rattle.md_log.specs.declared.clause.Clause.{Clause}
+use Rattle.md_log.specs.declared.clause.Clause.TheVariants as clause
+use Rattle.md_log.specs.declared.line.Step.{Step}
+use Rattle.md_judge.specs.declared.judge.Judge.{Judge}
+use Rattle.md_judge.specs.declared.judge.clauses.Clauses.{Clauses}
+use Rattle.md_judge.specs.declared.judge.known.Known.{Known}
+use Rattle.md_judge.specs.declared.log.Finding.{Finding}
+use Rattle.md_judge.specs.declared.session.Session.{Session}
+use Rattle.md_judge.specs.declared.stretch.Stretch.{Stretch}
+use Rattle.md_judge.specs.Found.{Has}
+use Rattle.md_judge.specs.Law.{turn, Overwritten, IsAllowed, IsFinding}
+use Rattle.md_judge.specs.Logs.{Log, Numbered, is_passed_over, has_begun, with_line, with_text, with_folder_line, with_file_line, with_also_line}
+use Rattle.md_judge.specs.Recalled.{IsToldAt, HasFolders}
+use Rattle.md_judge.specs.Told.{Moment, at, moment}
+use Rattle.md_judge.specs.Verdict.{HasNoTicks, IsAmong, AreLinesOf, HasRead, IsHeadOf, IsOverwritten, IsBroken, AddsFinding, KeepsHead}
+use Rattle.md_judge.proofs.Housed.{folders-stay, file-housed, also-housed}
+use Rattle.md_judge.proofs.Prefixes.{same-moment, told-longer, finding-longer, finding-none, opening-told}
+
+-- what follows from what holds where a call gives a value holds there
+pub on-ok-by : {A E : Type 0} (r : Result A E) (Q : Type 0) → (((P : Type 0) → OnOk r P → P) → Q) → OnOk r Q
+on-ok-by (Ok x) Q by = by (λ P holds. holds)
+on-ok-by (Err e) Q by = tt
+
+-- what holds where one call gives a value holds where another does that gives one with it
+pub on-ok-same : {A E F : Type 0} (P : Type 0) (r : Result A E) (q : Result A F) → is_ok q ≡ is_ok r → OnOk r P → OnOk q P
+on-ok-same P (Ok x) (Ok y) same holds = holds
+on-ok-same P (Err e) (Ok y) same holds = absurd (cc)
+on-ok-same P (Ok x) (Err f) same holds = tt
+on-ok-same P (Err e) (Err f) same holds = tt
+
+-- ---- findings that are added
+
+-- the clauses in their order
+abbrev pub clauses : List Clause
+clauses =
+    clause.NotADirectory ∷ clause.Overwritten ∷ clause.SeenBeforeWhole ∷ clause.Mixed ∷ clause.NotFlushed ∷ clause.TwoNames ∷ clause.Gone
+    ∷ clause.UsedAgain ∷ clause.MovedBack ∷ clause.CleanedEarly ∷ clause.Unlisted ∷ clause.GaveUp ∷ clause.AnsweredFalsely ∷ []
+
+-- Overwritten is among the first of these clauses
+abbrev pub Passed : List Clause → ℕ → Type 0
+Passed items i = (k : ℕ) × (k < i) × (slice_get items k ≡ Some clause.Overwritten)
+
+-- one more clause is passed
+pub adds-next : (n : ℕ) (items : List Clause) (i : ℕ) (d : Clause) (j : Judge) (a b e : Session) → i < length items → b.judge ≡ j
+    → AddsFinding n (Passed items i × IsBroken j) a b → AddsFinding n (IsOverwritten (get_or items i d) × IsBroken b.judge) b e
+    → AddsFinding n (Passed items (i + 1) × IsBroken j) a e
+adds-next n items i d j a b e within same first more m = (
+  λ now. elim ((more m).0 now) [
+    | inl before ↦ elim ((first m).0 before) [
+      | inl was ↦ inl was
+      | inr one ↦ let low : one.1.0.0 < i = one.1.0.1 in inr (one.0, ((one.1.0.0, omega (arith, low), one.1.0.2), one.1.1))
+    ]
+    | inr one ↦ inr (one.0, ((i, omega arith, slice_get-get_or items i d within ∙ ap Some one.1.0), subst IsBroken same one.1.1))
+  ],
+  λ some. elim some [
+    | inl was ↦ (more m).1 (inl ((first m).1 (inl was)))
+    | inr one ↦ elim (cases_lt one.1.0.0 i) [
+      | inl low ↦ (more m).1 (inl ((first m).1 (inr (one.0, ((one.1.0.0, low, one.1.0.2), one.1.1)))))
+      | inr high ↦
+          let below : one.1.0.0 < i + 1 = one.1.0.1 in
+          let last : one.1.0.0 ≡ i = omega (arith, below, high) in
+          let is : slice_get items i ≡ Some clause.Overwritten = subst (λ k. slice_get items k ≡ Some clause.Overwritten) last one.1.0.2 in
+          (more m).1 (inr (one.0, (get_or_from_slice_get items i clause.Overwritten d is, subst IsBroken (sym same) one.1.1)))
+    ]
+  ],
+)
+
+-- all are passed
+pub adds-all : (n : ℕ) (items : List Clause) (i : ℕ) (j : Judge) (allowed : Clauses) (P : Type 0) (a b : Session)
+    → slice_get items 1 ≡ Some clause.Overwritten → length items ≤ i → j.allowed ≡ allowed → (Has j.watch.found.broken clause.Overwritten ↔ P)
+    → AddsFinding n (Passed items i × IsBroken j) a b → AddsFinding n (P × (Has allowed clause.Overwritten → ⊥)) a b
+adds-all n items i j allowed P a b listed end same broken adds m = (
+  λ now. elim ((adds m).0 now) [
+    | inl was ↦ inl was
+    | inr one ↦ inr (one.0, (broken.0 one.1.1.0, λ is. one.1.1.1 (subst (λ (x : Clauses). Has x clause.Overwritten) (sym same) is)))
+  ],
+  λ some. elim some [
+    | inl was ↦ (adds m).1 (inl was)
+    | inr one ↦
+        let within : 1 < length items = slice_get_within items 1 clause.Overwritten listed in
+        (adds m).1 (inr (one.0, ((1, omega (arith, within, end), listed), (broken.1 one.1.0, λ is. one.1.1 (subst (λ (x : Clauses). Has x clause.Overwritten) same is)))))
+  ],
+)
+
+-- ---- one more step
+
+last-is : {A : Type 0} (xs : List A) (y : A) → slice_get (xs ++ y ∷ []) (length xs) ≡ Some y
+last-is [] y = refl
+last-is (x ∷ xs) y = last-is xs y
+
+first-are : {A : Type 0} (xs : List A) (y : A) (i : ℕ) (x : A) → slice_get xs i ≡ Some x → slice_get (xs ++ y ∷ []) i ≡ Some x
+first-are [] y i x is = absurd (cc is)
+first-are (z ∷ xs) y zero x is = is
+first-are (z ∷ xs) y (suc i) x is = first-are xs y i x is
+
+begun-after : (xs : List Numbered) (y : Numbered) → nat_lt 0 (length (xs ++ y ∷ [])) ≡ true
+begun-after xs y = let long = length_push xs y in lt-ltb 0 (length (xs ++ y ∷ [])) (omega (arith, long))
+
+-- the lines of the steps of a log
+abbrev number-by : Option Numbered → ℕ
+number-by None = 0
+number-by (Some x) = x.number
+
+abbrev line-at : Log → ℕ → ℕ
+line-at l k = number-by (slice_get l.steps k)
+
+module _ (number : ℕ) (l : Log) (x : Step) (s t : Session) (read : HasRead number l s) where
+  abbrev one : Numbered
+  one = record { number = number; step = x }
+
+  abbrev longer : Log
+  longer = record l { steps = l.steps ++ one ∷ [] }
+
+  own-lines : AreLinesOf (suc number) longer (line-at longer)
+  own-lines = record {
+    steps = λ k y is. ap number-by is;
+    opening = λ none. absurd (let none' : length (l.steps ++ one ∷ []) ≡ 0 = ap length none in let long = length_push l.steps one in omega (arith, none', long));
+  }
+
+  lines-before : (lines : ℕ → ℕ) → AreLinesOf (suc number) longer lines → AreLinesOf number l lines
+  lines-before lines are = record {
+    steps = λ k y is. are.steps k y (first-are l.steps one k y is);
+    opening = λ none.
+        let same : lines 0 ≡ number = are.steps 0 one (subst (λ (xs : List Numbered). slice_get (xs ++ one ∷ []) 0 ≡ Some one) (sym none) refl) in
+        omega (arith, same);
+  }
+
+  told-before : (lines : ℕ → ℕ) → AreLinesOf (suc number) longer lines → IsToldAt lines longer (length l.steps) s.judge.known
+  told-before lines are = told-longer lines l one (length l.steps) s.judge.known (omega arith) (read.told lines (lines-before lines are))
+
+  here : (lines : ℕ → ℕ) → AreLinesOf (suc number) longer lines → lines (length l.steps) ≡ number
+  here lines are = are.steps (length l.steps) one (last-is l.steps one)
+
+  -- a session that judges a step has read the log with it
+  pub step-read : KeepsHead (record s { has_begun = true }) t
+      → ((lines : ℕ → ℕ) (m : Log) (i : ℕ) → IsToldAt lines m i s.judge.known → slice_get m.steps i ≡ Some (record { number = number; step = x })
+      → lines i ≡ number → number < 4294967295 → HasFolders (at m i) x.call → IsToldAt lines m (suc i) t.judge.known)
+      → ((lines : ℕ → ℕ) (m : Log) (i : ℕ) → IsToldAt lines m i s.judge.known → slice_get m.steps i ≡ Some (record { number = number; step = x })
+      → lines i ≡ number → number < 4294967295 → HasFolders (at m i) x.call
+      → AddsFinding number (Overwritten (turn m i x) × (Has s.judge.allowed clause.Overwritten → ⊥)) s t)
+      → number < 4294967295 → HasFolders (at l (length l.steps)) x.call → HasRead (suc number) longer t
+  step-read keeps told found short there =
+      let i : ℕ = length l.steps in
+      let same : at l i ≡ at longer i = sym (ap (λ (m : Moment). m.state) (same-moment l one i (omega arith))) in
+      let there' : HasFolders (at longer i) x.call = subst (λ (st : State). HasFolders st x.call) same there in
+      let adds : AddsFinding number (Overwritten (turn longer i x) × (Has s.judge.allowed clause.Overwritten → ⊥)) s t =
+      found (line-at longer) longer i (told-before (line-at longer) own-lines) (last-is l.steps one) (here (line-at longer) own-lines) short there' in
+      let long : suc i ≡ length longer.steps = (let more = length_push l.steps one in omega (arith, more)) in
+      record {
+        folders = keeps.folders ∙ read.folders;
+        begun = keeps.begun ∙ sym (begun-after l.steps one);
+        housed = read.housed;
+        told = λ lines are. subst (λ k. IsToldAt lines longer k t.judge.known) long
+            (told lines longer i (told-before lines are) (last-is l.steps one) (here lines are) short there');
+        waits = ap (λ (w : Stretch). w.steps.items) keeps.stretch ∙ read.waits;
+        moved = ap (λ (w : Stretch). w.moved.entries) keeps.stretch ∙ read.moved;
+        allowed = (
+          λ is. read.allowed.0 (subst (λ (a : Clauses). Has a clause.Overwritten) keeps.allowed is),
+          λ is. subst (λ (a : Clauses). Has a clause.Overwritten) (sym keeps.allowed) (read.allowed.1 is),
+        );
+        found = λ m. (
+          λ now. elim ((adds m).0 now) [
+            | inl was ↦ (finding-longer l one m).1 (inl ((read.found m).0 was))
+            | inr new ↦ (finding-longer l one m).1 (inr (new.0, (λ is. new.1.1 (read.allowed.1 is)), new.1.0))
+          ],
+          λ is. elim ((finding-longer l one m).0 is) [
+            | inl was ↦ (adds m).1 (inl ((read.found m).1 was))
+            | inr new ↦ (adds m).1 (inr (new.0, (new.2, λ has. new.1 (read.allowed.0 has))))
+          ],
+        );
+      }
+
+  -- also where the session is one that has begun just now, and where the judging may be refused
+  pub step-read-on : (now : Session) → now ≡ record s { has_begun = true } → (r : Result (Unit {0}) LineFault) → OnOk r (KeepsHead now t)
+      → ((lines : ℕ → ℕ) (m : Log) (i : ℕ) → IsToldAt lines m i now.judge.known → slice_get m.steps i ≡ Some (record { number = number; step = x })
+      → lines i ≡ number → number < 4294967295 → HasFolders (at m i) x.call → OnOk r (IsToldAt lines m (suc i) t.judge.known))
+      → ((lines : ℕ → ℕ) (m : Log) (i : ℕ) → IsToldAt lines m i now.judge.known → slice_get m.steps i ≡ Some (record { number = number; step = x })
+      → lines i ≡ number → number < 4294967295 → HasFolders (at m i) x.call
+      → OnOk r (AddsFinding number (Overwritten (turn m i x) × (Has now.judge.allowed clause.Overwritten → ⊥)) now t))
+      → number < 4294967295 → HasFolders (at l (length l.steps)) x.call → OnOk r (HasRead (suc number) longer t)
+  step-read-on now same r keeps told found short there = on-ok-by r (HasRead (suc number) longer t) (λ holds.
+      step-read (subst (λ (v : Session). KeepsHead v t) same (holds (KeepsHead now t) keeps))
+      (λ lines m i was is at-line low in-folder. holds (IsToldAt lines m (suc i) t.judge.known)
+      (told lines m i (subst (λ (v : Session). IsToldAt lines m i v.judge.known) (sym same) was) is at-line low in-folder))
+      (λ lines m i was is at-line low in-folder.
+      subst (λ (v : Session). AddsFinding number (Overwritten (turn m i x) × (Has v.judge.allowed clause.Overwritten → ⊥)) v t) same
+      (holds (AddsFinding number (Overwritten (turn m i x) × (Has now.judge.allowed clause.Overwritten → ⊥)) now t)
+      (found lines m i (subst (λ (v : Session). IsToldAt lines m i v.judge.known) (sym same) was) is at-line low in-folder)))
+      short there)
+
+-- ---- one more line of the beginning
+
+no-step : (xs : List Numbered) → xs ≡ [] → (k : ℕ) (y : Numbered) → slice_get xs k ≡ Some y → ⊥
+no-step xs none k y is = let is' : slice_get [] k ≡ Some y = subst (λ (zs : List Numbered). slice_get zs k ≡ Some y) none is in cc is'
+
+module _ (number : ℕ) (l l' : Log) (s t : Session) (read : HasRead number l s) (none : l.steps ≡ []) (still : l'.steps ≡ []) where
+  -- a session that takes in a line of the beginning has read the log with it
+  pub head-read : t.folders ≡ l'.folders → t.has_begun ≡ s.has_begun → t.stretch ≡ s.stretch → t.findings.items ≡ s.findings.items
+      → l'.opening.folders ≡ length l'.folders
+      → ((lines : ℕ → ℕ) → number < lines 0 → IsToldAt lines l 0 s.judge.known → IsToldAt lines l' 0 t.judge.known)
+      → (Has t.judge.allowed clause.Overwritten ↔ IsAllowed l' clause.Overwritten) → HasRead (suc number) l' t
+  head-read folders begun stretch findings housed told allowed = record {
+    folders = folders;
+    begun = begun ∙ read.begun ∙ ap (λ (xs : List Numbered). nat_lt 0 (length xs)) (none ∙ sym still);
+    housed = housed;
+    told = λ lines are.
+        let early : suc number ≤ lines 0 = are.opening still in
+        let before : AreLinesOf number l lines = record { steps = λ k y is. absurd (no-step l.steps none k y is); opening = λ none. omega (arith, early) } in
+        let was : IsToldAt lines l 0 s.judge.known =
+        subst (λ (xs : List Numbered). IsToldAt lines l (length xs) s.judge.known) none (read.told lines before) in
+        subst (λ (xs : List Numbered). IsToldAt lines l' (length xs) t.judge.known) (sym still) (told lines (omega (arith, early)) was);
+    waits = ap (λ (w : Stretch). w.steps.items) stretch ∙ read.waits;
+    moved = ap (λ (w : Stretch). w.moved.entries) stretch ∙ read.moved;
+    allowed = allowed;
+    found = λ m. (
+      λ among. absurd (finding-none l m clause.Overwritten none
+          ((read.found m).0 (subst (λ (fs : List Finding). IsAmong fs m clause.Overwritten) findings among))),
+      λ is. absurd (finding-none l' m clause.Overwritten still is),
+    );
+  }
+
+-- a session that passes over a line has read the same log
+pub over-read : (number : ℕ) (l : Log) (s : Session) → HasRead number l s → HasRead (suc number) l s
+over-read number l s read = record {
+  folders = read.folders;
+  begun = read.begun;
+  housed = read.housed;
+  told = λ lines are. read.told lines (record { steps = are.steps; opening = λ none. let early = are.opening none in omega (arith, early) });
+  waits = read.waits;
+  moved = read.moved;
+  allowed = read.allowed;
+  found = read.found;
+}
+
+-- what a log keeps by a line of a file or of a further name
+abbrev pub KeepsRest : Log → Log → Type 0
+KeepsRest l l' = (l'.steps ≡ l.steps) × ((l'.folders ≡ l.folders) × (l'.allowed ≡ l.allowed))
+
+rest-same : (l m l' : Log) → KeepsRest l m → m ≡ l' → KeepsRest l l'
+rest-same l m l' keeps same = subst (λ (n : Log). KeepsRest l n) same keeps
+
+pub file-rest : (l l' : Log) (path : Path) (stamp : ℕ) → with_file_line l path stamp ≡ Ok l' → KeepsRest l l'
+unfolding with_file_line
+file-rest l l' path stamp is = by (is_some (file_at l.opening path)) is
+  where
+    by : (b : Bool) → (require (not b) SamePath >>= (λ _. Ok (record l { opening = with_new_file path (empty_file stamp) l.opening; clock = max l.clock stamp }))) ≡ Ok l'
+        → KeepsRest l l'
+    by true is = absurd (cc)
+    by false is =
+        let same : record l { opening = with_new_file path (empty_file stamp) l.opening; clock = max l.clock stamp } ≡ l' = cc in
+        rest-same l (record l { opening = with_new_file path (empty_file stamp) l.opening; clock = max l.clock stamp }) l' (refl, (refl, refl)) same
+
+pub also-rest : (l l' : Log) (path old : Path) → with_also_line l path old ≡ Ok l' → KeepsRest l l'
+unfolding with_also_line
+also-rest l l' path old is = by (is_some (file_at l.opening path)) (is_some (file_at l.opening old)) is
+  where
+    by : (a b : Bool) → (require (not a) SamePath >>= (λ _. require b NoSuchPath >>= (λ _. Ok (record l { opening = with_path path l.opening (file_at l.opening old) })))) ≡ Ok l'
+        → KeepsRest l l'
+    by true b is = absurd (cc)
+    by false false is = absurd (cc)
+    by false true is =
+        let same : record l { opening = with_path path l.opening (file_at l.opening old) } ≡ l' = cc in
+        rest-same l (record l { opening = with_path path l.opening (file_at l.opening old) }) l' (refl, (refl, refl)) same
+
+with-folders : (l l' : Log) (name : List ℕ) (fs : List (List ℕ)) → with_folder l.folders name ≡ Ok fs → with_folder_line l name ≡ Ok l'
+    → record l { folders = fs; opening = record l.opening { folders = length fs } } ≡ l'
+unfolding with_folder_line
+with-folders l l' name fs has is =
+    let now : Ok (record l { folders = fs; opening = record l.opening { folders = length fs } }) ≡ Ok l' =
+    subst (λ (r : Result (List (List ℕ)) LineFault). (r >>= (λ folders. Ok (record l { folders = folders; opening = record l.opening { folders = length folders } }))) ≡ Ok l') has is in
+    cc now
+
+one-folder : (fs more : List (List ℕ)) (name : List ℕ) → with_folder fs name ≡ Ok more → length more ≡ suc (length fs)
+unfolding with_folder
+one-folder fs more name is = by (is_none (place_of fs name)) (nat_lt (length fs) most_folders) is
+  where
+    by : (a b : Bool) → (require a SameFolder >>= (λ _. require b TooManyFolders >>= (λ _. Ok (fs ++ name ∷ [])))) ≡ Ok more → length more ≡ suc (length fs)
+    by false b is = absurd (cc)
+    by true false is = absurd (cc)
+    by true true is = let same : fs ++ name ∷ [] ≡ more = cc is in ap length (sym same) ∙ (let long = length_push fs name in omega (arith, long))
+
+one-allowed : (cs : List Clause) (c : Clause) (k : ℕ) → slice_get (c ∷ cs) k ≡ Some clause.Overwritten
+    → ((n : ℕ) × (slice_get cs n ≡ Some clause.Overwritten)) ⊎ (clause.Overwritten ≡ c)
+one-allowed cs c zero is = inr (cc is)
+one-allowed cs c (suc k) is = inl (k, is)
+
+-- a clause is allowed
+pub allow-read : (number : ℕ) (l l' : Log) (s t : Session) (c : Clause) → HasRead number l s → l.steps ≡ [] → record l { allowed = c ∷ l.allowed } ≡ l'
+    → t.folders ≡ s.folders → t.has_begun ≡ s.has_begun → t.stretch ≡ s.stretch → t.findings.items ≡ s.findings.items
+    → t.judge.known ≡ s.judge.known → ((o : Clause) → Has t.judge.allowed o ↔ (Has s.judge.allowed o ⊎ (o ≡ c))) → HasRead (suc number) l' t
+allow-read number l l' s t c read none same folders begun stretch findings known adds =
+    let new : Log = record l { allowed = c ∷ l.allowed } in
+    subst (λ (m : Log). HasRead (suc number) m t) same
+    (head-read number l new s t read none none (folders ∙ read.folders) begun stretch findings read.housed
+    (λ lines low told. subst (λ (k : Known). IsToldAt lines new 0 k) (sym known) (opening-told lines l new s.judge.known refl told)) (
+      λ has. elim ((adds clause.Overwritten).0 has) [
+        | inl was ↦ let before = read.allowed.0 was in (suc before.0, before.1)
+        | inr is ↦ (0, ap Some (sym is))
+      ],
+      λ is. elim (one-allowed l.allowed c is.0 is.1) [
+        | inl was ↦ (adds clause.Overwritten).1 (inl (read.allowed.1 was))
+        | inr now ↦ (adds clause.Overwritten).1 (inr now)
+      ],
+    ))
+
+module _ (number : ℕ) (l l' : Log) (s t : Session) (read : HasRead number l s) (none : l.steps ≡ []) (begun : t.has_begun ≡ s.has_begun)
+    (stretch : t.stretch ≡ s.stretch) (findings : t.findings.items ≡ s.findings.items) (k : Known) (same : k ≡ s.judge.known) (a : Clauses)
+    (alike : a ≡ s.judge.allowed) (r : Result (Unit {0}) LineFault) (keeps : OnOk r (t.judge.allowed ≡ a)) where
+  still-allowed : l'.allowed ≡ l.allowed → t.judge.allowed ≡ a → Has t.judge.allowed clause.Overwritten ↔ IsAllowed l' clause.Overwritten
+  still-allowed rest now = (
+    λ has. let was = read.allowed.0 (subst (λ (x : Clauses). Has x clause.Overwritten) (now ∙ alike) has) in
+        (was.0, ap (λ (cs : List Clause). slice_get cs was.0) rest ∙ was.1),
+    λ is. subst (λ (x : Clauses). Has x clause.Overwritten) (sym (now ∙ alike))
+        (read.allowed.1 (is.0, ap (λ (cs : List Clause). slice_get cs is.0) (sym rest) ∙ is.1)),
+  )
+
+  -- a folder is added
+  pub folder-read : (name : List ℕ) → with_folder s.folders name ≡ Ok t.folders → with_folder_line l name ≡ Ok l'
+      → ((lines : ℕ → ℕ) (m m' : Log) → IsToldAt lines m 0 k → m'.opening ≡ record m.opening { folders = suc m.opening.folders }
+      → OnOk r (IsToldAt lines m' 0 t.judge.known)) → OnOk r (HasRead (suc number) l' t)
+  folder-read name has is told = on-ok-by r (HasRead (suc number) l' t) (λ holds.
+      let has' : with_folder l.folders name ≡ Ok t.folders = subst (λ (fs : List (List ℕ)). with_folder fs name ≡ Ok t.folders) read.folders has in
+      let now : record l { folders = t.folders; opening = record l.opening { folders = length t.folders } } ≡ l' = with-folders l l' name t.folders has' is in
+      let more : length t.folders ≡ suc l.opening.folders = one-folder l.folders t.folders name has' ∙ ap suc (sym read.housed) in
+      let opening : l'.opening ≡ record l.opening { folders = suc l.opening.folders } =
+      ap (λ (m : Log). m.opening) (sym now) ∙ ap (λ n. record l.opening { folders = n }) more in
+      head-read number l l' s t read none (ap (λ (m : Log). m.steps) (sym now) ∙ none) (ap (λ (m : Log). m.folders) now) begun stretch findings
+      (ap (λ (m : Log). m.opening.folders) (sym now) ∙ ap (λ (m : Log). length m.folders) now)
+      (λ lines low was. holds (IsToldAt lines l' 0 t.judge.known) (told lines l l' (subst (λ (x : Known). IsToldAt lines l 0 x) (sym same) was) opening))
+      (still-allowed (ap (λ (m : Log). m.allowed) (sym now)) (holds (t.judge.allowed ≡ a) keeps)))
+
+  -- a path is put
+  pub path-read : KeepsRest l l' → l'.opening.folders ≡ length l'.folders → t.folders ≡ s.folders
+      → ((lines : ℕ → ℕ) → IsToldAt lines l 0 k → number < lines 0 → OnOk r (IsToldAt lines l' 0 t.judge.known)) → OnOk r (HasRead (suc number) l' t)
+  path-read rest housed folders told = on-ok-by r (HasRead (suc number) l' t) (λ holds.
+      head-read number l l' s t read none (rest.0 ∙ none) (folders ∙ read.folders ∙ sym rest.1.0) begun stretch findings housed
+      (λ lines low was. holds (IsToldAt lines l' 0 t.judge.known) (told lines (subst (λ (x : Known). IsToldAt lines l 0 x) (sym same) was) low))
+      (still-allowed rest.1.1 (holds (t.judge.allowed ≡ a) keeps)))
+
+-- ---- the text of a line
+
+-- a line that is passed over adds nothing
+pub text-over : (number : ℕ) (l l' : Log) (text : List ℕ) → is_passed_over text ≡ true → with_text l number text ≡ Ok l' → l ≡ l'
+unfolding with_text
+text-over number l l' text over is =
+    let now : Ok l ≡ Ok l' =
+    subst (λ b. (if b then Ok l else (line_of l.folders (has_begun l) text >>= (λ line. with_line l number line))) ≡ Ok l') over is in
+    cc now
+
+-- what another line says is added
+pub text-line : (number : ℕ) (l l' : Log) (s : Session) (text : List ℕ) (line : Line) → HasRead number l s → is_passed_over text ≡ false
+    → line_of s.folders s.has_begun text ≡ Ok line → with_text l number text ≡ Ok l' → with_line l number line ≡ Ok l'
+unfolding with_text
+text-line number l l' s text line read over has is =
+    let has' : line_of l.folders (has_begun l) text ≡ Ok line = sym (λ i. line_of (read.folders i) (read.begun i) text) ∙ has in
+    subst (λ (r : Result Line LineFault). (r >>= (λ line. with_line l number line)) ≡ Ok l') has'
+    (subst (λ b. (if b then Ok l else (line_of l.folders (has_begun l) text >>= (λ line. with_line l number line))) ≡ Ok l') over is)
+
+-- the folders of its paths are there
+pub same-folders : (number : ℕ) (l : Log) (s : Session) (i : ℕ) → HasRead number l s → (at l i).folders ≡ length s.folders
+same-folders number l s i read = folders-stay l i ∙ read.housed ∙ ap length (sym read.folders)
+
+pub no-ticks : (number : ℕ) (l l' : Log) (x : Step) → record l { steps = l.steps ++ record { number = number; step = x } ∷ [] } ≡ l' → HasNoTicks l' → x.ticks ≡ None
+no-ticks number l l' x same none =
+    subst (λ (m : Log). HasNoTicks m) (sym same) none (length l.steps) (record { number = number; step = x }) (last-is l.steps (record { number = number; step = x }))
+
+abbrev IsStepLine : Line → Type 0
+IsStepLine (line.Step x) = Unit {0}
+IsStepLine v = ⊥
+
+-- once steps have begun a line is a step
+late : (folders : List (List ℕ)) (text : List ℕ) → IfOk (line_of folders true text) IsStepLine
+unfolding line_of
+late folders text = by (word_at (Some text))
+  where
+    by-step : (r : Result Step LineFault) → IfOk (r >>= (λ step. Ok (line.Step step))) IsStepLine
+    by-step (Err fault) = tt
+    by-step (Ok x) = tt
+
+    by-head : (h : Option _) (first : List ℕ) (rest : Option (List ℕ)) → IfOk (line_by folders true h first rest) IsStepLine
+    by-head (Some h) first rest = tt
+    by-head None first rest = by-step (step_line folders first rest)
+
+    by : (r : Result (List ℕ × Option (List ℕ)) LineFault) → IfOk (r >>= (λ first. line_by folders true (head_of first.0) first.0 first.1)) IsStepLine
+    by (Err fault) = tt
+    by (Ok first) = by-head (head_of first.0) first.0 first.1
+
+no-steps : (xs : List Numbered) → nat_lt 0 (length xs) ≡ false → xs ≡ []
+no-steps [] none = refl
+no-steps (x ∷ xs) none = absurd (let some : nat_lt 0 (length (x ∷ xs)) ≡ true = lt-ltb 0 (length (x ∷ xs)) (omega arith) in cc (some, none))
+
+step-alone : (v : Line) → ((x : Step) → v ≡ line.Step x → ⊥) → IsStepLine v → ⊥
+step-alone (line.Folder name) other is = is
+step-alone (line.Allow c) other is = is
+step-alone (line.File path stamp) other is = is
+step-alone (line.Also path old) other is = is
+step-alone (line.Step x) other is = other x refl
+
+module _ (number : ℕ) (l : Log) (s : Session) (text : List ℕ) (read : HasRead number l s) where
+  -- a line that is no step comes before the first one
+  pub none-yet : (v : Line) → ((x : Step) → v ≡ line.Step x → ⊥) → line_of s.folders s.has_begun text ≡ Ok v → l.steps ≡ []
+  none-yet v other is = by s.has_begun is read.begun
+    where
+      by : (b : Bool) → line_of s.folders b text ≡ Ok v → b ≡ has_begun l → l.steps ≡ []
+      by true is begun = absurd (step-alone v other (IfOk-at_ok IsStepLine is (late s.folders text)))
+      by false is begun = no-steps l.steps (sym begun)
+
+  -- and its path is in a folder that is there
+  pub is-head : (v : Line) → ((x : Step) → v ≡ line.Step x → ⊥) → line_of s.folders s.has_begun text ≡ Ok v → IsHeadOf l.opening v
+  is-head (line.Folder name) other is = tt
+  is-head (line.Allow c) other is = tt
+  is-head (line.File path stamp) other is = file-housed s.folders s.has_begun text path stamp l.opening (read.housed ∙ ap length (sym read.folders)) is
+  is-head (line.Also path old) other is = also-housed s.folders s.has_begun text path old l.opening (read.housed ∙ ap length (sym read.folders)) is
+  is-head (line.Step x) other is = absurd (other x refl)
