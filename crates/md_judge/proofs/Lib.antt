@@ -30,3 +30,4 @@ pub mod Sparing
 pub mod Prefixes
 pub mod Housed
 pub mod Verdicts
+pub mod Whole

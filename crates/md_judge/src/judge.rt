@@ -65,6 +65,7 @@ pub(crate) struct Judge {
 impl Judge {
     pub(crate) fn new(alloc: Global) -> Self
         ensures told { (lines : ℕ → ℕ) → IsToldAt lines empty_log 0 result.known }
+        ensures allowed { (c : Clause) → Has result.allowed c → ⊥ }
     {
         Judge {
             alloc,

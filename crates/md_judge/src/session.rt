@@ -3,7 +3,7 @@ ghost use Rattle.std.specs.Prelude.{ℕ, suc, ◌≡◌, ◌<◌, ◌++◌, ◌�
 ghost use Rattle.md_log.specs.declared.clause.Clause.TheVariants as clause;
 ghost use Rattle.md_judge.specs.Found.{Has};
 ghost use Rattle.md_judge.specs.Law.{Overwritten, turn};
-ghost use Rattle.md_judge.specs.Logs.{Log, is_passed_over, with_line, with_text};
+ghost use Rattle.md_judge.specs.Logs.{Log, empty_log, is_passed_over, with_line, with_text};
 ghost use Rattle.md_judge.specs.Recalled.{IsToldAt, HasFolders};
 ghost use Rattle.md_judge.specs.Told.{at};
 ghost use Rattle.md_judge.specs.Verdict.{HasNoTicks, HasRead, IsHeadOf, IsOverwritten, IsBroken, AddsFinding, KeepsHead};
@@ -37,6 +37,13 @@ pub struct Session {
 impl Session {
     /// A log of which no line was read.
     pub fn new(alloc: Global) -> Self {
+        Session::begin(alloc)
+    }
+
+    /// The same, for the proofs of this crate.
+    pub(crate) fn begin(alloc: Global) -> Self
+        ensures read { HasRead 2 empty_log result }
+    {
         Session {
             alloc,
             folders: Folders::new(alloc),
@@ -76,7 +83,9 @@ impl Session {
     }
 
     /// Judges what waits, and puts the findings in the order of their lines.
-    pub(crate) fn finish(&mut self) -> Result<(), LogFault> {
+    pub(crate) fn finish(&mut self) -> Result<(), LogFault>
+        ensures found { self.old.stretch.steps.items ≡ [] → self.old.stretch.moved.entries ≡ [] → OnOk result (self.new.findings ≡ self.old.findings) }
+    {
         self.judge_stretch()?;
         let line = self.lines;
         if self.stretch.is_in_order() {
@@ -112,7 +121,9 @@ impl Session {
         self.passages.words(finding)
     }
 
-    pub(crate) fn into_findings(self) -> Vec<Finding> {
+    pub(crate) fn into_findings(self) -> Vec<Finding>
+        ensures { result ≡ self.findings }
+    {
         let Session {
             alloc: _,
             folders: _,
