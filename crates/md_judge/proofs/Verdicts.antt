@@ -28,10 +28,10 @@ use Rattle.md_judge.specs.declared.log.Finding.{Finding}
 use Rattle.md_judge.specs.declared.session.Session.{Session}
 use Rattle.md_judge.specs.declared.stretch.Stretch.{Stretch}
 use Rattle.md_judge.specs.Found.{Has}
-use Rattle.md_judge.specs.Law.{turn, Overwritten, IsAllowed, IsFinding}
+use Rattle.md_judge.specs.Law.{turn, Overwritten, IsAllowed}
 use Rattle.md_judge.specs.Logs.{Log, Numbered, is_passed_over, has_begun, with_line, with_text, with_folder_line, with_file_line, with_also_line}
 use Rattle.md_judge.specs.Recalled.{IsToldAt, HasFolders}
-use Rattle.md_judge.specs.Told.{Moment, at, moment}
+use Rattle.md_judge.specs.Told.{Moment, at}
 use Rattle.md_judge.specs.Verdict.{HasNoTicks, IsAmong, AreLinesOf, HasRead, IsHeadOf, IsOverwritten, IsBroken, AddsFinding, KeepsHead}
 use Rattle.md_judge.proofs.Housed.{folders-stay, file-housed, also-housed}
 use Rattle.md_judge.proofs.Prefixes.{same-moment, told-longer, finding-longer, finding-none, opening-told}

@@ -1,17 +1,146 @@
--- What is so of a log of which no line was read.
-use Rattle.std.proofs.Common.{ℕ, ◌≡◌, List, [], Some, slice_get, subst}
+-- What is read of a whole log, line by line.
+use Rattle.std.proofs.Common.{ℕ, zero, suc, ◌≡◌, ◌↔◌, length, List, [], ◌∷◌, ◌++◌, Some, Result, Ok, Err, slice_get, refl, sym, ap, subst, true, false, Bool}
+use Rattle.std.specs.Prelude.{if◌then◌else◌, codes}
+use Rattle.std.specs.Str.{bytes_eq}
+use Rattle.md_head.specs.Header.{lines_of}
+use Rattle.md_log.specs.Bind.{◌>>=◌}
+use Rattle.md_log.specs.Lines.{line_of}
+use Rattle.md_log.specs.Folders.{with_folder}
 use Rattle.md_log.specs.declared.clause.Clause.{Clause}
+use Rattle.md_log.specs.declared.clause.Clause.TheVariants as clause
+use Rattle.md_log.specs.declared.error.LineFault.{LineFault}
+use Rattle.md_log.specs.declared.error.LineFault.TheVariants.{NoLog}
+use Rattle.md_log.specs.declared.line.Line.{Line}
+use Rattle.md_log.specs.declared.line.Line.TheVariants as line
 use Rattle.md_judge.specs.declared.log.Finding.{Finding}
-use Rattle.md_judge.specs.Law.{IsAllowed}
-use Rattle.md_judge.specs.Logs.{empty_log}
-use Rattle.md_judge.specs.Verdict.{IsAmong}
+use Rattle.md_judge.specs.declared.session.Session.{Session}
+use Rattle.md_judge.specs.Law.{IsAllowed, IsFinding}
+use Rattle.md_judge.specs.Logs.{Log, Numbered, empty_log, is_passed_over, has_begun, with_line, with_text, with_folder_line, with_lines, at_line, and_then, log_by, log_of}
+use Rattle.md_judge.specs.Verdict.{HasNoTicks, IsAmong, HasRead}
+use Rattle.md_judge.proofs.Verdicts.{file-rest, also-rest}
 
--- nothing is found
+-- ---- a log of which no line was read
+
 pub none-among : (found : List Finding) (n : ℕ) (c : Clause) → found ≡ [] → IsAmong found n c → ⊥
 none-among found n c none among =
     let is : slice_get [] among.0 ≡ Some among.1 = subst (λ (fs : List Finding). slice_get fs among.0 ≡ Some among.1) none among.2 in
     cc is
 
--- each clause is judged
 pub none-allowed : (c : Clause) → IsAllowed empty_log c → ⊥
 none-allowed c is = let is' : slice_get [] is.0 ≡ Some c = is.1 in cc is'
+
+-- ---- the lines of a log
+
+-- each step of one log has its place in another
+abbrev pub IsBefore : Log → Log → Type 0
+IsBefore l l' = (k : ℕ) (x : Numbered) → slice_get l.steps k ≡ Some x → slice_get l'.steps k ≡ Some x
+
+same-before : (l l' : Log) → l'.steps ≡ l.steps → IsBefore l l'
+same-before l l' same k x is = subst (λ (xs : List Numbered). slice_get xs k ≡ Some x) (sym same) is
+
+stays : {A : Type 0} (xs : List A) (y : A) (i : ℕ) (x : A) → slice_get xs i ≡ Some x → slice_get (xs ++ y ∷ []) i ≡ Some x
+stays [] y i x is = absurd (cc is)
+stays (z ∷ xs) y zero x is = is
+stays (z ∷ xs) y (suc i) x is = stays xs y i x is
+
+folder-steps : (l l' : Log) (name : List ℕ) → with_folder_line l name ≡ Ok l' → l'.steps ≡ l.steps
+unfolding with_folder_line
+folder-steps l l' name is = by (with_folder l.folders name) is
+  where
+    by : (r : Result (List (List ℕ)) LineFault)
+        → (r >>= (λ folders. Ok (record l { folders = folders; opening = record l.opening { folders = length folders } }))) ≡ Ok l' → l'.steps ≡ l.steps
+    by (Err fault) is = absurd (cc is)
+    by (Ok fs) is =
+        let same : record l { folders = fs; opening = record l.opening { folders = length fs } } ≡ l' = cc is in ap (λ (m : Log). m.steps) (sym same)
+
+line-before : (l l' : Log) (number : ℕ) (v : Line) → with_line l number v ≡ Ok l' → IsBefore l l'
+line-before l l' number (line.Folder name) is = same-before l l' (folder-steps l l' name is)
+line-before l l' number (line.Allow c) is =
+    let same : record l { allowed = c ∷ l.allowed } ≡ l' = cc is in same-before l l' (ap (λ (m : Log). m.steps) (sym same))
+line-before l l' number (line.File path stamp) is = same-before l l' (file-rest l l' path stamp is).0
+line-before l l' number (line.Also path old) is = same-before l l' (also-rest l l' path old is).0
+line-before l l' number (line.Step step) is =
+    let one : Numbered = record { number = number; step = step } in
+    let same : record l { steps = l.steps ++ one ∷ [] } ≡ l' = cc is in
+    λ k x has. subst (λ (m : Log). slice_get m.steps k ≡ Some x) same (stays l.steps one k x has)
+
+text-before : (l l' : Log) (number : ℕ) (text : List ℕ) → with_text l number text ≡ Ok l' → IsBefore l l'
+unfolding with_text
+text-before l l' number text is = by (is_passed_over text) (line_of l.folders (has_begun l) text) is
+  where
+    by : (b : Bool) (r : Result Line LineFault) → (if b then Ok l else (r >>= (λ line. with_line l number line))) ≡ Ok l' → IsBefore l l'
+    by true r is = let same : l ≡ l' = cc is in same-before l l' (ap (λ (m : Log). m.steps) (sym same))
+    by false (Ok v) is = line-before l l' number v is
+    by false (Err fault) is = absurd (cc is)
+
+-- the first of the lines is read, and then the others
+pub lines-cut : (m l : Log) (n : ℕ) (text : List ℕ) (texts : List (List ℕ)) → with_lines m n (text ∷ texts) ≡ Ok l
+    → (o : Log) × (with_text m n text ≡ Ok o) × (with_lines o (suc n) texts ≡ Ok l)
+unfolding with_lines
+lines-cut m l n text texts is = by (with_text m n text) refl is
+  where
+    by : (r : Result Log LineFault) → with_text m n text ≡ r → and_then (at_line n r) (λ o. with_lines o (suc n) texts) ≡ Ok l
+        → (o : Log) × (with_text m n text ≡ Ok o) × (with_lines o (suc n) texts ≡ Ok l)
+    by (Ok o) one is = (o, one, is)
+    by (Err fault) one is = absurd (cc is)
+
+-- no line is left
+pub lines-end : (m l : Log) (n : ℕ) → with_lines m n [] ≡ Ok l → m ≡ l
+unfolding with_lines
+lines-end m l n is = let now : Ok m ≡ Ok l = is in cc now
+
+lines-before : (texts : List (List ℕ)) (m l : Log) (n : ℕ) → with_lines m n texts ≡ Ok l → IsBefore m l
+lines-before [] m l n is = same-before m l (ap (λ (o : Log). o.steps) (sym (lines-end m l n is)))
+lines-before (text ∷ texts) m l n is =
+    let cut = lines-cut m l n text texts is in
+    λ k x has. lines-before texts cut.0 l (suc n) cut.2 k x (text-before m cut.0 n text cut.1 k x has)
+
+-- no step has ticks before the last of the lines where none has after it
+pub ticks-before : (texts : List (List ℕ)) (m l : Log) (n : ℕ) → with_lines m n texts ≡ Ok l → HasNoTicks l → HasNoTicks m
+ticks-before texts m l n is none k x has = none k x (lines-before texts m l n is k x has)
+
+-- after the first line come the others
+log-cut : (text head : List ℕ) (texts : List (List ℕ)) (l : Log) → lines_of text ≡ head ∷ texts → log_of text ≡ Ok l → with_lines empty_log 2 texts ≡ Ok l
+unfolding log_of
+log-cut text head texts l cut is = by (bytes_eq head (codes "maildir_log 1")) (subst (λ (ls : List (List ℕ)). log_by ls ≡ Ok l) cut is)
+  where
+    by : (b : Bool) → (if b then with_lines empty_log 2 texts else Err (record { line = 1; fault = NoLog })) ≡ Ok l → with_lines empty_log 2 texts ≡ Ok l
+    by true is = is
+    by false is = absurd (cc is)
+
+-- ---- what a session has read of a whole log
+
+-- A session has read the lines of this text up to one of this number, and these are left.
+abbrev pub HasReadTo : List ℕ → ℕ → List (List ℕ) → Session → Type 0
+HasReadTo text line left s = (l : Log) → log_of text ≡ Ok l → HasNoTicks l
+    → (m : Log) × (with_lines m (suc line) left ≡ Ok l) × HasRead (suc line) m s
+
+-- the first line was read
+pub read-first : (text head : List ℕ) (texts : List (List ℕ)) (s : Session) → lines_of text ≡ head ∷ texts → HasRead 2 empty_log s → HasReadTo text 1 texts s
+read-first text head texts s cut read l is none = (empty_log, log-cut text head texts l cut is, read)
+
+-- one more is
+pub read-next : (text one : List ℕ) (left texts : List (List ℕ)) (line : ℕ) (s t : Session) → left ≡ one ∷ texts → HasReadTo text line left s
+    → ((m o : Log) → HasRead (suc line) m s → with_text m (suc line) one ≡ Ok o → HasNoTicks o → HasRead (suc (suc line)) o t)
+    → HasReadTo text (suc line) texts t
+read-next text one left texts line s t cut read takes l is none =
+    let now = read l is none in
+    let next = lines-cut now.0 l (suc line) one texts (subst (λ (ls : List (List ℕ)). with_lines now.0 (suc line) ls ≡ Ok l) cut now.1) in
+    (next.0, next.2, takes now.0 next.0 now.2 next.1 (ticks-before texts next.0 l (suc (suc line)) next.2 none))
+
+-- all are
+pub read-all : (text : List ℕ) (left : List (List ℕ)) (line : ℕ) (s : Session) → left ≡ [] → HasReadTo text line left s
+    → (l : Log) → log_of text ≡ Ok l → HasNoTicks l → HasRead (suc line) l s
+read-all text left line s end read l is none =
+    let now = read l is none in
+    let same : now.0 ≡ l = lines-end now.0 l (suc line) (subst (λ (ls : List (List ℕ)). with_lines now.0 (suc line) ls ≡ Ok l) end now.1) in
+    subst (λ (m : Log). HasRead (suc line) m s) same now.2
+
+-- once all are read, what was found are the findings
+pub found-all : (text : List ℕ) (left : List (List ℕ)) (line : ℕ) (s t : Session) → left ≡ [] → HasReadTo text line left s
+    → (s.stretch.steps.items ≡ [] → s.stretch.moved.entries ≡ [] → t.findings ≡ s.findings)
+    → (l : Log) → log_of text ≡ Ok l → HasNoTicks l → (n : ℕ) → IsAmong t.findings.items n clause.Overwritten ↔ IsFinding l n clause.Overwritten
+found-all text left line s t end read same l is none n =
+    let all = read-all text left line s end read l is none in
+    let now : t.findings.items ≡ s.findings.items = λ i. (same all.waits all.moved i).items in
+    subst (λ (fs : List Finding). IsAmong fs n clause.Overwritten ↔ IsFinding l n clause.Overwritten) (sym now) (all.found n)

@@ -22,6 +22,7 @@ pub record Numbered : Type 0 where
   pub number : ℕ
   pub step : Step
 
+-- A log: the folders and the clauses that it names, what there is at its beginning, and its steps.
 pub record Log : Type 0 where
   -- the names of the folders, in the order in which they were named
   pub folders : List (List ℕ)
@@ -32,6 +33,7 @@ pub record Log : Type 0 where
   pub clock : ℕ
   pub steps : List Numbered
 
+-- a log of no line
 abbrev pub empty_log : Log
 empty_log = record { folders = []; allowed = []; opening = bare 0; clock = 0; steps = [] }
 

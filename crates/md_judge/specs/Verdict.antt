@@ -1,5 +1,5 @@
 -- What is found of a whole log, and what a session holds that has read one so far.
-use Rattle.std.specs.Prelude.{ℕ, suc, ◌≡◌, ◌<◌, ◌≤◌, ◌↔◌, ◌⊎◌, List, [], Some, None, length, slice_get, true}
+use Rattle.std.specs.Prelude.{ℕ, ◌≡◌, ◌≤◌, ◌↔◌, ◌⊎◌, List, [], Some, None, length, slice_get, true}
 use Rattle.md_dirs.specs.State.{State, has_folder}
 use Rattle.md_log.specs.declared.clause.Clause.{Clause}
 use Rattle.md_log.specs.declared.clause.Clause.TheVariants as clause
