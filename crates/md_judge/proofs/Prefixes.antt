@@ -11,11 +11,12 @@ use Rattle.md_log.specs.declared.clause.Clause.TheVariants as clause
 use Rattle.md_log.specs.declared.line.Step.{Step}
 use Rattle.md_judge.specs.declared.judge.known.Known.{Known}
 use Rattle.md_judge.specs.Claims.{IsSince}
-use Rattle.md_judge.specs.Law.{turn, Overwrites, Overwritten, IsAllowed, IsFinding}
+use Rattle.md_judge.specs.Law.{turn, Breaks, Overwrites, Overwritten, IsAllowed, IsFinding}
 use Rattle.md_judge.specs.Logs.{Log, Numbered}
 use Rattle.md_judge.specs.Readings.{IsHere, RecallsWas}
 use Rattle.md_judge.specs.Recalled.{IsToldAt}
 use Rattle.md_judge.specs.Told.{Moment, after_step, moment, at}
+use Rattle.md_judge.specs.Verdict.{IsProved}
 
 -- a log with one more step
 abbrev pushed : Log → Numbered → Log
@@ -99,6 +100,12 @@ overwritten-longer l n i x low =
     let same : Overwrites (at (pushed l n) i) (at (pushed l n) (suc i)) ≡ Overwrites (at l i) (at l (suc i)) = λ k. Overwrites (old k) (new k) in
     (subst (λ A. A) same, subst (λ A. A) (sym same))
 
+-- a step before it breaks a clause as it did
+pub breaks-longer : (c : Clause) → IsProved c → (l : Log) (n : Numbered) (i : ℕ) (x : Step) → suc i ≤ length l.steps
+    → Breaks c (turn (record l { steps = l.steps ++ n ∷ [] }) i x) ↔ Breaks c (turn l i x)
+breaks-longer clause.Overwritten proved l n i x low = overwritten-longer l n i x low
+breaks-longer c proved l n i x low = absurd proved
+
 -- the step of a number is what it was, and the last is the one more
 step-longer : {A : Type 0} (xs : List A) (y : A) (i : ℕ) → i < length xs → slice_get (xs ++ y ∷ []) i ≡ slice_get xs i
 step-longer [] y i low = absurd (omega (arith, low))
@@ -115,12 +122,11 @@ the-last xs y x i last is =
     cc said
 
 -- with one more step there is found what was, and what the step breaks
-pub finding-longer : (l : Log) (n : Numbered) (number : ℕ)
-    → IsFinding (record l { steps = l.steps ++ n ∷ [] }) number clause.Overwritten
-    ↔ (IsFinding l number clause.Overwritten
-    ⊎ ((n.number ≡ number) × (IsAllowed l clause.Overwritten → ⊥)
-    × Overwritten (turn (record l { steps = l.steps ++ n ∷ [] }) (length l.steps) n.step)))
-finding-longer l n number = (
+pub finding-longer : (c : Clause) → IsProved c → (l : Log) (n : Numbered) (number : ℕ)
+    → IsFinding (record l { steps = l.steps ++ n ∷ [] }) number c
+    ↔ (IsFinding l number c
+    ⊎ ((n.number ≡ number) × (IsAllowed l c → ⊥) × Breaks c (turn (record l { steps = l.steps ++ n ∷ [] }) (length l.steps) n.step)))
+finding-longer c proved l n number = (
   λ found.
       let i : ℕ = found.1.0 in
       let x : Step = found.1.1 in
@@ -128,7 +134,7 @@ finding-longer l n number = (
       elim (cases_lt i (length l.steps)) [
         | inl low ↦ inl (
           found.0,
-          (i, x, sym (step-longer l.steps n i low) ∙ is, (overwritten-longer l n i x (omega (arith, low))).0 found.1.3),
+          (i, x, sym (step-longer l.steps n i low) ∙ is, (breaks-longer c proved l n i x (omega (arith, low))).0 found.1.3),
         )
         | inr high ↦
             let within : i < length (l.steps ++ n ∷ []) = slice_get_within (l.steps ++ n ∷ []) i _ is in
@@ -138,8 +144,8 @@ finding-longer l n number = (
             inr (
               ap (λ (m : Numbered). m.number) same,
               found.0,
-              subst (λ k. Overwritten (turn (pushed l n) k n.step)) last
-                  (subst (λ (y : Step). Overwritten (turn (pushed l n) i y)) (sym (ap (λ (m : Numbered). m.step) same)) found.1.3),
+              subst (λ k. Breaks c (turn (pushed l n) k n.step)) last
+                  (subst (λ (y : Step). Breaks c (turn (pushed l n) i y)) (sym (ap (λ (m : Numbered). m.step) same)) found.1.3),
             )
       ],
   λ found. elim found [
@@ -147,7 +153,7 @@ finding-longer l n number = (
         let i : ℕ = before.1.0 in
         let low : i < length l.steps = slice_get_within l.steps i _ before.1.2 in (
           before.0,
-          (i, before.1.1, step-longer l.steps n i low ∙ before.1.2, (overwritten-longer l n i before.1.1 (omega (arith, low))).1 before.1.3),
+          (i, before.1.1, step-longer l.steps n i low ∙ before.1.2, (breaks-longer c proved l n i before.1.1 (omega (arith, low))).1 before.1.3),
         )
     | inr more ↦
         let same : n ≡ record { number = number; step = n.step } = λ k. record { number = more.0 k; step = n.step } in

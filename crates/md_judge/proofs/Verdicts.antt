@@ -23,16 +23,15 @@ use Rattle.md_log.specs.declared.clause.Clause.TheVariants as clause
 use Rattle.md_log.specs.declared.line.Step.{Step}
 use Rattle.md_judge.specs.declared.judge.Judge.{Judge}
 use Rattle.md_judge.specs.declared.judge.clauses.Clauses.{Clauses}
-use Rattle.md_judge.specs.declared.judge.known.Known.{Known}
 use Rattle.md_judge.specs.declared.log.Finding.{Finding}
 use Rattle.md_judge.specs.declared.session.Session.{Session}
 use Rattle.md_judge.specs.declared.stretch.Stretch.{Stretch}
-use Rattle.md_judge.specs.Found.{Has}
-use Rattle.md_judge.specs.Law.{turn, Overwritten, IsAllowed}
+use Rattle.md_judge.specs.Found.{Has, clause_index}
+use Rattle.md_judge.specs.Law.{turn, Breaks, IsAllowed, IsFinding}
 use Rattle.md_judge.specs.Logs.{Log, Numbered, is_passed_over, has_begun, with_line, with_text, with_folder_line, with_file_line, with_also_line}
-use Rattle.md_judge.specs.Recalled.{IsToldAt, HasFolders}
+use Rattle.md_judge.specs.Recalled.{HasFolders}
 use Rattle.md_judge.specs.Told.{Moment, at}
-use Rattle.md_judge.specs.Verdict.{HasNoTicks, IsAmong, AreLinesOf, HasRead, IsHeadOf, IsOverwritten, IsBroken, AddsFinding, KeepsHead}
+use Rattle.md_judge.specs.Verdict.{IsProved, HasNoTicks, Remembers, IsAmong, AreLinesOf, HasRead, IsHeadOf, IsBroken, AddsFinding, KeepsHead}
 use Rattle.md_judge.proofs.Housed.{folders-stay, file-housed, also-housed}
 use Rattle.md_judge.proofs.Prefixes.{same-moment, told-longer, finding-longer, finding-none, opening-told}
 
@@ -48,61 +47,24 @@ on-ok-same P (Err e) (Ok y) same holds = absurd (cc)
 on-ok-same P (Ok x) (Err f) same holds = tt
 on-ok-same P (Err e) (Err f) same holds = tt
 
+-- ---- what the judge keeps
+
+-- what it keeps of a log it keeps of the log with one more step
+remembers-longer : (lines : ℕ → ℕ) (l : Log) (n : Numbered) (i : ℕ) (j : Judge) → i ≤ length l.steps → Remembers lines l i j
+    → Remembers lines (record l { steps = l.steps ++ n ∷ [] }) i j
+remembers-longer lines l n i j low keeps = record { told = told-longer lines l n i j.known low keeps.told }
+
+-- what it keeps of the beginning it keeps of each log that begins so
+remembers-opening : (lines : ℕ → ℕ) (l l' : Log) (j : Judge) → l'.opening ≡ l.opening → Remembers lines l 0 j → Remembers lines l' 0 j
+remembers-opening lines l l' j same keeps = record { told = opening-told lines l l' j.known same keeps.told }
+
 -- ---- findings that are added
 
--- the clauses in their order
-abbrev pub clauses : List Clause
-clauses =
-    clause.NotADirectory ∷ clause.Overwritten ∷ clause.SeenBeforeWhole ∷ clause.Mixed ∷ clause.NotFlushed ∷ clause.TwoNames ∷ clause.Gone
-    ∷ clause.UsedAgain ∷ clause.MovedBack ∷ clause.CleanedEarly ∷ clause.Unlisted ∷ clause.GaveUp ∷ clause.AnsweredFalsely ∷ []
-
--- Overwritten is among the first of these clauses
-abbrev pub Passed : List Clause → ℕ → Type 0
-Passed items i = (k : ℕ) × (k < i) × (slice_get items k ≡ Some clause.Overwritten)
-
--- one more clause is passed
-pub adds-next : (n : ℕ) (items : List Clause) (i : ℕ) (d : Clause) (j : Judge) (a b e : Session) → i < length items → b.judge ≡ j
-    → AddsFinding n (Passed items i × IsBroken j) a b → AddsFinding n (IsOverwritten (get_or items i d) × IsBroken b.judge) b e
-    → AddsFinding n (Passed items (i + 1) × IsBroken j) a e
-adds-next n items i d j a b e within same first more m = (
-  λ now. elim ((more m).0 now) [
-    | inl before ↦ elim ((first m).0 before) [
-      | inl was ↦ inl was
-      | inr one ↦ let low : one.1.0.0 < i = one.1.0.1 in inr (one.0, ((one.1.0.0, omega (arith, low), one.1.0.2), one.1.1))
-    ]
-    | inr one ↦ inr (one.0, ((i, omega arith, slice_get-get_or items i d within ∙ ap Some one.1.0), subst IsBroken same one.1.1))
-  ],
-  λ some. elim some [
-    | inl was ↦ (more m).1 (inl ((first m).1 (inl was)))
-    | inr one ↦ elim (cases_lt one.1.0.0 i) [
-      | inl low ↦ (more m).1 (inl ((first m).1 (inr (one.0, ((one.1.0.0, low, one.1.0.2), one.1.1)))))
-      | inr high ↦
-          let below : one.1.0.0 < i + 1 = one.1.0.1 in
-          let last : one.1.0.0 ≡ i = omega (arith, below, high) in
-          let is : slice_get items i ≡ Some clause.Overwritten = subst (λ k. slice_get items k ≡ Some clause.Overwritten) last one.1.0.2 in
-          (more m).1 (inr (one.0, (get_or_from_slice_get items i clause.Overwritten d is, subst IsBroken (sym same) one.1.1)))
-    ]
-  ],
-)
-
--- all are passed
-pub adds-all : (n : ℕ) (items : List Clause) (i : ℕ) (j : Judge) (allowed : Clauses) (P : Type 0) (a b : Session)
-    → slice_get items 1 ≡ Some clause.Overwritten → length items ≤ i → j.allowed ≡ allowed → (Has j.watch.found.broken clause.Overwritten ↔ P)
-    → AddsFinding n (Passed items i × IsBroken j) a b → AddsFinding n (P × (Has allowed clause.Overwritten → ⊥)) a b
-adds-all n items i j allowed P a b listed end same broken adds m = (
-  λ now. elim ((adds m).0 now) [
-    | inl was ↦ inl was
-    | inr one ↦ inr (one.0, (broken.0 one.1.1.0, λ is. one.1.1.1 (subst (λ (x : Clauses). Has x clause.Overwritten) (sym same) is)))
-  ],
-  λ some. elim some [
-    | inl was ↦ (adds m).1 (inl was)
-    | inr one ↦
-        let within : 1 < length items = slice_get_within items 1 clause.Overwritten listed in
-        (adds m).1 (inr (one.0, ((1, omega (arith, within, end), listed), (broken.1 one.1.0, λ is. one.1.1 (subst (λ (x : Clauses). Has x clause.Overwritten) same is)))))
-  ],
-)
-
--- ---- one more step
+one-more : {A : Type 0} (xs : List A) (y : A) (i : ℕ) (x : A) → slice_get (xs ++ y ∷ []) i ≡ Some x → (slice_get xs i ≡ Some x) ⊎ (y ≡ x)
+one-more [] y zero x is = inr (cc is)
+one-more [] y (suc i) x is = absurd (cc is)
+one-more (z ∷ xs) y zero x is = inl is
+one-more (z ∷ xs) y (suc i) x is = one-more xs y i x is
 
 last-is : {A : Type 0} (xs : List A) (y : A) → slice_get (xs ++ y ∷ []) (length xs) ≡ Some y
 last-is [] y = refl
@@ -112,6 +74,95 @@ first-are : {A : Type 0} (xs : List A) (y : A) (i : ℕ) (x : A) → slice_get x
 first-are [] y i x is = absurd (cc is)
 first-are (z ∷ xs) y zero x is = is
 first-are (z ∷ xs) y (suc i) x is = first-are xs y i x is
+
+-- a broken clause comes after the others
+pub adds-one : (c o : Clause) (n : ℕ) (before : Option ℕ) (fs gs : List Finding) (j : Judge) → IsBroken j c
+    → gs ≡ fs ++ record { line = n; clause = c; before = before } ∷ []
+    → (m : ℕ) → IsAmong gs m o ↔ (IsAmong fs m o ⊎ ((n ≡ m) × ((c ≡ o) × IsBroken j o)))
+adds-one c o n before fs gs j broken more m =
+    let f : Finding = record { line = n; clause = c; before = before } in (
+      λ now. elim (one-more fs f now.0 now.1 (subst (λ (hs : List Finding). slice_get hs now.0 ≡ Some now.1) more now.2)) [
+        | inl was ↦ inl (now.0, now.1, was, now.3, now.4)
+        | inr is ↦
+            let same : c ≡ o = ap (λ (g : Finding). g.clause) is ∙ now.4 in
+            inr (ap (λ (g : Finding). g.line) is ∙ now.3, (same, subst (λ x. IsBroken j x) same broken))
+      ],
+      λ some. subst (λ (hs : List Finding). IsAmong hs m o) (sym more) (elim some [
+        | inl was ↦ (was.0, was.1, first-are fs f was.0 was.1 was.2, was.3, was.4)
+        | inr one ↦ (length fs, f, last-is fs f, one.0, one.1.0)
+      ]),
+    )
+
+-- the clauses in their order
+abbrev pub clauses : List Clause
+clauses =
+    clause.NotADirectory ∷ clause.Overwritten ∷ clause.SeenBeforeWhole ∷ clause.Mixed ∷ clause.NotFlushed ∷ clause.TwoNames ∷ clause.Gone
+    ∷ clause.UsedAgain ∷ clause.MovedBack ∷ clause.CleanedEarly ∷ clause.Unlisted ∷ clause.GaveUp ∷ clause.AnsweredFalsely ∷ []
+
+-- each clause has its place
+pub listed : (c : Clause) → slice_get clauses (clause_index c) ≡ Some c
+listed clause.NotADirectory = refl
+listed clause.Overwritten = refl
+listed clause.SeenBeforeWhole = refl
+listed clause.Mixed = refl
+listed clause.NotFlushed = refl
+listed clause.TwoNames = refl
+listed clause.Gone = refl
+listed clause.UsedAgain = refl
+listed clause.MovedBack = refl
+listed clause.CleanedEarly = refl
+listed clause.Unlisted = refl
+listed clause.GaveUp = refl
+listed clause.AnsweredFalsely = refl
+
+-- a clause is among the first of these
+abbrev pub Passed : Clause → List Clause → ℕ → Type 0
+Passed c items i = (k : ℕ) × (k < i) × (slice_get items k ≡ Some c)
+
+-- one more clause is passed
+pub adds-next : (c : Clause) (n : ℕ) (items : List Clause) (i : ℕ) (d : Clause) (j : Judge) (a b e : Session) → i < length items → b.judge ≡ j
+    → AddsFinding c n (Passed c items i × IsBroken j c) a b → AddsFinding c n ((get_or items i d ≡ c) × IsBroken b.judge c) b e
+    → AddsFinding c n (Passed c items (i + 1) × IsBroken j c) a e
+adds-next c n items i d j a b e within same first more m = (
+  λ now. elim ((more m).0 now) [
+    | inl before ↦ elim ((first m).0 before) [
+      | inl was ↦ inl was
+      | inr one ↦ let low : one.1.0.0 < i = one.1.0.1 in inr (one.0, ((one.1.0.0, omega (arith, low), one.1.0.2), one.1.1))
+    ]
+    | inr one ↦ inr (one.0, ((i, omega arith, slice_get-get_or items i d within ∙ ap Some one.1.0), subst (λ (x : Judge). IsBroken x c) same one.1.1))
+  ],
+  λ some. elim some [
+    | inl was ↦ (more m).1 (inl ((first m).1 (inl was)))
+    | inr one ↦ elim (cases_lt one.1.0.0 i) [
+      | inl low ↦ (more m).1 (inl ((first m).1 (inr (one.0, ((one.1.0.0, low, one.1.0.2), one.1.1)))))
+      | inr high ↦
+          let below : one.1.0.0 < i + 1 = one.1.0.1 in
+          let last : one.1.0.0 ≡ i = omega (arith, below, high) in
+          let is : slice_get items i ≡ Some c = subst (λ k. slice_get items k ≡ Some c) last one.1.0.2 in
+          (more m).1 (inr (one.0, (get_or_from_slice_get items i c d is, subst (λ (x : Judge). IsBroken x c) (sym same) one.1.1)))
+    ]
+  ],
+)
+
+-- all are passed
+pub adds-all : (c : Clause) (n i : ℕ) (j : Judge) (allowed : Clauses) (P : Type 0) (a b : Session)
+    → length clauses ≤ i → j.allowed ≡ allowed → (Has j.watch.found.broken c ↔ P)
+    → AddsFinding c n (Passed c clauses i × IsBroken j c) a b → AddsFinding c n (P × (Has allowed c → ⊥)) a b
+adds-all c n i j allowed P a b end same broken adds m = (
+  λ now. elim ((adds m).0 now) [
+    | inl was ↦ inl was
+    | inr one ↦ inr (one.0, (broken.0 one.1.1.0, λ is. one.1.1.1 (subst (λ (x : Clauses). Has x c) (sym same) is)))
+  ],
+  λ some. elim some [
+    | inl was ↦ (adds m).1 (inl was)
+    | inr one ↦
+        let within : clause_index c < length clauses = slice_get_within clauses (clause_index c) c (listed c) in
+        let place : Passed c clauses i = (clause_index c, omega (arith, within, end), listed c) in
+        (adds m).1 (inr (one.0, (place, (broken.1 one.1.0, λ is. one.1.1 (subst (λ (x : Clauses). Has x c) same is)))))
+  ],
+)
+
+-- ---- one more step
 
 begun-after : (xs : List Numbered) (y : Numbered) → nat_lt 0 (length (xs ++ y ∷ [])) ≡ true
 begun-after xs y = let long = length_push xs y in lt-ltb 0 (length (xs ++ y ∷ [])) (omega (arith, long))
@@ -145,67 +196,73 @@ module _ (number : ℕ) (l : Log) (x : Step) (s t : Session) (read : HasRead num
         omega (arith, same);
   }
 
-  told-before : (lines : ℕ → ℕ) → AreLinesOf (suc number) longer lines → IsToldAt lines longer (length l.steps) s.judge.known
-  told-before lines are = told-longer lines l one (length l.steps) s.judge.known (omega arith) (read.told lines (lines-before lines are))
+  told-before : (lines : ℕ → ℕ) → AreLinesOf (suc number) longer lines → Remembers lines longer (length l.steps) s.judge
+  told-before lines are = remembers-longer lines l one (length l.steps) s.judge (omega arith) (read.told lines (lines-before lines are))
 
   here : (lines : ℕ → ℕ) → AreLinesOf (suc number) longer lines → lines (length l.steps) ≡ number
   here lines are = are.steps (length l.steps) one (last-is l.steps one)
 
+  found-longer : (c : Clause) (proved : IsProved c) (m : ℕ)
+      → (IsAmong t.findings.items m c
+      ↔ (IsAmong s.findings.items m c ⊎ ((number ≡ m) × (Breaks c (turn longer (length l.steps) x) × (Has s.judge.allowed c → ⊥)))))
+      → IsAmong t.findings.items m c ↔ IsFinding longer m c
+  found-longer c proved m adds = (
+    λ now. elim (adds.0 now) [
+      | inl was ↦ (finding-longer c proved l one m).1 (inl ((read.found m c proved).0 was))
+      | inr new ↦ (finding-longer c proved l one m).1 (inr (new.0, (λ is. new.1.1 ((read.allowed c proved).1 is)), new.1.0))
+    ],
+    λ is. elim ((finding-longer c proved l one m).0 is) [
+      | inl was ↦ adds.1 (inl ((read.found m c proved).1 was))
+      | inr new ↦ adds.1 (inr (new.0, (new.2, λ has. new.1 ((read.allowed c proved).0 has))))
+    ],
+  )
+
   -- a session that judges a step has read the log with it
   pub step-read : KeepsHead (record s { has_begun = true }) t
-      → ((lines : ℕ → ℕ) (m : Log) (i : ℕ) → IsToldAt lines m i s.judge.known → slice_get m.steps i ≡ Some (record { number = number; step = x })
-      → lines i ≡ number → number < 4294967295 → HasFolders (at m i) x.call → IsToldAt lines m (suc i) t.judge.known)
-      → ((lines : ℕ → ℕ) (m : Log) (i : ℕ) → IsToldAt lines m i s.judge.known → slice_get m.steps i ≡ Some (record { number = number; step = x })
+      → ((lines : ℕ → ℕ) (m : Log) (i : ℕ) → Remembers lines m i s.judge → slice_get m.steps i ≡ Some (record { number = number; step = x })
+      → lines i ≡ number → number < 4294967295 → HasFolders (at m i) x.call → Remembers lines m (suc i) t.judge)
+      → ((lines : ℕ → ℕ) (m : Log) (i : ℕ) → Remembers lines m i s.judge → slice_get m.steps i ≡ Some (record { number = number; step = x })
       → lines i ≡ number → number < 4294967295 → HasFolders (at m i) x.call
-      → AddsFinding number (Overwritten (turn m i x) × (Has s.judge.allowed clause.Overwritten → ⊥)) s t)
+      → (c : Clause) → IsProved c → AddsFinding c number (Breaks c (turn m i x) × (Has s.judge.allowed c → ⊥)) s t)
       → number < 4294967295 → HasFolders (at l (length l.steps)) x.call → HasRead (suc number) longer t
   step-read keeps told found short there =
       let i : ℕ = length l.steps in
       let same : at l i ≡ at longer i = sym (ap (λ (m : Moment). m.state) (same-moment l one i (omega arith))) in
       let there' : HasFolders (at longer i) x.call = subst (λ (st : State). HasFolders st x.call) same there in
-      let adds : AddsFinding number (Overwritten (turn longer i x) × (Has s.judge.allowed clause.Overwritten → ⊥)) s t =
+      let adds : (c : Clause) → IsProved c → AddsFinding c number (Breaks c (turn longer i x) × (Has s.judge.allowed c → ⊥)) s t =
       found (line-at longer) longer i (told-before (line-at longer) own-lines) (last-is l.steps one) (here (line-at longer) own-lines) short there' in
       let long : suc i ≡ length longer.steps = (let more = length_push l.steps one in omega (arith, more)) in
       record {
         folders = keeps.folders ∙ read.folders;
         begun = keeps.begun ∙ sym (begun-after l.steps one);
         housed = read.housed;
-        told = λ lines are. subst (λ k. IsToldAt lines longer k t.judge.known) long
+        told = λ lines are. subst (λ k. Remembers lines longer k t.judge) long
             (told lines longer i (told-before lines are) (last-is l.steps one) (here lines are) short there');
         waits = ap (λ (w : Stretch). w.steps.items) keeps.stretch ∙ read.waits;
         moved = ap (λ (w : Stretch). w.moved.entries) keeps.stretch ∙ read.moved;
-        allowed = (
-          λ is. read.allowed.0 (subst (λ (a : Clauses). Has a clause.Overwritten) keeps.allowed is),
-          λ is. subst (λ (a : Clauses). Has a clause.Overwritten) (sym keeps.allowed) (read.allowed.1 is),
+        allowed = λ c proved. (
+          λ is. (read.allowed c proved).0 (subst (λ (a : Clauses). Has a c) keeps.allowed is),
+          λ is. subst (λ (a : Clauses). Has a c) (sym keeps.allowed) ((read.allowed c proved).1 is),
         );
-        found = λ m. (
-          λ now. elim ((adds m).0 now) [
-            | inl was ↦ (finding-longer l one m).1 (inl ((read.found m).0 was))
-            | inr new ↦ (finding-longer l one m).1 (inr (new.0, (λ is. new.1.1 (read.allowed.1 is)), new.1.0))
-          ],
-          λ is. elim ((finding-longer l one m).0 is) [
-            | inl was ↦ (adds m).1 (inl ((read.found m).1 was))
-            | inr new ↦ (adds m).1 (inr (new.0, (new.2, λ has. new.1 (read.allowed.0 has))))
-          ],
-        );
+        found = λ m c proved. found-longer c proved m (adds c proved m);
       }
 
   -- also where the session is one that has begun just now, and where the judging may be refused
   pub step-read-on : (now : Session) → now ≡ record s { has_begun = true } → (r : Result (Unit {0}) LineFault) → OnOk r (KeepsHead now t)
-      → ((lines : ℕ → ℕ) (m : Log) (i : ℕ) → IsToldAt lines m i now.judge.known → slice_get m.steps i ≡ Some (record { number = number; step = x })
-      → lines i ≡ number → number < 4294967295 → HasFolders (at m i) x.call → OnOk r (IsToldAt lines m (suc i) t.judge.known))
-      → ((lines : ℕ → ℕ) (m : Log) (i : ℕ) → IsToldAt lines m i now.judge.known → slice_get m.steps i ≡ Some (record { number = number; step = x })
+      → ((lines : ℕ → ℕ) (m : Log) (i : ℕ) → Remembers lines m i now.judge → slice_get m.steps i ≡ Some (record { number = number; step = x })
+      → lines i ≡ number → number < 4294967295 → HasFolders (at m i) x.call → OnOk r (Remembers lines m (suc i) t.judge))
+      → ((lines : ℕ → ℕ) (m : Log) (i : ℕ) → Remembers lines m i now.judge → slice_get m.steps i ≡ Some (record { number = number; step = x })
       → lines i ≡ number → number < 4294967295 → HasFolders (at m i) x.call
-      → OnOk r (AddsFinding number (Overwritten (turn m i x) × (Has now.judge.allowed clause.Overwritten → ⊥)) now t))
+      → OnOk r ((c : Clause) → IsProved c → AddsFinding c number (Breaks c (turn m i x) × (Has now.judge.allowed c → ⊥)) now t))
       → number < 4294967295 → HasFolders (at l (length l.steps)) x.call → OnOk r (HasRead (suc number) longer t)
   step-read-on now same r keeps told found short there = on-ok-by r (HasRead (suc number) longer t) (λ holds.
       step-read (subst (λ (v : Session). KeepsHead v t) same (holds (KeepsHead now t) keeps))
-      (λ lines m i was is at-line low in-folder. holds (IsToldAt lines m (suc i) t.judge.known)
-      (told lines m i (subst (λ (v : Session). IsToldAt lines m i v.judge.known) (sym same) was) is at-line low in-folder))
+      (λ lines m i was is at-line low in-folder. holds (Remembers lines m (suc i) t.judge)
+      (told lines m i (subst (λ (v : Session). Remembers lines m i v.judge) (sym same) was) is at-line low in-folder))
       (λ lines m i was is at-line low in-folder.
-      subst (λ (v : Session). AddsFinding number (Overwritten (turn m i x) × (Has v.judge.allowed clause.Overwritten → ⊥)) v t) same
-      (holds (AddsFinding number (Overwritten (turn m i x) × (Has now.judge.allowed clause.Overwritten → ⊥)) now t)
-      (found lines m i (subst (λ (v : Session). IsToldAt lines m i v.judge.known) (sym same) was) is at-line low in-folder)))
+      subst (λ (v : Session). (c : Clause) → IsProved c → AddsFinding c number (Breaks c (turn m i x) × (Has v.judge.allowed c → ⊥)) v t) same
+      (holds ((c : Clause) → IsProved c → AddsFinding c number (Breaks c (turn m i x) × (Has now.judge.allowed c → ⊥)) now t)
+      (found lines m i (subst (λ (v : Session). Remembers lines m i v.judge) (sym same) was) is at-line low in-folder)))
       short there)
 
 -- ---- one more line of the beginning
@@ -217,8 +274,8 @@ module _ (number : ℕ) (l l' : Log) (s t : Session) (read : HasRead number l s)
   -- a session that takes in a line of the beginning has read the log with it
   pub head-read : t.folders ≡ l'.folders → t.has_begun ≡ s.has_begun → t.stretch ≡ s.stretch → t.findings.items ≡ s.findings.items
       → l'.opening.folders ≡ length l'.folders
-      → ((lines : ℕ → ℕ) → number < lines 0 → IsToldAt lines l 0 s.judge.known → IsToldAt lines l' 0 t.judge.known)
-      → (Has t.judge.allowed clause.Overwritten ↔ IsAllowed l' clause.Overwritten) → HasRead (suc number) l' t
+      → ((lines : ℕ → ℕ) → number < lines 0 → Remembers lines l 0 s.judge → Remembers lines l' 0 t.judge)
+      → ((c : Clause) → IsProved c → Has t.judge.allowed c ↔ IsAllowed l' c) → HasRead (suc number) l' t
   head-read folders begun stretch findings housed told allowed = record {
     folders = folders;
     begun = begun ∙ read.begun ∙ ap (λ (xs : List Numbered). nat_lt 0 (length xs)) (none ∙ sym still);
@@ -226,16 +283,15 @@ module _ (number : ℕ) (l l' : Log) (s t : Session) (read : HasRead number l s)
     told = λ lines are.
         let early : suc number ≤ lines 0 = are.opening still in
         let before : AreLinesOf number l lines = record { steps = λ k y is. absurd (no-step l.steps none k y is); opening = λ none. omega (arith, early) } in
-        let was : IsToldAt lines l 0 s.judge.known =
-        subst (λ (xs : List Numbered). IsToldAt lines l (length xs) s.judge.known) none (read.told lines before) in
-        subst (λ (xs : List Numbered). IsToldAt lines l' (length xs) t.judge.known) (sym still) (told lines (omega (arith, early)) was);
+        let was : Remembers lines l 0 s.judge =
+        subst (λ (xs : List Numbered). Remembers lines l (length xs) s.judge) none (read.told lines before) in
+        subst (λ (xs : List Numbered). Remembers lines l' (length xs) t.judge) (sym still) (told lines (omega (arith, early)) was);
     waits = ap (λ (w : Stretch). w.steps.items) stretch ∙ read.waits;
     moved = ap (λ (w : Stretch). w.moved.entries) stretch ∙ read.moved;
     allowed = allowed;
-    found = λ m. (
-      λ among. absurd (finding-none l m clause.Overwritten none
-          ((read.found m).0 (subst (λ (fs : List Finding). IsAmong fs m clause.Overwritten) findings among))),
-      λ is. absurd (finding-none l' m clause.Overwritten still is),
+    found = λ m c proved. (
+      λ among. absurd (finding-none l m c none ((read.found m c proved).0 (subst (λ (fs : List Finding). IsAmong fs m c) findings among))),
+      λ is. absurd (finding-none l' m c still is),
     );
   }
 
@@ -299,45 +355,46 @@ one-folder fs more name is = by (is_none (place_of fs name)) (nat_lt (length fs)
     by true false is = absurd (cc)
     by true true is = let same : fs ++ name ∷ [] ≡ more = cc is in ap length (sym same) ∙ (let long = length_push fs name in omega (arith, long))
 
-one-allowed : (cs : List Clause) (c : Clause) (k : ℕ) → slice_get (c ∷ cs) k ≡ Some clause.Overwritten
-    → ((n : ℕ) × (slice_get cs n ≡ Some clause.Overwritten)) ⊎ (clause.Overwritten ≡ c)
-one-allowed cs c zero is = inr (cc is)
-one-allowed cs c (suc k) is = inl (k, is)
+one-allowed : (cs : List Clause) (c o : Clause) (k : ℕ) → slice_get (c ∷ cs) k ≡ Some o → ((n : ℕ) × (slice_get cs n ≡ Some o)) ⊎ (o ≡ c)
+one-allowed cs c o zero is = inr (cc is)
+one-allowed cs c o (suc k) is = inl (k, is)
 
 -- a clause is allowed
 pub allow-read : (number : ℕ) (l l' : Log) (s t : Session) (c : Clause) → HasRead number l s → l.steps ≡ [] → record l { allowed = c ∷ l.allowed } ≡ l'
     → t.folders ≡ s.folders → t.has_begun ≡ s.has_begun → t.stretch ≡ s.stretch → t.findings.items ≡ s.findings.items
-    → t.judge.known ≡ s.judge.known → ((o : Clause) → Has t.judge.allowed o ↔ (Has s.judge.allowed o ⊎ (o ≡ c))) → HasRead (suc number) l' t
-allow-read number l l' s t c read none same folders begun stretch findings known adds =
+    → ((lines : ℕ → ℕ) (m : Log) (i : ℕ) → Remembers lines m i s.judge → Remembers lines m i t.judge)
+    → ((o : Clause) → Has t.judge.allowed o ↔ (Has s.judge.allowed o ⊎ (o ≡ c))) → HasRead (suc number) l' t
+allow-read number l l' s t c read none same folders begun stretch findings keeps adds =
     let new : Log = record l { allowed = c ∷ l.allowed } in
     subst (λ (m : Log). HasRead (suc number) m t) same
     (head-read number l new s t read none none (folders ∙ read.folders) begun stretch findings read.housed
-    (λ lines low told. subst (λ (k : Known). IsToldAt lines new 0 k) (sym known) (opening-told lines l new s.judge.known refl told)) (
-      λ has. elim ((adds clause.Overwritten).0 has) [
-        | inl was ↦ let before = read.allowed.0 was in (suc before.0, before.1)
+    (λ lines low told. keeps lines new 0 (remembers-opening lines l new s.judge refl told)) (λ o proved. (
+      λ has. elim ((adds o).0 has) [
+        | inl was ↦ let before = (read.allowed o proved).0 was in (suc before.0, before.1)
         | inr is ↦ (0, ap Some (sym is))
       ],
-      λ is. elim (one-allowed l.allowed c is.0 is.1) [
-        | inl was ↦ (adds clause.Overwritten).1 (inl (read.allowed.1 was))
-        | inr now ↦ (adds clause.Overwritten).1 (inr now)
+      λ is. elim (one-allowed l.allowed c o is.0 is.1) [
+        | inl was ↦ (adds o).1 (inl ((read.allowed o proved).1 was))
+        | inr now ↦ (adds o).1 (inr now)
       ],
-    ))
+    )))
 
 module _ (number : ℕ) (l l' : Log) (s t : Session) (read : HasRead number l s) (none : l.steps ≡ []) (begun : t.has_begun ≡ s.has_begun)
-    (stretch : t.stretch ≡ s.stretch) (findings : t.findings.items ≡ s.findings.items) (k : Known) (same : k ≡ s.judge.known) (a : Clauses)
-    (alike : a ≡ s.judge.allowed) (r : Result (Unit {0}) LineFault) (keeps : OnOk r (t.judge.allowed ≡ a)) where
-  still-allowed : l'.allowed ≡ l.allowed → t.judge.allowed ≡ a → Has t.judge.allowed clause.Overwritten ↔ IsAllowed l' clause.Overwritten
-  still-allowed rest now = (
-    λ has. let was = read.allowed.0 (subst (λ (x : Clauses). Has x clause.Overwritten) (now ∙ alike) has) in
+    (stretch : t.stretch ≡ s.stretch) (findings : t.findings.items ≡ s.findings.items) (j : Judge)
+    (goes : (lines : ℕ → ℕ) (m : Log) (i : ℕ) → Remembers lines m i s.judge → Remembers lines m i j) (alike : j.allowed ≡ s.judge.allowed)
+    (r : Result (Unit {0}) LineFault) (keeps : OnOk r (t.judge.allowed ≡ j.allowed)) where
+  still-allowed : l'.allowed ≡ l.allowed → t.judge.allowed ≡ j.allowed → (c : Clause) → IsProved c → Has t.judge.allowed c ↔ IsAllowed l' c
+  still-allowed rest now c proved = (
+    λ has. let was = (read.allowed c proved).0 (subst (λ (x : Clauses). Has x c) (now ∙ alike) has) in
         (was.0, ap (λ (cs : List Clause). slice_get cs was.0) rest ∙ was.1),
-    λ is. subst (λ (x : Clauses). Has x clause.Overwritten) (sym (now ∙ alike))
-        (read.allowed.1 (is.0, ap (λ (cs : List Clause). slice_get cs is.0) (sym rest) ∙ is.1)),
+    λ is. subst (λ (x : Clauses). Has x c) (sym (now ∙ alike))
+        ((read.allowed c proved).1 (is.0, ap (λ (cs : List Clause). slice_get cs is.0) (sym rest) ∙ is.1)),
   )
 
   -- a folder is added
   pub folder-read : (name : List ℕ) → with_folder s.folders name ≡ Ok t.folders → with_folder_line l name ≡ Ok l'
-      → ((lines : ℕ → ℕ) (m m' : Log) → IsToldAt lines m 0 k → m'.opening ≡ record m.opening { folders = suc m.opening.folders }
-      → OnOk r (IsToldAt lines m' 0 t.judge.known)) → OnOk r (HasRead (suc number) l' t)
+      → ((lines : ℕ → ℕ) (m m' : Log) → Remembers lines m 0 j → m'.opening ≡ record m.opening { folders = suc m.opening.folders }
+      → OnOk r (Remembers lines m' 0 t.judge)) → OnOk r (HasRead (suc number) l' t)
   folder-read name has is told = on-ok-by r (HasRead (suc number) l' t) (λ holds.
       let has' : with_folder l.folders name ≡ Ok t.folders = subst (λ (fs : List (List ℕ)). with_folder fs name ≡ Ok t.folders) read.folders has in
       let now : record l { folders = t.folders; opening = record l.opening { folders = length t.folders } } ≡ l' = with-folders l l' name t.folders has' is in
@@ -346,16 +403,16 @@ module _ (number : ℕ) (l l' : Log) (s t : Session) (read : HasRead number l s)
       ap (λ (m : Log). m.opening) (sym now) ∙ ap (λ n. record l.opening { folders = n }) more in
       head-read number l l' s t read none (ap (λ (m : Log). m.steps) (sym now) ∙ none) (ap (λ (m : Log). m.folders) now) begun stretch findings
       (ap (λ (m : Log). m.opening.folders) (sym now) ∙ ap (λ (m : Log). length m.folders) now)
-      (λ lines low was. holds (IsToldAt lines l' 0 t.judge.known) (told lines l l' (subst (λ (x : Known). IsToldAt lines l 0 x) (sym same) was) opening))
-      (still-allowed (ap (λ (m : Log). m.allowed) (sym now)) (holds (t.judge.allowed ≡ a) keeps)))
+      (λ lines low was. holds (Remembers lines l' 0 t.judge) (told lines l l' (goes lines l 0 was) opening))
+      (still-allowed (ap (λ (m : Log). m.allowed) (sym now)) (holds (t.judge.allowed ≡ j.allowed) keeps)))
 
   -- a path is put
   pub path-read : KeepsRest l l' → l'.opening.folders ≡ length l'.folders → t.folders ≡ s.folders
-      → ((lines : ℕ → ℕ) → IsToldAt lines l 0 k → number < lines 0 → OnOk r (IsToldAt lines l' 0 t.judge.known)) → OnOk r (HasRead (suc number) l' t)
+      → ((lines : ℕ → ℕ) → Remembers lines l 0 j → number < lines 0 → OnOk r (Remembers lines l' 0 t.judge)) → OnOk r (HasRead (suc number) l' t)
   path-read rest housed folders told = on-ok-by r (HasRead (suc number) l' t) (λ holds.
       head-read number l l' s t read none (rest.0 ∙ none) (folders ∙ read.folders ∙ sym rest.1.0) begun stretch findings housed
-      (λ lines low was. holds (IsToldAt lines l' 0 t.judge.known) (told lines (subst (λ (x : Known). IsToldAt lines l 0 x) (sym same) was) low))
-      (still-allowed rest.1.1 (holds (t.judge.allowed ≡ a) keeps)))
+      (λ lines low was. holds (Remembers lines l' 0 t.judge) (told lines (goes lines l 0 was) low))
+      (still-allowed rest.1.1 (holds (t.judge.allowed ≡ j.allowed) keeps)))
 
 -- ---- the text of a line
 

@@ -13,6 +13,11 @@ use Rattle.md_judge.specs.Law.{IsAllowed, IsFinding}
 use Rattle.md_judge.specs.Logs.{Log, Numbered, has_begun}
 use Rattle.md_judge.specs.Recalled.{IsToldAt}
 
+-- the clauses of which what is found of a whole log is proved to be what the law has
+abbrev pub IsProved : Clause → Type 0
+IsProved clause.Overwritten = Unit {0}
+IsProved c = ⊥
+
 -- no step of the log has ticks
 abbrev pub HasNoTicks : Log → Type 0
 HasNoTicks l = (k : ℕ) (x : Numbered) → slice_get l.steps k ≡ Some x → x.step.ticks ≡ None
@@ -20,6 +25,10 @@ HasNoTicks l = (k : ℕ) (x : Numbered) → slice_get l.steps k ≡ Some x → x
 -- a finding of this line and clause is among these
 abbrev pub IsAmong : List Finding → ℕ → Clause → Type 0
 IsAmong found number c = (k : ℕ) × (f : Finding) × (slice_get found k ≡ Some f) × (f.line ≡ number) × (f.clause ≡ c)
+
+-- What the judge keeps is what a log tells at a moment.
+pub record Remembers (lines : ℕ → ℕ) (l : Log) (i : ℕ) (j : Judge) : Type 0 where
+  pub told : IsToldAt lines l i j.known
 
 -- Lines are numbered as a log has them that was read up to this line, which is the next: each step has its line, and before the first
 -- step come the lines of the beginning.
@@ -32,11 +41,11 @@ pub record HasRead (number : ℕ) (l : Log) (s : Session) : Type 0 where
   pub folders : s.folders ≡ l.folders
   pub begun : s.has_begun ≡ has_begun l
   pub housed : l.opening.folders ≡ length l.folders
-  pub told : (lines : ℕ → ℕ) → AreLinesOf number l lines → IsToldAt lines l (length l.steps) s.judge.known
+  pub told : (lines : ℕ → ℕ) → AreLinesOf number l lines → Remembers lines l (length l.steps) s.judge
   pub waits : s.stretch.steps.items ≡ []
   pub moved : s.stretch.moved.entries ≡ []
-  pub allowed : Has s.judge.allowed clause.Overwritten ↔ IsAllowed l clause.Overwritten
-  pub found : (n : ℕ) → IsAmong s.findings.items n clause.Overwritten ↔ IsFinding l n clause.Overwritten
+  pub allowed : (c : Clause) → IsProved c → Has s.judge.allowed c ↔ IsAllowed l c
+  pub found : (n : ℕ) (c : Clause) → IsProved c → IsAmong s.findings.items n c ↔ IsFinding l n c
 
 -- a line of the beginning, whose path is in a folder that is there
 abbrev pub IsHeadOf : State → Line → Type 0
@@ -46,18 +55,13 @@ IsHeadOf s (line.File path stamp) = has_folder s path ≡ true
 IsHeadOf s (line.Also path old) = has_folder s path ≡ true
 IsHeadOf s (line.Step step) = ⊥
 
--- the clause is Overwritten
-abbrev pub IsOverwritten : Clause → Type 0
-IsOverwritten c = c ≡ clause.Overwritten
+-- the step that was judged last is found to break the clause, which is judged
+abbrev pub IsBroken : Judge → Clause → Type 0
+IsBroken j c = Has j.watch.found.broken c × (Has j.allowed c → ⊥)
 
--- the step that was judged last is found to overwrite a path, which is judged
-abbrev pub IsBroken : Judge → Type 0
-IsBroken j = Has j.watch.found.broken clause.Overwritten × (Has j.allowed clause.Overwritten → ⊥)
-
--- Of Overwritten a finding of this line is added where this holds, and no other.
-abbrev pub AddsFinding : ℕ → Type 0 → Session → Session → Type 0
-AddsFinding number P old new = (n : ℕ) → IsAmong new.findings.items n clause.Overwritten
-    ↔ (IsAmong old.findings.items n clause.Overwritten ⊎ ((number ≡ n) × P))
+-- Of the clause a finding of this line is added where this holds, and no other.
+abbrev pub AddsFinding : Clause → ℕ → Type 0 → Session → Session → Type 0
+AddsFinding c number P old new = (n : ℕ) → IsAmong new.findings.items n c ↔ (IsAmong old.findings.items n c ⊎ ((number ≡ n) × P))
 
 -- Nothing changes but what is known and found.
 pub record KeepsHead (old new : Session) : Type 0 where

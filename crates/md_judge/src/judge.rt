@@ -9,9 +9,10 @@ ghost use Rattle.md_log.specs.declared.clause.Clause.{Clause};
 ghost use Rattle.md_log.specs.declared.clause.Clause.TheVariants as clause;
 ghost use Rattle.md_judge.specs.Acts.{ReadsNone};
 ghost use Rattle.md_judge.specs.Found.{Has};
-ghost use Rattle.md_judge.specs.Law.{turn, NotADirectory, Overwritten};
+ghost use Rattle.md_judge.specs.Law.{turn, Breaks, NotADirectory, Overwritten};
 ghost use Rattle.md_judge.specs.Told.{at};
 ghost use Rattle.md_judge.specs.Recalled.{IsToldAt, HasFolders};
+ghost use Rattle.md_judge.specs.Verdict.{IsProved, Remembers};
 
 mod about;
 mod acts;
@@ -64,7 +65,7 @@ pub(crate) struct Judge {
 
 impl Judge {
     pub(crate) fn new(alloc: Global) -> Self
-        ensures told { (lines : ℕ → ℕ) → IsToldAt lines empty_log 0 result.known }
+        ensures told { (lines : ℕ → ℕ) → Remembers lines empty_log 0 result }
         ensures allowed { (c : Clause) → Has result.allowed c → ⊥ }
     {
         Judge {
@@ -79,8 +80,8 @@ impl Judge {
 
     /// One more folder, after the others.
     pub(crate) fn add_folder(&mut self) -> Result<(), LineFault>
-        ensures told { (lines : ℕ → ℕ) (l l' : Log) → IsToldAt lines l 0 self.old.known
-            → l'.opening ≡ record l.opening { folders = suc l.opening.folders } → OnOk result (IsToldAt lines l' 0 self.new.known) }
+        ensures told { (lines : ℕ → ℕ) (l l' : Log) → Remembers lines l 0 self.old
+            → l'.opening ≡ record l.opening { folders = suc l.opening.folders } → OnOk result (Remembers lines l' 0 self.new) }
         ensures allowed { OnOk result (self.new.allowed ≡ self.old.allowed) }
     {
         self.known.directories.add_folder()?;
@@ -91,6 +92,7 @@ impl Judge {
     pub(crate) fn allow(&mut self, clause: Clause)
         ensures allowed { (c : Clause) → Has self.new.allowed c ↔ (Has self.old.allowed c ⊎ (c ≡ clause)) }
         ensures known { self.new.known ≡ self.old.known }
+        ensures told { (lines : ℕ → ℕ) (l : Log) (i : ℕ) → Remembers lines l i self.old → Remembers lines l i self.new }
     {
         self.allowed.add(clause);
     }
@@ -99,14 +101,15 @@ impl Judge {
     pub(crate) fn go_to(&mut self, moment: usize)
         ensures known { self.new.known ≡ self.old.known }
         ensures allowed { self.new.allowed ≡ self.old.allowed }
+        ensures told { (lines : ℕ → ℕ) (l : Log) (i : ℕ) → Remembers lines l i self.old → Remembers lines l i self.new }
     {
         self.watch.go_to(moment);
     }
 
     /// A file that is there at the beginning.
     pub(crate) fn put_file(&mut self, line: usize, path: &Path, stamp: u64) -> Result<(), LineFault>
-        ensures told { (lines : ℕ → ℕ) (l l' : Log) → IsToldAt lines l 0 self.old.known → with_file_line l path.now stamp ≡ Ok l' → line < lines 0
-            → has_folder l.opening path.now ≡ true → OnOk result (IsToldAt lines l' 0 self.new.known) }
+        ensures told { (lines : ℕ → ℕ) (l l' : Log) → Remembers lines l 0 self.old → with_file_line l path.now stamp ≡ Ok l' → line < lines 0
+            → has_folder l.opening path.now ≡ true → OnOk result (Remembers lines l' 0 self.new) }
         ensures allowed { OnOk result (self.new.allowed ≡ self.old.allowed) }
     {
         let (spot, file) = self.known.put_file(line, path, stamp)?;
@@ -116,8 +119,8 @@ impl Judge {
 
     /// A further name of a file that is there at the beginning.
     pub(crate) fn put_name(&mut self, line: usize, path: &Path, old: &Path) -> Result<(), LineFault>
-        ensures told { (lines : ℕ → ℕ) (l l' : Log) → IsToldAt lines l 0 self.old.known → with_also_line l path.now old.now ≡ Ok l' → line < lines 0
-            → has_folder l.opening path.now ≡ true → OnOk result (IsToldAt lines l' 0 self.new.known) }
+        ensures told { (lines : ℕ → ℕ) (l l' : Log) → Remembers lines l 0 self.old → with_also_line l path.now old.now ≡ Ok l' → line < lines 0
+            → has_folder l.opening path.now ≡ true → OnOk result (Remembers lines l' 0 self.new) }
         ensures allowed { OnOk result (self.new.allowed ≡ self.old.allowed) }
     {
         let (spot, file) = self.known.put_name(line, path, old)?;
@@ -126,9 +129,13 @@ impl Judge {
 
     /// Judges the next step.
     pub(crate) fn step(&mut self, line: usize, step: Step) -> Result<(), LineFault>
-        ensures told { (lines : ℕ → ℕ) (l : Log) (i : ℕ) → IsToldAt lines l i self.old.known
+        ensures told { (lines : ℕ → ℕ) (l : Log) (i : ℕ) → Remembers lines l i self.old
             → slice_get l.steps i ≡ Some (record { number = line; step = step }) → lines i ≡ line → line < 4294967295
-            → HasFolders (at l i) step.call → OnOk result (IsToldAt lines l (suc i) self.new.known) }
+            → HasFolders (at l i) step.call → OnOk result (Remembers lines l (suc i) self.new) }
+        ensures broken { (lines : ℕ → ℕ) (l : Log) (i : ℕ) → Remembers lines l i self.old
+            → slice_get l.steps i ≡ Some (record { number = line; step = step }) → lines i ≡ line → line < 4294967295
+            → HasFolders (at l i) step.call
+            → OnOk result ((c : Clause) → IsProved c → Has self.new.watch.found.broken c ↔ Breaks c (turn l i step)) }
         ensures overwritten { (lines : ℕ → ℕ) (l : Log) (i : ℕ) → IsToldAt lines l i self.old.known
             → slice_get l.steps i ≡ Some (record { number = line; step = step }) → lines i ≡ line → line < 4294967295
             → HasFolders (at l i) step.call → OnOk result (Has self.new.watch.found.broken clause.Overwritten ↔ Overwritten (turn l i step)) }
@@ -180,7 +187,7 @@ impl Judge {
 
     /// The numbers of names.
     fn numbers(&mut self, names: &[Bytes]) -> Result<Vec<Name>, LineFault>
-        ensures told { (lines : ℕ → ℕ) (l : Log) (i : ℕ) → IsToldAt lines l i self.old.known → OnOk result (IsToldAt lines l i self.new.known) }
+        ensures told { (lines : ℕ → ℕ) (l : Log) (i : ℕ) → Remembers lines l i self.old → OnOk result (Remembers lines l i self.new) }
         ensures found { OnOk result (self.new.watch.found ≡ self.old.watch.found) }
         ensures allowed { OnOk result (self.new.allowed ≡ self.old.allowed) }
     {

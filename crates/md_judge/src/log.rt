@@ -1,9 +1,9 @@
 //! A log, read in one pass.
 ghost use Rattle.std.specs.Prelude.{ℕ, ◌≡◌, ◌+◌, ◌↔◌, Ok, IfOk};
-ghost use Rattle.md_log.specs.declared.clause.Clause.TheVariants as clause;
+ghost use Rattle.md_log.specs.declared.clause.Clause.{Clause};
 ghost use Rattle.md_judge.specs.Law.{IsFinding};
 ghost use Rattle.md_judge.specs.Logs.{Log, log_of};
-ghost use Rattle.md_judge.specs.Verdict.{HasNoTicks, IsAmong};
+ghost use Rattle.md_judge.specs.Verdict.{IsProved, HasNoTicks, IsAmong};
 
 use crate::session::Session;
 use md_head::cut_line;
@@ -24,8 +24,8 @@ pub struct Finding {
 /// The findings of a log, in the order of its lines, and at one line in the order of the law; or its first wrong line, or the line at
 /// which memory was refused. It takes one pass, in n log n.
 pub fn judge_log(alloc: Global, log: &[u8]) -> Result<Vec<Finding>, LogFault>
-    ensures overwritten { IfOk result (λ found. (l : Log) → log_of log.now ≡ Ok l → HasNoTicks l
-        → (number : ℕ) → IsAmong found.items number clause.Overwritten ↔ IsFinding l number clause.Overwritten) }
+    ensures found { IfOk result (λ found. (l : Log) → log_of log.now ≡ Ok l → HasNoTicks l
+        → (number : ℕ) (c : Clause) → IsProved c → IsAmong found.items number c ↔ IsFinding l number c) }
 {
     let mut left = match cut_line(log) {
         Some((HEAD, others)) => others,

@@ -1,12 +1,12 @@
 //! A log whose lines come one by one.
 ghost use Rattle.std.specs.Prelude.{ℕ, suc, ◌≡◌, ◌<◌, ◌++◌, ◌∷◌, [], Some, None, Ok, OnOk, length, slice_get};
-ghost use Rattle.md_log.specs.declared.clause.Clause.TheVariants as clause;
+ghost use Rattle.md_log.specs.declared.clause.Clause.{Clause};
 ghost use Rattle.md_judge.specs.Found.{Has};
-ghost use Rattle.md_judge.specs.Law.{Overwritten, turn};
+ghost use Rattle.md_judge.specs.Law.{Breaks, turn};
 ghost use Rattle.md_judge.specs.Logs.{Log, empty_log, is_passed_over, with_line, with_text};
-ghost use Rattle.md_judge.specs.Recalled.{IsToldAt, HasFolders};
+ghost use Rattle.md_judge.specs.Recalled.{HasFolders};
 ghost use Rattle.md_judge.specs.Told.{at};
-ghost use Rattle.md_judge.specs.Verdict.{HasNoTicks, HasRead, IsHeadOf, IsOverwritten, IsBroken, AddsFinding, KeepsHead};
+ghost use Rattle.md_judge.specs.Verdict.{IsProved, HasNoTicks, Remembers, HasRead, IsHeadOf, IsBroken, AddsFinding, KeepsHead};
 
 use crate::judge::Judge;
 use crate::log::{Finding, HEAD};
@@ -235,13 +235,14 @@ impl Session {
         text: &[u8],
     ) -> Result<(), LineFault>
         ensures keeps { OnOk result (KeepsHead self.old self.new) }
-        ensures told { (lines : ℕ → ℕ) (l : Log) (i : ℕ) → IsToldAt lines l i self.old.judge.known
+        ensures told { (lines : ℕ → ℕ) (l : Log) (i : ℕ) → Remembers lines l i self.old.judge
             → slice_get l.steps i ≡ Some (record { number = moment; step = step }) → lines i ≡ moment → moment < 4294967295
-            → HasFolders (at l i) step.call → OnOk result (IsToldAt lines l (suc i) self.new.judge.known) }
-        ensures found { (lines : ℕ → ℕ) (l : Log) (i : ℕ) → IsToldAt lines l i self.old.judge.known
+            → HasFolders (at l i) step.call → OnOk result (Remembers lines l (suc i) self.new.judge) }
+        ensures found { (lines : ℕ → ℕ) (l : Log) (i : ℕ) → Remembers lines l i self.old.judge
             → slice_get l.steps i ≡ Some (record { number = moment; step = step }) → lines i ≡ moment → moment < 4294967295
             → HasFolders (at l i) step.call
-            → OnOk result (AddsFinding line (Overwritten (turn l i step) × (Has self.old.judge.allowed clause.Overwritten → ⊥)) self.old self.new) }
+            → OnOk result ((c : Clause) → IsProved c
+            → AddsFinding c line (Breaks c (turn l i step) × (Has self.old.judge.allowed c → ⊥)) self.old self.new) }
     {
         self.judge.go_to(moment);
         self.judge.step(moment, step)?;
@@ -255,7 +256,7 @@ impl Session {
     fn note(&mut self, line: u64, clause: Clause, text: &[u8]) -> Result<(), LineFault>
         ensures keeps { OnOk result (KeepsHead self.old self.new) }
         ensures judge { OnOk result (self.new.judge ≡ self.old.judge) }
-        ensures found { OnOk result (AddsFinding line (IsOverwritten clause × IsBroken self.old.judge) self.old self.new) }
+        ensures found { OnOk result ((c : Clause) → AddsFinding c line ((clause ≡ c) × IsBroken self.old.judge c) self.old self.new) }
     {
         if self.judge.is_broken(clause) {
             let before = self.judge.before(clause);

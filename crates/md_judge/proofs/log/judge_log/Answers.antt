@@ -1,6 +1,5 @@
 use Rattle.std.proofs.Common.{suc, ◌≡◌, ◌↔◌, List, Ok, sym, subst, arith}
 use Rattle.md_head.specs.Header.{lines_of}
-use Rattle.md_log.specs.declared.clause.Clause.TheVariants as clause
 use Rattle.md_judge.specs.declared.log.Finding.{Finding}
 use Rattle.md_judge.specs.Law.{IsFinding}
 use Rattle.md_judge.specs.Logs.{with_text}
@@ -29,9 +28,9 @@ loop-text-preserved c =
 
 pub returns : goal.returns
 returns c = record {
-  overwritten = λ l is none n.
+  found = λ l is none n o proved.
       let all = found-all c.args.log.now (lines_of c.loop-text.left.now) c.loop-text.line c.loop-text.session c.finish.new.self
-      c.in_default-cut_line.ensures.lines c.loop-text.invariant c.in_ok-finish.ensures.found l is none n in
-      subst (λ (fs : List Finding). IsAmong fs n clause.Overwritten ↔ IsFinding l n clause.Overwritten)
+      c.in_default-cut_line.ensures.lines c.loop-text.invariant c.in_ok-finish.ensures.found l is none n o proved in
+      subst (λ (fs : List Finding). IsAmong fs n o ↔ IsFinding l n o)
       (λ i. (sym c.into_findings.ensures i).items) all;
 }

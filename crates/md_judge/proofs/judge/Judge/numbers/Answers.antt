@@ -4,8 +4,9 @@ use Rattle.md_judge.proofs.judge.Judge.numbers.Goals as goal
 
 pub loop-name-preserved : goal.loop-name-preserved
 loop-name-preserved c = record {
-  told = λ lines l i told.
-      grows lines l i c.loop-name.self.known _ (c.loop-name.invariant.told lines l i told) c.number.ensures.keeps c.in_ok-number.ensures.numbered refl refl;
+  told = λ lines l i keeps.
+      let before = c.loop-name.invariant.told lines l i keeps in
+      record { told = grows lines l i c.loop-name.self.known _ before.told c.number.ensures.keeps c.in_ok-number.ensures.numbered refl refl };
   found = c.loop-name.invariant.found;
   allowed = c.loop-name.invariant.allowed;
 }

@@ -4,6 +4,6 @@ use Rattle.md_judge.proofs.judge.Judge.put_name.Goals as goal
 
 pub returns : goal.returns
 returns c = record {
-  told = λ lines l l' told is short there. on-ok c.put.result (c.in_ok-spot.ensures.told lines l l' told is short there);
+  told = λ lines l l' keeps is short there. on-ok c.put.result (record { told = c.in_ok-spot.ensures.told lines l l' keeps.told is short there });
   allowed = on-ok c.put.result refl;
 }

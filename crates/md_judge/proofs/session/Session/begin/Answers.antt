@@ -1,5 +1,4 @@
 use Rattle.std.proofs.Common.{refl}
-use Rattle.md_log.specs.declared.clause.Clause.TheVariants as clause
 use Rattle.md_judge.specs.Logs.{empty_log}
 use Rattle.md_judge.proofs.Prefixes.{finding-none}
 use Rattle.md_judge.proofs.Whole.{none-among, none-allowed}
@@ -14,10 +13,10 @@ returns c = record {
     told = λ lines are. c.new-2.ensures.told lines;
     waits = c.new-5.ensures.waits;
     moved = c.new-5.ensures.moved;
-    allowed = (λ is. absurd (c.new-2.ensures.allowed clause.Overwritten is), λ is. absurd (none-allowed clause.Overwritten is));
-    found = λ n. (
-      λ among. absurd (none-among c.new-3.result.items n clause.Overwritten c.new-3.ensures.items among),
-      λ is. absurd (finding-none empty_log n clause.Overwritten refl is),
+    allowed = λ o proved. (λ is. absurd (c.new-2.ensures.allowed o is), λ is. absurd (none-allowed o is));
+    found = λ n o proved. (
+      λ among. absurd (none-among c.new-3.result.items n o c.new-3.ensures.items among),
+      λ is. absurd (finding-none empty_log n o refl is),
     );
   };
 }

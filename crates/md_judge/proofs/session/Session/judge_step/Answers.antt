@@ -1,9 +1,8 @@
 use Rattle.std.proofs.Common.{suc, sym, subst, ◌∙◌}
 use Rattle.md_judge.specs.declared.judge.Judge.{Judge}
-use Rattle.md_judge.specs.declared.judge.known.Known.{Known}
 use Rattle.md_log.specs.declared.clause.Clause.TheVariants as clause
-use Rattle.md_judge.specs.Law.{turn, Overwritten}
-use Rattle.md_judge.specs.Recalled.{IsToldAt}
+use Rattle.md_judge.specs.Law.{turn, Breaks}
+use Rattle.md_judge.specs.Verdict.{Remembers}
 use Rattle.md_judge.proofs.Verdicts.{clauses, adds-next, adds-all}
 use Rattle.md_judge.proofs.session.Session.judge_step.Goals as goal
 
@@ -19,19 +18,19 @@ loop-clause-preserved c =
         allowed = after.keeps.allowed ∙ before.keeps.allowed;
       };
       judge = after.judge ∙ before.judge;
-      listed = before.listed;
-      found = adds-next c.args.line clauses c.loop-clause.clause-index clause.NotADirectory c.step.new.self (record c.args.self.now { judge = c.step.new.self }) c.loop-clause.self c.note.new.self c.loop-clause-test.true before.judge before.found after.found;
+      found = λ o. adds-next o c.args.line clauses c.loop-clause.clause-index clause.NotADirectory c.step.new.self
+          (record c.args.self.now { judge = c.step.new.self }) c.loop-clause.self c.note.new.self c.loop-clause-test.true before.judge
+          (before.found o) (after.found o);
     }
 
 pub returns-clause-told : goal.returns-clause-told
 returns-clause-told c = λ lines l i told is here short there.
-    let told' = subst (λ (k : Known). IsToldAt lines l i k) (sym c.go_to.ensures.known) told in
-    subst (λ (j : Judge). IsToldAt lines l (suc i) j.known) (sym c.loop-clause.invariant.judge)
-    (c.in_ok-step.ensures.told lines l i told' is here short there)
+    subst (λ (j : Judge). Remembers lines l (suc i) j) (sym c.loop-clause.invariant.judge)
+    (c.in_ok-step.ensures.told lines l i (c.go_to.ensures.told lines l i told) is here short there)
 
 pub returns-clause-found : goal.returns-clause-found
-returns-clause-found c = λ lines l i told is here short there.
-    let told' = subst (λ (k : Known). IsToldAt lines l i k) (sym c.go_to.ensures.known) told in
-    adds-all c.args.line clauses c.loop-clause.clause-index c.step.new.self c.args.self.now.judge.allowed (Overwritten (turn l i c.args.step)) (record c.args.self.now { judge = c.step.new.self }) c.loop-clause.self
-    c.loop-clause.invariant.listed c.loop-clause-test.false (c.in_ok-step.ensures.allowed ∙ c.go_to.ensures.allowed)
-    (c.in_ok-step.ensures.overwritten lines l i told' is here short there) c.loop-clause.invariant.found
+returns-clause-found c = λ lines l i told is here short there o proved.
+    adds-all o c.args.line c.loop-clause.clause-index c.step.new.self c.args.self.now.judge.allowed (Breaks o (turn l i c.args.step))
+    (record c.args.self.now { judge = c.step.new.self }) c.loop-clause.self c.loop-clause-test.false
+    (c.in_ok-step.ensures.allowed ∙ c.go_to.ensures.allowed)
+    (c.in_ok-step.ensures.broken lines l i (c.go_to.ensures.told lines l i told) is here short there o proved) (c.loop-clause.invariant.found o)

@@ -13,7 +13,7 @@ pub returns-in-Folder : goal.returns-in-Folder
 returns-in-Folder c = record {
   read = λ l l' read none head is.
       folder-read c.args.number l l' c.args.self.now (record c.args.self.now { folders = c.add.new.self; judge = c.add_folder.new.self }) read none refl
-      refl refl c.go_to.new.self.known c.go_to.ensures.known c.go_to.new.self.allowed c.go_to.ensures.allowed c.add_folder.result
+      refl refl c.go_to.new.self c.go_to.ensures.told c.go_to.ensures.allowed c.add_folder.result
       c.add_folder.ensures.allowed c.in-Folder.name c.in_ok-add-in-Folder.ensures.folders
       (subst (λ (x : Line). with_line l c.args.number x ≡ Ok l') c.in-Folder.is is) c.add_folder.ensures.told;
 }
@@ -23,7 +23,7 @@ returns-in-Allow c = record {
   read = λ l l' read none head is.
       let is' = subst (λ (x : Line). with_line l c.args.number x ≡ Ok l') c.in-Allow.is is in
       allow-read c.args.number l l' c.args.self.now (record c.args.self.now { judge = c.allow.new.self }) c.in-Allow.clause read none (cc is') refl refl
-      refl refl (c.allow.ensures.known ∙ c.go_to.ensures.known)
+      refl refl (λ lines m i told. c.allow.ensures.told lines m i (c.go_to.ensures.told lines m i told))
       (subst (λ (a : Clauses). (o : Clause) → Has c.allow.new.self.allowed o ↔ (Has a o ⊎ (o ≡ c.in-Allow.clause))) c.go_to.ensures.allowed c.allow.ensures.allowed);
 }
 
@@ -33,7 +33,7 @@ returns-in-File c = record {
       let is' = subst (λ (x : Line). with_line l c.args.number x ≡ Ok l') c.in-File.is is in
       let head' = subst (IsHeadOf l.opening) c.in-File.is head in
       path-read c.args.number l l' c.args.self.now (record c.args.self.now { judge = c.put_file.new.self }) read none refl refl refl
-      c.go_to.new.self.known c.go_to.ensures.known c.go_to.new.self.allowed c.go_to.ensures.allowed c.put_file.result c.put_file.ensures.allowed
+      c.go_to.new.self c.go_to.ensures.told c.go_to.ensures.allowed c.put_file.result c.put_file.ensures.allowed
       (file-rest l l' c.in-File.path c.in-File.stamp is') (folders-after l l' c.args.number c.args.line read.housed is) refl
       (λ lines told low. c.put_file.ensures.told lines l l' told is' low head');
 }
@@ -44,7 +44,7 @@ returns-in-Also c = record {
       let is' = subst (λ (x : Line). with_line l c.args.number x ≡ Ok l') c.in-Also.is is in
       let head' = subst (IsHeadOf l.opening) c.in-Also.is head in
       path-read c.args.number l l' c.args.self.now (record c.args.self.now { judge = c.put_name.new.self }) read none refl refl refl
-      c.go_to.new.self.known c.go_to.ensures.known c.go_to.new.self.allowed c.go_to.ensures.allowed c.put_name.result c.put_name.ensures.allowed
+      c.go_to.new.self c.go_to.ensures.told c.go_to.ensures.allowed c.put_name.result c.put_name.ensures.allowed
       (also-rest l l' c.in-Also.path c.in-Also.old is') (folders-after l l' c.args.number c.args.line read.housed is) refl
       (λ lines told low. c.put_name.ensures.told lines l l' told is' low head');
 }
