@@ -1,5 +1,6 @@
 -- What is read of a whole log, line by line.
-use Rattle.std.proofs.Common.{ℕ, zero, suc, ◌≡◌, ◌↔◌, length, List, [], ◌∷◌, ◌++◌, Some, Result, Ok, Err, slice_get, refl, sym, ap, subst, true, false, Bool}
+use Rattle.std.proofs.Common.{ℕ, zero, suc, ◌≡◌, ◌<◌, ◌≤◌, ◌+◌, ◌↔◌, length, List, [], ◌∷◌, ◌++◌, Some, Result, Ok, Err, slice_get, refl, sym, ap, subst, ◌∙◌, true, false, Bool, arith}
+use Rattle.std.proofs.lemmas.List.{length_push}
 use Rattle.std.specs.Prelude.{if◌then◌else◌, codes}
 use Rattle.std.specs.Str.{bytes_eq}
 use Rattle.md_head.specs.Header.{lines_of}
@@ -15,7 +16,7 @@ use Rattle.md_judge.specs.declared.log.Finding.{Finding}
 use Rattle.md_judge.specs.declared.session.Session.{Session}
 use Rattle.md_judge.specs.Law.{IsAllowed, IsFinding}
 use Rattle.md_judge.specs.Logs.{Log, Numbered, empty_log, is_passed_over, has_begun, with_line, with_text, with_folder_line, with_lines, at_line, and_then, log_by, log_of}
-use Rattle.md_judge.specs.Verdict.{IsProved, HasNoTicks, IsAmong, HasRead}
+use Rattle.md_judge.specs.Verdict.{IsProved, HasNoTicks, IsAmong, HasRead, HasTaken}
 use Rattle.md_judge.proofs.Verdicts.{file-rest, also-rest}
 
 -- ---- a log of which no line was read
@@ -137,9 +138,93 @@ read-all text left line s end read l is none =
 
 -- once all are read, what was found are the findings
 pub found-all : (text : List ℕ) (left : List (List ℕ)) (line : ℕ) (s t : Session) → left ≡ [] → HasReadTo text line left s
-    → (s.stretch.steps.items ≡ [] → s.stretch.moved.entries ≡ [] → t.findings ≡ s.findings)
+    → (s.stretch.steps.items ≡ [] → s.stretch.moved.entries ≡ [] → t ≡ s)
     → (l : Log) → log_of text ≡ Ok l → HasNoTicks l → (n : ℕ) (c : Clause) → IsProved c → IsAmong t.findings.items n c ↔ IsFinding l n c
 found-all text left line s t end read same l is none n c proved =
     let all = read-all text left line s end read l is none in
-    let now : t.findings.items ≡ s.findings.items = λ i. (same all.waits all.moved i).items in
+    let now : t.findings.items ≡ s.findings.items = λ i. (same all.waits all.moved i).findings.items in
     subst (λ (fs : List Finding). IsAmong fs n c ↔ IsFinding l n c) (sym now) (all.found n c proved)
+
+-- ---- lines that are taken in one by one
+
+-- the last of the lines is read after the others
+lines-more : (texts : List (List ℕ)) (m l : Log) (n : ℕ) (text : List ℕ) → with_lines m n (texts ++ text ∷ []) ≡ Ok l
+    → (o : Log) × (with_lines m n texts ≡ Ok o) × (with_text o (n + length texts) text ≡ Ok l)
+unfolding with_lines
+lines-more [] m l n text is =
+    let cut = lines-cut m l n text [] is in
+    let same : n ≡ n + 0 = omega arith in
+    (m, refl, subst (λ k. with_text m k text ≡ Ok l) same (cut.1 ∙ ap Ok (lines-end cut.0 l (suc n) cut.2)))
+lines-more (one ∷ texts) m l n text is =
+    let cut = lines-cut m l n one (texts ++ text ∷ []) is in
+    let rest = lines-more texts cut.0 l (suc n) text cut.2 in
+    let same : suc n + length texts ≡ n + suc (length texts) = omega arith in (
+      rest.0,
+      subst (λ (r : Result Log LineFault). and_then (at_line n r) (λ o. with_lines o (suc n) texts) ≡ Ok rest.0) (sym cut.1) rest.1,
+      subst (λ k. with_text rest.0 k text ≡ Ok l) same rest.2,
+    )
+
+log-more : (head : List ℕ) (texts : List (List ℕ)) (l : Log) (text : List ℕ) → log_by (head ∷ (texts ++ text ∷ [])) ≡ Ok l
+    → (o : Log) × (log_by (head ∷ texts) ≡ Ok o) × (with_text o (2 + length texts) text ≡ Ok l)
+log-more head texts l text is = by (bytes_eq head (codes "maildir_log 1")) is
+  where
+    by : (b : Bool) → (if b then with_lines empty_log 2 (texts ++ text ∷ []) else Err (record { line = 1; fault = NoLog })) ≡ Ok l
+        → (o : Log) × ((if b then with_lines empty_log 2 texts else Err (record { line = 1; fault = NoLog })) ≡ Ok o) × (with_text o (2 + length texts) text ≡ Ok l)
+    by true is = lines-more texts empty_log l 2 text is
+    by false is = absurd (cc is)
+
+-- a log of one line is the empty one
+log-one : (text : List ℕ) (l : Log) → log_by (text ∷ []) ≡ Ok l → empty_log ≡ l
+log-one text l is = by (bytes_eq text (codes "maildir_log 1")) is
+  where
+    by : (b : Bool) → (if b then with_lines empty_log 2 [] else Err (record { line = 1; fault = NoLog })) ≡ Ok l → empty_log ≡ l
+    by true is = lines-end empty_log l 2 is
+    by false is = absurd (cc is)
+
+-- what a session has read is nothing of its count of lines
+counted : (number : ℕ) (l : Log) (s : Session) (n : ℕ) → HasRead number l s → HasRead number l (record s { lines = n })
+counted number l s n read = record {
+  folders = read.folders;
+  begun = read.begun;
+  housed = read.housed;
+  told = read.told;
+  waits = read.waits;
+  moved = read.moved;
+  allowed = read.allowed;
+  found = read.found;
+}
+
+none-of-some : (texts : List (List ℕ)) (text : List ℕ) → texts ++ text ∷ [] ≡ [] → ⊥
+none-of-some [] text none = cc none
+none-of-some (one ∷ texts) text none = cc none
+
+-- a session that takes in one more line, the head or one after it, has taken in the lines with it
+pub takes-line : (texts : List (List ℕ)) (text : List ℕ) (s t : Session) (number : ℕ) → HasTaken texts s → number ≡ suc (length texts)
+    → (number ≤ 1 → t ≡ s)
+    → (1 < number → (l l' : Log) → HasRead number l s → with_text l number text ≡ Ok l' → HasNoTicks l' → HasRead (suc number) l' t)
+    → HasTaken (texts ++ text ∷ []) (record t { lines = number })
+takes-line [] text s t number taken is first later =
+    let one : number ≡ 1 = is in
+    let start : HasRead 2 empty_log t = subst (λ (v : Session). HasRead 2 empty_log v) (sym (first (omega (arith, one)))) (taken.none refl) in
+    record {
+      lines = one;
+      none = λ none. absurd (none-of-some [] text none);
+      read = λ l has ticks. subst (λ (m : Log). HasRead 2 m (record t { lines = number })) (log-one text l has) (counted 2 empty_log t number start);
+    }
+takes-line (head ∷ texts) text s t number taken is first later =
+    let long : length (texts ++ text ∷ []) ≡ length texts + 1 = length_push texts text in
+    let is' : number ≡ suc (suc (length texts)) = is in
+    record {
+      lines = let same : number ≡ suc (length (texts ++ text ∷ [])) = omega (arith, long, is') in same;
+      none = λ none. absurd (none-of-some (head ∷ texts) text none);
+      read = λ l has ticks.
+          let more = log-more head texts l text has in
+          let here : 2 + length texts ≡ number = omega (arith, is') in
+          let next : with_text more.0 number text ≡ Ok l = subst (λ k. with_text more.0 k text ≡ Ok l) here more.2 in
+          let before : HasRead (suc (suc (length texts))) more.0 s =
+          taken.read more.0 more.1 (λ k x at-step. ticks k x (text-before more.0 l number text next k x at-step)) in
+          let now : HasRead (suc number) l t =
+          later (omega (arith, is')) more.0 l (subst (λ k. HasRead k more.0 s) (sym is') before) next ticks in
+          let same : suc number ≡ suc (suc (length (texts ++ text ∷ []))) = omega (arith, long, is') in
+          subst (λ k. HasRead k l (record t { lines = number })) same (counted (suc number) l t number now);
+    }

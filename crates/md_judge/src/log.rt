@@ -34,7 +34,7 @@ pub fn judge_log(alloc: Global, log: &[u8]) -> Result<Vec<Finding>, LogFault>
             return Err(LogFault { line: 1, fault });
         }
     };
-    let mut session = Session::begin(alloc);
+    let mut session = Session::new(alloc);
     let mut line = 1u64;
     while let Some((text, others)) = cut_line(left) {
         line = next_line(line)?;

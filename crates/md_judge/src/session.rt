@@ -1,12 +1,12 @@
 //! A log whose lines come one by one.
-ghost use Rattle.std.specs.Prelude.{ℕ, suc, ◌≡◌, ◌<◌, ◌++◌, ◌∷◌, [], Some, None, Ok, OnOk, length, slice_get};
+ghost use Rattle.std.specs.Prelude.{ℕ, suc, ◌≡◌, ◌<◌, ◌↔◌, List, ◌++◌, ◌∷◌, [], Some, None, Ok, OnOk, length, slice_get};
 ghost use Rattle.md_log.specs.declared.clause.Clause.{Clause};
 ghost use Rattle.md_judge.specs.Found.{Has};
-ghost use Rattle.md_judge.specs.Law.{Breaks, turn};
-ghost use Rattle.md_judge.specs.Logs.{Log, empty_log, is_passed_over, with_line, with_text};
+ghost use Rattle.md_judge.specs.Law.{Breaks, IsFinding, turn};
+ghost use Rattle.md_judge.specs.Logs.{Log, is_passed_over, log_by, with_line, with_text};
 ghost use Rattle.md_judge.specs.Recalled.{HasFolders};
 ghost use Rattle.md_judge.specs.Told.{at};
-ghost use Rattle.md_judge.specs.Verdict.{IsProved, HasNoTicks, Remembers, HasRead, IsHeadOf, IsBroken, AddsFinding, KeepsHead};
+ghost use Rattle.md_judge.specs.Verdict.{IsProved, HasNoTicks, Remembers, IsAmong, HasRead, HasTaken, IsHeadOf, IsBroken, AddsFinding, KeepsHead};
 
 use crate::judge::Judge;
 use crate::log::{Finding, HEAD};
@@ -36,13 +36,8 @@ pub struct Session {
 
 impl Session {
     /// A log of which no line was read.
-    pub fn new(alloc: Global) -> Self {
-        Session::begin(alloc)
-    }
-
-    /// The same, for the proofs of this crate.
-    pub(crate) fn begin(alloc: Global) -> Self
-        ensures read { HasRead 2 empty_log result }
+    pub fn new(alloc: Global) -> Self
+        ensures taken { HasTaken [] result }
     {
         Session {
             alloc,
@@ -64,18 +59,25 @@ impl Session {
     }
 
     /// Takes in the next line, without its end. The first is the head. After a refusal the log is not to be judged.
-    pub fn line(&mut self, text: &[u8]) -> Result<(), LogFault> {
-        self.lines = self.lines.saturating_add(1);
-        let line = self.lines;
-        match line {
-            1 if text == HEAD => Ok(()),
-            1 => Err(fault_at(1, LineFault::NoLog)),
-            _ => self.take(line, text),
+    pub fn line(&mut self, text: &[u8]) -> Result<(), LogFault>
+        ensures taken { (texts : List (List ℕ)) → HasTaken texts self.old → length texts < 18446744073709551615
+            → OnOk result (HasTaken (texts ++ text.now ∷ []) self.new) }
+    {
+        let line = self.lines.saturating_add(1);
+        if line > 1 {
+            self.take(line, text)?;
+        } else if text != HEAD {
+            return Err(fault_at(1, LineFault::NoLog));
         }
+        self.lines = line;
+        Ok(())
     }
 
     /// The log is over. A log without a line is none.
-    pub fn end(&mut self) -> Result<(), LogFault> {
+    pub fn end(&mut self) -> Result<(), LogFault>
+        ensures still { (texts : List (List ℕ)) (l : Log) → HasTaken texts self.old → log_by texts ≡ Ok l → HasNoTicks l
+            → OnOk result (self.new ≡ self.old) }
+    {
         if self.lines == 0 {
             return Err(fault_at(1, LineFault::NoLog));
         }
@@ -84,7 +86,7 @@ impl Session {
 
     /// Judges what waits, and puts the findings in the order of their lines.
     pub(crate) fn finish(&mut self) -> Result<(), LogFault>
-        ensures found { self.old.stretch.steps.items ≡ [] → self.old.stretch.moved.entries ≡ [] → OnOk result (self.new.findings ≡ self.old.findings) }
+        ensures still { self.old.stretch.steps.items ≡ [] → self.old.stretch.moved.entries ≡ [] → OnOk result (self.new ≡ self.old) }
     {
         self.judge_stretch()?;
         let line = self.lines;
@@ -112,7 +114,10 @@ impl Session {
     }
 
     /// What was found, in the order of the lines, and at one line in the order of the law.
-    pub fn findings(&self) -> &[Finding] {
+    pub fn findings(&self) -> &[Finding]
+        ensures found { (texts : List (List ℕ)) (l : Log) → HasTaken texts self.now → log_by texts ≡ Ok l → HasNoTicks l
+            → (number : ℕ) (c : Clause) → IsProved c → IsAmong result.now number c ↔ IsFinding l number c }
+    {
         self.findings.as_slice()
     }
 

@@ -1,4 +1,4 @@
-use Rattle.std.proofs.Common.{suc, ◌≡◌, ◌↔◌, List, Ok, sym, subst, arith}
+use Rattle.std.proofs.Common.{suc, ◌≡◌, ◌↔◌, List, Ok, refl, sym, subst, arith}
 use Rattle.md_head.specs.Header.{lines_of}
 use Rattle.md_judge.specs.declared.log.Finding.{Finding}
 use Rattle.md_judge.specs.Law.{IsFinding}
@@ -10,7 +10,7 @@ use Rattle.md_judge.proofs.log.judge_log.Goals as goal
 pub loop-text-init : goal.loop-text-init
 loop-text-init c =
     let cut = c.in-Some-HEAD-default.ensures in
-    read-first c.args.log.now _ (lines_of c.in-Some-HEAD-default.others.now) c.begin-session.result cut.lines c.begin-session.ensures.read
+    read-first c.args.log.now _ (lines_of c.in-Some-HEAD-default.others.now) c.new-session.result cut.lines (c.new-session.ensures.taken.none refl)
 
 pub loop-text-preserved : goal.loop-text-preserved
 loop-text-preserved c =
@@ -30,7 +30,7 @@ pub returns : goal.returns
 returns c = record {
   found = λ l is none n o proved.
       let all = found-all c.args.log.now (lines_of c.loop-text.left.now) c.loop-text.line c.loop-text.session c.finish.new.self
-      c.in_default-cut_line.ensures.lines c.loop-text.invariant c.in_ok-finish.ensures.found l is none n o proved in
+      c.in_default-cut_line.ensures.lines c.loop-text.invariant c.in_ok-finish.ensures.still l is none n o proved in
       subst (λ (fs : List Finding). IsAmong fs n o ↔ IsFinding l n o)
       (λ i. (sym c.into_findings.ensures i).items) all;
 }

@@ -1,0 +1,26 @@
+use Rattle.std.proofs.Common.{refl}
+use Rattle.md_judge.specs.Logs.{empty_log}
+use Rattle.md_judge.proofs.Prefixes.{finding-none}
+use Rattle.md_judge.proofs.Whole.{none-among, none-allowed}
+use Rattle.md_judge.proofs.session.Session.new.Goals as goal
+
+pub returns : goal.returns
+returns c = record {
+  taken = record {
+    lines = refl;
+    none = λ none. record {
+      folders = c.new.ensures;
+      begun = refl;
+      housed = refl;
+      told = λ lines are. c.new-2.ensures.told lines;
+      waits = c.new-5.ensures.waits;
+      moved = c.new-5.ensures.moved;
+      allowed = λ o proved. (λ is. absurd (c.new-2.ensures.allowed o is), λ is. absurd (none-allowed o is));
+      found = λ n o proved. (
+        λ among. absurd (none-among c.new-3.result.items n o c.new-3.ensures.items among),
+        λ is. absurd (finding-none empty_log n o refl is),
+      );
+    };
+    read = λ l is ticks. absurd (cc is);
+  };
+}
