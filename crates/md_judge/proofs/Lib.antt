@@ -27,6 +27,7 @@ pub mod Stepping
 pub mod Beginning
 pub mod Acting
 pub mod Sparing
+pub mod Longer
 pub mod Prefixes
 pub mod Housed
 pub mod Verdicts

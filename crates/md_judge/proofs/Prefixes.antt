@@ -1,5 +1,5 @@
 -- What is so of a log stays so as one more step comes after its steps.
-use Rattle.std.proofs.Common.{ℕ, zero, suc, ◌≡◌, ◌<◌, ◌≤◌, ◌+◌, ◌*◌, ◌⊎◌, inl, inr, ◌↔◌, List, [], ◌++◌, ◌∷◌, Option, Some, None, length, slice_get, fold, refl, sym, ap, subst, ◌∙◌, arith}
+use Rattle.std.proofs.Common.{ℕ, ◌≡◌, ◌<◌, ◌≤◌, ◌+◌, ◌*◌, ◌⊎◌, inl, inr, ◌↔◌, List, [], ◌++◌, ◌∷◌, Option, Some, None, length, slice_get, fold, refl, sym, ap, subst, ◌∙◌, arith}
 use Rattle.std.proofs.lemmas.List.{length_push, take-append-le}
 use Rattle.std.proofs.lemmas.Option.{slice_get_within}
 use Rattle.std.proofs.lemmas.Bool.{cases_lt}
@@ -7,16 +7,15 @@ use Rattle.md_dirs.specs.Path.{path_of}
 use Rattle.md_dirs.specs.State.{State, file_at}
 use Rattle.md_dirs.specs.declared.paths.Path.{Path}
 use Rattle.md_log.specs.declared.clause.Clause.{Clause}
-use Rattle.md_log.specs.declared.clause.Clause.TheVariants as clause
 use Rattle.md_log.specs.declared.line.Step.{Step}
 use Rattle.md_judge.specs.declared.judge.known.Known.{Known}
 use Rattle.md_judge.specs.Claims.{IsSince}
-use Rattle.md_judge.specs.Law.{turn, Breaks, Overwrites, Overwritten, IsAllowed, IsFinding}
+use Rattle.md_judge.specs.Law.{turn, Breaks, IsAllowed, IsFinding}
 use Rattle.md_judge.specs.Logs.{Log, Numbered}
 use Rattle.md_judge.specs.Readings.{IsHere, RecallsWas}
 use Rattle.md_judge.specs.Recalled.{IsToldAt}
 use Rattle.md_judge.specs.Told.{Moment, after_step, moment, at}
-use Rattle.md_judge.specs.Verdict.{IsProved}
+use Rattle.md_judge.proofs.Longer.{same-step, breaks-longer}
 
 -- a log with one more step
 abbrev pushed : Log → Numbered → Log
@@ -91,27 +90,7 @@ opening-told lines l l' known same told = told-alike lines l l' 0 beginning know
 
 -- ---- what is found
 
--- a step before it overwrites a path as it did
-pub overwritten-longer : (l : Log) (n : Numbered) (i : ℕ) (x : Step) → suc i ≤ length l.steps
-    → Overwritten (turn (record l { steps = l.steps ++ n ∷ [] }) i x) ↔ Overwritten (turn l i x)
-overwritten-longer l n i x low =
-    let old : at (pushed l n) i ≡ at l i = same-at l n i (omega (arith, low)) in
-    let new : at (pushed l n) (suc i) ≡ at l (suc i) = same-at l n (suc i) low in
-    let same : Overwrites (at (pushed l n) i) (at (pushed l n) (suc i)) ≡ Overwrites (at l i) (at l (suc i)) = λ k. Overwrites (old k) (new k) in
-    (subst (λ A. A) same, subst (λ A. A) (sym same))
-
--- a step before it breaks a clause as it did
-pub breaks-longer : (c : Clause) → IsProved c → (l : Log) (n : Numbered) (i : ℕ) (x : Step) → suc i ≤ length l.steps
-    → Breaks c (turn (record l { steps = l.steps ++ n ∷ [] }) i x) ↔ Breaks c (turn l i x)
-breaks-longer clause.Overwritten proved l n i x low = overwritten-longer l n i x low
-breaks-longer c proved l n i x low = absurd proved
-
--- the step of a number is what it was, and the last is the one more
-step-longer : {A : Type 0} (xs : List A) (y : A) (i : ℕ) → i < length xs → slice_get (xs ++ y ∷ []) i ≡ slice_get xs i
-step-longer [] y i low = absurd (omega (arith, low))
-step-longer (x ∷ xs) y zero low = refl
-step-longer (x ∷ xs) y (suc i) low = step-longer xs y i (omega (arith, low))
-
+-- the last step is the one more
 step-last : {A : Type 0} (xs : List A) (y : A) → slice_get (xs ++ y ∷ []) (length xs) ≡ Some y
 step-last [] y = refl
 step-last (x ∷ xs) y = step-last xs y
@@ -122,11 +101,11 @@ the-last xs y x i last is =
     cc said
 
 -- with one more step there is found what was, and what the step breaks
-pub finding-longer : (c : Clause) → IsProved c → (l : Log) (n : Numbered) (number : ℕ)
+pub finding-longer : (c : Clause) (l : Log) (n : Numbered) (number : ℕ)
     → IsFinding (record l { steps = l.steps ++ n ∷ [] }) number c
     ↔ (IsFinding l number c
     ⊎ ((n.number ≡ number) × (IsAllowed l c → ⊥) × Breaks c (turn (record l { steps = l.steps ++ n ∷ [] }) (length l.steps) n.step)))
-finding-longer c proved l n number = (
+finding-longer c l n number = (
   λ found.
       let i : ℕ = found.1.0 in
       let x : Step = found.1.1 in
@@ -134,7 +113,7 @@ finding-longer c proved l n number = (
       elim (cases_lt i (length l.steps)) [
         | inl low ↦ inl (
           found.0,
-          (i, x, sym (step-longer l.steps n i low) ∙ is, (breaks-longer c proved l n i x (omega (arith, low))).0 found.1.3),
+          (i, x, same-step l.steps n i low ∙ is, (breaks-longer c l n i x (omega (arith, low))).0 found.1.3),
         )
         | inr high ↦
             let within : i < length (l.steps ++ n ∷ []) = slice_get_within (l.steps ++ n ∷ []) i _ is in
@@ -153,7 +132,7 @@ finding-longer c proved l n number = (
         let i : ℕ = before.1.0 in
         let low : i < length l.steps = slice_get_within l.steps i _ before.1.2 in (
           before.0,
-          (i, before.1.1, step-longer l.steps n i low ∙ before.1.2, (breaks-longer c proved l n i before.1.1 (omega (arith, low))).1 before.1.3),
+          (i, before.1.1, sym (same-step l.steps n i low) ∙ before.1.2, (breaks-longer c l n i before.1.1 (omega (arith, low))).1 before.1.3),
         )
     | inr more ↦
         let same : n ≡ record { number = number; step = n.step } = λ k. record { number = more.0 k; step = n.step } in

@@ -70,7 +70,7 @@ last-is : {A : Type 0} (xs : List A) (y : A) → slice_get (xs ++ y ∷ []) (len
 last-is [] y = refl
 last-is (x ∷ xs) y = last-is xs y
 
-first-are : {A : Type 0} (xs : List A) (y : A) (i : ℕ) (x : A) → slice_get xs i ≡ Some x → slice_get (xs ++ y ∷ []) i ≡ Some x
+pub first-are : {A : Type 0} (xs : List A) (y : A) (i : ℕ) (x : A) → slice_get xs i ≡ Some x → slice_get (xs ++ y ∷ []) i ≡ Some x
 first-are [] y i x is = absurd (cc is)
 first-are (z ∷ xs) y zero x is = is
 first-are (z ∷ xs) y (suc i) x is = first-are xs y i x is
@@ -208,10 +208,10 @@ module _ (number : ℕ) (l : Log) (x : Step) (s t : Session) (read : HasRead num
       → IsAmong t.findings.items m c ↔ IsFinding longer m c
   found-longer c proved m adds = (
     λ now. elim (adds.0 now) [
-      | inl was ↦ (finding-longer c proved l one m).1 (inl ((read.found m c proved).0 was))
-      | inr new ↦ (finding-longer c proved l one m).1 (inr (new.0, (λ is. new.1.1 ((read.allowed c proved).1 is)), new.1.0))
+      | inl was ↦ (finding-longer c l one m).1 (inl ((read.found m c proved).0 was))
+      | inr new ↦ (finding-longer c l one m).1 (inr (new.0, (λ is. new.1.1 ((read.allowed c proved).1 is)), new.1.0))
     ],
-    λ is. elim ((finding-longer c proved l one m).0 is) [
+    λ is. elim ((finding-longer c l one m).0 is) [
       | inl was ↦ adds.1 (inl ((read.found m c proved).1 was))
       | inr new ↦ adds.1 (inr (new.0, (new.2, λ has. new.1 ((read.allowed c proved).0 has))))
     ],

@@ -1,5 +1,5 @@
 -- What is read of a whole log, line by line.
-use Rattle.std.proofs.Common.{ℕ, zero, suc, ◌≡◌, ◌<◌, ◌≤◌, ◌+◌, ◌↔◌, length, List, [], ◌∷◌, ◌++◌, Some, Result, Ok, Err, slice_get, refl, sym, ap, subst, ◌∙◌, true, false, Bool, arith}
+use Rattle.std.proofs.Common.{ℕ, suc, ◌≡◌, ◌<◌, ◌≤◌, ◌+◌, ◌↔◌, length, List, [], ◌∷◌, ◌++◌, Some, Result, Ok, Err, slice_get, refl, sym, ap, subst, ◌∙◌, true, false, Bool, arith}
 use Rattle.std.proofs.lemmas.List.{length_push}
 use Rattle.std.specs.Prelude.{if◌then◌else◌, codes}
 use Rattle.std.specs.Str.{bytes_eq}
@@ -17,7 +17,7 @@ use Rattle.md_judge.specs.declared.session.Session.{Session}
 use Rattle.md_judge.specs.Law.{IsAllowed, IsFinding}
 use Rattle.md_judge.specs.Logs.{Log, Numbered, empty_log, is_passed_over, has_begun, with_line, with_text, with_folder_line, with_lines, at_line, and_then, log_by, log_of}
 use Rattle.md_judge.specs.Verdict.{IsProved, HasNoTicks, IsAmong, HasRead, HasTaken}
-use Rattle.md_judge.proofs.Verdicts.{file-rest, also-rest}
+use Rattle.md_judge.proofs.Verdicts.{first-are, file-rest, also-rest}
 
 -- ---- a log of which no line was read
 
@@ -38,11 +38,6 @@ IsBefore l l' = (k : ℕ) (x : Numbered) → slice_get l.steps k ≡ Some x → 
 same-before : (l l' : Log) → l'.steps ≡ l.steps → IsBefore l l'
 same-before l l' same k x is = subst (λ (xs : List Numbered). slice_get xs k ≡ Some x) (sym same) is
 
-stays : {A : Type 0} (xs : List A) (y : A) (i : ℕ) (x : A) → slice_get xs i ≡ Some x → slice_get (xs ++ y ∷ []) i ≡ Some x
-stays [] y i x is = absurd (cc is)
-stays (z ∷ xs) y zero x is = is
-stays (z ∷ xs) y (suc i) x is = stays xs y i x is
-
 folder-steps : (l l' : Log) (name : List ℕ) → with_folder_line l name ≡ Ok l' → l'.steps ≡ l.steps
 unfolding with_folder_line
 folder-steps l l' name is = by (with_folder l.folders name) is
@@ -62,7 +57,7 @@ line-before l l' number (line.Also path old) is = same-before l l' (also-rest l 
 line-before l l' number (line.Step step) is =
     let one : Numbered = record { number = number; step = step } in
     let same : record l { steps = l.steps ++ one ∷ [] } ≡ l' = cc is in
-    λ k x has. subst (λ (m : Log). slice_get m.steps k ≡ Some x) same (stays l.steps one k x has)
+    λ k x has. subst (λ (m : Log). slice_get m.steps k ≡ Some x) same (first-are l.steps one k x has)
 
 text-before : (l l' : Log) (number : ℕ) (text : List ℕ) → with_text l number text ≡ Ok l' → IsBefore l l'
 unfolding with_text
