@@ -32,3 +32,9 @@ pub mod Prefixes
 pub mod Housed
 pub mod Verdicts
 pub mod Whole
+pub mod Counting
+pub mod Lasting
+pub mod Stored
+pub mod Shown
+pub mod Filing
+pub mod Judged

@@ -1,9 +1,18 @@
 -- What a step did to paths, as the law has it.
-use Rattle.std.specs.Prelude.{◌↔◌, IsTrue, IsSome}
+use Rattle.std.specs.Prelude.{◌≡◌, ◌↔◌, Some, IsTrue, IsSome}
+use Rattle.md_dirs.specs.State.{file_at}
+use Rattle.md_dirs.specs.declared.paths.Path.{Path}
 use Rattle.md_log.specs.declared.line.Call.{Call}
 use Rattle.md_log.specs.declared.line.Call.TheVariants as call
+use Rattle.md_log.specs.declared.line.Deed.{Deed}
+use Rattle.md_log.specs.declared.line.Reply.{Reply}
+use Rattle.md_judge.specs.declared.judge.directories.Spot.{Spot}
 use Rattle.md_judge.specs.declared.judge.known.Act.{Act}
+use Rattle.md_judge.specs.declared.judge.tables.Names.{Names}
+use Rattle.md_judge.specs.Changes.{Leads}
+use Rattle.md_judge.specs.Known.{EachSpot}
 use Rattle.md_judge.specs.Law.{Turn, IsWrongCall, Overwritten}
+use Rattle.md_judge.specs.Recalled.{IsSpotOf}
 
 -- the call reads no directory
 abbrev pub ReadsNone : Call → Type 0
@@ -28,3 +37,18 @@ IsWrongPathCall t = IsWrongAsk t t.step.call
 pub record IsActOf (t : Turn) (act : Act) : Type 0 where
   pub wrong : IsTrue act.is_wrong ↔ IsWrongPathCall t
   pub overwrites : IsSome act.change.turned ↔ Overwritten t
+
+-- The act names the path of a call on one path, and the file that is there before the step.
+pub record IsOfPath (names : Names) (t : Turn) (act : Act) (p : Path) : Type 0 where
+  pub spot : Spot
+  pub named : act.spot ≡ Some spot
+  pub of : IsSpotOf names p spot
+  pub file : act.file ≡ file_at t.old p
+
+-- A step did to paths what its act says, at which these spots stand for paths: the change leads from the paths before the step to those
+-- after it, and its spots are those of their paths.
+pub record IsDone (path : Spot → Path) (names : Names) (t : Turn) (act : Act) : Type 0 where
+  pub leads : Leads path act.change t.old t.new
+  pub place : (q : Spot) → (path q).place ≡ q.place
+  pub spots : EachSpot (λ q. IsSpotOf names (path q) q) act.change
+  pub at : (d : Deed) (p : Path) (r : Reply) → t.step.call ≡ call.At d p r → IsOfPath names t act p

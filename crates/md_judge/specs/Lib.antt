@@ -16,4 +16,5 @@ pub mod Readings
 pub mod Moments
 pub mod Recalled
 pub mod Acts
+pub mod Filed
 pub mod Verdict
