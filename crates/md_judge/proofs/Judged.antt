@@ -1,5 +1,5 @@
 -- What is kept of files goes on to be what a log tells, and what is found by it is what the law has of the step.
-use Rattle.std.proofs.Common.{ℕ, suc, ◌≡◌, ◌≢◌, ◌↔◌, ◌<◌, ◌≤◌, ◌+◌, ◌⊎◌, inl, inr, Bool, true, List, Option, Some, None, length, refl, sym, ap, subst, ◌∙◌, arith}
+use Rattle.std.proofs.Common.{ℕ, suc, ◌≡◌, ◌≢◌, ◌↔◌, ◌<◌, ◌≤◌, ◌+◌, ◌⊎◌, inl, inr, Bool, true, List, Option, Some, None, Result, Ok, Err, OnOk, length, refl, sym, ap, subst, ◌∙◌, arith}
 use Rattle.std.proofs.lemmas.Bool.{cases_lt}
 use Rattle.md_dirs.specs.State.{State, file_at, file_by}
 use Rattle.md_dirs.specs.declared.paths.Path.{Path}
@@ -19,10 +19,12 @@ use Rattle.md_judge.specs.declared.judge.directories.Spot.{Spot}
 use Rattle.md_judge.specs.declared.judge.facts.FileFacts.{FileFacts}
 use Rattle.md_judge.specs.declared.judge.files.Filed.{Filed}
 use Rattle.md_judge.specs.declared.judge.found.Found.{Found}
+use Rattle.md_judge.specs.declared.judge.known.Act.{Act}
+use Rattle.md_judge.specs.declared.judge.known.Known.{Known}
 use Rattle.md_judge.specs.declared.judge.tables.Names.{Names}
 use Rattle.md_judge.specs.Changes.{IsPathOf, Leads}
-use Rattle.md_judge.specs.Filed.{IsSeenBy, IsSeenTimes, IsFiled, HasFiles, AreFiled, BrokenByFiles}
-use Rattle.md_judge.specs.Files.{made, facts_at, named_by, AtStep, ChangeStep}
+use Rattle.md_judge.specs.Filed.{IsSeenBy, IsSeenTimes, IsFiled, HasFiles, AreFiled, IsJudged, BrokenByFiles}
+use Rattle.md_judge.specs.Files.{made, facts_at, named_by, AtStep, CallStep, ChangeStep}
 use Rattle.md_judge.specs.Found.{Notes}
 use Rattle.md_judge.specs.Known.{EachPath, EachSpot, files_after}
 use Rattle.md_judge.specs.Law.{Turn, turn}
@@ -303,3 +305,45 @@ none-at t other c broken = broken
 
 pub notes-none : (t : Turn) (old : Found) → ((d : Deed) (p : Path) (r : Reply) → t.step.call ≡ call.At d p r → ⊥) → Notes (BrokenAt t) old old
 notes-none t old other c = (λ h. inl h, λ h. elim h [ inl was ↦ was | inr is ↦ absurd (none-at t other c is) ])
+
+-- ---- a call of a step that is judged
+
+-- what follows of what holds where a call gives a value follows where it gives one
+pub on-both : {A E : Type 0} (r : Result A E) (P Q : Type 0) → OnOk r P → (P → OnOk r Q) → OnOk r Q
+on-both (Ok x) P Q is so = so is
+on-both (Err e) P Q is so = tt
+
+module _ (path : Spot → Path) (who : ℕ → List ℕ) (many : ℕ) (l : Log) (i : ℕ) (x : Step) (actor : ℕ) (c : Call) (known : Known) (act : Act)
+    (old : List Filed) (are : AreFiled who many l i old) (judged : IsJudged path who many l i x actor c known act) (mid : List Filed)
+    (does : CallStep c act.spot actor known.clock act.file old mid) where
+  between-call : (d : Call) → x.call ≡ d → (o : Option Spot) → act.spot ≡ o → CallStep d o actor (moment l (suc i)).now act.file old mid
+      → IsBetween who many l i x judged.step actor old mid
+  between-call (call.At d p r) is None spot-is does =
+      let of = judged.done.at d p r is in
+      let named = of.named in
+      absurd (cc)
+  between-call (call.At d p r) is (Some spot) spot-is does =
+      between-at who many l i x judged.step actor judged.acts old are mid p d r act.file is (sym (judged.done.at d p r is).file) does
+  between-call (call.Between n p q r) is o spot-is does =
+      subst (IsBetween who many l i x judged.step actor old) (sym does)
+      (between-other who many l i x judged.step actor judged.acts old are (call.Between n p q r) is (λ d p r e. cc))
+  between-call (call.List folder place r shown) is o spot-is does =
+      subst (IsBetween who many l i x judged.step actor old) (sym does)
+      (between-other who many l i x judged.step actor judged.acts old are (call.List folder place r shown) is (λ d p r e. cc))
+  between-call (call.Answer answer folder unique) is o spot-is does =
+      subst (IsBetween who many l i x judged.step actor old) (sym does)
+      (between-other who many l i x judged.step actor judged.acts old are (call.Answer answer folder unique) is (λ d p r e. cc))
+
+  between : IsBetween who many l i x judged.step actor old mid
+  between = between-call c judged.call act.spot refl (subst (λ now. CallStep c act.spot actor now act.file old mid) judged.clock does)
+
+  module _ (new : List Filed) (then : ChangeStep known.names act.change mid new) where
+    -- what is kept of files is what the log tells after the step
+    pub filed-call : AreFiled who many l (suc i) new
+    filed-call = filed-next who many l i x judged.step actor judged.acts old are path known.names act.change judged.done.leads judged.done.place
+        judged.done.spots mid new between then
+
+    pub change-call : IsChange path who many l i x actor known.clock known.names act.change mid new
+    change-call = subst (λ now. IsChange path who many l i x actor now known.names act.change mid new) (sym judged.clock)
+        (is-change who many l i x judged.step actor judged.acts old are path known.names act.change judged.done.leads judged.done.place
+        judged.done.spots mid new between then)

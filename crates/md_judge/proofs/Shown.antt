@@ -239,8 +239,11 @@ module _ (path : Spot → Path) (names : Names) (n : ℕ) where
           (counted-less P f.seen (path q) holds (there (path q) ((refl, sym same), message)))
       out same false is =
           counted-alike P Q f.seen (λ p. (
-            λ h. (h, λ of. let no : is_message (path q) ≡ false = sym says ∙ is in
-                let yes : is_message (path q) ≡ true = ap is_message of.0 ∙ shows p h in cc),
+            λ h. (
+              h,
+              λ of. let no : is_message (path q) ≡ false = sym says ∙ is in
+                  let yes : is_message (path q) ≡ true = ap is_message of.0 ∙ shows p h in cc,
+            ),
             λ h. h.0,
           )) holds
 

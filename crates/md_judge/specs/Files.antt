@@ -9,6 +9,8 @@ use Rattle.md_log.specs.declared.line.Reply.{Reply}
 use Rattle.md_log.specs.declared.line.Reply.TheVariants as reply
 use Rattle.md_log.specs.declared.line.Deed.{Deed}
 use Rattle.md_log.specs.declared.line.Deed.TheVariants as deed
+use Rattle.md_log.specs.declared.line.Call.{Call}
+use Rattle.md_log.specs.declared.line.Call.TheVariants as call
 use Rattle.md_judge.specs.declared.judge.acts.Change.{Change}
 use Rattle.md_judge.specs.declared.judge.directories.Spot.{Spot}
 use Rattle.md_judge.specs.declared.judge.facts.FileFacts.{FileFacts}
@@ -108,6 +110,11 @@ AtStep deed.Create reply.Ok actor now file old new = Adds (made (Some actor) now
 AtStep deed.Write r actor now (Some file) old new = Changes file (written r now) old new
 AtStep deed.Flush r actor now (Some file) old new = Changes file (flushed r) old new
 AtStep d r actor now file old new = new ≡ old
+
+-- what a call does to files, but for its change of paths: only one on one path does something
+abbrev pub CallStep : Call → Option Spot → ℕ → ℕ → Option ℕ → List Filed → List Filed → Type 0
+CallStep (call.At d p r) (Some spot) actor now file old new = AtStep d r actor now file old new
+CallStep c spot actor now file old new = new ≡ old
 
 -- what a path does that comes to name a file, and one that names it no longer
 abbrev pub NameStep : Names → Option (Spot × ℕ) → List Filed → List Filed → Type 0

@@ -1,5 +1,5 @@
 //! Calls on files, and the clauses that go by what was done to files.
-ghost use Rattle.std.specs.Prelude.{◌≡◌, ℕ, List, OnOk, true};
+ghost use Rattle.std.specs.Prelude.{◌≡◌, ℕ, suc, List, OnOk, true};
 ghost use Rattle.md_dirs.specs.declared.paths.Path.{Path};
 ghost use Rattle.md_log.specs.declared.line.Step.{Step};
 ghost use Rattle.md_judge.specs.declared.judge.directories.Spot.{Spot};
@@ -7,7 +7,8 @@ ghost use Rattle.md_judge.specs.Logs.{Log};
 ghost use Rattle.md_judge.specs.Law.{turn};
 ghost use Rattle.md_judge.specs.Recalls.{IsAt, IsChange, BrokenAt, BrokenByChange};
 ghost use Rattle.md_judge.specs.Found.{Notes, KeepsPaths};
-ghost use Rattle.md_judge.specs.Files.{is_message_in, named, facts_at, Changes, AtStep, LeaveStep, ChangeStep, WriteFinds, AtFinds, NamedFinds, LeaveFinds, ChangeFinds};
+ghost use Rattle.md_judge.specs.Filed.{AreFiled, IsJudged, BrokenByFiles};
+ghost use Rattle.md_judge.specs.Files.{is_message_in, named, facts_at, Changes, AtStep, CallStep, LeaveStep, ChangeStep, WriteFinds, AtFinds, NamedFinds, LeaveFinds, ChangeFinds};
 
 use super::acts::Change;
 use super::befores::{line_at, mark_of};
@@ -35,12 +36,41 @@ impl Files {
         call: &Call,
         act: &Act,
     ) -> Result<(), LineFault>
-        ensures { OnOk result (KeepsPaths found.old found.new) }
+        ensures paths { OnOk result (KeepsPaths found.old found.new) }
+        ensures filed { (path : Spot → Path) (who : ℕ → List ℕ) (many i : ℕ) (l : Log) (x : Step) → AreFiled who many l i self.old.all.items
+            → IsJudged path who many l i x by.actor call.now known.now act.now → OnOk result (AreFiled who many l (suc i) self.new.all.items) }
+        ensures finds { (path : Spot → Path) (who : ℕ → List ℕ) (many i : ℕ) (l : Log) (x : Step) → AreFiled who many l i self.old.all.items
+            → IsJudged path who many l i x by.actor call.now known.now act.now
+            → OnOk result (Notes (BrokenByFiles (turn l i x)) found.old found.new) }
     {
-        if let (Call::At { deed, reply, .. }, Some(spot)) = (call, act.spot) {
-            self.at(found, known, by, *deed, spot, *reply, act.file)?;
-        }
+        self.on_path(found, known, by, call, act)?;
         self.change(found, known, by, &act.change)
+    }
+
+    /// Where a call is one on one path, what it does but for its change of paths.
+    fn on_path(
+        &mut self,
+        found: &mut Found,
+        known: &Known,
+        by: Caller,
+        call: &Call,
+        act: &Act,
+    ) -> Result<(), LineFault>
+        ensures step { OnOk result (CallStep call.now act.now.spot by.actor known.now.clock act.now.file self.old.all.items self.new.all.items) }
+        ensures paths { OnOk result (KeepsPaths found.old found.new) }
+        ensures law { (path : Spot → Path) (who : ℕ → List ℕ) (many i : ℕ) (l : Log) (x : Step) → AreFiled who many l i self.old.all.items
+            → IsJudged path who many l i x by.actor call.now known.now act.now
+            → OnOk result (Notes (BrokenAt (turn l i x)) found.old found.new) }
+    {
+        match call {
+            Call::At { deed, reply, .. } => match act.spot {
+                None => Ok(()),
+                Some(spot) => self.at(found, known, by, *deed, spot, *reply, act.file),
+            },
+            Call::Between { .. } => Ok(()),
+            Call::List { .. } => Ok(()),
+            Call::Answer { .. } => Ok(()),
+        }
     }
 
     /// A call on one path, which names a file or none, but for its change of paths.

@@ -1,32 +1,42 @@
-use Rattle.std.proofs.Common.{sym, subst}
+use Rattle.md_judge.specs.Filed.{AreFiled, BrokenByFiles}
+use Rattle.md_judge.specs.Files.{ChangeFinds, ChangeStep}
 use Rattle.md_judge.specs.Found.{Notes, KeepsPaths}
-use Rattle.md_judge.specs.Files.{is_message_in, AtFinds, ChangeFinds}
-use Rattle.md_judge.proofs.Sparing.{keeps-paths, keeps-same, keeps-on, ok-then, at-more, change-more}
-use Rattle.md_judge.proofs.judge.files.Files.call.Goals.{in-At-Some+in_ok-at, in-At+in-None-1, in-Between-1}
+use Rattle.md_judge.specs.Law.{turn}
+use Rattle.md_judge.specs.Recalls.{BrokenByChange}
+use Rattle.std.proofs.Common.{suc}
+use Rattle.md_judge.proofs.Judged.{notes-both, on-both, filed-call, change-call}
+use Rattle.md_judge.proofs.Sparing.{keeps-paths, keeps-on, ok-then, change-more}
 use Rattle.md_judge.proofs.judge.files.Files.call.Goals as goal
 
-pub returns : goal.returns
-returns c =
+pub returns-clause-paths : goal.returns-clause-paths
+returns-clause-paths c =
     let old = c.args.found.now in
-    let between = c.match-call.found in
+    let between = c.on_path.new.found in
     let new = c.change.new.found in
-    let known = c.args.known.now in
-    let actor = c.args.by.actor in
-    let change = c.args.act.now.change in
-    let files = c.match-call.self.all.items in
-    let files' = c.change.new.self.all.items in
-    let first : KeepsPaths old between = elim c.match-call.branch [
-      | in-At-Some+in_ok-at w ↦
-          let is_message = is_message_in known.names w.in-At-Some.spot in
-          let deed = w.in-At-Some.deed in
-          let reply = w.in-At-Some.reply in
-          let file = c.args.act.now.file in
-          let all = c.args.self.now.all.items in
-          subst (KeepsPaths old) (sym w.found-is)
-          (keeps-paths (AtFinds is_message actor all deed reply file) (at-more is_message actor all deed reply file) old w.at.new.found w.in_ok-at.ensures.finds)
-      | in-At+in-None-1 w ↦ keeps-same old between w.found-is
-      | in-Between-1 w ↦ keeps-same old between w.found-is
-    ] in
-    ok-then c.change.result (Notes (ChangeFinds known.names actor known.clock change files files') between new) (KeepsPaths old new)
-    (λ notes. keeps-on old between new first (keeps-paths (ChangeFinds known.names actor known.clock change files files')
-    (change-more known.names actor known.clock change files files') between new notes)) c.change.ensures.finds
+    let finds = ChangeFinds c.args.known.now.names c.args.by.actor c.args.known.now.clock c.args.act.now.change c.on_path.new.self.all.items c.change.new.self.all.items in
+    ok-then c.change.result (Notes finds between new) (KeepsPaths old new)
+    (λ notes. keeps-on old between new c.in_ok-on_path.ensures.paths (keeps-paths finds
+    (change-more c.args.known.now.names c.args.by.actor c.args.known.now.clock c.args.act.now.change c.on_path.new.self.all.items c.change.new.self.all.items)
+    between new notes)) c.change.ensures.finds
+
+pub returns-clause-filed : goal.returns-clause-filed
+returns-clause-filed c = λ path who many i l x are judged.
+    let mid = c.on_path.new.self.all.items in
+    let new = c.change.new.self.all.items in
+    ok-then c.change.result (ChangeStep c.args.known.now.names c.args.act.now.change mid new) (AreFiled who many l (suc i) new)
+    (filed-call path who many l i x c.args.by.actor c.args.call.now c.args.known.now c.args.act.now c.args.self.now.all.items are judged mid
+    c.in_ok-on_path.ensures.step new) c.change.ensures.step
+
+pub returns-clause-finds : goal.returns-clause-finds
+returns-clause-finds c = λ path who many i l x are judged.
+    let mid = c.on_path.new.self.all.items in
+    let new = c.change.new.self.all.items in
+    let t = turn l i x in
+    let found = c.on_path.new.found in
+    ok-then c.change.result (Notes (BrokenByChange t) found c.change.new.found) (Notes (BrokenByFiles t) c.args.found.now c.change.new.found)
+    (notes-both t c.args.found.now found c.change.new.found (c.in_ok-on_path.ensures.law path who many i l x are judged))
+    (on-both c.change.result (ChangeStep c.args.known.now.names c.args.act.now.change mid new) (Notes (BrokenByChange t) found c.change.new.found)
+    c.change.ensures.step
+    (λ then. c.change.ensures.law path who many i l x
+    (change-call path who many l i x c.args.by.actor c.args.call.now c.args.known.now c.args.act.now c.args.self.now.all.items are judged mid
+    c.in_ok-on_path.ensures.step new then)))
