@@ -16,7 +16,7 @@ use Rattle.md_judge.specs.declared.judge.found.Found.{Found}
 use Rattle.md_judge.specs.declared.judge.mail.Message.{Message}
 use Rattle.md_judge.specs.declared.judge.tables.Names.{Names}
 use Rattle.md_judge.specs.Files.{facts_at, named_by, turned_by, WriteFinds, AtFinds, NamedFinds, NameFinds, LeftFinds, LeaveFinds, ChangeFinds}
-use Rattle.md_judge.specs.Found.{Has, Notes, Keeps, NotesOne, KeepsPaths}
+use Rattle.md_judge.specs.Found.{Has, Notes, Keeps, NotesOne, KeepsPaths, GoesByFiles, KeepsFiles, NotesFiles}
 use Rattle.md_judge.specs.Messages.{AddFinds}
 
 -- the clause goes by more than the paths of a step
@@ -58,6 +58,35 @@ keeps-on a b d first then = record {
   overwrites = keeps-one clause.Overwritten a b d first.overwrites then.overwrites;
 }
 
+-- ---- clauses that go by files
+
+-- where none of them is noted, they are kept
+spare-files : (P : Clause → Type 0) → (P clause.SeenBeforeWhole → ⊥) → (P clause.Mixed → ⊥) → (P clause.NotFlushed → ⊥) → (P clause.MovedBack → ⊥)
+    → (P clause.CleanedEarly → ⊥) → (old new : Found) → Notes P old new → KeepsFiles old new
+spare-files P s m n b e old new notes clause.SeenBeforeWhole by = kept P clause.SeenBeforeWhole s old new notes
+spare-files P s m n b e old new notes clause.Mixed by = kept P clause.Mixed m old new notes
+spare-files P s m n b e old new notes clause.NotFlushed by = kept P clause.NotFlushed n old new notes
+spare-files P s m n b e old new notes clause.MovedBack by = kept P clause.MovedBack b old new notes
+spare-files P s m n b e old new notes clause.CleanedEarly by = kept P clause.CleanedEarly e old new notes
+spare-files P s m n b e old new notes c by = absurd by
+
+pub files-kept : (old new : Found) → (Has new.broken clause.SeenBeforeWhole ↔ (Has old.broken clause.SeenBeforeWhole ⊎ ⊥))
+    → (Has new.broken clause.Mixed ↔ (Has old.broken clause.Mixed ⊎ ⊥)) → (Has new.broken clause.NotFlushed ↔ (Has old.broken clause.NotFlushed ⊎ ⊥))
+    → (Has new.broken clause.MovedBack ↔ (Has old.broken clause.MovedBack ⊎ ⊥))
+    → (Has new.broken clause.CleanedEarly ↔ (Has old.broken clause.CleanedEarly ⊎ ⊥)) → KeepsFiles old new
+files-kept old new s m n b e clause.SeenBeforeWhole by = one-kept clause.SeenBeforeWhole old new s
+files-kept old new s m n b e clause.Mixed by = one-kept clause.Mixed old new m
+files-kept old new s m n b e clause.NotFlushed by = one-kept clause.NotFlushed old new n
+files-kept old new s m n b e clause.MovedBack by = one-kept clause.MovedBack old new b
+files-kept old new s m n b e clause.CleanedEarly by = one-kept clause.CleanedEarly old new e
+files-kept old new s m n b e c by = absurd by
+
+pub same-files : (old new : Found) → new ≡ old → KeepsFiles old new
+same-files old new same c by = subst (Keeps c old) (sym same) (λ h. h, λ h. h)
+
+pub files-on : (a b d : Found) → KeepsFiles a b → KeepsFiles b d → KeepsFiles a d
+files-on a b d first then c by = keeps-one c a b d (first c by) (then c by)
+
 -- one clause is noted, before and after steps that keep it
 pub notes-one : (c : Clause) (P : Type 0) (a b d : Found) → NotesOne c P a b → Keeps c b d → NotesOne c P a d
 notes-one c P a b d first then = (λ h. first.0 (then.0 h), λ h. then.1 (first.1 h))
@@ -75,6 +104,10 @@ paths-kept old new wrong overwrites = record {
   overwrites = one-kept clause.Overwritten old new overwrites;
 }
 
+-- the clauses that go by files are noted, before and after steps that keep them
+pub notes-files : (P : Clause → Type 0) (a b d e : Found) → KeepsFiles a b → Notes P b d → KeepsFiles d e → NotesFiles P a e
+notes-files P a b d e first notes then c by = notes-one c (P c) a d e (one-notes c (P c) a b d (first c by) (notes c)) (then c by)
+
 -- a note of a clause is one of this clause, and of no other
 pub noted : (b : Bool) (k : Clause) (P : Type 0) → IsTrue b ↔ P → (old new : Found) → Notes (λ c. IsTrue b × (c ≡ k)) old new → NotesOne k P old new
 noted b k P same old new notes = (
@@ -84,6 +117,9 @@ noted b k P same old new notes = (
 
 pub unnoted : (b : Bool) (k c : Clause) → (c ≡ k → ⊥) → (old new : Found) → Notes (λ c. IsTrue b × (c ≡ k)) old new → Keeps c old new
 unnoted b k c other old new notes = kept (λ c. IsTrue b × (c ≡ k)) c (λ h. other h.1) old new notes
+
+pub unnoted-files : (b : Bool) (k : Clause) → (GoesByFiles k → ⊥) → (old new : Found) → Notes (λ c. IsTrue b × (c ≡ k)) old new → KeepsFiles old new
+unnoted-files b k none old new notes c by = unnoted b k c (λ same. none (subst GoesByFiles same by)) old new notes
 
 -- where nothing was found before, the clause is found just where it is noted
 pub found-none : (c : Clause) (P : Type 0) (old new : Found) → (Has old.broken c → ⊥) → Keeps c old new → (P → ⊥) → Has new.broken c ↔ P
@@ -158,3 +194,7 @@ pub add-more : (m : Option Message) (file leaving : ℕ) (c : Clause) → AddFin
 add-more (Some m) file leaving clause.UsedAgain found = tt
 add-more (Some m) file leaving clause.TwoNames found = tt
 add-more m file leaving c found = absurd found
+
+pub spare-added : (m : Option Message) (file leaving : ℕ) (old new : Found) → Notes (AddFinds m file leaving) old new → KeepsFiles old new
+spare-added None file leaving = spare-files (AddFinds None file leaving) (λ h. h) (λ h. h) (λ h. h) (λ h. h) (λ h. h)
+spare-added (Some m) file leaving = spare-files (AddFinds (Some m) file leaving) (λ h. h) (λ h. h) (λ h. h) (λ h. h) (λ h. h)

@@ -41,3 +41,20 @@ NotesOne c P old new = Has new.broken c ↔ (Has old.broken c ⊎ P)
 pub record KeepsPaths (old new : Found) : Type 0 where
   pub wrong : Keeps clause.NotADirectory old new
   pub overwrites : Keeps clause.Overwritten old new
+
+-- the clause goes by what was done to files
+abbrev pub GoesByFiles : Clause → Type 0
+GoesByFiles clause.SeenBeforeWhole = Unit {0}
+GoesByFiles clause.Mixed = Unit {0}
+GoesByFiles clause.NotFlushed = Unit {0}
+GoesByFiles clause.MovedBack = Unit {0}
+GoesByFiles clause.CleanedEarly = Unit {0}
+GoesByFiles c = ⊥
+
+-- of the clauses that go by files nothing else is found than before
+abbrev pub KeepsFiles : Found → Found → Type 0
+KeepsFiles old new = (c : Clause) → GoesByFiles c → Keeps c old new
+
+-- of the clauses that go by files, each is found besides where this holds of it
+abbrev pub NotesFiles : (Clause → Type 0) → Found → Found → Type 0
+NotesFiles P old new = (c : Clause) → GoesByFiles c → NotesOne c (P c) old new

@@ -1,12 +1,15 @@
 //! Calls on paths: what they are defined to answer, and what they do.
-ghost use Rattle.std.specs.Prelude.{◌≡◌, ◌≢◌, ◌↔◌, ◌<◌, ◌+◌, ◌⊎◌, ℕ, Some, IsTrue, IsSome, OnOk, true, is_some, length};
+ghost use Rattle.std.specs.Prelude.{◌≡◌, ◌≢◌, ◌↔◌, ◌<◌, ◌+◌, ◌⊎◌, ℕ, suc, List, Some, IsTrue, IsSome, OnOk, true, is_some, length};
 ghost use Rattle.md_dirs.specs.State.{State, file_at, has_folder};
 ghost use Rattle.md_dirs.specs.declared.paths.Path.{Path};
 ghost use Rattle.md_judge.specs.Told.{ask_at, ask_between};
 ghost use Rattle.md_log.specs.declared.line.Deed.TheVariants as deed;
 ghost use Rattle.md_log.specs.declared.clause.Clause.TheVariants as clause;
-ghost use Rattle.md_judge.specs.Law.{IsWrongReply, reply_by};
-ghost use Rattle.md_judge.specs.Found.{NotesOne};
+ghost use Rattle.md_judge.specs.Law.{turn, IsWrongReply, reply_by};
+ghost use Rattle.md_judge.specs.Found.{NotesOne, NotesFiles};
+ghost use Rattle.md_judge.specs.Filed.{AreFiled, IsJudged, BrokenByFiles};
+ghost use Rattle.md_judge.specs.Logs.{Log};
+ghost use Rattle.md_log.specs.declared.line.Step.{Step};
 ghost use Rattle.md_judge.specs.Changes.{IsOlder, Leads};
 ghost use Rattle.md_judge.specs.Files.{named_by, turned_by};
 ghost use Rattle.md_judge.specs.Known.{EachSpot, IsBelow};
@@ -68,6 +71,11 @@ impl Watch {
     ) -> Result<(), LineFault>
         ensures wrong { OnOk result (NotesOne clause.NotADirectory (IsTrue act.now.is_wrong) self.old.found self.new.found) }
         ensures overwrites { OnOk result (NotesOne clause.Overwritten (IsSome act.now.change.turned) self.old.found self.new.found) }
+        ensures filed { (path : Spot → Path) (who : ℕ → List ℕ) (many i : ℕ) (l : Log) (x : Step) → AreFiled who many l i self.old.files.all.items
+            → IsJudged path who many l i x actor call.now known.now act.now → OnOk result (AreFiled who many l (suc i) self.new.files.all.items) }
+        ensures finds { (path : Spot → Path) (who : ℕ → List ℕ) (many i : ℕ) (l : Log) (x : Step) → AreFiled who many l i self.old.files.all.items
+            → IsJudged path who many l i x actor call.now known.now act.now
+            → OnOk result (NotesFiles (BrokenByFiles (turn l i x)) self.old.found self.new.found) }
     {
         self.found
             .note(act.is_wrong, Clause::NotADirectory, act.wrong_before);
@@ -90,7 +98,8 @@ impl Watch {
         spot: Spot,
         reply: Reply,
     ) -> Result<(), LineFault>
-        ensures { OnOk result (self.new.found ≡ self.old.found) }
+        ensures found { OnOk result (self.new.found ≡ self.old.found) }
+        ensures files { OnOk result (self.new.files ≡ self.old.files) }
     {
         if let Some(unique) = known.unique_at(spot) {
             let key = (spot.folder, unique);

@@ -1,7 +1,7 @@
 //! Changes of paths: the clauses that they break, and what is kept of them.
 ghost use Rattle.std.specs.Prelude.{◌≡◌, IsSome, OnOk};
 ghost use Rattle.md_log.specs.declared.clause.Clause.TheVariants as clause;
-ghost use Rattle.md_judge.specs.Found.{Keeps, NotesOne, KeepsPaths};
+ghost use Rattle.md_judge.specs.Found.{Keeps, NotesOne, KeepsPaths, KeepsFiles};
 
 use super::acts::Change;
 use super::befores::line_before;
@@ -18,6 +18,8 @@ impl Watch {
     pub(super) fn change(&mut self, known: &Known, actor: u32, act: &Act) -> Result<(), LineFault>
         ensures wrong { OnOk result (Keeps clause.NotADirectory self.old.found self.new.found) }
         ensures overwrites { OnOk result (NotesOne clause.Overwritten (IsSome act.now.change.turned) self.old.found self.new.found) }
+        ensures others { OnOk result (KeepsFiles self.old.found self.new.found) }
+        ensures files { OnOk result (self.new.files ≡ self.old.files) }
     {
         let change = act.change;
         self.found.note(
@@ -41,7 +43,9 @@ impl Watch {
 
     /// A path was taken: whether it was a message's that may not go so.
     fn check_taken(&mut self, known: &Known, spot: Spot, file: u32, is_unlink: bool)
-        ensures { KeepsPaths self.old.found self.new.found }
+        ensures paths { KeepsPaths self.old.found self.new.found }
+        ensures others { KeepsFiles self.old.found self.new.found }
+        ensures files { self.new.files ≡ self.old.files }
     {
         let Some(unique) = known.unique_at(spot) else {
             return;
@@ -69,7 +73,8 @@ impl Watch {
 
     /// Keeps what a change does to messages. The new name comes first, so that a message that is renamed in its folder is there all the while.
     fn make(&mut self, known: &Known, actor: u32, change: Change) -> Result<(), LineFault>
-        ensures { OnOk result (self.new.found ≡ self.old.found) }
+        ensures found { OnOk result (self.new.found ≡ self.old.found) }
+        ensures files { OnOk result (self.new.files ≡ self.old.files) }
     {
         if let Some((spot, file)) = change.added {
             self.note_added(known, actor, spot)?;
@@ -86,7 +91,8 @@ impl Watch {
     }
 
     fn note_added(&mut self, known: &Known, actor: u32, spot: Spot) -> Result<(), LineFault>
-        ensures { OnOk result (self.new.found ≡ self.old.found) }
+        ensures found { OnOk result (self.new.found ≡ self.old.found) }
+        ensures files { OnOk result (self.new.files ≡ self.old.files) }
     {
         if let Some(unique) = known.unique_at(spot) {
             let key = (spot.folder, unique);
@@ -106,7 +112,8 @@ impl Watch {
         spot: Spot,
         is_unlink: bool,
     ) -> Result<(), LineFault>
-        ensures { OnOk result (self.new.found ≡ self.old.found) }
+        ensures found { OnOk result (self.new.found ≡ self.old.found) }
+        ensures files { OnOk result (self.new.files ≡ self.old.files) }
     {
         let Some(unique) = known.unique_at(spot) else {
             return Ok(());
@@ -135,7 +142,8 @@ impl Watch {
         spot: Spot,
         file: u32,
     ) -> Result<(), LineFault>
-        ensures { OnOk result (self.new.found ≡ self.old.found) }
+        ensures found { OnOk result (self.new.found ≡ self.old.found) }
+        ensures files { OnOk result (self.new.files ≡ self.old.files) }
     {
         let Some(unique) = known.unique_at(spot) else {
             return Ok(());
@@ -157,7 +165,8 @@ impl Watch {
         old: u32,
         new: u32,
     ) -> Result<(), LineFault>
-        ensures { OnOk result (self.new.found ≡ self.old.found) }
+        ensures found { OnOk result (self.new.found ≡ self.old.found) }
+        ensures files { OnOk result (self.new.files ≡ self.old.files) }
     {
         let Some(unique) = known.unique_at(spot) else {
             return Ok(());
@@ -173,7 +182,8 @@ impl Watch {
 
     /// A path is there for the last time before this step.
     fn take_path(&mut self, known: &Known, spot: Spot, file: u32) -> Result<(), LineFault>
-        ensures { OnOk result (self.new.found ≡ self.old.found) }
+        ensures found { OnOk result (self.new.found ≡ self.old.found) }
+        ensures files { OnOk result (self.new.files ≡ self.old.files) }
     {
         let at = self.now;
         let Some(unique) = known.unique_at(spot) else {

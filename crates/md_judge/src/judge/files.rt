@@ -1,5 +1,5 @@
 //! The files, with what was done to them.
-ghost use Rattle.std.specs.Prelude.{◌≡◌, OnOk};
+ghost use Rattle.std.specs.Prelude.{◌≡◌, [], OnOk};
 ghost use Rattle.std.specs.Option.{option_map};
 ghost use Rattle.md_judge.specs.declared.judge.files.Filed.{Filed};
 ghost use Rattle.md_judge.specs.Files.{made, written, flushed, shown, hidden, facts_at, Changes, Adds};
@@ -63,7 +63,9 @@ pub(super) struct Files {
 }
 
 impl Files {
-    pub(super) fn new(alloc: Global) -> Self {
+    pub(super) fn new(alloc: Global) -> Self
+        ensures { result.all.items ≡ [] }
+    {
         Files {
             all: Vec::new(alloc),
         }

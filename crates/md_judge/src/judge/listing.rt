@@ -6,7 +6,7 @@ ghost use Rattle.md_log.specs.declared.line.Step.{Step};
 ghost use Rattle.md_judge.specs.Logs.{Log};
 ghost use Rattle.md_judge.specs.Law.{turn};
 ghost use Rattle.md_log.specs.declared.clause.Clause.TheVariants as clause;
-ghost use Rattle.md_judge.specs.Found.{Notes, Keeps, KeepsPaths};
+ghost use Rattle.md_judge.specs.Found.{Notes, Keeps, KeepsPaths, KeepsFiles};
 ghost use Rattle.md_judge.specs.declared.judge.directories.Named.{Named};
 ghost use Rattle.md_judge.specs.Readings.{shown_wrongly, lacked, wrong_name, PartFinds, IsPartOf, BrokenByPart};
 ghost use Rattle.md_judge.specs.Listings.{lacking, is_lacking, was_at_each, ListFinds, LeavesOut, IsCompleted, BrokenByListing};
@@ -267,7 +267,9 @@ impl Watch {
         reply: Reply,
         names: &[Name],
     ) -> Result<(), LineFault>
-        ensures { OnOk result (Keeps clause.Overwritten self.old.found self.new.found) }
+        ensures overwrites { OnOk result (Keeps clause.Overwritten self.old.found self.new.found) }
+        ensures others { OnOk result (KeepsFiles self.old.found self.new.found) }
+        ensures files { OnOk result (self.new.files ≡ self.old.files) }
     {
         let key = (actor, folder);
         let mut listing = match self.listings.remove(&key) {
@@ -297,7 +299,9 @@ impl Watch {
         reply: Reply,
         first: usize,
     ) -> Result<(), LineFault>
-        ensures { OnOk result (KeepsPaths self.old.found self.new.found) }
+        ensures paths { OnOk result (KeepsPaths self.old.found self.new.found) }
+        ensures others { OnOk result (KeepsFiles self.old.found self.new.found) }
+        ensures files { OnOk result (self.new.files ≡ self.old.files) }
     {
         let mut done = Reading::none(self.alloc);
         std::mem::swap(listing.reading(place), &mut done);

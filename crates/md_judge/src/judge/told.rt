@@ -1,5 +1,6 @@
 //! What actors told their users, beside what is so.
-ghost use Rattle.md_judge.specs.Found.{KeepsPaths};
+ghost use Rattle.std.specs.Prelude.{◌≡◌};
+ghost use Rattle.md_judge.specs.Found.{KeepsPaths, KeepsFiles};
 
 use super::claims::{Claim, check_claim};
 use super::flags::bits_of;
@@ -12,7 +13,9 @@ use md_log::Said;
 impl Watch {
     /// An answer about a message.
     pub(super) fn answer(&mut self, known: &Known, actor: u32, said: Said, key: Key)
-        ensures { KeepsPaths self.old.found self.new.found }
+        ensures paths { KeepsPaths self.old.found self.new.found }
+        ensures others { KeepsFiles self.old.found self.new.found }
+        ensures files { self.new.files ≡ self.old.files }
     {
         let claim = self.claim(known, actor, said, key);
         check_claim(&mut self.found, &claim);

@@ -1,5 +1,7 @@
 //! What is kept of files, messages, actors and listings, and the clauses that a step breaks.
+ghost use Rattle.std.specs.Prelude.{◌≡◌, [], OnOk};
 ghost use Rattle.md_log.specs.declared.clause.Clause.{Clause};
+ghost use Rattle.md_judge.specs.Files.{named, Changes};
 ghost use Rattle.md_judge.specs.Found.{Has};
 
 use super::about::Actors;
@@ -28,7 +30,9 @@ pub(super) struct Watch {
 }
 
 impl Watch {
-    pub(super) fn new(alloc: Global) -> Self {
+    pub(super) fn new(alloc: Global) -> Self
+        ensures { result.files.all.items ≡ [] }
+    {
         Watch {
             alloc,
             actors: Actors::new(alloc),
@@ -41,18 +45,23 @@ impl Watch {
     }
 
     /// One more folder, after the others.
-    pub(super) fn add_folder(&mut self) -> Result<(), LineFault> {
+    pub(super) fn add_folder(&mut self) -> Result<(), LineFault>
+        ensures { self.new.files ≡ self.old.files }
+    {
         self.mail.add_folder()
     }
 
     /// Goes on to the moment of a line.
-    pub(super) fn go_to(&mut self, moment: usize) {
+    pub(super) fn go_to(&mut self, moment: usize)
+        ensures { self.new.files ≡ self.old.files }
+    {
         self.now = moment;
     }
 
     /// A step of an actor begins: it breaks nothing so far.
     pub(super) fn begin(&mut self, actor: u32) -> Result<(), LineFault>
-        ensures { (c : Clause) → Has self.new.found.broken c → ⊥ }
+        ensures nothing { (c : Clause) → Has self.new.found.broken c → ⊥ }
+        ensures files { self.new.files ≡ self.old.files }
     {
         self.found = Found::nothing();
         self.actors.note_line(actor, self.now)
@@ -65,7 +74,9 @@ impl Watch {
         line: usize,
         spot: Spot,
         file: u32,
-    ) -> Result<(), LineFault> {
+    ) -> Result<(), LineFault>
+        ensures { OnOk result (Changes file (named known.now.names spot) self.old.files.all.items self.new.files.all.items) }
+    {
         self.files.name(known, line, spot, file)?;
         self.add_path(known, line.saturating_add(1), spot, file)
     }

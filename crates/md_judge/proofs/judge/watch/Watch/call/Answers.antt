@@ -1,8 +1,11 @@
-use Rattle.std.proofs.Common.{IsTrue, IsSome, ap, ◌∙◌}
+use Rattle.std.proofs.Common.{suc, ◌≡◌, IsTrue, IsSome, sym, subst, ap, ◌∙◌}
 use Rattle.md_log.specs.declared.clause.Clause.TheVariants as clause
 use Rattle.md_judge.specs.declared.judge.watch.Watch.{Watch}
-use Rattle.md_judge.specs.Found.{Keeps, NotesOne, KeepsPaths}
-use Rattle.md_judge.proofs.Sparing.{keeps-same, keeps-one, keeps-on, noted, unnoted, notes-one, one-notes, ok-then}
+use Rattle.md_judge.specs.Found.{Keeps, NotesOne, KeepsPaths, KeepsFiles, NotesFiles}
+use Rattle.md_judge.specs.declared.judge.files.Files.{Files}
+use Rattle.md_judge.specs.Filed.{AreFiled, BrokenByFiles}
+use Rattle.md_judge.specs.Law.{turn}
+use Rattle.md_judge.proofs.Sparing.{keeps-same, keeps-one, keeps-on, noted, unnoted, notes-one, one-notes, ok-then, same-files, files-on, notes-files, unnoted-files}
 use Rattle.md_judge.proofs.judge.watch.Watch.call.Goals.{in-Some-Some+in_ok-note_act, in-Some+in-None-1, in-None-1}
 use Rattle.md_judge.proofs.judge.watch.Watch.call.Goals as goal
 
@@ -16,11 +19,11 @@ returns c =
     let wrong = c.args.act.now.is_wrong in
     let turned = c.args.act.now.change.turned in
     let acts : KeepsPaths filed acted = elim c.match-act.branch [
-      | in-Some-Some+in_ok-note_act w ↦ keeps-same filed acted (ap (λ (s : Watch). s.found) w.self-is ∙ w.in_ok-note_act.ensures)
+      | in-Some-Some+in_ok-note_act w ↦ keeps-same filed acted (ap (λ (s : Watch). s.found) w.self-is ∙ w.in_ok-note_act.ensures.found)
       | in-Some+in-None-1 w ↦ keeps-same filed acted (ap (λ (s : Watch). s.found) w.self-is)
       | in-None-1 w ↦ keeps-same filed acted (ap (λ (s : Watch). s.found) w.self-is)
     ] in
-    let keeps : KeepsPaths noting acted = keeps-on noting filed acted c.in_ok-call.ensures acts in
+    let keeps : KeepsPaths noting acted = keeps-on noting filed acted c.in_ok-call.ensures.paths acts in
     let notes : NotesOne clause.NotADirectory (IsTrue wrong) old acted =
     notes-one clause.NotADirectory (IsTrue wrong) old noting acted
     (noted wrong clause.NotADirectory (IsTrue wrong) (λ h. h, λ h. h) old noting c.note.ensures) keeps.wrong in
@@ -32,4 +35,25 @@ returns c =
           (notes-one clause.NotADirectory (IsTrue wrong) old acted new notes) c.change.ensures.wrong;
       overwrites = ok-then c.change.result (NotesOne clause.Overwritten (IsSome turned) acted new) (NotesOne clause.Overwritten (IsSome turned) old new)
           (one-notes clause.Overwritten (IsSome turned) old acted new other) c.change.ensures.overwrites;
+      filed = λ path who many i l x are judged.
+          let mid = c.call.new.self.all.items in
+          let filed = c.in_ok-call.ensures.filed path who many i l x are judged in
+          let acted : c.match-act.self.files ≡ c.call.new.self = elim c.match-act.branch [
+            | in-Some-Some+in_ok-note_act w ↦ ap (λ (s : Watch). s.files) w.self-is ∙ w.in_ok-note_act.ensures.files
+            | in-Some+in-None-1 w ↦ ap (λ (s : Watch). s.files) w.self-is
+            | in-None-1 w ↦ ap (λ (s : Watch). s.files) w.self-is
+          ] in
+          ok-then c.change.result (c.change.new.self.files ≡ c.match-act.self.files) (AreFiled who many l (suc i) c.change.new.self.files.all.items)
+          (λ same. subst (λ (f : Files). AreFiled who many l (suc i) f.all.items) (sym (same ∙ acted)) filed) c.change.ensures.files;
+      finds = λ path who many i l x are judged.
+          let first : KeepsFiles old noting = unnoted-files wrong clause.NotADirectory (λ h. h) old noting c.note.ensures in
+          let then : KeepsFiles filed acted = elim c.match-act.branch [
+            | in-Some-Some+in_ok-note_act w ↦ same-files filed acted (ap (λ (s : Watch). s.found) w.self-is ∙ w.in_ok-note_act.ensures.found)
+            | in-Some+in-None-1 w ↦ same-files filed acted (ap (λ (s : Watch). s.found) w.self-is)
+            | in-None-1 w ↦ same-files filed acted (ap (λ (s : Watch). s.found) w.self-is)
+          ] in
+          let broken = BrokenByFiles (turn l i x) in
+          ok-then c.change.result (KeepsFiles acted new) (NotesFiles broken old new)
+          (λ last. notes-files broken old noting filed new first (c.in_ok-call.ensures.finds path who many i l x are judged) (files-on filed acted new then last))
+          c.change.ensures.others;
     }

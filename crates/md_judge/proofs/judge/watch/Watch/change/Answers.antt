@@ -1,10 +1,10 @@
-use Rattle.std.proofs.Common.{IsSome, sym, subst, ap}
+use Rattle.std.proofs.Common.{◌≡◌, IsSome, sym, subst, ap, ◌∙◌}
 use Rattle.std.specs.Option.{option_copied}
 use Rattle.md_log.specs.declared.clause.Clause.TheVariants as clause
 use Rattle.md_judge.specs.declared.judge.watch.Watch.{Watch}
-use Rattle.md_judge.specs.Found.{KeepsPaths}
+use Rattle.md_judge.specs.Found.{KeepsPaths, KeepsFiles}
 use Rattle.md_judge.specs.Messages.{AddFinds}
-use Rattle.md_judge.proofs.Sparing.{keeps-paths, keeps-same, keeps-one, notes-one, turned-found, add-more}
+use Rattle.md_judge.proofs.Sparing.{keeps-paths, keeps-same, keeps-one, notes-one, turned-found, add-more, spare-added, same-files, files-on, unnoted-files}
 use Rattle.md_judge.proofs.judge.watch.Watch.change.Goals.{in-Some+in-Some-unique_at, in_default}
 use Rattle.md_judge.proofs.judge.watch.Watch.change.Goals as goal
 
@@ -25,10 +25,25 @@ returns-in-Some-taken c =
           (keeps-paths (AddFinds message file leaving) (add-more message file leaving) noting w.check_added.new.found w.check_added.ensures.finds)
       | in_default w ↦ keeps-same noting joined (ap (λ (s : Watch). s.found) w.self-is)
     ] in
-    let turns = turned-found c.is_some.result turned old noting joined made c.is_some.ensures c.note.ensures joins c.in_ok-make.ensures in
+    let turns = turned-found c.is_some.result turned old noting joined made c.is_some.ensures c.note.ensures joins c.in_ok-make.ensures.found in
+    let joins-files : KeepsFiles noting joined = elim c.match-change.branch [
+      | in-Some+in-Some-unique_at w ↦
+          subst (λ (s : Watch). KeepsFiles noting s.found) (sym w.self-is)
+          (spare-added (option_copied w.message-message.result) w.in-Some.file w.leaving-leaving.result noting w.check_added.new.found w.check_added.ensures.finds)
+      | in_default w ↦ same-files noting joined (ap (λ (s : Watch). s.found) w.self-is)
+    ] in
+    let others : KeepsFiles old made = files-on old noting made
+    (unnoted-files c.is_some.result clause.Overwritten (λ h. h) old noting c.note.ensures)
+    (files-on noting joined made joins-files (same-files joined made c.in_ok-make.ensures.found)) in
+    let files : c.match-change.self.files ≡ c.args.self.now.files = elim c.match-change.branch [
+      | in-Some+in-Some-unique_at w ↦ ap (λ (s : Watch). s.files) w.self-is
+      | in_default w ↦ ap (λ (s : Watch). s.files) w.self-is
+    ] in
     record {
-      wrong = keeps-one clause.NotADirectory old made new turns.0 c.check_taken.ensures.wrong;
-      overwrites = notes-one clause.Overwritten (IsSome turned) old made new turns.1 c.check_taken.ensures.overwrites;
+      wrong = keeps-one clause.NotADirectory old made new turns.0 c.check_taken.ensures.paths.wrong;
+      overwrites = notes-one clause.Overwritten (IsSome turned) old made new turns.1 c.check_taken.ensures.paths.overwrites;
+      others = files-on old made new others c.check_taken.ensures.others;
+      files = c.check_taken.ensures.files ∙ c.in_ok-make.ensures.files ∙ files;
     }
 
 pub returns-in_default : goal.returns-in_default
@@ -47,5 +62,18 @@ returns-in_default c =
           (keeps-paths (AddFinds message file leaving) (add-more message file leaving) noting w.check_added.new.found w.check_added.ensures.finds)
       | in_default w ↦ keeps-same noting joined (ap (λ (s : Watch). s.found) w.self-is)
     ] in
-    let turns = turned-found c.is_some.result turned old noting joined made c.is_some.ensures c.note.ensures joins c.in_ok-make.ensures in
-    record { wrong = turns.0; overwrites = turns.1 }
+    let turns = turned-found c.is_some.result turned old noting joined made c.is_some.ensures c.note.ensures joins c.in_ok-make.ensures.found in
+    let joins-files : KeepsFiles noting joined = elim c.match-change.branch [
+      | in-Some+in-Some-unique_at w ↦
+          subst (λ (s : Watch). KeepsFiles noting s.found) (sym w.self-is)
+          (spare-added (option_copied w.message-message.result) w.in-Some.file w.leaving-leaving.result noting w.check_added.new.found w.check_added.ensures.finds)
+      | in_default w ↦ same-files noting joined (ap (λ (s : Watch). s.found) w.self-is)
+    ] in
+    let others : KeepsFiles old made = files-on old noting made
+    (unnoted-files c.is_some.result clause.Overwritten (λ h. h) old noting c.note.ensures)
+    (files-on noting joined made joins-files (same-files joined made c.in_ok-make.ensures.found)) in
+    let files : c.match-change.self.files ≡ c.args.self.now.files = elim c.match-change.branch [
+      | in-Some+in-Some-unique_at w ↦ ap (λ (s : Watch). s.files) w.self-is
+      | in_default w ↦ ap (λ (s : Watch). s.files) w.self-is
+    ] in
+    record { wrong = turns.0; overwrites = turns.1; others = others; files = c.in_ok-make.ensures.files ∙ files }

@@ -1,8 +1,13 @@
 use Rattle.md_log.specs.declared.clause.Clause.TheVariants as clause
-use Rattle.md_judge.proofs.Sparing.{paths-kept}
+use Rattle.md_judge.proofs.Sparing.{paths-kept, files-kept}
 use Rattle.md_judge.proofs.judge.watch.Watch.check_taken.Goals as goal
 
-pub returns : goal.returns
-returns c =
+pub returns-clause-paths : goal.returns-clause-paths
+returns-clause-paths c =
     let finds = c.check_taken.ensures.finds in
     paths-kept c.args.self.now.found c.check_taken.new.found (finds clause.NotADirectory) (finds clause.Overwritten)
+
+pub returns-clause-others : goal.returns-clause-others
+returns-clause-others c =
+    let finds = c.check_taken.ensures.finds in
+    files-kept c.args.self.now.found c.check_taken.new.found (finds clause.SeenBeforeWhole) (finds clause.Mixed) (finds clause.NotFlushed) (finds clause.MovedBack) (finds clause.CleanedEarly)
