@@ -14,11 +14,16 @@ use Rattle.md_judge.specs.declared.judge.directories.Spot.{Spot}
 use Rattle.md_judge.specs.declared.judge.found.Found.{Found}
 use Rattle.md_judge.specs.declared.judge.known.Known.{Known}
 use Rattle.md_judge.specs.declared.judge.known.Act.{Act}
-use Rattle.md_judge.specs.Acts.{ReadsNone, IsWrongAsk, IsActOf}
+use Rattle.md_judge.specs.Acts.{ReadsNone, IsWrongAsk, IsActOf, Does}
 use Rattle.md_judge.specs.Found.{Has, Keeps, NotesOne}
-use Rattle.md_judge.specs.Known.{Leaves}
+use Rattle.md_judge.specs.Known.{EachSpot, Leaves}
 use Rattle.md_judge.specs.Law.{Turn, turn, IsWrongReply, IsWrongCall, NotADirectory, Overwrites, Overwritten}
+use Rattle.md_judge.specs.Changes.{Leads}
 use Rattle.md_judge.specs.Logs.{Log}
+use Rattle.md_judge.specs.Recalled.{IsSpotOf}
+use Rattle.md_judge.specs.declared.judge.tables.Names.{Names}
+use Rattle.md_judge.proofs.Changing.{never, takes}
+use Rattle.md_judge.proofs.Pathed.{path_by, place-by}
 use Rattle.md_judge.specs.Told.{ask_at, ask_between, after_ask, moment, at}
 use Rattle.md_judge.proofs.Sparing.{found-none, found-one, ok-then}
 
@@ -106,3 +111,18 @@ found-still result t begun there new nothing same none keeps =
     ok-then result (Keeps clause.Overwritten there new) (Has new.broken clause.Overwritten ↔ Overwritten t)
     (λ kept. found-none clause.Overwritten (Overwritten t) there new
     (subst (λ (f : Found). Has f.broken clause.Overwritten → ⊥) (sym same) (nothing clause.Overwritten)) kept none) keeps
+
+-- a step that leaves directories as they were, and calls on no path alone, did what an act says that changes none
+pub done-none : (names : Names) (l : Log) (i : ℕ) (x : Step) (act : Act) → act.change ≡ record { taken = None; added = None; turned = None; is_unlink = false }
+    → at l (suc i) ≡ at l i → ((d : Deed) (p : Path) (r : Reply) → x.call ≡ call.At d p r → ⊥) → Does names (turn l i x) act
+done-none names l i x act none same other =
+    let path = path_by names in (
+      path,
+      record {
+        leads = subst (λ c. Leads path c (at l i) (at l (suc i))) (sym none)
+            (takes path (at l i) (at l (suc i)) None false (λ y n e. absurd (never y n e)) (λ q. ap (λ (s : State). file_at s q) same));
+        place = place-by names;
+        spots = subst (λ c. EachSpot (λ q. IsSpotOf names (path q) q) c) (sym none) (tt, tt, tt);
+        at = λ d p r e. absurd (other d p r e);
+      },
+    )

@@ -29,6 +29,11 @@ module _ (names : Names) where
   unfoldable pub path_by : Spot → Path
   path_by q = path_of q.folder q.place (name_by q.name (has-name names q.name))
 
+  -- its place is the spot's
+  pub place-by : (q : Spot) → (path_by q).place ≡ q.place
+  unfolding path_by
+  place-by q = refl
+
   -- a number that stands for no name goes to a name that has no number
   pub nameless : (q : Spot) → ((name : List ℕ) → IsNumber names name q.name → ⊥) → (n : ℕ) → IsNumber names (path_by q).name n → ⊥
   unfolding path_by

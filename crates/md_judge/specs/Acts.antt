@@ -52,3 +52,7 @@ pub record IsDone (path : Spot → Path) (names : Names) (t : Turn) (act : Act) 
   pub place : (q : Spot) → (path q).place ≡ q.place
   pub spots : EachSpot (λ q. IsSpotOf names (path q) q) act.change
   pub at : (d : Deed) (p : Path) (r : Reply) → t.step.call ≡ call.At d p r → IsOfPath names t act p
+
+-- a step did to paths what its act says, where spots stand for paths in some way
+abbrev pub Does : Names → Turn → Act → Type 0
+Does names t act = (path : Spot → Path) × IsDone path names t act

@@ -1,5 +1,5 @@
 //! What is known of the directories: the files at paths, how many files were made, and the clock.
-ghost use Rattle.std.specs.Prelude.{◌≡◌, ◌+◌, ◌<◌, ◌⊎◌, ℕ, suc, Some, Ok, true, length, slice_get, OnOk, IfOk, IfErr};
+ghost use Rattle.std.specs.Prelude.{◌≡◌, ◌+◌, ◌<◌, ◌⊎◌, ℕ, suc, Some, Ok, true, length, max, slice_get, OnOk, IfOk, IfErr};
 ghost use Rattle.md_dirs.specs.State.{State, file_at, has_folder};
 ghost use Rattle.md_dirs.specs.declared.paths.Path.{Path};
 ghost use Rattle.md_log.specs.declared.error.LineFault.TheVariants.{NoMemory, SamePath, NoSuchPath};
@@ -7,8 +7,9 @@ ghost use Rattle.md_judge.specs.declared.judge.directories.Spot.{Spot};
 ghost use Rattle.md_judge.specs.Logs.{Log, empty_log, with_file_line, with_also_line};
 ghost use Rattle.md_judge.specs.Told.{at, ask_at, ask_between, after_ask, after_call, moment};
 ghost use Rattle.md_log.specs.declared.line.Step.{Step};
+ghost use Rattle.md_log.specs.declared.line.Call.TheVariants as call;
 ghost use Rattle.md_judge.specs.Law.{turn};
-ghost use Rattle.md_judge.specs.Acts.{IsActOf};
+ghost use Rattle.md_judge.specs.Acts.{IsActOf, Does};
 ghost use Rattle.md_judge.specs.Changes.{IsOlder, Leads};
 ghost use Rattle.md_judge.specs.Files.{unique_in, is_message_in};
 ghost use Rattle.md_judge.specs.Known.{EachSpot, IsBelow, files_after, Stands, Holds, Leaves};
@@ -62,6 +63,7 @@ pub(super) struct Known {
 impl Known {
     pub(super) fn new(alloc: Global) -> Self
         ensures told { (lines : ℕ → ℕ) → IsToldAt lines empty_log 0 result }
+        ensures clock { result.clock ≡ 0 }
     {
         Known {
             names: Names::new(alloc),
@@ -77,6 +79,7 @@ impl Known {
         ensures keeps { KeepNumbers self.old.names self.new.names }
         ensures numbered { OnOk result (AreNumbered self.new.names) }
         ensures told { (lines : ℕ → ℕ) (l : Log) (i : ℕ) → IsToldAt lines l i self.old → OnOk result (IsToldAt lines l i self.new) }
+        ensures clock { self.new.clock ≡ self.old.clock }
         ensures fault { IfErr result (λ e. e ≡ NoMemory) }
     {
         Ok(Spot {
@@ -123,6 +126,9 @@ impl Known {
         ensures told { (lines : ℕ → ℕ) (l l' : Log) → IsToldAt lines l 0 self.old → with_file_line l path.now stamp ≡ Ok l' → line < lines 0
             → has_folder l.opening path.now ≡ true → OnOk result (IsToldAt lines l' 0 self.new) }
         ensures agrees { (lines : ℕ → ℕ) (l : Log) → IsToldAt lines l 0 self.old → Agrees result (with_file_line l path.now stamp) }
+        ensures puts { (lines : ℕ → ℕ) (l : Log) → IsToldAt lines l 0 self.old
+            → IfOk result (λ r. IsSpotOf self.new.names path.now r.0 × (r.1 ≡ length (at l 0).files)) }
+        ensures clock { OnOk result (self.new.clock ≡ max self.old.clock stamp) }
         ensures fault { IfErr result (λ e. (e ≡ SamePath) ⊎ (e ≡ NoMemory)) }
     {
         let spot = self.spot(path)?;
@@ -146,6 +152,9 @@ impl Known {
         ensures told { (lines : ℕ → ℕ) (l l' : Log) → IsToldAt lines l 0 self.old → with_also_line l path.now old.now ≡ Ok l' → line < lines 0
             → has_folder l.opening path.now ≡ true → OnOk result (IsToldAt lines l' 0 self.new) }
         ensures agrees { (lines : ℕ → ℕ) (l : Log) → IsToldAt lines l 0 self.old → Agrees result (with_also_line l path.now old.now) }
+        ensures puts { (lines : ℕ → ℕ) (l : Log) → IsToldAt lines l 0 self.old
+            → IfOk result (λ r. IsSpotOf self.new.names path.now r.0 × (file_at (at l 0) old.now ≡ Some r.1)) }
+        ensures clock { OnOk result (self.new.clock ≡ self.old.clock) }
         ensures fault { IfErr result (λ e. (e ≡ SamePath) ⊎ (e ≡ NoSuchPath) ⊎ (e ≡ NoMemory)) }
     {
         let spot = self.spot(path)?;
@@ -168,6 +177,11 @@ impl Known {
         ensures acts { (lines : ℕ → ℕ) (l : Log) (i : ℕ) → IsToldAt lines l i self.old
             → slice_get l.steps i ≡ Some (record { number = line; step = step.now }) → lines i ≡ line → line < 4294967295
             → HasFolders (at l i) step.now.call → IfOk result (λ act. IsActOf (turn l i step.now) act) }
+        ensures done { (lines : ℕ → ℕ) (l : Log) (i : ℕ) → IsToldAt lines l i self.old
+            → slice_get l.steps i ≡ Some (record { number = line; step = step.now }) → lines i ≡ line → line < 4294967295
+            → HasFolders (at l i) step.now.call → IfOk result (λ act. Does self.new.names (turn l i step.now) act) }
+        ensures clock { (l : Log) (i : ℕ) → self.old.clock ≡ (moment l i).now → slice_get l.steps i ≡ Some (record { number = line; step = step.now })
+            → self.new.clock ≡ (moment l (suc i)).now }
     {
         self.clock = self.clock.max(step.moment);
         self.call(line, &step.call)
@@ -180,6 +194,10 @@ impl Known {
         ensures acts { (now : ℕ) (lines : ℕ → ℕ) (l : Log) (i : ℕ) (x : Step) → IsToldAt lines l i self.old
             → GoesOn lines l i line (after_call call.now now) → HasFolders (at l i) call.now → x.call ≡ call.now → now ≡ (moment l (suc i)).now
             → IfOk result (λ act. IsActOf (turn l i x) act) }
+        ensures done { (now : ℕ) (lines : ℕ → ℕ) (l : Log) (i : ℕ) (x : Step) → IsToldAt lines l i self.old
+            → GoesOn lines l i line (after_call call.now now) → HasFolders (at l i) call.now → x.call ≡ call.now
+            → IfOk result (λ act. Does self.new.names (turn l i x) act) }
+        ensures clock { self.new.clock ≡ self.old.clock }
     {
         match call {
             Call::At { deed, path, reply } => {
@@ -210,6 +228,10 @@ impl Known {
         ensures told { (p : Path) (now : ℕ) (lines : ℕ → ℕ) (l : Log) (i : ℕ) → IsToldAt lines l i self.old → AreNumbered self.old.names
             → IsSpotOf self.old.names p spot → GoesOn lines l i line (after_ask reply (ask_at deed p now)) → has_folder (at l i) p ≡ true
             → OnOk result (IsToldAt lines l (suc i) self.new) }
+        ensures done { (p : Path) (now : ℕ) (lines : ℕ → ℕ) (l : Log) (i : ℕ) (x : Step) → IsToldAt lines l i self.old → AreNumbered self.old.names
+            → IsSpotOf self.old.names p spot → GoesOn lines l i line (after_ask reply (ask_at deed p now)) → has_folder (at l i) p ≡ true
+            → x.call ≡ call.At deed p reply → IfOk result (λ act. Does self.new.names (turn l i x) act) }
+        ensures clock { self.new.clock ≡ self.old.clock }
     {
         let file = self.directories.file_at(spot);
         let before = self.directories.last_change(spot);
@@ -245,6 +267,11 @@ impl Known {
         ensures told { (p q : Path) (lines : ℕ → ℕ) (l : Log) (i : ℕ) → IsToldAt lines l i self.old → AreNumbered self.old.names
             → IsSpotOf self.old.names p old → IsSpotOf self.old.names q new → GoesOn lines l i line (after_ask reply (ask_between naming p q))
             → has_folder (at l i) p ≡ true → has_folder (at l i) q ≡ true → OnOk result (IsToldAt lines l (suc i) self.new) }
+        ensures done { (p q : Path) (lines : ℕ → ℕ) (l : Log) (i : ℕ) (x : Step) → IsToldAt lines l i self.old → AreNumbered self.old.names
+            → IsSpotOf self.old.names p old → IsSpotOf self.old.names q new → GoesOn lines l i line (after_ask reply (ask_between naming p q))
+            → has_folder (at l i) p ≡ true → has_folder (at l i) q ≡ true → x.call ≡ call.Between naming p q reply
+            → IfOk result (λ act. Does self.new.names (turn l i x) act) }
+        ensures clock { self.new.clock ≡ self.old.clock }
     {
         let file = self.directories.file_at(old);
         let there = self.directories.file_at(new);

@@ -8,8 +8,8 @@ use Rattle.md_judge.specs.Told.{at, ask_at, after_ask}
 use Rattle.md_judge.specs.Changes.{IsOlder, Leads}
 use Rattle.md_judge.specs.Known.{files_after, number_at, Stands, Holds, EachSpot, IsHoused}
 use Rattle.md_judge.specs.Moments.{GoesOn}
-use Rattle.md_judge.specs.Recalled.{HasNumber}
-use Rattle.md_judge.proofs.Pathed.{path_by, path-is}
+use Rattle.md_judge.specs.Recalled.{IsSpotOf, HasNumber}
+use Rattle.md_judge.proofs.Pathed.{path_by, path-is, place-by}
 use Rattle.md_judge.proofs.Telling.{known-by, comes, told-by}
 use Rattle.md_judge.proofs.Recounted.{known_on}
 use Rattle.md_judge.proofs.Changing.{overwrites}
@@ -88,3 +88,31 @@ returns-clause-told c = λ p now lines l i told numbered of goes there.
     c.change_at-change.result c.change_at-change.ensures.spots in
     told-by lines l (suc i) names numbered _ (returns-clause-moments c path (2 ^ 64) now lines l i is goes' low there')
     (comes path c.change_at-change.result l i names leads' each told.numbered) refl
+
+pub returns-clause-done : goal.returns-clause-done
+returns-clause-done c = λ p now lines l i x told numbered of goes there call-is.
+    let names = c.args.self.now.names in
+    let path = path_by names in
+    let spot = c.args.spot in
+    let same : path spot ≡ p = path-is names numbered p spot of in
+    let there' : has_folder (at l i) (path spot) ≡ true = subst (λ q. has_folder (at l i) q ≡ true) (sym same) there in
+    let low : spot.name < 2 ^ 64 = numbered.few p.name spot.name of.number in
+    let known = known-by lines l i c.args.self.now told numbered in
+    let leads = leads c path (2 ^ 64) now (at l i) known.stands known.holds low there' in
+    let next : after_ask c.args.reply (ask_at c.args.deed (path spot) now) (at l i) ≡ at l (suc i) =
+    ap (λ q. after_ask c.args.reply (ask_at c.args.deed q now) (at l i)) same ∙ sym goes.next in
+    let of' : IsSpotOf names (path spot) spot = subst (λ q. IsSpotOf names q spot) (sym same) of in (
+      path,
+      record {
+        leads = subst (Leads path c.change_at-change.result (at l i)) next leads;
+        place = place-by names;
+        spots = each-spot (λ q. q ≡ spot) (λ q. IsSpotOf names (path q) q) (λ q e. subst (λ q. IsSpotOf names (path q) q) (sym e) of')
+            c.change_at-change.result c.change_at-change.ensures.spots;
+        at = λ d q r e. let one : p ≡ q = cc in record {
+          spot = spot;
+          named = refl;
+          of = subst (λ q. IsSpotOf names q spot) one of;
+          file = sym (is c path (2 ^ 64) now (at l i) known.stands known.holds low there') ∙ ap (file_at (at l i)) (same ∙ one);
+        };
+      },
+    )

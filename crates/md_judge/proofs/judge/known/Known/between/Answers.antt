@@ -8,8 +8,8 @@ use Rattle.md_judge.specs.Told.{at, ask_between, after_ask}
 use Rattle.md_judge.specs.Changes.{IsOlder, Leads}
 use Rattle.md_judge.specs.Known.{number_at, Stands, Holds, EachSpot, IsHoused}
 use Rattle.md_judge.specs.Moments.{GoesOn}
-use Rattle.md_judge.specs.Recalled.{HasNumber}
-use Rattle.md_judge.proofs.Pathed.{path_by, path-is}
+use Rattle.md_judge.specs.Recalled.{IsSpotOf, HasNumber}
+use Rattle.md_judge.proofs.Pathed.{path_by, path-is, place-by}
 use Rattle.md_judge.proofs.Telling.{known-by, comes, told-by}
 use Rattle.md_judge.proofs.Recounted.{known_on}
 use Rattle.md_judge.proofs.Changing.{overwrites}
@@ -105,3 +105,32 @@ returns-clause-told c = λ p q lines l i told numbered of of' goes there there'.
     ]) c.change_between-change.result c.change_between-change.ensures.spots in
     told-by lines l (suc i) names numbered _ (returns-clause-moments c path (2 ^ 64) lines l i is goes' low low' here here')
     (comes path c.change_between-change.result l i names leads' each told.numbered) refl
+
+pub returns-clause-done : goal.returns-clause-done
+returns-clause-done c = λ p q lines l i x told numbered of of' goes there there' call-is.
+    let names = c.args.self.now.names in
+    let path = path_by names in
+    let old = c.args.old in
+    let new = c.args.new in
+    let same : path old ≡ p = path-is names numbered p old of in
+    let same' : path new ≡ q = path-is names numbered q new of' in
+    let here : has_folder (at l i) (path old) ≡ true = subst (λ v. has_folder (at l i) v ≡ true) (sym same) there in
+    let here' : has_folder (at l i) (path new) ≡ true = subst (λ v. has_folder (at l i) v ≡ true) (sym same') there' in
+    let low : old.name < 2 ^ 64 = numbered.few p.name old.name of.number in
+    let low' : new.name < 2 ^ 64 = numbered.few q.name new.name of'.number in
+    let known = known-by lines l i c.args.self.now told numbered in
+    let leads = leads c path (2 ^ 64) (at l i) known.stands known.holds low low' here here' in
+    let next : after_ask c.args.reply (ask_between c.args.naming (path old) (path new)) (at l i) ≡ at l (suc i) =
+    (λ j. after_ask c.args.reply (ask_between c.args.naming (same j) (same' j)) (at l i)) ∙ sym goes.next in
+    let first : IsSpotOf names (path old) old = subst (λ v. IsSpotOf names v old) (sym same) of in
+    let second : IsSpotOf names (path new) new = subst (λ v. IsSpotOf names v new) (sym same') of' in (
+      path,
+      record {
+        leads = subst (Leads path c.change_between-change.result (at l i)) next leads;
+        place = place-by names;
+        spots = each-spot (λ s. (s ≡ old) ⊎ (s ≡ new)) (λ s. IsSpotOf names (path s) s)
+            (λ s e. elim e [ inl e ↦ subst (λ s. IsSpotOf names (path s) s) (sym e) first | inr e ↦ subst (λ s. IsSpotOf names (path s) s) (sym e) second ])
+            c.change_between-change.result c.change_between-change.ensures.spots;
+        at = λ d v r e. absurd (cc);
+      },
+    )

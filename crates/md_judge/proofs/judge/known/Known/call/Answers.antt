@@ -5,7 +5,7 @@ use Rattle.md_judge.specs.Law.{turn}
 use Rattle.md_judge.specs.Told.{at, ask_at, ask_between, after_ask, after_call}
 use Rattle.md_judge.specs.Moments.{GoesOn}
 use Rattle.md_judge.specs.Recalled.{IsSpotOf, HasFolders}
-use Rattle.md_judge.proofs.Acting.{acts-at, acts-between, acts-none}
+use Rattle.md_judge.proofs.Acting.{acts-at, acts-between, acts-none, done-none}
 use Rattle.md_judge.proofs.Pathed.{path_by, path-is}
 use Rattle.md_judge.proofs.Stepping.{rests}
 use Rattle.md_judge.proofs.Telling.{known-by}
@@ -43,6 +43,14 @@ returns-in_ok-spot-in-At c = record {
       if-ok c.at.result _ (λ act. IsActOf (turn l i x) act)
       (λ act leaves. acts-at l i x act map (2 ^ 64) now deed path (map s) reply _ (is ∙ c.in-At.is) same clock goes'.next leaves)
       (c.at.ensures.act map (2 ^ 64) now (at l i) by.stands by.holds low here);
+  done = λ now lines l i x told goes there is.
+      let path = c.in-At.path in
+      let goes' : GoesOn lines l i c.args.line (after_ask c.in-At.reply (ask_at c.in-At.deed path now)) =
+      subst (λ v. GoesOn lines l i c.args.line (after_call v now)) c.in-At.is goes in
+      let there' : has_folder (at l i) path ≡ true = subst (HasFolders (at l i)) c.in-At.is there in
+      let spot = c.in_ok-spot-in-At.ensures in
+      c.at.ensures.done path now lines l i x (spot.told lines l i told) spot.numbered spot.spot goes' there' (is ∙ c.in-At.is);
+  clock = c.at.ensures.clock ∙ c.spot.ensures.clock;
 }
 
 pub returns-in_ok-new-in-Between : goal.returns-in_ok-new-in-Between
@@ -86,6 +94,19 @@ returns-in_ok-new-in-Between c = record {
       if-ok c.between.result _ (λ act. IsActOf (turn l i x) act)
       (λ act leaves. acts-between l i x act map (2 ^ 64) naming old (map s) new (map t) reply _ (is ∙ c.in-Between.is) same same' goes'.next leaves)
       (c.between.ensures.act map (2 ^ 64) (at l i) by.stands by.holds low low' here here');
+  done = λ now lines l i x told goes there is.
+      let old = c.in-Between.old in
+      let new = c.in-Between.new in
+      let goes' : GoesOn lines l i c.args.line (after_ask c.in-Between.reply (ask_between c.in-Between.naming old new)) =
+      subst (λ v. GoesOn lines l i c.args.line (after_call v now)) c.in-Between.is goes in
+      let there' : (has_folder (at l i) old ≡ true) × (has_folder (at l i) new ≡ true) = subst (HasFolders (at l i)) c.in-Between.is there in
+      let first = c.in_ok-old-in-Between.ensures in
+      let second = c.in_ok-new-in-Between.ensures in
+      let of = first.spot in
+      c.between.ensures.done old new lines l i x (second.told lines l i (first.told lines l i told)) second.numbered
+      (record { folder = of.folder; place = of.place; number = second.keeps old.name c.in_ok-old-in-Between.old.name of.number }) second.spot
+      goes' there'.0 there'.1 (is ∙ c.in-Between.is);
+  clock = c.between.ensures.clock ∙ c.spot-in-Between-2.ensures.clock ∙ c.spot-in-Between.ensures.clock;
 }
 
 pub returns-in-List : goal.returns-in-List
@@ -106,6 +127,13 @@ returns-in-List c = record {
         | inr of ↦ subst (λ v. IsWrongAsk (turn l i x) v → ⊥) (sym (is ∙ of.3)) (λ wrong. wrong)
       ] in
       acts-none l i x _ refl refl same none;
+  done = λ now lines l i x told goes there is.
+      let same : at l (suc i) ≡ at l i = elim c.in-List.is [
+        | inl of ↦ goes.next ∙ ap (λ v. after_call v now (at l i)) of.4
+        | inr of ↦ goes.next ∙ ap (λ v. after_call v now (at l i)) of.3
+      ] in
+      done-none c.args.self.now.names l i x _ refl same (elim c.in-List.is [ inl of ↦ λ d p r e. let no = of.4 in cc | inr of ↦ λ d p r e. let no = of.3 in cc ]);
+  clock = refl;
 }
 
 pub returns-in-List-2 : goal.returns-in-List-2
@@ -126,4 +154,11 @@ returns-in-List-2 c = record {
         | inr of ↦ subst (λ v. IsWrongAsk (turn l i x) v → ⊥) (sym (is ∙ of.3)) (λ wrong. wrong)
       ] in
       acts-none l i x _ refl refl same none;
+  done = λ now lines l i x told goes there is.
+      let same : at l (suc i) ≡ at l i = elim c.in-List.is [
+        | inl of ↦ goes.next ∙ ap (λ v. after_call v now (at l i)) of.4
+        | inr of ↦ goes.next ∙ ap (λ v. after_call v now (at l i)) of.3
+      ] in
+      done-none c.args.self.now.names l i x _ refl same (elim c.in-List.is [ inl of ↦ λ d p r e. let no = of.4 in cc | inr of ↦ λ d p r e. let no = of.3 in cc ]);
+  clock = refl;
 }

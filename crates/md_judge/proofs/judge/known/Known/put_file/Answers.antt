@@ -22,3 +22,6 @@ returns-then-is_some-clause-agrees c = λ lines l told differ.
     let spot = c.in_ok-spot.ensures in
     let taken = ap is_some (sym c.file_at.ensures) ∙ sym c.is_some.ensures ∙ c.if-is_some.true in
     file-said lines l c.spot.new.self (spot.told lines l 0 told) c.args.path.now c.in_ok-spot.spot spot.spot c.args.stamp true taken
+
+pub returns-clause-puts : goal.returns-clause-puts
+returns-clause-puts c = λ lines l told. (c.in_ok-spot.ensures.spot, (c.in_ok-spot.ensures.told lines l 0 told).files)

@@ -1,6 +1,6 @@
 use Rattle.std.proofs.Common.{◌≤◌, ◌∙◌, true, false, IsOk, is_some, refl, sym, ap, subst, arith}
 use Rattle.md_judge.specs.Moments.{kept_moment}
-use Rattle.md_judge.proofs.Beginning.{name-told, name-said, still-of}
+use Rattle.md_judge.proofs.Beginning.{name-told, name-said, still-of, told-at}
 use Rattle.md_judge.proofs.judge.known.Known.put_name.Goals as goal
 
 pub returns-clause-told : goal.returns-clause-told
@@ -42,3 +42,12 @@ returns-in_default-clause-agrees c = λ lines l told differ.
     let away = ap is_some (sym c.file_at-2.ensures ∙ c.in_default.is) in
     name-said lines l c.spot-2.new.self (second.told lines l 0 (first.told lines l 0 told)) c.args.path.now c.args.old.now
     c.in_ok-spot.spot c.in_ok-old.old spot second.spot false false free away
+
+pub returns-clause-puts : goal.returns-clause-puts
+returns-clause-puts c = λ lines l told.
+    let first = c.in_ok-spot.ensures in
+    let second = c.in_ok-old.ensures in (
+      still-of c.spot.new.self.names c.spot-2.new.self.names second.keeps c.args.path.now c.in_ok-spot.spot first.spot,
+      sym (told-at lines l 0 c.spot-2.new.self (second.told lines l 0 (first.told lines l 0 told)) c.args.old.now c.in_ok-old.old second.spot)
+          ∙ sym c.file_at-2.ensures ∙ c.in-Some.is,
+    )
