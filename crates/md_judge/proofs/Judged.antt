@@ -1,5 +1,5 @@
 -- What is kept of files goes on to be what a log tells, and what is found by it is what the law has of the step.
-use Rattle.std.proofs.Common.{ℕ, suc, ◌≡◌, ◌≢◌, ◌↔◌, ◌<◌, ◌≤◌, ◌+◌, ◌⊎◌, inl, inr, Bool, true, List, Option, Some, None, Result, Ok, Err, OnOk, length, refl, sym, ap, subst, ◌∙◌, arith}
+use Rattle.std.proofs.Common.{ℕ, suc, ◌≡◌, ◌≢◌, ◌↔◌, ◌<◌, ◌≤◌, ◌+◌, ◌⊎◌, inl, inr, Bool, true, false, List, Option, Some, None, Result, Ok, Err, OnOk, length, refl, sym, ap, subst, ◌∙◌, arith}
 use Rattle.std.proofs.lemmas.Bool.{cases_lt}
 use Rattle.md_dirs.specs.State.{State, file_at, file_by}
 use Rattle.md_dirs.specs.declared.paths.Path.{Path}
@@ -22,6 +22,7 @@ use Rattle.md_judge.specs.declared.judge.found.Found.{Found}
 use Rattle.md_judge.specs.declared.judge.known.Act.{Act}
 use Rattle.md_judge.specs.declared.judge.known.Known.{Known}
 use Rattle.md_judge.specs.declared.judge.tables.Names.{Names}
+use Rattle.md_judge.specs.Acts.{Does}
 use Rattle.md_judge.specs.Changes.{IsPathOf, Leads}
 use Rattle.md_judge.specs.Filed.{IsSeenBy, IsSeenTimes, IsFiled, HasFiles, AreFiled, IsJudged, BrokenByFiles}
 use Rattle.md_judge.specs.Files.{made, facts_at, named_by, AtStep, CallStep, ChangeStep}
@@ -32,9 +33,11 @@ use Rattle.md_judge.specs.Logs.{Log}
 use Rattle.md_judge.specs.Recalled.{IsSpotOf}
 use Rattle.md_judge.specs.Recalls.{Acts, IsMadeBy, Recalls, RecallsMaker, RecallsLeft, IsAt, IsChange, BrokenAt, BrokenByChange}
 use Rattle.md_judge.specs.Told.{ask_at, after_ask, after_call, moment, at, is_message, IsStep, IsSeen, IsUnflushed, IsCut, WasInCur}
+use Rattle.md_judge.proofs.Acting.{done-none}
 use Rattle.md_judge.proofs.Afters.{at-files, between-files, after-cases, append-paths}
 use Rattle.md_judge.proofs.Counting.{counted-some}
 use Rattle.md_judge.proofs.Filing.{facts-low, facts-there, next, IsHalf, half-idle, half-at, idle-other, no-unflushed, no-cut, no-cur, unborn}
+use Rattle.md_judge.proofs.Lawful.{change-lawful}
 use Rattle.md_judge.proofs.Lasting.{files-rise, cur-still, cur-next}
 use Rattle.md_judge.proofs.Named.{now-names, names-now}
 use Rattle.md_judge.proofs.Shown.{Says, named-says, held, by-change, change-many, added}
@@ -347,3 +350,41 @@ module _ (path : Spot → Path) (who : ℕ → List ℕ) (many : ℕ) (l : Log) 
     change-call = subst (λ now. IsChange path who many l i x actor now known.names act.change mid new) (sym judged.clock)
         (is-change who many l i x judged.step actor judged.acts old are path known.names act.change judged.done.leads judged.done.place
         judged.done.spots mid new between then)
+
+-- ---- a step that calls on no path
+
+module _ (who : ℕ → List ℕ) (many : ℕ) (l : Log) (i : ℕ) (x : Step) (step : IsStep l i x) (actor : ℕ) (acts : Acts who many actor x)
+    (files : List Filed) (are : AreFiled who many l i files) (names : Names) (same : at l (suc i) ≡ at l i)
+    (other : (d : Deed) (p : Path) (r : Reply) → x.call ≡ call.At d p r → ⊥) where
+  abbrev no-change : Change
+  no-change = record { taken = None; added = None; turned = None; is_unlink = false }
+
+  abbrev no-act : Act
+  no-act = record { is_wrong = false; wrong_before = None; spot = None; file = None; change = no-change; turned_before = None }
+
+  still-done : Does names (turn l i x) no-act
+  still-done = done-none names l i x no-act refl same other
+
+  still-does : ChangeStep names no-change files files
+  still-does = (files, files, refl, refl, refl)
+
+  still-between : IsBetween who many l i x step actor files files
+  still-between = between-other who many l i x step actor acts files are x.call refl other
+
+  -- what is kept of files is what the log tells after it
+  pub still-filed : AreFiled who many l (suc i) files
+  still-filed = filed-next who many l i x step actor acts files are still-done.0 names no-change still-done.1.leads still-done.1.place (tt, tt, tt) files files
+      still-between still-does
+
+  -- and it breaks none of the clauses that go by files
+  pub still-lawful : (c : Clause) → BrokenByFiles (turn l i x) c → ⊥
+  still-lawful c broken = elim ((files-broken (turn l i x) c).1 broken) [
+    | inl at-call ↦ none-at (turn l i x) other c at-call
+    | inr changed ↦
+        let is = is-change who many l i x step actor acts files are still-done.0 names no-change still-done.1.leads still-done.1.place (tt, tt, tt) files files
+        still-between still-does in
+        elim ((change-lawful still-done.0 who many l i x actor (moment l (suc i)).now names no-change files files is c).1 changed) [
+          | inl none ↦ none
+          | inr left ↦ elim left [ inl none ↦ none | inr none ↦ none ]
+        ]
+  ]

@@ -38,3 +38,6 @@ pub mod Stored
 pub mod Shown
 pub mod Filing
 pub mod Judged
+pub mod Alike
+pub mod Opened
+pub mod Proved

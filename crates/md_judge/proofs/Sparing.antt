@@ -198,3 +198,8 @@ add-more m file leaving c found = absurd found
 pub spare-added : (m : Option Message) (file leaving : ℕ) (old new : Found) → Notes (AddFinds m file leaving) old new → KeepsFiles old new
 spare-added None file leaving = spare-files (AddFinds None file leaving) (λ h. h) (λ h. h) (λ h. h) (λ h. h) (λ h. h)
 spare-added (Some m) file leaving = spare-files (AddFinds (Some m) file leaving) (λ h. h) (λ h. h) (λ h. h) (λ h. h) (λ h. h)
+
+-- what follows of two facts where a call gives a value
+pub ok-two : {A E : Type 0} (r : Result A E) (P Q R : Type 0) → (P → Q → R) → OnOk r P → OnOk r Q → OnOk r R
+ok-two (Ok x) P Q R so one two = so one two
+ok-two (Err e) P Q R so one two = tt

@@ -35,12 +35,12 @@ left-over false o n is = is
 here : (o : Option File) (file : File) → o ≡ Some file → IsSome o
 here o file is = ap is_some is
 
-has-named : (s : State) (p : Path) (k : ℕ) → HasFiles s → IsSome (file_by s.files k) → HasFiles (with_path p s (Some k))
+pub has-named : (s : State) (p : Path) (k : ℕ) → HasFiles s → IsSome (file_by s.files k) → HasFiles (with_path p s (Some k))
 has-named s p k has there q n is =
     chosen (eq_by_cmp path_cmp q p) k (file_at s q) n (sym (get-insert path_total s.names p k q) ∙ is)
     (λ same. subst (λ (m : ℕ). IsSome (file_by s.files m)) same there) (λ was. has q n was)
 
-has-made : (s : State) (p : Path) (file : File) → HasFiles s → HasFiles (with_new_file p file s)
+pub has-made : (s : State) (p : Path) (file : File) → HasFiles s → HasFiles (with_new_file p file s)
 has-made s p file has q n is =
     chosen (eq_by_cmp path_cmp q p) (length s.files) (file_at s q) n (sym (get-insert path_total s.names p (length s.files) q) ∙ is)
     (λ same. subst (λ (m : ℕ). IsSome (file_by (s.files ++ Some file ∷ []) m)) same (here _ file (file_by-last s.files (Some file))))

@@ -26,12 +26,14 @@ use Rattle.md_judge.specs.declared.judge.clauses.Clauses.{Clauses}
 use Rattle.md_judge.specs.declared.log.Finding.{Finding}
 use Rattle.md_judge.specs.declared.session.Session.{Session}
 use Rattle.md_judge.specs.declared.stretch.Stretch.{Stretch}
+use Rattle.md_judge.specs.Filed.{name_at}
 use Rattle.md_judge.specs.Found.{Has, clause_index}
 use Rattle.md_judge.specs.Law.{turn, Breaks, IsAllowed, IsFinding}
 use Rattle.md_judge.specs.Logs.{Log, Numbered, is_passed_over, has_begun, with_line, with_text, with_folder_line, with_file_line, with_also_line}
 use Rattle.md_judge.specs.Recalled.{HasFolders}
 use Rattle.md_judge.specs.Told.{Moment, at}
 use Rattle.md_judge.specs.Verdict.{IsProved, HasNoTicks, Remembers, IsAmong, AreLinesOf, HasRead, IsHeadOf, IsBroken, AddsFinding, KeepsHead}
+use Rattle.md_judge.proofs.Opened.{filed-opening, filed-longer}
 use Rattle.md_judge.proofs.Housed.{folders-stay, file-housed, also-housed}
 use Rattle.md_judge.proofs.Prefixes.{same-moment, told-longer, finding-longer, finding-none, opening-told}
 
@@ -52,11 +54,20 @@ on-ok-same P (Err e) (Err f) same holds = tt
 -- what it keeps of a log it keeps of the log with one more step
 remembers-longer : (lines : ℕ → ℕ) (l : Log) (n : Numbered) (i : ℕ) (j : Judge) → i ≤ length l.steps → Remembers lines l i j
     → Remembers lines (record l { steps = l.steps ++ n ∷ [] }) i j
-remembers-longer lines l n i j low keeps = record { told = told-longer lines l n i j.known low keeps.told }
+remembers-longer lines l n i j low keeps = record {
+  told = told-longer lines l n i j.known low keeps.told;
+  filed = filed-longer (name_at j.actor_names) (length j.actor_names) l n i j.watch.files.all.items low keeps.filed;
+  clock = keeps.clock ∙ ap (λ (m : Moment). m.now) (sym (same-moment l n i low));
+}
 
 -- what it keeps of the beginning it keeps of each log that begins so
-remembers-opening : (lines : ℕ → ℕ) (l l' : Log) (j : Judge) → l'.opening ≡ l.opening → Remembers lines l 0 j → Remembers lines l' 0 j
-remembers-opening lines l l' j same keeps = record { told = opening-told lines l l' j.known same keeps.told }
+remembers-opening : (lines : ℕ → ℕ) (l l' : Log) (j : Judge) → l'.opening ≡ l.opening → l'.clock ≡ l.clock → Remembers lines l 0 j → Remembers lines l' 0 j
+remembers-opening lines l l' j same clock keeps = record {
+  told = opening-told lines l l' j.known same keeps.told;
+  filed = filed-opening (name_at j.actor_names) (length j.actor_names) l l' j.watch.files.all.items (λ p. ap (λ (s : State). file_at s p) same)
+      (ap (λ (s : State). s.files) same) keeps.filed;
+  clock = keeps.clock ∙ sym clock;
+}
 
 -- ---- findings that are added
 
@@ -368,7 +379,7 @@ allow-read number l l' s t c read none same folders begun stretch findings keeps
     let new : Log = record l { allowed = c ∷ l.allowed } in
     subst (λ (m : Log). HasRead (suc number) m t) same
     (head-read number l new s t read none none (folders ∙ read.folders) begun stretch findings read.housed
-    (λ lines low told. keeps lines new 0 (remembers-opening lines l new s.judge refl told)) (λ o proved. (
+    (λ lines low told. keeps lines new 0 (remembers-opening lines l new s.judge refl refl told)) (λ o proved. (
       λ has. elim ((adds o).0 has) [
         | inl was ↦ let before = (read.allowed o proved).0 was in (suc before.0, before.1)
         | inr is ↦ (0, ap Some (sym is))
@@ -394,7 +405,7 @@ module _ (number : ℕ) (l l' : Log) (s t : Session) (read : HasRead number l s)
   -- a folder is added
   pub folder-read : (name : List ℕ) → with_folder s.folders name ≡ Ok t.folders → with_folder_line l name ≡ Ok l'
       → ((lines : ℕ → ℕ) (m m' : Log) → Remembers lines m 0 j → m'.opening ≡ record m.opening { folders = suc m.opening.folders }
-      → OnOk r (Remembers lines m' 0 t.judge)) → OnOk r (HasRead (suc number) l' t)
+      → m'.clock ≡ m.clock → OnOk r (Remembers lines m' 0 t.judge)) → OnOk r (HasRead (suc number) l' t)
   folder-read name has is told = on-ok-by r (HasRead (suc number) l' t) (λ holds.
       let has' : with_folder l.folders name ≡ Ok t.folders = subst (λ (fs : List (List ℕ)). with_folder fs name ≡ Ok t.folders) read.folders has in
       let now : record l { folders = t.folders; opening = record l.opening { folders = length t.folders } } ≡ l' = with-folders l l' name t.folders has' is in
@@ -403,7 +414,7 @@ module _ (number : ℕ) (l l' : Log) (s t : Session) (read : HasRead number l s)
       ap (λ (m : Log). m.opening) (sym now) ∙ ap (λ n. record l.opening { folders = n }) more in
       head-read number l l' s t read none (ap (λ (m : Log). m.steps) (sym now) ∙ none) (ap (λ (m : Log). m.folders) now) begun stretch findings
       (ap (λ (m : Log). m.opening.folders) (sym now) ∙ ap (λ (m : Log). length m.folders) now)
-      (λ lines low was. holds (Remembers lines l' 0 t.judge) (told lines l l' (goes lines l 0 was) opening))
+      (λ lines low was. holds (Remembers lines l' 0 t.judge) (told lines l l' (goes lines l 0 was) opening (ap (λ (m : Log). m.clock) (sym now))))
       (still-allowed (ap (λ (m : Log). m.allowed) (sym now)) (holds (t.judge.allowed ≡ j.allowed) keeps)))
 
   -- a path is put

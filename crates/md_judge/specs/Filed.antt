@@ -1,5 +1,5 @@
 -- What the judge keeps of all files is what a log tells of them.
-use Rattle.std.specs.Prelude.{ℕ, suc, ◌≡◌, ◌↔◌, ◌≤◌, List, Some, Bool, true, length, slice_get, IsSome}
+use Rattle.std.specs.Prelude.{ℕ, suc, ◌≡◌, ◌↔◌, ◌≤◌, List, [], Some, Bool, true, length, slice_get, unwrap_or, IsSome}
 use Rattle.md_dirs.specs.State.{State, file_at, file_by}
 use Rattle.md_dirs.specs.declared.paths.Path.{Path}
 use Rattle.md_dirs.specs.declared.paths.File.{File}
@@ -55,6 +55,10 @@ pub record AreFiled (who : ℕ → List ℕ) (many : ℕ) (l : Log) (i : ℕ) (f
   pub count : length files ≡ length (at l i).files
   pub each : (n : ℕ) (f : FileFacts) → facts_at files n ≡ Some f → IsFiled who many l i n f
   pub there : (j : ℕ) → j ≤ i → HasFiles (at l j)
+
+-- the name of the actor of a number, by a list of names
+abbrev pub name_at : List (List ℕ) → ℕ → List ℕ
+name_at names a = unwrap_or (slice_get names a) []
 
 -- A step of a log is judged: its call and its actor are these, the clock is that after it, and it did to paths what the act says.
 pub record IsJudged (path : Spot → Path) (who : ℕ → List ℕ) (many : ℕ) (l : Log) (i : ℕ) (x : Step) (actor : ℕ) (c : Call) (known : Known)

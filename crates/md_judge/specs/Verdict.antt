@@ -8,14 +8,21 @@ use Rattle.md_log.specs.declared.line.Line.TheVariants as line
 use Rattle.md_judge.specs.declared.log.Finding.{Finding}
 use Rattle.md_judge.specs.declared.session.Session.{Session}
 use Rattle.md_judge.specs.declared.judge.Judge.{Judge}
+use Rattle.md_judge.specs.Filed.{AreFiled, name_at}
 use Rattle.md_judge.specs.Found.{Has}
 use Rattle.md_judge.specs.Law.{IsAllowed, IsFinding}
 use Rattle.md_judge.specs.Logs.{Log, Numbered, empty_log, has_begun, log_by}
 use Rattle.md_judge.specs.Recalled.{IsToldAt}
+use Rattle.md_judge.specs.Told.{moment}
 
 -- the clauses of which what is found of a whole log is proved to be what the law has
 abbrev pub IsProved : Clause → Type 0
 IsProved clause.Overwritten = Unit {0}
+IsProved clause.SeenBeforeWhole = Unit {0}
+IsProved clause.Mixed = Unit {0}
+IsProved clause.NotFlushed = Unit {0}
+IsProved clause.MovedBack = Unit {0}
+IsProved clause.CleanedEarly = Unit {0}
 IsProved c = ⊥
 
 -- no step of the log has ticks
@@ -26,9 +33,11 @@ HasNoTicks l = (k : ℕ) (x : Numbered) → slice_get l.steps k ≡ Some x → x
 abbrev pub IsAmong : List Finding → ℕ → Clause → Type 0
 IsAmong found number c = (k : ℕ) × (f : Finding) × (slice_get found k ≡ Some f) × (f.line ≡ number) × (f.clause ≡ c)
 
--- What the judge keeps is what a log tells at a moment.
+-- What the judge keeps of paths, of files and of the clock is what a log tells at a moment.
 pub record Remembers (lines : ℕ → ℕ) (l : Log) (i : ℕ) (j : Judge) : Type 0 where
   pub told : IsToldAt lines l i j.known
+  pub filed : AreFiled (name_at j.actor_names) (length j.actor_names) l i j.watch.files.all.items
+  pub clock : j.known.clock ≡ (moment l i).now
 
 -- Lines are numbered as a log has them that was read up to this line, which is the next: each step has its line, and before the first
 -- step come the lines of the beginning.

@@ -81,7 +81,7 @@ impl Judge {
     /// One more folder, after the others.
     pub(crate) fn add_folder(&mut self) -> Result<(), LineFault>
         ensures told { (lines : ℕ → ℕ) (l l' : Log) → Remembers lines l 0 self.old
-            → l'.opening ≡ record l.opening { folders = suc l.opening.folders } → OnOk result (Remembers lines l' 0 self.new) }
+            → l'.opening ≡ record l.opening { folders = suc l.opening.folders } → l'.clock ≡ l.clock → OnOk result (Remembers lines l' 0 self.new) }
         ensures allowed { OnOk result (self.new.allowed ≡ self.old.allowed) }
     {
         self.known.directories.add_folder()?;
@@ -146,6 +146,7 @@ impl Judge {
         ensures allowed { OnOk result (self.new.allowed ≡ self.old.allowed) }
     {
         let (actor, _) = self.actor_names.number(step.actor.as_slice())?;
+        self.actor_names.are_apart();
         self.act = self.known.step(line, &step)?;
         self.watch.begin(actor)?;
         match &step.call {

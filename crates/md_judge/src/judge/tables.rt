@@ -133,7 +133,7 @@ impl Table {
 
     /// Nothing is done: two words have two numbers, and there are not too many.
     #[inline(always)]
-    fn are_apart(&self)
+    pub(super) fn are_apart(&self)
         ensures apart { AreApart self.now }
         ensures few { length self.now ≤ 4000000000 }
     {

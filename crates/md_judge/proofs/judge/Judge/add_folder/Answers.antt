@@ -1,12 +1,22 @@
-use Rattle.std.proofs.Common.{refl}
+use Rattle.std.proofs.Common.{length, refl, sym, ap, subst, ◌∙◌}
+use Rattle.md_dirs.specs.State.{State, file_at}
+use Rattle.md_judge.specs.declared.judge.files.Files.{Files}
+use Rattle.md_judge.specs.Filed.{AreFiled, name_at}
 use Rattle.md_judge.proofs.Beginning.{folder-told}
+use Rattle.md_judge.proofs.Opened.{filed-opening}
 use Rattle.md_judge.proofs.Stepping.{on-ok}
 use Rattle.md_judge.proofs.judge.Judge.add_folder.Goals as goal
 
 pub returns : goal.returns
 returns c = record {
-  told = λ lines l l' keeps opening.
-      on-ok c.add_folder-2.result
-      (record { told = folder-told lines l l' c.args.self.now.known _ keeps.told refl c.in_ok-add_folder.ensures refl opening });
+  told = λ lines l l' keeps opening same.
+      let names = c.args.self.now.actor_names in
+      on-ok c.add_folder-2.result (record {
+        told = folder-told lines l l' c.args.self.now.known _ keeps.told refl c.in_ok-add_folder.ensures refl opening;
+        filed = subst (λ (f : Files). AreFiled (name_at names) (length names) l' 0 f.all.items) (sym c.add_folder-2.ensures)
+            (filed-opening (name_at names) (length names) l l' c.args.self.now.watch.files.all.items (λ p. ap (λ (s : State). file_at s p) opening)
+            (ap (λ (s : State). s.files) opening) keeps.filed);
+        clock = keeps.clock ∙ sym same;
+      });
   allowed = on-ok c.add_folder-2.result refl;
 }

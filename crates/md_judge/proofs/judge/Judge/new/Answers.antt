@@ -1,4 +1,11 @@
+use Rattle.std.proofs.Common.{length}
+use Rattle.md_judge.specs.Filed.{name_at}
+use Rattle.md_judge.proofs.Opened.{filed-first}
 use Rattle.md_judge.proofs.judge.Judge.new.Goals as goal
 
 pub returns-clause-told : goal.returns-clause-told
-returns-clause-told c = λ lines. record { told = c.new-2.ensures.told lines }
+returns-clause-told c = λ lines. record {
+  told = c.new-2.ensures.told lines;
+  filed = filed-first (name_at c.new.result) (length c.new.result) c.new-3.result.files.all.items c.new-3.ensures;
+  clock = c.new-2.ensures.clock;
+}

@@ -1,9 +1,24 @@
-use Rattle.std.proofs.Common.{refl}
+use Rattle.std.proofs.Common.{max, length, refl, sym, ap, ◌∙◌}
+use Rattle.md_judge.specs.Filed.{name_at}
+use Rattle.md_judge.specs.Files.{named, Changes}
+use Rattle.md_judge.proofs.Opened.{filed-file, file-log}
+use Rattle.md_judge.proofs.Sparing.{ok-then}
 use Rattle.md_judge.proofs.Stepping.{on-ok}
 use Rattle.md_judge.proofs.judge.Judge.put_file.Goals as goal
 
 pub returns : goal.returns
 returns c = record {
-  told = λ lines l l' keeps is short there. on-ok c.put.result (record { told = c.in_ok-spot.ensures.told lines l l' keeps.told is short there });
+  told = λ lines l l' keeps is short there.
+      let names = c.args.self.now.actor_names in
+      let log = file-log l l' c.args.path.now c.args.stamp is in
+      let puts = c.in_ok-spot.ensures.puts lines l keeps.told in
+      ok-then c.put.result (Changes c.in_ok-spot.file (named c.put_file.new.self.names c.in_ok-spot.spot) c.make.new.self.all.items c.put.new.self.files.all.items) _
+      (λ changes. record {
+        told = c.in_ok-spot.ensures.told lines l l' keeps.told is short there;
+        filed = filed-file (name_at names) (length names) l l' c.put_file.new.self.names c.args.path.now c.in_ok-spot.spot c.in_ok-spot.file puts.0
+            c.args.self.now.watch.files.all.items c.put.new.self.files.all.items keeps.filed c.args.stamp log.0 puts.1 log.1 c.make.new.self.all.items
+            c.in_ok-make.ensures changes;
+        clock = c.in_ok-spot.ensures.clock ∙ ap (λ n. max n c.args.stamp) keeps.clock ∙ sym log.2;
+      }) c.put.ensures;
   allowed = on-ok c.put.result refl;
 }

@@ -1,9 +1,27 @@
-use Rattle.std.proofs.Common.{refl}
+use Rattle.std.proofs.Common.{length, refl, sym, ap, ◌∙◌}
+use Rattle.md_dirs.specs.Calls.{with_path}
+use Rattle.md_judge.specs.Filed.{name_at}
+use Rattle.md_judge.specs.Files.{named, Changes}
+use Rattle.md_judge.proofs.Opened.{filed-name, also-log}
+use Rattle.md_judge.proofs.Sparing.{ok-then}
 use Rattle.md_judge.proofs.Stepping.{on-ok}
 use Rattle.md_judge.proofs.judge.Judge.put_name.Goals as goal
 
 pub returns : goal.returns
 returns c = record {
-  told = λ lines l l' keeps is short there. on-ok c.put.result (record { told = c.in_ok-spot.ensures.told lines l l' keeps.told is short there });
+  told = λ lines l l' keeps is short there.
+      let names = c.args.self.now.actor_names in
+      let p = c.args.path.now in
+      let log = also-log l l' p c.args.old.now is in
+      let puts = c.in_ok-spot.ensures.puts lines l keeps.told in
+      ok-then c.put.result
+      (Changes c.in_ok-spot.file (named c.put_name.new.self.names c.in_ok-spot.spot) c.args.self.now.watch.files.all.items c.put.new.self.files.all.items) _
+      (λ changes. record {
+        told = c.in_ok-spot.ensures.told lines l l' keeps.told is short there;
+        filed = filed-name (name_at names) (length names) l l' c.put_name.new.self.names p c.in_ok-spot.spot c.in_ok-spot.file puts.0
+            c.args.self.now.watch.files.all.items c.put.new.self.files.all.items keeps.filed log.0 c.args.old.now puts.1
+            (log.1 ∙ ap (with_path p l.opening) puts.1) changes;
+        clock = c.in_ok-spot.ensures.clock ∙ keeps.clock ∙ sym log.2;
+      }) c.put.ensures;
   allowed = on-ok c.put.result refl;
 }

@@ -1,50 +1,85 @@
 use Rattle.md_judge.proofs.Growing.{grows}
 use Rattle.md_judge.proofs.Stepping.{on-ok}
-use Rattle.std.proofs.Common.{suc, ◌≡◌, ◌↔◌, Result, Ok, Err, OnOk, refl, ap, subst, ◌∙◌}
+use Rattle.std.proofs.Common.{suc, ◌≡◌, ◌↔◌, Some, length, refl, sym, ap, subst, ◌∙◌}
+use Rattle.md_dirs.specs.declared.paths.Path.{Path}
 use Rattle.md_log.specs.declared.clause.Clause.{Clause}
 use Rattle.md_log.specs.declared.clause.Clause.TheVariants as clause
-use Rattle.md_judge.specs.declared.judge.clauses.Clauses.{Clauses}
+use Rattle.md_log.specs.declared.line.Deed.{Deed}
+use Rattle.md_log.specs.declared.line.Reply.{Reply}
+use Rattle.md_log.specs.declared.line.Call.TheVariants as call
+use Rattle.md_judge.specs.declared.judge.files.Files.{Files}
 use Rattle.md_judge.specs.Acts.{ReadsNone}
-use Rattle.md_judge.specs.Found.{Has}
-use Rattle.md_judge.specs.Law.{Turn, turn, Breaks, IsWrongCall, NotADirectory, Overwritten}
+use Rattle.md_judge.specs.Filed.{AreFiled, IsJudged, BrokenByFiles, name_at}
+use Rattle.md_judge.specs.Found.{Has, KeepsFiles, NotesFiles}
+use Rattle.md_judge.specs.Law.{turn, Breaks, IsWrongCall, NotADirectory, Overwritten}
 use Rattle.md_judge.specs.Logs.{Numbered}
-use Rattle.md_judge.specs.Told.{moment, at, after_step, after_call}
+use Rattle.md_judge.specs.Told.{moment, at, after_step, after_call, IsStep}
 use Rattle.md_judge.specs.Verdict.{IsProved}
 use Rattle.md_judge.proofs.Acting.{none-overwritten, found-overwritten, found-wrong, found-still}
-use Rattle.md_judge.proofs.Sparing.{found-none}
+use Rattle.md_judge.proofs.Alike.{acts-by, filed-grows}
+use Rattle.md_judge.proofs.Judged.{still-filed, still-lawful}
+use Rattle.md_judge.proofs.Proved.{kept-proved, noted-proved}
+use Rattle.md_judge.proofs.Sparing.{found-none, ok-then, ok-two}
 use Rattle.md_judge.proofs.Stepping.{at-next}
 use Rattle.md_judge.proofs.judge.Judge.step.Goals as goal
-
--- each clause of which it is proved is found just where the law has it
-each-broken : (broken : Clauses) (t : Turn) → (Has broken clause.Overwritten ↔ Overwritten t) → (c : Clause) → IsProved c → Has broken c ↔ Breaks c t
-each-broken broken t overwritten clause.Overwritten proved = overwritten
-each-broken broken t overwritten c proved = absurd proved
-
-each-on : {A E : Type 0} (r : Result A E) (broken : Clauses) (t : Turn) → OnOk r (Has broken clause.Overwritten ↔ Overwritten t)
-    → OnOk r ((c : Clause) → IsProved c → Has broken c ↔ Breaks c t)
-each-on (Ok x) broken t overwritten = each-broken broken t overwritten
-each-on (Err e) broken t overwritten = tt
 
 -- ---- a reading
 
 pub returns-in-List-clause-told : goal.returns-in-List-clause-told
 returns-in-List-clause-told c = λ lines l i keeps is here short there.
-    let after = c.in_ok-names-in-List.ensures.told lines l (suc i)
-    (record { told = c.in_ok-self.ensures.told lines l i keeps.told is here short there }) in
-    on-ok c.list.result (record { told = after.told })
+    let x = c.args.step in
+    let step-is : IsStep l i x = (c.args.line, is) in
+    let names = c.number.new.self in
+    let actor = c.in_ok-actor.actor in
+    let who = name_at names in
+    let acts = acts-by names actor x c.are_apart.ensures.apart (c.in_ok-actor.ensures.found ∙ ap Some c.as_slice.ensures) in
+    let are = filed-grows c.args.self.now.actor_names names c.as_slice.result.now c.in_ok-actor.field-0-1 c.in_ok-actor.ensures.grows l i
+    c.args.self.now.watch.files.all.items keeps.filed in
+    let y : Numbered = record { number = c.args.line; step = x } in
+    let still : at l (suc i) ≡ at l i = at-next l i y is ∙ ap (λ v. after_call v (after_step (moment l i) y).now (at l i)) c.in-List.is in
+    let apart : (d : Deed) (p : Path) (r : Reply) → x.call ≡ call.At d p r → ⊥ = λ d p r e. let no = c.in-List.is in cc in
+    let after = c.in_ok-names-in-List.ensures.told lines l (suc i) (record {
+      told = c.in_ok-self.ensures.told lines l i keeps.told is here short there;
+      filed = subst (λ (f : Files). AreFiled who (length names) l (suc i) f.all.items) (sym c.begin.ensures.files)
+          (still-filed who (length names) l i x step-is actor acts c.args.self.now.watch.files.all.items are c.step.new.self.names still apart);
+      clock = c.step.ensures.clock l i keeps.clock is;
+    }) in
+    ok-then c.list.result (c.list.new.self.files ≡ c.numbers.new.self.watch.files) _
+    (λ same. record {
+      told = after.told;
+      filed = subst (λ (f : Files). AreFiled (name_at c.numbers.new.self.actor_names) (length c.numbers.new.self.actor_names) l (suc i) f.all.items)
+          (sym same) after.filed;
+      clock = after.clock;
+    }) c.list.ensures.files
 
 pub returns-in-List-clause-overwritten : goal.returns-in-List-clause-overwritten
 returns-in-List-clause-overwritten c = λ lines l i told is here short there.
     let x : Numbered = record { number = c.args.line; step = c.args.step } in
     let still : at l (suc i) ≡ at l i =
     at-next l i x is ∙ ap (λ v. after_call v (after_step (moment l i) x).now (at l i)) c.in-List.is in
-    found-still c.list.result (turn l i c.args.step) c.begin.new.self.found c.numbers.new.self.watch.found c.list.new.self.found c.begin.ensures
-    c.in_ok-names-in-List.ensures.found (none-overwritten (at l i) (at l (suc i)) still) c.list.ensures
+    found-still c.list.result (turn l i c.args.step) c.begin.new.self.found c.numbers.new.self.watch.found c.list.new.self.found c.begin.ensures.nothing
+    c.in_ok-names-in-List.ensures.found (none-overwritten (at l i) (at l (suc i)) still) c.list.ensures.overwrites
 
 pub returns-in-List-clause-broken : goal.returns-in-List-clause-broken
 returns-in-List-clause-broken c = λ lines l i keeps is here short there.
-    each-on c.list.result c.list.new.self.found.broken (turn l i c.args.step)
-    (returns-in-List-clause-overwritten c lines l i keeps.told is here short there)
+    let x = c.args.step in
+    let step-is : IsStep l i x = (c.args.line, is) in
+    let names = c.number.new.self in
+    let actor = c.in_ok-actor.actor in
+    let who = name_at names in
+    let acts = acts-by names actor x c.are_apart.ensures.apart (c.in_ok-actor.ensures.found ∙ ap Some c.as_slice.ensures) in
+    let are = filed-grows c.args.self.now.actor_names names c.as_slice.result.now c.in_ok-actor.field-0-1 c.in_ok-actor.ensures.grows l i
+    c.args.self.now.watch.files.all.items keeps.filed in
+    let y : Numbered = record { number = c.args.line; step = x } in
+    let still : at l (suc i) ≡ at l i = at-next l i y is ∙ ap (λ v. after_call v (after_step (moment l i) y).now (at l i)) c.in-List.is in
+    let apart : (d : Deed) (p : Path) (r : Reply) → x.call ≡ call.At d p r → ⊥ = λ d p r e. let no = c.in-List.is in cc in
+    let t = turn l i x in
+    let shown = c.numbers.new.self.watch.found in
+    let new = c.list.new.self.found in
+    ok-two c.list.result (Has new.broken clause.Overwritten ↔ Overwritten t) (KeepsFiles shown new) ((k : Clause) → IsProved k → Has new.broken k ↔ Breaks k t)
+    (λ overwritten kept. kept-proved t c.begin.new.self.found shown new c.begin.ensures.nothing c.in_ok-names-in-List.ensures.found overwritten kept
+    (still-lawful who (length names) l i x step-is actor acts c.args.self.now.watch.files.all.items are c.step.new.self.names still apart))
+    (returns-in-List-clause-overwritten c lines l i keeps.told is here short there) c.list.ensures.others
 
 pub returns-in-List-clause-wrong : goal.returns-in-List-clause-wrong
 returns-in-List-clause-wrong c = λ lines l i told is here short there on. absurd (subst ReadsNone c.in-List.is on)
@@ -55,10 +90,25 @@ returns-in-List-clause-allowed c = on-ok c.list.result c.in_ok-names-in-List.ens
 -- ---- an answer
 
 pub returns-in-Answer-clause-told : goal.returns-in-Answer-clause-told
-returns-in-Answer-clause-told c = λ lines l i keeps is here short there. record {
-  told = grows lines l (suc i) c.step.new.self _ (c.in_ok-self.ensures.told lines l i keeps.told is here short there)
-      c.unique.ensures.keeps c.in_ok-unique-in-Answer.ensures.numbered refl refl;
-}
+returns-in-Answer-clause-told c = λ lines l i keeps is here short there.
+    let x = c.args.step in
+    let step-is : IsStep l i x = (c.args.line, is) in
+    let names = c.number.new.self in
+    let actor = c.in_ok-actor.actor in
+    let who = name_at names in
+    let acts = acts-by names actor x c.are_apart.ensures.apart (c.in_ok-actor.ensures.found ∙ ap Some c.as_slice.ensures) in
+    let are = filed-grows c.args.self.now.actor_names names c.as_slice.result.now c.in_ok-actor.field-0-1 c.in_ok-actor.ensures.grows l i
+    c.args.self.now.watch.files.all.items keeps.filed in
+    let y : Numbered = record { number = c.args.line; step = x } in
+    let still : at l (suc i) ≡ at l i = at-next l i y is ∙ ap (λ v. after_call v (after_step (moment l i) y).now (at l i)) c.in-Answer.is in
+    let apart : (d : Deed) (p : Path) (r : Reply) → x.call ≡ call.At d p r → ⊥ = λ d p r e. let no = c.in-Answer.is in cc in
+    record {
+      told = grows lines l (suc i) c.step.new.self _ (c.in_ok-self.ensures.told lines l i keeps.told is here short there)
+          c.unique.ensures.keeps c.in_ok-unique-in-Answer.ensures.numbered refl refl;
+      filed = subst (λ (f : Files). AreFiled who (length names) l (suc i) f.all.items) (sym (c.answer.ensures.files ∙ c.begin.ensures.files))
+          (still-filed who (length names) l i x step-is actor acts c.args.self.now.watch.files.all.items are c.step.new.self.names still apart);
+      clock = c.step.ensures.clock l i keeps.clock is;
+    }
 
 pub returns-in-Answer-clause-overwritten : goal.returns-in-Answer-clause-overwritten
 returns-in-Answer-clause-overwritten c = λ lines l i told is here short there.
@@ -66,17 +116,30 @@ returns-in-Answer-clause-overwritten c = λ lines l i told is here short there.
     let still : at l (suc i) ≡ at l i =
     at-next l i x is ∙ ap (λ v. after_call v (after_step (moment l i) x).now (at l i)) c.in-Answer.is in
     found-none clause.Overwritten (Overwritten (turn l i c.args.step)) c.begin.new.self.found c.answer.new.self.found
-    (c.begin.ensures clause.Overwritten) c.answer.ensures.overwrites (none-overwritten (at l i) (at l (suc i)) still)
+    (c.begin.ensures.nothing clause.Overwritten) c.answer.ensures.paths.overwrites (none-overwritten (at l i) (at l (suc i)) still)
 
 pub returns-in-Answer-clause-broken : goal.returns-in-Answer-clause-broken
 returns-in-Answer-clause-broken c = λ lines l i keeps is here short there.
-    each-broken c.answer.new.self.found.broken (turn l i c.args.step)
-    (returns-in-Answer-clause-overwritten c lines l i keeps.told is here short there)
+    let x = c.args.step in
+    let step-is : IsStep l i x = (c.args.line, is) in
+    let names = c.number.new.self in
+    let actor = c.in_ok-actor.actor in
+    let who = name_at names in
+    let acts = acts-by names actor x c.are_apart.ensures.apart (c.in_ok-actor.ensures.found ∙ ap Some c.as_slice.ensures) in
+    let are = filed-grows c.args.self.now.actor_names names c.as_slice.result.now c.in_ok-actor.field-0-1 c.in_ok-actor.ensures.grows l i
+    c.args.self.now.watch.files.all.items keeps.filed in
+    let y : Numbered = record { number = c.args.line; step = x } in
+    let still : at l (suc i) ≡ at l i = at-next l i y is ∙ ap (λ v. after_call v (after_step (moment l i) y).now (at l i)) c.in-Answer.is in
+    let apart : (d : Deed) (p : Path) (r : Reply) → x.call ≡ call.At d p r → ⊥ = λ d p r e. let no = c.in-Answer.is in cc in
+    let found = c.begin.new.self.found in
+    kept-proved (turn l i x) found found c.answer.new.self.found c.begin.ensures.nothing refl
+    (returns-in-Answer-clause-overwritten c lines l i keeps.told is here short there) c.answer.ensures.others
+    (still-lawful who (length names) l i x step-is actor acts c.args.self.now.watch.files.all.items are c.step.new.self.names still apart)
 
 pub returns-in-Answer-clause-wrong : goal.returns-in-Answer-clause-wrong
 returns-in-Answer-clause-wrong c = λ lines l i told is here short there on.
     found-none clause.NotADirectory (NotADirectory (turn l i c.args.step)) c.begin.new.self.found c.answer.new.self.found
-    (c.begin.ensures clause.NotADirectory) c.answer.ensures.wrong (subst (IsWrongCall (turn l i c.args.step)) c.in-Answer.is)
+    (c.begin.ensures.nothing clause.NotADirectory) c.answer.ensures.paths.wrong (subst (IsWrongCall (turn l i c.args.step)) c.in-Answer.is)
 
 pub returns-in-Answer-clause-allowed : goal.returns-in-Answer-clause-allowed
 returns-in-Answer-clause-allowed c = refl
@@ -85,22 +148,56 @@ returns-in-Answer-clause-allowed c = refl
 
 pub returns-clause-told : goal.returns-clause-told
 returns-clause-told c = λ lines l i keeps is here short there.
-    on-ok c.call.result (record { told = c.in_ok-self.ensures.told lines l i keeps.told is here short there })
+    let x = c.args.step in
+    let step-is : IsStep l i x = (c.args.line, is) in
+    let names = c.number.new.self in
+    let actor = c.in_ok-actor.actor in
+    let who = name_at names in
+    let acts = acts-by names actor x c.are_apart.ensures.apart (c.in_ok-actor.ensures.found ∙ ap Some c.as_slice.ensures) in
+    let are = filed-grows c.args.self.now.actor_names names c.as_slice.result.now c.in_ok-actor.field-0-1 c.in_ok-actor.ensures.grows l i
+    c.args.self.now.watch.files.all.items keeps.filed in
+    let files = c.begin.new.self.files in
+    let kept = subst (λ (f : Files). AreFiled who (length names) l i f.all.items) (sym c.begin.ensures.files) are in
+    let done = c.in_ok-self.ensures.done lines l i keeps.told is here short there in
+    let clock = c.step.ensures.clock l i keeps.clock is in
+    let judged : IsJudged done.0 who (length names) l i x actor x.call c.step.new.self c.in_ok-self.field-0 =
+    record { step = step-is; call = refl; acts = acts; clock = clock; done = done.1 } in
+    ok-then c.call.result (AreFiled who (length names) l (suc i) c.call.new.self.files.all.items) _
+    (λ filed. record { told = c.in_ok-self.ensures.told lines l i keeps.told is here short there; filed = filed; clock = clock })
+    (c.call.ensures.filed done.0 who (length names) i l x kept judged)
 
 pub returns-clause-overwritten : goal.returns-clause-overwritten
 returns-clause-overwritten c = λ lines l i told is here short there.
     found-overwritten c.call.result (turn l i c.args.step) _ (c.in_ok-self.ensures.acts lines l i told is here short there)
-    c.begin.new.self.found c.call.new.self.found c.begin.ensures c.call.ensures.overwrites
+    c.begin.new.self.found c.call.new.self.found c.begin.ensures.nothing c.call.ensures.overwrites
 
 pub returns-clause-broken : goal.returns-clause-broken
 returns-clause-broken c = λ lines l i keeps is here short there.
-    each-on c.call.result c.call.new.self.found.broken (turn l i c.args.step)
-    (returns-clause-overwritten c lines l i keeps.told is here short there)
+    let x = c.args.step in
+    let step-is : IsStep l i x = (c.args.line, is) in
+    let names = c.number.new.self in
+    let actor = c.in_ok-actor.actor in
+    let who = name_at names in
+    let acts = acts-by names actor x c.are_apart.ensures.apart (c.in_ok-actor.ensures.found ∙ ap Some c.as_slice.ensures) in
+    let are = filed-grows c.args.self.now.actor_names names c.as_slice.result.now c.in_ok-actor.field-0-1 c.in_ok-actor.ensures.grows l i
+    c.args.self.now.watch.files.all.items keeps.filed in
+    let files = c.begin.new.self.files in
+    let kept = subst (λ (f : Files). AreFiled who (length names) l i f.all.items) (sym c.begin.ensures.files) are in
+    let done = c.in_ok-self.ensures.done lines l i keeps.told is here short there in
+    let clock = c.step.ensures.clock l i keeps.clock is in
+    let judged : IsJudged done.0 who (length names) l i x actor x.call c.step.new.self c.in_ok-self.field-0 =
+    record { step = step-is; call = refl; acts = acts; clock = clock; done = done.1 } in
+    let t = turn l i x in
+    let begun = c.begin.new.self.found in
+    let new = c.call.new.self.found in
+    ok-two c.call.result (Has new.broken clause.Overwritten ↔ Overwritten t) (NotesFiles (BrokenByFiles t) begun new)
+    ((k : Clause) → IsProved k → Has new.broken k ↔ Breaks k t) (noted-proved t begun begun new c.begin.ensures.nothing refl)
+    (returns-clause-overwritten c lines l i keeps.told is here short there) (c.call.ensures.finds done.0 who (length names) i l x kept judged)
 
 pub returns-clause-wrong : goal.returns-clause-wrong
 returns-clause-wrong c = λ lines l i told is here short there on.
     found-wrong c.call.result (turn l i c.args.step) _ (c.in_ok-self.ensures.acts lines l i told is here short there)
-    c.begin.new.self.found c.call.new.self.found c.begin.ensures on c.call.ensures.wrong
+    c.begin.new.self.found c.call.new.self.found c.begin.ensures.nothing on c.call.ensures.wrong
 
 pub returns-clause-allowed : goal.returns-clause-allowed
 returns-clause-allowed c = on-ok c.call.result refl
