@@ -1,5 +1,5 @@
 -- What is kept of files is nothing of how a log goes on, nor of which more actors there are.
-use Rattle.std.proofs.Common.{ℕ, zero, suc, ◌≡◌, ◌<◌, ◌≤◌, ◌+◌, ◌↔◌, inl, inr, List, [], ◌++◌, ◌∷◌, Option, Some, None, Bool, true, IsTrue, IsSome, slice_get, length, refl, sym, ap, subst, ◌∙◌, arith}
+use Rattle.std.proofs.Common.{ℕ, zero, suc, ◌≡◌, ◌<◌, ◌≤◌, ◌+◌, inl, inr, List, [], ◌++◌, ◌∷◌, Option, Some, None, Bool, true, IsSome, slice_get, length, refl, sym, ap, subst, ◌∙◌, arith}
 use Rattle.std.specs.Prelude.{if◌then◌else◌, false, unwrap_or}
 use Rattle.std.proofs.lemmas.List.{length_push}
 use Rattle.std.proofs.lemmas.Option.{slice_get_within, slice_get_cases}
@@ -9,9 +9,9 @@ use Rattle.md_dirs.specs.declared.paths.File.{File}
 use Rattle.md_log.specs.declared.line.Reply.{Reply}
 use Rattle.md_log.specs.declared.line.Step.{Step}
 use Rattle.md_judge.specs.declared.judge.files.Filed.{Filed}
-use Rattle.md_judge.specs.Filed.{IsSeenBy, IsSeenTimes, IsFiled, HasFiles, AreFiled, name_at}
+use Rattle.md_judge.specs.Filed.{IsSeenBy, AreFiled, name_at}
 use Rattle.md_judge.specs.Logs.{Log}
-use Rattle.md_judge.specs.Recalls.{IsBy, Acts, IsMadeBy}
+use Rattle.md_judge.specs.Recalls.{Acts, IsMadeBy}
 use Rattle.md_judge.specs.Told.{at, IsStep, Writes, Flushes, IsUnflushed, IsCut, WasInCur, IsMaker}
 use Rattle.md_judge.specs.Words.{AreApart}
 use Rattle.md_judge.proofs.Counting.{counted-alike}

@@ -1,7 +1,7 @@
 -- How many paths there are of which something holds, with one more and one fewer.
 use Rattle.std.proofs.Common.{ℕ, zero, suc, ◌≡◌, ◌≢◌, ◌↔◌, ◌<◌, ◌+◌, ◌-◌, ◌⊎◌, inl, inr, List, [], ◌∷◌, Some, length, slice_get, refl, sym, ap, ◌∙◌, arith}
 use Rattle.md_dirs.specs.declared.paths.Path.{Path}
-use Rattle.md_judge.specs.Filed.{AreThose, HoldsOf}
+use Rattle.md_judge.specs.Filed.{HoldsOf}
 use Rattle.md_judge.specs.Listings.{IsIn}
 
 -- each path is there once

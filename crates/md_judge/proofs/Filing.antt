@@ -1,7 +1,6 @@
 -- What is kept of files stays what a log tells through a step: what was done to them by its call, and what its change of paths does.
-use Rattle.std.proofs.Common.{ℕ, zero, suc, ◌≡◌, ◌≢◌, ◌↔◌, ◌<◌, ◌≤◌, ◌+◌, ◌⊎◌, inl, inr, Bool, true, false, List, [], Option, Some, None, slice_get, length, refl, sym, ap, subst, ◌∙◌, arith}
-use Rattle.std.proofs.lemmas.Bool.{cases_lt}
-use Rattle.std.proofs.lemmas.Option.{slice_get_within, slice_get_cases}
+use Rattle.std.proofs.Common.{ℕ, suc, ◌≡◌, ◌↔◌, ◌<◌, ◌≤◌, ◌⊎◌, inl, inr, Bool, true, List, [], Option, Some, None, length, refl, sym, ap, subst, ◌∙◌, arith}
+use Rattle.std.proofs.lemmas.Option.{slice_get_cases}
 use Rattle.std.specs.Option.{option_map}
 use Rattle.md_dirs.specs.State.{State, file_at, file_by}
 use Rattle.md_dirs.specs.Calls.{after_append, with_new_file, empty_file}
@@ -19,10 +18,10 @@ use Rattle.md_judge.specs.declared.judge.facts.FileFacts.{FileFacts}
 use Rattle.md_judge.specs.declared.judge.files.Filed.{Filed}
 use Rattle.md_judge.specs.Logs.{Log, Numbered}
 use Rattle.md_judge.specs.Filed.{IsSeenBy, IsSeenTimes, IsFiled, HasFiles, AreFiled}
-use Rattle.md_judge.specs.Files.{made, written, flushed, facts_at, Adds, Changes, AtStep}
-use Rattle.md_judge.specs.Recalls.{IsBy, Acts, IsMadeBy}
-use Rattle.md_judge.specs.Told.{Moment, ask_at, ask_between, after_ask, after_call, after_step, moment, at, IsStep, Writes, Flushes, IsUnflushed, IsCut, WasInCur, IsMaker}
-use Rattle.md_judge.proofs.Afters.{at-files, after-cases, refused-same, append-paths}
+use Rattle.md_judge.specs.Files.{made, written, flushed, facts_at, AtStep}
+use Rattle.md_judge.specs.Recalls.{Acts, IsMadeBy}
+use Rattle.md_judge.specs.Told.{Moment, ask_at, ask_between, after_ask, after_call, moment, at, IsStep, Writes, Flushes, IsUnflushed, IsCut, WasInCur}
+use Rattle.md_judge.proofs.Afters.{after-cases, refused-same}
 use Rattle.md_judge.proofs.Counting.{counted-none}
 use Rattle.md_judge.proofs.Lasting.{since-next, since-now, since-still, files-rise, one-step, calls-one, Creates, maker-next, maker-still, maker-now, maker-low}
 use Rattle.md_judge.proofs.Shown.{changed, added}

@@ -1,5 +1,5 @@
 -- What is kept of files goes on to be what a log tells, and what is found by it is what the law has of the step.
-use Rattle.std.proofs.Common.{ℕ, suc, ◌≡◌, ◌≢◌, ◌↔◌, ◌<◌, ◌≤◌, ◌+◌, ◌⊎◌, inl, inr, Bool, true, false, List, Option, Some, None, Result, Ok, Err, OnOk, length, refl, sym, ap, subst, ◌∙◌, arith}
+use Rattle.std.proofs.Common.{ℕ, suc, ◌≡◌, ◌≢◌, ◌↔◌, ◌<◌, ◌⊎◌, inl, inr, Bool, true, false, List, Option, Some, None, Result, Ok, Err, OnOk, length, refl, sym, ap, subst, ◌∙◌, arith}
 use Rattle.std.proofs.lemmas.Bool.{cases_lt}
 use Rattle.md_dirs.specs.State.{State, file_at, file_by}
 use Rattle.md_dirs.specs.declared.paths.Path.{Path}
@@ -12,7 +12,6 @@ use Rattle.md_log.specs.declared.line.Deed.{Deed}
 use Rattle.md_log.specs.declared.line.Deed.TheVariants as deed
 use Rattle.md_log.specs.declared.line.Call.{Call}
 use Rattle.md_log.specs.declared.line.Call.TheVariants as call
-use Rattle.md_log.specs.declared.line.Naming.{Naming}
 use Rattle.md_log.specs.declared.line.Step.{Step}
 use Rattle.md_judge.specs.declared.judge.acts.Change.{Change}
 use Rattle.md_judge.specs.declared.judge.directories.Spot.{Spot}
@@ -31,12 +30,12 @@ use Rattle.md_judge.specs.Known.{EachPath, EachSpot, files_after}
 use Rattle.md_judge.specs.Law.{Turn, turn}
 use Rattle.md_judge.specs.Logs.{Log}
 use Rattle.md_judge.specs.Recalled.{IsSpotOf}
-use Rattle.md_judge.specs.Recalls.{Acts, IsMadeBy, Recalls, RecallsMaker, RecallsLeft, IsAt, IsChange, BrokenAt, BrokenByChange}
-use Rattle.md_judge.specs.Told.{ask_at, after_ask, after_call, moment, at, is_message, IsStep, IsSeen, IsUnflushed, IsCut, WasInCur}
+use Rattle.md_judge.specs.Recalls.{Acts, IsMadeBy, Recalls, RecallsLeft, IsAt, IsChange, BrokenAt, BrokenByChange}
+use Rattle.md_judge.specs.Told.{ask_at, after_call, moment, at, is_message, IsStep, IsSeen, IsUnflushed, IsCut}
 use Rattle.md_judge.proofs.Acting.{done-none}
 use Rattle.md_judge.proofs.Afters.{at-files, between-files, after-cases, append-paths}
 use Rattle.md_judge.proofs.Counting.{counted-some}
-use Rattle.md_judge.proofs.Filing.{facts-low, facts-there, next, IsHalf, half-idle, half-at, idle-other, no-unflushed, no-cut, no-cur, unborn}
+use Rattle.md_judge.proofs.Filing.{facts-there, next, IsHalf, half-idle, half-at, idle-other, no-unflushed, no-cut, no-cur, unborn}
 use Rattle.md_judge.proofs.Lawful.{change-lawful}
 use Rattle.md_judge.proofs.Lasting.{files-rise, cur-still, cur-next}
 use Rattle.md_judge.proofs.Named.{now-names, names-now}

@@ -1,5 +1,5 @@
 -- What a log tells of a file at the next moment, by what its step does to the file.
-use Rattle.std.proofs.Common.{ℕ, zero, suc, ◌≡◌, ◌<◌, ◌≤◌, ◌+◌, ◌⊎◌, inl, inr, true, List, Some, length, slice_get, take, fold, refl, sym, ap, subst, ◌∙◌, arith}
+use Rattle.std.proofs.Common.{ℕ, zero, suc, ◌≡◌, ◌<◌, ◌≤◌, ◌+◌, ◌⊎◌, inl, inr, true, List, Some, length, slice_get, fold, sym, ap, subst, ◌∙◌, arith}
 use Rattle.std.proofs.lemmas.Bool.{cases_lt}
 use Rattle.std.proofs.lemmas.List.{take_all}
 use Rattle.std.proofs.lemmas.Option.{slice_get_cases}
@@ -14,7 +14,7 @@ use Rattle.md_log.specs.declared.line.Call.{Call}
 use Rattle.md_log.specs.declared.line.Call.TheVariants as call
 use Rattle.md_log.specs.declared.line.Step.{Step}
 use Rattle.md_judge.specs.Logs.{Log, Numbered}
-use Rattle.md_judge.specs.Told.{Moment, after_step, after_call, moment, at, is_message, IsStep, Calls, Writes, Flushes, IsMaker, WasInCur}
+use Rattle.md_judge.specs.Told.{Moment, after_step, after_call, moment, at, is_message, IsStep, Calls, IsMaker, WasInCur}
 use Rattle.md_judge.proofs.Afters.{at-files, files-grow, between-files}
 use Rattle.md_judge.proofs.Stepping.{at-next}
 

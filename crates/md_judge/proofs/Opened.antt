@@ -1,5 +1,5 @@
 -- What is kept of files at the beginning is what a log tells of it, before the first line and as lines put folders, files and names there.
-use Rattle.std.proofs.Common.{ℕ, zero, suc, ◌≡◌, ◌≢◌, ◌<◌, ◌≤◌, ◌+◌, ◌↔◌, ◌⊎◌, inl, inr, List, [], ◌++◌, ◌∷◌, Option, Some, None, Ok, Bool, true, false, cond, not, is_some, max, slice_get, length, refl, sym, ap, subst, ◌∙◌, arith}
+use Rattle.std.proofs.Common.{ℕ, ◌≡◌, ◌≢◌, ◌≤◌, ◌+◌, ◌↔◌, inl, inr, List, [], ◌++◌, ◌∷◌, Option, Some, None, Ok, Bool, true, false, cond, not, is_some, max, length, refl, sym, ap, subst, ◌∙◌, arith}
 use Rattle.std.specs.FinMap.{get-empty, get-insert}
 use Rattle.std.specs.Ordering.{eq_by_cmp}
 use Rattle.std.proofs.lemmas.List.{length_push}
@@ -25,8 +25,8 @@ use Rattle.md_judge.specs.Known.{EachSpot}
 use Rattle.md_judge.specs.Logs.{Log, Numbered, empty_log, with_file_line, with_also_line}
 use Rattle.md_judge.specs.Recalled.{IsSpotOf}
 use Rattle.md_judge.specs.Recalls.{IsBy, IsMadeBy}
-use Rattle.md_judge.specs.Told.{Moment, at, IsUnflushed, IsCut, WasInCur, IsMaker}
-use Rattle.md_judge.proofs.Alike.{Alike, filed-alike}
+use Rattle.md_judge.specs.Told.{Moment, at, WasInCur}
+use Rattle.md_judge.proofs.Alike.{filed-alike}
 use Rattle.md_judge.proofs.Changing.{adds, never}
 use Rattle.md_judge.proofs.Counting.{counted-none}
 use Rattle.md_judge.proofs.Filing.{facts-low}

@@ -1,16 +1,14 @@
 -- What calls leave of the files of a state: each path names a file that is there, and only a write sets a stamp.
-use Rattle.std.proofs.Common.{ℕ, zero, suc, ◌≡◌, ◌≢◌, ◌<◌, ◌++◌, Bool, true, false, cond, List, [], ◌∷◌, Option, Some, None, is_some, length, slice_get, slice_set, IsSome, refl, sym, ap, subst, ◌∙◌, arith}
-use Rattle.std.specs.Option.{option_flatten}
+use Rattle.std.proofs.Common.{ℕ, zero, suc, ◌≡◌, ◌<◌, ◌++◌, Bool, true, false, cond, List, [], ◌∷◌, Option, Some, None, is_some, length, slice_set, IsSome, refl, sym, ap, subst, ◌∙◌}
 use Rattle.std.specs.Ordering.{eq_by_cmp}
 use Rattle.std.specs.FinMap.{get-insert, get-remove, entries}
 use Rattle.md_dirs.specs.Path.{path_cmp}
 use Rattle.md_dirs.specs.State.{State, file_at, file_by}
-use Rattle.md_dirs.specs.Calls.{with_new_file, empty_file, after_append, file_with_more, with_path, without_path, after_unlink, after_rename, with_files_still_named, has_path_to, is_one_file}
+use Rattle.md_dirs.specs.Calls.{with_new_file, empty_file, after_append, file_with_more, with_path, without_path, after_unlink, with_files_still_named, has_path_to, is_one_file}
 use Rattle.md_dirs.specs.declared.paths.Path.{Path}
 use Rattle.md_dirs.specs.declared.paths.File.{File}
 use Rattle.md_dirs.proofs.PathOrder.{path_total}
 use Rattle.md_dirs.proofs.Sound.{by_number, file-within, file_by-set_same, file_by-set_other, file_by-push, file_by-last, swept-kept}
-use Rattle.md_log.specs.declared.line.Reply.{Reply}
 use Rattle.md_log.specs.declared.line.Deed.{Deed}
 use Rattle.md_log.specs.declared.line.Deed.TheVariants as deed
 use Rattle.md_log.specs.declared.line.Naming.{Naming}
@@ -18,7 +16,7 @@ use Rattle.md_log.specs.declared.line.Naming.TheVariants as naming
 use Rattle.md_log.specs.declared.line.Call.{Call}
 use Rattle.md_log.specs.declared.line.Call.TheVariants as call
 use Rattle.md_judge.specs.Filed.{HasFiles}
-use Rattle.md_judge.specs.Told.{ask_at, ask_between, after_ask, after_call}
+use Rattle.md_judge.specs.Told.{ask_at, ask_between, after_call}
 use Rattle.md_judge.proofs.Afters.{after-cases, path-files}
 
 -- ---- each path names a file that is there

@@ -1,5 +1,5 @@
 -- What the judge keeps of all files is what a log tells of them.
-use Rattle.std.specs.Prelude.{ℕ, suc, ◌≡◌, ◌↔◌, ◌≤◌, List, [], Some, Bool, true, length, slice_get, unwrap_or, IsSome}
+use Rattle.std.specs.Prelude.{ℕ, suc, ◌≡◌, ◌↔◌, ◌≤◌, List, [], Some, true, length, slice_get, unwrap_or, IsSome}
 use Rattle.md_dirs.specs.State.{State, file_at, file_by}
 use Rattle.md_dirs.specs.declared.paths.Path.{Path}
 use Rattle.md_dirs.specs.declared.paths.File.{File}

@@ -1,5 +1,4 @@
-use Rattle.std.proofs.Common.{◌≡◌, Some, sym, subst, ap, ◌∙◌}
-use Rattle.md_judge.specs.declared.judge.directories.Spot.{Spot}
+use Rattle.std.proofs.Common.{◌≡◌, sym, ap, ◌∙◌}
 use Rattle.md_judge.specs.Found.{Notes, KeepsPaths}
 use Rattle.md_judge.specs.Files.{is_message_in, AtFinds}
 use Rattle.md_judge.specs.Told.{is_message}
