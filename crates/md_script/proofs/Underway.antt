@@ -9,10 +9,10 @@ use Rattle.md_script.specs.declared.run.Progress.{Progress}
 use Rattle.md_script.specs.Sources.{Source, Gave, Paused}
 use Rattle.md_script.specs.Reading.{GivesTooMuch, most_bytes}
 use Rattle.md_script.specs.Transcript.{transcript_of}
-use Rattle.md_script.specs.Progress.{outcome, usable}
+use Rattle.md_script.specs.Progress.{outcome, usable_of}
 use Rattle.md_script.specs.Incoming.{line_so_far, TakesIn, Underway, RanWhole}
 use Rattle.md_script.proofs.Chunks.{Consumes-append, Consumes-kept, front_parts}
-use Rattle.md_script.proofs.Runs.{tells}
+use Rattle.md_script.proofs.Runs.{tells, tells_next}
 
 -- what ends with the line feed at a place
 pub whole_block : (room : List ℕ) (f n at : ℕ) → at < n → f + n ≤ length room → get_or (take n (drop f room)) at 0 ≡ 10 → IsWholeLines (take (f + at + 1) room)
@@ -67,13 +67,15 @@ module _ {S : Type 0} (step : S → List ℕ → Result (S × List ℕ) PlayKind
           counted = sym (ap length parts) ∙ counted_more ∙ sym is;
           sound = gave.failed ∙ so_far.sound;
           same = λ more. taken.same more ∙ so_far.same (taken.front ++ more)
-              ∙ ap (λ script. usable (transcript_of step s script)) (sym (append_assoc so_far.front taken.front more));
+              ∙ ap (λ script. usable_of step s script) (sym (append_assoc so_far.front taken.front more));
         }
 
   pub ran_whole : Gave before now (drop i.filled new) 0 → i.given ≤ most_bytes → i.filled ≤ length new → (p : Progress) (u : S)
-      → outcome step p u [] ≡ outcome step i.progress t (lines_of (take i.filled new) ++ []) → RanWhole step s old now p.printed u
+      → outcome step p u [] ≡ outcome step i.progress t (lines_of (take i.filled new) ++ []) → RanWhole step s old now p u
   ran_whole gave within fits p u is =
       let zero : i.filled + 0 ≡ i.filled = omega arith in
+      let all : outcome step p u [] ≡ usable_of step s (so_far.front ++ take i.filled new) =
+      is ∙ ap (λ ls. outcome step i.progress t ls) (append-nil (lines_of (take i.filled new))) ∙ so_far.same (take i.filled new) in
       record {
         script = so_far.front ++ take i.filled new;
         whole = record {
@@ -83,8 +85,8 @@ module _ {S : Type 0} (step : S → List ℕ → Result (S × List ℕ) PlayKind
               let same = ap (λ k. length (so_far.front ++ take k new)) zero in omega arith;
           sound = gave.failed ∙ so_far.sound;
         };
-        tells = tells step p u (transcript_of step s (so_far.front ++ take i.filled new))
-            (is ∙ ap (λ ls. outcome step i.progress t ls) (append-nil (lines_of (take i.filled new))) ∙ so_far.same (take i.filled new));
+        tells = tells step p u _ (transcript_of step s (so_far.front ++ take i.filled new)) all;
+        lines = λ none. omega (arith, tells_next step p u _ (transcript_of step s (so_far.front ++ take i.filled new)) all none);
       }
 
   pub paused_more : Paused before now → (after : Incoming) → line_so_far after ≡ take i.filled new → after.given ≡ i.given → after.progress ≡ i.progress

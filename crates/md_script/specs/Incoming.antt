@@ -1,16 +1,15 @@
 -- A script that is run while it is read.
-use Rattle.std.specs.Prelude.{◌≡◌, ℕ, ◌+◌, ◌≤◌, List, ◌++◌, length, vec_len, take, Bool, true, false, Result, Ok, Err}
+use Rattle.std.specs.Prelude.{◌≡◌, ℕ, ◌+◌, ◌≤◌, List, ◌++◌, length, vec_len, take, Bool, true, false, None, Result, Ok, Err}
 use Rattle.std.specs.Io.KnownBytes.{Consumes}
 use Rattle.md_head.specs.Header.{lines_of}
 use Rattle.md_script.specs.declared.error.PlayKind.{PlayKind}
 use Rattle.md_script.specs.declared.incoming.Incoming.{Incoming}
-use Rattle.md_script.specs.declared.run.Printed.{Printed}
 use Rattle.md_script.specs.declared.run.Progress.{Progress}
 use Rattle.md_script.specs.Sources.{Source}
 use Rattle.md_script.specs.Reading.{IsReadWhole, Sound, Unread, most_bytes}
 use Rattle.md_script.specs.Transcript.{transcript_of}
 use Rattle.md_script.specs.Printed.{Tells}
-use Rattle.md_script.specs.Progress.{IsFresh, outcome, usable}
+use Rattle.md_script.specs.Progress.{IsFresh, outcome, usable_of}
 
 -- the bytes of the line that hasn't ended
 abbrev pub line_so_far : Incoming → List ℕ
@@ -44,14 +43,15 @@ pub record Underway {S : Type 0} (step : S → List ℕ → Result (S × List �
   pub given : Consumes old.remaining now.remaining (front ++ line_so_far i)
   pub counted : length (front ++ line_so_far i) ≡ i.given
   pub sound : Sound old now
-  pub same : (more : List ℕ) → outcome step i.progress t (lines_of more) ≡ usable (transcript_of step s (front ++ more))
+  pub same : (more : List ℕ) → outcome step i.progress t (lines_of more) ≡ usable_of step s (front ++ more)
 
--- A whole script was read, and this was printed and refused of it.
+-- A whole script was read, and this was printed and refused of it; each of its lines was passed, unless one was refused.
 pub record RanWhole {S : Type 0} (step : S → List ℕ → Result (S × List ℕ) PlayKind)
-    (s : S) (old new : Source) (printed : Printed) (t : S) : Type 0 where
+    (s : S) (old new : Source) (p : Progress) (t : S) : Type 0 where
   pub script : List ℕ
   pub whole : IsReadWhole old new script
-  pub tells : Tells (transcript_of step s script) printed t
+  pub tells : Tells (transcript_of step s script) p.printed t
+  pub lines : p.printed.refusal ≡ None → p.passed ≡ length (lines_of script)
 
 -- The script goes on after one read more.
 pub record IsGoingOn {S : Type 0} (step : S → List ℕ → Result (S × List ℕ) PlayKind)
@@ -62,12 +62,12 @@ pub record IsGoingOn {S : Type 0} (step : S → List ℕ → Result (S × List �
 -- What one read comes to: the script's end, or not yet, or why it is not read whole.
 abbrev pub Reaches : {S : Type 0} → (S → List ℕ → Result (S × List ℕ) PlayKind)
     → S → Source → Source → Source → Incoming → S → Result Bool PlayKind → Type 0
-Reaches step s old before now i t (Ok true) = RanWhole step s old now i.progress.printed t
+Reaches step s old before now i t (Ok true) = RanWhole step s old now i.progress t
 Reaches step s old before now i t (Ok false) = IsGoingOn step s old before now i t
 Reaches step s old before now i t (Err kind) = Unread old now kind
 
 -- a script was read whole and run, or why it was not read whole
 abbrev pub RunsSource : {S : Type 0} → (S → List ℕ → Result (S × List ℕ) PlayKind)
-    → S → Source → Source → S → Result Printed PlayKind → Type 0
-RunsSource step s old new t (Ok printed) = RanWhole step s old new printed t
+    → S → Source → Source → S → Result Progress PlayKind → Type 0
+RunsSource step s old new t (Ok p) = RanWhole step s old new p t
 RunsSource step s old new t (Err kind) = Unread old new kind

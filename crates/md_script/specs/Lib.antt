@@ -18,6 +18,7 @@ pub mod Setups
 pub mod Sources
 pub mod Sinks
 pub mod Reading
+pub mod ReadSetups
 pub mod Incoming
 pub mod Play
 pub mod OneClock

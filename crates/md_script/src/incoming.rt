@@ -7,7 +7,7 @@ ghost use Rattle.md_script.specs.Incoming.{KeepsLimits, IsEmpty, TakesIn, Underw
 use crate::chunk::{make_room, move_to_front, read_behind};
 use crate::error::PlayKind;
 use crate::reading::{MOST_BYTES, MOST_READS};
-use crate::run::{Printed, Progress};
+use crate::run::Progress;
 use crate::session::Session;
 use crate::source::{Got, Source};
 use memchr::memrchr;
@@ -21,14 +21,14 @@ pub(crate) fn run_source<R: Source, S: Session>(
     alloc: Global,
     source: &mut R,
     session: &mut S,
-) -> Result<Printed, PlayKind>
+) -> Result<Progress, PlayKind>
     ensures runs { RunsSource S.step session.old (R.state source.old) (R.state source.new) session.new result }
     ensures counted { (R.state source.new).reads ≤ (R.state source.old).reads + most_reads }
 {
     let mut incoming = Incoming::new(alloc);
     for _ in 0..MOST_READS {
         if incoming.read_on(source, session)? {
-            return Ok(incoming.into_printed());
+            return Ok(incoming.into_progress());
         }
     }
     Err(PlayKind::TooManyReads)
@@ -56,8 +56,8 @@ impl Incoming {
         }
     }
 
-    fn into_printed(self) -> Printed
-        ensures { result ≡ self.progress.printed }
+    fn into_progress(self) -> Progress
+        ensures { result ≡ self.progress }
     {
         let Incoming {
             room: _,
@@ -65,7 +65,7 @@ impl Incoming {
             given: _,
             progress,
         } = self;
-        progress.into_printed()
+        progress
     }
 
     // Reads once, and runs the lines that are whole then. It is true where the script has ended, and its last line was run too.

@@ -60,7 +60,7 @@ fn play_in<S: Source, T: Sink>(
     ensures play { Plays (S.state source.old) (S.state source.new) (T.state sink.old) (T.state sink.new) result }
     ensures reads { (S.state source.new).reads ≤ (S.state source.old).reads + most_reads }
 {
-    let printed = run_source(alloc, source, session)?;
+    let printed = run_source(alloc, source, session)?.into_printed();
     write_whole(sink, &printed.text)?;
     match printed.refusal {
         None => Ok(()),

@@ -49,6 +49,13 @@ impl Progress {
         self.printed.refusal.is_some()
     }
 
+    /// How many lines were passed, those that are passed over included.
+    pub(crate) fn passed(&self) -> u64
+        ensures { result ≡ self.now.passed }
+    {
+        self.passed
+    }
+
     /// What was printed so far.
     pub(crate) fn into_printed(self) -> Printed
         ensures { result ≡ self.printed }
