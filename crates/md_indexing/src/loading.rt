@@ -2,14 +2,13 @@
 ghost use Rattle.std.specs.Prelude.{◌≡◌, ◌≢◌, ◌⊎◌, length};
 ghost use Rattle.md_script.specs.Folders.{names_of};
 ghost use Rattle.md_script.specs.Kinds.{at_no_line};
-ghost use Rattle.md_head.specs.Header.{lines_of};
 ghost use Rattle.md_script.specs.Sessions.{run_over};
 ghost use Rattle.md_script.specs.Words.{Gives};
 ghost use Rattle.md_script.specs.declared.error.PlayKind.TheVariants.{NoMemory};
 
 use md_core::World;
 use md_dirs::{ImageFile, IndexDirs};
-use md_script::{PlayError, PlayKind, count_lines, open_store};
+use md_script::{PlayError, PlayKind, open_store};
 use std::alloc::Global;
 
 /// The store over folders, as many as there are names, and files. Refused as `open_store` is.
@@ -27,16 +26,12 @@ pub fn load(
     open_store(alloc, count, files)
 }
 
-/// What no single line is to blame for is refused at the script's last line, and out of memory at none.
-pub fn refused(script: &[u8], kind: PlayKind) -> PlayError
-    ensures { ((kind ≡ NoMemory) × (result ≡ at_no_line NoMemory))
-        ⊎ ((kind ≢ NoMemory) × (result ≡ record { line = length (lines_of script.now); kind = kind })) }
+/// What no single line is to blame for is refused at the script's last line, which has the number of its lines, and out of memory at none.
+pub fn refused(lines: u64, kind: PlayKind) -> PlayError
+    ensures { ((kind ≡ NoMemory) × (result ≡ at_no_line NoMemory)) ⊎ ((kind ≢ NoMemory) × (result ≡ record { line = lines; kind = kind })) }
 {
     match kind {
         PlayKind::NoMemory => PlayError::from(PlayKind::NoMemory),
-        kind => PlayError {
-            line: count_lines(script),
-            kind,
-        },
+        kind => PlayError { line: lines, kind },
     }
 }

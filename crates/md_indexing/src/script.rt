@@ -11,7 +11,7 @@ use crate::indexer::Indexer;
 use crate::loading::{load, refused};
 use md_core::World;
 use md_dirs::{ImageFile, IndexDirs};
-use md_script::{PlayError, PlayKind, Setup, image};
+use md_script::{PlayError, PlayKind, Setup, count_lines, image};
 use std::alloc::{AllocError, Global};
 
 /// The index of a script of `folder` and `file` lines: for each folder, in the order of their lines, and each of its messages, in order of
@@ -35,7 +35,7 @@ pub fn index_text<I: Indexer>(
     } = image(alloc, script, false)?;
     match text_over(alloc, indexer, &folders, files) {
         Ok(text) => Ok(text),
-        Err(kind) => Err(refused(script, kind)),
+        Err(kind) => Err(refused(count_lines(script), kind)),
     }
 }
 

@@ -1,9 +1,10 @@
 //! The index of a script's messages: a line for each, with the summary of its header.
-ghost use Rattle.std.specs.Prelude.{◌≡◌, ◌≢◌, ◌≤◌, ◌⊎◌, Ok, Err, IfOk, MatchResult};
+ghost use Rattle.std.specs.Prelude.{◌≡◌, ◌≢◌, ◌≤◌, ◌⊎◌, ℕ, false, List, Ok, Err, IfOk, MatchResult};
 ghost use Rattle.md_core.specs.Mailbox.{mailbox_of};
 ghost use Rattle.md_core.specs.Runs.{dirs_of};
 ghost use Rattle.md_script.specs.Folders.{names_of};
 ghost use Rattle.md_script.specs.Kinds.{at_no_line};
+ghost use Rattle.md_script.specs.ReadSetups.{SetsUp};
 ghost use Rattle.md_script.specs.declared.error.PlayKind.TheVariants.{NoMemory};
 ghost use Rattle.md_indexing.specs.Indexing.{index_from, index_of_script, index_over};
 ghost use Rattle.md_runs.specs.Indexes.{Indexes};
@@ -13,16 +14,17 @@ mod workers;
 use md_core::World;
 use md_dirs::{Dirs, ImageFile};
 use md_indexing::{load, refused};
-use md_script::{PlayError, PlayKind, Setup, Sink, Source, image, read_script, write_whole};
+use md_script::{PlayError, PlayKind, ReadSetup, Setup, Sink, Source, read_image, write_whole};
 use std::alloc::{AllocError, Global};
 use std::mem::forget;
 use std::sync::Wait;
 use std::thread::Threads;
 use workers::push_folder;
 
-/// Reads a script whole, opens the store of its folders and files, and writes its index: for each folder, in the order of their lines,
-/// and each of its messages, in order of unique name, `FOLDER UNIQUE`, the lines of the message's header summary (RFC 5322) and `end`.
-/// So many workers, 1 to 64, make the summaries.
+/// Reads a script to its end and takes in what its lines set up while it reads, of which it keeps only the line that hasn't ended; opens
+/// the store of its folders and files, and writes its index: for each folder, in the order of their lines, and each of its messages, in
+/// order of unique name, `FOLDER UNIQUE`, the lines of the message's header summary (RFC 5322) and `end`. So many workers, 1 to 64, make
+/// the summaries.
 ///
 /// Nothing is written where a line is refused, `not in this run` where it has another command than `folder` and `file`; nor where the
 /// store can't be opened, which has the number of the last line; nor at the refusals of line 0: `ReadFault`, `TooLong`, `TooManyReads`
@@ -39,31 +41,32 @@ pub fn run_index<R: Threads + Wait + Sync, S: Source, T: Sink>(
     requires { (1 ≤ workers) × (workers ≤ 64) }
     ensures { Indexes (S.state source.old) (S.state source.new) (T.state sink.old) (T.state sink.new) result }
 {
-    let script = read_script(alloc, source)?;
-    let text = index_text(rt, alloc, workers, &script)?;
+    let read = read_image(alloc, source, false)?;
+    let text = index_text(rt, alloc, workers, read)?;
     write_whole(sink, &text)?;
     Ok(())
 }
 
-/// The index of a script over bytes.
+/// The index of a script that was read.
 fn index_text<R: Threads + Wait + Sync>(
     rt: &R,
     alloc: Global,
     workers: usize,
-    script: &[u8],
+    read: ReadSetup,
 ) -> Result<Vec<u8>, PlayError>
-    ensures { MatchResult result
-        (λ text. index_of_script script.now ≡ Ok text.items)
-        (λ e. (e ≡ at_no_line NoMemory) ⊎ (index_of_script script.now ≡ Err e)) }
+    ensures { (script : List ℕ) → SetsUp false script read → MatchResult result
+        (λ text. index_of_script script ≡ Ok text.items)
+        (λ e. (e ≡ at_no_line NoMemory) ⊎ (index_of_script script ≡ Err e)) }
 {
+    let ReadSetup { setup, lines } = read;
     let Setup {
         folders,
         files,
         calls: _,
-    } = image(alloc, script, false)?;
+    } = setup;
     match text_over(rt, alloc, workers, &folders, files) {
         Ok(text) => Ok(text),
-        Err(kind) => Err(refused(script, kind)),
+        Err(kind) => Err(refused(lines, kind)),
     }
 }
 

@@ -1,6 +1,7 @@
 //! The jobs of a script, run by threads.
 
-ghost use Rattle.std.specs.Prelude.{◌≤◌, MatchResult};
+ghost use Rattle.std.specs.Prelude.{◌≤◌, ℕ, true, List, MatchResult};
+ghost use Rattle.md_script.specs.ReadSetups.{SetsUp};
 ghost use Rattle.md_runs.specs.Threading.{Reports, IsUnreported, RunsThreads};
 
 mod listings;
@@ -10,7 +11,7 @@ mod share;
 mod sharing;
 
 use crate::fault::RunFault;
-use md_script::{Sink, Source, read_script, write_whole};
+use md_script::{ReadSetup, Sink, Source, read_image, write_whole};
 use report::ended;
 use setting_up::{Made, set_up};
 use sharing::share;
@@ -19,9 +20,10 @@ use std::mem::forget;
 use std::sync::Wait;
 use std::thread::Threads;
 
-/// Reads a script whole, opens the store of its folders and files, submits its jobs, and runs them by so many threads, 1 to 16. Job J is
-/// the thread's with the number J - 1 modulo their count; a thread takes its jobs in order and steps each at moment 0 until it is answered.
-/// Then `J answer A` is written for each job in order, and for each folder `folder NAME` and its listing.
+/// Reads a script to its end and takes in what its lines set up while it reads, of which it keeps only the line that hasn't ended; opens
+/// the store of its folders and files, submits its jobs, and runs them by so many threads, 1 to 16. Job J is the thread's with the number
+/// J - 1 modulo their count; a thread takes its jobs in order and steps each at moment 0 until it is answered. Then `J answer A` is written
+/// for each job in order, and for each folder `folder NAME` and its listing.
 ///
 /// Nothing is written where a line is refused, `not in this run` where it has another command than `folder`, `file` and `job`; nor where
 /// the store can't be opened or a job not be submitted, which has the number of the last line; nor where `NoReader` or `Closed` is
@@ -39,13 +41,13 @@ pub fn run_threads<R: Threads + Wait + Sync, S: Source, T: Sink>(
     requires { (1 ≤ threads) × (threads ≤ 16) }
     ensures { RunsThreads (S.state source.old) (S.state source.new) (T.state sink.old) (T.state sink.new) result }
 {
-    let script = read_script(alloc, source)?;
-    let text = threads_text(rt, alloc, threads, script)?;
+    let read = read_image(alloc, source, true)?;
+    let text = threads_text(rt, alloc, threads, read)?;
     write_whole(sink, &text)?;
     Ok(())
 }
 
-/// What the threads print of a script, which is let go before they begin: its memory is theirs.
+/// What the threads print of a script that was read.
 ///
 /// The type of the store's lock keeps the jobs and the files that the store was opened with. So the world that it leaves is known to be
 /// theirs.
@@ -53,12 +55,11 @@ fn threads_text<R: Threads + Wait + Sync>(
     rt: &R,
     alloc: Global,
     threads: usize,
-    script: Vec<u8>,
+    read: ReadSetup,
 ) -> Result<Vec<u8>, RunFault>
-    ensures { MatchResult result (λ text. Reports script.items text.items) (IsUnreported script.items) }
+    ensures { (script : List ℕ) → SetsUp true script read → MatchResult result (λ text. Reports script text.items) (IsUnreported script) }
 {
-    let made = set_up(alloc, &script)?;
-    drop(script);
+    let made = set_up(alloc, read)?;
     let Made { names, world } = made;
     let jobs = world.jobs();
     let shared = share(rt, alloc, threads, &names, world)?;

@@ -1,16 +1,17 @@
 //! The store that threads begin with.
 
-ghost use Rattle.std.specs.Prelude.{◌≡◌, ◌≢◌, ◌⊎◌, Ok, Err, IfOk, MatchResult};
+ghost use Rattle.std.specs.Prelude.{◌≡◌, ◌≢◌, ◌⊎◌, ℕ, true, List, Ok, Err, IfOk, MatchResult};
 ghost use Rattle.md_store.specs.Locks.{IsFresh};
 ghost use Rattle.md_script.specs.declared.error.PlayKind.TheVariants.{NoMemory};
 ghost use Rattle.md_script.specs.Folders.{names_of};
 ghost use Rattle.md_script.specs.Kinds.{at_no_line};
+ghost use Rattle.md_script.specs.ReadSetups.{SetsUp};
 ghost use Rattle.md_runs.specs.Begun.{submitted_all, begun_over, begun_of, IsBegun};
 
 use md_core::{Call, World};
 use md_dirs::{Dirs, ImageFile, IndexDirs};
 use md_indexing::{load, refused};
-use md_script::{PlayError, PlayKind, Setup, image};
+use md_script::{PlayError, PlayKind, ReadSetup, Setup};
 use std::alloc::Global;
 
 /// The names of a script's folders, and a store over its files with its jobs, of which none was stepped.
@@ -20,22 +21,24 @@ pub(super) struct Made {
     pub world: World<IndexDirs>,
 }
 
-/// What a script sets up.
-pub(super) fn set_up(alloc: Global, script: &[u8]) -> Result<Made, PlayError>
-    ensures made { MatchResult result (IsBegun script.now) (λ e. (e ≡ at_no_line NoMemory) ⊎ (begun_of script.now ≡ Err e)) }
+/// What a script that was read sets up.
+pub(super) fn set_up(alloc: Global, read: ReadSetup) -> Result<Made, PlayError>
+    ensures made { (script : List ℕ) → SetsUp true script read
+        → MatchResult result (IsBegun script) (λ e. (e ≡ at_no_line NoMemory) ⊎ (begun_of script ≡ Err e)) }
     ensures fresh { IfOk result (λ made. IsFresh made.world) }
 {
+    let ReadSetup { setup, lines } = read;
     let Setup {
         folders,
         files,
         calls,
-    } = image(alloc, script, true)?;
+    } = setup;
     match world_of(alloc, &folders, files, calls) {
         Ok(world) => Ok(Made {
             names: folders,
             world,
         }),
-        Err(kind) => Err(refused(script, kind)),
+        Err(kind) => Err(refused(lines, kind)),
     }
 }
 

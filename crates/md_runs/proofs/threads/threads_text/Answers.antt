@@ -1,14 +1,13 @@
-use Rattle.std.proofs.Common.{ℕ, List, ◌++◌, ◌∙◌, ap, subst, length}
+use Rattle.std.proofs.Common.{ℕ, List, ◌++◌, ◌∙◌, ap, length}
 use Rattle.md_core.specs.Mailbox.{mailbox_of}
 use Rattle.md_core.specs.Runs.{dirs_of, jobs_of}
 use Rattle.md_script.specs.Folders.{names_of}
-use Rattle.md_runs.specs.Begun.{IsBegun}
 use Rattle.md_runs.specs.Threading.{answers_text, folders_text}
 use Rattle.md_runs.proofs.threads.threads_text.Goals as goal
 
 pub returns : goal.returns
-returns g c =
-    let made = subst (λ (script : List ℕ). IsBegun script c.in_ok-made.made) c.deref.ensures.value c.in_ok-made.ensures.made in
+returns g c = λ script sets_up.
+    let made = c.in_ok-made.ensures.made script sets_up in
     let run = c.in_ok-shared.shared.world in
     let folders : List (List ℕ) → List ℕ = λ names. folders_text (mailbox_of (dirs_of run)) 0 names in
     record {
@@ -17,6 +16,6 @@ returns g c =
       run = run;
       interleaves = c.in_ok-text.ensures.run c.in_ok-made.made.world c.in_ok-made.ensures.fresh c.in_ok-shared.ensures.since c.jobs-jobs.ensures;
       text_is = c.in_ok-text.ensures.text ∙ ap (λ text. answers_text (jobs_of run) (length run.calls) ++ text)
-          (c.deref-3.ensures.value ∙ c.in_ok-shared.ensures.folders ∙ ap (λ names. folders (names_of names)) c.deref-2.ensures.value
+          (c.deref-2.ensures.value ∙ c.in_ok-shared.ensures.folders ∙ ap (λ names. folders (names_of names)) c.deref.ensures.value
           ∙ ap folders made.names);
     }
