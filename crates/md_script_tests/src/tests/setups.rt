@@ -1,9 +1,11 @@
 //! What scripts set up for another to run.
 
 use super::commands::{joined, spells};
+use super::fakes::Torn;
 use super::plays::has_text;
-use md_script::{Setup, image};
+use md_script::{PlayError, Reader, Setup, image, read_image};
 use std::alloc::{AllocError, Global};
+use std::io::ErrorKind;
 use std::test::Fail;
 
 /// Whether a setup is written so.
@@ -17,16 +19,70 @@ fn is_set_up(alloc: Global, script: &[u8], text: &[u8]) -> Result<bool, Fail> {
     Ok(is_written(alloc, &setup, text)?)
 }
 
-#[test]
-fn a_setup_has_what_the_lines_name(rt: HostRuntime) -> Result<(), Fail> {
-    let script =
-        b"folder i\nfolder j\nfile i new u:2,S 7 a b\\n\n# none\njob clean i\njob flag j u SF - 3\nfile j tmp x 9";
-    let want = b"Setup { folders: [[105], [106]], files: [\
+/// Seven lines, and what they set up.
+static SCRIPT: &[u8] =
+    b"folder i\nfolder j\nfile i new u:2,S 7 a b\\n\n# none\njob clean i\njob flag j u SF - 3\nfile j tmp x 9";
+
+static WANT: &[u8] = b"Setup { folders: [[105], [106]], files: [\
 ImageFile { path: Path { folder: 0, place: New, name: Bytes { items: [117, 58, 50, 44, 83] } }, bytes: Bytes { items: [97, 32, 98, 10] }, stamp: 7 }, \
 ImageFile { path: Path { folder: 1, place: Tmp, name: Bytes { items: [120] } }, bytes: Bytes { items: [] }, stamp: 9 }], calls: [\
 Clean { folder: 0 }, \
 Flag { folder: 1, unique: Bytes { items: [117] }, add: Flags { word: 262176 }, remove: Flags { word: 0 }, tries: 3 }] }";
-    assert!(rt; is_set_up(rt.alloc(), script, want)?);
+
+#[test]
+fn a_setup_has_what_the_lines_name(rt: HostRuntime) -> Result<(), Fail> {
+    assert!(rt; is_set_up(rt.alloc(), SCRIPT, WANT)?);
+    Ok(())
+}
+
+/// Whether the seven lines set this up where they come so many bytes at a time.
+fn is_read_so(alloc: Global, script: &[u8], at_once: usize) -> Result<bool, Fail> {
+    let mut source = Reader::new(Torn {
+        script,
+        at_once,
+        fault: None,
+    });
+    let read = read_image(alloc, &mut source, true)?;
+    Ok(read.lines == 7 && is_written(alloc, &read.setup, WANT)?)
+}
+
+#[test]
+fn a_setup_is_read_in_pieces(rt: HostRuntime) -> Result<(), Fail> {
+    let ended = joined(rt.alloc(), SCRIPT, b"\n")?;
+    for at_once in 1..SCRIPT.len() + 1 {
+        let is_same = is_read_so(rt.alloc(), SCRIPT, at_once)?;
+        assert!(rt;
+            is_same && is_read_so(rt.alloc(), &ended, at_once)?,
+            "{at_once}"
+        );
+    }
+    Ok(())
+}
+
+/// Why the setup of a script that comes so many bytes at a time can't be read, where it ends so.
+fn unread(alloc: Global, at_once: usize, fault: Option<ErrorKind>) -> Option<PlayError> {
+    let mut source = Reader::new(Torn {
+        script: b"folder i\nlist\nfolder j",
+        at_once,
+        fault,
+    });
+    read_image(alloc, &mut source, true).err()
+}
+
+#[test]
+fn a_read_fault_comes_before_a_line_that_sets_nothing_up(rt: HostRuntime) -> Result<(), Fail> {
+    for at_once in 1..24usize {
+        let whole = unread(rt.alloc(), at_once, None);
+        let torn = unread(rt.alloc(), at_once, Some(ErrorKind::BrokenPipe));
+        assert!(rt;
+            has_text(rt.alloc(), whole, b"line 2: not in this run")?,
+            "{at_once}"
+        );
+        assert!(rt;
+            has_text(rt.alloc(), torn, b"line 0: read fault")?,
+            "{at_once}"
+        );
+    }
     Ok(())
 }
 
