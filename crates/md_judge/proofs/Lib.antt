@@ -31,3 +31,6 @@ pub mod Prefixes
 pub mod Housed
 pub mod Verdicts
 pub mod Whole
+pub mod Opening
+pub mod Keeping
+pub mod Opened

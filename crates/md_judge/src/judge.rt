@@ -45,6 +45,7 @@ mod watch;
 use befores::mark_of;
 use clauses::Clauses;
 use known::{Act, Known, NO_ACT};
+use listing::Listings;
 use md_dirs::{Bytes, Path};
 use md_log::{Call, Clause, LineFault, Step};
 use std::alloc::Global;
@@ -58,6 +59,8 @@ pub(crate) struct Judge {
     actor_names: Table,
     known: Known,
     watch: Watch,
+    /// What actors read of folders.
+    listings: Listings,
     /// What the last step did to paths.
     act: Act,
     allowed: Clauses,
@@ -73,6 +76,7 @@ impl Judge {
             actor_names: Table::new(alloc),
             known: Known::new(alloc),
             watch: Watch::new(alloc),
+            listings: Listings::new(alloc),
             act: NO_ACT,
             allowed: Clauses::none(),
         }
@@ -156,8 +160,15 @@ impl Judge {
                 shown,
             } => {
                 let names = self.numbers(shown.as_slice())?;
-                self.watch
-                    .list(&self.known, actor, *folder, *place, *reply, &names)
+                self.watch.list(
+                    &self.known,
+                    &mut self.listings,
+                    actor,
+                    *folder,
+                    *place,
+                    *reply,
+                    &names,
+                )
             }
             Call::Answer {
                 said,
@@ -165,8 +176,7 @@ impl Judge {
                 unique,
             } => {
                 let unique = self.known.names.unique(unique.as_slice())?;
-                self.watch
-                    .answer(&self.known, actor, *said, (*folder, unique));
+                self.watch.answer(&self.known, &self.listings, actor, *said, (*folder, unique));
                 Ok(())
             }
             call => self.watch.call(&self.known, actor, call, &self.act),

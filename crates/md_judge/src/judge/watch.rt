@@ -1,4 +1,5 @@
-//! What is kept of files, messages, actors and listings, and the clauses that a step breaks.
+//! What is kept of files, messages and actors, and the clauses that a step breaks.
+ghost use Rattle.std.specs.Prelude.{◌≡◌};
 ghost use Rattle.md_log.specs.declared.clause.Clause.{Clause};
 ghost use Rattle.md_judge.specs.Found.{Has};
 
@@ -7,11 +8,9 @@ use super::directories::Spot;
 use super::files::Files;
 use super::found::Found;
 use super::known::Known;
-use super::listing::Listing;
 use super::mail::Mail;
 use md_log::LineFault;
 use std::alloc::Global;
-use std::collections::BTreeMap;
 
 /// What steps did to files and messages so far.
 #[derive(Drop)]
@@ -20,7 +19,6 @@ pub(super) struct Watch {
     pub(super) actors: Actors,
     pub(super) files: Files,
     pub(super) mail: Mail,
-    pub(super) listings: BTreeMap<(u32, u32), Listing>,
     /// The moment at which the step begins that is judged.
     pub(super) now: usize,
     /// What is found at it.
@@ -34,7 +32,6 @@ impl Watch {
             actors: Actors::new(alloc),
             files: Files::new(alloc),
             mail: Mail::new(alloc),
-            listings: BTreeMap::new(alloc),
             now: 0,
             found: Found::nothing(),
         }
@@ -46,13 +43,16 @@ impl Watch {
     }
 
     /// Goes on to the moment of a line.
-    pub(super) fn go_to(&mut self, moment: usize) {
+    pub(super) fn go_to(&mut self, moment: usize)
+        ensures { self.new.now ≡ moment }
+    {
         self.now = moment;
     }
 
     /// A step of an actor begins: it breaks nothing so far.
     pub(super) fn begin(&mut self, actor: u32) -> Result<(), LineFault>
-        ensures { (c : Clause) → Has self.new.found.broken c → ⊥ }
+        ensures nothing { (c : Clause) → Has self.new.found.broken c → ⊥ }
+        ensures now { self.new.now ≡ self.old.now }
     {
         self.found = Found::nothing();
         self.actors.note_line(actor, self.now)

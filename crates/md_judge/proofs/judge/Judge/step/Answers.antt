@@ -38,8 +38,8 @@ returns-in-List-clause-overwritten c = λ lines l i told is here short there.
     let x : Numbered = record { number = c.args.line; step = c.args.step } in
     let still : at l (suc i) ≡ at l i =
     at-next l i x is ∙ ap (λ v. after_call v (after_step (moment l i) x).now (at l i)) c.in-List.is in
-    found-still c.list.result (turn l i c.args.step) c.begin.new.self.found c.numbers.new.self.watch.found c.list.new.self.found c.begin.ensures
-    c.in_ok-names-in-List.ensures.found (none-overwritten (at l i) (at l (suc i)) still) c.list.ensures
+    found-still c.list.result (turn l i c.args.step) c.begin.new.self.found c.numbers.new.self.watch.found c.list.new.self.found c.begin.ensures.nothing
+    c.in_ok-names-in-List.ensures.found (none-overwritten (at l i) (at l (suc i)) still) c.list.ensures.overwrites
 
 pub returns-in-List-clause-broken : goal.returns-in-List-clause-broken
 returns-in-List-clause-broken c = λ lines l i keeps is here short there.
@@ -66,7 +66,7 @@ returns-in-Answer-clause-overwritten c = λ lines l i told is here short there.
     let still : at l (suc i) ≡ at l i =
     at-next l i x is ∙ ap (λ v. after_call v (after_step (moment l i) x).now (at l i)) c.in-Answer.is in
     found-none clause.Overwritten (Overwritten (turn l i c.args.step)) c.begin.new.self.found c.answer.new.self.found
-    (c.begin.ensures clause.Overwritten) c.answer.ensures.overwrites (none-overwritten (at l i) (at l (suc i)) still)
+    (c.begin.ensures.nothing clause.Overwritten) c.answer.ensures.overwrites (none-overwritten (at l i) (at l (suc i)) still)
 
 pub returns-in-Answer-clause-broken : goal.returns-in-Answer-clause-broken
 returns-in-Answer-clause-broken c = λ lines l i keeps is here short there.
@@ -76,7 +76,7 @@ returns-in-Answer-clause-broken c = λ lines l i keeps is here short there.
 pub returns-in-Answer-clause-wrong : goal.returns-in-Answer-clause-wrong
 returns-in-Answer-clause-wrong c = λ lines l i told is here short there on.
     found-none clause.NotADirectory (NotADirectory (turn l i c.args.step)) c.begin.new.self.found c.answer.new.self.found
-    (c.begin.ensures clause.NotADirectory) c.answer.ensures.wrong (subst (IsWrongCall (turn l i c.args.step)) c.in-Answer.is)
+    (c.begin.ensures.nothing clause.NotADirectory) c.answer.ensures.wrong (subst (IsWrongCall (turn l i c.args.step)) c.in-Answer.is)
 
 pub returns-in-Answer-clause-allowed : goal.returns-in-Answer-clause-allowed
 returns-in-Answer-clause-allowed c = refl
@@ -90,7 +90,7 @@ returns-clause-told c = λ lines l i keeps is here short there.
 pub returns-clause-overwritten : goal.returns-clause-overwritten
 returns-clause-overwritten c = λ lines l i told is here short there.
     found-overwritten c.call.result (turn l i c.args.step) _ (c.in_ok-self.ensures.acts lines l i told is here short there)
-    c.begin.new.self.found c.call.new.self.found c.begin.ensures c.call.ensures.overwrites
+    c.begin.new.self.found c.call.new.self.found c.begin.ensures.nothing c.call.ensures.overwrites
 
 pub returns-clause-broken : goal.returns-clause-broken
 returns-clause-broken c = λ lines l i keeps is here short there.
@@ -100,7 +100,7 @@ returns-clause-broken c = λ lines l i keeps is here short there.
 pub returns-clause-wrong : goal.returns-clause-wrong
 returns-clause-wrong c = λ lines l i told is here short there on.
     found-wrong c.call.result (turn l i c.args.step) _ (c.in_ok-self.ensures.acts lines l i told is here short there)
-    c.begin.new.self.found c.call.new.self.found c.begin.ensures on c.call.ensures.wrong
+    c.begin.new.self.found c.call.new.self.found c.begin.ensures.nothing on c.call.ensures.wrong
 
 pub returns-clause-allowed : goal.returns-clause-allowed
 returns-clause-allowed c = on-ok c.call.result refl

@@ -6,8 +6,8 @@ use Rattle.md_judge.proofs.Sparing.{paths-kept, keeps-same}
 use Rattle.md_judge.proofs.judge.watch.Watch.end_reading.Goals.{then-is_complete, else-is_complete}
 use Rattle.md_judge.proofs.judge.watch.Watch.end_reading.Goals as goal
 
-pub returns : goal.returns
-returns c =
+pub returns-clause-paths : goal.returns-clause-paths
+returns-clause-paths c =
     let found = c.args.self.now.found in
     elim c.if-is_complete.branch [
       | then-is_complete w ↦
