@@ -93,3 +93,15 @@ module _ (actor folder : ℕ) (place : Place) (r : Reply) (names : List ℕ) (no
         shown = λ a g p n apart. elsewhere (λ o q. shows_of o q n)
             (λ q other. ap (λ (x : Reading). ordered.contains nat_cmp x.shown n) (stays q other ∙ still q other) ∙ sym ((was q).1 n)) a g p apart;
       }
+
+-- a part shows names after those that are kept
+pub goes-kept : (now : ℕ) (names : List ℕ) (o : Option Listing) (s t : Listing) (place : Place) → IsKept o s place
+    → ShowsMore now names (reading_of s place).first (shown_by s place) (reading_of t place).first (shown_by t place)
+    → ShowsMore now names (first_of o place) (shows_of o place) (reading_of t place).first (shown_by t place)
+goes-kept now names o s t place was goes = record {
+  begins = goes.begins ∙ ap (λ (o : Option ℕ). Some (unwrap_or o now)) (sym was.0);
+  shows = λ n. (
+    λ h. elim ((goes.shows n).0 h) [ inl a ↦ inl (was.1 n ∙ a) | inr b ↦ inr b ],
+    λ h. (goes.shows n).1 (elim h [ inl a ↦ inl (sym (was.1 n) ∙ a) | inr b ↦ inr b ]),
+  );
+}

@@ -34,3 +34,4 @@ pub mod Whole
 pub mod Opening
 pub mod Keeping
 pub mod Opened
+pub mod Parting

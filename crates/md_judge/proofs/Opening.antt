@@ -201,7 +201,7 @@ numbered-name names shown numbers are name k =
     let at : slice_get numbers k.0 ≡ Some n = slice_get-get_or numbers k.0 0 (omega (arith, within, long)) in
     (n, are.each k.0 name n k.1 at, (k.0, at))
 
-named-number : (names : Names) (shown : List (List ℕ)) (numbers : List ℕ) → AreNames names shown numbers → (n : ℕ) → IsIn numbers n
+pub named-number : (names : Names) (shown : List (List ℕ)) (numbers : List ℕ) → AreNames names shown numbers → (n : ℕ) → IsIn numbers n
     → (name : List ℕ) × IsNumber names name n × IsShown shown name
 named-number names shown numbers are n k =
     let within = slice_get_within numbers k.0 n k.1 in

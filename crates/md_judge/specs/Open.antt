@@ -5,15 +5,19 @@ use Rattle.std.specs.BTreeMap.{BTreeMap, get}
 use Rattle.std.specs.BTreeSet as ordered
 use Rattle.md_dirs.specs.declared.paths.Place.{Place}
 use Rattle.md_dirs.specs.declared.paths.Place.TheVariants.{Tmp, New, Cur}
+use Rattle.md_log.specs.declared.line.Call.TheVariants as call
 use Rattle.md_log.specs.declared.line.Reply.{Reply}
 use Rattle.md_log.specs.declared.line.Reply.TheVariants as reply
+use Rattle.md_log.specs.declared.line.Step.{Step}
+use Rattle.md_judge.specs.declared.judge.known.Known.{Known}
 use Rattle.md_judge.specs.declared.judge.listing.Listing.{Listing}
 use Rattle.md_judge.specs.declared.judge.listing.Reading.{Reading}
 use Rattle.md_judge.specs.declared.judge.tables.Names.{Names}
 use Rattle.md_judge.specs.Listings.{message_cmp, IsIn}
 use Rattle.md_judge.specs.Logs.{Log}
-use Rattle.md_judge.specs.Names.{IsNumber}
-use Rattle.md_judge.specs.Told.{IsPart, Shows}
+use Rattle.md_judge.specs.Names.{IsNumber, AreNumbered}
+use Rattle.md_judge.specs.Recalled.{IsToldAt}
+use Rattle.md_judge.specs.Told.{at, IsStep, IsPart, Shows}
 
 -- ---- what is kept
 
@@ -105,3 +109,16 @@ pub record AreOpen (line : ℕ → ℕ) (actors : List (List ℕ)) (names : Name
   pub unused : (a folder : ℕ) (place : Place) → length actors ≤ a → IsOver (first_in m a folder place) (shows_in m a folder place)
   pub numbered : (j : ℕ) (actor : List ℕ) (folder : ℕ) (place : Place) (r : Reply) → j < i → IsPart l j actor folder place r
       → (a : ℕ) × (slice_get actors a ≡ Some actor)
+
+-- A step is this part of a reading, the lines of steps rise, and what is kept of paths and of the reading before it is what the log tells.
+pub record IsToldPart (line : ℕ → ℕ) (l : Log) (i : ℕ) (x : Step) (folder : ℕ) (place : Place) (r : Reply) (shown : List (List ℕ)) (known : Known)
+    (numbers : List ℕ) (now : ℕ) (first : Option ℕ) (before : ℕ → Bool) : Type 0 where
+  pub told : IsToldAt line l i known
+  pub numbered : AreNumbered known.names
+  pub step : IsStep l i x
+  pub call : x.call ≡ call.List folder place r shown
+  pub there : folder < (at l i).folders
+  pub rises : (a b : ℕ) → a < b → line a < line b
+  pub here : now ≡ line i
+  pub named : AreNames known.names shown numbers
+  pub recalls : RecallsOpen line known.names l i x.actor folder place first before

@@ -1,17 +1,17 @@
 //! Readings of directories, and listings.
-ghost use Rattle.std.specs.Prelude.{◌≡◌, ℕ, List, Some, None, OnOk, IfOk, unwrap_or};
+ghost use Rattle.std.specs.Prelude.{◌≡◌, ◌<◌, IfSome, ℕ, List, Some, None, OnOk, IfOk, unwrap_or};
 ghost use Rattle.std.specs.Ordering.{nat_cmp};
 ghost use Rattle.std.specs.BTreeSet as ordered;
 ghost use Rattle.std.specs.Option.{option_copied, option_map};
 ghost use Rattle.md_dirs.specs.declared.paths.Place.{Place};
 ghost use Rattle.md_log.specs.declared.line.Step.{Step};
 ghost use Rattle.md_judge.specs.Logs.{Log};
-ghost use Rattle.md_judge.specs.Law.{turn};
+ghost use Rattle.md_judge.specs.Law.{turn, NotADirectory};
 ghost use Rattle.md_log.specs.declared.clause.Clause.TheVariants as clause;
-ghost use Rattle.md_judge.specs.Found.{Notes, Keeps, KeepsPaths};
+ghost use Rattle.md_judge.specs.Found.{Notes, NotesOne, Keeps, KeepsPaths};
 ghost use Rattle.md_judge.specs.declared.judge.directories.Named.{Named};
 ghost use Rattle.md_judge.specs.Readings.{shown_wrongly, lacked, wrong_name, PartFinds, IsPartOf, BrokenByPart};
-ghost use Rattle.md_judge.specs.Open.{reading_of, ShowsMore, IsOver, KeepsPart};
+ghost use Rattle.md_judge.specs.Open.{reading_of, first_in, shows_in, ShowsMore, IsOver, KeepsPart, IsToldPart};
 ghost use Rattle.md_judge.specs.Listings.{lacking, is_lacking, was_at_each, ListFinds, LeavesOut, IsCompleted, BrokenByListing};
 
 use super::directories::Directory;
@@ -267,7 +267,8 @@ fn wrong_name(
     names: &[Name],
     first: usize,
 ) -> Option<Name>
-    ensures { result ≡ wrong_name directory.now reading.now reply names.now first }
+    ensures finds { result ≡ wrong_name directory.now reading.now reply names.now first }
+    ensures few { IfSome result (λ n. n < 18446744073709551616) }
 {
     match reply {
         Reply::Ok => match shown_wrongly(directory, names, first) {
@@ -281,7 +282,8 @@ fn wrong_name(
 
 /// A name that a part shows, and that was in the directory at no moment since the first part.
 fn shown_wrongly(directory: &Directory, names: &[Name], first: usize) -> Option<Name>
-    ensures { result ≡ shown_wrongly directory.now names.now first }
+    ensures finds { result ≡ shown_wrongly directory.now names.now first }
+    ensures few { IfSome result (λ n. n < 18446744073709551616) }
 {
     names
         .iter()
@@ -291,7 +293,8 @@ fn shown_wrongly(directory: &Directory, names: &[Name], first: usize) -> Option<
 
 /// A name that a whole reading lacks, and that was there since its first part.
 fn lacked(directory: &Directory, reading: &Reading, first: usize) -> Option<Name>
-    ensures { result ≡ option_map (λ (e : ℕ × Named). e.0) (lacked directory.now reading.now first) }
+    ensures finds { result ≡ option_map (λ (e : ℕ × Named). e.0) (lacked directory.now reading.now first) }
+    ensures few { IfSome result (λ n. n < 18446744073709551616) }
 {
     for (name, named) in directory.names.iter() {
         if is_there_since(*named, first) && !reading.shown.contains(name) {
@@ -314,6 +317,10 @@ impl Watch {
         names: &[Name],
     ) -> Result<(), LineFault>
         ensures overwrites { OnOk result (Keeps clause.Overwritten self.old.found self.new.found) }
+        ensures wrong { (lines : ℕ → ℕ) (l : Log) (i : ℕ) (x : Step) (shown : List (List ℕ))
+            → IsToldPart lines l i x folder place reply shown known.now names.now self.old.now
+            (first_in listings.old actor folder place) (shows_in listings.old actor folder place)
+            → OnOk result (NotesOne clause.NotADirectory (NotADirectory (turn l i x)) self.old.found self.new.found) }
         ensures part { OnOk result (KeepsPart actor folder place reply names.now self.old.now listings.old listings.new) }
     {
         let key = (actor, folder);
@@ -324,6 +331,7 @@ impl Watch {
         listing.looked = Some(self.now);
         let first = listing.show(place, self.now, names)?;
         if let Some(directory) = known.directories.directory(folder, place) {
+            directory.are_in_order();
             let reading = listing.reading(place);
             check_part(&mut self.found, directory, reading, reply, names, first);
         }
