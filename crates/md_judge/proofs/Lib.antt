@@ -35,3 +35,4 @@ pub mod Opening
 pub mod Keeping
 pub mod Opened
 pub mod Parting
+pub mod Longer

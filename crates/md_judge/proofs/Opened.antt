@@ -1,7 +1,8 @@
 -- What is kept of readings is what a log tells, step by step.
-use Rattle.std.proofs.Common.{ℕ, zero, suc, ◌≡◌, ◌≢◌, ◌<◌, ◌≤◌, ◌+◌, ◌⊎◌, inl, inr, Bool, true, false, List, [], ◌++◌, ◌∷◌, Option, Some, None, slice_get, length, refl, sym, ap, subst, ◌∙◌, arith}
+use Rattle.std.proofs.Common.{ℕ, zero, suc, ◌≡◌, ◌≢◌, ◌<◌, ◌≤◌, ◌+◌, ◌⊎◌, inl, inr, Bool, true, false, List, [], ◌++◌, ◌∷◌, Option, Some, None, slice_get, length, get_or, refl, sym, ap, subst, ◌∙◌, arith}
+use Rattle.std.specs.Prelude.{if◌then◌else◌}
 use Rattle.std.proofs.lemmas.Bool.{cases_lt, cases_order}
-use Rattle.std.proofs.lemmas.Option.{slice_get_within}
+use Rattle.std.proofs.lemmas.Option.{slice_get_within, slice_get-get_or}
 use Rattle.std.proofs.lemmas.List.{length_push}
 use Rattle.md_dirs.specs.declared.paths.Place.{Place}
 use Rattle.md_dirs.specs.declared.paths.Place.TheVariants.{Tmp, New, Cur}
@@ -11,6 +12,8 @@ use Rattle.md_log.specs.declared.line.Call.{Call}
 use Rattle.md_log.specs.declared.line.Call.TheVariants as call
 use Rattle.md_log.specs.declared.line.Step.{Step}
 use Rattle.md_judge.specs.declared.judge.tables.Names.{Names}
+use Rattle.md_log.specs.declared.line.Said.{Said}
+use Rattle.md_judge.specs.Acts.{ReadsNone}
 use Rattle.md_judge.specs.Logs.{Log, Numbered}
 use Rattle.md_judge.specs.Names.{IsNumber, KeepNumbers}
 use Rattle.md_judge.specs.Told.{IsStep, IsPart}
@@ -54,6 +57,10 @@ stays : {A : Type 0} (xs : List A) (y : A) (i : ℕ) (x : A) → slice_get xs i 
 stays [] y i x is = absurd (cc is)
 stays (z ∷ xs) y zero x is = is
 stays (z ∷ xs) y (suc i) x is = stays xs y i x is
+
+last-is : {A : Type 0} (xs : List A) (y : A) → slice_get (xs ++ y ∷ []) (length xs) ≡ Some y
+last-is [] y = refl
+last-is (x ∷ xs) y = last-is xs y
 
 -- an actor gets a number that had none, and of which nothing is kept
 pub actors-grow : (line : ℕ → ℕ) (actors : List (List ℕ)) (more : List ℕ) (names : Names) (l : Log) (i : ℕ) (m : Listings)
@@ -213,3 +220,57 @@ module _ (line : ℕ → ℕ) (actors : List (List ℕ)) (names : Names) (l : Lo
             (number, named ∙ ap Some (same-part l i x actor f p e own part').0)
       ];
     }
+
+-- ---- names that a part shows
+
+-- names so far have these numbers
+abbrev pub HaveNumbers : Names → List (List ℕ) → List ℕ → Type 0
+HaveNumbers names shown numbers = (k : ℕ) (name : List ℕ) (n : ℕ) → slice_get shown k ≡ Some name → slice_get numbers k ≡ Some n → IsNumber names name n
+
+-- and so has one more
+pub numbers-next : (old new : Names) (shown : List (List ℕ)) (numbers more : List ℕ) (i : ℕ) (d : List ℕ) (n : ℕ) → i < length shown
+    → length numbers ≡ i → more ≡ numbers ++ n ∷ [] → KeepNumbers old new → IsNumber new (get_or shown i d) n → HaveNumbers old shown numbers
+    → HaveNumbers new shown more
+numbers-next old new shown numbers more i d n within long pushed keeps is had k name m at at' =
+    elim (one-more numbers n k m (subst (λ (ns : List ℕ). slice_get ns k ≡ Some m) pushed at')) [
+      | inl was ↦ keeps name m (had k name m at was)
+      | inr last ↦
+          let here : k ≡ i = last.0 ∙ long in
+          let name-is : Some (get_or shown i d) ≡ Some name = sym (slice_get-get_or shown i d within) ∙ ap (slice_get shown) (sym here) ∙ at in
+          let same : get_or shown i d ≡ name = cc name-is in
+          subst (IsNumber new name) last.1 (subst (λ w. IsNumber new w n) same is)
+    ]
+
+-- an actor is asked for its number
+pub actors-after : (line : ℕ → ℕ) (old new : List (List ℕ)) (is_new : Bool) (actor : List ℕ) (names : Names) (l : Log) (i : ℕ) (m : Listings)
+    → new ≡ (if is_new then old ++ actor ∷ [] else old) → AreApart new → AreOpen line old names l i m → AreOpen line new names l i m
+actors-after line old new false actor names l i m grows apart is = subst (λ (words : List (List ℕ)). AreOpen line words names l i m) (sym grows) is
+actors-after line old new true actor names l i m grows apart is =
+    let fresh : (a : ℕ) → slice_get old a ≡ Some actor → ⊥ = λ a was.
+    let low = slice_get_within old a actor was in
+    let apart' : AreApart (old ++ actor ∷ []) = subst (λ (words : List (List ℕ)). AreApart words) grows apart in
+    let same : a ≡ length old = apart' a (length old) actor (stays old actor a actor was) (last-is old actor) in
+    omega (arith, low, same) in
+    subst (λ (words : List (List ℕ)). AreOpen line words names l i m) (sym grows) (actors-grow line old actor names l i m fresh is)
+
+-- ---- calls
+
+-- an answer is no part
+pub answer-no-part : (a : Said) (folder : ℕ) (unique : List ℕ) → IsNoPart (call.Answer a folder unique)
+answer-no-part a folder unique f p r shown same = cc same
+
+pub reads-none : (c : Call) → IsNoPart c → ReadsNone c
+reads-none (call.At d p r) none = tt
+reads-none (call.Between n old new r) none = tt
+reads-none (call.List folder place r shown) none = none folder place r shown refl
+reads-none (call.Answer a folder unique) none = tt
+
+-- what is kept of readings stays as a step's actor and names get numbers
+pub open-before : (line : ℕ → ℕ) (old mid new : List (List ℕ)) (is_new : Bool) (actor : List ℕ) (before stepped after : Names) (l : Log) (i : ℕ)
+    (m m' : Listings) → mid ≡ (if is_new then old ++ actor ∷ [] else old) → AreApart mid → KeepNumbers before stepped → KeepNumbers stepped after
+    → new ≡ mid → m' ≡ m → AreOpen line old before l i m → AreOpen line new after l i m'
+open-before line old mid new is_new actor before stepped after l i m m' grows apart keeps keeps' same same' is =
+    let now = actors-after line old mid is_new actor before l i m grows apart is in
+    let named = open-grows line mid stepped after l i m keeps' (open-grows line mid before stepped l i m keeps now) in
+    subst (λ (ws : List (List ℕ)). AreOpen line ws after l i m') (sym same)
+    (subst (λ (ls : Listings). AreOpen line mid after l i ls) (sym same') named)

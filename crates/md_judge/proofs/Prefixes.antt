@@ -30,7 +30,7 @@ same-moment l n i low =
     let start : Moment = record { state = l.opening; now = l.clock } in
     ap (fold after_step start) (take-append-le i l.steps (n ∷ []) low)
 
-same-at : (l : Log) (n : Numbered) (i : ℕ) → i ≤ length l.steps → at (pushed l n) i ≡ at l i
+pub same-at : (l : Log) (n : Numbered) (i : ℕ) → i ≤ length l.steps → at (pushed l n) i ≡ at l i
 same-at l n i low = ap (λ (m : Moment). m.state) (same-moment l n i low)
 
 -- ---- what is told
@@ -107,7 +107,7 @@ breaks-longer clause.Overwritten proved l n i x low = overwritten-longer l n i x
 breaks-longer c proved l n i x low = absurd proved
 
 -- the step of a number is what it was, and the last is the one more
-step-longer : {A : Type 0} (xs : List A) (y : A) (i : ℕ) → i < length xs → slice_get (xs ++ y ∷ []) i ≡ slice_get xs i
+pub step-longer : {A : Type 0} (xs : List A) (y : A) (i : ℕ) → i < length xs → slice_get (xs ++ y ∷ []) i ≡ slice_get xs i
 step-longer [] y i low = absurd (omega (arith, low))
 step-longer (x ∷ xs) y zero low = refl
 step-longer (x ∷ xs) y (suc i) low = step-longer xs y i (omega (arith, low))

@@ -2,7 +2,7 @@
 //!
 //! Moments are numbered by the lines of the log: the step of line 7 goes from moment 7 to moment 8, and what the line 3 says of the
 //! beginning is so from moment 4 on.
-ghost use Rattle.std.specs.Prelude.{◌≡◌, ◌<◌, ℕ, suc, Some, Ok, true, slice_get, OnOk, ◌↔◌, ◌⊎◌, IsTrue};
+ghost use Rattle.std.specs.Prelude.{◌≡◌, ◌<◌, ℕ, suc, Some, Ok, true, slice_get, OnOk, IfOk, ◌↔◌, ◌⊎◌, IsTrue, length};
 ghost use Rattle.md_dirs.specs.State.{has_folder};
 ghost use Rattle.md_judge.specs.Logs.{Log, empty_log, with_file_line, with_also_line};
 ghost use Rattle.md_log.specs.declared.clause.Clause.{Clause};
@@ -13,6 +13,8 @@ ghost use Rattle.md_judge.specs.Law.{turn, Breaks, NotADirectory, Overwritten};
 ghost use Rattle.md_judge.specs.Told.{at};
 ghost use Rattle.md_judge.specs.Recalled.{IsToldAt, HasFolders};
 ghost use Rattle.md_judge.specs.Verdict.{IsProved, Remembers};
+ghost use Rattle.md_judge.specs.Names.{AreNumbered, KeepNumbers};
+ghost use Rattle.md_judge.specs.Open.{AreNames, AreOpen};
 
 mod about;
 mod acts;
@@ -147,9 +149,19 @@ impl Judge {
             → slice_get l.steps i ≡ Some (record { number = line; step = step }) → lines i ≡ line → line < 4294967295
             → HasFolders (at l i) step.call → ReadsNone step.call
             → OnOk result (Has self.new.watch.found.broken clause.NotADirectory ↔ NotADirectory (turn l i step)) }
+        ensures opens { (lines : ℕ → ℕ) (l : Log) (i : ℕ)
+            → AreOpen lines self.old.actor_names self.old.known.names l i self.old.listings
+            → slice_get l.steps i ≡ Some (record { number = line; step = step }) → lines i ≡ line → self.old.watch.now ≡ line
+            → OnOk result (AreOpen lines self.new.actor_names self.new.known.names l (suc i) self.new.listings) }
+        ensures read { (lines : ℕ → ℕ) (l : Log) (i : ℕ) → IsToldAt lines l i self.old.known
+            → AreOpen lines self.old.actor_names self.old.known.names l i self.old.listings
+            → slice_get l.steps i ≡ Some (record { number = line; step = step }) → lines i ≡ line → line < 4294967295
+            → HasFolders (at l i) step.call → self.old.watch.now ≡ line → ((a b : ℕ) → a < b → lines a < lines b)
+            → OnOk result (Has self.new.watch.found.broken clause.NotADirectory ↔ NotADirectory (turn l i step)) }
         ensures allowed { OnOk result (self.new.allowed ≡ self.old.allowed) }
     {
         let (actor, _) = self.actor_names.number(step.actor.as_slice())?;
+        self.actor_names.are_apart();
         self.act = self.known.step(line, &step)?;
         self.watch.begin(actor)?;
         match &step.call {
@@ -200,12 +212,17 @@ impl Judge {
         ensures told { (lines : ℕ → ℕ) (l : Log) (i : ℕ) → Remembers lines l i self.old → OnOk result (Remembers lines l i self.new) }
         ensures found { OnOk result (self.new.watch.found ≡ self.old.watch.found) }
         ensures allowed { OnOk result (self.new.allowed ≡ self.old.allowed) }
+        ensures numbers { IfOk result (λ numbers. AreNames self.new.known.names names.now numbers.items) }
+        ensures keeps { KeepNumbers self.old.known.names self.new.known.names }
+        ensures numbered { OnOk result (AreNumbered self.new.known.names) }
+        ensures rest { (self.new.watch ≡ self.old.watch) × (self.new.listings ≡ self.old.listings) × (self.new.actor_names ≡ self.old.actor_names) }
     {
         let mut numbers = Vec::new(self.alloc);
         for name in names {
             let number = self.known.names.number(name.as_slice())?;
             numbers.push(number)?;
         }
+        self.known.names.are_numbered();
         Ok(numbers)
     }
 }

@@ -8,7 +8,7 @@ ghost use Rattle.md_judge.specs.Logs.{Log, empty_log, with_file_line, with_also_
 ghost use Rattle.md_judge.specs.Told.{at, ask_at, ask_between, after_ask, after_call, moment};
 ghost use Rattle.md_log.specs.declared.line.Step.{Step};
 ghost use Rattle.md_judge.specs.Law.{turn};
-ghost use Rattle.md_judge.specs.Acts.{IsActOf};
+ghost use Rattle.md_judge.specs.Acts.{IsActOf, ReadsNone};
 ghost use Rattle.md_judge.specs.Changes.{IsOlder, Leads};
 ghost use Rattle.md_judge.specs.Files.{unique_in, is_message_in};
 ghost use Rattle.md_judge.specs.Known.{EachSpot, IsBelow, files_after, Stands, Holds, Leaves};
@@ -168,6 +168,8 @@ impl Known {
         ensures acts { (lines : ℕ → ℕ) (l : Log) (i : ℕ) → IsToldAt lines l i self.old
             → slice_get l.steps i ≡ Some (record { number = line; step = step.now }) → lines i ≡ line → line < 4294967295
             → HasFolders (at l i) step.now.call → IfOk result (λ act. IsActOf (turn l i step.now) act) }
+        ensures keeps { KeepNumbers self.old.names self.new.names }
+        ensures lists { (ReadsNone step.now.call → ⊥) → self.new ≡ record self.old { clock = self.new.clock } }
     {
         self.clock = self.clock.max(step.moment);
         self.call(line, &step.call)
@@ -180,6 +182,8 @@ impl Known {
         ensures acts { (now : ℕ) (lines : ℕ → ℕ) (l : Log) (i : ℕ) (x : Step) → IsToldAt lines l i self.old
             → GoesOn lines l i line (after_call call.now now) → HasFolders (at l i) call.now → x.call ≡ call.now → now ≡ (moment l (suc i)).now
             → IfOk result (λ act. IsActOf (turn l i x) act) }
+        ensures keeps { KeepNumbers self.old.names self.new.names }
+        ensures lists { (ReadsNone call.now → ⊥) → self.new ≡ self.old }
     {
         match call {
             Call::At { deed, path, reply } => {
@@ -210,6 +214,7 @@ impl Known {
         ensures told { (p : Path) (now : ℕ) (lines : ℕ → ℕ) (l : Log) (i : ℕ) → IsToldAt lines l i self.old → AreNumbered self.old.names
             → IsSpotOf self.old.names p spot → GoesOn lines l i line (after_ask reply (ask_at deed p now)) → has_folder (at l i) p ≡ true
             → OnOk result (IsToldAt lines l (suc i) self.new) }
+        ensures names { self.new.names ≡ self.old.names }
     {
         let file = self.directories.file_at(spot);
         let before = self.directories.last_change(spot);
@@ -245,6 +250,7 @@ impl Known {
         ensures told { (p q : Path) (lines : ℕ → ℕ) (l : Log) (i : ℕ) → IsToldAt lines l i self.old → AreNumbered self.old.names
             → IsSpotOf self.old.names p old → IsSpotOf self.old.names q new → GoesOn lines l i line (after_ask reply (ask_between naming p q))
             → has_folder (at l i) p ≡ true → has_folder (at l i) q ≡ true → OnOk result (IsToldAt lines l (suc i) self.new) }
+        ensures names { self.new.names ≡ self.old.names }
     {
         let file = self.directories.file_at(old);
         let there = self.directories.file_at(new);

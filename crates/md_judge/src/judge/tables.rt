@@ -133,7 +133,7 @@ impl Table {
 
     /// Nothing is done: two words have two numbers, and there are not too many.
     #[inline(always)]
-    fn are_apart(&self)
+    pub(super) fn are_apart(&self)
         ensures apart { AreApart self.now }
         ensures few { length self.now ≤ 4000000000 }
     {
@@ -310,7 +310,7 @@ impl Names {
 
     /// Nothing is done: numbers are those of names.
     #[inline(always)]
-    fn are_numbered(&self)
+    pub(super) fn are_numbered(&self)
         ensures { AreNumbered self.now }
     {
         self.uniques.are_apart();

@@ -9,6 +9,8 @@ use Rattle.md_judge.proofs.Acting.{acts-at, acts-between, acts-none}
 use Rattle.md_judge.proofs.Pathed.{path_by, path-is}
 use Rattle.md_judge.proofs.Stepping.{rests}
 use Rattle.md_judge.proofs.Telling.{known-by}
+use Rattle.md_judge.specs.Names.{IsNumber}
+use Rattle.md_judge.specs.Acts.{ReadsNone}
 use Rattle.md_judge.proofs.judge.known.Known.call.Goals as goal
 
 -- what follows of a value holds of it where there is one
@@ -43,6 +45,8 @@ returns-in_ok-spot-in-At c = record {
       if-ok c.at.result _ (λ act. IsActOf (turn l i x) act)
       (λ act leaves. acts-at l i x act map (2 ^ 64) now deed path (map s) reply _ (is ∙ c.in-At.is) same clock goes'.next leaves)
       (c.at.ensures.act map (2 ^ 64) now (at l i) by.stands by.holds low here);
+  keeps = λ name n is. subst (λ t. IsNumber t name n) (sym c.at.ensures.names) (c.spot.ensures.keeps name n is);
+  lists = λ reads. absurd (reads (subst ReadsNone (sym c.in-At.is) tt));
 }
 
 pub returns-in_ok-new-in-Between : goal.returns-in_ok-new-in-Between
@@ -86,6 +90,9 @@ returns-in_ok-new-in-Between c = record {
       if-ok c.between.result _ (λ act. IsActOf (turn l i x) act)
       (λ act leaves. acts-between l i x act map (2 ^ 64) naming old (map s) new (map t) reply _ (is ∙ c.in-Between.is) same same' goes'.next leaves)
       (c.between.ensures.act map (2 ^ 64) (at l i) by.stands by.holds low low' here here');
+  keeps = λ name n is. subst (λ t. IsNumber t name n) (sym c.between.ensures.names)
+      (c.spot-in-Between-2.ensures.keeps name n (c.spot-in-Between.ensures.keeps name n is));
+  lists = λ reads. absurd (reads (subst ReadsNone (sym c.in-Between.is) tt));
 }
 
 pub returns-in-List : goal.returns-in-List
@@ -106,6 +113,8 @@ returns-in-List c = record {
         | inr of ↦ subst (λ v. IsWrongAsk (turn l i x) v → ⊥) (sym (is ∙ of.3)) (λ wrong. wrong)
       ] in
       acts-none l i x _ refl refl same none;
+  keeps = λ name n is. is;
+  lists = λ reads. refl;
 }
 
 pub returns-in-List-2 : goal.returns-in-List-2
@@ -126,4 +135,6 @@ returns-in-List-2 c = record {
         | inr of ↦ subst (λ v. IsWrongAsk (turn l i x) v → ⊥) (sym (is ∙ of.3)) (λ wrong. wrong)
       ] in
       acts-none l i x _ refl refl same none;
+  keeps = λ name n is. is;
+  lists = λ reads. refl;
 }

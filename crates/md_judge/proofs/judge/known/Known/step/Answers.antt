@@ -1,7 +1,7 @@
 use Rattle.std.proofs.Common.{ℕ, suc, ◌≡◌, refl, sym, ap}
 use Rattle.md_judge.specs.Logs.{Numbered}
 use Rattle.md_judge.specs.Told.{Moment, moment, after_step}
-use Rattle.md_judge.proofs.Stepping.{moment-next, at-next, clocked}
+use Rattle.md_judge.proofs.Stepping.{moment-next, at-next, clocked, clocked-same}
 use Rattle.md_judge.proofs.judge.known.Known.step.Goals as goal
 
 pub returns : goal.returns
@@ -16,4 +16,6 @@ returns c = record {
       let clock : now ≡ (moment l (suc i)).now = sym (ap (λ (m : Moment). m.now) (moment-next l i x is)) in
       c.call.ensures.acts now lines l i c.args.step.now (clocked lines l i c.args.self.now c.max-self.result told)
       (record { here = here; short = short; next = at-next l i x is }) there refl clock;
+  keeps = c.call.ensures.keeps;
+  lists = λ reads. clocked-same c.args.self.now _ c.call.new.self (c.call.ensures.lists reads);
 }

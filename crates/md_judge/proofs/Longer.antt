@@ -1,0 +1,197 @@
+-- What a step breaks, and what is kept of readings, is the same of a log with one more step.
+use Rattle.std.proofs.Common.{ℕ, suc, ◌≡◌, ◌≢◌, ◌<◌, ◌≤◌, ◌⊎◌, inl, inr, ◌↔◌, Bool, List, [], ◌++◌, ◌∷◌, Option, Some, None, length, slice_get, refl, sym, ap, subst, ◌∙◌, arith}
+use Rattle.md_dirs.specs.Path.{path_of}
+use Rattle.md_dirs.specs.State.{State, file_at}
+use Rattle.md_dirs.specs.declared.calls.DirError.{DirError}
+use Rattle.md_dirs.specs.declared.paths.Path.{Path}
+use Rattle.md_dirs.specs.declared.paths.Place.{Place}
+use Rattle.md_log.specs.declared.line.Reply.{Reply}
+use Rattle.md_log.specs.declared.line.Reply.TheVariants as reply
+use Rattle.md_log.specs.declared.line.Call.{Call}
+use Rattle.md_log.specs.declared.line.Call.TheVariants as call
+use Rattle.md_log.specs.declared.line.Step.{Step}
+use Rattle.md_judge.specs.declared.judge.tables.Names.{Names}
+use Rattle.md_judge.specs.Law.{Turn, turn, IsWrongReply, ShowsWrongly, Lacks, IsWrongReading, IsWrongCall, NotADirectory}
+use Rattle.md_judge.specs.Logs.{Log, Numbered}
+use Rattle.md_judge.specs.Open.{Listings, first_in, shows_in, IsOpen, NoneIsOpen, ShowsBefore, AreNumbersOf, RecallsOpen, AreOpen}
+use Rattle.md_judge.specs.Told.{Moment, IsStep, IsPart, IsReading, Shows, at, moment, ask_at, ask_between}
+use Rattle.md_judge.proofs.Prefixes.{same-moment, same-at, step-longer}
+
+module _ (l : Log) (n : Numbered) where
+  abbrev longer : Log
+  longer = record l { steps = l.steps ++ n ∷ [] }
+
+  part-to : (j : ℕ) (actor : List ℕ) (folder : ℕ) (place : Place) (r : Reply) → j < length l.steps → IsPart l j actor folder place r
+      → IsPart longer j actor folder place r
+  part-to j actor folder place r low p = (p.0, p.1, (p.2.0, step-longer l.steps n j low ∙ p.2.1), p.3, p.4)
+
+  part-from : (j : ℕ) (actor : List ℕ) (folder : ℕ) (place : Place) (r : Reply) → j < length l.steps → IsPart longer j actor folder place r
+      → IsPart l j actor folder place r
+  part-from j actor folder place r low p = (p.0, p.1, (p.2.0, sym (step-longer l.steps n j low) ∙ p.2.1), p.3, p.4)
+
+  reading-to : (a i : ℕ) (actor : List ℕ) (folder : ℕ) (place : Place) → i < length l.steps → IsReading l a i actor folder place
+      → IsReading longer a i actor folder place
+  reading-to a i actor folder place low is =
+      let up = is.ordered in
+      record {
+        ordered = is.ordered;
+        starts = (is.starts.0, part-to a actor folder place is.starts.0 (omega (arith, up, low)) is.starts.1);
+        ends = (is.ends.0, part-to i actor folder place is.ends.0 low is.ends.1);
+        goes_on = λ j r from to p. is.goes_on j r from to (part-from j actor folder place r (omega (arith, to, low)) p);
+        begins = λ j r before p.
+            let e = is.begins j r before (part-from j actor folder place r (omega (arith, before, up, low)) p) in
+            let lt = e.3 in
+            (e.0, e.1, e.2, e.3, part-to e.0 actor folder place e.1 (omega (arith, lt, up, low)) e.4, e.5);
+      }
+
+  reading-from : (a i : ℕ) (actor : List ℕ) (folder : ℕ) (place : Place) → i < length l.steps → IsReading longer a i actor folder place
+      → IsReading l a i actor folder place
+  reading-from a i actor folder place low is =
+      let up = is.ordered in
+      record {
+        ordered = is.ordered;
+        starts = (is.starts.0, part-from a actor folder place is.starts.0 (omega (arith, up, low)) is.starts.1);
+        ends = (is.ends.0, part-from i actor folder place is.ends.0 low is.ends.1);
+        goes_on = λ j r from to p. is.goes_on j r from to (part-to j actor folder place r (omega (arith, to, low)) p);
+        begins = λ j r before p.
+            let e = is.begins j r before (part-to j actor folder place r (omega (arith, before, up, low)) p) in
+            let lt = e.3 in
+            (e.0, e.1, e.2, e.3, part-from e.0 actor folder place e.1 (omega (arith, lt, up, low)) e.4, e.5);
+      }
+
+  shows-to : (a i : ℕ) (actor : List ℕ) (folder : ℕ) (place : Place) (name : List ℕ) → i < length l.steps → Shows l a i actor folder place name
+      → Shows longer a i actor folder place name
+  shows-to a i actor folder place name low s =
+      let to = s.5 in
+      (s.0, s.1, s.2, s.3, s.4, s.5, (s.6.0, step-longer l.steps n s.0 (omega (arith, to, low)) ∙ s.6.1), s.7, s.8, s.9)
+
+  shows-from : (a i : ℕ) (actor : List ℕ) (folder : ℕ) (place : Place) (name : List ℕ) → i < length l.steps → Shows longer a i actor folder place name
+      → Shows l a i actor folder place name
+  shows-from a i actor folder place name low s =
+      let to = s.5 in
+      (s.0, s.1, s.2, s.3, s.4, s.5, (s.6.0, sym (step-longer l.steps n s.0 (omega (arith, to, low))) ∙ s.6.1), s.7, s.8, s.9)
+
+  file-same : (p : Path) (j : ℕ) → j ≤ length l.steps → file_at (at longer j) p ≡ file_at (at l j) p
+  file-same p j low = ap (λ (s : State). file_at s p) (same-at l n j low)
+
+  -- ---- what a step breaks
+
+  module _ (i : ℕ) (x : Step) (low : suc i ≤ length l.steps) where
+    wrongly-to : (folder : ℕ) (place : Place) (shown : List (List ℕ)) → ShowsWrongly (turn l i x) folder place shown → ShowsWrongly (turn longer i x) folder place shown
+    wrongly-to folder place shown w =
+        (w.0, w.1, w.2, reading-to w.0 i x.actor folder place low w.3, w.4, λ j from to. file-same (path_of folder place w.1) j (omega (arith, to, low)) ∙ w.5 j from to)
+
+    wrongly-from : (folder : ℕ) (place : Place) (shown : List (List ℕ)) → ShowsWrongly (turn longer i x) folder place shown → ShowsWrongly (turn l i x) folder place shown
+    wrongly-from folder place shown w =
+        (w.0, w.1, w.2, reading-from w.0 i x.actor folder place low w.3, w.4, λ j from to. sym (file-same (path_of folder place w.1) j (omega (arith, to, low))) ∙ w.5 j from to)
+
+    lacks-to : (folder : ℕ) (place : Place) → Lacks (turn l i x) folder place → Lacks (turn longer i x) folder place
+    lacks-to folder place w = (
+      w.0,
+      w.1,
+      reading-to w.0 i x.actor folder place low w.2,
+      λ j from to none. w.3 j from to (sym (file-same (path_of folder place w.1) j (omega (arith, to, low))) ∙ none),
+      λ s. w.4 (shows-from w.0 i x.actor folder place w.1 low s),
+    )
+
+    lacks-from : (folder : ℕ) (place : Place) → Lacks (turn longer i x) folder place → Lacks (turn l i x) folder place
+    lacks-from folder place w = (
+      w.0,
+      w.1,
+      reading-from w.0 i x.actor folder place low w.2,
+      λ j from to none. w.3 j from to (file-same (path_of folder place w.1) j (omega (arith, to, low)) ∙ none),
+      λ s. w.4 (shows-to w.0 i x.actor folder place w.1 low s),
+    )
+
+    read-same : (folder : ℕ) (place : Place) (r : Reply) (shown : List (List ℕ)) → IsWrongReading (turn longer i x) folder place r shown ↔ IsWrongReading (turn l i x) folder place r shown
+    read-same folder place reply.Ok shown = (
+      λ w. elim w [ inl s ↦ inl (wrongly-from folder place shown s) | inr k ↦ inr (lacks-from folder place k) ],
+      λ w. elim w [ inl s ↦ inl (wrongly-to folder place shown s) | inr k ↦ inr (lacks-to folder place k) ],
+    )
+    read-same folder place reply.More shown = (wrongly-from folder place shown, wrongly-to folder place shown)
+    read-same folder place reply.NotFound shown = (λ w. w, λ w. w)
+    read-same folder place reply.Exists shown = (λ w. w, λ w. w)
+    read-same folder place reply.Fault shown = (λ w. w, λ w. w)
+
+    -- whether a reply is wrong goes by the directories before the step, and by the clock
+    old-same : at longer i ≡ at l i
+    old-same = same-at l n i (omega (arith, low))
+
+    now-same : (moment longer (suc i)).now ≡ (moment l (suc i)).now
+    now-same = ap (λ (m : Moment). m.now) (same-moment l n (suc i) low)
+
+    call-same : (c : Call) → IsWrongCall (turn longer i x) c ↔ IsWrongCall (turn l i x) c
+    call-same (call.At d p r) =
+        let refusal = λ (now : ℕ) (s : State). IsWrongReply r ((ask_at d p now).refusal s) in
+        let same : refusal (moment longer (suc i)).now (at longer i) ≡ refusal (moment l (suc i)).now (at l i) = λ k. refusal (now-same k) (old-same k) in
+        (subst (λ A. A) same, subst (λ A. A) (sym same))
+    call-same (call.Between o p q r) =
+        let refusal = λ (s : State). IsWrongReply r ((ask_between o p q).refusal s) in
+        let same : refusal (at longer i) ≡ refusal (at l i) = λ k. refusal (old-same k) in
+        (subst (λ A. A) same, subst (λ A. A) (sym same))
+    call-same (call.List folder place r shown) = read-same folder place r shown
+    call-same (call.Answer a folder unique) = (λ w. w, λ w. w)
+
+    -- a step before it is answered as no directory answers where it was
+    pub wrong-longer : NotADirectory (turn longer i x) ↔ NotADirectory (turn l i x)
+    wrong-longer = call-same x.call
+
+  -- ---- what is kept
+
+  open-to : (a i : ℕ) (actor : List ℕ) (folder : ℕ) (place : Place) → i ≤ length l.steps → IsOpen l a i actor folder place → IsOpen longer a i actor folder place
+  open-to a i actor folder place low is =
+      let up = is.ordered in
+      record {
+        ordered = is.ordered;
+        starts = (is.starts.0, part-to a actor folder place is.starts.0 (omega (arith, up, low)) is.starts.1);
+        goes_on = λ j r from to p. is.goes_on j r from to (part-from j actor folder place r (omega (arith, to, low)) p);
+        begins = λ j r before p.
+            let e = is.begins j r before (part-from j actor folder place r (omega (arith, before, up, low)) p) in
+            let lt = e.3 in
+            (e.0, e.1, e.2, e.3, part-to e.0 actor folder place e.1 (omega (arith, lt, up, low)) e.4, e.5);
+      }
+
+  recalls-to : (line : ℕ → ℕ) (names : Names) (i : ℕ) (actor : List ℕ) (folder : ℕ) (place : Place) (first : Option ℕ) (shown : ℕ → Bool)
+      → i ≤ length l.steps → RecallsOpen line names l i actor folder place first shown → RecallsOpen line names longer i actor folder place first shown
+  recalls-to line names i actor folder place None shown low is = (
+    λ j r before p.
+        let e = is.0 j r before (part-from j actor folder place r (omega (arith, before, low)) p) in
+        let lt = e.3 in
+        (e.0, e.1, e.2, e.3, part-to e.0 actor folder place e.1 (omega (arith, lt, low)) e.4, e.5),
+    is.1,
+  )
+  recalls-to line names i actor folder place (Some first) shown low is = (
+    is.0,
+    is.1,
+    open-to is.0 i actor folder place low is.2,
+    record {
+      has = λ m has. let name = is.3.has m has in let b = name.2 in let lt = b.1 in
+          (name.0, name.1, (b.0, b.1, shows-to is.0 b.0 actor folder place name.0 (omega (arith, lt, low)) b.2));
+      all = λ name b. let lt = b.1 in is.3.all name (b.0, b.1, shows-from is.0 b.0 actor folder place name (omega (arith, lt, low)) b.2);
+    },
+  )
+
+  -- what is kept of readings is kept as a step comes after
+  pub open-longer : (line : ℕ → ℕ) (actors : List (List ℕ)) (names : Names) (i : ℕ) (m : Listings) → i ≤ length l.steps → AreOpen line actors names l i m
+      → AreOpen line actors names longer i m
+  open-longer line actors names i m low is = record {
+    open_at = λ a actor folder place of.
+        recalls-to line names i actor folder place (first_in m a folder place) (shows_in m a folder place) low (is.open_at a actor folder place of);
+    unused = is.unused;
+    numbered = λ j actor folder place r before p. is.numbered j actor folder place r before (part-from j actor folder place r (omega (arith, before, low)) p);
+  }
+
+-- nothing is open at the beginning
+recalls-first : (line line' : ℕ → ℕ) (names : Names) (l l' : Log) (actor : List ℕ) (folder : ℕ) (place : Place) (first : Option ℕ) (shown : ℕ → Bool)
+    → RecallsOpen line names l 0 actor folder place first shown → RecallsOpen line' names l' 0 actor folder place first shown
+recalls-first line line' names l l' actor folder place None shown is = ((λ j r before p. absurd (omega (arith, before))), is.1)
+recalls-first line line' names l l' actor folder place (Some first) shown is = absurd (let lt = is.2.ordered in omega (arith, lt))
+
+pub open-first : (line line' : ℕ → ℕ) (actors : List (List ℕ)) (names : Names) (l l' : Log) (m : Listings) → AreOpen line actors names l 0 m
+    → AreOpen line' actors names l' 0 m
+open-first line line' actors names l l' m is = record {
+  open_at = λ a actor folder place of.
+      recalls-first line line' names l l' actor folder place (first_in m a folder place) (shows_in m a folder place) (is.open_at a actor folder place of);
+  unused = is.unused;
+  numbered = λ j actor folder place r before p. absurd (omega (arith, before));
+}
