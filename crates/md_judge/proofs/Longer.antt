@@ -1,8 +1,7 @@
 -- What a step breaks, and what is kept of readings, is the same of a log with one more step.
-use Rattle.std.proofs.Common.{ℕ, suc, ◌≡◌, ◌≢◌, ◌<◌, ◌≤◌, ◌⊎◌, inl, inr, ◌↔◌, Bool, List, [], ◌++◌, ◌∷◌, Option, Some, None, length, slice_get, refl, sym, ap, subst, ◌∙◌, arith}
+use Rattle.std.proofs.Common.{ℕ, suc, ◌≡◌, ◌<◌, ◌≤◌, inl, inr, ◌↔◌, Bool, List, [], ◌++◌, ◌∷◌, Option, Some, None, length, slice_get, sym, ap, subst, ◌∙◌, arith}
 use Rattle.md_dirs.specs.Path.{path_of}
 use Rattle.md_dirs.specs.State.{State, file_at}
-use Rattle.md_dirs.specs.declared.calls.DirError.{DirError}
 use Rattle.md_dirs.specs.declared.paths.Path.{Path}
 use Rattle.md_dirs.specs.declared.paths.Place.{Place}
 use Rattle.md_log.specs.declared.line.Reply.{Reply}
@@ -11,10 +10,14 @@ use Rattle.md_log.specs.declared.line.Call.{Call}
 use Rattle.md_log.specs.declared.line.Call.TheVariants as call
 use Rattle.md_log.specs.declared.line.Step.{Step}
 use Rattle.md_judge.specs.declared.judge.tables.Names.{Names}
-use Rattle.md_judge.specs.Law.{Turn, turn, IsWrongReply, ShowsWrongly, Lacks, IsWrongReading, IsWrongCall, NotADirectory}
+use Rattle.md_judge.specs.Law.{turn, IsWrongReply, ShowsWrongly, Lacks, IsWrongReading, IsWrongCall, NotADirectory}
 use Rattle.md_judge.specs.Logs.{Log, Numbered}
-use Rattle.md_judge.specs.Open.{Listings, first_in, shows_in, IsOpen, NoneIsOpen, ShowsBefore, AreNumbersOf, RecallsOpen, AreOpen}
-use Rattle.md_judge.specs.Told.{Moment, IsStep, IsPart, IsReading, Shows, at, moment, ask_at, ask_between}
+use Rattle.std.specs.BTreeMap.{get, is_at, IsEmpty}
+use Rattle.std.specs.Map.{lookup}
+use Rattle.md_judge.specs.Listings.{message_cmp}
+use Rattle.md_judge.specs.declared.judge.listing.Listing.{Listing}
+use Rattle.md_judge.specs.Open.{Listings, first_of, shows_of, IsOver, first_in, shows_in, IsOpen, RecallsOpen, AreOpen}
+use Rattle.md_judge.specs.Told.{Moment, IsPart, IsReading, Shows, at, moment, ask_at, ask_between}
 use Rattle.md_judge.proofs.Prefixes.{same-moment, same-at, step-longer}
 
 module _ (l : Log) (n : Numbered) where
@@ -195,3 +198,19 @@ open-first line line' actors names l l' m is = record {
   unused = is.unused;
   numbered = λ j actor folder place r before p. absurd (omega (arith, before));
 }
+
+-- nothing is kept before anything was read
+pub open-none : (line : ℕ → ℕ) (actors : List (List ℕ)) (names : Names) (l : Log) (m : Listings) → actors ≡ [] → IsEmpty m → AreOpen line actors names l 0 m
+open-none line actors names l m none empty =
+    let over : (a folder : ℕ) (place : Place) → IsOver (first_in m a folder place) (shows_in m a folder place) = λ a folder place.
+    let nothing : get message_cmp m (a, folder) ≡ None = ap (lookup (is_at (message_cmp (a, folder)))) empty in
+    record {
+      begins = ap (λ (o : Option Listing). first_of o place) nothing;
+      shows = λ n. ap (λ (o : Option Listing). shows_of o place n) nothing;
+    } in
+    record {
+      open_at = λ a actor folder place of.
+          absurd (let of' : slice_get [] a ≡ Some actor = subst (λ (ws : List (List ℕ)). slice_get ws a ≡ Some actor) none of in cc of');
+      unused = λ a folder place high. over a folder place;
+      numbered = λ j actor folder place r before p. absurd (omega (arith, before));
+    }

@@ -1,5 +1,5 @@
 -- What is kept of readings is what a log tells, step by step.
-use Rattle.std.proofs.Common.{ℕ, zero, suc, ◌≡◌, ◌≢◌, ◌<◌, ◌≤◌, ◌+◌, ◌⊎◌, inl, inr, Bool, true, false, List, [], ◌++◌, ◌∷◌, Option, Some, None, slice_get, length, get_or, refl, sym, ap, subst, ◌∙◌, arith}
+use Rattle.std.proofs.Common.{ℕ, zero, suc, ◌≡◌, ◌≢◌, ◌<◌, ◌≤◌, ◌⊎◌, inl, inr, Bool, true, false, List, [], ◌++◌, ◌∷◌, Option, Some, None, slice_get, length, get_or, refl, sym, ap, subst, ◌∙◌, arith}
 use Rattle.std.specs.Prelude.{if◌then◌else◌}
 use Rattle.std.proofs.lemmas.Bool.{cases_lt, cases_order}
 use Rattle.std.proofs.lemmas.Option.{slice_get_within, slice_get-get_or}
@@ -14,11 +14,11 @@ use Rattle.md_log.specs.declared.line.Step.{Step}
 use Rattle.md_judge.specs.declared.judge.tables.Names.{Names}
 use Rattle.md_log.specs.declared.line.Said.{Said}
 use Rattle.md_judge.specs.Acts.{ReadsNone}
-use Rattle.md_judge.specs.Logs.{Log, Numbered}
+use Rattle.md_judge.specs.Logs.{Log}
 use Rattle.md_judge.specs.Names.{IsNumber, KeepNumbers}
 use Rattle.md_judge.specs.Told.{IsStep, IsPart}
 use Rattle.md_judge.specs.Words.{AreApart}
-use Rattle.md_judge.specs.Open.{Listings, first_in, shows_in, IsOver, KeepsPart, NoneIsOpen, ShowsBefore, AreNumbersOf, AreNames, RecallsOpen, AreOpen}
+use Rattle.md_judge.specs.Open.{Listings, first_in, shows_in, KeepsPart, NoneIsOpen, ShowsBefore, AreNumbersOf, AreNames, RecallsOpen, AreOpen}
 use Rattle.md_judge.proofs.Opening.{one-step, open-stays, more-open, over-open}
 
 -- ---- names and actors get numbers

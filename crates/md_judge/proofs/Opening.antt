@@ -12,9 +12,9 @@ use Rattle.md_log.specs.declared.line.Step.{Step}
 use Rattle.md_judge.specs.Listings.{IsIn}
 use Rattle.md_judge.specs.Logs.{Log, Numbered}
 use Rattle.md_judge.specs.Told.{IsStep, IsPart, IsReading, Shows}
-use Rattle.md_judge.specs.Names.{IsNumber, KeepNumbers}
+use Rattle.md_judge.specs.Names.{IsNumber}
 use Rattle.md_judge.specs.declared.judge.tables.Names.{Names}
-use Rattle.md_judge.specs.Open.{IsOpen, NoneIsOpen, ShowsBefore, AreNumbersOf, AreNames, ShowsMore, IsOver, RecallsOpen, KeepsPart, AreOpen, first_in, shows_in, Listings}
+use Rattle.md_judge.specs.Open.{IsOpen, NoneIsOpen, ShowsBefore, AreNumbersOf, AreNames, ShowsMore, IsOver, RecallsOpen}
 
 -- a number is among the first of these
 abbrev pub AmongFirst : List ℕ → ℕ → ℕ → Type 0

@@ -1,5 +1,5 @@
 -- A part of a reading is one of which what is kept is what the log tells.
-use Rattle.std.proofs.Common.{ℕ, zero, suc, ◌≡◌, ◌≢◌, ◌<◌, ◌≤◌, ◌*◌, ◌^◌, ◌↔◌, ◌⊎◌, inl, inr, Bool, true, List, [], ◌∷◌, map, Option, Some, None, IsSome, slice_get, length, get_or, unwrap_or, refl, sym, ap, subst, ◌∙◌, arith}
+use Rattle.std.proofs.Common.{ℕ, zero, suc, ◌≡◌, ◌<◌, ◌≤◌, ◌^◌, ◌↔◌, inl, inr, Bool, true, List, [], ◌∷◌, map, Option, Some, None, IsSome, slice_get, length, refl, sym, ap, subst, ◌∙◌, arith}
 use Rattle.std.specs.Option.{option_map, option_and_then}
 use Rattle.std.specs.Ordering.{nat_cmp}
 use Rattle.std.specs.BTreeMap.{get, IsOrdered}
@@ -12,12 +12,11 @@ use Rattle.std.proofs.lemmas.Map.Lookups.{exact_unsigned}
 use Rattle.std.proofs.lemmas.Map.Entries.{btree_map_get_place}
 use Rattle.std.proofs.lemmas.Option.{slice_get-get_or}
 use Rattle.md_dirs.specs.Index.{directory_number}
-use Rattle.md_dirs.specs.Path.{path_of, place_index}
+use Rattle.md_dirs.specs.Path.{path_of}
 use Rattle.md_dirs.specs.State.{file_at}
 use Rattle.md_dirs.specs.declared.paths.Place.{Place}
 use Rattle.md_dirs.specs.declared.paths.Path.{Path}
 use Rattle.md_log.specs.declared.line.Reply.{Reply}
-use Rattle.md_log.specs.declared.line.Call.{Call}
 use Rattle.md_log.specs.declared.line.Call.TheVariants as call
 use Rattle.md_log.specs.declared.line.Step.{Step}
 use Rattle.md_judge.specs.declared.judge.directories.Directory.{Directory}
@@ -25,19 +24,18 @@ use Rattle.md_judge.specs.declared.judge.directories.Named as named
 use Rattle.md_judge.specs.declared.judge.known.Known.{Known}
 use Rattle.md_judge.specs.declared.judge.listing.Reading.{Reading}
 use Rattle.md_judge.specs.declared.judge.tables.Names.{Names}
-use Rattle.md_judge.specs.Claims.{IsSince}
-use Rattle.md_judge.specs.Known.{file_in, file_of_name}
+use Rattle.md_judge.specs.Known.{file_of_name}
 use Rattle.md_judge.specs.Listings.{IsIn}
 use Rattle.md_judge.specs.Logs.{Log}
-use Rattle.md_judge.specs.Moments.{since_of, since_in, was_in}
+use Rattle.md_judge.specs.Moments.{since_of, since_in}
 use Rattle.md_judge.specs.Names.{IsNumber}
-use Rattle.md_judge.specs.Open.{AreNames, AreNumbersOf, IsToldPart}
-use Rattle.md_judge.specs.Readings.{was_of, IsHere, RecallsWas, IsNameOf, IsHereSince, IsPartOf}
+use Rattle.md_judge.specs.Open.{AreNumbersOf, IsToldPart}
+use Rattle.md_judge.specs.Readings.{was_of, IsHere, RecallsWas, IsPartOf}
 use Rattle.md_judge.specs.Recalled.{spot_of}
 use Rattle.md_judge.specs.Told.{at, IsReading, Shows}
 use Rattle.md_judge.proofs.Decided.{Either, has-name}
 use Rattle.md_judge.proofs.Following.{index-small}
-use Rattle.md_judge.proofs.Opening.{IsPartKept, part-kept, named-number}
+use Rattle.md_judge.proofs.Opening.{named-number}
 use Rattle.md_judge.proofs.Pathed.{Named, name_by, name-is}
 use Rattle.md_judge.proofs.Unused.{unnumbered}
 

@@ -9,13 +9,14 @@ use Rattle.md_log.specs.declared.line.Call.TheVariants as call
 use Rattle.md_log.specs.declared.line.Reply.{Reply}
 use Rattle.md_log.specs.declared.line.Reply.TheVariants as reply
 use Rattle.md_log.specs.declared.line.Step.{Step}
+use Rattle.md_judge.specs.declared.judge.Judge.{Judge}
 use Rattle.md_judge.specs.declared.judge.known.Known.{Known}
 use Rattle.md_judge.specs.declared.judge.listing.Listing.{Listing}
 use Rattle.md_judge.specs.declared.judge.listing.Reading.{Reading}
 use Rattle.md_judge.specs.declared.judge.tables.Names.{Names}
 use Rattle.md_judge.specs.Listings.{message_cmp, IsIn}
 use Rattle.md_judge.specs.Logs.{Log}
-use Rattle.md_judge.specs.Names.{IsNumber, AreNumbered}
+use Rattle.md_judge.specs.Names.{IsNumber, AreNumbered, KeepNumbers}
 use Rattle.md_judge.specs.Recalled.{IsToldAt}
 use Rattle.md_judge.specs.Told.{at, IsStep, IsPart, Shows}
 
@@ -122,3 +123,9 @@ pub record IsToldPart (line : ℕ → ℕ) (l : Log) (i : ℕ) (x : Step) (folde
   pub here : now ≡ line i
   pub named : AreNames known.names shown numbers
   pub recalls : RecallsOpen line known.names l i x.actor folder place first before
+
+-- What is kept of readings stays, and so do the numbers of actors; numbers stand for the names that they stood for.
+pub record KeepsOpen (old new : Judge) : Type 0 where
+  pub actors : new.actor_names ≡ old.actor_names
+  pub readings : new.listings ≡ old.listings
+  pub names : KeepNumbers old.known.names new.known.names

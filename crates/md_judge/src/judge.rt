@@ -14,7 +14,7 @@ ghost use Rattle.md_judge.specs.Told.{at};
 ghost use Rattle.md_judge.specs.Recalled.{IsToldAt, HasFolders};
 ghost use Rattle.md_judge.specs.Verdict.{IsProved, Remembers};
 ghost use Rattle.md_judge.specs.Names.{AreNumbered, KeepNumbers};
-ghost use Rattle.md_judge.specs.Open.{AreNames, AreOpen};
+ghost use Rattle.md_judge.specs.Open.{AreNames, AreOpen, KeepsOpen};
 
 mod about;
 mod acts;
@@ -72,6 +72,7 @@ impl Judge {
     pub(crate) fn new(alloc: Global) -> Self
         ensures told { (lines : ℕ → ℕ) → Remembers lines empty_log 0 result }
         ensures allowed { (c : Clause) → Has result.allowed c → ⊥ }
+        ensures opens { (lines : ℕ → ℕ) (l : Log) → AreOpen lines result.actor_names result.known.names l 0 result.listings }
     {
         Judge {
             alloc,
@@ -89,6 +90,7 @@ impl Judge {
         ensures told { (lines : ℕ → ℕ) (l l' : Log) → Remembers lines l 0 self.old
             → l'.opening ≡ record l.opening { folders = suc l.opening.folders } → OnOk result (Remembers lines l' 0 self.new) }
         ensures allowed { OnOk result (self.new.allowed ≡ self.old.allowed) }
+        ensures opens { KeepsOpen self.old self.new }
     {
         self.known.directories.add_folder()?;
         self.watch.add_folder()
@@ -99,6 +101,7 @@ impl Judge {
         ensures allowed { (c : Clause) → Has self.new.allowed c ↔ (Has self.old.allowed c ⊎ (c ≡ clause)) }
         ensures known { self.new.known ≡ self.old.known }
         ensures told { (lines : ℕ → ℕ) (l : Log) (i : ℕ) → Remembers lines l i self.old → Remembers lines l i self.new }
+        ensures opens { KeepsOpen self.old self.new }
     {
         self.allowed.add(clause);
     }
@@ -108,6 +111,8 @@ impl Judge {
         ensures known { self.new.known ≡ self.old.known }
         ensures allowed { self.new.allowed ≡ self.old.allowed }
         ensures told { (lines : ℕ → ℕ) (l : Log) (i : ℕ) → Remembers lines l i self.old → Remembers lines l i self.new }
+        ensures opens { KeepsOpen self.old self.new }
+        ensures now { self.new.watch.now ≡ moment }
     {
         self.watch.go_to(moment);
     }
@@ -117,6 +122,7 @@ impl Judge {
         ensures told { (lines : ℕ → ℕ) (l l' : Log) → Remembers lines l 0 self.old → with_file_line l path.now stamp ≡ Ok l' → line < lines 0
             → has_folder l.opening path.now ≡ true → OnOk result (Remembers lines l' 0 self.new) }
         ensures allowed { OnOk result (self.new.allowed ≡ self.old.allowed) }
+        ensures opens { KeepsOpen self.old self.new }
     {
         let (spot, file) = self.known.put_file(line, path, stamp)?;
         self.watch.files.make(mark_of(line), None, stamp)?;
@@ -128,6 +134,7 @@ impl Judge {
         ensures told { (lines : ℕ → ℕ) (l l' : Log) → Remembers lines l 0 self.old → with_also_line l path.now old.now ≡ Ok l' → line < lines 0
             → has_folder l.opening path.now ≡ true → OnOk result (Remembers lines l' 0 self.new) }
         ensures allowed { OnOk result (self.new.allowed ≡ self.old.allowed) }
+        ensures opens { KeepsOpen self.old self.new }
     {
         let (spot, file) = self.known.put_name(line, path, old)?;
         self.watch.put(&self.known, line, spot, file)

@@ -123,6 +123,7 @@ impl Known {
         ensures told { (lines : ℕ → ℕ) (l l' : Log) → IsToldAt lines l 0 self.old → with_file_line l path.now stamp ≡ Ok l' → line < lines 0
             → has_folder l.opening path.now ≡ true → OnOk result (IsToldAt lines l' 0 self.new) }
         ensures agrees { (lines : ℕ → ℕ) (l : Log) → IsToldAt lines l 0 self.old → Agrees result (with_file_line l path.now stamp) }
+        ensures keeps { KeepNumbers self.old.names self.new.names }
         ensures fault { IfErr result (λ e. (e ≡ SamePath) ⊎ (e ≡ NoMemory)) }
     {
         let spot = self.spot(path)?;
@@ -146,6 +147,7 @@ impl Known {
         ensures told { (lines : ℕ → ℕ) (l l' : Log) → IsToldAt lines l 0 self.old → with_also_line l path.now old.now ≡ Ok l' → line < lines 0
             → has_folder l.opening path.now ≡ true → OnOk result (IsToldAt lines l' 0 self.new) }
         ensures agrees { (lines : ℕ → ℕ) (l : Log) → IsToldAt lines l 0 self.old → Agrees result (with_also_line l path.now old.now) }
+        ensures keeps { KeepNumbers self.old.names self.new.names }
         ensures fault { IfErr result (λ e. (e ≡ SamePath) ⊎ (e ≡ NoSuchPath) ⊎ (e ≡ NoMemory)) }
     {
         let spot = self.spot(path)?;

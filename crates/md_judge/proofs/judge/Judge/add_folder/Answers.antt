@@ -9,4 +9,5 @@ returns c = record {
       on-ok c.add_folder-2.result
       (record { told = folder-told lines l l' c.args.self.now.known _ keeps.told refl c.in_ok-add_folder.ensures refl opening });
   allowed = on-ok c.add_folder-2.result refl;
+  opens = record { actors = refl; readings = refl; names = λ name n is. is };
 }

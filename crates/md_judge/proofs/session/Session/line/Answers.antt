@@ -1,6 +1,5 @@
-use Rattle.std.proofs.Common.{suc, ◌≡◌, ◌<◌, ◌≤◌, ◌∷◌, ◌++◌, Ok, length, sym, subst, arith}
+use Rattle.std.proofs.Common.{suc, ◌≡◌, length, sym, subst, arith}
 use Rattle.md_judge.specs.declared.session.Session.{Session}
-use Rattle.md_judge.specs.Logs.{with_text}
 use Rattle.md_judge.specs.Verdict.{HasRead}
 use Rattle.md_judge.proofs.Whole.{takes-line}
 use Rattle.md_judge.proofs.session.Session.line.Goals as goal

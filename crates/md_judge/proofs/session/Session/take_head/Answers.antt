@@ -1,4 +1,4 @@
-use Rattle.std.proofs.Common.{◌≡◌, ◌↔◌, ◌⊎◌, Ok, refl, subst, ◌∙◌}
+use Rattle.std.proofs.Common.{◌≡◌, ◌↔◌, ◌⊎◌, Ok, refl, subst}
 use Rattle.md_log.specs.declared.line.Line.{Line}
 use Rattle.md_log.specs.declared.clause.Clause.{Clause}
 use Rattle.md_judge.specs.declared.judge.clauses.Clauses.{Clauses}
