@@ -219,6 +219,7 @@ impl Judge {
         ensures told { (lines : ℕ → ℕ) (l : Log) (i : ℕ) → Remembers lines l i self.old → OnOk result (Remembers lines l i self.new) }
         ensures found { OnOk result (self.new.watch.found ≡ self.old.watch.found) }
         ensures allowed { OnOk result (self.new.allowed ≡ self.old.allowed) }
+        ensures known { (lines : ℕ → ℕ) (l : Log) (i : ℕ) → IsToldAt lines l i self.old.known → OnOk result (IsToldAt lines l i self.new.known) }
         ensures numbers { IfOk result (λ numbers. AreNames self.new.known.names names.now numbers.items) }
         ensures keeps { KeepNumbers self.old.known.names self.new.known.names }
         ensures numbered { OnOk result (AreNumbered self.new.known.names) }

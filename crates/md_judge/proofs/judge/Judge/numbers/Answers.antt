@@ -10,6 +10,8 @@ loop-name-preserved c = record {
   told = λ lines l i keeps.
       let before = c.loop-name.invariant.told lines l i keeps in
       record { told = grows lines l i c.loop-name.self.known _ before.told c.number.ensures.keeps c.in_ok-number.ensures.numbered refl refl };
+  known = λ lines l i told.
+      grows lines l i c.loop-name.self.known _ (c.loop-name.invariant.known lines l i told) c.number.ensures.keeps c.in_ok-number.ensures.numbered refl refl;
   found = c.loop-name.invariant.found;
   allowed = c.loop-name.invariant.allowed;
   long = ap length c.in_ok-push.ensures.items ∙ length_push c.loop-name.numbers.items c.in_ok-number.number ∙ ap (λ n. n + 1) c.loop-name.invariant.long;

@@ -1,12 +1,14 @@
 use Rattle.std.proofs.Common.{ℕ, ◌≡◌, List, Some, slice_get, length}
 use Rattle.md_judge.specs.Logs.{Log}
 use Rattle.md_judge.specs.Names.{IsNumber, KeepNumbers}
+use Rattle.md_judge.specs.Recalled.{IsToldAt}
 use Rattle.md_judge.specs.Verdict.{Remembers}
 use Rattle.md_judge.proofs.judge.Judge.numbers.Given as goal
 
 abbrev pub invariant-loop-name : goal.invariant-loop-name
 invariant-loop-name l = record {
   told : (lines : ℕ → ℕ) (log : Log) (i : ℕ) → Remembers lines log i l.fn.self → Remembers lines log i l.self;
+  known : (lines : ℕ → ℕ) (log : Log) (i : ℕ) → IsToldAt lines log i l.fn.self.known → IsToldAt lines log i l.self.known;
   found : l.self.watch.found ≡ l.fn.self.watch.found;
   allowed : l.self.allowed ≡ l.fn.self.allowed;
   long : length l.numbers.items ≡ l.name-index;

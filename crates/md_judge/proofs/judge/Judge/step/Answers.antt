@@ -158,7 +158,7 @@ returns-in-List-clause-read c = λ lines l i told is-open is here short there no
     subst (λ (k : Known). IsToldAt lines l i k) (sym still) (clocked lines l i first.known c.step.new.self.clock told) in
     let part : IsToldPart lines l i x folder place c.in-List.reply c.in-List.shown judge.known c.deref.result.now judge.watch.now
     (first_in judge.listings number folder place) (shows_in judge.listings number folder place) = record {
-      told = (c.in_ok-names-in-List.ensures.told lines l i (record { told = told' })).told;
+      told = c.in_ok-names-in-List.ensures.known lines l i told';
       numbered = c.in_ok-names-in-List.ensures.numbered;
       step = (c.args.line, is);
       call = c.in-List.is;
