@@ -103,10 +103,11 @@ module _ (folders : List (List ℕ)) (s : State) (same : s.folders ≡ length fo
   list-housed : (rest : Rest) → IfOk (list_line folders rest) Housed
   unfolding list_line
   list-housed rest =
-      then-so Housed (word_at rest) _ (λ first. then-so Housed (folder_of folders first.0) _ (λ folder. then-so Housed (word_at first.1) _ (λ second.
+      then-so Housed (word_at rest) _ (λ first.
+      so-then IsFolder Housed (folder_of folders first.0) _ (folder-housed first.0) (λ folder low. then-so Housed (word_at first.1) _ (λ second.
       then-so Housed (directory_of second.0) _ (λ place.
       then-so Housed (reply_at second.1) _ (λ answer. then-so Housed (require (may_answer_list answer.0) BadReply) _ (λ _.
-      then-so Housed (names_at answer.1) _ (λ shown. tt)))))))
+      then-so Housed (names_at answer.1) _ (λ shown. low)))))))
 
   about-housed : (answer : Said) (rest : Rest) → IfOk (about_line folders answer rest) Housed
   unfolding about_line

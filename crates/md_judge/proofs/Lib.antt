@@ -41,3 +41,8 @@ pub mod Judged
 pub mod Alike
 pub mod Opened
 pub mod Proved
+pub mod Opening
+pub mod Keeping
+pub mod Reopened
+pub mod Parting
+pub mod ReadLonger

@@ -1,5 +1,5 @@
 -- What is found at a part of a reading, by what is kept of it and of the names of its directory, is what the law has.
-use Rattle.std.proofs.Common.{ℕ, ◌≡◌, ◌≢◌, ◌<◌, ◌≤◌, ◌↔◌, ◌⊎◌, inl, inr, not, List, map, Option, Some, None, IsSome, slice_get, refl, sym, ap, subst, ◌∙◌, arith}
+use Rattle.std.proofs.Common.{ℕ, ◌≡◌, ◌≢◌, ◌<◌, ◌≤◌, ◌^◌, ◌↔◌, ◌⊎◌, inl, inr, not, List, map, Option, Some, None, IsSome, slice_get, refl, sym, ap, subst, ◌∙◌, arith}
 use Rattle.std.proofs.lemmas.Bool.{cases_order, and_parts, and_from, leb-true, le-leb, false≢true, both_ways, not-true, not_from_false, false_from_ne_true}
 use Rattle.std.proofs.lemmas.Option.{slice_get-map}
 use Rattle.std.specs.Bool.{nat_le}
@@ -91,13 +91,12 @@ module _ (line : ℕ → ℕ) (name : ℕ → List ℕ) (begin i folder : ℕ) (
 
   -- ---- a name that is lacked
 
-  lacks : IsSome (lacked d kept first) → Lacks t folder place
-  lacks some =
-      let e = (value (lacked d kept first) some).0 in
-      let found = found_is (is_lacked kept first) d.names.entries e (value (lacked d kept first) some).1 in
+  lacks : (e : ℕ × Named) → lacked d kept first ≡ Some e → e.0 < 2 ^ 64 → Lacks t folder place
+  lacks e some low =
+      let found = found_is (is_lacked kept first) d.names.entries e some in
       let unshown = not (ordered.contains nat_cmp kept.shown e.0) in
       let parts = and_parts (nat_le e.1.since first) unshown found.1 in
-      let all = (always line l begin i x (path e.0) e.1 first (is.since e found.0)).0 (leb-true e.1.since first parts.0) in (
+      let all = (always line l begin i x (path e.0) e.1 first (is.since e found.0 low)).0 (leb-true e.1.since first parts.0) in (
         begin,
         name e.0,
         is.reading,
@@ -116,7 +115,7 @@ module _ (line : ℕ → ℕ) (name : ℕ → List ℕ) (begin i folder : ℕ) (
       (subst (λ (n : List ℕ). (j : ℕ) → wrong.0 ≤ j → j ≤ i → file_at (at l j) (path_of folder place n) ≢ None) same wrong.3) in
       let unshown = subst (λ (b : ℕ). Shows l b i x.actor folder place (name e.0.0) → ⊥) began
       (subst (λ (n : List ℕ). Shows l wrong.0 i x.actor folder place n → ⊥) same wrong.4) in
-      let since = (always line l begin i x (path e.0.0) e.0.1 first (is.since e.0 e.2)).1 all in
+      let since = (always line l begin i x (path e.0.0) e.0.1 first (is.since e.0 e.2 e.3)).1 all in
       let contains = ordered.contains nat_cmp kept.shown e.0.0 in
       is_found (is_lacked kept first) d.names.entries e.2.0 e.0 e.2.1
       (and_from (nat_le e.0.1.since first) (not contains) (le-leb e.0.1.since first since)
@@ -129,29 +128,38 @@ module _ (line : ℕ → ℕ) (name : ℕ → List ℕ) (begin i folder : ℕ) (
   either None (Some e) = (λ h. inr refl, λ h. refl)
   either (Some u) p = (λ h. inl refl, λ h. refl)
 
+  -- a whole reading shows a name wrongly, or lacks one, that is found
+  by-ok : (o : Option ℕ) (p : Option (ℕ × Named)) → shown_wrongly d names first ≡ o → lacked d kept first ≡ p
+      → IsSome (option_or o (option_map (λ (e : ℕ × Named). e.0) p)) → ((u : ℕ) → option_or o (option_map (λ (e : ℕ × Named). e.0) p) ≡ Some u → u < 2 ^ 64)
+      → ShowsWrongly t folder place (map name names) ⊎ Lacks t folder place
+  by-ok None None shown-is lacked-is some few = absurd (false≢true some)
+  by-ok None (Some e) shown-is lacked-is some few = inr (lacks e lacked-is (few e.0 refl))
+  by-ok (Some u) p shown-is lacked-is some few = inl (shows (subst (λ (o : Option ℕ). IsSome o) (sym shown-is) refl))
+
   -- what is found by a reply is what the law has
-  by-reply : (r : Reply) → (IsSome (wrong_name d kept r names first) ⊎ (r ≡ reply.NotFound)) ↔ IsWrongReading t folder place r (map name names)
-  by-reply reply.Ok =
+  by-reply : (r : Reply) → ((u : ℕ) → wrong_name d kept r names first ≡ Some u → u < 2 ^ 64)
+      → (IsSome (wrong_name d kept r names first) ⊎ (r ≡ reply.NotFound)) ↔ IsWrongReading t folder place r (map name names)
+  by-reply reply.Ok few =
       let both = either (shown_wrongly d names first) (lacked d kept first) in (
         λ found. elim found [
-          | inl some ↦ elim (both.0 some) [ inl a ↦ inl (shows a) | inr b ↦ inr (lacks b) ]
+          | inl some ↦ by-ok (shown_wrongly d names first) (lacked d kept first) refl refl some few
           | inr gone ↦ absurd cc
         ],
         λ wrong. inl (both.1 (elim wrong [ inl a ↦ inl (shown a) | inr b ↦ inr (lacking b) ])),
       )
-  by-reply reply.More = (λ found. elim found [ inl some ↦ shows some | inr gone ↦ absurd cc ], λ wrong. inl (shown wrong))
-  by-reply reply.NotFound = (λ found. tt, λ wrong. inr refl)
-  by-reply reply.Exists = (λ found. elim found [ inl some ↦ absurd (false≢true some) | inr gone ↦ absurd cc ], λ wrong. absurd wrong)
-  by-reply reply.Fault = (λ found. elim found [ inl some ↦ absurd (false≢true some) | inr gone ↦ absurd cc ], λ wrong. absurd wrong)
+  by-reply reply.More few = (λ found. elim found [ inl some ↦ shows some | inr gone ↦ absurd cc ], λ wrong. inl (shown wrong))
+  by-reply reply.NotFound few = (λ found. tt, λ wrong. inr refl)
+  by-reply reply.Exists few = (λ found. elim found [ inl some ↦ absurd (false≢true some) | inr gone ↦ absurd cc ], λ wrong. absurd wrong)
+  by-reply reply.Fault few = (λ found. elim found [ inl some ↦ absurd (false≢true some) | inr gone ↦ absurd cc ], λ wrong. absurd wrong)
 
-  part-broken : (k : Clause) → PartFinds d kept r names first k → BrokenByPart t k
-  part-broken clause.NotADirectory found = subst (λ (c : Call). IsWrongCall t c) (sym is.call) ((by-reply r).0 found)
-  part-broken k found = absurd found
+  part-broken : ((u : ℕ) → wrong_name d kept r names first ≡ Some u → u < 2 ^ 64) → (k : Clause) → PartFinds d kept r names first k → BrokenByPart t k
+  part-broken few clause.NotADirectory found = subst (λ (c : Call). IsWrongCall t c) (sym is.call) ((by-reply r few).0 found)
+  part-broken few k found = absurd found
 
-  part-found : (k : Clause) → BrokenByPart t k → PartFinds d kept r names first k
-  part-found clause.NotADirectory broken = (by-reply r).1 (subst (λ (c : Call). IsWrongCall t c) is.call broken)
-  part-found k broken = absurd broken
+  part-found : ((u : ℕ) → wrong_name d kept r names first ≡ Some u → u < 2 ^ 64) → (k : Clause) → BrokenByPart t k → PartFinds d kept r names first k
+  part-found few clause.NotADirectory broken = (by-reply r few).1 (subst (λ (c : Call). IsWrongCall t c) is.call broken)
+  part-found few k broken = absurd broken
 
   -- what is found at a part of a reading is what the law has
-  pub part-lawful : (k : Clause) → PartFinds d kept r names first k ↔ BrokenByPart t k
-  part-lawful k = (part-broken k, part-found k)
+  pub part-lawful : ((u : ℕ) → wrong_name d kept r names first ≡ Some u → u < 2 ^ 64) → (k : Clause) → PartFinds d kept r names first k ↔ BrokenByPart t k
+  part-lawful few k = (part-broken few k, part-found few k)

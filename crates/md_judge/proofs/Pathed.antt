@@ -44,7 +44,7 @@ module _ (names : Names) where
       by (inr other) is = unnumbered names q.name n is
 
   module _ (numbered : AreNumbered names) where
-    name-is : (name : List ℕ) (n : ℕ) → IsNumber names name n → (d : Either (Named n)) → name_by n d ≡ name
+    pub name-is : (name : List ℕ) (n : ℕ) → IsNumber names name n → (d : Either (Named n)) → name_by n d ≡ name
     name-is name n is (inl of) = numbered.apart of.0 name n of.1 is
     name-is name n is (inr none) = absurd (none (name, is))
 

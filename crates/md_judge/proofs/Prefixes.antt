@@ -29,7 +29,7 @@ same-moment l n i low =
     let start : Moment = record { state = l.opening; now = l.clock } in
     ap (fold after_step start) (take-append-le i l.steps (n ∷ []) low)
 
-same-at : (l : Log) (n : Numbered) (i : ℕ) → i ≤ length l.steps → at (pushed l n) i ≡ at l i
+pub same-at : (l : Log) (n : Numbered) (i : ℕ) → i ≤ length l.steps → at (pushed l n) i ≡ at l i
 same-at l n i low = ap (λ (m : Moment). m.state) (same-moment l n i low)
 
 -- ---- what is told

@@ -66,6 +66,10 @@ clocked line l i known now told = record {
   older = told.older;
 }
 
+-- what is the same but for the clock is the same with its own clock
+pub clocked-same : (old : Known) (now : ℕ) (new : Known) → new ≡ record old { clock = now } → new ≡ record old { clock = new.clock }
+clocked-same old now new same = same ∙ ap (λ n. record old { clock = n }) (sym (ap (λ (k : Known). k.clock) same))
+
 -- what holds whatever a call gives holds where it gives a value
 pub on-ok : {A E P : Type 0} (r : Result A E) → P → OnOk r P
 on-ok (Ok x) holds = holds

@@ -13,6 +13,7 @@ pub mod Messages
 pub mod Claims
 pub mod Listings
 pub mod Readings
+pub mod Open
 pub mod Moments
 pub mod Recalled
 pub mod Acts

@@ -1,5 +1,5 @@
 -- What the judge keeps of the names of a directory, for readings, beside what a log tells of them.
-use Rattle.std.specs.Prelude.{ℕ, ◌≡◌, ◌≢◌, ◌↔◌, ◌<◌, ◌≤◌, ◌⊎◌, ◌&&◌, ◌||◌, not, List, map, Option, Some, None, Bool, true, false, IsSome, IsSomeAnd}
+use Rattle.std.specs.Prelude.{ℕ, ◌≡◌, ◌≢◌, ◌↔◌, ◌<◌, ◌≤◌, ◌^◌, ◌⊎◌, ◌&&◌, ◌||◌, not, List, map, Option, Some, None, Bool, true, false, IsSome, IsSomeAnd}
 use Rattle.std.specs.Bool.{nat_le}
 use Rattle.std.specs.List.{find}
 use Rattle.std.specs.Option.{is_some, option_map, option_or}
@@ -100,8 +100,8 @@ pub record IsPartOf (line : ℕ → ℕ) (name : ℕ → List ℕ) (begin i fold
   pub call : x.call ≡ call.List folder place r (map name names)
   pub reading : IsReading l begin i x.actor folder place
   pub named : (u : ℕ) → IsIn names u → IsNameOf line l begin i (path_of folder place (name u)) d u first
-  pub since : (e : ℕ × Named) → IsIn d.names.entries e → IsHereSince line l begin i (path_of folder place (name e.0)) e.1 first
-  pub numbered : (n : List ℕ) → IsHere l (path_of folder place n) i → (e : ℕ × Named) × (name e.0 ≡ n) × IsIn d.names.entries e
+  pub since : (e : ℕ × Named) → IsIn d.names.entries e → e.0 < 2 ^ 64 → IsHereSince line l begin i (path_of folder place (name e.0)) e.1 first
+  pub numbered : (n : List ℕ) → IsHere l (path_of folder place n) i → (e : ℕ × Named) × (name e.0 ≡ n) × IsIn d.names.entries e × (e.0 < 2 ^ 64)
   pub shown : (e : ℕ × Named) → IsIn d.names.entries e
       → (ordered.contains nat_cmp kept.shown e.0 ≡ true) ↔ Shows l begin i x.actor folder place (name e.0)
 

@@ -1,5 +1,5 @@
 -- What is known of directories beside what a log tells of paths, where the numbers of names stand for names.
-use Rattle.std.specs.Prelude.{ℕ, ◌≡◌, ◌≢◌, ◌<◌, ◌≤◌, ◌*◌, ◌^◌, List, Some, None, Result, Ok, Err, IsOk, true, length}
+use Rattle.std.specs.Prelude.{ℕ, ◌≡◌, ◌≢◌, ◌<◌, ◌≤◌, ◌*◌, ◌^◌, List, Some, None, Result, Ok, Err, IsOk, true, nat_lt, length}
 use Rattle.md_dirs.specs.Path.{path_of}
 use Rattle.md_dirs.specs.State.{State, file_at, has_folder}
 use Rattle.md_dirs.specs.declared.paths.Path.{Path}
@@ -49,11 +49,11 @@ pub record IsToldAt (line : ℕ → ℕ) (l : Log) (i : ℕ) (known : Known) : T
   pub files : known.files ≡ length (at l i).files
   pub older : (p : Path) (n : ℕ) → file_at (at l i) p ≡ Some n → n < length (at l i).files
 
--- the folders of a call's paths are there
+-- the folders of a call's paths are there, or that of its directory
 abbrev pub HasFolders : State → Call → Type 0
 HasFolders s (call.At d p r) = has_folder s p ≡ true
 HasFolders s (call.Between n old new r) = (has_folder s old ≡ true) × (has_folder s new ≡ true)
-HasFolders s (call.List folder place r shown) = Unit {0}
+HasFolders s (call.List folder place r shown) = nat_lt folder s.folders ≡ true
 HasFolders s (call.Answer answer folder unique) = Unit {0}
 
 -- What is answered of a line of the beginning is what the log does: it takes the line, or it refuses it by this fault. But memory may be refused.

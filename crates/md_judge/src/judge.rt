@@ -2,7 +2,7 @@
 //!
 //! Moments are numbered by the lines of the log: the step of line 7 goes from moment 7 to moment 8, and what the line 3 says of the
 //! beginning is so from moment 4 on.
-ghost use Rattle.std.specs.Prelude.{◌≡◌, ◌<◌, ℕ, suc, Some, Ok, true, slice_get, OnOk, ◌↔◌, ◌⊎◌, IsTrue};
+ghost use Rattle.std.specs.Prelude.{◌≡◌, ◌<◌, ℕ, suc, Some, Ok, true, slice_get, OnOk, IfOk, ◌↔◌, ◌⊎◌, IsTrue, length};
 ghost use Rattle.md_dirs.specs.State.{has_folder};
 ghost use Rattle.md_judge.specs.Logs.{Log, empty_log, with_file_line, with_also_line};
 ghost use Rattle.md_log.specs.declared.clause.Clause.{Clause};
@@ -13,6 +13,8 @@ ghost use Rattle.md_judge.specs.Law.{turn, Breaks, NotADirectory, Overwritten};
 ghost use Rattle.md_judge.specs.Told.{at};
 ghost use Rattle.md_judge.specs.Recalled.{IsToldAt, HasFolders};
 ghost use Rattle.md_judge.specs.Verdict.{IsProved, Remembers};
+ghost use Rattle.md_judge.specs.Names.{AreNumbered, KeepNumbers};
+ghost use Rattle.md_judge.specs.Open.{AreNames, AreOpen, KeepsOpen};
 
 mod about;
 mod acts;
@@ -45,6 +47,7 @@ mod watch;
 use befores::mark_of;
 use clauses::Clauses;
 use known::{Act, Known, NO_ACT};
+use listing::Listings;
 use md_dirs::{Bytes, Path};
 use md_log::{Call, Clause, LineFault, Step};
 use std::alloc::Global;
@@ -58,6 +61,8 @@ pub(crate) struct Judge {
     actor_names: Table,
     known: Known,
     watch: Watch,
+    /// What actors read of folders.
+    listings: Listings,
     /// What the last step did to paths.
     act: Act,
     allowed: Clauses,
@@ -67,12 +72,14 @@ impl Judge {
     pub(crate) fn new(alloc: Global) -> Self
         ensures told { (lines : ℕ → ℕ) → Remembers lines empty_log 0 result }
         ensures allowed { (c : Clause) → Has result.allowed c → ⊥ }
+        ensures opens { (lines : ℕ → ℕ) (l : Log) → AreOpen lines result.actor_names result.known.names l 0 result.listings }
     {
         Judge {
             alloc,
             actor_names: Table::new(alloc),
             known: Known::new(alloc),
             watch: Watch::new(alloc),
+            listings: Listings::new(alloc),
             act: NO_ACT,
             allowed: Clauses::none(),
         }
@@ -83,6 +90,7 @@ impl Judge {
         ensures told { (lines : ℕ → ℕ) (l l' : Log) → Remembers lines l 0 self.old
             → l'.opening ≡ record l.opening { folders = suc l.opening.folders } → l'.clock ≡ l.clock → OnOk result (Remembers lines l' 0 self.new) }
         ensures allowed { OnOk result (self.new.allowed ≡ self.old.allowed) }
+        ensures opens { KeepsOpen self.old self.new }
     {
         self.known.directories.add_folder()?;
         self.watch.add_folder()
@@ -93,6 +101,7 @@ impl Judge {
         ensures allowed { (c : Clause) → Has self.new.allowed c ↔ (Has self.old.allowed c ⊎ (c ≡ clause)) }
         ensures known { self.new.known ≡ self.old.known }
         ensures told { (lines : ℕ → ℕ) (l : Log) (i : ℕ) → Remembers lines l i self.old → Remembers lines l i self.new }
+        ensures opens { KeepsOpen self.old self.new }
     {
         self.allowed.add(clause);
     }
@@ -102,6 +111,8 @@ impl Judge {
         ensures known { self.new.known ≡ self.old.known }
         ensures allowed { self.new.allowed ≡ self.old.allowed }
         ensures told { (lines : ℕ → ℕ) (l : Log) (i : ℕ) → Remembers lines l i self.old → Remembers lines l i self.new }
+        ensures opens { KeepsOpen self.old self.new }
+        ensures now { self.new.watch.now ≡ moment }
     {
         self.watch.go_to(moment);
     }
@@ -111,6 +122,7 @@ impl Judge {
         ensures told { (lines : ℕ → ℕ) (l l' : Log) → Remembers lines l 0 self.old → with_file_line l path.now stamp ≡ Ok l' → line < lines 0
             → has_folder l.opening path.now ≡ true → OnOk result (Remembers lines l' 0 self.new) }
         ensures allowed { OnOk result (self.new.allowed ≡ self.old.allowed) }
+        ensures opens { KeepsOpen self.old self.new }
     {
         let (spot, file) = self.known.put_file(line, path, stamp)?;
         self.watch.files.make(mark_of(line), None, stamp)?;
@@ -122,6 +134,7 @@ impl Judge {
         ensures told { (lines : ℕ → ℕ) (l l' : Log) → Remembers lines l 0 self.old → with_also_line l path.now old.now ≡ Ok l' → line < lines 0
             → has_folder l.opening path.now ≡ true → OnOk result (Remembers lines l' 0 self.new) }
         ensures allowed { OnOk result (self.new.allowed ≡ self.old.allowed) }
+        ensures opens { KeepsOpen self.old self.new }
     {
         let (spot, file) = self.known.put_name(line, path, old)?;
         self.watch.put(&self.known, line, spot, file)
@@ -143,6 +156,15 @@ impl Judge {
             → slice_get l.steps i ≡ Some (record { number = line; step = step }) → lines i ≡ line → line < 4294967295
             → HasFolders (at l i) step.call → ReadsNone step.call
             → OnOk result (Has self.new.watch.found.broken clause.NotADirectory ↔ NotADirectory (turn l i step)) }
+        ensures opens { (lines : ℕ → ℕ) (l : Log) (i : ℕ)
+            → AreOpen lines self.old.actor_names self.old.known.names l i self.old.listings
+            → slice_get l.steps i ≡ Some (record { number = line; step = step }) → lines i ≡ line → self.old.watch.now ≡ line
+            → OnOk result (AreOpen lines self.new.actor_names self.new.known.names l (suc i) self.new.listings) }
+        ensures read { (lines : ℕ → ℕ) (l : Log) (i : ℕ) → IsToldAt lines l i self.old.known
+            → AreOpen lines self.old.actor_names self.old.known.names l i self.old.listings
+            → slice_get l.steps i ≡ Some (record { number = line; step = step }) → lines i ≡ line → line < 4294967295
+            → HasFolders (at l i) step.call → self.old.watch.now ≡ line → ((a b : ℕ) → a < b → lines a < lines b)
+            → OnOk result (Has self.new.watch.found.broken clause.NotADirectory ↔ NotADirectory (turn l i step)) }
         ensures allowed { OnOk result (self.new.allowed ≡ self.old.allowed) }
     {
         let (actor, _) = self.actor_names.number(step.actor.as_slice())?;
@@ -157,8 +179,15 @@ impl Judge {
                 shown,
             } => {
                 let names = self.numbers(shown.as_slice())?;
-                self.watch
-                    .list(&self.known, actor, *folder, *place, *reply, &names)
+                self.watch.list(
+                    &self.known,
+                    &mut self.listings,
+                    actor,
+                    *folder,
+                    *place,
+                    *reply,
+                    &names,
+                )
             }
             Call::Answer {
                 said,
@@ -166,8 +195,7 @@ impl Judge {
                 unique,
             } => {
                 let unique = self.known.names.unique(unique.as_slice())?;
-                self.watch
-                    .answer(&self.known, actor, *said, (*folder, unique));
+                self.watch.answer(&self.known, &self.listings, actor, *said, (*folder, unique));
                 Ok(())
             }
             call => self.watch.call(&self.known, actor, call, &self.act),
@@ -191,12 +219,18 @@ impl Judge {
         ensures told { (lines : ℕ → ℕ) (l : Log) (i : ℕ) → Remembers lines l i self.old → OnOk result (Remembers lines l i self.new) }
         ensures found { OnOk result (self.new.watch.found ≡ self.old.watch.found) }
         ensures allowed { OnOk result (self.new.allowed ≡ self.old.allowed) }
+        ensures known { (lines : ℕ → ℕ) (l : Log) (i : ℕ) → IsToldAt lines l i self.old.known → OnOk result (IsToldAt lines l i self.new.known) }
+        ensures numbers { IfOk result (λ numbers. AreNames self.new.known.names names.now numbers.items) }
+        ensures keeps { KeepNumbers self.old.known.names self.new.known.names }
+        ensures numbered { OnOk result (AreNumbered self.new.known.names) }
+        ensures rest { (self.new.watch ≡ self.old.watch) × (self.new.listings ≡ self.old.listings) × (self.new.actor_names ≡ self.old.actor_names) }
     {
         let mut numbers = Vec::new(self.alloc);
         for name in names {
             let number = self.known.names.number(name.as_slice())?;
             numbers.push(number)?;
         }
+        self.known.names.are_numbered();
         Ok(numbers)
     }
 }

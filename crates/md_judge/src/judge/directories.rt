@@ -1,6 +1,8 @@
 //! The names that are in directories.
 ghost use Rattle.std.specs.Prelude.{◌≡◌, [], Some, None, IfErr, OnOk, slice_get, unwrap_or};
 ghost use Rattle.std.specs.Option.{option_copied};
+ghost use Rattle.std.specs.Ordering.{nat_cmp};
+ghost use Rattle.std.specs.BTreeMap.{IsOrdered};
 ghost use Rattle.md_dirs.specs.Index.{directory_number};
 ghost use Rattle.md_log.specs.declared.error.LineFault.TheVariants.{NoMemory};
 ghost use Rattle.md_judge.specs.Known.{file_in, Puts, Makes};
@@ -53,6 +55,14 @@ impl Directory {
         ensures { result ≡ was_of self.now name }
     {
         self.was.get(&mixed_name(name)).copied()
+    }
+
+    /// Nothing is done: the names are in order.
+    #[inline(always)]
+    pub(super) fn are_in_order(&self)
+        ensures { IsOrdered nat_cmp self.now.names }
+    {
+        let _ = self.names.len();
     }
 
     /// The line that last made a name be there or go.

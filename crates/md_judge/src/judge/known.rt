@@ -9,7 +9,7 @@ ghost use Rattle.md_judge.specs.Told.{at, ask_at, ask_between, after_ask, after_
 ghost use Rattle.md_log.specs.declared.line.Step.{Step};
 ghost use Rattle.md_log.specs.declared.line.Call.TheVariants as call;
 ghost use Rattle.md_judge.specs.Law.{turn};
-ghost use Rattle.md_judge.specs.Acts.{IsActOf, Does};
+ghost use Rattle.md_judge.specs.Acts.{IsActOf, Does, ReadsNone};
 ghost use Rattle.md_judge.specs.Changes.{IsOlder, Leads};
 ghost use Rattle.md_judge.specs.Files.{unique_in, is_message_in};
 ghost use Rattle.md_judge.specs.Known.{EachSpot, IsBelow, files_after, Stands, Holds, Leaves};
@@ -129,6 +129,7 @@ impl Known {
         ensures puts { (lines : ℕ → ℕ) (l : Log) → IsToldAt lines l 0 self.old
             → IfOk result (λ r. IsSpotOf self.new.names path.now r.0 × (r.1 ≡ length (at l 0).files)) }
         ensures clock { OnOk result (self.new.clock ≡ max self.old.clock stamp) }
+        ensures keeps { KeepNumbers self.old.names self.new.names }
         ensures fault { IfErr result (λ e. (e ≡ SamePath) ⊎ (e ≡ NoMemory)) }
     {
         let spot = self.spot(path)?;
@@ -155,6 +156,7 @@ impl Known {
         ensures puts { (lines : ℕ → ℕ) (l : Log) → IsToldAt lines l 0 self.old
             → IfOk result (λ r. IsSpotOf self.new.names path.now r.0 × (file_at (at l 0) old.now ≡ Some r.1)) }
         ensures clock { OnOk result (self.new.clock ≡ self.old.clock) }
+        ensures keeps { KeepNumbers self.old.names self.new.names }
         ensures fault { IfErr result (λ e. (e ≡ SamePath) ⊎ (e ≡ NoSuchPath) ⊎ (e ≡ NoMemory)) }
     {
         let spot = self.spot(path)?;
@@ -182,6 +184,8 @@ impl Known {
             → HasFolders (at l i) step.now.call → IfOk result (λ act. Does self.new.names (turn l i step.now) act) }
         ensures clock { (l : Log) (i : ℕ) → self.old.clock ≡ (moment l i).now → slice_get l.steps i ≡ Some (record { number = line; step = step.now })
             → self.new.clock ≡ (moment l (suc i)).now }
+        ensures keeps { KeepNumbers self.old.names self.new.names }
+        ensures lists { (ReadsNone step.now.call → ⊥) → self.new ≡ record self.old { clock = self.new.clock } }
     {
         self.clock = self.clock.max(step.moment);
         self.call(line, &step.call)
@@ -198,6 +202,8 @@ impl Known {
             → GoesOn lines l i line (after_call call.now now) → HasFolders (at l i) call.now → x.call ≡ call.now
             → IfOk result (λ act. Does self.new.names (turn l i x) act) }
         ensures clock { self.new.clock ≡ self.old.clock }
+        ensures keeps { KeepNumbers self.old.names self.new.names }
+        ensures lists { (ReadsNone call.now → ⊥) → self.new ≡ self.old }
     {
         match call {
             Call::At { deed, path, reply } => {
@@ -232,6 +238,7 @@ impl Known {
             → IsSpotOf self.old.names p spot → GoesOn lines l i line (after_ask reply (ask_at deed p now)) → has_folder (at l i) p ≡ true
             → x.call ≡ call.At deed p reply → IfOk result (λ act. Does self.new.names (turn l i x) act) }
         ensures clock { self.new.clock ≡ self.old.clock }
+        ensures names { self.new.names ≡ self.old.names }
     {
         let file = self.directories.file_at(spot);
         let before = self.directories.last_change(spot);
@@ -272,6 +279,7 @@ impl Known {
             → has_folder (at l i) p ≡ true → has_folder (at l i) q ≡ true → x.call ≡ call.Between naming p q reply
             → IfOk result (λ act. Does self.new.names (turn l i x) act) }
         ensures clock { self.new.clock ≡ self.old.clock }
+        ensures names { self.new.names ≡ self.old.names }
     {
         let file = self.directories.file_at(old);
         let there = self.directories.file_at(new);

@@ -1,14 +1,17 @@
 //! Readings of directories, and listings.
-ghost use Rattle.std.specs.Prelude.{◌≡◌, ℕ, List, Some, None, OnOk};
+ghost use Rattle.std.specs.Prelude.{◌≡◌, ◌<◌, IfSome, ℕ, List, Some, None, OnOk, IfOk, unwrap_or};
+ghost use Rattle.std.specs.Ordering.{nat_cmp};
+ghost use Rattle.std.specs.BTreeSet as ordered;
 ghost use Rattle.std.specs.Option.{option_copied, option_map};
 ghost use Rattle.md_dirs.specs.declared.paths.Place.{Place};
 ghost use Rattle.md_log.specs.declared.line.Step.{Step};
 ghost use Rattle.md_judge.specs.Logs.{Log};
-ghost use Rattle.md_judge.specs.Law.{turn};
+ghost use Rattle.md_judge.specs.Law.{turn, NotADirectory};
 ghost use Rattle.md_log.specs.declared.clause.Clause.TheVariants as clause;
-ghost use Rattle.md_judge.specs.Found.{Notes, Keeps, KeepsPaths, KeepsFiles};
+ghost use Rattle.md_judge.specs.Found.{Notes, NotesOne, Keeps, KeepsPaths, KeepsFiles};
 ghost use Rattle.md_judge.specs.declared.judge.directories.Named.{Named};
 ghost use Rattle.md_judge.specs.Readings.{shown_wrongly, lacked, wrong_name, PartFinds, IsPartOf, BrokenByPart};
+ghost use Rattle.md_judge.specs.Open.{reading_of, first_in, shows_in, ShowsMore, IsOver, KeepsPart, IsToldPart};
 ghost use Rattle.md_judge.specs.Listings.{lacking, is_lacking, was_at_each, ListFinds, LeavesOut, IsCompleted, BrokenByListing};
 
 use super::directories::Directory;
@@ -22,7 +25,7 @@ use super::watch::Watch;
 use md_dirs::Place;
 use md_log::{Clause, LineFault, Reply};
 use std::alloc::Global;
-use std::collections::BTreeSet;
+use std::collections::{BTreeMap, BTreeSet};
 
 /// A reading of one directory: the moment of its first part, and the names that it showed.
 #[derive(Drop)]
@@ -32,7 +35,9 @@ struct Reading {
 }
 
 impl Reading {
-    fn none(alloc: Global) -> Self {
+    fn none(alloc: Global) -> Self
+        ensures { IsOver result.first (λ n. ordered.contains nat_cmp result.shown n) }
+    {
         Reading {
             first: None,
             shown: BTreeSet::new(alloc),
@@ -40,7 +45,11 @@ impl Reading {
     }
 
     /// A part of the reading shows names at the moment `at`. It gives the moment of the first part.
-    fn show(&mut self, at: usize, names: &[Name]) -> Result<usize, LineFault> {
+    fn show(&mut self, at: usize, names: &[Name]) -> Result<usize, LineFault>
+        ensures first { IfOk result (λ first. first ≡ unwrap_or self.old.first at) }
+        ensures goes { OnOk result (ShowsMore at names.now self.old.first (λ n. ordered.contains nat_cmp self.old.shown n)
+            self.new.first (λ n. ordered.contains nat_cmp self.new.shown n)) }
+    {
         let first = self.first.unwrap_or(at);
         self.first = Some(first);
         for name in names {
@@ -49,6 +58,9 @@ impl Reading {
         Ok(first)
     }
 }
+
+/// What actors read of folders.
+pub(super) type Listings = BTreeMap<(u32, u32), Listing>;
 
 /// What an actor read of a folder.
 #[derive(Drop)]
@@ -67,7 +79,9 @@ pub(super) struct Listing {
 }
 
 impl Listing {
-    fn new(alloc: Global) -> Self {
+    fn new(alloc: Global) -> Self
+        ensures { (p : Place) → IsOver (reading_of result p).first (λ n. ordered.contains nat_cmp (reading_of result p).shown n) }
+    {
         Listing {
             looked: None,
             tmp: Reading::none(alloc),
@@ -82,11 +96,7 @@ impl Listing {
 
     /// The reading of a place, where it goes on.
     pub(super) fn open(&self, alloc: Global, place: Place) -> Result<Option<Open>, LineFault> {
-        let reading = match place {
-            Place::Tmp => &self.tmp,
-            Place::New => &self.new,
-            Place::Cur => &self.cur,
-        };
+        let reading = self.reading(place);
         let Some(first) = reading.first else {
             return Ok(None);
         };
@@ -97,12 +107,43 @@ impl Listing {
         Ok(Some(Open { first, shown }))
     }
 
-    fn reading(&mut self, place: Place) -> &mut Reading {
+    fn reading(&self, place: Place) -> &Reading
+        ensures { result.now ≡ reading_of self.now place }
+    {
         match place {
-            Place::Tmp => &mut self.tmp,
-            Place::New => &mut self.new,
-            Place::Cur => &mut self.cur,
+            Place::Tmp => &self.tmp,
+            Place::New => &self.new,
+            Place::Cur => &self.cur,
         }
+    }
+
+    /// A part of the reading of a place shows names at the moment `at`. It gives the moment of the first part.
+    fn show(&mut self, place: Place, at: usize, names: &[Name]) -> Result<usize, LineFault>
+        ensures first { IfOk result (λ first. first ≡ unwrap_or (reading_of self.entry.now place).first at) }
+        ensures goes { OnOk result (ShowsMore at names.now (reading_of self.entry.now place).first
+            (λ n. ordered.contains nat_cmp (reading_of self.entry.now place).shown n)
+            (reading_of self.exit.now place).first (λ n. ordered.contains nat_cmp (reading_of self.exit.now place).shown n)) }
+        ensures others { (p : Place) → (p ≡ place → ⊥) → reading_of self.exit.now p ≡ reading_of self.entry.now p }
+    {
+        match place {
+            Place::Tmp => self.tmp.show(at, names),
+            Place::New => self.new.show(at, names),
+            Place::Cur => self.cur.show(at, names),
+        }
+    }
+
+    /// Takes the reading of a place, which is over.
+    fn take(&mut self, alloc: Global, place: Place) -> Reading
+        ensures over { IsOver (reading_of self.exit.now place).first (λ n. ordered.contains nat_cmp (reading_of self.exit.now place).shown n) }
+        ensures others { (p : Place) → (p ≡ place → ⊥) → reading_of self.exit.now p ≡ reading_of self.entry.now p }
+    {
+        let mut reading = Reading::none(alloc);
+        match place {
+            Place::Tmp => std::mem::swap(&mut self.tmp, &mut reading),
+            Place::New => std::mem::swap(&mut self.new, &mut reading),
+            Place::Cur => std::mem::swap(&mut self.cur, &mut reading),
+        }
+        reading
     }
 
     /// A reading of new or cur is over.
@@ -112,7 +153,9 @@ impl Listing {
         place: Place,
         span: (usize, usize),
         shown: &BTreeSet<Name>,
-    ) -> Result<(), LineFault> {
+    ) -> Result<(), LineFault>
+        ensures { (p : Place) → reading_of self.exit.now p ≡ reading_of self.entry.now p }
+    {
         for name in shown.iter() {
             if let Some(unique) = names.facts(*name).unique {
                 self.shown.insert(unique)?;
@@ -129,7 +172,9 @@ impl Listing {
     }
 
     /// The next reading begins the next listing.
-    fn clear(&mut self) {
+    fn clear(&mut self)
+        ensures { (p : Place) → reading_of self.exit.now p ≡ reading_of self.entry.now p }
+    {
         self.has_new = false;
         self.has_cur = false;
         self.spans.clear();
@@ -222,7 +267,8 @@ fn wrong_name(
     names: &[Name],
     first: usize,
 ) -> Option<Name>
-    ensures { result ≡ wrong_name directory.now reading.now reply names.now first }
+    ensures finds { result ≡ wrong_name directory.now reading.now reply names.now first }
+    ensures few { IfSome result (λ n. n < 18446744073709551616) }
 {
     match reply {
         Reply::Ok => match shown_wrongly(directory, names, first) {
@@ -236,7 +282,8 @@ fn wrong_name(
 
 /// A name that a part shows, and that was in the directory at no moment since the first part.
 fn shown_wrongly(directory: &Directory, names: &[Name], first: usize) -> Option<Name>
-    ensures { result ≡ shown_wrongly directory.now names.now first }
+    ensures finds { result ≡ shown_wrongly directory.now names.now first }
+    ensures few { IfSome result (λ n. n < 18446744073709551616) }
 {
     names
         .iter()
@@ -246,7 +293,8 @@ fn shown_wrongly(directory: &Directory, names: &[Name], first: usize) -> Option<
 
 /// A name that a whole reading lacks, and that was there since its first part.
 fn lacked(directory: &Directory, reading: &Reading, first: usize) -> Option<Name>
-    ensures { result ≡ option_map (λ (e : ℕ × Named). e.0) (lacked directory.now reading.now first) }
+    ensures finds { result ≡ option_map (λ (e : ℕ × Named). e.0) (lacked directory.now reading.now first) }
+    ensures few { IfSome result (λ n. n < 18446744073709551616) }
 {
     for (name, named) in directory.names.iter() {
         if is_there_since(*named, first) && !reading.shown.contains(name) {
@@ -261,6 +309,7 @@ impl Watch {
     pub(super) fn list(
         &mut self,
         known: &Known,
+        listings: &mut Listings,
         actor: u32,
         folder: u32,
         place: Place,
@@ -270,22 +319,29 @@ impl Watch {
         ensures overwrites { OnOk result (Keeps clause.Overwritten self.old.found self.new.found) }
         ensures others { OnOk result (KeepsFiles self.old.found self.new.found) }
         ensures files { OnOk result (self.new.files ≡ self.old.files) }
+        ensures wrong { (lines : ℕ → ℕ) (l : Log) (i : ℕ) (x : Step) (shown : List (List ℕ))
+            → IsToldPart lines l i x folder place reply shown known.now names.now self.old.now
+            (first_in listings.old actor folder place) (shows_in listings.old actor folder place)
+            → OnOk result (NotesOne clause.NotADirectory (NotADirectory (turn l i x)) self.old.found self.new.found) }
+        ensures part { OnOk result (KeepsPart actor folder place reply names.now self.old.now listings.old listings.new) }
     {
         let key = (actor, folder);
-        let mut listing = match self.listings.remove(&key) {
+        let mut listing = match listings.remove(&key) {
             Some(listing) => listing,
             None => Listing::new(self.alloc),
         };
         listing.looked = Some(self.now);
-        let first = listing.reading(place).show(self.now, names)?;
+        let first = listing.show(place, self.now, names)?;
         if let Some(directory) = known.directories.directory(folder, place) {
+            directory.are_in_order();
             let reading = listing.reading(place);
             check_part(&mut self.found, directory, reading, reply, names, first);
         }
-        if reply != Reply::More {
-            self.end_reading(known, &mut listing, folder, place, reply, first)?;
+        match reply {
+            Reply::More => {}
+            _ => self.end_reading(known, &mut listing, folder, place, reply, first)?,
         }
-        self.listings.insert(key, listing)?;
+        listings.insert(key, listing)?;
         Ok(())
     }
 
@@ -302,9 +358,10 @@ impl Watch {
         ensures paths { OnOk result (KeepsPaths self.old.found self.new.found) }
         ensures others { OnOk result (KeepsFiles self.old.found self.new.found) }
         ensures files { OnOk result (self.new.files ≡ self.old.files) }
+        ensures over { IsOver (reading_of listing.exit.now place).first (λ n. ordered.contains nat_cmp (reading_of listing.exit.now place).shown n) }
+        ensures apart { (p : Place) → (p ≡ place → ⊥) → reading_of listing.exit.now p ≡ reading_of listing.entry.now p }
     {
-        let mut done = Reading::none(self.alloc);
-        std::mem::swap(listing.reading(place), &mut done);
+        let done = listing.take(self.alloc, place);
         if reply != Reply::Ok || place == Place::Tmp {
             return Ok(());
         }

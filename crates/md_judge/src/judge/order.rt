@@ -323,7 +323,7 @@ impl Judge {
         reader: Reader,
         place: md_dirs::Place,
     ) -> Result<Option<Open>, LineFault> {
-        match self.watch.listings.get(&(reader.0, reader.1.0)) {
+        match self.listings.get(&(reader.0, reader.1.0)) {
             None => Ok(None),
             Some(listing) => listing.open(self.alloc, place),
         }

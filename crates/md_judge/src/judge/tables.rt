@@ -310,7 +310,7 @@ impl Names {
 
     /// Nothing is done: numbers are those of names.
     #[inline(always)]
-    fn are_numbered(&self)
+    pub(super) fn are_numbered(&self)
         ensures { AreNumbered self.now }
     {
         self.uniques.are_apart();

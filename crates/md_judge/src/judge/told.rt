@@ -5,6 +5,7 @@ ghost use Rattle.md_judge.specs.Found.{KeepsPaths, KeepsFiles};
 use super::claims::{Claim, check_claim};
 use super::flags::bits_of;
 use super::known::Known;
+use super::listing::Listings;
 use super::mail::{Held, Key};
 use super::watch::Watch;
 use md_dirs::Place;
@@ -12,20 +13,27 @@ use md_log::Said;
 
 impl Watch {
     /// An answer about a message.
-    pub(super) fn answer(&mut self, known: &Known, actor: u32, said: Said, key: Key)
+    pub(super) fn answer(
+        &mut self,
+        known: &Known,
+        listings: &Listings,
+        actor: u32,
+        said: Said,
+        key: Key,
+    )
         ensures paths { KeepsPaths self.old.found self.new.found }
         ensures others { KeepsFiles self.old.found self.new.found }
         ensures files { self.new.files ≡ self.old.files }
     {
-        let claim = self.claim(known, actor, said, key);
+        let claim = self.claim(known, listings, actor, said, key);
         check_claim(&mut self.found, &claim);
         self.actors.told(actor, key);
     }
 
     /// What is kept of an answer.
-    fn claim(&self, known: &Known, actor: u32, said: Said, key: Key) -> Claim {
+    fn claim(&self, known: &Known, listings: &Listings, actor: u32, said: Said, key: Key) -> Claim {
         let about = self.actors.done(actor, key);
-        let looked = match self.listings.get(&(actor, key.0)) {
+        let looked = match listings.get(&(actor, key.0)) {
             None => None,
             Some(listing) => listing.looked,
         };

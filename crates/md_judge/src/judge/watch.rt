@@ -1,4 +1,4 @@
-//! What is kept of files, messages, actors and listings, and the clauses that a step breaks.
+//! What is kept of files, messages and actors, and the clauses that a step breaks.
 ghost use Rattle.std.specs.Prelude.{◌≡◌, [], OnOk};
 ghost use Rattle.md_log.specs.declared.clause.Clause.{Clause};
 ghost use Rattle.md_judge.specs.Files.{named, Changes};
@@ -9,11 +9,9 @@ use super::directories::Spot;
 use super::files::Files;
 use super::found::Found;
 use super::known::Known;
-use super::listing::Listing;
 use super::mail::Mail;
 use md_log::LineFault;
 use std::alloc::Global;
-use std::collections::BTreeMap;
 
 /// What steps did to files and messages so far.
 #[derive(Drop)]
@@ -22,7 +20,6 @@ pub(super) struct Watch {
     pub(super) actors: Actors,
     pub(super) files: Files,
     pub(super) mail: Mail,
-    pub(super) listings: BTreeMap<(u32, u32), Listing>,
     /// The moment at which the step begins that is judged.
     pub(super) now: usize,
     /// What is found at it.
@@ -38,7 +35,6 @@ impl Watch {
             actors: Actors::new(alloc),
             files: Files::new(alloc),
             mail: Mail::new(alloc),
-            listings: BTreeMap::new(alloc),
             now: 0,
             found: Found::nothing(),
         }
@@ -53,7 +49,8 @@ impl Watch {
 
     /// Goes on to the moment of a line.
     pub(super) fn go_to(&mut self, moment: usize)
-        ensures { self.new.files ≡ self.old.files }
+        ensures files { self.new.files ≡ self.old.files }
+        ensures now { self.new.now ≡ moment }
     {
         self.now = moment;
     }
@@ -62,6 +59,7 @@ impl Watch {
     pub(super) fn begin(&mut self, actor: u32) -> Result<(), LineFault>
         ensures nothing { (c : Clause) → Has self.new.found.broken c → ⊥ }
         ensures files { self.new.files ≡ self.old.files }
+        ensures now { self.new.now ≡ self.old.now }
     {
         self.found = Found::nothing();
         self.actors.note_line(actor, self.now)

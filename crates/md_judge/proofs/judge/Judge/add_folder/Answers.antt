@@ -19,4 +19,5 @@ returns c = record {
         clock = keeps.clock ∙ sym same;
       });
   allowed = on-ok c.add_folder-2.result refl;
+  opens = record { actors = refl; readings = refl; names = λ name n is. is };
 }

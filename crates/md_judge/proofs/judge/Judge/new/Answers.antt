@@ -1,6 +1,7 @@
 use Rattle.std.proofs.Common.{length}
 use Rattle.md_judge.specs.Filed.{name_at}
 use Rattle.md_judge.proofs.Opened.{filed-first}
+use Rattle.md_judge.proofs.ReadLonger.{open-none}
 use Rattle.md_judge.proofs.judge.Judge.new.Goals as goal
 
 pub returns-clause-told : goal.returns-clause-told
@@ -9,3 +10,6 @@ returns-clause-told c = λ lines. record {
   filed = filed-first (name_at c.new.result) (length c.new.result) c.new-3.result.files.all.items c.new-3.ensures;
   clock = c.new-2.ensures.clock;
 }
+
+pub returns-clause-opens : goal.returns-clause-opens
+returns-clause-opens c = λ lines l. open-none lines _ _ l _ c.new.ensures c.new-4.ensures.empty

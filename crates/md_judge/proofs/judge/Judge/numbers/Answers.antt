@@ -1,5 +1,8 @@
-use Rattle.std.proofs.Common.{refl}
+use Rattle.std.proofs.Common.{◌+◌, length, refl, ap, subst, ◌∙◌}
+use Rattle.std.proofs.lemmas.List.{length_push}
+use Rattle.md_judge.specs.Names.{IsNumber}
 use Rattle.md_judge.proofs.Growing.{grows}
+use Rattle.md_judge.proofs.Reopened.{numbers-next}
 use Rattle.md_judge.proofs.judge.Judge.numbers.Goals as goal
 
 pub loop-name-preserved : goal.loop-name-preserved
@@ -11,6 +14,17 @@ loop-name-preserved c = record {
         filed = before.filed;
         clock = before.clock;
       };
+  known = λ lines l i told.
+      grows lines l i c.loop-name.self.known _ (c.loop-name.invariant.known lines l i told) c.number.ensures.keeps c.in_ok-number.ensures.numbered refl refl;
   found = c.loop-name.invariant.found;
   allowed = c.loop-name.invariant.allowed;
+  long = ap length c.in_ok-push.ensures.items ∙ length_push c.loop-name.numbers.items c.in_ok-number.number ∙ ap (λ n. n + 1) c.loop-name.invariant.long;
+  each = numbers-next c.loop-name.self.known.names c.number.new.self c.args.names.now c.loop-name.numbers.items c.push.new.self.items
+      c.loop-name.name-index _ c.in_ok-number.number c.loop-name-test.true c.loop-name.invariant.long c.in_ok-push.ensures.items
+      c.number.ensures.keeps
+      (subst (λ w. IsNumber c.number.new.self w c.in_ok-number.number) (c.as_slice.ensures ∙ c.name-item.is) c.in_ok-number.ensures.number) c.loop-name.invariant.each;
+  keeps = λ name n is. c.number.ensures.keeps name n (c.loop-name.invariant.keeps name n is);
+  watch = c.loop-name.invariant.watch;
+  listings = c.loop-name.invariant.listings;
+  actors = c.loop-name.invariant.actors;
 }

@@ -21,4 +21,5 @@ returns c = record {
         clock = c.in_ok-spot.ensures.clock ∙ ap (λ n. max n c.args.stamp) keeps.clock ∙ sym log.2;
       }) c.put.ensures;
   allowed = on-ok c.put.result refl;
+  opens = record { actors = refl; readings = refl; names = c.put_file.ensures.keeps };
 }

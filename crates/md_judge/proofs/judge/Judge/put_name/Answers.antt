@@ -24,4 +24,5 @@ returns c = record {
         clock = c.in_ok-spot.ensures.clock ∙ keeps.clock ∙ sym log.2;
       }) c.put.ensures;
   allowed = on-ok c.put.result refl;
+  opens = record { actors = refl; readings = refl; names = c.put_name.ensures.keeps };
 }

@@ -1,6 +1,7 @@
 use Rattle.md_judge.proofs.Growing.{grows}
 use Rattle.md_judge.proofs.Stepping.{on-ok}
-use Rattle.std.proofs.Common.{suc, ◌≡◌, ◌↔◌, Some, length, refl, sym, ap, subst, ◌∙◌}
+use Rattle.std.proofs.Common.{ℕ, suc, ◌≡◌, ◌↔◌, List, Some, slice_get, length, refl, sym, ap, subst, ◌∙◌}
+use Rattle.std.proofs.lemmas.Bool.{ltb-true}
 use Rattle.md_dirs.specs.declared.paths.Path.{Path}
 use Rattle.md_log.specs.declared.clause.Clause.{Clause}
 use Rattle.md_log.specs.declared.clause.Clause.TheVariants as clause
@@ -10,7 +11,13 @@ use Rattle.md_log.specs.declared.line.Call.TheVariants as call
 use Rattle.md_judge.specs.declared.judge.files.Files.{Files}
 use Rattle.md_judge.specs.Acts.{ReadsNone}
 use Rattle.md_judge.specs.Filed.{AreFiled, IsJudged, BrokenByFiles, name_at}
-use Rattle.md_judge.specs.Found.{Has, KeepsFiles, NotesFiles}
+use Rattle.md_judge.specs.Found.{Has, NotesOne, KeepsFiles, NotesFiles}
+use Rattle.md_judge.specs.Open.{first_in, shows_in, KeepsPart, AreNames, AreOpen, IsToldPart}
+use Rattle.md_judge.specs.Recalled.{IsToldAt, HasFolders}
+use Rattle.md_judge.specs.Words.{AreApart}
+use Rattle.md_judge.specs.declared.judge.found.Found.{Found}
+use Rattle.md_judge.specs.declared.judge.known.Known.{Known}
+use Rattle.md_judge.specs.declared.judge.watch.Watch.{Watch}
 use Rattle.md_judge.specs.Law.{turn, Breaks, IsWrongCall, NotADirectory, Overwritten}
 use Rattle.md_judge.specs.Logs.{Numbered}
 use Rattle.md_judge.specs.Told.{moment, at, after_step, after_call, IsStep}
@@ -19,8 +26,9 @@ use Rattle.md_judge.proofs.Acting.{none-overwritten, found-overwritten, found-wr
 use Rattle.md_judge.proofs.Alike.{acts-by, filed-grows}
 use Rattle.md_judge.proofs.Judged.{still-filed, still-lawful}
 use Rattle.md_judge.proofs.Proved.{kept-proved, noted-proved}
-use Rattle.md_judge.proofs.Sparing.{found-none, ok-then, ok-two}
-use Rattle.md_judge.proofs.Stepping.{at-next}
+use Rattle.md_judge.proofs.Reopened.{IsNoPart, open-before, open-rests, open-next, answer-no-part, reads-none}
+use Rattle.md_judge.proofs.Sparing.{found-none, found-one, ok-then, ok-two}
+use Rattle.md_judge.proofs.Stepping.{at-next, clocked}
 use Rattle.md_judge.proofs.judge.Judge.step.Goals as goal
 
 -- ---- a reading
@@ -201,3 +209,92 @@ returns-clause-wrong c = λ lines l i told is here short there on.
 
 pub returns-clause-allowed : goal.returns-clause-allowed
 returns-clause-allowed c = on-ok c.call.result refl
+
+-- ---- readings that are open
+
+pub returns-in-List-clause-opens : goal.returns-in-List-clause-opens
+returns-in-List-clause-opens c = λ lines l i is-open is here now.
+    let first = c.args.self.now in
+    let judge = c.numbers.new.self in
+    let names = judge.known.names in
+    let number = c.in_ok-actor.actor in
+    let folder = c.in-List.folder in
+    let place = c.in-List.place in
+    let x = c.args.step in
+    let before = open-before lines first.actor_names c.number.new.self judge.actor_names c.in_ok-actor.field-0-1 c.as_slice.result.now
+    first.known.names c.step.new.self.names names l i first.listings judge.listings c.in_ok-actor.ensures.grows c.are_apart.ensures.apart
+    c.step.ensures.keeps c.numbers.ensures.keeps c.numbers.ensures.rest.2 c.numbers.ensures.rest.1 is-open in
+    let named = subst (λ (ws : List (List ℕ)). slice_get ws number ≡ Some x.actor) (sym c.numbers.ensures.rest.2)
+    (c.in_ok-actor.ensures.found ∙ ap Some c.as_slice.ensures) in
+    let apart = subst (λ (ws : List (List ℕ)). AreApart ws) (sym c.numbers.ensures.rest.2) c.are_apart.ensures.apart in
+    let here' : judge.watch.now ≡ lines i = ap (λ (w : Watch). w.now) c.numbers.ensures.rest.0 ∙ c.begin.ensures.now ∙ now ∙ sym here in
+    let are = subst (λ (ns : List ℕ). AreNames names c.in-List.shown ns) (sym c.deref.ensures.value)
+    (subst (λ (ws : List (List ℕ)). AreNames names ws c.in_ok-names-in-List.names.items) c.as_slice-in-List.ensures c.in_ok-names-in-List.ensures.numbers) in
+    ok-then c.list.result (KeepsPart number folder place c.in-List.reply c.deref.result.now judge.watch.now judge.listings c.list.new.listings)
+    (AreOpen lines judge.actor_names names l (suc i) c.list.new.listings)
+    (λ keeps. open-next lines judge.actor_names names l i judge.listings c.list.new.listings before x (c.args.line, is) apart number folder place
+    c.in-List.reply c.in-List.shown c.deref.result.now judge.watch.now named c.in-List.is here' are keeps) c.list.ensures.part
+
+pub returns-in-List-clause-read : goal.returns-in-List-clause-read
+returns-in-List-clause-read c = λ lines l i told is-open is here short there now rises.
+    let first = c.args.self.now in
+    let judge = c.numbers.new.self in
+    let names = judge.known.names in
+    let number = c.in_ok-actor.actor in
+    let folder = c.in-List.folder in
+    let place = c.in-List.place in
+    let x = c.args.step in
+    let wrong = NotADirectory (turn l i x) in
+    let before = open-before lines first.actor_names c.number.new.self judge.actor_names c.in_ok-actor.field-0-1 c.as_slice.result.now
+    first.known.names c.step.new.self.names names l i first.listings judge.listings c.in_ok-actor.ensures.grows c.are_apart.ensures.apart
+    c.step.ensures.keeps c.numbers.ensures.keeps c.numbers.ensures.rest.2 c.numbers.ensures.rest.1 is-open in
+    let named = subst (λ (ws : List (List ℕ)). slice_get ws number ≡ Some x.actor) (sym c.numbers.ensures.rest.2)
+    (c.in_ok-actor.ensures.found ∙ ap Some c.as_slice.ensures) in
+    let still = c.step.ensures.lists (λ on. absurd (subst ReadsNone c.in-List.is on)) in
+    let told' : IsToldAt lines l i c.step.new.self =
+    subst (λ (k : Known). IsToldAt lines l i k) (sym still) (clocked lines l i first.known c.step.new.self.clock told) in
+    let part : IsToldPart lines l i x folder place c.in-List.reply c.in-List.shown judge.known c.deref.result.now judge.watch.now
+    (first_in judge.listings number folder place) (shows_in judge.listings number folder place) = record {
+      told = c.in_ok-names-in-List.ensures.known lines l i told';
+      numbered = c.in_ok-names-in-List.ensures.numbered;
+      step = (c.args.line, is);
+      call = c.in-List.is;
+      there = ltb-true folder (at l i).folders (subst (HasFolders (at l i)) c.in-List.is there);
+      rises = rises;
+      here = ap (λ (w : Watch). w.now) c.numbers.ensures.rest.0 ∙ c.begin.ensures.now ∙ now ∙ sym here;
+      named = subst (λ (ns : List ℕ). AreNames names c.in-List.shown ns) (sym c.deref.ensures.value)
+          (subst (λ (ws : List (List ℕ)). AreNames names ws c.in_ok-names-in-List.names.items) c.as_slice-in-List.ensures c.in_ok-names-in-List.ensures.numbers);
+      recalls = before.open_at number x.actor folder place named;
+    } in
+    ok-then c.list.result (NotesOne clause.NotADirectory wrong judge.watch.found c.list.new.self.found)
+    (Has c.list.new.self.found.broken clause.NotADirectory ↔ wrong)
+    (λ notes. found-one clause.NotADirectory wrong wrong judge.watch.found c.list.new.self.found
+    (subst (λ (f : Found). Has f.broken clause.NotADirectory → ⊥) (sym c.in_ok-names-in-List.ensures.found) (c.begin.ensures.nothing clause.NotADirectory))
+    notes (λ h. h, λ h. h)) (c.list.ensures.wrong lines l i x c.in-List.shown part)
+
+pub returns-in-Answer-clause-opens : goal.returns-in-Answer-clause-opens
+returns-in-Answer-clause-opens c = λ lines l i is-open is here now.
+    let first = c.args.self.now in
+    let before = open-before lines first.actor_names c.number.new.self c.number.new.self c.in_ok-actor.field-0-1 c.as_slice.result.now
+    first.known.names c.step.new.self.names c.unique.new.self l i first.listings first.listings c.in_ok-actor.ensures.grows c.are_apart.ensures.apart
+    c.step.ensures.keeps c.unique.ensures.keeps refl refl is-open in
+    open-rests lines c.number.new.self c.unique.new.self l i first.listings first.listings before c.args.step (c.args.line, is)
+    (subst IsNoPart (sym c.in-Answer.is) (answer-no-part _ _ _))
+
+pub returns-in-Answer-clause-read : goal.returns-in-Answer-clause-read
+returns-in-Answer-clause-read c = λ lines l i told is-open is here short there now rises.
+    returns-in-Answer-clause-wrong c lines l i told is here short there (subst ReadsNone (sym c.in-Answer.is) tt)
+
+pub returns-clause-opens : goal.returns-clause-opens
+returns-clause-opens c = λ lines l i is-open is here now.
+    let first = c.args.self.now in
+    let before = open-before lines first.actor_names c.number.new.self c.number.new.self c.in_ok-actor.field-0-1 c.as_slice.result.now
+    first.known.names c.step.new.self.names c.step.new.self.names l i first.listings first.listings c.in_ok-actor.ensures.grows c.are_apart.ensures.apart
+    c.step.ensures.keeps (λ name n of. of) refl refl is-open in
+    on-ok c.call.result (open-rests lines c.number.new.self c.step.new.self.names l i first.listings first.listings before c.args.step (c.args.line, is)
+    (λ folder place r shown same. c.in_default.not-List folder place r shown same))
+
+pub returns-clause-read : goal.returns-clause-read
+returns-clause-read c = λ lines l i told is-open is here short there now rises.
+    returns-clause-wrong c lines l i told is here short there
+    (reads-none c.args.step.call (λ folder place r shown same. c.in_default.not-List folder place r shown same))

@@ -9,6 +9,8 @@ use Rattle.md_judge.proofs.Acting.{acts-at, acts-between, acts-none, done-none}
 use Rattle.md_judge.proofs.Pathed.{path_by, path-is}
 use Rattle.md_judge.proofs.Stepping.{rests}
 use Rattle.md_judge.proofs.Telling.{known-by}
+use Rattle.md_judge.specs.Names.{IsNumber}
+use Rattle.md_judge.specs.Acts.{ReadsNone}
 use Rattle.md_judge.proofs.judge.known.Known.call.Goals as goal
 
 -- what follows of a value holds of it where there is one
@@ -51,6 +53,8 @@ returns-in_ok-spot-in-At c = record {
       let spot = c.in_ok-spot-in-At.ensures in
       c.at.ensures.done path now lines l i x (spot.told lines l i told) spot.numbered spot.spot goes' there' (is ∙ c.in-At.is);
   clock = c.at.ensures.clock ∙ c.spot.ensures.clock;
+  keeps = λ name n is. subst (λ t. IsNumber t name n) (sym c.at.ensures.names) (c.spot.ensures.keeps name n is);
+  lists = λ reads. absurd (reads (subst ReadsNone (sym c.in-At.is) tt));
 }
 
 pub returns-in_ok-new-in-Between : goal.returns-in_ok-new-in-Between
@@ -107,6 +111,9 @@ returns-in_ok-new-in-Between c = record {
       (record { folder = of.folder; place = of.place; number = second.keeps old.name c.in_ok-old-in-Between.old.name of.number }) second.spot
       goes' there'.0 there'.1 (is ∙ c.in-Between.is);
   clock = c.between.ensures.clock ∙ c.spot-in-Between-2.ensures.clock ∙ c.spot-in-Between.ensures.clock;
+  keeps = λ name n is. subst (λ t. IsNumber t name n) (sym c.between.ensures.names)
+      (c.spot-in-Between-2.ensures.keeps name n (c.spot-in-Between.ensures.keeps name n is));
+  lists = λ reads. absurd (reads (subst ReadsNone (sym c.in-Between.is) tt));
 }
 
 pub returns-in-List : goal.returns-in-List
@@ -134,6 +141,8 @@ returns-in-List c = record {
       ] in
       done-none c.args.self.now.names l i x _ refl same (elim c.in-List.is [ inl of ↦ λ d p r e. let no = of.4 in cc | inr of ↦ λ d p r e. let no = of.3 in cc ]);
   clock = refl;
+  keeps = λ name n is. is;
+  lists = λ reads. refl;
 }
 
 pub returns-in-List-2 : goal.returns-in-List-2
@@ -161,4 +170,6 @@ returns-in-List-2 c = record {
       ] in
       done-none c.args.self.now.names l i x _ refl same (elim c.in-List.is [ inl of ↦ λ d p r e. let no = of.4 in cc | inr of ↦ λ d p r e. let no = of.3 in cc ]);
   clock = refl;
+  keeps = λ name n is. is;
+  lists = λ reads. refl;
 }

@@ -1,7 +1,7 @@
 use Rattle.std.proofs.Common.{ℕ, suc, ◌≡◌, max, refl, sym, ap, ◌∙◌}
 use Rattle.md_judge.specs.Logs.{Numbered}
 use Rattle.md_judge.specs.Told.{Moment, moment, after_step}
-use Rattle.md_judge.proofs.Stepping.{moment-next, at-next, clocked}
+use Rattle.md_judge.proofs.Stepping.{moment-next, at-next, clocked, clocked-same}
 use Rattle.md_judge.proofs.judge.known.Known.step.Goals as goal
 
 pub returns : goal.returns
@@ -23,4 +23,6 @@ returns c = record {
   clock = λ l i was is.
       let x : Numbered = record { number = c.args.line; step = c.args.step.now } in
       c.call.ensures.clock ∙ c.max-self.ensures ∙ ap (λ n. max n c.args.step.now.moment) was ∙ sym (ap (λ (m : Moment). m.now) (moment-next l i x is));
+  keeps = c.call.ensures.keeps;
+  lists = λ reads. clocked-same c.args.self.now _ c.call.new.self (c.call.ensures.lists reads);
 }
