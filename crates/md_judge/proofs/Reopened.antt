@@ -46,7 +46,7 @@ open-grows line actors old new l i m keeps is = record {
 }
 
 -- an element of a list with one more is one of the list, or the last
-one-more : {A : Type 0} (xs : List A) (y : A) (i : ℕ) (x : A) → slice_get (xs ++ y ∷ []) i ≡ Some x
+pub one-more : {A : Type 0} (xs : List A) (y : A) (i : ℕ) (x : A) → slice_get (xs ++ y ∷ []) i ≡ Some x
     → (slice_get xs i ≡ Some x) ⊎ ((i ≡ length xs) × (y ≡ x))
 one-more [] y zero x is = inr (refl, cc is)
 one-more [] y (suc i) x is = absurd (cc is)

@@ -34,6 +34,8 @@ use Rattle.md_judge.specs.Recalled.{HasFolders}
 use Rattle.md_judge.specs.Told.{Moment, at}
 use Rattle.md_judge.specs.Verdict.{IsProved, HasNoTicks, Remembers, IsAmong, AreLinesOf, HasRead, IsHeadOf, IsBroken, AddsFinding, KeepsHead}
 use Rattle.md_judge.proofs.Opened.{filed-opening, filed-longer}
+use Rattle.md_judge.proofs.ReadLonger.{open-first, open-longer}
+use Rattle.md_judge.proofs.Reopened.{one-more}
 use Rattle.md_judge.proofs.Housed.{folders-stay, file-housed, also-housed}
 use Rattle.md_judge.proofs.Prefixes.{same-moment, told-longer, finding-longer, finding-none, opening-told}
 
@@ -58,6 +60,7 @@ remembers-longer lines l n i j low keeps = record {
   told = told-longer lines l n i j.known low keeps.told;
   filed = filed-longer (name_at j.actor_names) (length j.actor_names) l n i j.watch.files.all.items low keeps.filed;
   clock = keeps.clock ∙ ap (λ (m : Moment). m.now) (sym (same-moment l n i low));
+  opens = open-longer l n lines j.actor_names j.known.names i j.listings low keeps.opens;
 }
 
 -- what it keeps of the beginning it keeps of each log that begins so
@@ -67,15 +70,10 @@ remembers-opening lines l l' j same clock keeps = record {
   filed = filed-opening (name_at j.actor_names) (length j.actor_names) l l' j.watch.files.all.items (λ p. ap (λ (s : State). file_at s p) same)
       (ap (λ (s : State). s.files) same) keeps.filed;
   clock = keeps.clock ∙ sym clock;
+  opens = open-first lines lines j.actor_names j.known.names l l' j.listings keeps.opens;
 }
 
 -- ---- findings that are added
-
-one-more : {A : Type 0} (xs : List A) (y : A) (i : ℕ) (x : A) → slice_get (xs ++ y ∷ []) i ≡ Some x → (slice_get xs i ≡ Some x) ⊎ (y ≡ x)
-one-more [] y zero x is = inr (cc is)
-one-more [] y (suc i) x is = absurd (cc is)
-one-more (z ∷ xs) y zero x is = inl is
-one-more (z ∷ xs) y (suc i) x is = one-more xs y i x is
 
 last-is : {A : Type 0} (xs : List A) (y : A) → slice_get (xs ++ y ∷ []) (length xs) ≡ Some y
 last-is [] y = refl
@@ -95,8 +93,8 @@ adds-one c o n before fs gs j broken more m =
       λ now. elim (one-more fs f now.0 now.1 (subst (λ (hs : List Finding). slice_get hs now.0 ≡ Some now.1) more now.2)) [
         | inl was ↦ inl (now.0, now.1, was, now.3, now.4)
         | inr is ↦
-            let same : c ≡ o = ap (λ (g : Finding). g.clause) is ∙ now.4 in
-            inr (ap (λ (g : Finding). g.line) is ∙ now.3, (same, subst (λ x. IsBroken j x) same broken))
+            let same : c ≡ o = ap (λ (g : Finding). g.clause) is.1 ∙ now.4 in
+            inr (ap (λ (g : Finding). g.line) is.1 ∙ now.3, (same, subst (λ x. IsBroken j x) same broken))
       ],
       λ some. subst (λ (hs : List Finding). IsAmong hs m o) (sym more) (elim some [
         | inl was ↦ (was.0, was.1, first-are fs f was.0 was.1 was.2, was.3, was.4)
@@ -179,12 +177,33 @@ begun-after : (xs : List Numbered) (y : Numbered) → nat_lt 0 (length (xs ++ y 
 begun-after xs y = let long = length_push xs y in lt-ltb 0 (length (xs ++ y ∷ [])) (omega (arith, long))
 
 -- the lines of the steps of a log
-abbrev number-by : Option Numbered → ℕ
-number-by None = 0
-number-by (Some x) = x.number
+abbrev number-by : ℕ → Option Numbered → ℕ
+number-by next None = next
+number-by next (Some x) = x.number
 
-abbrev line-at : Log → ℕ → ℕ
-line-at l k = number-by (slice_get l.steps k)
+-- and what lines come next
+abbrev line-at : ℕ → Log → ℕ → ℕ
+line-at number l k = number-by (number + k) (slice_get l.steps k)
+
+-- what comes after a place that is not there is not there
+none-after : {A : Type 0} (xs : List A) (a b : ℕ) (y : A) → a < b → slice_get xs a ≡ None → slice_get xs b ≡ Some y → ⊥
+none-after xs a b y up none is =
+    let low = slice_get_within xs b y is in
+    let some : slice_get xs a ≡ Some (get_or xs a y) = slice_get-get_or xs a y (omega (arith, up, low)) in
+    cc (none, some)
+
+-- lines of steps rise where the steps' own do, and those that come next go on
+lines-rise : (number : ℕ) (l : Log)
+    → ((a b : ℕ) (x y : Numbered) → a < b → slice_get l.steps a ≡ Some x → slice_get l.steps b ≡ Some y → x.number < y.number)
+    → ((k : ℕ) (x : Numbered) → slice_get l.steps k ≡ Some x → x.number < number)
+    → (a b : ℕ) → a < b → line-at number l a < line-at number l b
+lines-rise number l rises below a b up = by (slice_get l.steps a) (slice_get l.steps b) refl refl
+  where
+    by : (o p : Option Numbered) → slice_get l.steps a ≡ o → slice_get l.steps b ≡ p → number-by (number + a) o < number-by (number + b) p
+    by (Some x) (Some y) first last = rises a b x y up first last
+    by (Some x) None first last = let lt = below a x first in omega (arith, lt)
+    by None (Some y) first last = absurd (none-after l.steps a b y up first last)
+    by None None first last = omega (arith, up)
 
 module _ (number : ℕ) (l : Log) (x : Step) (s t : Session) (read : HasRead number l s) where
   abbrev one : Numbered
@@ -193,9 +212,30 @@ module _ (number : ℕ) (l : Log) (x : Step) (s t : Session) (read : HasRead num
   abbrev longer : Log
   longer = record l { steps = l.steps ++ one ∷ [] }
 
-  own-lines : AreLinesOf (suc number) longer (line-at longer)
+  abbrev own : ℕ → ℕ
+  own = line-at (suc number) longer
+
+  below-longer : (k : ℕ) (y : Numbered) → slice_get longer.steps k ≡ Some y → y.number < suc number
+  below-longer k y is = elim (one-more l.steps one k y is) [
+    | inl was ↦ let lt = read.below k y was in omega (arith, lt)
+    | inr last ↦ let same : number ≡ y.number = ap (λ (z : Numbered). z.number) last.1 in omega (arith, same)
+  ]
+
+  rises-longer : (a b : ℕ) (y z : Numbered) → a < b → slice_get longer.steps a ≡ Some y → slice_get longer.steps b ≡ Some z → y.number < z.number
+  rises-longer a b y z up first last = elim (one-more l.steps one b z last) [
+    | inl was' ↦ elim (one-more l.steps one a y first) [
+      | inl was ↦ read.rises a b y z up was was'
+      | inr now ↦ absurd (let end = now.0 in let low = slice_get_within l.steps b z was' in omega (arith, end, low, up))
+    ]
+    | inr now' ↦ elim (one-more l.steps one a y first) [
+      | inl was ↦ let lt = read.below a y was in let same : number ≡ z.number = ap (λ (w : Numbered). w.number) now'.1 in omega (arith, lt, same)
+      | inr now ↦ absurd (let end = now.0 in let end' = now'.0 in omega (arith, end, end', up))
+    ]
+  ]
+
+  own-lines : AreLinesOf (suc number) longer own
   own-lines = record {
-    steps = λ k y is. ap number-by is;
+    steps = λ k y is. ap (number-by (suc number + k)) is;
     opening = λ none. absurd (let none' : length (l.steps ++ one ∷ []) ≡ 0 = ap length none in let long = length_push l.steps one in omega (arith, none', long));
   }
 
@@ -233,7 +273,7 @@ module _ (number : ℕ) (l : Log) (x : Step) (s t : Session) (read : HasRead num
       → ((lines : ℕ → ℕ) (m : Log) (i : ℕ) → Remembers lines m i s.judge → slice_get m.steps i ≡ Some (record { number = number; step = x })
       → lines i ≡ number → number < 4294967295 → HasFolders (at m i) x.call → Remembers lines m (suc i) t.judge)
       → ((lines : ℕ → ℕ) (m : Log) (i : ℕ) → Remembers lines m i s.judge → slice_get m.steps i ≡ Some (record { number = number; step = x })
-      → lines i ≡ number → number < 4294967295 → HasFolders (at m i) x.call
+      → lines i ≡ number → number < 4294967295 → ((a b : ℕ) → a < b → lines a < lines b) → HasFolders (at m i) x.call
       → (c : Clause) → IsProved c → AddsFinding c number (Breaks c (turn m i x) × (Has s.judge.allowed c → ⊥)) s t)
       → number < 4294967295 → HasFolders (at l (length l.steps)) x.call → HasRead (suc number) longer t
   step-read keeps told found short there =
@@ -241,7 +281,8 @@ module _ (number : ℕ) (l : Log) (x : Step) (s t : Session) (read : HasRead num
       let same : at l i ≡ at longer i = sym (ap (λ (m : Moment). m.state) (same-moment l one i (omega arith))) in
       let there' : HasFolders (at longer i) x.call = subst (λ (st : State). HasFolders st x.call) same there in
       let adds : (c : Clause) → IsProved c → AddsFinding c number (Breaks c (turn longer i x) × (Has s.judge.allowed c → ⊥)) s t =
-      found (line-at longer) longer i (told-before (line-at longer) own-lines) (last-is l.steps one) (here (line-at longer) own-lines) short there' in
+      found own longer i (told-before own own-lines) (last-is l.steps one) (here own own-lines) short
+      (lines-rise (suc number) longer rises-longer below-longer) there' in
       let long : suc i ≡ length longer.steps = (let more = length_push l.steps one in omega (arith, more)) in
       record {
         folders = keeps.folders ∙ read.folders;
@@ -249,6 +290,8 @@ module _ (number : ℕ) (l : Log) (x : Step) (s t : Session) (read : HasRead num
         housed = read.housed;
         told = λ lines are. subst (λ k. Remembers lines longer k t.judge) long
             (told lines longer i (told-before lines are) (last-is l.steps one) (here lines are) short there');
+        rises = rises-longer;
+        below = below-longer;
         waits = ap (λ (w : Stretch). w.steps.items) keeps.stretch ∙ read.waits;
         moved = ap (λ (w : Stretch). w.moved.entries) keeps.stretch ∙ read.moved;
         allowed = λ c proved. (
@@ -263,22 +306,22 @@ module _ (number : ℕ) (l : Log) (x : Step) (s t : Session) (read : HasRead num
       → ((lines : ℕ → ℕ) (m : Log) (i : ℕ) → Remembers lines m i now.judge → slice_get m.steps i ≡ Some (record { number = number; step = x })
       → lines i ≡ number → number < 4294967295 → HasFolders (at m i) x.call → OnOk r (Remembers lines m (suc i) t.judge))
       → ((lines : ℕ → ℕ) (m : Log) (i : ℕ) → Remembers lines m i now.judge → slice_get m.steps i ≡ Some (record { number = number; step = x })
-      → lines i ≡ number → number < 4294967295 → HasFolders (at m i) x.call
+      → lines i ≡ number → number < 4294967295 → ((a b : ℕ) → a < b → lines a < lines b) → HasFolders (at m i) x.call
       → OnOk r ((c : Clause) → IsProved c → AddsFinding c number (Breaks c (turn m i x) × (Has now.judge.allowed c → ⊥)) now t))
       → number < 4294967295 → HasFolders (at l (length l.steps)) x.call → OnOk r (HasRead (suc number) longer t)
   step-read-on now same r keeps told found short there = on-ok-by r (HasRead (suc number) longer t) (λ holds.
       step-read (subst (λ (v : Session). KeepsHead v t) same (holds (KeepsHead now t) keeps))
       (λ lines m i was is at-line low in-folder. holds (Remembers lines m (suc i) t.judge)
       (told lines m i (subst (λ (v : Session). Remembers lines m i v.judge) (sym same) was) is at-line low in-folder))
-      (λ lines m i was is at-line low in-folder.
+      (λ lines m i was is at-line low rises in-folder.
       subst (λ (v : Session). (c : Clause) → IsProved c → AddsFinding c number (Breaks c (turn m i x) × (Has v.judge.allowed c → ⊥)) v t) same
       (holds ((c : Clause) → IsProved c → AddsFinding c number (Breaks c (turn m i x) × (Has now.judge.allowed c → ⊥)) now t)
-      (found lines m i (subst (λ (v : Session). Remembers lines m i v.judge) (sym same) was) is at-line low in-folder)))
+      (found lines m i (subst (λ (v : Session). Remembers lines m i v.judge) (sym same) was) is at-line low rises in-folder)))
       short there)
 
 -- ---- one more line of the beginning
 
-no-step : (xs : List Numbered) → xs ≡ [] → (k : ℕ) (y : Numbered) → slice_get xs k ≡ Some y → ⊥
+pub no-step : (xs : List Numbered) → xs ≡ [] → (k : ℕ) (y : Numbered) → slice_get xs k ≡ Some y → ⊥
 no-step xs none k y is = let is' : slice_get [] k ≡ Some y = subst (λ (zs : List Numbered). slice_get zs k ≡ Some y) none is in cc is'
 
 module _ (number : ℕ) (l l' : Log) (s t : Session) (read : HasRead number l s) (none : l.steps ≡ []) (still : l'.steps ≡ []) where
@@ -297,6 +340,8 @@ module _ (number : ℕ) (l l' : Log) (s t : Session) (read : HasRead number l s)
         let was : Remembers lines l 0 s.judge =
         subst (λ (xs : List Numbered). Remembers lines l (length xs) s.judge) none (read.told lines before) in
         subst (λ (xs : List Numbered). Remembers lines l' (length xs) t.judge) (sym still) (told lines (omega (arith, early)) was);
+    rises = λ a b y z up first last. absurd (no-step l'.steps still a y first);
+    below = λ k y is. absurd (no-step l'.steps still k y is);
     waits = ap (λ (w : Stretch). w.steps.items) stretch ∙ read.waits;
     moved = ap (λ (w : Stretch). w.moved.entries) stretch ∙ read.moved;
     allowed = allowed;
@@ -313,6 +358,8 @@ over-read number l s read = record {
   begun = read.begun;
   housed = read.housed;
   told = λ lines are. read.told lines (record { steps = are.steps; opening = λ none. let early = are.opening none in omega (arith, early) });
+  rises = read.rises;
+  below = λ k y is. let lt = read.below k y is in omega (arith, lt);
   waits = read.waits;
   moved = read.moved;
   allowed = read.allowed;

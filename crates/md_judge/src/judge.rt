@@ -144,10 +144,10 @@ impl Judge {
     pub(crate) fn step(&mut self, line: usize, step: Step) -> Result<(), LineFault>
         ensures told { (lines : ℕ → ℕ) (l : Log) (i : ℕ) → Remembers lines l i self.old
             → slice_get l.steps i ≡ Some (record { number = line; step = step }) → lines i ≡ line → line < 4294967295
-            → HasFolders (at l i) step.call → OnOk result (Remembers lines l (suc i) self.new) }
+            → self.old.watch.now ≡ line → HasFolders (at l i) step.call → OnOk result (Remembers lines l (suc i) self.new) }
         ensures broken { (lines : ℕ → ℕ) (l : Log) (i : ℕ) → Remembers lines l i self.old
             → slice_get l.steps i ≡ Some (record { number = line; step = step }) → lines i ≡ line → line < 4294967295
-            → HasFolders (at l i) step.call
+            → self.old.watch.now ≡ line → ((a b : ℕ) → a < b → lines a < lines b) → HasFolders (at l i) step.call
             → OnOk result ((c : Clause) → IsProved c → Has self.new.watch.found.broken c ↔ Breaks c (turn l i step)) }
         ensures overwritten { (lines : ℕ → ℕ) (l : Log) (i : ℕ) → IsToldAt lines l i self.old.known
             → slice_get l.steps i ≡ Some (record { number = line; step = step }) → lines i ≡ line → line < 4294967295
@@ -223,6 +223,7 @@ impl Judge {
         ensures numbers { IfOk result (λ numbers. AreNames self.new.known.names names.now numbers.items) }
         ensures keeps { KeepNumbers self.old.known.names self.new.known.names }
         ensures numbered { OnOk result (AreNumbered self.new.known.names) }
+        ensures clock { OnOk result (self.new.known.clock ≡ self.old.known.clock) }
         ensures rest { (self.new.watch ≡ self.old.watch) × (self.new.listings ≡ self.old.listings) × (self.new.actor_names ≡ self.old.actor_names) }
     {
         let mut numbers = Vec::new(self.alloc);

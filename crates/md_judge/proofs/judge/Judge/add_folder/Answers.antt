@@ -4,6 +4,7 @@ use Rattle.md_judge.specs.declared.judge.files.Files.{Files}
 use Rattle.md_judge.specs.Filed.{AreFiled, name_at}
 use Rattle.md_judge.proofs.Beginning.{folder-told}
 use Rattle.md_judge.proofs.Opened.{filed-opening}
+use Rattle.md_judge.proofs.ReadLonger.{open-first}
 use Rattle.md_judge.proofs.Stepping.{on-ok}
 use Rattle.md_judge.proofs.judge.Judge.add_folder.Goals as goal
 
@@ -17,6 +18,7 @@ returns c = record {
             (filed-opening (name_at names) (length names) l l' c.args.self.now.watch.files.all.items (λ p. ap (λ (s : State). file_at s p) opening)
             (ap (λ (s : State). s.files) opening) keeps.filed);
         clock = keeps.clock ∙ sym same;
+        opens = open-first lines lines names c.args.self.now.known.names l l' c.args.self.now.listings keeps.opens;
       });
   allowed = on-ok c.add_folder-2.result refl;
   opens = record { actors = refl; readings = refl; names = λ name n is. is };

@@ -15,6 +15,7 @@ invariant-loop-name l = record {
   each : (k : ℕ) (name : List ℕ) (n : ℕ) → slice_get l.names k ≡ Some name → slice_get l.numbers.items k ≡ Some n
       → IsNumber l.self.known.names name n;
   keeps : KeepNumbers l.fn.self.known.names l.self.known.names;
+  clock : l.self.known.clock ≡ l.fn.self.known.clock;
   watch : l.self.watch ≡ l.fn.self.watch;
   listings : l.self.listings ≡ l.fn.self.listings;
   actors : l.self.actor_names ≡ l.fn.self.actor_names;

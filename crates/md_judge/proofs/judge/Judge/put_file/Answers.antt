@@ -2,6 +2,8 @@ use Rattle.std.proofs.Common.{max, length, refl, sym, ap, ◌∙◌}
 use Rattle.md_judge.specs.Filed.{name_at}
 use Rattle.md_judge.specs.Files.{named, Changes}
 use Rattle.md_judge.proofs.Opened.{filed-file, file-log}
+use Rattle.md_judge.proofs.ReadLonger.{open-first}
+use Rattle.md_judge.proofs.Reopened.{open-grows}
 use Rattle.md_judge.proofs.Sparing.{ok-then}
 use Rattle.md_judge.proofs.Stepping.{on-ok}
 use Rattle.md_judge.proofs.judge.Judge.put_file.Goals as goal
@@ -19,6 +21,8 @@ returns c = record {
             c.args.self.now.watch.files.all.items c.put.new.self.files.all.items keeps.filed c.args.stamp log.0 puts.1 log.1 c.make.new.self.all.items
             c.in_ok-make.ensures changes;
         clock = c.in_ok-spot.ensures.clock ∙ ap (λ n. max n c.args.stamp) keeps.clock ∙ sym log.2;
+        opens = open-first lines lines names c.put_file.new.self.names l l' c.args.self.now.listings
+            (open-grows lines names c.args.self.now.known.names c.put_file.new.self.names l 0 c.args.self.now.listings c.put_file.ensures.keeps keeps.opens);
       }) c.put.ensures;
   allowed = on-ok c.put.result refl;
   opens = record { actors = refl; readings = refl; names = c.put_file.ensures.keeps };

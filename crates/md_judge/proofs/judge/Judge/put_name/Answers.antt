@@ -3,6 +3,8 @@ use Rattle.md_dirs.specs.Calls.{with_path}
 use Rattle.md_judge.specs.Filed.{name_at}
 use Rattle.md_judge.specs.Files.{named, Changes}
 use Rattle.md_judge.proofs.Opened.{filed-name, also-log}
+use Rattle.md_judge.proofs.ReadLonger.{open-first}
+use Rattle.md_judge.proofs.Reopened.{open-grows}
 use Rattle.md_judge.proofs.Sparing.{ok-then}
 use Rattle.md_judge.proofs.Stepping.{on-ok}
 use Rattle.md_judge.proofs.judge.Judge.put_name.Goals as goal
@@ -22,6 +24,8 @@ returns c = record {
             c.args.self.now.watch.files.all.items c.put.new.self.files.all.items keeps.filed log.0 c.args.old.now puts.1
             (log.1 ∙ ap (with_path p l.opening) puts.1) changes;
         clock = c.in_ok-spot.ensures.clock ∙ keeps.clock ∙ sym log.2;
+        opens = open-first lines lines names c.put_name.new.self.names l l' c.args.self.now.listings
+            (open-grows lines names c.args.self.now.known.names c.put_name.new.self.names l 0 c.args.self.now.listings c.put_name.ensures.keeps keeps.opens);
       }) c.put.ensures;
   allowed = on-ok c.put.result refl;
   opens = record { actors = refl; readings = refl; names = c.put_name.ensures.keeps };

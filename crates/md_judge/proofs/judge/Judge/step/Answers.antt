@@ -33,33 +33,6 @@ use Rattle.md_judge.proofs.judge.Judge.step.Goals as goal
 
 -- ---- a reading
 
-pub returns-in-List-clause-told : goal.returns-in-List-clause-told
-returns-in-List-clause-told c = λ lines l i keeps is here short there.
-    let x = c.args.step in
-    let step-is : IsStep l i x = (c.args.line, is) in
-    let names = c.number.new.self in
-    let actor = c.in_ok-actor.actor in
-    let who = name_at names in
-    let acts = acts-by names actor x c.are_apart.ensures.apart (c.in_ok-actor.ensures.found ∙ ap Some c.as_slice.ensures) in
-    let are = filed-grows c.args.self.now.actor_names names c.as_slice.result.now c.in_ok-actor.field-0-1 c.in_ok-actor.ensures.grows l i
-    c.args.self.now.watch.files.all.items keeps.filed in
-    let y : Numbered = record { number = c.args.line; step = x } in
-    let still : at l (suc i) ≡ at l i = at-next l i y is ∙ ap (λ v. after_call v (after_step (moment l i) y).now (at l i)) c.in-List.is in
-    let apart : (d : Deed) (p : Path) (r : Reply) → x.call ≡ call.At d p r → ⊥ = λ d p r e. let no = c.in-List.is in cc in
-    let after = c.in_ok-names-in-List.ensures.told lines l (suc i) (record {
-      told = c.in_ok-self.ensures.told lines l i keeps.told is here short there;
-      filed = subst (λ (f : Files). AreFiled who (length names) l (suc i) f.all.items) (sym c.begin.ensures.files)
-          (still-filed who (length names) l i x step-is actor acts c.args.self.now.watch.files.all.items are c.step.new.self.names still apart);
-      clock = c.step.ensures.clock l i keeps.clock is;
-    }) in
-    ok-then c.list.result (c.list.new.self.files ≡ c.numbers.new.self.watch.files) _
-    (λ same. record {
-      told = after.told;
-      filed = subst (λ (f : Files). AreFiled (name_at c.numbers.new.self.actor_names) (length c.numbers.new.self.actor_names) l (suc i) f.all.items)
-          (sym same) after.filed;
-      clock = after.clock;
-    }) c.list.ensures.files
-
 pub returns-in-List-clause-overwritten : goal.returns-in-List-clause-overwritten
 returns-in-List-clause-overwritten c = λ lines l i told is here short there.
     let x : Numbered = record { number = c.args.line; step = c.args.step } in
@@ -67,27 +40,6 @@ returns-in-List-clause-overwritten c = λ lines l i told is here short there.
     at-next l i x is ∙ ap (λ v. after_call v (after_step (moment l i) x).now (at l i)) c.in-List.is in
     found-still c.list.result (turn l i c.args.step) c.begin.new.self.found c.numbers.new.self.watch.found c.list.new.self.found c.begin.ensures.nothing
     c.in_ok-names-in-List.ensures.found (none-overwritten (at l i) (at l (suc i)) still) c.list.ensures.overwrites
-
-pub returns-in-List-clause-broken : goal.returns-in-List-clause-broken
-returns-in-List-clause-broken c = λ lines l i keeps is here short there.
-    let x = c.args.step in
-    let step-is : IsStep l i x = (c.args.line, is) in
-    let names = c.number.new.self in
-    let actor = c.in_ok-actor.actor in
-    let who = name_at names in
-    let acts = acts-by names actor x c.are_apart.ensures.apart (c.in_ok-actor.ensures.found ∙ ap Some c.as_slice.ensures) in
-    let are = filed-grows c.args.self.now.actor_names names c.as_slice.result.now c.in_ok-actor.field-0-1 c.in_ok-actor.ensures.grows l i
-    c.args.self.now.watch.files.all.items keeps.filed in
-    let y : Numbered = record { number = c.args.line; step = x } in
-    let still : at l (suc i) ≡ at l i = at-next l i y is ∙ ap (λ v. after_call v (after_step (moment l i) y).now (at l i)) c.in-List.is in
-    let apart : (d : Deed) (p : Path) (r : Reply) → x.call ≡ call.At d p r → ⊥ = λ d p r e. let no = c.in-List.is in cc in
-    let t = turn l i x in
-    let shown = c.numbers.new.self.watch.found in
-    let new = c.list.new.self.found in
-    ok-two c.list.result (Has new.broken clause.Overwritten ↔ Overwritten t) (KeepsFiles shown new) ((k : Clause) → IsProved k → Has new.broken k ↔ Breaks k t)
-    (λ overwritten kept. kept-proved t c.begin.new.self.found shown new c.begin.ensures.nothing c.in_ok-names-in-List.ensures.found overwritten kept
-    (still-lawful who (length names) l i x step-is actor acts c.args.self.now.watch.files.all.items are c.step.new.self.names still apart))
-    (returns-in-List-clause-overwritten c lines l i keeps.told is here short there) c.list.ensures.others
 
 pub returns-in-List-clause-wrong : goal.returns-in-List-clause-wrong
 returns-in-List-clause-wrong c = λ lines l i told is here short there on. absurd (subst ReadsNone c.in-List.is on)
@@ -97,27 +49,6 @@ returns-in-List-clause-allowed c = on-ok c.list.result c.in_ok-names-in-List.ens
 
 -- ---- an answer
 
-pub returns-in-Answer-clause-told : goal.returns-in-Answer-clause-told
-returns-in-Answer-clause-told c = λ lines l i keeps is here short there.
-    let x = c.args.step in
-    let step-is : IsStep l i x = (c.args.line, is) in
-    let names = c.number.new.self in
-    let actor = c.in_ok-actor.actor in
-    let who = name_at names in
-    let acts = acts-by names actor x c.are_apart.ensures.apart (c.in_ok-actor.ensures.found ∙ ap Some c.as_slice.ensures) in
-    let are = filed-grows c.args.self.now.actor_names names c.as_slice.result.now c.in_ok-actor.field-0-1 c.in_ok-actor.ensures.grows l i
-    c.args.self.now.watch.files.all.items keeps.filed in
-    let y : Numbered = record { number = c.args.line; step = x } in
-    let still : at l (suc i) ≡ at l i = at-next l i y is ∙ ap (λ v. after_call v (after_step (moment l i) y).now (at l i)) c.in-Answer.is in
-    let apart : (d : Deed) (p : Path) (r : Reply) → x.call ≡ call.At d p r → ⊥ = λ d p r e. let no = c.in-Answer.is in cc in
-    record {
-      told = grows lines l (suc i) c.step.new.self _ (c.in_ok-self.ensures.told lines l i keeps.told is here short there)
-          c.unique.ensures.keeps c.in_ok-unique-in-Answer.ensures.numbered refl refl;
-      filed = subst (λ (f : Files). AreFiled who (length names) l (suc i) f.all.items) (sym (c.answer.ensures.files ∙ c.begin.ensures.files))
-          (still-filed who (length names) l i x step-is actor acts c.args.self.now.watch.files.all.items are c.step.new.self.names still apart);
-      clock = c.step.ensures.clock l i keeps.clock is;
-    }
-
 pub returns-in-Answer-clause-overwritten : goal.returns-in-Answer-clause-overwritten
 returns-in-Answer-clause-overwritten c = λ lines l i told is here short there.
     let x : Numbered = record { number = c.args.line; step = c.args.step } in
@@ -125,24 +56,6 @@ returns-in-Answer-clause-overwritten c = λ lines l i told is here short there.
     at-next l i x is ∙ ap (λ v. after_call v (after_step (moment l i) x).now (at l i)) c.in-Answer.is in
     found-none clause.Overwritten (Overwritten (turn l i c.args.step)) c.begin.new.self.found c.answer.new.self.found
     (c.begin.ensures.nothing clause.Overwritten) c.answer.ensures.paths.overwrites (none-overwritten (at l i) (at l (suc i)) still)
-
-pub returns-in-Answer-clause-broken : goal.returns-in-Answer-clause-broken
-returns-in-Answer-clause-broken c = λ lines l i keeps is here short there.
-    let x = c.args.step in
-    let step-is : IsStep l i x = (c.args.line, is) in
-    let names = c.number.new.self in
-    let actor = c.in_ok-actor.actor in
-    let who = name_at names in
-    let acts = acts-by names actor x c.are_apart.ensures.apart (c.in_ok-actor.ensures.found ∙ ap Some c.as_slice.ensures) in
-    let are = filed-grows c.args.self.now.actor_names names c.as_slice.result.now c.in_ok-actor.field-0-1 c.in_ok-actor.ensures.grows l i
-    c.args.self.now.watch.files.all.items keeps.filed in
-    let y : Numbered = record { number = c.args.line; step = x } in
-    let still : at l (suc i) ≡ at l i = at-next l i y is ∙ ap (λ v. after_call v (after_step (moment l i) y).now (at l i)) c.in-Answer.is in
-    let apart : (d : Deed) (p : Path) (r : Reply) → x.call ≡ call.At d p r → ⊥ = λ d p r e. let no = c.in-Answer.is in cc in
-    let found = c.begin.new.self.found in
-    kept-proved (turn l i x) found found c.answer.new.self.found c.begin.ensures.nothing refl
-    (returns-in-Answer-clause-overwritten c lines l i keeps.told is here short there) c.answer.ensures.others
-    (still-lawful who (length names) l i x step-is actor acts c.args.self.now.watch.files.all.items are c.step.new.self.names still apart)
 
 pub returns-in-Answer-clause-wrong : goal.returns-in-Answer-clause-wrong
 returns-in-Answer-clause-wrong c = λ lines l i told is here short there on.
@@ -154,53 +67,10 @@ returns-in-Answer-clause-allowed c = refl
 
 -- ---- a call on paths
 
-pub returns-clause-told : goal.returns-clause-told
-returns-clause-told c = λ lines l i keeps is here short there.
-    let x = c.args.step in
-    let step-is : IsStep l i x = (c.args.line, is) in
-    let names = c.number.new.self in
-    let actor = c.in_ok-actor.actor in
-    let who = name_at names in
-    let acts = acts-by names actor x c.are_apart.ensures.apart (c.in_ok-actor.ensures.found ∙ ap Some c.as_slice.ensures) in
-    let are = filed-grows c.args.self.now.actor_names names c.as_slice.result.now c.in_ok-actor.field-0-1 c.in_ok-actor.ensures.grows l i
-    c.args.self.now.watch.files.all.items keeps.filed in
-    let files = c.begin.new.self.files in
-    let kept = subst (λ (f : Files). AreFiled who (length names) l i f.all.items) (sym c.begin.ensures.files) are in
-    let done = c.in_ok-self.ensures.done lines l i keeps.told is here short there in
-    let clock = c.step.ensures.clock l i keeps.clock is in
-    let judged : IsJudged done.0 who (length names) l i x actor x.call c.step.new.self c.in_ok-self.field-0 =
-    record { step = step-is; call = refl; acts = acts; clock = clock; done = done.1 } in
-    ok-then c.call.result (AreFiled who (length names) l (suc i) c.call.new.self.files.all.items) _
-    (λ filed. record { told = c.in_ok-self.ensures.told lines l i keeps.told is here short there; filed = filed; clock = clock })
-    (c.call.ensures.filed done.0 who (length names) i l x kept judged)
-
 pub returns-clause-overwritten : goal.returns-clause-overwritten
 returns-clause-overwritten c = λ lines l i told is here short there.
     found-overwritten c.call.result (turn l i c.args.step) _ (c.in_ok-self.ensures.acts lines l i told is here short there)
     c.begin.new.self.found c.call.new.self.found c.begin.ensures.nothing c.call.ensures.overwrites
-
-pub returns-clause-broken : goal.returns-clause-broken
-returns-clause-broken c = λ lines l i keeps is here short there.
-    let x = c.args.step in
-    let step-is : IsStep l i x = (c.args.line, is) in
-    let names = c.number.new.self in
-    let actor = c.in_ok-actor.actor in
-    let who = name_at names in
-    let acts = acts-by names actor x c.are_apart.ensures.apart (c.in_ok-actor.ensures.found ∙ ap Some c.as_slice.ensures) in
-    let are = filed-grows c.args.self.now.actor_names names c.as_slice.result.now c.in_ok-actor.field-0-1 c.in_ok-actor.ensures.grows l i
-    c.args.self.now.watch.files.all.items keeps.filed in
-    let files = c.begin.new.self.files in
-    let kept = subst (λ (f : Files). AreFiled who (length names) l i f.all.items) (sym c.begin.ensures.files) are in
-    let done = c.in_ok-self.ensures.done lines l i keeps.told is here short there in
-    let clock = c.step.ensures.clock l i keeps.clock is in
-    let judged : IsJudged done.0 who (length names) l i x actor x.call c.step.new.self c.in_ok-self.field-0 =
-    record { step = step-is; call = refl; acts = acts; clock = clock; done = done.1 } in
-    let t = turn l i x in
-    let begun = c.begin.new.self.found in
-    let new = c.call.new.self.found in
-    ok-two c.call.result (Has new.broken clause.Overwritten ↔ Overwritten t) (NotesFiles (BrokenByFiles t) begun new)
-    ((k : Clause) → IsProved k → Has new.broken k ↔ Breaks k t) (noted-proved t begun begun new c.begin.ensures.nothing refl)
-    (returns-clause-overwritten c lines l i keeps.told is here short there) (c.call.ensures.finds done.0 who (length names) i l x kept judged)
 
 pub returns-clause-wrong : goal.returns-clause-wrong
 returns-clause-wrong c = λ lines l i told is here short there on.
@@ -298,3 +168,149 @@ pub returns-clause-read : goal.returns-clause-read
 returns-clause-read c = λ lines l i told is-open is here short there now rises.
     returns-clause-wrong c lines l i told is here short there
     (reads-none c.args.step.call (λ folder place r shown same. c.in_default.not-List folder place r shown same))
+
+-- ---- what is kept, and what is found
+
+pub returns-in-List-clause-told : goal.returns-in-List-clause-told
+returns-in-List-clause-told c = λ lines l i keeps is here short now there.
+    let x = c.args.step in
+    let step-is : IsStep l i x = (c.args.line, is) in
+    let names = c.number.new.self in
+    let actor = c.in_ok-actor.actor in
+    let who = name_at names in
+    let acts = acts-by names actor x c.are_apart.ensures.apart (c.in_ok-actor.ensures.found ∙ ap Some c.as_slice.ensures) in
+    let are = filed-grows c.args.self.now.actor_names names c.as_slice.result.now c.in_ok-actor.field-0-1 c.in_ok-actor.ensures.grows l i
+    c.args.self.now.watch.files.all.items keeps.filed in
+    let y : Numbered = record { number = c.args.line; step = x } in
+    let still : at l (suc i) ≡ at l i = at-next l i y is ∙ ap (λ v. after_call v (after_step (moment l i) y).now (at l i)) c.in-List.is in
+    let apart : (d : Deed) (p : Path) (r : Reply) → x.call ≡ call.At d p r → ⊥ = λ d p r e. let no = c.in-List.is in cc in
+    let kept = subst (λ (f : Files). AreFiled who (length names) l (suc i) f.all.items) (sym c.begin.ensures.files)
+    (still-filed who (length names) l i x step-is actor acts c.args.self.now.watch.files.all.items are c.step.new.self.names still apart) in
+    let judge = c.numbers.new.self in
+    let told = c.in_ok-names-in-List.ensures.known lines l (suc i) (c.in_ok-self.ensures.told lines l i keeps.told is here short there) in
+    ok-two c.list.result (c.list.new.self.files ≡ judge.watch.files) (AreOpen lines judge.actor_names judge.known.names l (suc i) c.list.new.listings) _
+    (λ same opens. record {
+      told = told;
+      filed = subst (λ (ws : List (List ℕ)). AreFiled (name_at ws) (length ws) l (suc i) c.list.new.self.files.all.items) (sym c.numbers.ensures.rest.2)
+          (subst (λ (f : Files). AreFiled who (length names) l (suc i) f.all.items) (sym (same ∙ ap (λ (w : Watch). w.files) c.numbers.ensures.rest.0)) kept);
+      clock = c.in_ok-names-in-List.ensures.clock ∙ c.step.ensures.clock l i keeps.clock is;
+      opens = opens;
+    }) c.list.ensures.files (returns-in-List-clause-opens c lines l i keeps.opens is here now)
+
+pub returns-in-List-clause-broken : goal.returns-in-List-clause-broken
+returns-in-List-clause-broken c = λ lines l i keeps is here short now rises there.
+    let x = c.args.step in
+    let step-is : IsStep l i x = (c.args.line, is) in
+    let names = c.number.new.self in
+    let actor = c.in_ok-actor.actor in
+    let who = name_at names in
+    let acts = acts-by names actor x c.are_apart.ensures.apart (c.in_ok-actor.ensures.found ∙ ap Some c.as_slice.ensures) in
+    let are = filed-grows c.args.self.now.actor_names names c.as_slice.result.now c.in_ok-actor.field-0-1 c.in_ok-actor.ensures.grows l i
+    c.args.self.now.watch.files.all.items keeps.filed in
+    let y : Numbered = record { number = c.args.line; step = x } in
+    let still : at l (suc i) ≡ at l i = at-next l i y is ∙ ap (λ v. after_call v (after_step (moment l i) y).now (at l i)) c.in-List.is in
+    let apart : (d : Deed) (p : Path) (r : Reply) → x.call ≡ call.At d p r → ⊥ = λ d p r e. let no = c.in-List.is in cc in
+    let t = turn l i x in
+    let shown = c.numbers.new.self.watch.found in
+    let new = c.list.new.self.found in
+    let wrong = Has new.broken clause.NotADirectory ↔ NotADirectory t in
+    let overwritten = Has new.broken clause.Overwritten ↔ Overwritten t in
+    ok-two c.list.result (wrong × overwritten) (KeepsFiles shown new) ((k : Clause) → IsProved k → Has new.broken k ↔ Breaks k t)
+    (λ paths kept. kept-proved t c.begin.new.self.found shown new c.begin.ensures.nothing c.in_ok-names-in-List.ensures.found paths.0 paths.1 kept
+    (still-lawful who (length names) l i x step-is actor acts c.args.self.now.watch.files.all.items are c.step.new.self.names still apart))
+    (ok-two c.list.result wrong overwritten (wrong × overwritten) (λ w o. (w, o))
+    (returns-in-List-clause-read c lines l i keeps.told keeps.opens is here short there now rises)
+    (returns-in-List-clause-overwritten c lines l i keeps.told is here short there)) c.list.ensures.others
+
+pub returns-in-Answer-clause-told : goal.returns-in-Answer-clause-told
+returns-in-Answer-clause-told c = λ lines l i keeps is here short now there.
+    let x = c.args.step in
+    let step-is : IsStep l i x = (c.args.line, is) in
+    let names = c.number.new.self in
+    let actor = c.in_ok-actor.actor in
+    let who = name_at names in
+    let acts = acts-by names actor x c.are_apart.ensures.apart (c.in_ok-actor.ensures.found ∙ ap Some c.as_slice.ensures) in
+    let are = filed-grows c.args.self.now.actor_names names c.as_slice.result.now c.in_ok-actor.field-0-1 c.in_ok-actor.ensures.grows l i
+    c.args.self.now.watch.files.all.items keeps.filed in
+    let y : Numbered = record { number = c.args.line; step = x } in
+    let still : at l (suc i) ≡ at l i = at-next l i y is ∙ ap (λ v. after_call v (after_step (moment l i) y).now (at l i)) c.in-Answer.is in
+    let apart : (d : Deed) (p : Path) (r : Reply) → x.call ≡ call.At d p r → ⊥ = λ d p r e. let no = c.in-Answer.is in cc in
+    record {
+      told = grows lines l (suc i) c.step.new.self _ (c.in_ok-self.ensures.told lines l i keeps.told is here short there)
+          c.unique.ensures.keeps c.in_ok-unique-in-Answer.ensures.numbered refl refl;
+      filed = subst (λ (f : Files). AreFiled who (length names) l (suc i) f.all.items) (sym (c.answer.ensures.files ∙ c.begin.ensures.files))
+          (still-filed who (length names) l i x step-is actor acts c.args.self.now.watch.files.all.items are c.step.new.self.names still apart);
+      clock = c.step.ensures.clock l i keeps.clock is;
+      opens = returns-in-Answer-clause-opens c lines l i keeps.opens is here now;
+    }
+
+pub returns-in-Answer-clause-broken : goal.returns-in-Answer-clause-broken
+returns-in-Answer-clause-broken c = λ lines l i keeps is here short now rises there.
+    let x = c.args.step in
+    let step-is : IsStep l i x = (c.args.line, is) in
+    let names = c.number.new.self in
+    let actor = c.in_ok-actor.actor in
+    let who = name_at names in
+    let acts = acts-by names actor x c.are_apart.ensures.apart (c.in_ok-actor.ensures.found ∙ ap Some c.as_slice.ensures) in
+    let are = filed-grows c.args.self.now.actor_names names c.as_slice.result.now c.in_ok-actor.field-0-1 c.in_ok-actor.ensures.grows l i
+    c.args.self.now.watch.files.all.items keeps.filed in
+    let y : Numbered = record { number = c.args.line; step = x } in
+    let still : at l (suc i) ≡ at l i = at-next l i y is ∙ ap (λ v. after_call v (after_step (moment l i) y).now (at l i)) c.in-Answer.is in
+    let apart : (d : Deed) (p : Path) (r : Reply) → x.call ≡ call.At d p r → ⊥ = λ d p r e. let no = c.in-Answer.is in cc in
+    let found = c.begin.new.self.found in
+    kept-proved (turn l i x) found found c.answer.new.self.found c.begin.ensures.nothing refl
+    (returns-in-Answer-clause-read c lines l i keeps.told keeps.opens is here short there now rises)
+    (returns-in-Answer-clause-overwritten c lines l i keeps.told is here short there) c.answer.ensures.others
+    (still-lawful who (length names) l i x step-is actor acts c.args.self.now.watch.files.all.items are c.step.new.self.names still apart)
+
+pub returns-clause-told : goal.returns-clause-told
+returns-clause-told c = λ lines l i keeps is here short now there.
+    let x = c.args.step in
+    let step-is : IsStep l i x = (c.args.line, is) in
+    let names = c.number.new.self in
+    let actor = c.in_ok-actor.actor in
+    let who = name_at names in
+    let acts = acts-by names actor x c.are_apart.ensures.apart (c.in_ok-actor.ensures.found ∙ ap Some c.as_slice.ensures) in
+    let are = filed-grows c.args.self.now.actor_names names c.as_slice.result.now c.in_ok-actor.field-0-1 c.in_ok-actor.ensures.grows l i
+    c.args.self.now.watch.files.all.items keeps.filed in
+    let files = c.begin.new.self.files in
+    let kept = subst (λ (f : Files). AreFiled who (length names) l i f.all.items) (sym c.begin.ensures.files) are in
+    let done = c.in_ok-self.ensures.done lines l i keeps.told is here short there in
+    let clock = c.step.ensures.clock l i keeps.clock is in
+    let judged : IsJudged done.0 who (length names) l i x actor x.call c.step.new.self c.in_ok-self.field-0 =
+    record { step = step-is; call = refl; acts = acts; clock = clock; done = done.1 } in
+    ok-two c.call.result (AreFiled who (length names) l (suc i) c.call.new.self.files.all.items)
+    (AreOpen lines names c.step.new.self.names l (suc i) c.args.self.now.listings) _
+    (λ filed opens. record {
+      told = c.in_ok-self.ensures.told lines l i keeps.told is here short there;
+      filed = filed;
+      clock = clock;
+      opens = opens;
+    }) (c.call.ensures.filed done.0 who (length names) i l x kept judged) (returns-clause-opens c lines l i keeps.opens is here now)
+
+pub returns-clause-broken : goal.returns-clause-broken
+returns-clause-broken c = λ lines l i keeps is here short now rises there.
+    let x = c.args.step in
+    let step-is : IsStep l i x = (c.args.line, is) in
+    let names = c.number.new.self in
+    let actor = c.in_ok-actor.actor in
+    let who = name_at names in
+    let acts = acts-by names actor x c.are_apart.ensures.apart (c.in_ok-actor.ensures.found ∙ ap Some c.as_slice.ensures) in
+    let are = filed-grows c.args.self.now.actor_names names c.as_slice.result.now c.in_ok-actor.field-0-1 c.in_ok-actor.ensures.grows l i
+    c.args.self.now.watch.files.all.items keeps.filed in
+    let files = c.begin.new.self.files in
+    let kept = subst (λ (f : Files). AreFiled who (length names) l i f.all.items) (sym c.begin.ensures.files) are in
+    let done = c.in_ok-self.ensures.done lines l i keeps.told is here short there in
+    let clock = c.step.ensures.clock l i keeps.clock is in
+    let judged : IsJudged done.0 who (length names) l i x actor x.call c.step.new.self c.in_ok-self.field-0 =
+    record { step = step-is; call = refl; acts = acts; clock = clock; done = done.1 } in
+    let t = turn l i x in
+    let begun = c.begin.new.self.found in
+    let new = c.call.new.self.found in
+    let wrong = Has new.broken clause.NotADirectory ↔ NotADirectory t in
+    let overwritten = Has new.broken clause.Overwritten ↔ Overwritten t in
+    ok-two c.call.result (wrong × overwritten) (NotesFiles (BrokenByFiles t) begun new) ((k : Clause) → IsProved k → Has new.broken k ↔ Breaks k t)
+    (λ paths. noted-proved t begun begun new c.begin.ensures.nothing refl paths.0 paths.1)
+    (ok-two c.call.result wrong overwritten (wrong × overwritten) (λ w o. (w, o))
+    (returns-clause-read c lines l i keeps.told keeps.opens is here short there now rises)
+    (returns-clause-overwritten c lines l i keeps.told is here short there)) (c.call.ensures.finds done.0 who (length names) i l x kept judged)

@@ -1,6 +1,7 @@
 use Rattle.std.proofs.Common.{refl}
 use Rattle.md_judge.specs.Logs.{empty_log}
 use Rattle.md_judge.proofs.Prefixes.{finding-none}
+use Rattle.md_judge.proofs.Verdicts.{no-step}
 use Rattle.md_judge.proofs.Whole.{none-among, none-allowed}
 use Rattle.md_judge.proofs.session.Session.new.Goals as goal
 
@@ -13,6 +14,8 @@ returns c = record {
       begun = refl;
       housed = refl;
       told = λ lines are. c.new-2.ensures.told lines;
+      rises = λ a b x y up is after. absurd (no-step empty_log.steps refl a x is);
+      below = λ k x is. absurd (no-step empty_log.steps refl k x is);
       waits = c.new-5.ensures.waits;
       moved = c.new-5.ensures.moved;
       allowed = λ o proved. (λ is. absurd (c.new-2.ensures.allowed o is), λ is. absurd (none-allowed o is));
