@@ -1,5 +1,5 @@
 // The directory calls and looks.
-ghost use Rattle.std.specs.Prelude.{◌≡◌, ◌+◌, ◌^◌, ◌<◌, IsErrOf, IfOk, IfSome, length, slice_get};
+ghost use Rattle.std.specs.Prelude.{◌≡◌, ◌+◌, ◌^◌, ◌<◌, IsErrOf, IfOk, OnErr, IfSome, length, slice_get};
 ghost use Rattle.std.specs.Option.{option_map};
 ghost use Rattle.md_dirs.specs.Path.{path_of};
 ghost use Rattle.md_dirs.specs.State.{IsSound, bytes_at_path};
@@ -9,6 +9,7 @@ ghost use Rattle.md_dirs.specs.declared.calls.DirError.TheVariants.{NoMemory};
 
 use crate::paths::{Path, Place};
 use crate::rows::{Row, RowRef, first_named, is_below, is_below_info, is_named};
+use md_name::Bytes;
 use std::alloc::{AllocError, AllocFailed};
 use thiserror::Error;
 
@@ -65,6 +66,15 @@ pub trait Dirs {
     /// Adds bytes at a file's end and sets its stamp. `NotFound` where the name is not there: it goes by name.
     fn append(&mut self, path: &Path, bytes: &[u8], now: u64) -> Result<(), DirError>
         ensures meets { Obeys (append path.now bytes.now now) (device self.old) result (device self.new) };
+
+    /// Adds all bytes of a body at a file's end and sets its stamp, as `append` does. Once that is done the directories may keep the body
+    /// itself in place of a copy, and nothing is said of what they leave there. After a refusal the body is as it was.
+    fn append_body(&mut self, path: &Path, body: &mut Bytes, now: u64) -> Result<(), DirError>
+        ensures meets { Obeys (append path.now body.old now) (device self.old) result (device self.new) }
+        ensures body { OnErr result (body.new ≡ body.old) }
+    {
+        self.append(path, body.as_slice(), now)
+    }
 
     /// Gives a file a second name, as POSIX's link. `NotFound` where the old name or the folder of the new one is not
     /// there, even if the new name is; otherwise `Exists` where the new name is there.

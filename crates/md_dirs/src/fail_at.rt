@@ -1,5 +1,5 @@
 // Directories of which one call fails.
-ghost use Rattle.std.specs.Prelude.{◌≡◌, ◌+◌, ◌-◌, IsTrue, ◌↔◌, IsErrOf, IfOk, if◌then◌else◌};
+ghost use Rattle.std.specs.Prelude.{◌≡◌, ◌+◌, ◌-◌, IsTrue, ◌↔◌, IsErrOf, IfOk, OnErr, if◌then◌else◌};
 ghost use Rattle.md_dirs.specs.Calls.{Obeys, create, append, link, rename, unlink, list};
 ghost use Rattle.md_dirs.specs.Rows.{rows_of, row_named};
 
@@ -7,6 +7,7 @@ use crate::calls::{DirError, Dirs};
 use crate::count::Count;
 use crate::paths::{Path, Place};
 use crate::rows::{Row, RowRef};
+use md_name::Bytes;
 
 /// Other directories, of which one call fails.
 ///
@@ -72,6 +73,17 @@ impl<D: Dirs> Dirs for FailAt<D> {
             return Err(DirError::Fault);
         }
         self.dirs.append(path, bytes, now)
+    }
+
+    fn append_body(&mut self, path: &Path, body: &mut Bytes, now: u64) -> Result<(), DirError>
+        ensures meets { Obeys (append path.now body.old now) (and_own D.device self.old) result (and_own D.device self.new) }
+        ensures turn { IsTurn (append path.now body.old now) (failing D.device self.old) result (failing D.device self.new) }
+        ensures body { OnErr result (body.new ≡ body.old) }
+    {
+        if self.is_due() {
+            return Err(DirError::Fault);
+        }
+        self.dirs.append_body(path, body, now)
     }
 
     fn link(&mut self, old: &Path, new: &Path) -> Result<(), DirError>

@@ -9,7 +9,9 @@ ghost use Rattle.md_dirs.specs.Slots.{slots_of};
 use crate::paths::File;
 use crate::rows::RowRef;
 use crate::slots::Slots;
+use md_name::Bytes;
 use std::alloc::AllocError;
+use std::mem::swap;
 
 /// A file, and how many names it has.
 #[derive(Drop)]
@@ -36,6 +38,23 @@ pub fn grow_slot(slot: &mut Option<Kept>, bytes: &[u8], now: u64) -> Result<(), 
     if let Some(kept) = slot {
         kept.file.bytes.extend(bytes)?;
         kept.file.stamp = now;
+    }
+    Ok(())
+}
+
+// Adds all bytes of a body at the end of a file. A file without bytes takes the body itself, and what it had is left in its place.
+pub fn fill_slot(slot: &mut Option<Kept>, body: &mut Bytes, now: u64) -> Result<(), AllocError>
+    ensures ok { OnOk result (slot.new ≡ grown_slot body.old now slot.old) }
+    ensures err { OnErr result (slot.new ≡ slot.old) }
+    ensures body { OnErr result (body.new ≡ body.old) }
+{
+    if let Some(Kept { file, .. }) = slot {
+        if file.bytes.is_empty() {
+            swap(&mut file.bytes, body);
+        } else {
+            file.bytes.extend(body.as_slice())?;
+        }
+        file.stamp = now;
     }
     Ok(())
 }

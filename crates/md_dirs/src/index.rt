@@ -134,6 +134,16 @@ impl Dirs for IndexDirs {
         Ok(())
     }
 
+    fn append_body(&mut self, path: &Path, body: &mut Bytes, now: u64) -> Result<(), DirError> {
+        let Some(file) = self.names.file_at(path) else {
+            self.calls.raise();
+            return Err(DirError::NotFound);
+        };
+        self.slots.fill(file, body, now)?;
+        self.calls.raise();
+        Ok(())
+    }
+
     fn link(&mut self, old: &Path, new: &Path) -> Result<(), DirError> {
         let Some(file) = self.names.file_at(old) else {
             self.calls.raise();

@@ -4,7 +4,8 @@ ghost use Rattle.std.specs.Option.{option_copied};
 ghost use Rattle.md_dirs.specs.Files.{slot_at, grown_slot, with_names, let_go};
 ghost use Rattle.md_dirs.specs.Places.{all_gone, places};
 
-use crate::files::{Kept, grow_slot, release_slot};
+use crate::files::{Kept, fill_slot, grow_slot, release_slot};
+use md_name::Bytes;
 use std::alloc::{AllocError, Global};
 use std::mem::replace;
 
@@ -47,6 +48,23 @@ fn grow_at(
 {
     if at < block.len() {
         grow_slot(&mut block[at], bytes, now)?;
+    }
+    Ok(())
+}
+
+// Adds all bytes of a body at the end of the file at a place of a block, which may take the body itself.
+fn fill_at(
+    block: &mut Vec<Option<Kept>>,
+    at: usize,
+    body: &mut Bytes,
+    now: u64,
+) -> Result<(), AllocError>
+    ensures ok { OnOk result (block.new.items ≡ slice_set block.old.items at (grown_slot body.old now (slot_at block.old.items at))) }
+    ensures err { OnErr result (block.new.items ≡ block.old.items) }
+    ensures body { OnErr result (body.new ≡ body.old) }
+{
+    if at < block.len() {
+        fill_slot(&mut block[at], body, now)?;
     }
     Ok(())
 }
@@ -161,6 +179,22 @@ impl Slots {
             grow_at(&mut self.blocks[block], number % BLOCK, bytes, now)
         } else {
             grow_at(&mut self.tail, number % BLOCK, bytes, now)
+        }
+    }
+
+    /// Adds all bytes of a body at the end of the file of a number, as `grow` does. A file without bytes takes the body itself. When out
+    /// of memory, nothing has changed.
+    pub fn fill(&mut self, number: usize, body: &mut Bytes, now: u64) -> Result<(), AllocError>
+        requires { number < length (slots_of self.old) }
+        ensures ok { OnOk result (slots_of self.new ≡ slice_set (slots_of self.old) number (grown_slot body.old now (slot_at (slots_of self.old) number))) }
+        ensures err { OnErr result (slots_of self.new ≡ slots_of self.old) }
+        ensures body { OnErr result (body.new ≡ body.old) }
+    {
+        let block = number / BLOCK;
+        if block < self.blocks.len() {
+            fill_at(&mut self.blocks[block], number % BLOCK, body, now)
+        } else {
+            fill_at(&mut self.tail, number % BLOCK, body, now)
         }
     }
 
