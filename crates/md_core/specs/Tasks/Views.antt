@@ -1,3 +1,4 @@
 pub mod Purposes
 pub mod Stages
 pub mod Tasks
+pub mod Bodies

@@ -1,9 +1,12 @@
 //! A delivery: "Using maildir format", steps 3 to 6.
-ghost use Rattle.std.specs.Prelude.{◌≡◌, ◌+◌, ◌^◌, ◌<◌, length, IfOk, IfErr, OnErr, is_some};
+ghost use Rattle.std.specs.Prelude.{◌≡◌, ◌+◌, ◌-◌, ◌^◌, ◌<◌, ◌≤◌, length, take, drop, min, IfOk, IfErr, OnErr, is_some};
 ghost use Rattle.md_core.specs.Turn.{Takes, IsUntouched};
-ghost use Rattle.md_core.specs.Machines.Deliver.{new_delivery, after_create, after_append, after_link, create_turn, append_turn, link_turn, unlink_turn, delivery_turn, delivery_effect, piece_len as piece_len_of, piece as piece_of, target as target_of, is_in_time as is_in_time_by};
+ghost use Rattle.md_core.specs.Machines.Deliver.{new_delivery, at_stage, after_create, after_append, after_link, create_turn, append_turn, link_turn, unlink_turn, delivery_turn, delivery_effect, piece_len, target as target_of, is_in_time as is_in_time_by};
+ghost use Rattle.md_core.specs.Tasks.Delivery.{Delivery as DeliveryView, Start, Writing};
+ghost use Rattle.md_core.specs.Tasks.Views.Stages.{delivery_stage};
 
 use crate::error::CoreError;
+use crate::image::Image;
 use crate::jobs::answer::Answer;
 use crate::jobs::call::JobId;
 use crate::jobs::effect::{Change, Effect};
@@ -31,18 +34,24 @@ pub enum Stage {
 /// A delivery is given up after 24 hours, in seconds.
 const MOST_SECONDS: u64 = 86_400;
 
-/// A delivery of a body, in pieces of `chunk` bytes, by way of a file in tmp.
+/// A delivery of a body, in pieces of `chunk` bytes, by way of a file in tmp. Where one piece is all of the body, the directories may keep
+/// its bytes: then the whole is there for contracts alone.
 #[derive(Drop)]
 pub struct Delivery {
-    pub tmp: Path,
-    pub body: Bytes,
-    pub chunk: u64,
-    pub stage: Stage,
+    tmp: Path,
+    // The whole body, while a piece of it is still to be written.
+    body: Bytes,
+    // The whole body, for contracts alone.
+    whole: Image<Bytes>,
+    size: u64,
+    chunk: u64,
+    stage: Stage,
 }
 
 impl Model for Delivery {
     ghost use Rattle.md_core.specs.Tasks.Delivery.{Delivery as DeliveryView};
     ghost use Rattle.md_core.specs.Tasks.Views.Stages.{delivery_stage};
+    ghost use Rattle.md_core.specs.Tasks.Views.Bodies.{HasBody};
     ghost use Rattle.std.specs.Coded.{codes};
     ghost use Rattle.md_name.specs.contracts.flags.Flags as flags;
 
@@ -50,7 +59,9 @@ impl Model for Delivery {
 
     ghost coded = { Prim.hlevel (codes, flags.the_row.coded) };
 
-    ghost view = { λ d. record { tmp = d.tmp; body = d.body; chunk = d.chunk; stage = delivery_stage d.stage } };
+    ghost view = { λ d. record { tmp = d.tmp; body = d.whole.value; chunk = d.chunk; stage = delivery_stage d.stage } };
+
+    ghost invariant = { λ d. HasBody (delivery_stage d.stage) d.whole.value d.body d.size };
 }
 
 // Whether a delivery that began at `start` is in time at `own`, both by its own clock. A clock that went back counts as none.
@@ -58,6 +69,37 @@ fn is_in_time(start: u64, own: u64) -> bool
     ensures { result ≡ is_in_time_by start own }
 {
     own.saturating_sub(start) < MOST_SECONDS
+}
+
+// The bytes of a body that are written next, after so many.
+fn piece(body: &[u8], chunk: u64, written: u64) -> &[u8]
+    requires { written < length body.now }
+    ensures bytes { result.now ≡ take (min chunk (length body.now - written)) (drop written body.now) }
+    ensures len { length result.now ≡ min chunk (length body.now - written) }
+    ensures fits { written + length result.now < 2 ^ 64 }
+{
+    let left = &body[written as usize..];
+    let len = chunk.min(left.len() as u64) as usize;
+    &left[..len]
+}
+
+// Says how far a delivery is after an append, where so many bytes are written if it was done.
+fn appended(stage: &mut Stage, start: u64, written: u64, reply: DirReply) -> Option<Answer>
+    ensures { (d : DeliveryView) (k : _) → delivery_stage stage.old ≡ d.stage → written ≡ k + piece_len d k →
+        after_append d start k reply ≡ record { task = at_stage d (delivery_stage stage.new); answer = result; effect = None } }
+{
+    match reply {
+        DirReply::Ok => {
+            *stage = Stage::Writing { start, written };
+            None
+        }
+        DirReply::Exists => Some(Refusal::Fault.answer()),
+        DirReply::NotFound => Some(Refusal::TmpGone.answer()),
+        DirReply::Fault => {
+            *stage = Stage::Undo(Refusal::Fault);
+            None
+        }
+    }
 }
 
 impl Delivery {
@@ -71,6 +113,8 @@ impl Delivery {
                 place: Place::Tmp,
                 name: unique,
             },
+            whole: Image::of(&body),
+            size: body.len() as u64,
             body,
             chunk,
             stage: Stage::Start,
@@ -98,7 +142,7 @@ impl Delivery {
             Stage::Writing { start, written } => {
                 if !is_in_time(start, at.own) {
                     self.unlink(dirs, at, Refusal::TimedOut.answer())
-                } else if written < self.body.len() as u64 {
+                } else if written < self.size {
                     self.append(dirs, at, start, written)
                 } else {
                     self.link(alloc, dirs, job, at)
@@ -110,6 +154,7 @@ impl Delivery {
     }
 
     fn create<D: Dirs>(&mut self, dirs: &mut D, at: Moment) -> Result<Turned, CoreError>
+        requires { self.old.stage ≡ Start }
         ensures ok { IfOk result (λ t.
             Takes (create_turn self.old at.own) at (D.device dirs.old) t.out t.effect
             self.new (D.device dirs.new)) }
@@ -130,7 +175,8 @@ impl Delivery {
         start: u64,
         written: u64,
     ) -> Result<Turned, CoreError>
-        requires { written < length self.old.body }
+        requires stage { self.old.stage ≡ Writing start written }
+        requires more { written < length self.old.body }
         ensures ok { IfOk result (λ t.
             Takes (append_turn self.old start written) at (D.device dirs.old) t.out t.effect
             self.new (D.device dirs.new)) }
@@ -139,10 +185,57 @@ impl Delivery {
         ensures dirs { OnErr result (IsUntouched (D.device dirs.old)
             (D.device dirs.new)) }
     {
-        let piece = self.piece(written);
+        if written == 0 && self.size <= self.chunk {
+            self.append_whole(dirs, at, start)
+        } else {
+            self.append_piece(dirs, at, start, written)
+        }
+    }
+
+    // Writes the whole body, whose bytes the directories may keep.
+    fn append_whole<D: Dirs>(
+        &mut self,
+        dirs: &mut D,
+        at: Moment,
+        start: u64,
+    ) -> Result<Turned, CoreError>
+        requires stage { self.old.stage ≡ Writing start 0 }
+        requires more { 0 < length self.old.body }
+        requires whole { length self.old.body ≤ self.old.chunk }
+        ensures ok { IfOk result (λ t.
+            Takes (append_turn self.old start 0) at (D.device dirs.old) t.out t.effect
+            self.new (D.device dirs.new)) }
+        ensures memory { IfErr result (λ e. e ≡ CoreError.NoMemory) }
+        ensures task { OnErr result (self.new ≡ self.old) }
+        ensures dirs { OnErr result (IsUntouched (D.device dirs.old)
+            (D.device dirs.new)) }
+    {
+        let reply = reply_of(dirs.append_body(&self.tmp, &mut self.body, at.clock))?;
+        let answer = appended(&mut self.stage, start, self.size, reply);
+        Ok(Turned::plain(DirCall::Append(self.size), reply, answer))
+    }
+
+    fn append_piece<D: Dirs>(
+        &mut self,
+        dirs: &mut D,
+        at: Moment,
+        start: u64,
+        written: u64,
+    ) -> Result<Turned, CoreError>
+        requires stage { self.old.stage ≡ Writing start written }
+        requires more { written < length self.old.body }
+        ensures ok { IfOk result (λ t.
+            Takes (append_turn self.old start written) at (D.device dirs.old) t.out t.effect
+            self.new (D.device dirs.new)) }
+        ensures memory { IfErr result (λ e. e ≡ CoreError.NoMemory) }
+        ensures task { OnErr result (self.new ≡ self.old) }
+        ensures dirs { OnErr result (IsUntouched (D.device dirs.old)
+            (D.device dirs.new)) }
+    {
+        let piece = piece(self.body.as_slice(), self.chunk, written);
         let len = piece.len() as u64;
         let reply = reply_of(dirs.append(&self.tmp, piece, at.clock))?;
-        let answer = self.appended(start, written + len, reply);
+        let answer = appended(&mut self.stage, start, written + len, reply);
         Ok(Turned::plain(DirCall::Append(len), reply, answer))
     }
 
@@ -188,18 +281,6 @@ impl Delivery {
         Ok(Turned::plain(DirCall::Unlink, reply, Some(answer)))
     }
 
-    // The bytes that are written next, after so many.
-    fn piece(&self, written: u64) -> &[u8]
-        requires { written < length self.now.body }
-        ensures bytes { result.now ≡ piece_of self.now written }
-        ensures len { length result.now ≡ piece_len_of self.now written }
-        ensures fits { written + length result.now < 2 ^ 64 }
-    {
-        let left = &self.body.as_slice()[written as usize..];
-        let len = self.chunk.min(left.len() as u64) as usize;
-        &left[..len]
-    }
-
     // Where the message is delivered.
     fn target(&self, alloc: Global) -> Result<Path, AllocError>
         ensures { IfOk result (λ path. path ≡ target_of self.now) }
@@ -219,12 +300,13 @@ impl Delivery {
                 folder: target.folder,
                 place: target.place,
                 name: target.name,
-                size: self.body.len() as u64,
+                size: self.size,
             },
         }
     }
 
     fn created(&mut self, own: u64, reply: DirReply) -> Option<Answer>
+        requires { self.old.stage ≡ Start }
         ensures { after_create self.old own reply ≡ record { task = self.new; answer = result; effect = None } }
     {
         match reply {
@@ -237,24 +319,6 @@ impl Delivery {
             }
             DirReply::Exists => Some(Refusal::NameTaken.answer()),
             DirReply::NotFound | DirReply::Fault => Some(Refusal::Fault.answer()),
-        }
-    }
-
-    fn appended(&mut self, start: u64, written: u64, reply: DirReply) -> Option<Answer>
-        ensures { (k : _) → written ≡ k + piece_len_of self.old k →
-            after_append self.old start k reply ≡ record { task = self.new; answer = result; effect = None } }
-    {
-        match reply {
-            DirReply::Ok => {
-                self.stage = Stage::Writing { start, written };
-                None
-            }
-            DirReply::Exists => Some(Refusal::Fault.answer()),
-            DirReply::NotFound => Some(Refusal::TmpGone.answer()),
-            DirReply::Fault => {
-                self.stage = Stage::Undo(Refusal::Fault);
-                None
-            }
         }
     }
 
