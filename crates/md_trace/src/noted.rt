@@ -1,11 +1,11 @@
 // Directories that note the call that was made of them last.
-ghost use Rattle.std.specs.Prelude.{◌≡◌, None, IsErrOf, IfOk, IfSome, option_map};
+ghost use Rattle.std.specs.Prelude.{◌≡◌, None, IsErrOf, IfOk, OnErr, IfSome, option_map};
 ghost use Rattle.md_dirs.specs.Calls.{Obeys, create, append, link, rename, unlink, list};
 ghost use Rattle.md_dirs.specs.Image.{image_state, image_refusal};
 ghost use Rattle.md_dirs.specs.Rows.{rows_of, row_named};
 ghost use Rattle.md_trace.specs.declared.noted.Asked.TheVariants as asked;
 
-use md_dirs::{DirError, Dirs, ImageFile, Path, Place, Row, RowRef};
+use md_dirs::{Bytes, DirError, Dirs, ImageFile, Path, Place, Row, RowRef};
 use md_script::Storage;
 use std::alloc::{AllocError, Global};
 
@@ -94,6 +94,15 @@ impl<D: Dirs> Dirs for NotedDirs<D> {
     {
         self.noted = append_of(self.alloc, path).ok();
         self.dirs.append(path, bytes, now)
+    }
+
+    fn append_body(&mut self, path: &Path, body: &mut Bytes, now: u64) -> Result<(), DirError>
+        ensures meets { Obeys (append path.now body.old now) (D.device self.old.dirs) result (D.device self.new.dirs) }
+        ensures body { OnErr result (body.new ≡ body.old) }
+        ensures noted { IfSome self.new.noted (λ call. call ≡ asked.Append path.now) }
+    {
+        self.noted = append_of(self.alloc, path).ok();
+        self.dirs.append_body(path, body, now)
     }
 
     fn link(&mut self, old: &Path, new: &Path) -> Result<(), DirError>
