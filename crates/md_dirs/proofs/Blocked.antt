@@ -1,9 +1,10 @@
 -- The positions of blocks, one block after another, and how many stand before each.
 use Rattle.std.proofs.Common.{ℕ, zero, suc, ◌≡◌, ◌+◌, ◌-◌, ◌<◌, ◌≤◌, ◌++◌, List, [], ◌∷◌, refl, sym, ap, subst, ◌∙◌, arith, length, take, drop, get_or, append-nil, append_assoc, add-one, slice_set, remove, insert, true, false, nat_lt, ◌^◌}
 use Rattle.std.proofs.Common.{length-append}
+use Rattle.std.proofs.Math.Seq.{drop-append-add, take-append_seam}
 use Rattle.std.proofs.lemmas.Bool.Decides.{nat_tests}
 use Rattle.std.proofs.lemmas.List.Edits.{length-remove, length-insert, get_or-remove_below, get_or-remove_above, get_or-insert_at, get_or-insert_below, get_or-insert_above, remove-append_left, remove-append_right, insert-append_left, insert-append_right}
-use Rattle.std.proofs.lemmas.List.{length-set, set-append_left, set-append_right, take_more_set, drop-set-lt, set_split, drop_more, take-append-drop, take_more}
+use Rattle.std.proofs.lemmas.List.{length-set, set-append_left, set-append_right, take_more_set, drop-set-lt, set_split, drop_more, take-append-drop, take_more, drop-append-le}
 use Rattle.std.proofs.lemmas.List.Concat.{flat_map-append, get_or-flat_map}
 use Rattle.std.specs.declared.vec.Vec.{Vec}
 use Rattle.md_dirs.specs.declared.index.positions.Spot.{Spot}
@@ -97,6 +98,15 @@ module _ {Z : Type 0} where
         append_assoc (before blocks k) v.items (w.items ++ behind blocks k) ∙
         ap (λ xs. before blocks k ++ xs) (sym (append_assoc v.items w.items (behind blocks k)) ∙ ap (λ xs. xs ++ behind blocks k) (sym shows)) ∙
         sym (parted blocks k b within is)
+
+  -- the rest of a block from a spot on stands in the list from its place on
+  pub rest-at : (blocks : List (Vec ℕ Z)) (k i : ℕ) (b : Vec ℕ Z) → k < length blocks → b ≡ get_or blocks k b → i < length b.items →
+      take (length (drop i b.items)) (drop (start blocks k + i) (joined blocks)) ≡ drop i b.items
+  rest-at blocks k i b within is inside =
+      ap (λ xs. take (length (drop i b.items)) (drop (start blocks k + i) xs)) (parted blocks k b within is) ∙
+      ap (take (length (drop i b.items)))
+      (drop-append-add (before blocks k) (b.items ++ behind blocks k) i ∙ drop-append-le i b.items (behind blocks k) (omega arith)) ∙
+      take-append_seam (drop i b.items) (behind blocks k)
 
   -- the position at a spot is that at its place
   pub at-spot : (blocks : List (Vec ℕ Z)) (k i : ℕ) (b : Vec ℕ Z) (e : ℕ) → k < length blocks → b ≡ get_or blocks k b → i < length b.items →

@@ -19,6 +19,7 @@ pub mod Sliced
 pub mod Looked
 pub mod Blocked
 pub mod Keys
+pub mod Lent
 pub mod Keyed
 pub mod Slotted
 pub mod Searched

@@ -1,16 +1,17 @@
 // The directory calls and looks.
-ghost use Rattle.std.specs.Prelude.{◌≡◌, ◌+◌, ◌^◌, ◌<◌, IsErrOf, IfOk, OnErr, IfSome, length, slice_get};
+ghost use Rattle.std.specs.Prelude.{◌≡◌, ◌+◌, ◌^◌, ◌<◌, IsErrOf, IfOk, OnErr, IfSome, length, map, slice_get};
 ghost use Rattle.std.specs.Option.{option_map};
 ghost use Rattle.md_dirs.specs.Path.{path_of};
 ghost use Rattle.md_dirs.specs.State.{IsSound, bytes_at_path};
 ghost use Rattle.md_dirs.specs.Calls.{Device, Obeys, create, append, link, rename, unlink, list};
 ghost use Rattle.md_dirs.specs.Rows.{rows_of, row_named, row_shown};
+ghost use Rattle.md_dirs.specs.Lent.{AreNext};
 ghost use Rattle.md_dirs.specs.declared.calls.DirError.TheVariants.{NoMemory};
 
 use crate::paths::{Path, Place};
 use crate::rows::{Row, RowRef, first_named, is_below, is_below_info, is_named};
 use md_name::Bytes;
-use std::alloc::{AllocError, AllocFailed};
+use std::alloc::{AllocError, AllocFailed, Global};
 use thiserror::Error;
 
 /// Why a directory call was refused, or an image. After a refused call the directories are as they were; a refused image is
@@ -52,7 +53,8 @@ impl<T: Drop> From<AllocFailed<T>> for DirError {
 ///
 /// Each of the calls is one atomic step, after POSIX's link, rename and unlink. `now` is the moment of the call in
 /// seconds. A call may answer `Fault`, where the number of failures has risen by one, and `NoMemory`, after all its other
-/// checks; neither changes anything. The looks, which take `&self`, are no steps: they take no memory and never fail.
+/// checks; neither changes anything. The looks, which take `&self`, are no steps: they take no memory and never fail, but
+/// for `rows_from`, which takes memory for the rows that it lends.
 pub trait Dirs {
     /// The folders, the names and the files; how often a call has failed by itself; and how many calls were made, a `find` among
     /// them. A call that is refused when out of memory is none, and neither is a look.
@@ -119,6 +121,24 @@ pub trait Dirs {
     fn row_at(&self, folder: u32, place: Place, at: usize) -> Option<RowRef<'_>>
         ensures row { option_map row_shown result ≡ slice_get (rows_of (device self.now).state folder place) at }
         ensures few { IfSome result (λ _. at + 1 < 2 ^ 64) };
+
+    /// Rows of a directory from a position on, as `row_at` lends them, one after another: at least one, where there is one.
+    /// It is refused only when out of memory. By itself it lends one.
+    fn rows_from(
+        &self,
+        alloc: Global,
+        folder: u32,
+        place: Place,
+        from: usize,
+    ) -> Result<Vec<RowRef<'_>>, AllocError>
+        ensures { IfOk result (λ rows. AreNext (rows_of (device self.now).state folder place) from (map row_shown rows.items)) }
+    {
+        let mut rows = Vec::new(alloc);
+        if let Some(row) = self.row_at(folder, place, from) {
+            rows.push(row)?;
+        }
+        Ok(rows)
+    }
 
     /// How many rows a directory has, and 0 where the folder is not there. By itself it looks at 65 rows, by halving.
     fn count(&self, folder: u32, place: Place) -> usize

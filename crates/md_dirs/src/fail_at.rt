@@ -8,6 +8,7 @@ use crate::count::Count;
 use crate::paths::{Path, Place};
 use crate::rows::{Row, RowRef};
 use md_name::Bytes;
+use std::alloc::{AllocError, Global};
 
 /// Other directories, of which one call fails.
 ///
@@ -145,6 +146,16 @@ impl<D: Dirs> Dirs for FailAt<D> {
 
     fn row_at(&self, folder: u32, place: Place, at: usize) -> Option<RowRef<'_>> {
         self.dirs.row_at(folder, place, at)
+    }
+
+    fn rows_from(
+        &self,
+        alloc: Global,
+        folder: u32,
+        place: Place,
+        from: usize,
+    ) -> Result<Vec<RowRef<'_>>, AllocError> {
+        self.dirs.rows_from(alloc, folder, place, from)
     }
 
     fn count(&self, folder: u32, place: Place) -> usize {

@@ -18,7 +18,7 @@ use crate::rows::{Row, RowRef, copied_row};
 use crate::slots::Slots;
 use load::Loading;
 use md_name::Bytes;
-use std::alloc::Global;
+use std::alloc::{AllocError, Global};
 use std::marker::Model;
 use tree::Tree;
 
@@ -219,11 +219,23 @@ impl Dirs for IndexDirs {
         self.folders
     }
 
-    // A listing asks this for each line.
+    // A world that begins asks this for each name.
     #[inline(always)]
     fn row_at(&self, folder: u32, place: Place, at: usize) -> Option<RowRef<'_>> {
         let (name, file) = self.names.row_at(folder, place, at)?;
         Some(shown_row(&self.slots, name, file))
+    }
+
+    // The rows of one block: a listing finds each block once.
+    fn rows_from(
+        &self,
+        alloc: Global,
+        folder: u32,
+        place: Place,
+        from: usize,
+    ) -> Result<Vec<RowRef<'_>>, AllocError> {
+        self.names
+            .rows_from(alloc, folder, place, from, &self.slots)
     }
 
     fn count(&self, folder: u32, place: Place) -> usize {

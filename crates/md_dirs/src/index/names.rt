@@ -6,11 +6,12 @@ ghost use Rattle.std.specs.FinMap.{from_entries};
 ghost use Rattle.md_dirs.specs.State.{file_by};
 ghost use Rattle.md_dirs.specs.Files.{files_of, name_row};
 ghost use Rattle.md_dirs.specs.Slots.{slots_of};
-ghost use Rattle.md_dirs.specs.Rows.{is_named as is_named_by};
+ghost use Rattle.md_dirs.specs.Rows.{is_named as is_named_by, row_shown};
+ghost use Rattle.md_dirs.specs.Lent.{AreNext};
 ghost use Rattle.md_dirs.specs.Plain.{IsAt, IsGap};
 ghost use Rattle.md_dirs.specs.Find.{IsEdge};
 ghost use Rattle.md_dirs.specs.Keys.{AreKeysOf, HasKey, IsIndexOf, sought_name};
-ghost use Rattle.md_dirs.specs.Index.{name_cmp, order_at, IsBetween, FitsAt, get_name, Renames};
+ghost use Rattle.md_dirs.specs.Index.{name_cmp, rows_at, order_at, IsBetween, FitsAt, get_name, Renames};
 
 use crate::files::shown_row;
 use crate::finding::{Edge, InOrder};
@@ -18,7 +19,7 @@ use crate::index::key::{Sought, key_at, key_of};
 use crate::index::positions::{Near, Positions};
 use crate::index::tops::{Tops, top_of};
 use crate::name_key::NameKey;
-use crate::rows::{Row, is_named};
+use crate::rows::{Row, RowRef, is_named};
 use crate::slots::Slots;
 use indexmap::IndexMap;
 use std::alloc::{AllocError, Global};
@@ -111,6 +112,26 @@ fn compare_row(
         Ordering::Equal => compare_name(rows, row, sought),
         differs => differs,
     }
+}
+
+// The rows at positions of the table, lent.
+fn lent_rows<'a>(
+    alloc: Global,
+    rows: &'a IndexMap<NameKey<'static>, usize>,
+    positions: &[usize],
+    slots: &'a Slots,
+) -> Result<Vec<RowRef<'a>>, AllocError>
+    requires within { All (λ i. i < length rows.now.entries) positions.now }
+    requires filed { All (λ e. IsSome (file_by (files_of (slots_of slots.now)) e.1)) (rows_at rows.now.entries positions.now) }
+    ensures { IfOk result (λ lent. map row_shown lent.items
+        ≡ map (name_row (files_of (slots_of slots.now))) (rows_at rows.now.entries positions.now)) }
+{
+    let mut lent = Vec::with_capacity(alloc, positions.len())?;
+    for row in positions {
+        let (name, file) = rows.get_index(*row).unwrap();
+        lent.push(shown_row(slots, name.as_slice(), *file))?;
+    }
+    Ok(lent)
 }
 
 impl Names {
@@ -495,6 +516,23 @@ impl Names {
             shown.push(shown_row(slots, name, file).copied(alloc)?)?;
         }
         Ok(shown)
+    }
+
+    /// The rows from a position on in its block, lent: none past the last row. It is refused only when out of memory.
+    pub fn rows_from<'a>(
+        &'a self,
+        alloc: Global,
+        from: usize,
+        slots: &'a Slots,
+    ) -> Result<Vec<RowRef<'a>>, AllocError>
+        requires { All (λ e. IsSome (file_by (files_of (slots_of slots.now)) e.1)) (finmap.entries self.now) }
+        ensures { IfOk result (λ lent.
+            AreNext (map (name_row (files_of (slots_of slots.now))) (finmap.entries self.now)) from (map row_shown lent.items)) }
+    {
+        if from >= self.count() {
+            return Ok(Vec::new(alloc));
+        }
+        lent_rows(alloc, &self.rows, self.order.rest_of(from), slots)
     }
 }
 

@@ -1,5 +1,5 @@
 // A list of positions in blocks.
-ghost use Rattle.std.specs.Prelude.{ℕ, ◌≡◌, ◌<◌, ◌≤◌, ◌+◌, ◌^◌, [], OnOk, OnErr, length, slice_index_or, slice_set, insert, remove};
+ghost use Rattle.std.specs.Prelude.{ℕ, ◌≡◌, ◌<◌, ◌≤◌, ◌+◌, ◌^◌, [], OnOk, OnErr, length, take, drop, slice_index_or, slice_set, insert, remove};
 ghost use Rattle.md_dirs.specs.Positions.{AreEnds, IsPart, IsRoom, IsSpot, joined, start, place};
 
 use std::alloc::{AllocError, Global};
@@ -355,6 +355,17 @@ impl Positions {
                 positions: &[],
             },
         }
+    }
+
+    /// The positions from a place on that are in its block.
+    pub fn rest_of(&self, at: usize) -> &[usize]
+        requires { at < length self.now }
+        ensures rest { result.now ≡ take (length result.now) (drop at self.now) }
+        ensures some { 0 < length result.now }
+    {
+        let spot = spot_of(&self.blocks, &self.ends, at);
+        let block = &self.blocks[spot.block];
+        &block[spot.at..]
     }
 
     /// The position at a place, which is mostly in a part. Inline, so that a search reads the part alone.

@@ -4,7 +4,8 @@ ghost use Rattle.std.specs.Option.{option_map};
 ghost use Rattle.std.specs.FinMap as finmap;
 ghost use Rattle.md_dirs.specs.Path.{path_of};
 ghost use Rattle.md_dirs.specs.State.{file_by};
-ghost use Rattle.md_dirs.specs.Rows.{is_named};
+ghost use Rattle.md_dirs.specs.Rows.{is_named, row_shown};
+ghost use Rattle.md_dirs.specs.Lent.{AreNext};
 ghost use Rattle.md_dirs.specs.Index.{directory_number, directory_at, rows_in};
 ghost use Rattle.md_dirs.specs.Files.{files_of, name_row};
 ghost use Rattle.md_dirs.specs.Slots.{slots_of};
@@ -14,7 +15,7 @@ use crate::finding::InOrder;
 use crate::index::names::Names;
 use crate::name_key::NameKey;
 use crate::paths::{Path, Place, number_of};
-use crate::rows::Row;
+use crate::rows::{Row, RowRef};
 use crate::slots::Slots;
 use std::alloc::{AllocError, Global};
 use std::marker::Model;
@@ -145,6 +146,26 @@ impl Tree {
             return Ok(Vec::new(alloc));
         }
         self.directories[number].rows(alloc, slots)
+    }
+
+    /// Rows of a directory from a position on, lent: at least one, where there is one. It is refused only when out of memory.
+    pub fn rows_from<'a>(
+        &'a self,
+        alloc: Global,
+        folder: u32,
+        place: Place,
+        from: usize,
+        slots: &'a Slots,
+    ) -> Result<Vec<RowRef<'a>>, AllocError>
+        requires { All (λ e. IsSome (file_by (files_of (slots_of slots.now)) e.1)) (rows_in self.now folder place) }
+        ensures { IfOk result (λ rows.
+            AreNext (map (name_row (files_of (slots_of slots.now))) (rows_in self.now folder place)) from (map row_shown rows.items)) }
+    {
+        let number = number_of(folder, place);
+        if number >= self.directories.len() {
+            return Ok(Vec::new(alloc));
+        }
+        self.directories[number].rows_from(alloc, from, slots)
     }
 
     /// Gives the file of a path another path, also in place of the file that this named: `is_free` says that it named none.

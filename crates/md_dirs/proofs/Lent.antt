@@ -1,0 +1,56 @@
+-- Rows that are lent from a block: they are the next ones of their directory.
+use Rattle.std.proofs.Common.{ℕ, zero, suc, ◌≡◌, ◌<◌, ◌≤◌, List, [], ◌∷◌, Result, Ok, Err, IfOk, Option, Some, None, length, map, take, drop, get_or, slice_get, sym, ap, subst, ◌∙◌, arith}
+use Rattle.std.proofs.lemmas.List.{length-map, take-map, drop-map, drop_more}
+use Rattle.std.proofs.lemmas.Option.{slice_get_within, get_or_from_slice_get}
+use Rattle.md_dirs.specs.Lent.{AreNext}
+use Rattle.md_dirs.specs.Files.{name_row}
+use Rattle.md_dirs.specs.Index.{rows_at}
+use Rattle.md_dirs.specs.declared.paths.File.{File}
+use Rattle.md_dirs.specs.declared.rows.Row.{Row}
+
+-- of a value that is there, one thing follows from another
+pub if-ok : {T E : Type 0} {P Q : T → Type 0} (r : Result T E) → ((t : T) → P t → Q t) → IfOk r P → IfOk r Q
+if-ok (Ok t) follows is = follows t is
+if-ok (Err e) follows is = tt
+
+-- nothing is lent past the last row
+pub none-next : (all shown : List Row) (from : ℕ) → length all ≤ from → shown ≡ [] → AreNext all from shown
+none-next all shown from past none = record {
+  each = none ∙ ap (λ (rows : List Row). take (length rows) (drop from all)) (sym none);
+  some = λ within. absurd (omega (arith, within, past));
+}
+
+-- where there is no row, all are before
+pub past : (all : List Row) (from : ℕ) → slice_get all from ≡ None → length all ≤ from
+past [] from none = omega arith
+past (row ∷ all) zero none = cc
+past (row ∷ all) (suc from) none = let rest = past all from none in omega (arith, rest)
+
+-- one row is lent
+pub one-next : (all shown : List Row) (from : ℕ) (row : Row) → slice_get all from ≡ Some row → shown ≡ row ∷ [] → AreNext all from shown
+one-next all shown from row is one =
+    let here = drop_more all from row (slice_get_within all from row is) in
+    let this : row ≡ get_or all from row = sym (get_or_from_slice_get all from row row is) in
+    record {
+      each = one ∙ ap (λ r. r ∷ []) this ∙ ap (take 1) (sym here) ∙ ap (λ (rows : List Row). take (length rows) (drop from all)) (sym one);
+      some = λ _. subst (λ (rows : List Row). 0 < length rows) (sym one) (omega arith);
+    }
+
+module _ (es : List (List ℕ × ℕ)) (order ps : List ℕ) (from : ℕ) (is : ps ≡ take (length ps) (drop from order)) where
+  -- the rows at positions that stand side by side
+  pub rows-part : rows_at es ps ≡ take (length ps) (drop from (rows_at es order))
+  rows-part =
+      ap (rows_at es) is ∙ sym (take-map (λ i. get_or es i ([], 0)) (length ps) (drop from order)) ∙
+      ap (take (length ps)) (sym (drop-map (λ i. get_or es i ([], 0)) from order))
+
+  -- what they show is what the directory shows there
+  pub next-rows : (files : List (Option File)) (shown : List Row) → 0 < length ps → shown ≡ map (name_row files) (rows_at es ps) →
+      AreNext (map (name_row files) (rows_at es order)) from shown
+  next-rows files shown some made =
+      let long : length shown ≡ length ps = ap length made ∙ length-map (rows_at es ps) (name_row files) ∙ length-map ps (λ i. get_or es i ([], 0)) in
+      record {
+        each = made ∙ ap (map (name_row files)) rows-part ∙ sym (take-map (name_row files) (length ps) (drop from (rows_at es order)))
+            ∙ ap (take (length ps)) (sym (drop-map (name_row files) from (rows_at es order)))
+            ∙ ap (λ n. take n (drop from (map (name_row files) (rows_at es order)))) (sym long);
+        some = λ _. subst (λ n. 0 < n) (sym long) some;
+      }
