@@ -1,19 +1,20 @@
 //! A clean: files of tmp that have not been used for 36 hours go.
-ghost use Rattle.std.specs.Prelude.{◌≡◌, IfOk, IfErr, OnErr, None};
+ghost use Rattle.std.specs.Prelude.{◌≡◌, IfOk, IfErr, IsErrOf, OnErr, None};
+ghost use Rattle.md_dirs.specs.Calls.{Obeys, unlink};
 ghost use Rattle.md_core.specs.Tasks.Cleaning.{Remove};
 ghost use Rattle.md_core.specs.Turn.{Takes, IsUntouched};
 ghost use Rattle.md_core.specs.Machines.Clean.{new_cleaning, cleaning_turn, look_turn, unlink_turn, is_old as is_old_by, old_rows as old_rows_by, after_old, after_unlink, tmp as tmp_of};
 
 use crate::error::CoreError;
 use crate::jobs::answer::Answer;
-use crate::jobs::paths::path;
 use crate::jobs::refusal::Refusal;
 use crate::jobs::step::{DirCall, DirReply, Moment};
 use crate::jobs::turn::{Turned, reply_of};
-use md_dirs::{Bytes, Dirs, Path, Place, Row};
-use std::alloc::{AllocError, Global};
+use md_dirs::{Bytes, DirError, Dirs, Path, Place, Row};
+use std::alloc::Global;
 use std::collections::VecDeque;
 use std::marker::Model;
+use std::mem::replace;
 
 /// A file of tmp that was not used for 36 hours, in seconds, is old (maildir(5)).
 const LEAST_SECONDS: u64 = 129_600;
@@ -92,11 +93,7 @@ impl Cleaning {
     {
         match &self.stage {
             Stage::Look => self.look(dirs, at),
-            // The name is copied before the call, since it is let go after it.
-            Stage::Remove { name, .. } => {
-                let tmp = self.tmp(alloc, name)?;
-                self.unlink(dirs, at, tmp)
-            }
+            Stage::Remove { .. } => self.unlink(alloc, dirs, at),
         }
     }
 
@@ -121,8 +118,13 @@ impl Cleaning {
         }
     }
 
-    fn unlink<D: Dirs>(&mut self, dirs: &mut D, at: Moment, tmp: Path) -> Result<Turned, CoreError>
-        ensures ok { (name : _) (rest : _) (files : _) → self.old.stage ≡ Remove name rest files → tmp ≡ tmp_of self.old name
+    fn unlink<D: Dirs>(
+        &mut self,
+        alloc: Global,
+        dirs: &mut D,
+        at: Moment,
+    ) -> Result<Turned, CoreError>
+        ensures ok { (name : _) (rest : _) (files : _) → self.old.stage ≡ Remove name rest files
             → IfOk result (λ t. Takes (unlink_turn self.old name rest files) at
             (D.device dirs.old) t.out t.effect self.new
             (D.device dirs.new)) }
@@ -131,16 +133,31 @@ impl Cleaning {
         ensures dirs { OnErr result (IsUntouched (D.device dirs.old)
             (D.device dirs.new)) }
     {
-        let reply = reply_of(dirs.unlink(&tmp))?;
+        let reply = reply_of(self.take_away(alloc, dirs))?;
         let answer = self.unlinked(reply);
         Ok(Turned::plain(DirCall::Unlink, reply, answer))
     }
 
-    // The path of a name in tmp.
-    fn tmp(&self, alloc: Global, name: &Bytes) -> Result<Path, AllocError>
-        ensures { IfOk result (λ path. path ≡ tmp_of self.now name.now) }
+    // Takes away the name that is next, if one is. The call's path is made of the name itself, which comes back behind the call: no name
+    // is copied.
+    fn take_away<D: Dirs>(&mut self, alloc: Global, dirs: &mut D) -> Result<(), DirError>
+        ensures meets { (name : _) (rest : _) (files : _) → self.old.stage ≡ Remove name rest files
+            → Obeys (unlink (tmp_of self.old name)) (D.device dirs.old) result (D.device dirs.new) }
+        ensures no_memory { IsErrOf result DirError.NoMemory → ⊥ }
+        ensures same { self.new ≡ self.old }
     {
-        path(alloc, self.folder, Place::Tmp, name)
+        let folder = self.folder;
+        let Stage::Remove { name, .. } = &mut self.stage else {
+            return Err(DirError::NotFound);
+        };
+        let path = Path {
+            folder,
+            place: Place::Tmp,
+            name: replace(name, Bytes::of(Vec::new(alloc))),
+        };
+        let taken = dirs.unlink(&path);
+        *name = path.name;
+        taken
     }
 
     // A listing was made, and these rows are of old files.
