@@ -1,6 +1,7 @@
-//! What a world shows. These take no memory.
-ghost use Rattle.std.specs.Prelude.{◌≡◌, length, slice_get, option_map};
-ghost use Rattle.md_dirs.specs.Rows.{rows_of};
+//! What a world shows. These take no memory, but for `names_from`.
+ghost use Rattle.std.specs.Prelude.{◌≡◌, IfOk, length, map, slice_get, option_map};
+ghost use Rattle.md_dirs.specs.Rows.{rows_of, row_shown};
+ghost use Rattle.md_dirs.specs.Lent.{AreNext};
 ghost use Rattle.std.specs.FinMap as finmap;
 ghost use Rattle.md_dirs.specs.State.{IsSound};
 ghost use Rattle.md_core.specs.Mailbox.{Entry, mailbox_of};
@@ -14,6 +15,7 @@ use crate::jobs::step::Event;
 use crate::world::World;
 use crate::world::reading::message_bytes;
 use md_dirs::{Dirs, Place, RowRef};
+use std::alloc::{AllocError, Global};
 
 impl<D: Dirs> World<D> {
     /// The steps so far.
@@ -36,6 +38,20 @@ impl<D: Dirs> World<D> {
             ≡ slice_get (rows_of (dirs_of self.now) folder place) at }
     {
         self.dirs.row_at(folder, place, at)
+    }
+
+    /// Rows of the ordered names of a directory from a position on, one after another: at least one, where there is one. It takes memory
+    /// for them, and is refused only when out of it.
+    pub fn names_from(
+        &self,
+        alloc: Global,
+        folder: u32,
+        place: Place,
+        from: usize,
+    ) -> Result<Vec<RowRef<'_>>, AllocError>
+        ensures { IfOk result (λ rows. AreNext (rows_of (dirs_of self.now) folder place) from (map row_shown rows.items)) }
+    {
+        self.dirs.rows_from(alloc, folder, place, from)
     }
 
     /// The answer of a job, if it has one. None also where there is no such job.
