@@ -3,6 +3,7 @@ mod alike;
 mod bodies;
 mod calls;
 mod image;
+mod lent;
 mod many;
 mod thousand;
 mod values;
