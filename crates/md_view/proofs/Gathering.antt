@@ -1,9 +1,10 @@
 -- The entries of a directory, gathered row by row.
-use Rattle.std.proofs.Common.{ℕ, zero, suc, ◌≡◌, ◌+◌, ◌++◌, List, [], ◌∷◌, Option, Some, None, take, slice_get, refl, sym, ap, subst, ◌∙◌, arith}
-use Rattle.std.proofs.Math.Seq.{take-suc}
+use Rattle.std.proofs.Common.{ℕ, zero, suc, ◌≡◌, ◌+◌, ◌++◌, List, [], ◌∷◌, ◌<◌, ◌≤◌, Option, Some, length, take, drop, slice_get, refl, sym, ap, subst, ◌∙◌, arith}
+use Rattle.std.proofs.Math.Seq.{take-suc, take-add}
 use Rattle.std.specs.declared.cmp.Ordering.TheVariants.{Less}
 use Rattle.std.specs.List.{cons_option}
 use Rattle.std.proofs.lemmas.Cmp.{nat_list_cmp_total}
+use Rattle.std.proofs.lemmas.List.{length-take, length-drop}
 use Rattle.std.proofs.lemmas.List.Elements.{filter_map-append}
 use Rattle.std.proofs.lemmas.Option.{slice_get_within, get_or_from_slice_get}
 use Rattle.md_dirs.specs.declared.paths.Place.{Place}
@@ -27,14 +28,24 @@ module _ (place : Place) (rows : List Row) (at : ℕ) (row : Row) (is : slice_ge
       ∙ filter_map-append (entry_of_row place) (take at rows) (row ∷ [])
       ∙ ap (λ x. entries_of place (take at rows) ++ cons_option x []) made
 
-all_taken : {X : Type 0} (xs : List X) (at : ℕ) → slice_get xs at ≡ None → take at xs ≡ xs
-all_taken [] zero past = refl
-all_taken [] (suc at) past = refl
-all_taken (x ∷ xs) zero past = cc
-all_taken (x ∷ xs) (suc at) past = ap (λ ys. x ∷ ys) (all_taken xs at past)
+-- rows that come next are gathered too
+module _ (place : Place) (all rows : List Row) (at : ℕ) (is : rows ≡ take (length rows) (drop at all)) where
+  pub many_more : entries_of place (take (at + length rows) all) ≡ entries_of place (take at all) ++ entries_of place rows
+  many_more =
+      ap (entries_of place) (take-add at (length rows) all ∙ ap (λ x. take at all ++ x) (sym is))
+      ∙ filter_map-append (entry_of_row place) (take at all) rows
 
-pub gathered-all : (place : Place) (rows : List Row) (at : ℕ) → slice_get rows at ≡ None → entries_of place (take at rows) ≡ entries_of place rows
-gathered-all place rows at past = ap (entries_of place) (all_taken rows at past)
+  pub at_most : 0 < length rows → at + length rows ≤ length all
+  at_most some =
+      let cut = ap length is ∙ length-take (length rows) (drop at all) in
+      let rest = length-drop at all in
+      omega (arith, some, cut, rest)
+
+-- where none come next, all were gathered
+pub ended : (all rows : List Row) (at : ℕ) → (at < length all → 0 < length rows) → length rows ≡ 0 → length all ≤ at
+ended [] rows at some none = omega arith
+ended (row ∷ all) rows zero some none = let here = some (omega arith) in absurd (omega (arith, here, none))
+ended (row ∷ all) rows (suc at) some none = let rest = ended all rows at (λ h. some (omega (arith, h))) none in omega (arith, rest)
 
 -- an entry behind the last of a list in order is behind all of them
 behind-all : (e x : Entry) (es : List Entry) → IsSorted (x ∷ es) → IsBehind (x ∷ es) e → name_cmp x.unique e.unique ≡ Less

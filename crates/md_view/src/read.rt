@@ -1,6 +1,6 @@
 // One directory of a folder, as a listing shows it.
-ghost use Rattle.std.specs.Prelude.{◌≡◌, ◌<◌, IsTrue, IfOk, IfErr};
-ghost use Rattle.md_dirs.specs.Rows.{rows_of};
+ghost use Rattle.std.specs.Prelude.{◌≡◌, ◌<◌, ◌++◌, IsTrue, IfOk, IfErr, OnOk, map};
+ghost use Rattle.md_dirs.specs.Rows.{rows_of, row_shown};
 ghost use Rattle.md_core.specs.History.{names_of};
 ghost use Rattle.md_core.specs.Mailbox.{mailbox_of, is_tmp as is_tmp_place};
 ghost use Rattle.md_core.specs.Runs.{dirs_of};
@@ -10,7 +10,7 @@ ghost use Rattle.md_view.specs.Rows.{entries_of, IsBehind};
 use crate::entry::{Entry, EntryRef, copied};
 use crate::error::ViewError;
 use md_core::World;
-use md_dirs::{Dirs, Place};
+use md_dirs::{Dirs, Place, RowRef};
 use std::alloc::{AllocError, Global};
 
 /// The messages of a directory of a folder now, in order of unique name. There are none in tmp.
@@ -78,17 +78,38 @@ fn gather<'a, D: Dirs>(
 {
     let mut all = Vec::new(alloc);
     let mut is_in_order = true;
-    for at in 0..usize::MAX {
-        let Some(row) = world.names(folder, place, at) else {
+    let mut at = 0usize;
+    loop {
+        let rows = world.names_from(alloc, folder, place, at)?;
+        if rows.is_empty() {
             return Ok((all, is_in_order));
-        };
-        if let Some(entry) = EntryRef::of_row(place, row) {
-            is_in_order = is_in_order && is_behind(&all, &entry);
-            all.push(entry)?;
+        }
+        // No memory holds more names than can be counted.
+        at = at.checked_add(rows.len()).ok_or(AllocError)?;
+        is_in_order = push_rows(&mut all, place, &rows, is_in_order)?;
+    }
+}
+
+// Adds the entries of rows, and says whether all are in order, if those before are.
+fn push_rows<'a>(
+    all: &mut Vec<EntryRef<'a>>,
+    place: Place,
+    rows: &[RowRef<'a>],
+    were_in_order: bool,
+) -> Result<bool, AllocError>
+    ensures entries { OnOk result (all.new.items ≡ all.old.items ++ entries_of place (map row_shown rows.now)) }
+    ensures order { IfOk result (λ are_in_order.
+        IsTrue are_in_order → (IsTrue were_in_order → IsInOrder all.old.items) → IsInOrder all.new.items) }
+{
+    all.reserve(rows.len())?;
+    let mut is_in_order = were_in_order;
+    for row in rows {
+        if let Some(entry) = EntryRef::of_row(place, *row) {
+            is_in_order = is_in_order && is_behind(all, &entry);
+            all.push_reserved(entry);
         }
     }
-    // No memory holds so many names.
-    Err(AllocError)
+    Ok(is_in_order)
 }
 
 // Whether an entry goes after the last of others in order of unique name.
