@@ -1,5 +1,5 @@
 //! Numbers in decimal, printed without an allocation of their own.
-ghost use Rattle.std.specs.Prelude.{◌≡◌, ◌++◌, OnOk};
+ghost use Rattle.std.specs.Prelude.{◌≡◌, ◌++◌, ◌∷◌, [], OnOk};
 ghost use Rattle.std.specs.Fmt.{decimal, signed_decimal};
 
 use itoa::{Buffer, write_digits};
@@ -18,6 +18,17 @@ pub(crate) fn push_number(out: &mut Vec<u8>, number: u64) -> Result<(), AllocErr
         return Ok(out.push(b'0' + number as u8)?);
     }
     let mut digits = [0; MOST_DIGITS];
+    let start = write_digits(number, &mut digits, MOST_DIGITS);
+    out.extend_from_slice(&digits[start..])
+}
+
+/// Appends a number in decimal and one byte behind it, at once.
+#[tactic(auto, using(crate::proofs::Decimals::short_decimal))]
+pub(crate) fn push_number_and(out: &mut Vec<u8>, number: u64, behind: u8) -> Result<(), AllocError>
+    ensures { OnOk result (out.new.items ≡ out.old.items ++ decimal number ++ behind ∷ []) }
+{
+    // The digits come in front of the last byte.
+    let mut digits = [behind; MOST_DIGITS + 1];
     let start = write_digits(number, &mut digits, MOST_DIGITS);
     out.extend_from_slice(&digits[start..])
 }

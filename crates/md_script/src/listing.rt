@@ -2,7 +2,7 @@
 ghost use Rattle.std.specs.Prelude.{◌≡◌, ◌++◌, OnOk, codes};
 ghost use Rattle.md_script.specs.Texts.{place_text, entry_line, entries_text};
 
-use crate::digits::push_number;
+use crate::digits::push_number_and;
 use crate::flags::push_flags;
 use md_dirs::Place;
 use md_view::{Entry, EntryRef};
@@ -43,9 +43,7 @@ fn push_entry(out: &mut Vec<u8>, entry: &EntryRef<'_>) -> Result<(), AllocError>
     out.push(b' ')?;
     push_flags(out, entry.name(), entry.colon())?;
     out.push(b' ')?;
-    push_number(out, entry.size())?;
-    out.push(b'\n')?;
-    Ok(())
+    push_number_and(out, entry.size(), b'\n')
 }
 
 /// Appends the name of a directory of a maildir, and a space. Four bytes whose number is known are copied at once.

@@ -156,6 +156,16 @@ impl<D: Dirs> Dirs for NotedDirs<D> {
         self.dirs.row_at(folder, place, at)
     }
 
+    fn rows_from(
+        &self,
+        alloc: Global,
+        folder: u32,
+        place: Place,
+        from: usize,
+    ) -> Result<Vec<RowRef<'_>>, AllocError> {
+        self.dirs.rows_from(alloc, folder, place, from)
+    }
+
     fn count(&self, folder: u32, place: Place) -> usize {
         self.dirs.count(folder, place)
     }

@@ -1,8 +1,8 @@
 //! What jobs, their steps and messages print.
-ghost use Rattle.std.specs.Prelude.{◌≡◌, ◌++◌, Some, OnOk, option_map};
-ghost use Rattle.md_script.specs.Texts.{job_text, call_text, reply_text, answer_text, answer_line, out_text, bytes_text};
+ghost use Rattle.std.specs.Prelude.{◌≡◌, ◌++◌, Some, OnOk, codes, option_map};
+ghost use Rattle.md_script.specs.Texts.{line_end, job_text, call_text, reply_text, answer_text, answer_line, out_text, bytes_text};
 
-use crate::digits::push_number;
+use crate::digits::{push_number, push_number_and};
 use crate::escapes::push_escaped;
 use crate::flags::push_letters;
 use crate::listing::place_text;
@@ -14,21 +14,16 @@ pub(super) fn push_job(out: &mut Vec<u8>, job: JobId) -> Result<(), AllocError>
     ensures { OnOk result (out.new.items ≡ out.old.items ++ job_text job) }
 {
     out.extend_from_slice(b"job ")?;
-    push_number(out, job)?;
-    out.push(b'\n')?;
-    Ok(())
+    push_number_and(out, job, b'\n')
 }
 
 /// `J CALL REPLY`, for a step of the job, and `J answer A` where it answers the job.
 pub(super) fn push_step(out: &mut Vec<u8>, job: JobId, step: StepOut) -> Result<(), AllocError>
     ensures { OnOk result (out.new.items ≡ out.old.items ++ out_text job step) }
 {
-    push_number(out, job)?;
-    out.push(b' ')?;
+    push_number_and(out, job, b' ')?;
     push_call(out, step.call)?;
-    out.push(b' ')?;
-    out.extend_from_slice(reply_text(step.reply))?;
-    out.push(b'\n')?;
+    out.extend_from_slice(reply_end(step.reply))?;
     match step.answer {
         None => Ok(()),
         Some(answer) => push_answer_line(out, job, answer),
@@ -65,14 +60,15 @@ fn push_call(out: &mut Vec<u8>, call: DirCall) -> Result<(), AllocError>
     }
 }
 
-fn reply_text(reply: DirReply) -> &'static [u8]
-    ensures { result.now ≡ reply_text reply }
+/// The end of a step's line: a space, the reply and a line's end.
+fn reply_end(reply: DirReply) -> &'static [u8]
+    ensures { result.now ≡ codes " " ++ reply_text reply ++ line_end }
 {
     match reply {
-        DirReply::Ok => b"ok",
-        DirReply::Exists => b"exists",
-        DirReply::NotFound => b"notfound",
-        DirReply::Fault => b"fault",
+        DirReply::Ok => b" ok\n",
+        DirReply::Exists => b" exists\n",
+        DirReply::NotFound => b" notfound\n",
+        DirReply::Fault => b" fault\n",
     }
 }
 
