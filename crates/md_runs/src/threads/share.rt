@@ -22,10 +22,12 @@ impl<J: Naming> Share<J> {
         threads: u64,
     ) -> Result<Pass<J>, CoreError> {
         let Share { number, mut pass } = self;
-        for before in 0..jobs {
-            if before.checked_rem(threads) == Some(number) {
-                finish(rt, store, &mut pass, before + 1)?;
+        for round in 0..jobs {
+            let before = round.saturating_mul(threads).saturating_add(number);
+            if before >= jobs {
+                break;
             }
+            finish(rt, store, &mut pass, before + 1)?;
         }
         Ok(pass)
     }
