@@ -27,6 +27,11 @@ pub(crate) fn push_number(out: &mut Vec<u8>, number: u64) -> Result<(), AllocErr
 pub(crate) fn push_number_and(out: &mut Vec<u8>, number: u64, behind: u8) -> Result<(), AllocError>
     ensures { OnOk result (out.new.items ≡ out.old.items ++ decimal number ++ behind ∷ []) }
 {
+    // One digit and the byte are pushed, with no buffer to print in.
+    if number < 10 {
+        push_number(out, number)?;
+        return Ok(out.push(behind)?);
+    }
     // The digits come in front of the last byte.
     let mut digits = [behind; MOST_DIGITS + 1];
     let start = write_digits(number, &mut digits, MOST_DIGITS);
