@@ -103,6 +103,21 @@ impl Dirs {
         Reply::Ok
     }
 
+    /// The same of a whole body, which a file without bytes keeps as it is.
+    fn append_body(&mut self, name: &[u8], body: &mut Vec<u8>, stamp: u64) -> Reply {
+        let Some(number) = self.places[Tmp as usize].files.get(name).copied() else {
+            return Reply::NotFound;
+        };
+        let file = self.files[number].as_mut().unwrap();
+        if file.bytes.is_empty() {
+            std::mem::swap(&mut file.bytes, body);
+        } else {
+            file.bytes.extend_from_slice(body);
+        }
+        file.stamp = stamp;
+        Reply::Ok
+    }
+
     fn link(&mut self, name: &Name) -> Reply {
         let Some(number) = self.places[Tmp as usize].files.get(name).copied() else {
             return Reply::NotFound;
@@ -196,7 +211,7 @@ enum Writing {
 }
 
 enum Task {
-    Deliver { unique: Name, body: Vec<u8>, chunk: usize, stage: Writing },
+    Deliver { unique: Name, body: Vec<u8>, size: usize, chunk: usize, stage: Writing },
     Flag { unique: Name, add: Flags, remove: Flags, tries: u64, act: Option<(Name, Flags)> },
 }
 
@@ -239,14 +254,19 @@ fn out(reply: Reply, answer: Option<Answer>) -> Out {
 impl Task {
     fn step(&mut self, dirs: &mut Dirs, clock: u64, own: u64) -> Out {
         match self {
-            Task::Deliver { unique, body, chunk, stage } => match stage {
+            Task::Deliver { unique, body, size, chunk, stage } => match stage {
                 Writing::Start => {
                     let reply = dirs.create(Tmp, unique.clone(), clock);
                     *stage = Writing::Bytes(own, 0);
                     out(reply, (reply != Reply::Ok).then_some(Answer::NameTaken))
                 }
                 Writing::Bytes(start, _) if own.saturating_sub(*start) >= 86_400 => out(dirs.unlink(unique), Some(Answer::TimedOut)),
-                Writing::Bytes(_, written) if *written < body.len() => {
+                Writing::Bytes(_, written) if *written == 0 && *size > 0 && *size <= *chunk => {
+                    let reply = dirs.append_body(unique, body, clock);
+                    *written = *size;
+                    out(reply, (reply != Reply::Ok).then_some(Answer::TmpGone))
+                }
+                Writing::Bytes(_, written) if *written < *size => {
                     let end = body.len().min(written.saturating_add(*chunk));
                     let reply = dirs.append(unique, &body[*written..end], clock);
                     *written = end;
@@ -256,7 +276,7 @@ impl Task {
                     let reply = dirs.link(unique);
                     if reply == Reply::Ok {
                         *stage = Writing::Linked;
-                        return Out { reply, answer: None, effect: Some(Change::Add(unique.clone(), body.len() as u64)) };
+                        return Out { reply, answer: None, effect: Some(Change::Add(unique.clone(), *size as u64)) };
                     }
                     *stage = Writing::Undo(Answer::NameTaken);
                     out(reply, (reply == Reply::NotFound).then_some(Answer::TmpGone))
@@ -430,7 +450,7 @@ fn store(mixed: bool) -> Store {
     }
     for number in 0..JOBS {
         let task = if mixed && number % 2 == 0 {
-            Task::Deliver { unique: name(MESSAGES + number).into(), body: vec![b'x'; 2048], chunk: 4096, stage: Writing::Start }
+            Task::Deliver { unique: name(MESSAGES + number).into(), body: vec![b'x'; 2048], size: 2048, chunk: 4096, stage: Writing::Start }
         } else {
             let (add, remove) = if number / FLAGGED % 2 == 0 { (1 << 5, 0) } else { (0, 1 << 5) };
             Task::Flag { unique: name(number % FLAGGED).into(), add, remove, tries: 16, act: None }
