@@ -46,3 +46,9 @@ pub mod Keeping
 pub mod Reopened
 pub mod Parting
 pub mod ReadLonger
+pub mod Uniqued
+pub mod Mailing
+pub mod Posted
+pub mod Coming
+pub mod Writing
+pub mod Mailbegun

@@ -42,6 +42,11 @@ pub record KeepsPaths (old new : Found) : Type 0 where
   pub wrong : Keeps clause.NotADirectory old new
   pub overwrites : Keeps clause.Overwritten old new
 
+-- Of the clauses that go by paths of messages that are added nothing else is found than before.
+pub record KeepsAdded (old new : Found) : Type 0 where
+  pub two : Keeps clause.TwoNames old new
+  pub again : Keeps clause.UsedAgain old new
+
 -- the clause goes by what was done to files
 abbrev pub GoesByFiles : Clause → Type 0
 GoesByFiles clause.SeenBeforeWhole = Unit {0}

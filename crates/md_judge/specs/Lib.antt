@@ -18,4 +18,6 @@ pub mod Moments
 pub mod Recalled
 pub mod Acts
 pub mod Filed
+pub mod Copies
+pub mod Mailed
 pub mod Verdict

@@ -13,7 +13,7 @@ ghost use Rattle.md_judge.specs.Law.{turn, Breaks, NotADirectory, Overwritten};
 ghost use Rattle.md_judge.specs.Told.{at};
 ghost use Rattle.md_judge.specs.Recalled.{IsToldAt, HasFolders};
 ghost use Rattle.md_judge.specs.Verdict.{IsProved, Remembers};
-ghost use Rattle.md_judge.specs.Names.{AreNumbered, KeepNumbers};
+ghost use Rattle.md_judge.specs.Names.{AreNumbered, KeepNumbers, GrowsUniques};
 ghost use Rattle.md_judge.specs.Open.{AreNames, AreOpen, KeepsOpen};
 
 mod about;
@@ -222,6 +222,7 @@ impl Judge {
         ensures known { (lines : ℕ → ℕ) (l : Log) (i : ℕ) → IsToldAt lines l i self.old.known → OnOk result (IsToldAt lines l i self.new.known) }
         ensures numbers { IfOk result (λ numbers. AreNames self.new.known.names names.now numbers.items) }
         ensures keeps { KeepNumbers self.old.known.names self.new.known.names }
+        ensures uniques { OnOk result (GrowsUniques self.old.known.names self.new.known.names) }
         ensures numbered { OnOk result (AreNumbered self.new.known.names) }
         ensures clock { OnOk result (self.new.known.clock ≡ self.old.known.clock) }
         ensures rest { (self.new.watch ≡ self.old.watch) × (self.new.listings ≡ self.old.listings) × (self.new.actor_names ≡ self.old.actor_names) }

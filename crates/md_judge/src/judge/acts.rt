@@ -9,6 +9,7 @@ ghost use Rattle.md_judge.specs.Law.{turn, IsWrongReply, reply_by};
 ghost use Rattle.md_judge.specs.Found.{NotesOne, NotesFiles};
 ghost use Rattle.md_judge.specs.Filed.{AreFiled, IsJudged, BrokenByFiles};
 ghost use Rattle.md_judge.specs.Logs.{Log};
+ghost use Rattle.md_judge.specs.Mailed.{TellsMail, NotesAdded};
 ghost use Rattle.md_log.specs.declared.line.Step.{Step};
 ghost use Rattle.md_judge.specs.Changes.{IsOlder, Leads};
 ghost use Rattle.md_judge.specs.Files.{named_by, turned_by};
@@ -76,6 +77,10 @@ impl Watch {
         ensures finds { (path : Spot → Path) (who : ℕ → List ℕ) (many i : ℕ) (l : Log) (x : Step) → AreFiled who many l i self.old.files.all.items
             → IsJudged path who many l i x actor call.now known.now act.now
             → OnOk result (NotesFiles (BrokenByFiles (turn l i x)) self.old.found self.new.found) }
+        ensures mailed { (path : Spot → Path) (who : ℕ → List ℕ) (many i : ℕ) (l : Log) (x : Step) → TellsMail known.now.names l i self.old.mail
+            → IsJudged path who many l i x actor call.now known.now act.now → OnOk result (TellsMail known.now.names l (suc i) self.new.mail) }
+        ensures added { (path : Spot → Path) (who : ℕ → List ℕ) (many i : ℕ) (l : Log) (x : Step) → TellsMail known.now.names l i self.old.mail
+            → IsJudged path who many l i x actor call.now known.now act.now → OnOk result (NotesAdded (turn l i x) self.old.found self.new.found) }
     {
         self.found
             .note(act.is_wrong, Clause::NotADirectory, act.wrong_before);
@@ -100,6 +105,7 @@ impl Watch {
     ) -> Result<(), LineFault>
         ensures found { OnOk result (self.new.found ≡ self.old.found) }
         ensures files { OnOk result (self.new.files ≡ self.old.files) }
+        ensures mail { OnOk result (self.new.mail ≡ self.old.mail) }
     {
         if let Some(unique) = known.unique_at(spot) {
             let key = (spot.folder, unique);

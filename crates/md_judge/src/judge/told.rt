@@ -1,6 +1,6 @@
 //! What actors told their users, beside what is so.
 ghost use Rattle.std.specs.Prelude.{◌≡◌};
-ghost use Rattle.md_judge.specs.Found.{KeepsPaths, KeepsFiles};
+ghost use Rattle.md_judge.specs.Found.{KeepsPaths, KeepsFiles, KeepsAdded};
 
 use super::claims::{Claim, check_claim};
 use super::flags::bits_of;
@@ -23,7 +23,9 @@ impl Watch {
     )
         ensures paths { KeepsPaths self.old.found self.new.found }
         ensures others { KeepsFiles self.old.found self.new.found }
+        ensures added { KeepsAdded self.old.found self.new.found }
         ensures files { self.new.files ≡ self.old.files }
+        ensures mail { self.new.mail ≡ self.old.mail }
     {
         let claim = self.claim(known, listings, actor, said, key);
         check_claim(&mut self.found, &claim);

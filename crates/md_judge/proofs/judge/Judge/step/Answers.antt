@@ -11,7 +11,9 @@ use Rattle.md_log.specs.declared.line.Call.TheVariants as call
 use Rattle.md_judge.specs.declared.judge.files.Files.{Files}
 use Rattle.md_judge.specs.Acts.{ReadsNone}
 use Rattle.md_judge.specs.Filed.{AreFiled, IsJudged, BrokenByFiles, name_at}
-use Rattle.md_judge.specs.Found.{Has, NotesOne, KeepsFiles, NotesFiles}
+use Rattle.md_judge.specs.Found.{Has, NotesOne, KeepsAdded, KeepsFiles, NotesFiles}
+use Rattle.md_judge.specs.declared.judge.mail.Mail.{Mail}
+use Rattle.md_judge.specs.Mailed.{TellsMail, NotesAdded}
 use Rattle.md_judge.specs.Open.{first_in, shows_in, KeepsPart, AreNames, AreOpen, IsToldPart}
 use Rattle.md_judge.specs.Recalled.{IsToldAt, HasFolders}
 use Rattle.md_judge.specs.Words.{AreApart}
@@ -25,9 +27,12 @@ use Rattle.md_judge.specs.Verdict.{IsProved}
 use Rattle.md_judge.proofs.Acting.{none-overwritten, found-overwritten, found-wrong, found-still}
 use Rattle.md_judge.proofs.Alike.{acts-by, filed-grows}
 use Rattle.md_judge.proofs.Judged.{still-filed, still-lawful}
+use Rattle.md_judge.proofs.Mailbegun.{tells-still, still-two, still-again}
+use Rattle.md_judge.proofs.Posted.{tells-grows}
 use Rattle.md_judge.proofs.Proved.{kept-proved, noted-proved}
+use Rattle.md_judge.proofs.Uniqued.{grows-on}
 use Rattle.md_judge.proofs.Reopened.{IsNoPart, open-before, open-rests, open-next, answer-no-part, reads-none}
-use Rattle.md_judge.proofs.Sparing.{found-none, found-one, ok-then, ok-two}
+use Rattle.md_judge.proofs.Sparing.{found-none, found-one, ok-then, ok-two, ok-three}
 use Rattle.md_judge.proofs.Stepping.{at-next, clocked}
 use Rattle.md_judge.proofs.judge.Judge.step.Goals as goal
 
@@ -188,14 +193,21 @@ returns-in-List-clause-told c = λ lines l i keeps is here short now there.
     (still-filed who (length names) l i x step-is actor acts c.args.self.now.watch.files.all.items are c.step.new.self.names still apart) in
     let judge = c.numbers.new.self in
     let told = c.in_ok-names-in-List.ensures.known lines l (suc i) (c.in_ok-self.ensures.told lines l i keeps.told is here short there) in
-    ok-two c.list.result (c.list.new.self.files ≡ judge.watch.files) (AreOpen lines judge.actor_names judge.known.names l (suc i) c.list.new.listings) _
-    (λ same opens. record {
+    let first = c.args.self.now in
+    let grows = grows-on first.known.names c.step.new.self.names judge.known.names c.in_ok-self.ensures.uniques c.in_ok-names-in-List.ensures.uniques in
+    let mail = tells-still l i still judge.known.names first.watch.mail
+    (tells-grows first.known.names judge.known.names grows l i first.watch.mail keeps.mailed) in
+    ok-three c.list.result (c.list.new.self.files ≡ judge.watch.files) (AreOpen lines judge.actor_names judge.known.names l (suc i) c.list.new.listings)
+    (c.list.new.self.mail ≡ judge.watch.mail) _
+    (λ same opens mailed. record {
       told = told;
       filed = subst (λ (ws : List (List ℕ)). AreFiled (name_at ws) (length ws) l (suc i) c.list.new.self.files.all.items) (sym c.numbers.ensures.rest.2)
           (subst (λ (f : Files). AreFiled who (length names) l (suc i) f.all.items) (sym (same ∙ ap (λ (w : Watch). w.files) c.numbers.ensures.rest.0)) kept);
       clock = c.in_ok-names-in-List.ensures.clock ∙ c.step.ensures.clock l i keeps.clock is;
       opens = opens;
-    }) c.list.ensures.files (returns-in-List-clause-opens c lines l i keeps.opens is here now)
+      mailed = subst (λ (m : Mail). TellsMail judge.known.names l (suc i) m)
+          (sym (mailed ∙ ap (λ (w : Watch). w.mail) c.numbers.ensures.rest.0 ∙ c.begin.ensures.mail)) mail;
+    }) c.list.ensures.files (returns-in-List-clause-opens c lines l i keeps.opens is here now) c.list.ensures.mail
 
 pub returns-in-List-clause-broken : goal.returns-in-List-clause-broken
 returns-in-List-clause-broken c = λ lines l i keeps is here short now rises there.
@@ -215,16 +227,18 @@ returns-in-List-clause-broken c = λ lines l i keeps is here short now rises the
     let new = c.list.new.self.found in
     let wrong = Has new.broken clause.NotADirectory ↔ NotADirectory t in
     let overwritten = Has new.broken clause.Overwritten ↔ Overwritten t in
-    ok-two c.list.result (wrong × overwritten) (KeepsFiles shown new) ((k : Clause) → IsProved k → Has new.broken k ↔ Breaks k t)
-    (λ paths kept. kept-proved t c.begin.new.self.found shown new c.begin.ensures.nothing c.in_ok-names-in-List.ensures.found paths.0 paths.1 kept
-    (still-lawful who (length names) l i x step-is actor acts c.args.self.now.watch.files.all.items are c.step.new.self.names still apart))
+    ok-three c.list.result (wrong × overwritten) (KeepsFiles shown new) (KeepsAdded shown new) ((k : Clause) → IsProved k → Has new.broken k ↔ Breaks k t)
+    (λ paths kept added. kept-proved t c.begin.new.self.found shown new c.begin.ensures.nothing c.in_ok-names-in-List.ensures.found paths.0 paths.1 kept
+    (still-lawful who (length names) l i x step-is actor acts c.args.self.now.watch.files.all.items are c.step.new.self.names still apart)
+    added (still-two l i still x) (still-again l i still x))
     (ok-two c.list.result wrong overwritten (wrong × overwritten) (λ w o. (w, o))
     (returns-in-List-clause-read c lines l i keeps.told keeps.opens is here short there now rises)
-    (returns-in-List-clause-overwritten c lines l i keeps.told is here short there)) c.list.ensures.others
+    (returns-in-List-clause-overwritten c lines l i keeps.told is here short there)) c.list.ensures.others c.list.ensures.added
 
 pub returns-in-Answer-clause-told : goal.returns-in-Answer-clause-told
 returns-in-Answer-clause-told c = λ lines l i keeps is here short now there.
     let x = c.args.step in
+    let first = c.args.self.now in
     let step-is : IsStep l i x = (c.args.line, is) in
     let names = c.number.new.self in
     let actor = c.in_ok-actor.actor in
@@ -242,6 +256,10 @@ returns-in-Answer-clause-told c = λ lines l i keeps is here short now there.
           (still-filed who (length names) l i x step-is actor acts c.args.self.now.watch.files.all.items are c.step.new.self.names still apart);
       clock = c.step.ensures.clock l i keeps.clock is;
       opens = returns-in-Answer-clause-opens c lines l i keeps.opens is here now;
+      mailed = subst (λ (m : Mail). TellsMail c.unique.new.self l (suc i) m) (sym (c.answer.ensures.mail ∙ c.begin.ensures.mail))
+          (tells-still l i still c.unique.new.self first.watch.mail (tells-grows first.known.names c.unique.new.self
+          (grows-on first.known.names c.step.new.self.names c.unique.new.self c.in_ok-self.ensures.uniques c.in_ok-unique-in-Answer.ensures.uniques)
+          l i first.watch.mail keeps.mailed));
     }
 
 pub returns-in-Answer-clause-broken : goal.returns-in-Answer-clause-broken
@@ -262,6 +280,7 @@ returns-in-Answer-clause-broken c = λ lines l i keeps is here short now rises t
     (returns-in-Answer-clause-read c lines l i keeps.told keeps.opens is here short there now rises)
     (returns-in-Answer-clause-overwritten c lines l i keeps.told is here short there) c.answer.ensures.others
     (still-lawful who (length names) l i x step-is actor acts c.args.self.now.watch.files.all.items are c.step.new.self.names still apart)
+    c.answer.ensures.added (still-two l i still x) (still-again l i still x)
 
 pub returns-clause-told : goal.returns-clause-told
 returns-clause-told c = λ lines l i keeps is here short now there.
@@ -279,14 +298,19 @@ returns-clause-told c = λ lines l i keeps is here short now there.
     let clock = c.step.ensures.clock l i keeps.clock is in
     let judged : IsJudged done.0 who (length names) l i x actor x.call c.step.new.self c.in_ok-self.field-0 =
     record { step = step-is; call = refl; acts = acts; clock = clock; done = done.1 } in
-    ok-two c.call.result (AreFiled who (length names) l (suc i) c.call.new.self.files.all.items)
-    (AreOpen lines names c.step.new.self.names l (suc i) c.args.self.now.listings) _
-    (λ filed opens. record {
+    let first = c.args.self.now in
+    let mail = subst (λ (m : Mail). TellsMail c.step.new.self.names l i m) (sym c.begin.ensures.mail)
+    (tells-grows first.known.names c.step.new.self.names c.in_ok-self.ensures.uniques l i first.watch.mail keeps.mailed) in
+    ok-three c.call.result (AreFiled who (length names) l (suc i) c.call.new.self.files.all.items)
+    (AreOpen lines names c.step.new.self.names l (suc i) c.args.self.now.listings) (TellsMail c.step.new.self.names l (suc i) c.call.new.self.mail) _
+    (λ filed opens mailed. record {
       told = c.in_ok-self.ensures.told lines l i keeps.told is here short there;
       filed = filed;
       clock = clock;
       opens = opens;
+      mailed = mailed;
     }) (c.call.ensures.filed done.0 who (length names) i l x kept judged) (returns-clause-opens c lines l i keeps.opens is here now)
+    (c.call.ensures.mailed done.0 who (length names) i l x mail judged)
 
 pub returns-clause-broken : goal.returns-clause-broken
 returns-clause-broken c = λ lines l i keeps is here short now rises there.
@@ -309,8 +333,13 @@ returns-clause-broken c = λ lines l i keeps is here short now rises there.
     let new = c.call.new.self.found in
     let wrong = Has new.broken clause.NotADirectory ↔ NotADirectory t in
     let overwritten = Has new.broken clause.Overwritten ↔ Overwritten t in
-    ok-two c.call.result (wrong × overwritten) (NotesFiles (BrokenByFiles t) begun new) ((k : Clause) → IsProved k → Has new.broken k ↔ Breaks k t)
+    let first = c.args.self.now in
+    let mail = subst (λ (m : Mail). TellsMail c.step.new.self.names l i m) (sym c.begin.ensures.mail)
+    (tells-grows first.known.names c.step.new.self.names c.in_ok-self.ensures.uniques l i first.watch.mail keeps.mailed) in
+    ok-three c.call.result (wrong × overwritten) (NotesFiles (BrokenByFiles t) begun new) (NotesAdded t begun new)
+    ((k : Clause) → IsProved k → Has new.broken k ↔ Breaks k t)
     (λ paths. noted-proved t begun begun new c.begin.ensures.nothing refl paths.0 paths.1)
     (ok-two c.call.result wrong overwritten (wrong × overwritten) (λ w o. (w, o))
     (returns-clause-read c lines l i keeps.told keeps.opens is here short there now rises)
     (returns-clause-overwritten c lines l i keeps.told is here short there)) (c.call.ensures.finds done.0 who (length names) i l x kept judged)
+    (c.call.ensures.added done.0 who (length names) i l x mail judged)

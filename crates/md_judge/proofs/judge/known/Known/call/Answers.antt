@@ -7,7 +7,9 @@ use Rattle.md_judge.specs.Moments.{GoesOn}
 use Rattle.md_judge.specs.Recalled.{IsSpotOf, HasFolders}
 use Rattle.md_judge.proofs.Acting.{acts-at, acts-between, acts-none, done-none}
 use Rattle.md_judge.proofs.Pathed.{path_by, path-is}
-use Rattle.md_judge.proofs.Stepping.{rests}
+use Rattle.md_judge.proofs.Stepping.{rests, on-ok}
+use Rattle.md_judge.proofs.Uniqued.{grows-same, grows-on}
+use Rattle.md_judge.specs.declared.judge.tables.Names.{Names}
 use Rattle.md_judge.proofs.Telling.{known-by}
 use Rattle.md_judge.specs.Names.{IsNumber}
 use Rattle.md_judge.specs.Acts.{ReadsNone}
@@ -55,6 +57,8 @@ returns-in_ok-spot-in-At c = record {
   clock = c.at.ensures.clock ∙ c.spot.ensures.clock;
   keeps = λ name n is. subst (λ t. IsNumber t name n) (sym c.at.ensures.names) (c.spot.ensures.keeps name n is);
   lists = λ reads. absurd (reads (subst ReadsNone (sym c.in-At.is) tt));
+  uniques = on-ok c.at.result (grows-on c.args.self.now.names c.spot.new.self.names c.at.new.self.names c.in_ok-spot-in-At.ensures.uniques
+      (grows-same c.spot.new.self.names c.at.new.self.names (ap (λ (n : Names). n.uniques) c.at.ensures.names)));
 }
 
 pub returns-in_ok-new-in-Between : goal.returns-in_ok-new-in-Between
@@ -114,6 +118,14 @@ returns-in_ok-new-in-Between c = record {
   keeps = λ name n is. subst (λ t. IsNumber t name n) (sym c.between.ensures.names)
       (c.spot-in-Between-2.ensures.keeps name n (c.spot-in-Between.ensures.keeps name n is));
   lists = λ reads. absurd (reads (subst ReadsNone (sym c.in-Between.is) tt));
+  uniques =
+      let first = c.args.self.now.names in
+      let second = c.spot-in-Between.new.self.names in
+      let third = c.spot-in-Between-2.new.self.names in
+      let last = c.between.new.self.names in
+      on-ok c.between.result (grows-on first third last
+      (grows-on first second third c.in_ok-old-in-Between.ensures.uniques c.in_ok-new-in-Between.ensures.uniques)
+      (grows-same third last (ap (λ (n : Names). n.uniques) c.between.ensures.names)));
 }
 
 pub returns-in-List : goal.returns-in-List
@@ -143,6 +155,7 @@ returns-in-List c = record {
   clock = refl;
   keeps = λ name n is. is;
   lists = λ reads. refl;
+  uniques = grows-same c.args.self.now.names c.args.self.now.names refl;
 }
 
 pub returns-in-List-2 : goal.returns-in-List-2
@@ -172,4 +185,5 @@ returns-in-List-2 c = record {
   clock = refl;
   keeps = λ name n is. is;
   lists = λ reads. refl;
+  uniques = grows-same c.args.self.now.names c.args.self.now.names refl;
 }

@@ -1,11 +1,14 @@
 use Rattle.std.proofs.Common.{suc, ◌≡◌, IsTrue, IsSome, sym, subst, ap, ◌∙◌}
 use Rattle.md_log.specs.declared.clause.Clause.TheVariants as clause
 use Rattle.md_judge.specs.declared.judge.watch.Watch.{Watch}
-use Rattle.md_judge.specs.Found.{Keeps, NotesOne, KeepsPaths, KeepsFiles, NotesFiles}
+use Rattle.md_judge.specs.Found.{Keeps, NotesOne, KeepsPaths, KeepsAdded, KeepsFiles, NotesFiles}
 use Rattle.md_judge.specs.declared.judge.files.Files.{Files}
 use Rattle.md_judge.specs.Filed.{AreFiled, BrokenByFiles}
 use Rattle.md_judge.specs.Law.{turn}
-use Rattle.md_judge.proofs.Sparing.{keeps-same, keeps-one, keeps-on, noted, unnoted, notes-one, one-notes, ok-then, same-files, files-on, notes-files, unnoted-files}
+use Rattle.md_judge.specs.declared.judge.mail.Mail.{Mail}
+use Rattle.md_judge.specs.Mailed.{MakeStep, TellsMail, NotesAdded}
+use Rattle.md_judge.proofs.Posted.{tells-step}
+use Rattle.md_judge.proofs.Sparing.{keeps-same, keeps-one, keeps-on, noted, unnoted, notes-one, one-notes, ok-then, same-files, files-on, notes-files, unnoted-files, unnoted-added, added-same, added-on, added-notes}
 use Rattle.md_judge.proofs.judge.watch.Watch.call.Goals.{in-Some-Some+in_ok-note_act, in-Some+in-None-1, in-None-1}
 use Rattle.md_judge.proofs.judge.watch.Watch.call.Goals as goal
 
@@ -18,6 +21,12 @@ returns c =
     let new = c.change.new.self.found in
     let wrong = c.args.act.now.is_wrong in
     let turned = c.args.act.now.change.turned in
+    let names = c.args.known.now.names in
+    let mail : c.match-act.self.mail ≡ c.args.self.now.mail = elim c.match-act.branch [
+      | in-Some-Some+in_ok-note_act w ↦ ap (λ (s : Watch). s.mail) w.self-is ∙ w.in_ok-note_act.ensures.mail
+      | in-Some+in-None-1 w ↦ ap (λ (s : Watch). s.mail) w.self-is
+      | in-None-1 w ↦ ap (λ (s : Watch). s.mail) w.self-is
+    ] in
     let acts : KeepsPaths filed acted = elim c.match-act.branch [
       | in-Some-Some+in_ok-note_act w ↦ keeps-same filed acted (ap (λ (s : Watch). s.found) w.self-is ∙ w.in_ok-note_act.ensures.found)
       | in-Some+in-None-1 w ↦ keeps-same filed acted (ap (λ (s : Watch). s.found) w.self-is)
@@ -56,4 +65,21 @@ returns c =
           ok-then c.change.result (KeepsFiles acted new) (NotesFiles broken old new)
           (λ last. notes-files broken old noting filed new first (c.in_ok-call.ensures.finds path who many i l x are judged) (files-on filed acted new then last))
           c.change.ensures.others;
+      mailed = λ path who many i l x tells judged.
+          let change = c.args.act.now.change in
+          let last = c.change.new.self.mail in
+          ok-then c.change.result (MakeStep names change c.match-act.self.mail last) (TellsMail names l (suc i) last)
+          (λ makes. tells-step path names l i change judged.done.leads judged.done.spots c.args.self.now.mail last
+          (subst (λ (m : Mail). MakeStep names change m last) mail makes) tells) c.change.ensures.mailed;
+      added = λ path who many i l x tells judged.
+          let t = turn l i x in
+          let first : KeepsAdded old noting = unnoted-added wrong clause.NotADirectory (λ e. cc) (λ e. cc) old noting c.note.ensures in
+          let then : KeepsAdded filed acted = elim c.match-act.branch [
+            | in-Some-Some+in_ok-note_act w ↦ added-same filed acted (ap (λ (s : Watch). s.found) w.self-is ∙ w.in_ok-note_act.ensures.found)
+            | in-Some+in-None-1 w ↦ added-same filed acted (ap (λ (s : Watch). s.found) w.self-is)
+            | in-None-1 w ↦ added-same filed acted (ap (λ (s : Watch). s.found) w.self-is)
+          ] in
+          let keeps = added-on old noting acted first (added-on noting filed acted c.in_ok-call.ensures.added then) in
+          ok-then c.change.result (NotesAdded t acted new) (NotesAdded t old new) (added-notes t old acted new keeps)
+          (c.change.ensures.added path l i x judged.done (subst (λ (m : Mail). TellsMail names l i m) (sym mail) tells));
     }

@@ -1,8 +1,8 @@
 use Rattle.std.proofs.Common.{sym, subst, ap}
 use Rattle.md_log.specs.declared.clause.Clause.TheVariants as clause
 use Rattle.md_judge.specs.declared.judge.watch.Watch.{Watch}
-use Rattle.md_judge.specs.Found.{KeepsPaths, KeepsFiles}
-use Rattle.md_judge.proofs.Sparing.{paths-kept, keeps-same, files-kept, same-files}
+use Rattle.md_judge.specs.Found.{KeepsPaths, KeepsFiles, KeepsAdded}
+use Rattle.md_judge.proofs.Sparing.{paths-kept, keeps-same, files-kept, same-files, added-kept, added-same}
 use Rattle.md_judge.proofs.judge.watch.Watch.end_reading.Goals.{then-is_complete, else-is_complete}
 use Rattle.md_judge.proofs.judge.watch.Watch.end_reading.Goals as goal
 
@@ -32,4 +32,21 @@ pub returns-clause-files : goal.returns-clause-files
 returns-clause-files c = elim c.if-is_complete.branch [
   | then-is_complete w ↦ ap (λ (s : Watch). s.files) w.self-is
   | else-is_complete w ↦ ap (λ (s : Watch). s.files) w.self-is
+]
+
+pub returns-clause-added : goal.returns-clause-added
+returns-clause-added c =
+    let found = c.args.self.now.found in
+    elim c.if-is_complete.branch [
+      | then-is_complete w ↦
+          let finds = w.check_listing.ensures.finds in
+          subst (λ (s : Watch). KeepsAdded found s.found) (sym w.self-is)
+          (added-kept found w.check_listing.new.found (finds clause.TwoNames) (finds clause.UsedAgain))
+      | else-is_complete w ↦ added-same found c.if-is_complete.self.found (ap (λ (s : Watch). s.found) w.self-is)
+    ]
+
+pub returns-clause-mail : goal.returns-clause-mail
+returns-clause-mail c = elim c.if-is_complete.branch [
+  | then-is_complete w ↦ ap (λ (s : Watch). s.mail) w.self-is
+  | else-is_complete w ↦ ap (λ (s : Watch). s.mail) w.self-is
 ]

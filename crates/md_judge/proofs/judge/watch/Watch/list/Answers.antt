@@ -16,8 +16,8 @@ use Rattle.md_judge.specs.Told.{Shows}
 use Rattle.md_judge.specs.declared.judge.listing.Reading.{Reading}
 use Rattle.md_log.specs.declared.clause.Clause.TheVariants as clause
 use Rattle.md_judge.specs.declared.judge.watch.Watch.{Watch}
-use Rattle.md_judge.specs.Found.{Keeps, NotesOne, KeepsPaths, KeepsFiles}
-use Rattle.md_judge.proofs.Sparing.{one-kept, keeps-one, keeps-same, notes-one, files-kept, same-files, files-on}
+use Rattle.md_judge.specs.Found.{Keeps, NotesOne, KeepsPaths, KeepsFiles, KeepsAdded}
+use Rattle.md_judge.proofs.Sparing.{one-kept, keeps-one, keeps-same, notes-one, files-kept, same-files, files-on, added-kept, added-same, added-on}
 use Rattle.md_judge.proofs.judge.watch.Watch.list.Goals.{in-Some, in-None, in-Some-directory, in_default, in-More, in_default-reply+in_ok-end_reading-in_default-reply}
 use Rattle.md_judge.proofs.judge.watch.Watch.list.Goals as goal
 
@@ -65,6 +65,36 @@ returns-clause-files c =
     elim c.match-reply.branch [
       | in_default-reply+in_ok-end_reading-in_default-reply w ↦ ap (λ (s : Watch). s.files) w.self-is ∙ w.in_ok-end_reading-in_default-reply.ensures.files ∙ first
       | in-More w ↦ ap (λ (s : Watch). s.files) w.self-is ∙ first
+    ]
+
+pub returns-clause-added : goal.returns-clause-added
+returns-clause-added c =
+    let old = c.args.self.now.found in
+    let part = c.match-directory.self.found in
+    let new = c.match-reply.self.found in
+    let first : KeepsAdded old part = elim c.match-directory.branch [
+      | in-Some-directory w ↦
+          let finds = w.check_part.ensures.finds in
+          subst (λ (s : Watch). KeepsAdded old s.found) (sym w.self-is)
+          (added-kept old w.check_part.new.found (finds clause.TwoNames) (finds clause.UsedAgain))
+      | in_default w ↦ added-same old part (ap (λ (s : Watch). s.found) w.self-is)
+    ] in
+    let then : KeepsAdded part new = elim c.match-reply.branch [
+      | in_default-reply+in_ok-end_reading-in_default-reply w ↦
+          subst (λ (s : Watch). KeepsAdded part s.found) (sym w.self-is) w.in_ok-end_reading-in_default-reply.ensures.added
+      | in-More w ↦ added-same part new (ap (λ (s : Watch). s.found) w.self-is)
+    ] in
+    added-on old part new first then
+
+pub returns-clause-mail : goal.returns-clause-mail
+returns-clause-mail c =
+    let first : c.match-directory.self.mail ≡ c.args.self.now.mail = elim c.match-directory.branch [
+      | in-Some-directory w ↦ ap (λ (s : Watch). s.mail) w.self-is
+      | in_default w ↦ ap (λ (s : Watch). s.mail) w.self-is
+    ] in
+    elim c.match-reply.branch [
+      | in_default-reply+in_ok-end_reading-in_default-reply w ↦ ap (λ (s : Watch). s.mail) w.self-is ∙ w.in_ok-end_reading-in_default-reply.ensures.mail ∙ first
+      | in-More w ↦ ap (λ (s : Watch). s.mail) w.self-is ∙ first
     ]
 
 -- what was kept of the folder before is in the listing that a part goes on with

@@ -5,4 +5,5 @@ abbrev pub invariant-loop-folder : goal.invariant-loop-folder
 invariant-loop-folder l = record {
   found : l.self.found ≡ l.fn.self.found;
   files : l.self.files ≡ l.fn.self.files;
+  mail : l.self.mail ≡ l.fn.self.mail;
 }
