@@ -5,6 +5,7 @@ use Rattle.md_judge.specs.Filed.{AreFiled, name_at}
 use Rattle.md_judge.proofs.Beginning.{folder-told}
 use Rattle.md_judge.proofs.Opened.{filed-opening}
 use Rattle.md_judge.proofs.ReadLonger.{open-first}
+use Rattle.md_judge.proofs.Regathered.{listings-first}
 use Rattle.md_judge.proofs.Stepping.{on-ok}
 use Rattle.md_judge.proofs.judge.Judge.add_folder.Goals as goal
 
@@ -19,6 +20,7 @@ returns c = record {
             (ap (λ (s : State). s.files) opening) keeps.filed);
         clock = keeps.clock ∙ sym same;
         opens = open-first lines lines names c.args.self.now.known.names l l' c.args.self.now.listings keeps.opens;
+        gathers = listings-first lines lines names c.args.self.now.known.names l l' c.args.self.now.listings keeps.gathers;
       });
   allowed = on-ok c.add_folder-2.result refl;
   opens = record { actors = refl; readings = refl; names = λ name n is. is };

@@ -3,6 +3,7 @@ use Rattle.md_judge.specs.Filed.{name_at}
 use Rattle.md_judge.specs.Logs.{empty_log}
 use Rattle.md_judge.proofs.Opened.{filed-first}
 use Rattle.md_judge.proofs.ReadLonger.{open-none}
+use Rattle.md_judge.proofs.Regathered.{listings-none}
 use Rattle.md_judge.proofs.judge.Judge.new.Goals as goal
 
 pub returns-clause-told : goal.returns-clause-told
@@ -11,6 +12,7 @@ returns-clause-told c = λ lines. record {
   filed = filed-first (name_at c.new.result) (length c.new.result) c.new-3.result.files.all.items c.new-3.ensures;
   clock = c.new-2.ensures.clock;
   opens = open-none lines _ _ empty_log _ c.new.ensures c.new-4.ensures.empty;
+  gathers = listings-none lines _ _ empty_log _ c.new.ensures c.new-4.ensures.empty;
 }
 
 pub returns-clause-opens : goal.returns-clause-opens

@@ -3,6 +3,7 @@ use Rattle.md_judge.specs.Filed.{name_at}
 use Rattle.md_judge.specs.Files.{named, Changes}
 use Rattle.md_judge.proofs.Opened.{filed-file, file-log}
 use Rattle.md_judge.proofs.ReadLonger.{open-first}
+use Rattle.md_judge.proofs.Regathered.{listings-first, listings-grow}
 use Rattle.md_judge.proofs.Reopened.{open-grows}
 use Rattle.md_judge.proofs.Sparing.{ok-then}
 use Rattle.md_judge.proofs.Stepping.{on-ok}
@@ -23,6 +24,8 @@ returns c = record {
         clock = c.in_ok-spot.ensures.clock ∙ ap (λ n. max n c.args.stamp) keeps.clock ∙ sym log.2;
         opens = open-first lines lines names c.put_file.new.self.names l l' c.args.self.now.listings
             (open-grows lines names c.args.self.now.known.names c.put_file.new.self.names l 0 c.args.self.now.listings c.put_file.ensures.keeps keeps.opens);
+        gathers = listings-first lines lines names c.put_file.new.self.names l l' c.args.self.now.listings
+            (listings-grow lines names c.args.self.now.known.names c.put_file.new.self.names l 0 c.args.self.now.listings c.put_file.ensures.keeps keeps.gathers);
       }) c.put.ensures;
   allowed = on-ok c.put.result refl;
   opens = record { actors = refl; readings = refl; names = c.put_file.ensures.keeps };

@@ -4,6 +4,7 @@ use Rattle.md_judge.specs.Filed.{name_at}
 use Rattle.md_judge.specs.Files.{named, Changes}
 use Rattle.md_judge.proofs.Opened.{filed-name, also-log}
 use Rattle.md_judge.proofs.ReadLonger.{open-first}
+use Rattle.md_judge.proofs.Regathered.{listings-first, listings-grow}
 use Rattle.md_judge.proofs.Reopened.{open-grows}
 use Rattle.md_judge.proofs.Sparing.{ok-then}
 use Rattle.md_judge.proofs.Stepping.{on-ok}
@@ -26,6 +27,8 @@ returns c = record {
         clock = c.in_ok-spot.ensures.clock ∙ keeps.clock ∙ sym log.2;
         opens = open-first lines lines names c.put_name.new.self.names l l' c.args.self.now.listings
             (open-grows lines names c.args.self.now.known.names c.put_name.new.self.names l 0 c.args.self.now.listings c.put_name.ensures.keeps keeps.opens);
+        gathers = listings-first lines lines names c.put_name.new.self.names l l' c.args.self.now.listings
+            (listings-grow lines names c.args.self.now.known.names c.put_name.new.self.names l 0 c.args.self.now.listings c.put_name.ensures.keeps keeps.gathers);
       }) c.put.ensures;
   allowed = on-ok c.put.result refl;
   opens = record { actors = refl; readings = refl; names = c.put_name.ensures.keeps };
