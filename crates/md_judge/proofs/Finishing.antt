@@ -1,16 +1,15 @@
 -- The names of a reading come to a listing, one by one.
-use Rattle.std.proofs.Common.{ℕ, zero, suc, ◌≡◌, ◌↔◌, ◌⊎◌, ◌||◌, inl, inr, List, [], ◌∷◌, Option, Some, None, Bool, true, false, cond, slice_get, refl, sym, ap, subst, ◌∙◌}
+use Rattle.std.proofs.Common.{ℕ, zero, suc, ◌≡◌, ◌↔◌, ◌⊎◌, inl, inr, List, [], ◌∷◌, Some, None, Bool, true, false, cond, slice_get, refl, sym, ap, ◌∙◌}
 use Rattle.std.specs.List.{list_any}
 use Rattle.std.specs.Ordering.{nat_cmp, eq_by_cmp, is_eq}
 use Rattle.std.specs.Cmp.{unsigned_tied}
-use Rattle.std.specs.BTreeSet as ordered
 use Rattle.std.proofs.lemmas.Bool.{eqb-true, eq-eqb, or_cases, or_left, or_right, false≢true}
 use Rattle.md_judge.specs.declared.judge.tables.Names.{Names}
 use Rattle.md_dirs.specs.declared.paths.Place.{Place}
 use Rattle.md_dirs.specs.declared.paths.Place.TheVariants.{Tmp, New, Cur}
 use Rattle.md_judge.specs.declared.judge.listing.Listing.{Listing}
 use Rattle.md_judge.specs.Files.{name_facts}
-use Rattle.md_judge.specs.Gathered.{Gathered, gathered_of, gathered_by, gathered_in, also_read, with_read}
+use Rattle.md_judge.specs.Gathered.{gathered_of, gathered_by, gathered_in, also_read, with_read}
 use Rattle.md_judge.specs.Open.{Listings, reading_of}
 use Rattle.std.specs.BTreeMap.{get}
 use Rattle.md_judge.specs.Listings.{message_cmp, IsIn}

@@ -1,5 +1,5 @@
 -- What is kept of listings that go on is what a log tells, as a step ends a reading and as it ends none.
-use Rattle.std.proofs.Common.{ℕ, suc, ◌≡◌, ◌≢◌, ◌<◌, ◌≤◌, ◌↔◌, ◌⊎◌, ◌/◌, ◌%◌, ◌&&◌, ◌++◌, ◌∷◌, inl, inr, List, [], Option, Some, None, Bool, true, false, cond, not, slice_get, length, nat_eq, refl, sym, ap, subst, ◌∙◌, arith}
+use Rattle.std.proofs.Common.{ℕ, suc, ◌≡◌, ◌≢◌, ◌<◌, ◌≤◌, ◌↔◌, ◌⊎◌, ◌/◌, ◌%◌, ◌&&◌, inl, inr, List, Option, Some, None, Bool, true, false, cond, not, slice_get, length, refl, sym, ap, subst, ◌∙◌, arith}
 use Rattle.std.specs.Prelude.{if◌then◌else◌, ◌==◌}
 use Rattle.std.specs.Str.{bytes_eq}
 use Rattle.std.specs.Cmp.Lexicographic.{bytes_decides}
@@ -8,18 +8,16 @@ use Rattle.md_dirs.specs.Path.{path_of}
 use Rattle.md_dirs.specs.declared.paths.Place.{Place}
 use Rattle.md_dirs.specs.declared.paths.Place.TheVariants.{Tmp, New, Cur}
 use Rattle.md_name.specs.declared.info.Info.{Info}
-use Rattle.md_name.specs.Names.{unique_of, info_of, is_message_name, split_of}
+use Rattle.md_name.specs.Names.{unique_of, info_of, is_message_name}
 use Rattle.md_log.specs.declared.line.Call.{Call}
 use Rattle.md_log.specs.declared.line.Call.TheVariants as call
-use Rattle.md_log.specs.declared.line.Reply.{Reply}
 use Rattle.md_log.specs.declared.line.Reply.TheVariants as reply
 use Rattle.md_log.specs.declared.line.Step.{Step}
 use Rattle.md_judge.specs.declared.judge.tables.Names.{Names}
-use Rattle.md_judge.specs.declared.judge.tables.NameFacts.{NameFacts}
 use Rattle.md_judge.specs.Files.{no_facts, facts_by, name_facts}
 use Rattle.md_judge.specs.Gathered.{Gathered, nothing_gathered, is_complete, also_read, Gathers, left_of, Counts, GathersName, AreUniquesOf, RecallsGathered}
 use Rattle.md_judge.specs.Listings.{IsIn}
-use Rattle.md_judge.specs.Logs.{Log, Numbered}
+use Rattle.md_judge.specs.Logs.{Log}
 use Rattle.md_judge.specs.Names.{StandFor, IsNumber, KeepNumbers}
 use Rattle.md_judge.specs.Open.{IsPartKept}
 use Rattle.md_judge.specs.Told.{is_tmp, is_message, IsStep, IsPart, IsReading, IsWholeReading, Shows, IsListing, Read, nothing_read, with_place, with_call, read_at}

@@ -1,5 +1,5 @@
 -- What is kept of listings is what a log tells, step by step.
-use Rattle.std.proofs.Common.{ℕ, suc, ◌≡◌, ◌≢◌, ◌<◌, ◌≤◌, ◌⊎◌, ◌++◌, ◌∷◌, inl, inr, List, [], Option, Some, None, Bool, true, false, slice_get, length, unwrap_or, refl, sym, ap, subst, ◌∙◌, arith}
+use Rattle.std.proofs.Common.{ℕ, suc, ◌≡◌, ◌≢◌, ◌≤◌, ◌⊎◌, ◌++◌, ◌∷◌, inl, inr, List, [], Some, None, Bool, true, false, slice_get, length, unwrap_or, refl, sym, ap, subst, ◌∙◌, arith}
 use Rattle.std.specs.Prelude.{if◌then◌else◌}
 use Rattle.std.specs.BTreeMap.{get, is_at, IsEmpty}
 use Rattle.std.specs.Map.{lookup}
@@ -10,19 +10,17 @@ use Rattle.std.proofs.lemmas.List.{length_push}
 use Rattle.std.proofs.lemmas.Option.{slice_get_within}
 use Rattle.md_dirs.specs.declared.paths.Place.{Place}
 use Rattle.md_dirs.specs.declared.paths.Place.TheVariants.{Tmp, New, Cur}
-use Rattle.md_log.specs.declared.line.Call.{Call}
 use Rattle.md_log.specs.declared.line.Call.TheVariants as call
 use Rattle.md_log.specs.declared.line.Reply.{Reply}
 use Rattle.md_log.specs.declared.line.Reply.TheVariants as reply
 use Rattle.md_log.specs.declared.line.Step.{Step}
-use Rattle.md_judge.specs.declared.judge.listing.Listing.{Listing}
 use Rattle.md_judge.specs.declared.judge.tables.Names.{Names}
-use Rattle.md_judge.specs.Gathered.{Gathered, nothing_gathered, gathered_by, gathered_in, left_of, KeepsGathered, Counts, RecallsGathered, AreGathered}
-use Rattle.md_judge.specs.Listings.{message_cmp, IsIn}
+use Rattle.md_judge.specs.Gathered.{Gathered, gathered_by, gathered_in, KeepsGathered, Counts, RecallsGathered, AreGathered}
+use Rattle.md_judge.specs.Listings.{message_cmp}
 use Rattle.md_judge.specs.Logs.{Log, Numbered}
 use Rattle.md_judge.specs.Names.{KeepNumbers}
 use Rattle.md_judge.specs.Open.{Listings, first_in, shows_in, AreNames, RecallsOpen}
-use Rattle.md_judge.specs.Told.{IsStep, IsPart, Read, nothing_read, read_at}
+use Rattle.md_judge.specs.Told.{IsStep, Read, nothing_read, read_at}
 use Rattle.md_judge.specs.Words.{AreApart}
 use Rattle.md_judge.proofs.Gathering.{EndsNone, read-still, gathered-grows, none-gathered, spans-again, shown-again, gathered-still, gathered-next}
 use Rattle.md_judge.proofs.Longer.{alike-longer, turned, read-alike, shows-alike, whole-alike}

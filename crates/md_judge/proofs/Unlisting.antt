@@ -1,6 +1,6 @@
 -- What is kept of a listing that is complete, and of the folder's messages, is what the check of complete listings goes by.
 use Rattle.std.proofs.Common.{ℕ, suc, ◌≡◌, ◌≢◌, ◌<◌, ◌≤◌, ◌⊎◌, ◌/◌, inl, inr, not, List, [], Some, Bool, true, false, get_or, slice_get, refl, sym, ap, subst, ◌∙◌, arith}
-use Rattle.std.proofs.lemmas.Bool.{cases_lt, and_parts, false≢true}
+use Rattle.std.proofs.lemmas.Bool.{and_parts, false≢true}
 use Rattle.std.proofs.lemmas.Option.{get_or_from_slice_get}
 use Rattle.std.specs.Ordering.{nat_cmp}
 use Rattle.std.specs.BTreeSet as ordered
@@ -15,14 +15,12 @@ use Rattle.md_log.specs.declared.line.Reply.TheVariants as reply
 use Rattle.md_log.specs.declared.line.Step.{Step}
 use Rattle.md_judge.specs.declared.judge.listing.Listing.{Listing}
 use Rattle.md_judge.specs.declared.judge.mail.Mail.{Mail}
-use Rattle.md_judge.specs.declared.judge.mail.Message.{Message}
 use Rattle.md_judge.specs.declared.judge.tables.Names.{Names}
-use Rattle.md_judge.specs.Gathered.{Gathered, gathered_of, is_complete, Gathers, Counts, RecallsGathered, IsMailTold, IsToldEnd}
+use Rattle.md_judge.specs.Gathered.{Gathered, gathered_of, is_complete, Gathers, Counts, RecallsGathered, IsToldEnd}
 use Rattle.md_judge.specs.Law.{Turn, turn, WasListed, Unlisted}
-use Rattle.md_judge.specs.Listings.{message_of, present_in, IsIn, RecalledTimes, IsCounted, IsCompleted}
+use Rattle.md_judge.specs.Listings.{message_of, present_in, IsIn, RecalledTimes, IsCompleted}
 use Rattle.md_judge.specs.Logs.{Log}
-use Rattle.md_judge.specs.Names.{IsNumber}
-use Rattle.md_judge.specs.Told.{at, is_tmp, is_message, IsOf, IsThere, IsStep, IsPart, Shows, nothing_read, read_at}
+use Rattle.md_judge.specs.Told.{at, is_tmp, is_message, IsThere, IsStep, nothing_read, read_at}
 use Rattle.md_judge.proofs.Gathering.{EndsNone, read-still, unique-at, counts-now, spans-now, shown-by-now, is-listing, goes-on-by}
 use Rattle.md_judge.proofs.Reopened.{IsNoPart, same-part}
 

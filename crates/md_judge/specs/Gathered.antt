@@ -1,5 +1,5 @@
 -- What the judge keeps of listings that go on, beside what a log tells of them.
-use Rattle.std.specs.Prelude.{ℕ, suc, ◌≡◌, ◌≢◌, ◌↔◌, ◌<◌, ◌≤◌, ◌/◌, ◌⊎◌, ◌&&◌, ◌++◌, ◌∷◌, List, [], Option, Some, None, Bool, true, false, length, slice_get, unwrap_or, if◌then◌else◌}
+use Rattle.std.specs.Prelude.{ℕ, ◌≡◌, ◌≢◌, ◌↔◌, ◌<◌, ◌≤◌, ◌/◌, ◌⊎◌, ◌&&◌, ◌++◌, ◌∷◌, List, [], Option, Some, None, Bool, true, false, length, slice_get, unwrap_or, if◌then◌else◌}
 use Rattle.std.specs.Ordering.{nat_cmp}
 use Rattle.std.specs.BTreeMap.{get}
 use Rattle.std.specs.BTreeSet as ordered

@@ -1,8 +1,7 @@
-use Rattle.std.proofs.Common.{ℕ, ◌≡◌, ◌↔◌, ◌⊎◌, ◌∷◌, inl, inr, [], ◌++◌, List, true, Some, refl, sym, ap, subst, ◌∙◌}
+use Rattle.std.proofs.Common.{ℕ, ◌≡◌, ◌↔◌, ◌∷◌, inl, inr, [], ◌++◌, List, sym, ap, subst, ◌∙◌}
 use Rattle.std.specs.Ordering.{nat_cmp}
 use Rattle.std.specs.BTreeSet as ordered
 use Rattle.md_judge.specs.declared.judge.listing.Listing.{Listing}
-use Rattle.md_judge.specs.Files.{name_facts}
 use Rattle.md_judge.specs.Gathered.{Gathered, gathered_of, also_read}
 use Rattle.md_judge.proofs.Finishing.{HasMore, more-passes, more-comes, more-none, in-keys, read-more}
 use Rattle.md_judge.proofs.judge.listing.Listing.finish.Goals as goal

@@ -1,14 +1,11 @@
-use Rattle.std.proofs.Common.{ℕ, ◌≡◌, ◌≢◌, ◌⊎◌, ◌↔◌, inl, inr, true, false, if◌then◌else◌, sym, subst, ap, ◌∙◌, rules, arith}
-use Rattle.std.proofs.lemmas.Grind.{common_steps}
+use Rattle.std.proofs.Common.{ℕ, ◌≡◌, ◌≢◌, if◌then◌else◌, sym, subst, ap, ◌∙◌, rules}
 use Rattle.std.specs.Ordering.{nat_cmp}
 use Rattle.std.specs.BTreeSet as ordered
-use Rattle.md_dirs.specs.declared.paths.Place.{Place}
 use Rattle.md_dirs.specs.declared.paths.Place.TheVariants.{Tmp}
 use Rattle.md_log.specs.declared.line.Reply.{Reply}
 use Rattle.md_log.specs.declared.line.Reply.TheVariants as reply
-use Rattle.md_judge.specs.declared.judge.listing.Listing.{Listing}
 use Rattle.md_judge.specs.declared.judge.listing.Reading.{Reading}
-use Rattle.md_judge.specs.Gathered.{Gathered, gathered_of, nothing_gathered, left_of, is_complete, Gathers, IsToldEnd}
+use Rattle.md_judge.specs.Gathered.{Gathered, gathered_of, nothing_gathered, left_of, Gathers, IsToldEnd}
 use Rattle.md_judge.specs.Law.{turn, Unlisted}
 use Rattle.md_judge.specs.Open.{reading_of}
 use Rattle.md_judge.proofs.Unlisting.{text_of, is-completed, goes-on-still, part-none, reads-one}
