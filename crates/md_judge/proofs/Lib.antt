@@ -44,6 +44,10 @@ pub mod Proved
 pub mod Opening
 pub mod Keeping
 pub mod Reopened
+pub mod Gathering
+pub mod Regathered
+pub mod Unlisting
+pub mod Finishing
 pub mod Parting
 pub mod ReadLonger
 pub mod Uniqued

@@ -127,6 +127,10 @@ added-notes t a b d first then = record {
   again = one-notes clause.UsedAgain (UsedAgain t) a b d first.again then.again;
 }
 
+-- of what does not hold nothing is noted where the clause is kept
+pub keeps-notes : (c : Clause) (P : Type 0) (old new : Found) → Keeps c old new → (P → ⊥) → NotesOne c P old new
+keeps-notes c P old new keeps none = (λ h. inl (keeps.0 h), λ h. elim h [ inl was ↦ keeps.1 was | inr now ↦ absurd (none now) ])
+
 pub paths-kept : (old new : Found) → (Has new.broken clause.NotADirectory ↔ (Has old.broken clause.NotADirectory ⊎ ⊥))
     → (Has new.broken clause.Overwritten ↔ (Has old.broken clause.Overwritten ⊎ ⊥)) → KeepsPaths old new
 paths-kept old new wrong overwrites = record {

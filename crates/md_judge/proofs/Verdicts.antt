@@ -36,6 +36,7 @@ use Rattle.md_judge.specs.Verdict.{IsProved, HasNoTicks, Remembers, IsAmong, Are
 use Rattle.md_judge.proofs.Mailbegun.{tells-longer, tells-opening}
 use Rattle.md_judge.proofs.Opened.{filed-opening, filed-longer}
 use Rattle.md_judge.proofs.ReadLonger.{open-first, open-longer}
+use Rattle.md_judge.proofs.Regathered.{listings-first, listings-longer}
 use Rattle.md_judge.proofs.Reopened.{one-more}
 use Rattle.md_judge.proofs.Housed.{folders-stay, file-housed, also-housed}
 use Rattle.md_judge.proofs.Prefixes.{same-moment, told-longer, finding-longer, finding-none, opening-told}
@@ -63,6 +64,7 @@ remembers-longer lines l n i j low keeps = record {
   clock = keeps.clock ∙ ap (λ (m : Moment). m.now) (sym (same-moment l n i low));
   opens = open-longer l n lines j.actor_names j.known.names i j.listings low keeps.opens;
   mailed = tells-longer j.known.names l n i j.watch.mail low keeps.mailed;
+  gathers = listings-longer l n lines j.actor_names j.known.names i j.listings low keeps.gathers;
 }
 
 -- what it keeps of the beginning it keeps of each log that begins so
@@ -74,6 +76,7 @@ remembers-opening lines l l' j same clock keeps = record {
   clock = keeps.clock ∙ sym clock;
   opens = open-first lines lines j.actor_names j.known.names l l' j.listings keeps.opens;
   mailed = tells-opening j.known.names l l' j.watch.mail (λ p. ap (λ (s : State). file_at s p) same) keeps.mailed;
+  gathers = listings-first lines lines j.actor_names j.known.names l l' j.listings keeps.gathers;
 }
 
 -- ---- findings that are added

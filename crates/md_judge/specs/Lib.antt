@@ -14,6 +14,7 @@ pub mod Claims
 pub mod Listings
 pub mod Readings
 pub mod Open
+pub mod Gathered
 pub mod Moments
 pub mod Recalled
 pub mod Acts

@@ -15,6 +15,7 @@ ghost use Rattle.md_judge.specs.Recalled.{IsToldAt, HasFolders};
 ghost use Rattle.md_judge.specs.Verdict.{IsProved, Remembers};
 ghost use Rattle.md_judge.specs.Names.{AreNumbered, KeepNumbers, GrowsUniques};
 ghost use Rattle.md_judge.specs.Open.{AreNames, AreOpen, KeepsOpen};
+ghost use Rattle.md_judge.specs.Gathered.{AreGathered};
 
 mod about;
 mod acts;
@@ -160,6 +161,11 @@ impl Judge {
             → AreOpen lines self.old.actor_names self.old.known.names l i self.old.listings
             → slice_get l.steps i ≡ Some (record { number = line; step = step }) → lines i ≡ line → self.old.watch.now ≡ line
             → OnOk result (AreOpen lines self.new.actor_names self.new.known.names l (suc i) self.new.listings) }
+        ensures gathers { (lines : ℕ → ℕ) (l : Log) (i : ℕ)
+            → AreOpen lines self.old.actor_names self.old.known.names l i self.old.listings
+            → AreGathered lines self.old.actor_names self.old.known.names l i self.old.listings
+            → slice_get l.steps i ≡ Some (record { number = line; step = step }) → lines i ≡ line → self.old.watch.now ≡ line
+            → OnOk result (AreGathered lines self.new.actor_names self.new.known.names l (suc i) self.new.listings) }
         ensures read { (lines : ℕ → ℕ) (l : Log) (i : ℕ) → IsToldAt lines l i self.old.known
             → AreOpen lines self.old.actor_names self.old.known.names l i self.old.listings
             → slice_get l.steps i ≡ Some (record { number = line; step = step }) → lines i ≡ line → line < 4294967295

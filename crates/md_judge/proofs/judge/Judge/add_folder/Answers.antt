@@ -6,6 +6,7 @@ use Rattle.md_judge.proofs.Beginning.{folder-told}
 use Rattle.md_judge.proofs.Mailbegun.{tells-present, tells-opening}
 use Rattle.md_judge.proofs.Opened.{filed-opening}
 use Rattle.md_judge.proofs.ReadLonger.{open-first}
+use Rattle.md_judge.proofs.Regathered.{listings-first}
 use Rattle.md_judge.proofs.Stepping.{on-ok}
 use Rattle.md_judge.proofs.judge.Judge.add_folder.Goals as goal
 
@@ -22,6 +23,7 @@ returns c = record {
         opens = open-first lines lines names c.args.self.now.known.names l l' c.args.self.now.listings keeps.opens;
         mailed = tells-present c.args.self.now.known.names l' 0 c.args.self.now.watch.mail c.add_folder-2.new.self.mail c.add_folder-2.ensures.mail
             (tells-opening c.args.self.now.known.names l l' c.args.self.now.watch.mail (λ p. ap (λ (s : State). file_at s p) opening) keeps.mailed);
+        gathers = listings-first lines lines names c.args.self.now.known.names l l' c.args.self.now.listings keeps.gathers;
       });
   allowed = on-ok c.add_folder-2.result refl;
   opens = record { actors = refl; readings = refl; names = λ name n is. is };

@@ -4,6 +4,7 @@ use Rattle.md_judge.specs.Logs.{empty_log}
 use Rattle.md_judge.proofs.Mailbegun.{tells-none}
 use Rattle.md_judge.proofs.Opened.{filed-first}
 use Rattle.md_judge.proofs.ReadLonger.{open-none}
+use Rattle.md_judge.proofs.Regathered.{listings-none}
 use Rattle.md_judge.proofs.judge.Judge.new.Goals as goal
 
 pub returns-clause-told : goal.returns-clause-told
@@ -13,6 +14,7 @@ returns-clause-told c = λ lines. record {
   clock = c.new-2.ensures.clock;
   opens = open-none lines _ _ empty_log _ c.new.ensures c.new-4.ensures.empty;
   mailed = tells-none _ c.new-3.result.mail c.new-2.ensures.uniques c.new-3.ensures.messages c.new-3.ensures.copies;
+  gathers = listings-none lines _ _ empty_log _ c.new.ensures c.new-4.ensures.empty;
 }
 
 pub returns-clause-opens : goal.returns-clause-opens

@@ -4,6 +4,7 @@ use Rattle.md_judge.specs.Names.{IsNumber}
 use Rattle.md_judge.proofs.Growing.{grows}
 use Rattle.md_judge.proofs.Posted.{tells-grows}
 use Rattle.md_judge.proofs.Uniqued.{grows-on}
+use Rattle.md_judge.proofs.Regathered.{listings-grow}
 use Rattle.md_judge.proofs.Reopened.{numbers-next, open-grows}
 use Rattle.md_judge.proofs.judge.Judge.numbers.Goals as goal
 
@@ -18,6 +19,8 @@ loop-name-preserved c = record {
         opens = open-grows lines c.loop-name.self.actor_names c.loop-name.self.known.names c.number.new.self l i c.loop-name.self.listings
             c.number.ensures.keeps before.opens;
         mailed = tells-grows c.loop-name.self.known.names c.number.new.self c.in_ok-number.ensures.uniques l i c.loop-name.self.watch.mail before.mailed;
+        gathers = listings-grow lines c.loop-name.self.actor_names c.loop-name.self.known.names c.number.new.self l i c.loop-name.self.listings
+            c.number.ensures.keeps before.gathers;
       };
   known = λ lines l i told.
       grows lines l i c.loop-name.self.known _ (c.loop-name.invariant.known lines l i told) c.number.ensures.keeps c.in_ok-number.ensures.numbered refl refl;

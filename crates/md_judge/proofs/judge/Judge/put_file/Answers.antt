@@ -11,6 +11,7 @@ use Rattle.md_judge.proofs.Mailbegun.{tells-put}
 use Rattle.md_judge.proofs.Opened.{filed-file, file-log}
 use Rattle.md_judge.proofs.Posted.{tells-grows}
 use Rattle.md_judge.proofs.ReadLonger.{open-first}
+use Rattle.md_judge.proofs.Regathered.{listings-first, listings-grow}
 use Rattle.md_judge.proofs.Reopened.{open-grows}
 use Rattle.md_judge.proofs.Sparing.{ok-two}
 use Rattle.md_judge.proofs.Stepping.{on-ok}
@@ -39,6 +40,8 @@ returns c = record {
             (λ q. ap (λ (s : State). file_at s q) log.1 ∙ get-insert path_total l.opening.names c.args.path.now (length l.opening.files) q
             ∙ ap (λ n. cond (eq_by_cmp path_cmp q c.args.path.now) (Some n) (file_at l.opening q)) (sym puts.1)) c.args.self.now.watch.mail c.put.new.self.mail
             adds (tells-grows first known c.in_ok-spot.ensures.uniques l 0 c.args.self.now.watch.mail keeps.mailed);
+        gathers = listings-first lines lines names c.put_file.new.self.names l l' c.args.self.now.listings
+            (listings-grow lines names c.args.self.now.known.names c.put_file.new.self.names l 0 c.args.self.now.listings c.put_file.ensures.keeps keeps.gathers);
       }) c.put.ensures.files c.put.ensures.mailed;
   allowed = on-ok c.put.result refl;
   opens = record { actors = refl; readings = refl; names = c.put_file.ensures.keeps };

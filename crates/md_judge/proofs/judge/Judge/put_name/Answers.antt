@@ -10,6 +10,7 @@ use Rattle.md_judge.proofs.Mailbegun.{tells-put}
 use Rattle.md_judge.proofs.Opened.{filed-name, also-log}
 use Rattle.md_judge.proofs.Posted.{tells-grows}
 use Rattle.md_judge.proofs.ReadLonger.{open-first}
+use Rattle.md_judge.proofs.Regathered.{listings-first, listings-grow}
 use Rattle.md_judge.proofs.Reopened.{open-grows}
 use Rattle.md_judge.proofs.Sparing.{ok-two}
 use Rattle.md_judge.proofs.Stepping.{on-ok}
@@ -40,6 +41,8 @@ returns c = record {
             (λ q. ap (λ (s : State). file_at s q) (log.1 ∙ ap (with_path p l.opening) puts.1) ∙ get-insert path_total l.opening.names p file q)
             c.args.self.now.watch.mail c.put.new.self.mail
             adds (tells-grows first known c.in_ok-spot.ensures.uniques l 0 c.args.self.now.watch.mail keeps.mailed);
+        gathers = listings-first lines lines names c.put_name.new.self.names l l' c.args.self.now.listings
+            (listings-grow lines names c.args.self.now.known.names c.put_name.new.self.names l 0 c.args.self.now.listings c.put_name.ensures.keeps keeps.gathers);
       }) c.put.ensures.files c.put.ensures.mailed;
   allowed = on-ok c.put.result refl;
   opens = record { actors = refl; readings = refl; names = c.put_name.ensures.keeps };

@@ -12,6 +12,7 @@ use Rattle.md_judge.specs.declared.judge.files.Files.{Files}
 use Rattle.md_judge.specs.Acts.{ReadsNone}
 use Rattle.md_judge.specs.Filed.{AreFiled, IsJudged, BrokenByFiles, name_at}
 use Rattle.md_judge.specs.Found.{Has, NotesOne, KeepsAdded, KeepsFiles, NotesFiles}
+use Rattle.md_judge.specs.Gathered.{KeepsGathered, AreGathered}
 use Rattle.md_judge.specs.declared.judge.mail.Mail.{Mail}
 use Rattle.md_judge.specs.Mailed.{TellsMail, NotesAdded}
 use Rattle.md_judge.specs.Open.{first_in, shows_in, KeepsPart, AreNames, AreOpen, IsToldPart}
@@ -30,6 +31,7 @@ use Rattle.md_judge.proofs.Judged.{still-filed, still-lawful}
 use Rattle.md_judge.proofs.Mailbegun.{tells-still, still-two, still-again}
 use Rattle.md_judge.proofs.Posted.{tells-grows}
 use Rattle.md_judge.proofs.Proved.{kept-proved, noted-proved}
+use Rattle.md_judge.proofs.Regathered.{gathered-before, gathered-rests, listings-next}
 use Rattle.md_judge.proofs.Uniqued.{grows-on}
 use Rattle.md_judge.proofs.Reopened.{IsNoPart, open-before, open-rests, open-next, answer-no-part, reads-none}
 use Rattle.md_judge.proofs.Sparing.{found-none, found-one, ok-then, ok-two, ok-three}
@@ -174,6 +176,53 @@ returns-clause-read c = λ lines l i told is-open is here short there now rises.
     returns-clause-wrong c lines l i told is here short there
     (reads-none c.args.step.call (λ folder place r shown same. c.in_default.not-List folder place r shown same))
 
+-- ---- listings that go on
+
+pub returns-in-List-clause-gathers : goal.returns-in-List-clause-gathers
+returns-in-List-clause-gathers c = λ lines l i is-open goes is here now.
+    let first = c.args.self.now in
+    let judge = c.numbers.new.self in
+    let names = judge.known.names in
+    let number = c.in_ok-actor.actor in
+    let folder = c.in-List.folder in
+    let place = c.in-List.place in
+    let x = c.args.step in
+    let opened = open-before lines first.actor_names c.number.new.self judge.actor_names c.in_ok-actor.field-0-1 c.as_slice.result.now
+    first.known.names c.step.new.self.names names l i first.listings judge.listings c.in_ok-actor.ensures.grows c.are_apart.ensures.apart
+    c.step.ensures.keeps c.numbers.ensures.keeps c.numbers.ensures.rest.2 c.numbers.ensures.rest.1 is-open in
+    let before = gathered-before lines first.actor_names c.number.new.self judge.actor_names c.in_ok-actor.field-0-1 c.as_slice.result.now
+    first.known.names c.step.new.self.names names l i first.listings judge.listings c.in_ok-actor.ensures.grows c.are_apart.ensures.apart
+    c.step.ensures.keeps c.numbers.ensures.keeps c.numbers.ensures.rest.2 c.numbers.ensures.rest.1 goes in
+    let named = subst (λ (ws : List (List ℕ)). slice_get ws number ≡ Some x.actor) (sym c.numbers.ensures.rest.2)
+    (c.in_ok-actor.ensures.found ∙ ap Some c.as_slice.ensures) in
+    let apart = subst (λ (ws : List (List ℕ)). AreApart ws) (sym c.numbers.ensures.rest.2) c.are_apart.ensures.apart in
+    let here' : judge.watch.now ≡ lines i = ap (λ (w : Watch). w.now) c.numbers.ensures.rest.0 ∙ c.begin.ensures.now ∙ now ∙ sym here in
+    let are = subst (λ (ns : List ℕ). AreNames names c.in-List.shown ns) (sym c.deref.ensures.value)
+    (subst (λ (ws : List (List ℕ)). AreNames names ws c.in_ok-names-in-List.names.items) c.as_slice-in-List.ensures c.in_ok-names-in-List.ensures.numbers) in
+    ok-then c.list.result (KeepsGathered names number folder place c.in-List.reply c.deref.result.now judge.watch.now judge.listings c.list.new.listings)
+    (AreGathered lines judge.actor_names names l (suc i) c.list.new.listings)
+    (λ keeps. listings-next lines judge.actor_names names l i judge.listings c.list.new.listings before x (c.args.line, is) apart number folder place
+    c.in-List.reply c.in-List.shown c.deref.result.now judge.watch.now named c.in-List.is here' are
+    (opened.open_at number x.actor folder place named) keeps) c.list.ensures.listing
+
+pub returns-in-Answer-clause-gathers : goal.returns-in-Answer-clause-gathers
+returns-in-Answer-clause-gathers c = λ lines l i is-open goes is here now.
+    let first = c.args.self.now in
+    let before = gathered-before lines first.actor_names c.number.new.self c.number.new.self c.in_ok-actor.field-0-1 c.as_slice.result.now
+    first.known.names c.step.new.self.names c.unique.new.self l i first.listings first.listings c.in_ok-actor.ensures.grows c.are_apart.ensures.apart
+    c.step.ensures.keeps c.unique.ensures.keeps refl refl goes in
+    gathered-rests lines c.number.new.self c.unique.new.self l i first.listings first.listings before c.args.step (c.args.line, is)
+    (subst IsNoPart (sym c.in-Answer.is) (answer-no-part _ _ _))
+
+pub returns-clause-gathers : goal.returns-clause-gathers
+returns-clause-gathers c = λ lines l i is-open goes is here now.
+    let first = c.args.self.now in
+    let before = gathered-before lines first.actor_names c.number.new.self c.number.new.self c.in_ok-actor.field-0-1 c.as_slice.result.now
+    first.known.names c.step.new.self.names c.step.new.self.names l i first.listings first.listings c.in_ok-actor.ensures.grows c.are_apart.ensures.apart
+    c.step.ensures.keeps (λ name n of. of) refl refl goes in
+    on-ok c.call.result (gathered-rests lines c.number.new.self c.step.new.self.names l i first.listings first.listings before c.args.step
+    (c.args.line, is) (λ folder place r shown same. c.in_default.not-List folder place r shown same))
+
 -- ---- what is kept, and what is found
 
 pub returns-in-List-clause-told : goal.returns-in-List-clause-told
@@ -197,17 +246,21 @@ returns-in-List-clause-told c = λ lines l i keeps is here short now there.
     let grows = grows-on first.known.names c.step.new.self.names judge.known.names c.in_ok-self.ensures.uniques c.in_ok-names-in-List.ensures.uniques in
     let mail = tells-still l i still judge.known.names first.watch.mail
     (tells-grows first.known.names judge.known.names grows l i first.watch.mail keeps.mailed) in
-    ok-three c.list.result (c.list.new.self.files ≡ judge.watch.files) (AreOpen lines judge.actor_names judge.known.names l (suc i) c.list.new.listings)
-    (c.list.new.self.mail ≡ judge.watch.mail) _
-    (λ same opens mailed. record {
+    let kept-open = AreOpen lines judge.actor_names judge.known.names l (suc i) c.list.new.listings in
+    let kept-listings = AreGathered lines judge.actor_names judge.known.names l (suc i) c.list.new.listings in
+    ok-three c.list.result (c.list.new.self.files ≡ judge.watch.files) (kept-open × kept-listings) (c.list.new.self.mail ≡ judge.watch.mail) _
+    (λ same read mailed. record {
       told = told;
       filed = subst (λ (ws : List (List ℕ)). AreFiled (name_at ws) (length ws) l (suc i) c.list.new.self.files.all.items) (sym c.numbers.ensures.rest.2)
           (subst (λ (f : Files). AreFiled who (length names) l (suc i) f.all.items) (sym (same ∙ ap (λ (w : Watch). w.files) c.numbers.ensures.rest.0)) kept);
       clock = c.in_ok-names-in-List.ensures.clock ∙ c.step.ensures.clock l i keeps.clock is;
-      opens = opens;
+      opens = read.0;
+      gathers = read.1;
       mailed = subst (λ (m : Mail). TellsMail judge.known.names l (suc i) m)
           (sym (mailed ∙ ap (λ (w : Watch). w.mail) c.numbers.ensures.rest.0 ∙ c.begin.ensures.mail)) mail;
-    }) c.list.ensures.files (returns-in-List-clause-opens c lines l i keeps.opens is here now) c.list.ensures.mail
+    }) c.list.ensures.files (ok-two c.list.result kept-open kept-listings (kept-open × kept-listings) (λ o g. (o, g))
+    (returns-in-List-clause-opens c lines l i keeps.opens is here now)
+    (returns-in-List-clause-gathers c lines l i keeps.opens keeps.gathers is here now)) c.list.ensures.mail
 
 pub returns-in-List-clause-broken : goal.returns-in-List-clause-broken
 returns-in-List-clause-broken c = λ lines l i keeps is here short now rises there.
@@ -256,6 +309,7 @@ returns-in-Answer-clause-told c = λ lines l i keeps is here short now there.
           (still-filed who (length names) l i x step-is actor acts c.args.self.now.watch.files.all.items are c.step.new.self.names still apart);
       clock = c.step.ensures.clock l i keeps.clock is;
       opens = returns-in-Answer-clause-opens c lines l i keeps.opens is here now;
+      gathers = returns-in-Answer-clause-gathers c lines l i keeps.opens keeps.gathers is here now;
       mailed = subst (λ (m : Mail). TellsMail c.unique.new.self l (suc i) m) (sym (c.answer.ensures.mail ∙ c.begin.ensures.mail))
           (tells-still l i still c.unique.new.self first.watch.mail (tells-grows first.known.names c.unique.new.self
           (grows-on first.known.names c.step.new.self.names c.unique.new.self c.in_ok-self.ensures.uniques c.in_ok-unique-in-Answer.ensures.uniques)
@@ -301,15 +355,20 @@ returns-clause-told c = λ lines l i keeps is here short now there.
     let first = c.args.self.now in
     let mail = subst (λ (m : Mail). TellsMail c.step.new.self.names l i m) (sym c.begin.ensures.mail)
     (tells-grows first.known.names c.step.new.self.names c.in_ok-self.ensures.uniques l i first.watch.mail keeps.mailed) in
-    ok-three c.call.result (AreFiled who (length names) l (suc i) c.call.new.self.files.all.items)
-    (AreOpen lines names c.step.new.self.names l (suc i) c.args.self.now.listings) (TellsMail c.step.new.self.names l (suc i) c.call.new.self.mail) _
-    (λ filed opens mailed. record {
+    let kept-open = AreOpen lines names c.step.new.self.names l (suc i) c.args.self.now.listings in
+    let kept-listings = AreGathered lines names c.step.new.self.names l (suc i) c.args.self.now.listings in
+    ok-three c.call.result (AreFiled who (length names) l (suc i) c.call.new.self.files.all.items) (kept-open × kept-listings)
+    (TellsMail c.step.new.self.names l (suc i) c.call.new.self.mail) _
+    (λ filed read mailed. record {
       told = c.in_ok-self.ensures.told lines l i keeps.told is here short there;
       filed = filed;
       clock = clock;
-      opens = opens;
+      opens = read.0;
+      gathers = read.1;
       mailed = mailed;
-    }) (c.call.ensures.filed done.0 who (length names) i l x kept judged) (returns-clause-opens c lines l i keeps.opens is here now)
+    }) (c.call.ensures.filed done.0 who (length names) i l x kept judged)
+    (ok-two c.call.result kept-open kept-listings (kept-open × kept-listings) (λ o g. (o, g))
+    (returns-clause-opens c lines l i keeps.opens is here now) (returns-clause-gathers c lines l i keeps.opens keeps.gathers is here now))
     (c.call.ensures.mailed done.0 who (length names) i l x mail judged)
 
 pub returns-clause-broken : goal.returns-clause-broken
