@@ -46,3 +46,8 @@ pub mod Keeping
 pub mod Reopened
 pub mod Parting
 pub mod ReadLonger
+pub mod Spanning
+pub mod Acted
+pub mod Pairs
+pub mod Lined
+pub mod Actors

@@ -66,4 +66,5 @@ module _ (names : Names) where
     apart = λ a b n sa sb. names_apart a b (split_of a) (split_of b) (n / 4294967296) (n % 4294967296) refl refl sa sb;
     one = λ a m n sm sn. one_number a (split_of a) m n apart sm sn;
     few = λ a n s. few_numbers few a (split_of a) n s;
+    uniques = apart.0;
   }

@@ -53,7 +53,7 @@ one-more [] y (suc i) x is = absurd (cc is)
 one-more (z ∷ xs) y zero x is = inl is
 one-more (z ∷ xs) y (suc i) x is = elim (one-more xs y i x is) [ inl was ↦ inl was | inr last ↦ inr (ap suc last.0, last.1) ]
 
-stays : {A : Type 0} (xs : List A) (y : A) (i : ℕ) (x : A) → slice_get xs i ≡ Some x → slice_get (xs ++ y ∷ []) i ≡ Some x
+pub stays : {A : Type 0} (xs : List A) (y : A) (i : ℕ) (x : A) → slice_get xs i ≡ Some x → slice_get (xs ++ y ∷ []) i ≡ Some x
 stays [] y i x is = absurd (cc is)
 stays (z ∷ xs) y zero x is = is
 stays (z ∷ xs) y (suc i) x is = stays xs y i x is
@@ -103,7 +103,7 @@ one-place New Cur = inr (λ same. cc same)
 one-place Cur Tmp = inr (λ same. cc same)
 one-place Cur New = inr (λ same. cc same)
 
-one-number : (a b : ℕ) → (a ≡ b) ⊎ (a ≡ b → ⊥)
+pub one-number : (a b : ℕ) → (a ≡ b) ⊎ (a ≡ b → ⊥)
 one-number a b = elim (cases_order a b) [
   | inl same ↦ inl same
   | inr apart ↦ inr (λ same. elim apart [ inl lt ↦ omega (arith, lt, same) | inr lt ↦ omega (arith, lt, same) ])

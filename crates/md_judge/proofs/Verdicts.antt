@@ -33,6 +33,7 @@ use Rattle.md_judge.specs.Logs.{Log, Numbered, is_passed_over, has_begun, with_l
 use Rattle.md_judge.specs.Recalled.{HasFolders}
 use Rattle.md_judge.specs.Told.{Moment, at}
 use Rattle.md_judge.specs.Verdict.{IsProved, HasNoTicks, Remembers, IsAmong, AreLinesOf, HasRead, IsHeadOf, IsBroken, AddsFinding, KeepsHead}
+use Rattle.md_judge.proofs.Actors.{acting-first, acting-longer}
 use Rattle.md_judge.proofs.Opened.{filed-opening, filed-longer}
 use Rattle.md_judge.proofs.ReadLonger.{open-first, open-longer}
 use Rattle.md_judge.proofs.Reopened.{one-more}
@@ -61,6 +62,7 @@ remembers-longer lines l n i j low keeps = record {
   filed = filed-longer (name_at j.actor_names) (length j.actor_names) l n i j.watch.files.all.items low keeps.filed;
   clock = keeps.clock ∙ ap (λ (m : Moment). m.now) (sym (same-moment l n i low));
   opens = open-longer l n lines j.actor_names j.known.names i j.listings low keeps.opens;
+  acting = acting-longer lines j.actor_names j.known.names.uniques l n i j.watch.actors j.listings low keeps.acting;
 }
 
 -- what it keeps of the beginning it keeps of each log that begins so
@@ -71,6 +73,7 @@ remembers-opening lines l l' j same clock keeps = record {
       (ap (λ (s : State). s.files) same) keeps.filed;
   clock = keeps.clock ∙ sym clock;
   opens = open-first lines lines j.actor_names j.known.names l l' j.listings keeps.opens;
+  acting = acting-first lines j.actor_names j.known.names.uniques l l' j.watch.actors j.watch.actors j.listings refl keeps.acting;
 }
 
 -- ---- findings that are added

@@ -18,4 +18,5 @@ pub mod Moments
 pub mod Recalled
 pub mod Acts
 pub mod Filed
+pub mod Actors
 pub mod Verdict

@@ -8,6 +8,7 @@ use Rattle.md_log.specs.declared.line.Line.TheVariants as line
 use Rattle.md_judge.specs.declared.log.Finding.{Finding}
 use Rattle.md_judge.specs.declared.session.Session.{Session}
 use Rattle.md_judge.specs.declared.judge.Judge.{Judge}
+use Rattle.md_judge.specs.Actors.{AreActing}
 use Rattle.md_judge.specs.Filed.{AreFiled, name_at}
 use Rattle.md_judge.specs.Found.{Has}
 use Rattle.md_judge.specs.Law.{IsAllowed, IsFinding}
@@ -35,12 +36,13 @@ HasNoTicks l = (k : ℕ) (x : Numbered) → slice_get l.steps k ≡ Some x → x
 abbrev pub IsAmong : List Finding → ℕ → Clause → Type 0
 IsAmong found number c = (k : ℕ) × (f : Finding) × (slice_get found k ≡ Some f) × (f.line ≡ number) × (f.clause ≡ c)
 
--- What the judge keeps of paths, of files, of the clock and of readings that go on is what a log tells at a moment.
+-- What the judge keeps of paths, of files, of the clock, of readings that go on and of actors is what a log tells at a moment.
 pub record Remembers (lines : ℕ → ℕ) (l : Log) (i : ℕ) (j : Judge) : Type 0 where
   pub told : IsToldAt lines l i j.known
   pub filed : AreFiled (name_at j.actor_names) (length j.actor_names) l i j.watch.files.all.items
   pub clock : j.known.clock ≡ (moment l i).now
   pub opens : AreOpen lines j.actor_names j.known.names l i j.listings
+  pub acting : AreActing lines j.actor_names j.known.names.uniques l i j.watch.actors j.listings
 
 -- Lines are numbered as a log has them that was read up to this line, which is the next: each step has its line, and before the first
 -- step come the lines of the beginning.

@@ -7,14 +7,16 @@ ghost use Rattle.md_dirs.specs.State.{has_folder};
 ghost use Rattle.md_judge.specs.Logs.{Log, empty_log, with_file_line, with_also_line};
 ghost use Rattle.md_log.specs.declared.clause.Clause.{Clause};
 ghost use Rattle.md_log.specs.declared.clause.Clause.TheVariants as clause;
+ghost use Rattle.md_judge.specs.Actors.{ArePresent};
 ghost use Rattle.md_judge.specs.Acts.{ReadsNone};
 ghost use Rattle.md_judge.specs.Found.{Has};
-ghost use Rattle.md_judge.specs.Law.{turn, Breaks, NotADirectory, Overwritten};
+ghost use Rattle.md_judge.specs.Law.{turn, Breaks, NotADirectory, Overwritten, GaveUp};
 ghost use Rattle.md_judge.specs.Told.{at};
 ghost use Rattle.md_judge.specs.Recalled.{IsToldAt, HasFolders};
 ghost use Rattle.md_judge.specs.Verdict.{IsProved, Remembers};
 ghost use Rattle.md_judge.specs.Names.{AreNumbered, KeepNumbers};
 ghost use Rattle.md_judge.specs.Open.{AreNames, AreOpen, KeepsOpen};
+ghost use Rattle.md_judge.specs.Words.{KeepWords};
 
 mod about;
 mod acts;
@@ -165,11 +167,17 @@ impl Judge {
             → slice_get l.steps i ≡ Some (record { number = line; step = step }) → lines i ≡ line → line < 4294967295
             → HasFolders (at l i) step.call → self.old.watch.now ≡ line → ((a b : ℕ) → a < b → lines a < lines b)
             → OnOk result (Has self.new.watch.found.broken clause.NotADirectory ↔ NotADirectory (turn l i step)) }
+        ensures gave_up { (lines : ℕ → ℕ) (l : Log) (i : ℕ) → Remembers lines l i self.old
+            → slice_get l.steps i ≡ Some (record { number = line; step = step }) → lines i ≡ line → line < 4294967295
+            → self.old.watch.now ≡ line → ((a b : ℕ) → a < b → lines a < lines b) → ((a : ℕ) → 0 < lines a)
+            → ArePresent self.old.known.names.uniques l i self.old.watch.mail
+            → OnOk result (Has self.new.watch.found.broken clause.GaveUp ↔ GaveUp (turn l i step)) }
         ensures allowed { OnOk result (self.new.allowed ≡ self.old.allowed) }
     {
         let (actor, _) = self.actor_names.number(step.actor.as_slice())?;
         self.actor_names.are_apart();
         self.act = self.known.step(line, &step)?;
+        self.known.names.are_numbered();
         self.watch.begin(actor)?;
         match &step.call {
             Call::List {
@@ -222,6 +230,7 @@ impl Judge {
         ensures known { (lines : ℕ → ℕ) (l : Log) (i : ℕ) → IsToldAt lines l i self.old.known → OnOk result (IsToldAt lines l i self.new.known) }
         ensures numbers { IfOk result (λ numbers. AreNames self.new.known.names names.now numbers.items) }
         ensures keeps { KeepNumbers self.old.known.names self.new.known.names }
+        ensures uniques { KeepWords self.old.known.names.uniques self.new.known.names.uniques }
         ensures numbered { OnOk result (AreNumbered self.new.known.names) }
         ensures clock { OnOk result (self.new.known.clock ≡ self.old.known.clock) }
         ensures rest { (self.new.watch ≡ self.old.watch) × (self.new.listings ≡ self.old.listings) × (self.new.actor_names ≡ self.old.actor_names) }

@@ -1,7 +1,8 @@
 //! Changes of paths: the clauses that they break, and what is kept of them.
 ghost use Rattle.std.specs.Prelude.{◌≡◌, IsSome, OnOk};
 ghost use Rattle.md_log.specs.declared.clause.Clause.TheVariants as clause;
-ghost use Rattle.md_judge.specs.Found.{Keeps, NotesOne, KeepsPaths, KeepsFiles};
+ghost use Rattle.md_judge.specs.Actors.{KeepsActs};
+ghost use Rattle.md_judge.specs.Found.{Keeps, NotesOne, KeepsPaths, KeepsFiles, KeepsAnswers};
 
 use super::acts::Change;
 use super::befores::line_before;
@@ -19,7 +20,9 @@ impl Watch {
         ensures wrong { OnOk result (Keeps clause.NotADirectory self.old.found self.new.found) }
         ensures overwrites { OnOk result (NotesOne clause.Overwritten (IsSome act.now.change.turned) self.old.found self.new.found) }
         ensures others { OnOk result (KeepsFiles self.old.found self.new.found) }
+        ensures answers { OnOk result (KeepsAnswers self.old.found self.new.found) }
         ensures files { OnOk result (self.new.files ≡ self.old.files) }
+        ensures acts { OnOk result (KeepsActs self.old.actors self.new.actors) }
     {
         let change = act.change;
         self.found.note(
@@ -46,6 +49,7 @@ impl Watch {
         ensures paths { KeepsPaths self.old.found self.new.found }
         ensures others { KeepsFiles self.old.found self.new.found }
         ensures files { self.new.files ≡ self.old.files }
+        ensures actors { self.new.actors ≡ self.old.actors }
     {
         let Some(unique) = known.unique_at(spot) else {
             return;
@@ -75,6 +79,7 @@ impl Watch {
     fn make(&mut self, known: &Known, actor: u32, change: Change) -> Result<(), LineFault>
         ensures found { OnOk result (self.new.found ≡ self.old.found) }
         ensures files { OnOk result (self.new.files ≡ self.old.files) }
+        ensures acts { OnOk result (KeepsActs self.old.actors self.new.actors) }
     {
         if let Some((spot, file)) = change.added {
             self.note_added(known, actor, spot)?;
@@ -93,6 +98,7 @@ impl Watch {
     fn note_added(&mut self, known: &Known, actor: u32, spot: Spot) -> Result<(), LineFault>
         ensures found { OnOk result (self.new.found ≡ self.old.found) }
         ensures files { OnOk result (self.new.files ≡ self.old.files) }
+        ensures acts { OnOk result (KeepsActs self.old.actors self.new.actors) }
     {
         if let Some(unique) = known.unique_at(spot) {
             let key = (spot.folder, unique);
@@ -114,6 +120,7 @@ impl Watch {
     ) -> Result<(), LineFault>
         ensures found { OnOk result (self.new.found ≡ self.old.found) }
         ensures files { OnOk result (self.new.files ≡ self.old.files) }
+        ensures acts { OnOk result (KeepsActs self.old.actors self.new.actors) }
     {
         let Some(unique) = known.unique_at(spot) else {
             return Ok(());
@@ -144,6 +151,7 @@ impl Watch {
     ) -> Result<(), LineFault>
         ensures found { OnOk result (self.new.found ≡ self.old.found) }
         ensures files { OnOk result (self.new.files ≡ self.old.files) }
+        ensures actors { OnOk result (self.new.actors ≡ self.old.actors) }
     {
         let Some(unique) = known.unique_at(spot) else {
             return Ok(());
@@ -167,6 +175,7 @@ impl Watch {
     ) -> Result<(), LineFault>
         ensures found { OnOk result (self.new.found ≡ self.old.found) }
         ensures files { OnOk result (self.new.files ≡ self.old.files) }
+        ensures acts { OnOk result (KeepsActs self.old.actors self.new.actors) }
     {
         let Some(unique) = known.unique_at(spot) else {
             return Ok(());
@@ -184,6 +193,7 @@ impl Watch {
     fn take_path(&mut self, known: &Known, spot: Spot, file: u32) -> Result<(), LineFault>
         ensures found { OnOk result (self.new.found ≡ self.old.found) }
         ensures files { OnOk result (self.new.files ≡ self.old.files) }
+        ensures actors { OnOk result (self.new.actors ≡ self.old.actors) }
     {
         let at = self.now;
         let Some(unique) = known.unique_at(spot) else {

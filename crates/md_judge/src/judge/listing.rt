@@ -8,7 +8,8 @@ ghost use Rattle.md_log.specs.declared.line.Step.{Step};
 ghost use Rattle.md_judge.specs.Logs.{Log};
 ghost use Rattle.md_judge.specs.Law.{turn, NotADirectory};
 ghost use Rattle.md_log.specs.declared.clause.Clause.TheVariants as clause;
-ghost use Rattle.md_judge.specs.Found.{Notes, NotesOne, Keeps, KeepsPaths, KeepsFiles};
+ghost use Rattle.md_judge.specs.Actors.{NotesLook};
+ghost use Rattle.md_judge.specs.Found.{Notes, NotesOne, Keeps, KeepsPaths, KeepsFiles, KeepsAnswers};
 ghost use Rattle.md_judge.specs.declared.judge.directories.Named.{Named};
 ghost use Rattle.md_judge.specs.Readings.{shown_wrongly, lacked, wrong_name, PartFinds, IsPartOf, BrokenByPart};
 ghost use Rattle.md_judge.specs.Open.{reading_of, first_in, shows_in, ShowsMore, IsOver, KeepsPart, IsToldPart};
@@ -124,6 +125,7 @@ impl Listing {
             (λ n. ordered.contains nat_cmp (reading_of self.entry.now place).shown n)
             (reading_of self.exit.now place).first (λ n. ordered.contains nat_cmp (reading_of self.exit.now place).shown n)) }
         ensures others { (p : Place) → (p ≡ place → ⊥) → reading_of self.exit.now p ≡ reading_of self.entry.now p }
+        ensures looked { self.exit.now.looked ≡ self.entry.now.looked }
     {
         match place {
             Place::Tmp => self.tmp.show(at, names),
@@ -136,6 +138,7 @@ impl Listing {
     fn take(&mut self, alloc: Global, place: Place) -> Reading
         ensures over { IsOver (reading_of self.exit.now place).first (λ n. ordered.contains nat_cmp (reading_of self.exit.now place).shown n) }
         ensures others { (p : Place) → (p ≡ place → ⊥) → reading_of self.exit.now p ≡ reading_of self.entry.now p }
+        ensures looked { self.exit.now.looked ≡ self.entry.now.looked }
     {
         let mut reading = Reading::none(alloc);
         match place {
@@ -154,7 +157,8 @@ impl Listing {
         span: (usize, usize),
         shown: &BTreeSet<Name>,
     ) -> Result<(), LineFault>
-        ensures { (p : Place) → reading_of self.exit.now p ≡ reading_of self.entry.now p }
+        ensures readings { (p : Place) → reading_of self.exit.now p ≡ reading_of self.entry.now p }
+        ensures looked { self.exit.now.looked ≡ self.entry.now.looked }
     {
         for name in shown.iter() {
             if let Some(unique) = names.facts(*name).unique {
@@ -173,7 +177,8 @@ impl Listing {
 
     /// The next reading begins the next listing.
     fn clear(&mut self)
-        ensures { (p : Place) → reading_of self.exit.now p ≡ reading_of self.entry.now p }
+        ensures readings { (p : Place) → reading_of self.exit.now p ≡ reading_of self.entry.now p }
+        ensures looked { self.exit.now.looked ≡ self.entry.now.looked }
     {
         self.has_new = false;
         self.has_cur = false;
@@ -324,6 +329,9 @@ impl Watch {
             (first_in listings.old actor folder place) (shows_in listings.old actor folder place)
             → OnOk result (NotesOne clause.NotADirectory (NotADirectory (turn l i x)) self.old.found self.new.found) }
         ensures part { OnOk result (KeepsPart actor folder place reply names.now self.old.now listings.old listings.new) }
+        ensures answers { OnOk result (KeepsAnswers self.old.found self.new.found) }
+        ensures looks { OnOk result (NotesLook actor folder self.old.now listings.old listings.new) }
+        ensures actors { OnOk result (self.new.actors ≡ self.old.actors) }
     {
         let key = (actor, folder);
         let mut listing = match listings.remove(&key) {
@@ -360,6 +368,8 @@ impl Watch {
         ensures files { OnOk result (self.new.files ≡ self.old.files) }
         ensures over { IsOver (reading_of listing.exit.now place).first (λ n. ordered.contains nat_cmp (reading_of listing.exit.now place).shown n) }
         ensures apart { (p : Place) → (p ≡ place → ⊥) → reading_of listing.exit.now p ≡ reading_of listing.entry.now p }
+        ensures looked { listing.exit.now.looked ≡ listing.entry.now.looked }
+        ensures actors { self.new.actors ≡ self.old.actors }
     {
         let done = listing.take(self.alloc, place);
         if reply != Reply::Ok || place == Place::Tmp {

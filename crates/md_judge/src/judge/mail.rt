@@ -1,6 +1,8 @@
 //! The messages of folders.
 ghost use Rattle.std.specs.Prelude.{◌≡◌, ◌↔◌, IsTrue, slice_get};
 ghost use Rattle.std.specs.Option.{option_copied};
+ghost use Rattle.md_judge.specs.Actors.{paths_of};
+ghost use Rattle.md_judge.specs.Claims.{count_of};
 ghost use Rattle.md_judge.specs.Messages.{WasFile};
 ghost use Rattle.md_judge.specs.Listings.{was_in, was_through, message_of};
 
@@ -238,7 +240,9 @@ impl Mail {
     }
 
     /// The message, where it ever was in its folder.
-    pub(super) fn presence(&self, key: Key) -> Option<Presence> {
+    pub(super) fn presence(&self, key: Key) -> Option<Presence>
+        ensures count { count_of result ≡ paths_of (message_of self.now key.0 key.1) }
+    {
         let message = self.message(key)?;
         Some(Presence {
             count: message.count,

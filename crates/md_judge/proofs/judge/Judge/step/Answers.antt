@@ -1,33 +1,45 @@
 use Rattle.md_judge.proofs.Growing.{grows}
 use Rattle.md_judge.proofs.Stepping.{on-ok}
-use Rattle.std.proofs.Common.{ℕ, suc, ◌≡◌, ◌↔◌, List, Some, slice_get, length, refl, sym, ap, subst, ◌∙◌}
+use Rattle.std.proofs.Common.{ℕ, suc, ◌≡◌, ◌↔◌, inl, List, ◌<◌, OnOk, Some, slice_get, length, refl, sym, ap, subst, ◌∙◌, arith}
 use Rattle.std.proofs.lemmas.Bool.{ltb-true}
 use Rattle.md_dirs.specs.declared.paths.Path.{Path}
 use Rattle.md_log.specs.declared.clause.Clause.{Clause}
 use Rattle.md_log.specs.declared.clause.Clause.TheVariants as clause
 use Rattle.md_log.specs.declared.line.Deed.{Deed}
 use Rattle.md_log.specs.declared.line.Reply.{Reply}
+use Rattle.md_log.specs.declared.line.Call.{Call}
 use Rattle.md_log.specs.declared.line.Call.TheVariants as call
+use Rattle.std.specs.Prelude.{unwrap_or}
+use Rattle.md_judge.specs.declared.judge.about.About.{About}
+use Rattle.md_judge.specs.declared.judge.mail.Mail.{Mail}
+use Rattle.md_judge.specs.Claims.{RecallsActs}
+use Rattle.md_judge.specs.Listings.{message_of}
 use Rattle.md_judge.specs.declared.judge.files.Files.{Files}
+use Rattle.md_log.specs.declared.line.Said.{Said}
+use Rattle.md_judge.specs.Logs.{Log}
+use Rattle.md_judge.specs.Actors.{AreActing, NotesAct, NotesLook, MayStand, acted, begun_by, done_by, paths_of}
 use Rattle.md_judge.specs.Acts.{ReadsNone}
 use Rattle.md_judge.specs.Filed.{AreFiled, IsJudged, BrokenByFiles, name_at}
-use Rattle.md_judge.specs.Found.{Has, NotesOne, KeepsFiles, NotesFiles}
-use Rattle.md_judge.specs.Open.{first_in, shows_in, KeepsPart, AreNames, AreOpen, IsToldPart}
+use Rattle.md_judge.specs.Found.{Has, NotesOne, KeepsFiles, KeepsAnswers, NotesFiles}
+use Rattle.md_judge.specs.Open.{Listings, first_in, shows_in, KeepsPart, AreNames, AreOpen, IsToldPart}
 use Rattle.md_judge.specs.Recalled.{IsToldAt, HasFolders}
-use Rattle.md_judge.specs.Words.{AreApart}
+use Rattle.md_judge.specs.Words.{AreApart, KeepWords}
 use Rattle.md_judge.specs.declared.judge.found.Found.{Found}
 use Rattle.md_judge.specs.declared.judge.known.Known.{Known}
 use Rattle.md_judge.specs.declared.judge.watch.Watch.{Watch}
-use Rattle.md_judge.specs.Law.{turn, Breaks, IsWrongCall, NotADirectory, Overwritten}
+use Rattle.md_judge.specs.Law.{turn, Breaks, IsWrongCall, NotADirectory, Overwritten, GaveUp}
 use Rattle.md_judge.specs.Logs.{Numbered}
-use Rattle.md_judge.specs.Told.{moment, at, after_step, after_call, IsStep}
+use Rattle.md_judge.specs.Told.{moment, at, after_step, after_call, IsThere, IsStep, ActsOn, Looks}
 use Rattle.md_judge.specs.Verdict.{IsProved}
+use Rattle.md_judge.proofs.Acted.{acts-on, on-acts}
+use Rattle.md_judge.proofs.Actors.{acting-before, acting-called, acting-read, acting-answered, no-looks, stood}
+use Rattle.md_judge.proofs.Spanning.{span-of, acts-in}
 use Rattle.md_judge.proofs.Acting.{none-overwritten, found-overwritten, found-wrong, found-still}
 use Rattle.md_judge.proofs.Alike.{acts-by, filed-grows}
 use Rattle.md_judge.proofs.Judged.{still-filed, still-lawful}
 use Rattle.md_judge.proofs.Proved.{kept-proved, noted-proved}
 use Rattle.md_judge.proofs.Reopened.{IsNoPart, open-before, open-rests, open-next, answer-no-part, reads-none}
-use Rattle.md_judge.proofs.Sparing.{found-none, found-one, ok-then, ok-two}
+use Rattle.md_judge.proofs.Sparing.{found-none, found-one, ok-then, ok-two, ok-three}
 use Rattle.md_judge.proofs.Stepping.{at-next, clocked}
 use Rattle.md_judge.proofs.judge.Judge.step.Goals as goal
 
@@ -55,12 +67,12 @@ returns-in-Answer-clause-overwritten c = λ lines l i told is here short there.
     let still : at l (suc i) ≡ at l i =
     at-next l i x is ∙ ap (λ v. after_call v (after_step (moment l i) x).now (at l i)) c.in-Answer.is in
     found-none clause.Overwritten (Overwritten (turn l i c.args.step)) c.begin.new.self.found c.answer.new.self.found
-    (c.begin.ensures.nothing clause.Overwritten) c.answer.ensures.paths.overwrites (none-overwritten (at l i) (at l (suc i)) still)
+    (c.begin.ensures.nothing clause.Overwritten) c.answer.ensures.overwrites (none-overwritten (at l i) (at l (suc i)) still)
 
 pub returns-in-Answer-clause-wrong : goal.returns-in-Answer-clause-wrong
 returns-in-Answer-clause-wrong c = λ lines l i told is here short there on.
     found-none clause.NotADirectory (NotADirectory (turn l i c.args.step)) c.begin.new.self.found c.answer.new.self.found
-    (c.begin.ensures.nothing clause.NotADirectory) c.answer.ensures.paths.wrong (subst (IsWrongCall (turn l i c.args.step)) c.in-Answer.is)
+    (c.begin.ensures.nothing clause.NotADirectory) c.answer.ensures.wrong (subst (IsWrongCall (turn l i c.args.step)) c.in-Answer.is)
 
 pub returns-in-Answer-clause-allowed : goal.returns-in-Answer-clause-allowed
 returns-in-Answer-clause-allowed c = refl
@@ -169,6 +181,95 @@ returns-clause-read c = λ lines l i told is-open is here short there now rises.
     returns-clause-wrong c lines l i told is here short there
     (reads-none c.args.step.call (λ folder place r shown same. c.in_default.not-List folder place r shown same))
 
+-- ---- what is kept of actors
+
+returns-in-List-acting : (c : goal.Joined-step-6) (lines : ℕ → ℕ) (l : Log) (i : ℕ)
+    → AreActing lines c.args.self.now.actor_names c.args.self.now.known.names.uniques l i c.args.self.now.watch.actors c.args.self.now.listings
+    → slice_get l.steps i ≡ Some (record { number = c.args.line; step = c.args.step }) → lines i ≡ c.args.line → c.args.line < 4294967295
+    → c.args.self.now.watch.now ≡ c.args.line
+    → OnOk c.list.result (AreActing lines c.numbers.new.self.actor_names c.numbers.new.self.known.names.uniques l (suc i) c.list.new.self.actors c.list.new.listings)
+returns-in-List-acting c lines l i acting is here short now =
+    let x = c.args.step in
+    let first = c.args.self.now in
+    let judge = c.numbers.new.self in
+    let names = c.number.new.self in
+    let me = c.in_ok-actor.actor in
+    let uniques = judge.known.names.uniques in
+    let numbered = c.in_ok-names-in-List.ensures.numbered in
+    let read = c.in-List.folder in
+    let before = acting-before lines first.actor_names names c.in_ok-actor.field-0-1 c.as_slice.result.now first.known.names.uniques uniques l i
+    first.watch.actors first.listings c.in_ok-actor.ensures.grows c.are_apart.ensures.apart
+    (λ n w of. c.numbers.ensures.uniques n w (c.step.ensures.uniques n w of)) numbered.uniques acting in
+    let few : first.watch.now < 4294967296 = omega (arith, now, short) in
+    let named = c.in_ok-actor.ensures.found ∙ ap Some c.as_slice.ensures in
+    let no-answer : (said : Said) (folder : ℕ) (unique : List ℕ) → x.call ≡ call.Answer said folder unique → ⊥ = λ said folder unique e.
+    let no = c.in-List.is in cc in
+    let same-now : judge.watch.now ≡ first.watch.now = ap (λ (w : Watch). w.now) c.numbers.ensures.rest.0 ∙ c.begin.ensures.now in
+    ok-two c.list.result (NotesLook me read judge.watch.now judge.listings c.list.new.listings) (c.list.new.self.actors ≡ judge.watch.actors) _
+    (λ notes still. subst (λ (ws : List (List ℕ)). AreActing lines ws uniques l (suc i) c.list.new.self.actors c.list.new.listings) (sym c.numbers.ensures.rest.2)
+    (acting-read lines names uniques l i x (c.args.line, is) me named c.are_apart.ensures.apart first.watch.actors c.begin.new.self.actors
+    c.list.new.self.actors first.watch.now (now ∙ sym here) first.listings c.list.new.listings before
+    (c.in_ok-begin.ensures.begun few) c.in_ok-begin.ensures.others c.in_ok-begin.ensures.done
+    no-answer (λ f w e on. subst (λ (v : Call). ActsOn v f w e) c.in-List.is on)
+    (still ∙ ap (λ (w : Watch). w.actors) c.numbers.ensures.rest.0) read
+    (λ f. subst (λ (v : Call). Looks v f ↔ (read ≡ f)) (sym c.in-List.is) (λ h. h, λ h. h))
+    (subst (λ (n : ℕ). NotesLook me read n first.listings c.list.new.listings) same-now
+    (subst (λ (ls : Listings). NotesLook me read judge.watch.now ls c.list.new.listings) c.numbers.ensures.rest.1 notes))))
+    c.list.ensures.looks c.list.ensures.actors
+
+returns-in-Answer-acting : (c : goal.Joined-step-8) (lines : ℕ → ℕ) (l : Log) (i : ℕ)
+    → AreActing lines c.args.self.now.actor_names c.args.self.now.known.names.uniques l i c.args.self.now.watch.actors c.args.self.now.listings
+    → slice_get l.steps i ≡ Some (record { number = c.args.line; step = c.args.step }) → lines i ≡ c.args.line → c.args.line < 4294967295
+    → c.args.self.now.watch.now ≡ c.args.line
+    → AreActing lines c.number.new.self c.unique.new.self.uniques l (suc i) c.answer.new.self.actors c.args.self.now.listings
+returns-in-Answer-acting c lines l i acting is here short now =
+    let x = c.args.step in
+    let first = c.args.self.now in
+    let names = c.number.new.self in
+    let me = c.in_ok-actor.actor in
+    let uniques = c.unique.new.self.uniques in
+    let numbered = c.in_ok-unique-in-Answer.ensures.numbered in
+    let before = acting-before lines first.actor_names names c.in_ok-actor.field-0-1 c.as_slice.result.now first.known.names.uniques uniques l i
+    first.watch.actors first.listings c.in_ok-actor.ensures.grows c.are_apart.ensures.apart
+    (λ n w of. c.unique.ensures.uniques n w (c.step.ensures.uniques n w of)) numbered.uniques acting in
+    let few : first.watch.now < 4294967296 = omega (arith, now, short) in
+    let named = c.in_ok-actor.ensures.found ∙ ap Some c.as_slice.ensures in
+    acting-answered lines names uniques l i x (c.args.line, is) me named c.are_apart.ensures.apart first.watch.actors c.begin.new.self.actors
+    c.answer.new.self.actors first.watch.now (now ∙ sym here) first.listings first.listings before
+    (c.in_ok-begin.ensures.begun few) c.in_ok-begin.ensures.others c.in_ok-begin.ensures.done
+    c.in-Answer.said c.in-Answer.folder c.in_ok-unique-in-Answer.unique c.in-Answer.unique c.in-Answer.is
+    (c.in_ok-unique-in-Answer.ensures.number ∙ ap Some c.as_slice-in-Answer.ensures) numbered.uniques c.answer.ensures.tells refl
+
+returns-acting : (c : goal.Joined-step-9) (lines : ℕ → ℕ) (l : Log) (i : ℕ)
+    → AreActing lines c.args.self.now.actor_names c.args.self.now.known.names.uniques l i c.args.self.now.watch.actors c.args.self.now.listings
+    → slice_get l.steps i ≡ Some (record { number = c.args.line; step = c.args.step }) → lines i ≡ c.args.line → c.args.line < 4294967295
+    → c.args.self.now.watch.now ≡ c.args.line
+    → OnOk c.call.result (AreActing lines c.number.new.self c.step.new.self.names.uniques l (suc i) c.call.new.self.actors c.args.self.now.listings)
+returns-acting c lines l i acting is here short now =
+    let x = c.args.step in
+    let names = c.number.new.self in
+    let first = c.args.self.now in
+    let uniques = c.step.new.self.names.uniques in
+    let numbered = c.are_numbered.ensures in
+    let before = acting-before lines first.actor_names names c.in_ok-actor.field-0-1 c.as_slice.result.now first.known.names.uniques uniques l i first.watch.actors
+    first.listings c.in_ok-actor.ensures.grows c.are_apart.ensures.apart c.step.ensures.uniques numbered.uniques acting in
+    let few : first.watch.now < 4294967296 = omega (arith, now, short) in
+    let few' : c.begin.new.self.now < 4294967296 = (let same = c.begin.ensures.now in omega (arith, few, same)) in
+    let named = c.in_ok-actor.ensures.found ∙ ap Some c.as_slice.ensures in
+    let act = c.in_ok-self.field-0 in
+    let on = acted c.step.new.self.names act.spot x.call in
+    let no-answer : (said : Said) (folder : ℕ) (unique : List ℕ) → x.call ≡ call.Answer said folder unique → ⊥ =
+    λ said folder unique e. c.in_default.not-Answer said folder unique e in
+    let no-list : (folder : ℕ) → Looks x.call folder → ⊥ = no-looks x.call (λ folder place r shown e. c.in_default.not-List folder place r shown e) in
+    ok-then c.call.result (NotesAct c.in_ok-actor.actor c.begin.new.self.now on c.begin.new.self.actors c.call.new.self.actors) _
+    (λ notes. acting-called lines names uniques l i x (c.args.line, is) c.in_ok-actor.actor named c.are_apart.ensures.apart first.watch.actors
+    c.begin.new.self.actors c.call.new.self.actors first.watch.now (now ∙ sym here) first.listings first.listings before
+    (c.in_ok-begin.ensures.begun few) c.in_ok-begin.ensures.others c.in_ok-begin.ensures.done
+    no-answer on (acts-on c.step.new.self.names act.spot act refl x.call c.in_ok-self.ensures.first)
+    (on-acts c.step.new.self.names act.spot act refl x.call c.in_ok-self.ensures.first) no-list numbered.uniques
+    (subst (λ (n : ℕ). NotesAct c.in_ok-actor.actor n on c.begin.new.self.actors c.call.new.self.actors) c.begin.ensures.now notes) refl)
+    (c.call.ensures.acts few')
+
 -- ---- what is kept, and what is found
 
 pub returns-in-List-clause-told : goal.returns-in-List-clause-told
@@ -188,14 +289,17 @@ returns-in-List-clause-told c = λ lines l i keeps is here short now there.
     (still-filed who (length names) l i x step-is actor acts c.args.self.now.watch.files.all.items are c.step.new.self.names still apart) in
     let judge = c.numbers.new.self in
     let told = c.in_ok-names-in-List.ensures.known lines l (suc i) (c.in_ok-self.ensures.told lines l i keeps.told is here short there) in
-    ok-two c.list.result (c.list.new.self.files ≡ judge.watch.files) (AreOpen lines judge.actor_names judge.known.names l (suc i) c.list.new.listings) _
-    (λ same opens. record {
+    let acting = returns-in-List-acting c lines l i keeps.acting is here short now in
+    ok-three c.list.result (c.list.new.self.files ≡ judge.watch.files) (AreOpen lines judge.actor_names judge.known.names l (suc i) c.list.new.listings)
+    (AreActing lines judge.actor_names judge.known.names.uniques l (suc i) c.list.new.self.actors c.list.new.listings) _
+    (λ same opens acts. record {
       told = told;
       filed = subst (λ (ws : List (List ℕ)). AreFiled (name_at ws) (length ws) l (suc i) c.list.new.self.files.all.items) (sym c.numbers.ensures.rest.2)
           (subst (λ (f : Files). AreFiled who (length names) l (suc i) f.all.items) (sym (same ∙ ap (λ (w : Watch). w.files) c.numbers.ensures.rest.0)) kept);
       clock = c.in_ok-names-in-List.ensures.clock ∙ c.step.ensures.clock l i keeps.clock is;
       opens = opens;
-    }) c.list.ensures.files (returns-in-List-clause-opens c lines l i keeps.opens is here now)
+      acting = acts;
+    }) c.list.ensures.files (returns-in-List-clause-opens c lines l i keeps.opens is here now) acting
 
 pub returns-in-List-clause-broken : goal.returns-in-List-clause-broken
 returns-in-List-clause-broken c = λ lines l i keeps is here short now rises there.
@@ -242,6 +346,7 @@ returns-in-Answer-clause-told c = λ lines l i keeps is here short now there.
           (still-filed who (length names) l i x step-is actor acts c.args.self.now.watch.files.all.items are c.step.new.self.names still apart);
       clock = c.step.ensures.clock l i keeps.clock is;
       opens = returns-in-Answer-clause-opens c lines l i keeps.opens is here now;
+      acting = returns-in-Answer-acting c lines l i keeps.acting is here short now;
     }
 
 pub returns-in-Answer-clause-broken : goal.returns-in-Answer-clause-broken
@@ -279,14 +384,17 @@ returns-clause-told c = λ lines l i keeps is here short now there.
     let clock = c.step.ensures.clock l i keeps.clock is in
     let judged : IsJudged done.0 who (length names) l i x actor x.call c.step.new.self c.in_ok-self.field-0 =
     record { step = step-is; call = refl; acts = acts; clock = clock; done = done.1 } in
-    ok-two c.call.result (AreFiled who (length names) l (suc i) c.call.new.self.files.all.items)
-    (AreOpen lines names c.step.new.self.names l (suc i) c.args.self.now.listings) _
-    (λ filed opens. record {
+    ok-three c.call.result (AreFiled who (length names) l (suc i) c.call.new.self.files.all.items)
+    (AreOpen lines names c.step.new.self.names l (suc i) c.args.self.now.listings)
+    (AreActing lines names c.step.new.self.names.uniques l (suc i) c.call.new.self.actors c.args.self.now.listings) _
+    (λ filed opens acting. record {
       told = c.in_ok-self.ensures.told lines l i keeps.told is here short there;
       filed = filed;
       clock = clock;
       opens = opens;
+      acting = acting;
     }) (c.call.ensures.filed done.0 who (length names) i l x kept judged) (returns-clause-opens c lines l i keeps.opens is here now)
+    (returns-acting c lines l i keeps.acting is here short now)
 
 pub returns-clause-broken : goal.returns-clause-broken
 returns-clause-broken c = λ lines l i keeps is here short now rises there.
@@ -314,3 +422,62 @@ returns-clause-broken c = λ lines l i keeps is here short now rises there.
     (ok-two c.call.result wrong overwritten (wrong × overwritten) (λ w o. (w, o))
     (returns-clause-read c lines l i keeps.told keeps.opens is here short there now rises)
     (returns-clause-overwritten c lines l i keeps.told is here short there)) (c.call.ensures.finds done.0 who (length names) i l x kept judged)
+
+-- ---- answers that give up
+
+pub returns-in-List-clause-gave_up : goal.returns-in-List-clause-gave_up
+returns-in-List-clause-gave_up c = λ lines l i keeps is here short now rises counted present.
+    let t = turn l i c.args.step in
+    let old = c.numbers.new.self.watch.found in
+    let none : GaveUp t → ⊥ = λ gave. let answers = gave.4 in let no = c.in-List.is in cc in
+    ok-then c.list.result (KeepsAnswers old c.list.new.self.found) (Has c.list.new.self.found.broken clause.GaveUp ↔ GaveUp t)
+    (λ answers. found-none clause.GaveUp (GaveUp t) old c.list.new.self.found
+    (subst (λ (f : Found). Has f.broken clause.GaveUp → ⊥) (sym c.in_ok-names-in-List.ensures.found) (c.begin.ensures.nothing clause.GaveUp))
+    answers.gave_up none) c.list.ensures.answers
+
+pub returns-in-Answer-clause-gave_up : goal.returns-in-Answer-clause-gave_up
+returns-in-Answer-clause-gave_up c = λ lines l i keeps is here short now rises counted present.
+    let x = c.args.step in
+    let step-is : IsStep l i x = (c.args.line, is) in
+    let first = c.args.self.now in
+    let names = c.number.new.self in
+    let me = c.in_ok-actor.actor in
+    let uniques = c.unique.new.self.uniques in
+    let numbered = c.in_ok-unique-in-Answer.ensures.numbered in
+    let keeps-words : KeepWords first.known.names.uniques uniques = λ n w of. c.unique.ensures.uniques n w (c.step.ensures.uniques n w of) in
+    let before = acting-before lines first.actor_names names c.in_ok-actor.field-0-1 c.as_slice.result.now first.known.names.uniques uniques l i
+    first.watch.actors first.listings c.in_ok-actor.ensures.grows c.are_apart.ensures.apart keeps-words numbered.uniques keeps.acting in
+    let few : first.watch.now < 4294967296 = omega (arith, now, short) in
+    let folder = c.in-Answer.folder in
+    let u = c.in_ok-unique-in-Answer.unique in
+    let unique = c.in-Answer.unique in
+    let key : ℕ × ℕ = (folder, u) in
+    let named : MayStand names me x.actor = inl (c.in_ok-actor.ensures.found ∙ ap Some c.as_slice.ensures) in
+    let of : MayStand uniques u unique = inl (c.in_ok-unique-in-Answer.ensures.number ∙ ap Some c.as_slice-in-Answer.ensures) in
+    let o = begun_by first.watch.actors me key in
+    let span = span-of lines l i x step-is x.actor folder unique refl o (before.begun me x.actor folder u unique named of) in
+    let t = turn l i x in
+    let done : About = done_by first.watch.actors me key in
+    let notes = c.answer.ensures.gave_up lines span.0 i unique l x (record {
+      call = c.in-Answer.is;
+      span = span.2;
+      rises = rises;
+      counted = counted;
+      begins = c.in_ok-begin.ensures.begun few key ∙ ap (λ (n : ℕ). Some (unwrap_or o n)) (now ∙ sym here) ∙ ap Some span.1;
+      acts = subst (λ (a : About). RecallsActs lines t span.0 folder unique a) (sym (c.in_ok-begin.ensures.done me key))
+          (acts-in lines l i x step-is x.actor folder unique span.0 refl span.2 done (before.done me x.actor folder u unique named of));
+      looks = before.looks me x.actor folder named;
+      there = subst (λ (m : Mail). (0 < paths_of (message_of m folder u)) ↔ IsThere (at l i) folder unique) (sym c.begin.ensures.mail)
+          (present folder u unique (stood first.known.names.uniques uniques keeps-words numbered.uniques u unique of));
+    }) in
+    found-one clause.GaveUp (GaveUp t) (GaveUp t) c.begin.new.self.found c.answer.new.self.found (c.begin.ensures.nothing clause.GaveUp) notes
+    (λ h. h, λ h. h)
+
+pub returns-clause-gave_up : goal.returns-clause-gave_up
+returns-clause-gave_up c = λ lines l i keeps is here short now rises counted present.
+    let t = turn l i c.args.step in
+    let old = c.begin.new.self.found in
+    let none : GaveUp t → ⊥ = λ gave. c.in_default.not-Answer gave.1 gave.2 gave.3 gave.4 in
+    ok-then c.call.result (KeepsAnswers old c.call.new.self.found) (Has c.call.new.self.found.broken clause.GaveUp ↔ GaveUp t)
+    (λ answers. found-none clause.GaveUp (GaveUp t) old c.call.new.self.found (c.begin.ensures.nothing clause.GaveUp) answers.gave_up none)
+    c.call.ensures.answers

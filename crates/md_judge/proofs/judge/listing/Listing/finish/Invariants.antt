@@ -5,4 +5,7 @@ use Rattle.md_judge.proofs.judge.listing.Listing.finish.Given as goal
 
 -- no reading changes
 abbrev pub invariant-loop-name : goal.invariant-loop-name
-invariant-loop-name l = (p : Place) → reading_of l.self p ≡ reading_of l.fn.self p
+invariant-loop-name l = record {
+  readings : (p : Place) → reading_of l.self p ≡ reading_of l.fn.self p;
+  looked : l.self.looked ≡ l.fn.self.looked;
+}

@@ -13,7 +13,8 @@ returns-clause-paths c =
       | then-is_complete w ↦
           let finds = w.check_listing.ensures.finds in
           subst (λ (s : Watch). KeepsPaths found s.found) (sym w.self-is)
-          (paths-kept found w.check_listing.new.found (finds clause.NotADirectory) (finds clause.Overwritten))
+          (paths-kept found w.check_listing.new.found (finds clause.NotADirectory) (finds clause.Overwritten)
+          (finds clause.GaveUp) (finds clause.AnsweredFalsely))
       | else-is_complete w ↦ keeps-same found c.if-is_complete.self.found (ap (λ (s : Watch). s.found) w.self-is)
     ]
 
@@ -32,4 +33,10 @@ pub returns-clause-files : goal.returns-clause-files
 returns-clause-files c = elim c.if-is_complete.branch [
   | then-is_complete w ↦ ap (λ (s : Watch). s.files) w.self-is
   | else-is_complete w ↦ ap (λ (s : Watch). s.files) w.self-is
+]
+
+pub returns-clause-actors : goal.returns-clause-actors
+returns-clause-actors c = elim c.if-is_complete.branch [
+  | then-is_complete w ↦ ap (λ (s : Watch). s.actors) w.self-is
+  | else-is_complete w ↦ ap (λ (s : Watch). s.actors) w.self-is
 ]
