@@ -1,11 +1,8 @@
 -- What is found where a path is added, or none is, is what the law has, where what is kept of messages is what the log tells.
-use Rattle.std.proofs.Common.{ℕ, suc, ◌≡◌, ◌≢◌, ◌↔◌, ◌⊎◌, inl, inr, Bool, true, false, cond, nat_eq, if◌then◌else◌, ◌==◌, List, Option, Some, None, slice_get, refl, sym, ap, subst, ◌∙◌, arith}
-use Rattle.std.proofs.lemmas.Bool.{eq-eqb}
+use Rattle.std.proofs.Common.{ℕ, suc, ◌≡◌, ◌≢◌, ◌⊎◌, inl, inr, Bool, true, false, cond, nat_eq, if◌then◌else◌, ◌==◌, List, Option, Some, None, slice_get, refl, sym, ap, subst, ◌∙◌, arith}
 use Rattle.std.proofs.lemmas.Bool.Decides.{nat_tests}
 use Rattle.md_name.specs.Names.{unique_of}
-use Rattle.md_dirs.specs.State.{file_at}
 use Rattle.md_dirs.specs.declared.paths.Path.{Path}
-use Rattle.md_dirs.proofs.Sound.{by_number}
 use Rattle.md_log.specs.declared.line.Step.{Step}
 use Rattle.md_log.specs.declared.clause.Clause.TheVariants as clause
 use Rattle.md_judge.specs.declared.judge.acts.Change.{Change}
@@ -16,7 +13,7 @@ use Rattle.md_judge.specs.declared.judge.mail.Message.{Message}
 use Rattle.md_judge.specs.declared.judge.tables.Names.{Names}
 use Rattle.md_judge.specs.Changes.{IsPathOf, Leads}
 use Rattle.md_judge.specs.Files.{unique_in}
-use Rattle.md_judge.specs.Found.{Has, Notes}
+use Rattle.md_judge.specs.Found.{Notes}
 use Rattle.md_judge.specs.Known.{EachPath, EachSpot}
 use Rattle.md_judge.specs.Law.{turn, TwoNames, UsedAgain}
 use Rattle.md_judge.specs.Listings.{message_of}

@@ -56,3 +56,9 @@ pub mod Posted
 pub mod Coming
 pub mod Writing
 pub mod Mailbegun
+pub mod Spanning
+pub mod Acted
+pub mod Pairs
+pub mod Lined
+pub mod Actors
+pub mod Present

@@ -1,5 +1,5 @@
 -- What is kept of messages is what a log tells before the first step, where no path changes, and of a log that is longer.
-use Rattle.std.proofs.Common.{ℕ, suc, ◌≡◌, ◌≢◌, ◌<◌, ◌≤◌, ◌++◌, ◌⊎◌, inl, inr, true, false, cond, List, [], ◌∷◌, Option, Some, None, length, slice_get, refl, sym, ap, subst, ◌∙◌, arith}
+use Rattle.std.proofs.Common.{ℕ, suc, ◌≡◌, ◌≤◌, ◌++◌, inl, inr, false, cond, List, [], ◌∷◌, Option, Some, None, length, slice_get, refl, sym, ap, subst, ◌∙◌, arith}
 use Rattle.std.specs.Ordering.{eq_by_cmp}
 use Rattle.std.specs.FinMap.{get-empty}
 use Rattle.md_dirs.specs.Path.{path_of, path_cmp}
@@ -14,11 +14,10 @@ use Rattle.md_judge.specs.declared.judge.tables.Names.{Names}
 use Rattle.md_judge.specs.Changes.{Leads}
 use Rattle.md_judge.specs.Copies.{copies_of}
 use Rattle.md_judge.specs.Files.{unique_in}
-use Rattle.md_judge.specs.Filed.{HoldsOf}
 use Rattle.md_judge.specs.Law.{turn, TwoNames, UsedAgain}
 use Rattle.md_judge.specs.Listings.{message_of}
 use Rattle.md_judge.specs.Logs.{Log, Numbered, empty_log}
-use Rattle.md_judge.specs.Mailed.{IsPathThere, IsCopyBy, AreMailed, TellsMail, AddAt, MakeStep}
+use Rattle.md_judge.specs.Mailed.{TellsMail, AddAt}
 use Rattle.md_judge.specs.Recalled.{IsSpotOf}
 use Rattle.md_judge.specs.Told.{Moment, at}
 use Rattle.md_judge.proofs.Longer.{alike-longer}

@@ -1,5 +1,5 @@
 -- What is kept of messages goes on to be what a log tells: through a step and at a line of the beginning, as numbers come and as a log grows.
-use Rattle.std.proofs.Common.{ℕ, suc, ◌≡◌, ◌≢◌, ◌↔◌, ◌<◌, ◌≤◌, ◌++◌, ◌⊎◌, inl, inr, List, [], ◌∷◌, Option, Some, None, Bool, true, length, slice_get, refl, sym, ap, subst, ◌∙◌, arith}
+use Rattle.std.proofs.Common.{ℕ, suc, ◌≡◌, ◌≤◌, ◌⊎◌, inl, inr, List, Option, Some, None, true, length, slice_get, refl, sym, ap, subst, ◌∙◌, arith}
 use Rattle.std.proofs.lemmas.Bool.{cases_lt}
 use Rattle.std.proofs.lemmas.Option.{slice_get_within, slice_get_cases}
 use Rattle.md_dirs.specs.State.{file_at}
@@ -18,8 +18,8 @@ use Rattle.md_judge.specs.Filed.{HoldsOf}
 use Rattle.md_judge.specs.Known.{EachPath, EachTurned, EachSpot}
 use Rattle.md_judge.specs.Listings.{message_of}
 use Rattle.md_judge.specs.Logs.{Log}
-use Rattle.md_judge.specs.Mailed.{WasOf, IsPathThere, IsCopyBy, IsMailed, AreMailed, AreCopied, TellsMail, AddAt, AddStep, TurnAt, TurnStep, TakeAt, TakeStep, MakeStep}
-use Rattle.md_judge.specs.Messages.{WasAs, AreTwo, RecallsMessage, Recalled}
+use Rattle.md_judge.specs.Mailed.{IsPathThere, IsCopyBy, IsMailed, AreMailed, AreCopied, TellsMail, AddAt, AddStep, TurnAt, TurnStep, TakeAt, TakeStep, MakeStep}
+use Rattle.md_judge.specs.Messages.{Recalled}
 use Rattle.md_judge.specs.Names.{GrowsUniques}
 use Rattle.md_judge.specs.Recalled.{IsSpotOf}
 use Rattle.md_judge.specs.Told.{at, is_message, IsOf, IsMessageAt, IsThere}

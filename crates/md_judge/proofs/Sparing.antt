@@ -16,15 +16,17 @@ use Rattle.md_judge.specs.declared.judge.found.Found.{Found}
 use Rattle.md_judge.specs.declared.judge.mail.Message.{Message}
 use Rattle.md_judge.specs.declared.judge.tables.Names.{Names}
 use Rattle.md_judge.specs.Files.{facts_at, named_by, turned_by, WriteFinds, AtFinds, NamedFinds, NameFinds, LeftFinds, LeaveFinds, ChangeFinds}
-use Rattle.md_judge.specs.Found.{Has, Notes, Keeps, NotesOne, KeepsPaths, KeepsAdded, GoesByFiles, KeepsFiles, NotesFiles}
 use Rattle.md_judge.specs.Law.{Turn, TwoNames, UsedAgain}
 use Rattle.md_judge.specs.Mailed.{NotesAdded}
+use Rattle.md_judge.specs.Found.{Has, Notes, Keeps, NotesOne, KeepsPaths, KeepsAdded, KeepsAnswers, GoesByFiles, KeepsFiles, NotesFiles}
 use Rattle.md_judge.specs.Messages.{AddFinds}
 
--- the clause goes by more than the paths of a step
+-- the clause goes by more than the paths of a step, and not by answers
 abbrev pub GoesByMore : Clause → Type 0
 GoesByMore clause.NotADirectory = ⊥
 GoesByMore clause.Overwritten = ⊥
+GoesByMore clause.GaveUp = ⊥
+GoesByMore clause.AnsweredFalsely = ⊥
 GoesByMore c = Unit {0}
 
 -- ---- what is kept
@@ -42,22 +44,41 @@ one-kept c old new notes = (
   λ h. notes.1 (inl h),
 )
 
+pub keeps-one : (c : Clause) (a b d : Found) → Keeps c a b → Keeps c b d → Keeps c a d
+keeps-one c a b d first then = (λ h. first.0 (then.0 h), λ h. then.1 (first.1 h))
+
+-- of the clauses that go by answers nothing else is found, where none of them is noted
+pub answers-kept : (P : Clause → Type 0) → (P clause.GaveUp → ⊥) → (P clause.AnsweredFalsely → ⊥) → (old new : Found) → Notes P old new
+    → KeepsAnswers old new
+answers-kept P gave false old new notes = record {
+  gave_up = kept P clause.GaveUp gave old new notes;
+  falsely = kept P clause.AnsweredFalsely false old new notes;
+}
+
+pub answers-same : (old new : Found) → new ≡ old → KeepsAnswers old new
+answers-same old new same = subst (KeepsAnswers old) (sym same) (record { gave_up = (λ h. h, λ h. h); falsely = (λ h. h, λ h. h) })
+
+pub answers-on : (a b d : Found) → KeepsAnswers a b → KeepsAnswers b d → KeepsAnswers a d
+answers-on a b d first then = record {
+  gave_up = keeps-one clause.GaveUp a b d first.gave_up then.gave_up;
+  falsely = keeps-one clause.AnsweredFalsely a b d first.falsely then.falsely;
+}
+
 pub keeps-paths : (P : Clause → Type 0) → ((c : Clause) → P c → GoesByMore c) → (old new : Found) → Notes P old new → KeepsPaths old new
 keeps-paths P more old new notes = record {
   wrong = kept P clause.NotADirectory (more clause.NotADirectory) old new notes;
   overwrites = kept P clause.Overwritten (more clause.Overwritten) old new notes;
+  answers = answers-kept P (more clause.GaveUp) (more clause.AnsweredFalsely) old new notes;
 }
 
 pub keeps-same : (old new : Found) → new ≡ old → KeepsPaths old new
-keeps-same old new same = subst (KeepsPaths old) (sym same) (record { wrong = (λ h. h, λ h. h); overwrites = (λ h. h, λ h. h) })
-
-pub keeps-one : (c : Clause) (a b d : Found) → Keeps c a b → Keeps c b d → Keeps c a d
-keeps-one c a b d first then = (λ h. first.0 (then.0 h), λ h. then.1 (first.1 h))
+keeps-same old new same = subst (KeepsPaths old) (sym same) (record { wrong = (λ h. h, λ h. h); overwrites = (λ h. h, λ h. h); answers = answers-same old old refl })
 
 pub keeps-on : (a b d : Found) → KeepsPaths a b → KeepsPaths b d → KeepsPaths a d
 keeps-on a b d first then = record {
   wrong = keeps-one clause.NotADirectory a b d first.wrong then.wrong;
   overwrites = keeps-one clause.Overwritten a b d first.overwrites then.overwrites;
+  answers = answers-on a b d first.answers then.answers;
 }
 
 -- ---- clauses that go by paths of messages that are added
@@ -132,11 +153,20 @@ pub keeps-notes : (c : Clause) (P : Type 0) (old new : Found) → Keeps c old ne
 keeps-notes c P old new keeps none = (λ h. inl (keeps.0 h), λ h. elim h [ inl was ↦ keeps.1 was | inr now ↦ absurd (none now) ])
 
 pub paths-kept : (old new : Found) → (Has new.broken clause.NotADirectory ↔ (Has old.broken clause.NotADirectory ⊎ ⊥))
-    → (Has new.broken clause.Overwritten ↔ (Has old.broken clause.Overwritten ⊎ ⊥)) → KeepsPaths old new
-paths-kept old new wrong overwrites = record {
+    → (Has new.broken clause.Overwritten ↔ (Has old.broken clause.Overwritten ⊎ ⊥)) → (Has new.broken clause.GaveUp ↔ (Has old.broken clause.GaveUp ⊎ ⊥))
+    → (Has new.broken clause.AnsweredFalsely ↔ (Has old.broken clause.AnsweredFalsely ⊎ ⊥)) → KeepsPaths old new
+paths-kept old new wrong overwrites gave false = record {
   wrong = one-kept clause.NotADirectory old new wrong;
   overwrites = one-kept clause.Overwritten old new overwrites;
+  answers = record { gave_up = one-kept clause.GaveUp old new gave; falsely = one-kept clause.AnsweredFalsely old new false };
 }
+
+-- a clause is noted where what is the same holds
+pub noted-as : (c : Clause) (P Q : Type 0) (old new : Found) → P ↔ Q → NotesOne c P old new → NotesOne c Q old new
+noted-as c P Q old new same notes = (
+  λ h. elim (notes.0 h) [ inl was ↦ inl was | inr now ↦ inr (same.0 now) ],
+  λ h. notes.1 (elim h [ inl was ↦ inl was | inr now ↦ inr (same.1 now) ]),
+)
 
 -- the clauses that go by files are noted, before and after steps that keep them
 pub notes-files : (P : Clause → Type 0) (a b d e : Found) → KeepsFiles a b → Notes P b d → KeepsFiles d e → NotesFiles P a e
@@ -160,6 +190,13 @@ pub unnoted-added : (b : Bool) (k : Clause) → (clause.TwoNames ≡ k → ⊥) 
 unnoted-added b k two again old new notes = record {
   two = unnoted b k clause.TwoNames two old new notes;
   again = unnoted b k clause.UsedAgain again old new notes;
+}
+
+pub unnoted-answers : (b : Bool) (k : Clause) → (clause.GaveUp ≡ k → ⊥) → (clause.AnsweredFalsely ≡ k → ⊥) → (old new : Found)
+    → Notes (λ c. IsTrue b × (c ≡ k)) old new → KeepsAnswers old new
+unnoted-answers b k gave false old new notes = record {
+  gave_up = unnoted b k clause.GaveUp gave old new notes;
+  falsely = unnoted b k clause.AnsweredFalsely false old new notes;
 }
 
 -- where nothing was found before, the clause is found just where it is noted
@@ -193,6 +230,8 @@ ok-then (Err e) P Q so holds = tt
 files-more : (c : Clause) → GoesByFiles c → GoesByMore c
 files-more clause.NotADirectory by = by
 files-more clause.Overwritten by = by
+files-more clause.GaveUp by = by
+files-more clause.AnsweredFalsely by = by
 files-more c by = tt
 
 -- what is noted of clauses that go by files is nothing of those that go by paths
@@ -263,3 +302,6 @@ ok-two (Err e) P Q R so one two = tt
 pub ok-three : {A E : Type 0} (r : Result A E) (P Q R S : Type 0) → (P → Q → R → S) → OnOk r P → OnOk r Q → OnOk r R → OnOk r S
 ok-three (Ok x) P Q R S so one two three = so one two three
 ok-three (Err e) P Q R S so one two three = tt
+
+pub ok-both : {A E : Type 0} (r : Result A E) (P Q : Type 0) → OnOk r P → OnOk r Q → OnOk r (P × Q)
+ok-both r P Q = ok-two r P Q (P × Q) (λ p q. (p, q))

@@ -1,8 +1,8 @@
 -- What one write to the tables of messages and of copies does.
-use Rattle.std.proofs.Common.{ℕ, zero, suc, ◌≡◌, ◌≢◌, ◌↔◌, ◌<◌, ◌≤◌, ◌+◌, ◌-◌, ◌++◌, ◌&&◌, not, ◌⊎◌, inl, inr, Bool, true, false, cond, nat_eq, List, [], ◌∷◌, Option, Some, None, IsSome, unwrap_or, length, slice_get, slice_set, refl, sym, ap, subst, ◌∙◌, arith}
+use Rattle.std.proofs.Common.{ℕ, zero, suc, ◌≡◌, ◌≢◌, ◌+◌, ◌++◌, ◌&&◌, not, ◌⊎◌, inl, inr, Bool, true, false, cond, nat_eq, List, [], ◌∷◌, Option, Some, None, unwrap_or, slice_get, slice_set, refl, sym, ap, subst, ◌∙◌, arith}
 use Rattle.std.proofs.lemmas.Bool.{eq-eqb, false_from_ne_true}
 use Rattle.std.proofs.lemmas.Bool.Decides.{nat_tests}
-use Rattle.std.proofs.lemmas.Option.{slice_get_within, slice_get_cases}
+use Rattle.std.proofs.lemmas.Option.{slice_get_within}
 use Rattle.std.specs.Ordering.{is_eq}
 use Rattle.std.specs.BTreeMap.{BTreeMap, get}
 use Rattle.md_dirs.proofs.Sound.{by_number, get-set_same, get-set_other}
@@ -14,8 +14,7 @@ use Rattle.md_judge.specs.declared.judge.mail.Move.{Move}
 use Rattle.md_judge.specs.declared.judge.mail.Move.TheVariants.{Comes, Turns, Goes}
 use Rattle.md_judge.specs.Copies.{copies_by, copies_of}
 use Rattle.md_judge.specs.Listings.{is_of, first_or, message_cmp, message_of}
-use Rattle.md_judge.specs.Mailed.{count_of, WasOf, count_after, IsBy, Moves, MovesOne, MakesOne, Makes, Prepares, KeepsOthers, is_first, is_free, fresh, begun, Recounts, one_more, one_fewer}
-use Rattle.md_judge.proofs.Alike.{get-push}
+use Rattle.md_judge.specs.Mailed.{count_after, IsBy, Moves, MovesOne, MakesOne, Makes, Prepares, KeepsOthers, is_first, is_free, fresh, begun, Recounts}
 use Rattle.md_judge.proofs.Keeping.{tied}
 
 -- two keys are two to the map

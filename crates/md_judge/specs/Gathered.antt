@@ -34,7 +34,11 @@ abbrev pub nothing_gathered : Gathered
 nothing_gathered = record { spans = []; shown = λ u. false; read = nothing_read }
 
 abbrev pub gathered_of : Listing → Gathered
-gathered_of s = record { spans = s.spans.items; shown = ordered.contains nat_cmp s.shown; read = record { new = s.has_new; cur = s.has_cur } }
+gathered_of s = record {
+  spans = s.spans.items;
+  shown = ordered.contains nat_cmp s.shown;
+  read = record { new = s.has_new; cur = s.has_cur };
+}
 
 abbrev pub gathered_by : Option Listing → Gathered
 gathered_by None = nothing_gathered
@@ -84,14 +88,17 @@ abbrev pub IsShownBy : (ℕ → Bool) → List ℕ → (ℕ → Bool) → Type 0
 IsShownBy before numbers done = (n : ℕ) → (done n ≡ true) ↔ ((before n ≡ true) ⊎ IsIn numbers n)
 
 -- A part of an actor's reading of a directory is kept in its listing of the folder. No other one changes.
-pub record KeepsGathered (names : Names) (actor folder : ℕ) (place : Place) (r : Reply) (numbers : List ℕ) (at : ℕ) (old new : Listings) : Type 0 where
+pub record KeepsGathered (names : Names) (actor folder : ℕ) (place : Place) (r : Reply) (numbers : List ℕ) (at : ℕ) (old new : Listings)
+    : Type 0 where
   pub here : (done : ℕ → Bool) × IsShownBy (shows_in old actor folder place) numbers done
-      × EndsReading names place r (unwrap_or (first_in old actor folder place) at, at) done (gathered_in old actor folder) (gathered_in new actor folder)
+      × EndsReading names place r (unwrap_or (first_in old actor folder place) at, at) done (gathered_in old actor folder)
+      (gathered_in new actor folder)
   pub others : (a f : ℕ) → (a ≡ actor → f ≡ folder → ⊥) → gathered_in new a f ≡ gathered_in old a f
 
 -- ---- what a log tells
 
--- the actor's reading of the folder's new or cur between these steps counts with its listing that goes on at a moment, and began with a step
+-- The actor's reading of the folder's new or cur between these steps counts with its listing that goes on at a moment, and that began with a
+-- step.
 abbrev pub Counts : Log → ℕ → ℕ → List ℕ → ℕ → ℕ → ℕ → Place → Type 0
 Counts l begin i actor folder m n place = (begin ≤ n) × (n < i) × (place ≢ Tmp) × IsWholeReading l m n actor folder place
 

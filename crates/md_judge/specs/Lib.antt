@@ -21,4 +21,5 @@ pub mod Acts
 pub mod Filed
 pub mod Copies
 pub mod Mailed
+pub mod Actors
 pub mod Verdict

@@ -1,5 +1,5 @@
 -- What the judge keeps of messages and of the copies of files is what a log tells.
-use Rattle.std.specs.Prelude.{ℕ, suc, ◌≡◌, ◌↔◌, ◌≤◌, ◌+◌, ◌-◌, ◌⊎◌, List, Option, Some, None, Bool, true, false, not, ◌&&◌, IsSome, length, slice_get, ◌==◌, if◌then◌else◌}
+use Rattle.std.specs.Prelude.{ℕ, ◌≡◌, ◌↔◌, ◌≤◌, ◌+◌, ◌-◌, ◌⊎◌, List, Option, Some, None, Bool, true, false, not, ◌&&◌, IsSome, length, slice_get, ◌==◌, if◌then◌else◌}
 use Rattle.md_dirs.specs.State.{State, file_at}
 use Rattle.md_dirs.specs.declared.paths.Path.{Path}
 use Rattle.md_name.specs.Names.{unique_of}
@@ -21,7 +21,7 @@ use Rattle.md_judge.specs.Law.{Turn, TwoNames, UsedAgain}
 use Rattle.md_judge.specs.Listings.{is_of, message_of}
 use Rattle.md_judge.specs.Logs.{Log}
 use Rattle.md_judge.specs.Messages.{WasFile, WasAs}
-use Rattle.md_judge.specs.Told.{at, is_message, IsOf, IsMessageAt, IsThere}
+use Rattle.md_judge.specs.Told.{at, is_message, IsMessageAt, IsThere}
 use Rattle.md_judge.specs.Words.{AreApart}
 
 -- ---- what a log tells
@@ -53,13 +53,16 @@ pub record IsMailed (l : Log) (i folder : ℕ) (unique : List ℕ) (o : Option M
 -- a number that stands for no unique name has nothing.
 pub record AreMailed (names : Names) (l : Log) (i : ℕ) (mail : Mail) : Type 0 where
   pub apart : AreApart names.uniques
-  pub messages : (folder u : ℕ) (unique : List ℕ) → slice_get names.uniques u ≡ Some unique → IsMailed l i folder unique (message_of mail folder u)
-  pub numbered : (j folder : ℕ) (unique : List ℕ) → j ≤ i → IsThere (at l j) folder unique → (u : ℕ) × (slice_get names.uniques u ≡ Some unique)
+  pub messages : (folder u : ℕ) (unique : List ℕ) → slice_get names.uniques u ≡ Some unique
+      → IsMailed l i folder unique (message_of mail folder u)
+  pub numbered : (j folder : ℕ) (unique : List ℕ) → j ≤ i → IsThere (at l j) folder unique
+      → (u : ℕ) × (slice_get names.uniques u ≡ Some unique)
   pub unused : (folder u : ℕ) → length names.uniques ≤ u → message_of mail folder u ≡ None
 
 -- What is kept of the copies of files is what a log tells at a moment: by how many paths a file is a message of a unique name.
 pub record AreCopied (names : Names) (l : Log) (i : ℕ) (copied : Copied) : Type 0 where
-  pub copies : (n u : ℕ) (unique : List ℕ) → slice_get names.uniques u ≡ Some unique → HoldsOf (IsCopyBy (at l i) n unique) (copies_of copied n u)
+  pub copies : (n u : ℕ) (unique : List ℕ) → slice_get names.uniques u ≡ Some unique
+      → HoldsOf (IsCopyBy (at l i) n unique) (copies_of copied n u)
   pub unused : (n u : ℕ) → length names.uniques ≤ u → copies_of copied n u ≡ 0
 
 -- what is kept of messages and of copies is what a log tells at a moment

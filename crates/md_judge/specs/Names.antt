@@ -16,7 +16,7 @@ StandFor names name (Some parts) front ending =
 abbrev pub IsNumber : Names → List ℕ → ℕ → Type 0
 IsNumber names name n = StandFor names name (split_of name) (n / 4294967296) (n % 4294967296)
 
--- Two names have two numbers, and a name has one, which is a word of 64 bits. So have unique names.
+-- Two names have two numbers, and a name has one, which is a word of 64 bits. So have two unique names.
 pub record AreNumbered (names : Names) : Type 0 where
   pub apart : (a b : List ℕ) (n : ℕ) → IsNumber names a n → IsNumber names b n → a ≡ b
   pub one : (a : List ℕ) (m n : ℕ) → IsNumber names a m → IsNumber names a n → m ≡ n

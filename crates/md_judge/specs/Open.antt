@@ -112,8 +112,8 @@ pub record AreOpen (line : ℕ → ℕ) (actors : List (List ℕ)) (names : Name
       → (a : ℕ) × (slice_get actors a ≡ Some actor)
 
 -- What is kept of a reading at a part of it: the line of its first part, and the numbers of the names that were shown by now.
-pub record IsPartKept (line : ℕ → ℕ) (names : Names) (l : Log) (i : ℕ) (actor : List ℕ) (folder : ℕ) (place : Place) (first : ℕ) (shown : ℕ → Bool)
-    : Type 0 where
+pub record IsPartKept (line : ℕ → ℕ) (names : Names) (l : Log) (i : ℕ) (actor : List ℕ) (folder : ℕ) (place : Place) (first : ℕ)
+    (shown : ℕ → Bool) : Type 0 where
   pub begin : ℕ
   pub line_is : first ≡ line begin
   pub reading : IsReading l begin i actor folder place

@@ -9,7 +9,7 @@ ghost use Rattle.md_log.specs.declared.clause.Clause.{Clause};
 ghost use Rattle.md_log.specs.declared.clause.Clause.TheVariants as clause;
 ghost use Rattle.md_judge.specs.Acts.{ReadsNone};
 ghost use Rattle.md_judge.specs.Found.{Has};
-ghost use Rattle.md_judge.specs.Law.{turn, Breaks, NotADirectory, Overwritten};
+ghost use Rattle.md_judge.specs.Law.{turn, Breaks, NotADirectory, Overwritten, GaveUp};
 ghost use Rattle.md_judge.specs.Told.{at};
 ghost use Rattle.md_judge.specs.Recalled.{IsToldAt, HasFolders};
 ghost use Rattle.md_judge.specs.Verdict.{IsProved, Remembers};
@@ -148,7 +148,7 @@ impl Judge {
             → self.old.watch.now ≡ line → HasFolders (at l i) step.call → OnOk result (Remembers lines l (suc i) self.new) }
         ensures broken { (lines : ℕ → ℕ) (l : Log) (i : ℕ) → Remembers lines l i self.old
             → slice_get l.steps i ≡ Some (record { number = line; step = step }) → lines i ≡ line → line < 4294967295
-            → self.old.watch.now ≡ line → ((a b : ℕ) → a < b → lines a < lines b) → HasFolders (at l i) step.call
+            → self.old.watch.now ≡ line → ((a b : ℕ) → a < b → lines a < lines b) → ((a : ℕ) → 0 < lines a) → HasFolders (at l i) step.call
             → OnOk result ((c : Clause) → IsProved c → Has self.new.watch.found.broken c ↔ Breaks c (turn l i step)) }
         ensures overwritten { (lines : ℕ → ℕ) (l : Log) (i : ℕ) → IsToldAt lines l i self.old.known
             → slice_get l.steps i ≡ Some (record { number = line; step = step }) → lines i ≡ line → line < 4294967295
@@ -171,11 +171,16 @@ impl Judge {
             → slice_get l.steps i ≡ Some (record { number = line; step = step }) → lines i ≡ line → line < 4294967295
             → HasFolders (at l i) step.call → self.old.watch.now ≡ line → ((a b : ℕ) → a < b → lines a < lines b)
             → OnOk result (Has self.new.watch.found.broken clause.NotADirectory ↔ NotADirectory (turn l i step)) }
+        ensures gave_up { (lines : ℕ → ℕ) (l : Log) (i : ℕ) → Remembers lines l i self.old
+            → slice_get l.steps i ≡ Some (record { number = line; step = step }) → lines i ≡ line → line < 4294967295
+            → self.old.watch.now ≡ line → ((a b : ℕ) → a < b → lines a < lines b) → ((a : ℕ) → 0 < lines a)
+            → OnOk result (Has self.new.watch.found.broken clause.GaveUp ↔ GaveUp (turn l i step)) }
         ensures allowed { OnOk result (self.new.allowed ≡ self.old.allowed) }
     {
         let (actor, _) = self.actor_names.number(step.actor.as_slice())?;
         self.actor_names.are_apart();
         self.act = self.known.step(line, &step)?;
+        self.known.names.are_numbered();
         self.watch.begin(actor)?;
         match &step.call {
             Call::List {

@@ -4,10 +4,11 @@ ghost use Rattle.md_dirs.specs.declared.paths.Path.{Path};
 ghost use Rattle.md_log.specs.declared.clause.Clause.TheVariants as clause;
 ghost use Rattle.md_log.specs.declared.line.Step.{Step};
 ghost use Rattle.md_judge.specs.declared.judge.directories.Spot.{Spot};
+ghost use Rattle.md_judge.specs.Actors.{KeepsActs};
 ghost use Rattle.md_judge.specs.Acts.{IsDone};
 ghost use Rattle.md_judge.specs.Changes.{Leads};
 ghost use Rattle.md_judge.specs.Files.{unique_in};
-ghost use Rattle.md_judge.specs.Found.{Keeps, NotesOne, KeepsPaths, KeepsFiles, KeepsAdded};
+ghost use Rattle.md_judge.specs.Found.{Keeps, NotesOne, KeepsPaths, KeepsFiles, KeepsAdded, KeepsAnswers};
 ghost use Rattle.md_judge.specs.Known.{EachSpot};
 ghost use Rattle.md_judge.specs.Law.{turn};
 ghost use Rattle.md_judge.specs.Logs.{Log};
@@ -32,10 +33,12 @@ impl Watch {
         ensures wrong { OnOk result (Keeps clause.NotADirectory self.old.found self.new.found) }
         ensures overwrites { OnOk result (NotesOne clause.Overwritten (IsSome act.now.change.turned) self.old.found self.new.found) }
         ensures others { OnOk result (KeepsFiles self.old.found self.new.found) }
+        ensures answers { OnOk result (KeepsAnswers self.old.found self.new.found) }
         ensures files { OnOk result (self.new.files ≡ self.old.files) }
         ensures mailed { OnOk result (MakeStep known.now.names act.now.change self.old.mail self.new.mail) }
         ensures added { (path : Spot → Path) (l : Log) (i : ℕ) (x : Step) → IsDone path known.now.names (turn l i x) act.now
             → TellsMail known.now.names l i self.old.mail → OnOk result (NotesAdded (turn l i x) self.old.found self.new.found) }
+        ensures acts { OnOk result (KeepsActs self.old.actors self.new.actors) }
     {
         let change = act.change;
         self.found.note(
@@ -117,6 +120,7 @@ impl Watch {
         ensures found { OnOk result (self.new.found ≡ self.old.found) }
         ensures files { OnOk result (self.new.files ≡ self.old.files) }
         ensures mailed { OnOk result (MakeStep known.now.names change self.old.mail self.new.mail) }
+        ensures acts { OnOk result (KeepsActs self.old.actors self.new.actors) }
     {
         self.add(known, actor, change.added)?;
         self.turn(known, actor, change.turned)?;
@@ -132,6 +136,7 @@ impl Watch {
         ensures found { OnOk result (self.new.found ≡ self.old.found) }
         ensures files { OnOk result (self.new.files ≡ self.old.files) }
         ensures mailed { OnOk result (AddStep known.now.names added self.old.mail self.new.mail) }
+        ensures acts { OnOk result (KeepsActs self.old.actors self.new.actors) }
     {
         let Some((spot, file)) = added else {
             return Ok(());
@@ -149,6 +154,7 @@ impl Watch {
         ensures found { OnOk result (self.new.found ≡ self.old.found) }
         ensures files { OnOk result (self.new.files ≡ self.old.files) }
         ensures mailed { OnOk result (TurnStep known.now.names turned self.old.mail self.new.mail) }
+        ensures acts { OnOk result (KeepsActs self.old.actors self.new.actors) }
     {
         let Some((spot, old, new)) = turned else {
             return Ok(());
@@ -166,6 +172,7 @@ impl Watch {
         ensures found { OnOk result (self.new.found ≡ self.old.found) }
         ensures files { OnOk result (self.new.files ≡ self.old.files) }
         ensures mailed { OnOk result (TakeStep known.now.names taken self.old.mail self.new.mail) }
+        ensures acts { OnOk result (KeepsActs self.old.actors self.new.actors) }
     {
         let Some((spot, file)) = taken else {
             return Ok(());
@@ -178,6 +185,7 @@ impl Watch {
         ensures found { OnOk result (self.new.found ≡ self.old.found) }
         ensures files { OnOk result (self.new.files ≡ self.old.files) }
         ensures mail { OnOk result (self.new.mail ≡ self.old.mail) }
+        ensures acts { OnOk result (KeepsActs self.old.actors self.new.actors) }
     {
         if let Some(unique) = known.unique_at(spot) {
             let key = (spot.folder, unique);
@@ -200,6 +208,7 @@ impl Watch {
         ensures found { OnOk result (self.new.found ≡ self.old.found) }
         ensures files { OnOk result (self.new.files ≡ self.old.files) }
         ensures mail { OnOk result (self.new.mail ≡ self.old.mail) }
+        ensures acts { OnOk result (KeepsActs self.old.actors self.new.actors) }
     {
         let Some(unique) = known.unique_at(spot) else {
             return Ok(());
@@ -231,6 +240,7 @@ impl Watch {
         ensures found { OnOk result (self.new.found ≡ self.old.found) }
         ensures files { OnOk result (self.new.files ≡ self.old.files) }
         ensures mailed { OnOk result (AddAt (unique_in known.now.names spot) spot file self.old.mail self.new.mail) }
+        ensures actors { OnOk result (self.new.actors ≡ self.old.actors) }
     {
         let Some(unique) = known.unique_at(spot) else {
             return Ok(());
@@ -256,6 +266,7 @@ impl Watch {
         ensures found { OnOk result (self.new.found ≡ self.old.found) }
         ensures files { OnOk result (self.new.files ≡ self.old.files) }
         ensures mailed { OnOk result (TurnAt (unique_in known.now.names spot) spot old new self.old.mail self.new.mail) }
+        ensures acts { OnOk result (KeepsActs self.old.actors self.new.actors) }
     {
         let Some(unique) = known.unique_at(spot) else {
             return Ok(());
@@ -274,6 +285,7 @@ impl Watch {
         ensures found { OnOk result (self.new.found ≡ self.old.found) }
         ensures files { OnOk result (self.new.files ≡ self.old.files) }
         ensures mailed { OnOk result (TakeAt (unique_in known.now.names spot) spot file self.old.mail self.new.mail) }
+        ensures actors { OnOk result (self.new.actors ≡ self.old.actors) }
     {
         let at = self.now;
         let Some(unique) = known.unique_at(spot) else {

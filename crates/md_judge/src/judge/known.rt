@@ -9,7 +9,7 @@ ghost use Rattle.md_judge.specs.Told.{at, ask_at, ask_between, after_ask, after_
 ghost use Rattle.md_log.specs.declared.line.Step.{Step};
 ghost use Rattle.md_log.specs.declared.line.Call.TheVariants as call;
 ghost use Rattle.md_judge.specs.Law.{turn};
-ghost use Rattle.md_judge.specs.Acts.{IsActOf, Does, ReadsNone};
+ghost use Rattle.md_judge.specs.Acts.{IsActOf, Does, NamesFirst, ReadsNone};
 ghost use Rattle.md_judge.specs.Changes.{IsOlder, Leads};
 ghost use Rattle.md_judge.specs.Files.{unique_in, is_message_in};
 ghost use Rattle.md_judge.specs.Known.{EachSpot, IsBelow, files_after, Stands, Holds, Leaves};
@@ -131,6 +131,7 @@ impl Known {
         ensures puts { (lines : ℕ → ℕ) (l : Log) → IsToldAt lines l 0 self.old
             → IfOk result (λ r. IsSpotOf self.new.names path.now r.0 × (r.1 ≡ length (at l 0).files)) }
         ensures clock { OnOk result (self.new.clock ≡ max self.old.clock stamp) }
+        ensures numbered { OnOk result (AreNumbered self.new.names) }
         ensures keeps { KeepNumbers self.old.names self.new.names }
         ensures uniques { OnOk result (GrowsUniques self.old.names self.new.names) }
         ensures fault { IfErr result (λ e. (e ≡ SamePath) ⊎ (e ≡ NoMemory)) }
@@ -159,6 +160,7 @@ impl Known {
         ensures puts { (lines : ℕ → ℕ) (l : Log) → IsToldAt lines l 0 self.old
             → IfOk result (λ r. IsSpotOf self.new.names path.now r.0 × (file_at (at l 0) old.now ≡ Some r.1)) }
         ensures clock { OnOk result (self.new.clock ≡ self.old.clock) }
+        ensures numbered { OnOk result (AreNumbered self.new.names) }
         ensures keeps { KeepNumbers self.old.names self.new.names }
         ensures uniques { OnOk result (GrowsUniques self.old.names self.new.names) }
         ensures fault { IfErr result (λ e. (e ≡ SamePath) ⊎ (e ≡ NoSuchPath) ⊎ (e ≡ NoMemory)) }
@@ -190,6 +192,7 @@ impl Known {
             → self.new.clock ≡ (moment l (suc i)).now }
         ensures keeps { KeepNumbers self.old.names self.new.names }
         ensures uniques { OnOk result (GrowsUniques self.old.names self.new.names) }
+        ensures first { IfOk result (λ act. NamesFirst self.new.names step.now.call act) }
         ensures lists { (ReadsNone step.now.call → ⊥) → self.new ≡ record self.old { clock = self.new.clock } }
     {
         self.clock = self.clock.max(step.moment);
@@ -209,6 +212,7 @@ impl Known {
         ensures clock { self.new.clock ≡ self.old.clock }
         ensures keeps { KeepNumbers self.old.names self.new.names }
         ensures uniques { OnOk result (GrowsUniques self.old.names self.new.names) }
+        ensures first { IfOk result (λ act. NamesFirst self.new.names call.now act) }
         ensures lists { (ReadsNone call.now → ⊥) → self.new ≡ self.old }
     {
         match call {
@@ -245,6 +249,7 @@ impl Known {
             → x.call ≡ call.At deed p reply → IfOk result (λ act. Does self.new.names (turn l i x) act) }
         ensures clock { self.new.clock ≡ self.old.clock }
         ensures names { self.new.names ≡ self.old.names }
+        ensures spot { IfOk result (λ act. act.spot ≡ Some spot) }
     {
         let file = self.directories.file_at(spot);
         let before = self.directories.last_change(spot);
@@ -286,6 +291,7 @@ impl Known {
             → IfOk result (λ act. Does self.new.names (turn l i x) act) }
         ensures clock { self.new.clock ≡ self.old.clock }
         ensures names { self.new.names ≡ self.old.names }
+        ensures spot { IfOk result (λ act. act.spot ≡ Some old) }
     {
         let file = self.directories.file_at(old);
         let there = self.directories.file_at(new);

@@ -8,7 +8,8 @@ ghost use Rattle.md_log.specs.declared.line.Step.{Step};
 ghost use Rattle.md_judge.specs.Logs.{Log};
 ghost use Rattle.md_judge.specs.Law.{turn, NotADirectory, Unlisted};
 ghost use Rattle.md_log.specs.declared.clause.Clause.TheVariants as clause;
-ghost use Rattle.md_judge.specs.Found.{Notes, NotesOne, Keeps, KeepsPaths, KeepsFiles, KeepsAdded};
+ghost use Rattle.md_judge.specs.Actors.{NotesLook};
+ghost use Rattle.md_judge.specs.Found.{Notes, NotesOne, Keeps, KeepsPaths, KeepsFiles, KeepsAdded, KeepsAnswers};
 ghost use Rattle.md_judge.specs.declared.judge.directories.Named.{Named};
 ghost use Rattle.md_judge.specs.Readings.{shown_wrongly, lacked, wrong_name, PartFinds, IsPartOf, BrokenByPart};
 ghost use Rattle.md_judge.specs.Open.{reading_of, first_in, shows_in, ShowsMore, IsOver, KeepsPart, IsToldPart};
@@ -127,6 +128,7 @@ impl Listing {
             (reading_of self.exit.now place).first (λ n. ordered.contains nat_cmp (reading_of self.exit.now place).shown n)) }
         ensures others { (p : Place) → (p ≡ place → ⊥) → reading_of self.exit.now p ≡ reading_of self.entry.now p }
         ensures listing { gathered_of self.exit.now ≡ gathered_of self.entry.now }
+        ensures looked { self.exit.now.looked ≡ self.entry.now.looked }
     {
         match place {
             Place::Tmp => self.tmp.show(at, names),
@@ -141,6 +143,7 @@ impl Listing {
         ensures others { (p : Place) → (p ≡ place → ⊥) → reading_of self.exit.now p ≡ reading_of self.entry.now p }
         ensures taken { result ≡ reading_of self.entry.now place }
         ensures listing { gathered_of self.exit.now ≡ gathered_of self.entry.now }
+        ensures looked { self.exit.now.looked ≡ self.entry.now.looked }
     {
         let mut reading = Reading::none(alloc);
         match place {
@@ -162,6 +165,7 @@ impl Listing {
         ensures readings { (p : Place) → reading_of self.exit.now p ≡ reading_of self.entry.now p }
         ensures gathers { OnOk result (Gathers names.now place span (λ n. ordered.contains nat_cmp shown.now n) (gathered_of self.entry.now)
             (gathered_of self.exit.now)) }
+        ensures looked { self.exit.now.looked ≡ self.entry.now.looked }
     {
         for name in shown.iter() {
             if let Some(unique) = names.facts(*name).unique {
@@ -194,6 +198,7 @@ impl Listing {
     fn clear(&mut self)
         ensures readings { (p : Place) → reading_of self.exit.now p ≡ reading_of self.entry.now p }
         ensures nothing { gathered_of self.exit.now ≡ nothing_gathered }
+        ensures looked { self.exit.now.looked ≡ self.entry.now.looked }
     {
         self.has_new = false;
         self.has_cur = false;
@@ -360,6 +365,9 @@ impl Watch {
             → RecallsGathered lines known.now.names l i x.actor folder (gathered_in listings.old actor folder)
             → IsMailTold lines known.now.names l i folder self.old.mail
             → OnOk result (NotesOne clause.Unlisted (Unlisted (turn l i x)) self.old.found self.new.found) }
+        ensures answers { OnOk result (KeepsAnswers self.old.found self.new.found) }
+        ensures looks { OnOk result (NotesLook actor folder self.old.now listings.old listings.new) }
+        ensures actors { OnOk result (self.new.actors ≡ self.old.actors) }
     {
         let key = (actor, folder);
         let mut listing = match listings.remove(&key) {
@@ -403,6 +411,8 @@ impl Watch {
             (λ n. ordered.contains nat_cmp (reading_of listing.entry.now place).shown n) (gathered_of listing.entry.now) self.old.mail
             → OnOk result (NotesOne clause.Unlisted (Unlisted (turn l i x)) self.old.found self.new.found) }
         ensures mail { self.new.mail ≡ self.old.mail }
+        ensures looked { listing.exit.now.looked ≡ listing.entry.now.looked }
+        ensures actors { self.new.actors ≡ self.old.actors }
     {
         let done = listing.take(self.alloc, place);
         if !is_whole(place, reply) {

@@ -1,6 +1,7 @@
 //! The messages of folders.
 ghost use Rattle.std.specs.Prelude.{◌≡◌, ◌↔◌, ◌⊎◌, ◌+◌, ◌-◌, ◌<◌, ℕ, List, [], Some, None, IsTrue, IsSome, OnOk, is_some, slice_get, slice_set};
 ghost use Rattle.std.specs.Option.{option_copied, option_map};
+ghost use Rattle.md_judge.specs.Claims.{count_of as count_there};
 ghost use Rattle.md_judge.specs.Messages.{WasFile};
 ghost use Rattle.md_judge.specs.Listings.{is_of, was_in, was_through, message_of};
 ghost use Rattle.md_judge.specs.declared.judge.mail.Message.{Message};
@@ -425,7 +426,7 @@ impl Mail {
 
     /// The message, where it ever was in its folder.
     pub(super) fn presence(&self, key: Key) -> Option<Presence>
-        ensures { option_map (λ (p : Presence). p.count) result ≡ option_map (λ (m : Message). m.count) (message_of self.now key.0 key.1) }
+        ensures count { count_there result ≡ count_of (message_of self.now key.0 key.1) }
     {
         let message = self.message(key)?;
         Some(Presence {

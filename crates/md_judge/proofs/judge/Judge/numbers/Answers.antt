@@ -1,6 +1,7 @@
 use Rattle.std.proofs.Common.{◌+◌, length, refl, ap, subst, ◌∙◌}
 use Rattle.std.proofs.lemmas.List.{length_push}
 use Rattle.md_judge.specs.Names.{IsNumber}
+use Rattle.md_judge.proofs.Actors.{more-messages}
 use Rattle.md_judge.proofs.Growing.{grows}
 use Rattle.md_judge.proofs.Posted.{tells-grows}
 use Rattle.md_judge.proofs.Uniqued.{grows-on}
@@ -21,6 +22,9 @@ loop-name-preserved c = record {
         mailed = tells-grows c.loop-name.self.known.names c.number.new.self c.in_ok-number.ensures.uniques l i c.loop-name.self.watch.mail before.mailed;
         gathers = listings-grow lines c.loop-name.self.actor_names c.loop-name.self.known.names c.number.new.self l i c.loop-name.self.listings
             c.number.ensures.keeps before.gathers;
+        acting = more-messages lines c.loop-name.self.actor_names c.loop-name.self.known.names.uniques c.number.new.self.uniques l i
+            c.loop-name.self.watch.actors c.loop-name.self.listings (λ n w of. c.in_ok-number.ensures.uniques.keeps w n of)
+            c.in_ok-number.ensures.numbered.uniques before.acting;
       };
   known = λ lines l i told.
       grows lines l i c.loop-name.self.known _ (c.loop-name.invariant.known lines l i told) c.number.ensures.keeps c.in_ok-number.ensures.numbered refl refl;

@@ -1,4 +1,4 @@
-use Rattle.std.proofs.Common.{◌≡◌, ◌∙◌, Some, refl, sym, ap, is_some, unwrap_or, arith}
+use Rattle.std.proofs.Common.{◌≡◌, Some, refl, sym, ap, is_some, unwrap_or, arith}
 use Rattle.std.specs.BTreeMap.{get}
 use Rattle.md_judge.specs.Listings.{message_cmp}
 use Rattle.md_judge.specs.Mailed.{one_fewer}

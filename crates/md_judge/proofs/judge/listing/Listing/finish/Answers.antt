@@ -17,6 +17,7 @@ loop-name-preserved-in_ok-insert c =
       readings = c.loop-name.invariant.readings;
       spans = c.loop-name.invariant.spans;
       read = c.loop-name.invariant.read;
+      looked = c.loop-name.invariant.looked;
       shown = λ u.
           let before = subst (λ (ns : List ℕ). HasMore names has ns u
           ↔ HasMore names (ordered.contains nat_cmp c.args.self.now.shown) (ordered.keys c.args.shown.now) u) c.in-Some.ensures.steps
@@ -36,6 +37,7 @@ loop-name-preserved c =
       readings = c.loop-name.invariant.readings;
       spans = c.loop-name.invariant.spans;
       read = c.loop-name.invariant.read;
+      looked = c.loop-name.invariant.looked;
       shown = λ u.
           let before = subst (λ (ns : List ℕ). HasMore names has ns u
           ↔ HasMore names (ordered.contains nat_cmp c.args.self.now.shown) (ordered.keys c.args.shown.now) u) c.in-Some.ensures.steps

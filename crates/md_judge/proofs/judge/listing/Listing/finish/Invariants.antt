@@ -14,4 +14,5 @@ invariant-loop-name l = record {
   read : (l.self.has_new ≡ l.fn.self.has_new) × (l.self.has_cur ≡ l.fn.self.has_cur);
   shown : (u : ℕ) → HasMore l.names (ordered.contains nat_cmp l.self.shown) l.name-iterator u
       ↔ HasMore l.names (ordered.contains nat_cmp l.fn.self.shown) (ordered.keys l.shown) u;
+  looked : l.self.looked ≡ l.fn.self.looked;
 }

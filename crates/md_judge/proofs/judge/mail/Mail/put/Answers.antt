@@ -1,4 +1,4 @@
-use Rattle.std.proofs.Common.{◌≡◌, ◌∙◌, Some, refl, sym, ap, subst, slice_get}
+use Rattle.std.proofs.Common.{◌∙◌, Some, refl, sym, ap, slice_get}
 use Rattle.std.specs.BTreeMap.{get}
 use Rattle.md_judge.specs.declared.judge.mail.Mail.{Mail}
 use Rattle.md_judge.specs.Listings.{message_cmp}

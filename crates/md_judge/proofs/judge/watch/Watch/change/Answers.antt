@@ -1,12 +1,13 @@
-use Rattle.std.proofs.Common.{◌≡◌, IsSome, sym, subst, ap, ◌∙◌}
+use Rattle.std.proofs.Common.{IsSome, sym, subst, ap, ◌∙◌}
 use Rattle.md_log.specs.declared.clause.Clause.TheVariants as clause
-use Rattle.md_judge.specs.declared.judge.files.Files.{Files}
+use Rattle.md_judge.specs.declared.judge.about.Actors.{Actors}
 use Rattle.md_judge.specs.declared.judge.mail.Mail.{Mail}
 use Rattle.md_judge.specs.declared.judge.watch.Watch.{Watch}
-use Rattle.md_judge.specs.Found.{KeepsFiles}
+use Rattle.md_judge.specs.Actors.{KeepsActs}
+use Rattle.md_judge.specs.Found.{KeepsFiles, KeepsAnswers}
 use Rattle.md_judge.specs.Law.{turn}
 use Rattle.md_judge.specs.Mailed.{MakeStep}
-use Rattle.md_judge.proofs.Sparing.{keeps-one, notes-one, turned-found, same-files, files-on, unnoted-files, unnoted-added, added-same, added-on, notes-added, added-notes}
+use Rattle.md_judge.proofs.Sparing.{keeps-one, notes-one, turned-found, same-files, files-on, unnoted-files, unnoted-added, added-same, added-on, notes-added, added-notes, answers-same, answers-on, unnoted-answers}
 use Rattle.md_judge.proofs.judge.watch.Watch.change.Goals as goal
 
 pub returns : goal.returns
@@ -22,10 +23,14 @@ returns c =
     let others : KeepsFiles old made = files-on old noting made
     (unnoted-files c.is_some.result clause.Overwritten (λ h. h) old noting c.note.ensures)
     (files-on noting joined made c.check_coming.ensures.others (same-files joined made c.in_ok-make.ensures.found)) in
+    let answers : KeepsAnswers old made = answers-on old noting made
+    (unnoted-answers c.is_some.result clause.Overwritten (λ e. cc) (λ e. cc) old noting c.note.ensures)
+    (answers-on noting joined made c.check_coming.ensures.paths.answers (answers-same joined made c.in_ok-make.ensures.found)) in
     record {
       wrong = keeps-one clause.NotADirectory old made new turns.0 c.check_going.ensures.paths.wrong;
       overwrites = notes-one clause.Overwritten (IsSome change.turned) old made new turns.1 c.check_going.ensures.paths.overwrites;
       others = files-on old made new others c.check_going.ensures.others;
+      answers = answers-on old made new answers c.check_going.ensures.paths.answers;
       files = ap (λ (w : Watch). w.files) c.check_going.ensures.rest ∙ c.in_ok-make.ensures.files ∙ ap (λ (w : Watch). w.files) c.check_coming.ensures.rest;
       mailed = subst (λ (m : Mail). MakeStep c.args.known.now.names change m c.check_going.new.self.mail) (ap (λ (w : Watch). w.mail) c.check_coming.ensures.rest)
           (subst (λ (m : Mail). MakeStep c.args.known.now.names change c.check_coming.new.self.mail m) (sym (ap (λ (w : Watch). w.mail) c.check_going.ensures.rest))
@@ -36,4 +41,7 @@ returns c =
           (added-notes t old noting joined (unnoted-added c.is_some.result clause.Overwritten (λ e. cc) (λ e. cc) old noting c.note.ensures)
           (c.check_coming.ensures.law path l i x done.leads done.spots tells))
           (added-on joined made new (added-same joined made c.in_ok-make.ensures.found) c.check_going.ensures.added);
+      acts = subst (λ (a : Actors). KeepsActs a c.check_going.new.self.actors) (ap (λ (w : Watch). w.actors) c.check_coming.ensures.rest)
+          (subst (λ (a : Actors). KeepsActs c.check_coming.new.self.actors a) (sym (ap (λ (w : Watch). w.actors) c.check_going.ensures.rest))
+          c.in_ok-make.ensures.acts);
     }

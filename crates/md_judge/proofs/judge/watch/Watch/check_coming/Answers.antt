@@ -1,4 +1,4 @@
-use Rattle.std.proofs.Common.{sym, ap, ◌∙◌}
+use Rattle.std.proofs.Common.{sym, ◌∙◌}
 use Rattle.std.specs.Option.{option_copied}
 use Rattle.md_judge.specs.Messages.{AddFinds}
 use Rattle.md_judge.proofs.Coming.{coming-none, coming-other, coming-message}

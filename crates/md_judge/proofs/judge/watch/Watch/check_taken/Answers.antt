@@ -6,6 +6,7 @@ pub returns-clause-paths : goal.returns-clause-paths
 returns-clause-paths c =
     let finds = c.check_taken.ensures.finds in
     paths-kept c.args.self.now.found c.check_taken.new.found (finds clause.NotADirectory) (finds clause.Overwritten)
+    (finds clause.GaveUp) (finds clause.AnsweredFalsely)
 
 pub returns-clause-others : goal.returns-clause-others
 returns-clause-others c =

@@ -23,7 +23,8 @@ returns-clause-paths c =
       | then-is_complete w ↦
           let finds = w.check_listing.ensures.finds in
           subst (λ (s : Watch). KeepsPaths found s.found) (sym w.self-is)
-          (paths-kept found w.check_listing.new.found (finds clause.NotADirectory) (finds clause.Overwritten))
+          (paths-kept found w.check_listing.new.found (finds clause.NotADirectory) (finds clause.Overwritten)
+          (finds clause.GaveUp) (finds clause.AnsweredFalsely))
       | else-is_complete w ↦ keeps-same found c.if-is_complete.self.found (ap (λ (s : Watch). s.found) w.self-is)
     ]
 
@@ -122,3 +123,9 @@ pub returns-then-not-is_whole-clause-unlisted : goal.returns-then-not-is_whole-c
 returns-then-not-is_whole-clause-unlisted c = λ lines l i x told.
     keeps-notes clause.Unlisted (Unlisted (turn l i x)) c.args.self.now.found c.args.self.now.found (λ h. h, λ h. h)
     (part-none l i x c.args.folder c.args.place c.args.reply told.call.0 told.step told.call.1 (search rules))
+
+pub returns-clause-actors : goal.returns-clause-actors
+returns-clause-actors c = elim c.if-is_complete.branch [
+  | then-is_complete w ↦ ap (λ (s : Watch). s.actors) w.self-is
+  | else-is_complete w ↦ ap (λ (s : Watch). s.actors) w.self-is
+]

@@ -12,6 +12,8 @@ use Rattle.md_judge.specs.Open.{reading_of, first_of, shows_of, IsOver, IsPartKe
 use Rattle.md_judge.proofs.Finishing.{gathered-elsewhere}
 use Rattle.md_judge.proofs.Unlisting.{part-none}
 use Rattle.md_judge.specs.declared.judge.mail.Mail.{Mail}
+use Rattle.md_judge.specs.Actors.{looked_of}
+use Rattle.md_judge.proofs.Lined.{notes-look}
 use Rattle.md_judge.proofs.Keeping.{IsKept, shown_by, kept-some, kept-none, kept-looked, keeps-part, goes-kept}
 use Rattle.md_judge.proofs.Opening.{part-kept}
 use Rattle.md_judge.proofs.Parting.{directory-there, within-some, part-of}
@@ -20,8 +22,8 @@ use Rattle.md_judge.specs.Told.{Shows}
 use Rattle.md_judge.specs.declared.judge.listing.Reading.{Reading}
 use Rattle.md_log.specs.declared.clause.Clause.TheVariants as clause
 use Rattle.md_judge.specs.declared.judge.watch.Watch.{Watch}
-use Rattle.md_judge.specs.Found.{Keeps, NotesOne, KeepsPaths, KeepsFiles, KeepsAdded}
-use Rattle.md_judge.proofs.Sparing.{keeps-notes, one-notes, one-kept, keeps-one, keeps-same, notes-one, files-kept, same-files, files-on, added-kept, added-same, added-on}
+use Rattle.md_judge.proofs.Sparing.{answers-same, answers-on, keeps-notes, one-notes, one-kept, keeps-one, keeps-same, notes-one, files-kept, same-files, files-on, added-kept, added-same, added-on}
+use Rattle.md_judge.specs.Found.{Keeps, NotesOne, KeepsPaths, KeepsFiles, KeepsAdded, KeepsAnswers}
 use Rattle.md_judge.proofs.judge.watch.Watch.list.Goals.{in-Some, in-None, in-Some-directory, in_default, in-More, in_default-reply+in_ok-end_reading-in_default-reply}
 use Rattle.md_judge.proofs.judge.watch.Watch.list.Goals as goal
 
@@ -290,3 +292,47 @@ returns-clause-unlisted c = λ lines l i x shown told gathered mail.
           (λ ok apart. let no : reply.More ≡ reply.Ok = sym w.in-More.is ∙ ok in cc no)))
     ] in
     one-notes clause.Unlisted broken old part new first then
+
+pub returns-clause-actors : goal.returns-clause-actors
+returns-clause-actors c =
+    let first : c.match-directory.self.actors ≡ c.args.self.now.actors = elim c.match-directory.branch [
+      | in-Some-directory w ↦ ap (λ (s : Watch). s.actors) w.self-is
+      | in_default w ↦ ap (λ (s : Watch). s.actors) w.self-is
+    ] in
+    elim c.match-reply.branch [
+      | in_default-reply+in_ok-end_reading-in_default-reply w ↦ ap (λ (s : Watch). s.actors) w.self-is ∙ w.in_ok-end_reading-in_default-reply.ensures.actors ∙ first
+      | in-More w ↦ ap (λ (s : Watch). s.actors) w.self-is ∙ first
+    ]
+
+pub returns-clause-looks : goal.returns-clause-looks
+returns-clause-looks c =
+    let now = c.args.self.now.now in
+    let last : c.match-reply.listing.looked ≡ Some now = elim c.match-reply.branch [
+      | in_default-reply+in_ok-end_reading-in_default-reply w ↦
+          ap (λ (v : Listing). v.looked) w.listing-is ∙ w.end_reading.ensures.looked ∙ c.show.ensures.looked
+      | in-More w ↦ ap (λ (v : Listing). v.looked) w.listing-is ∙ c.show.ensures.looked
+    ] in
+    notes-look c.args.actor c.args.folder now c.args.listings.now c.insert.new.self
+    (ap looked_of c.in_ok-insert.ensures.updates.1 ∙ last)
+    (λ q apart. c.in_ok-insert.ensures.updates.2 q apart ∙ c.remove.ensures.updates.2 q apart)
+
+pub returns-clause-answers : goal.returns-clause-answers
+returns-clause-answers c =
+    let old = c.args.self.now.found in
+    let part = c.match-directory.self.found in
+    let new = c.match-reply.self.found in
+    let first : KeepsAnswers old part = elim c.match-directory.branch [
+      | in-Some-directory w ↦
+          let finds = w.check_part.ensures.finds in
+          subst (λ (s : Watch). KeepsAnswers old s.found) (sym w.self-is) (record {
+            gave_up = one-kept clause.GaveUp old w.check_part.new.found (finds clause.GaveUp);
+            falsely = one-kept clause.AnsweredFalsely old w.check_part.new.found (finds clause.AnsweredFalsely);
+          })
+      | in_default w ↦ answers-same old part (ap (λ (s : Watch). s.found) w.self-is)
+    ] in
+    let then : KeepsAnswers part new = elim c.match-reply.branch [
+      | in_default-reply+in_ok-end_reading-in_default-reply w ↦
+          subst (λ (s : Watch). KeepsAnswers part s.found) (sym w.self-is) w.in_ok-end_reading-in_default-reply.ensures.paths.answers
+      | in-More w ↦ answers-same part new (ap (λ (s : Watch). s.found) w.self-is)
+    ] in
+    answers-on old part new first then
