@@ -62,3 +62,7 @@ pub mod Pairs
 pub mod Lined
 pub mod Actors
 pub mod Present
+pub mod Timing
+pub mod MailTold
+pub mod Retimed
+pub mod Timely

@@ -94,7 +94,7 @@ completes-one reply.Exists p = inr (λ e new. cc e)
 completes-one reply.NotFound p = inr (λ e new. cc e)
 completes-one reply.Fault p = inr (λ e new. cc e)
 
-one-folder : (a b f g : ℕ) → ((a ≡ b) × (f ≡ g)) ⊎ (a ≡ b → f ≡ g → ⊥)
+pub one-folder : (a b f g : ℕ) → ((a ≡ b) × (f ≡ g)) ⊎ (a ≡ b → f ≡ g → ⊥)
 one-folder a b f g = elim (one-number a b) [
   | inr away ↦ inr (λ same _. away same)
   | inl same ↦ elim (one-number f g) [ inr away ↦ inr (λ _ same'. away same') | inl same' ↦ inl (same, same') ]

@@ -21,5 +21,6 @@ pub mod Acts
 pub mod Filed
 pub mod Copies
 pub mod Mailed
+pub mod Timed
 pub mod Actors
 pub mod Verdict

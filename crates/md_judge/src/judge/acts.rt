@@ -10,6 +10,7 @@ ghost use Rattle.md_judge.specs.Found.{NotesOne, NotesFiles, KeepsAnswers};
 ghost use Rattle.md_judge.specs.Filed.{AreFiled, IsJudged, BrokenByFiles};
 ghost use Rattle.md_judge.specs.Logs.{Log};
 ghost use Rattle.md_judge.specs.Mailed.{TellsMail, NotesAdded};
+ghost use Rattle.md_judge.specs.Timed.{AreTimed};
 ghost use Rattle.md_log.specs.declared.line.Step.{Step};
 ghost use Rattle.md_judge.specs.Changes.{IsOlder, Leads};
 ghost use Rattle.md_judge.specs.Files.{named_by, turned_by};
@@ -80,6 +81,10 @@ impl Watch {
             → OnOk result (NotesFiles (BrokenByFiles (turn l i x)) self.old.found self.new.found) }
         ensures mailed { (path : Spot → Path) (who : ℕ → List ℕ) (many i : ℕ) (l : Log) (x : Step) → TellsMail known.now.names l i self.old.mail
             → IsJudged path who many l i x actor call.now known.now act.now → OnOk result (TellsMail known.now.names l (suc i) self.new.mail) }
+        ensures timed { (path : Spot → Path) (who : ℕ → List ℕ) (many i : ℕ) (l : Log) (x : Step) (lines : ℕ → ℕ)
+            → TellsMail known.now.names l i self.old.mail → IsJudged path who many l i x actor call.now known.now act.now
+            → AreTimed lines known.now.names l i self.old.mail → ((a b : ℕ) → a < b → lines a < lines b) → self.old.now ≡ lines i
+            → self.old.now < 4294967295 → OnOk result (AreTimed lines known.now.names l (suc i) self.new.mail) }
         ensures added { (path : Spot → Path) (who : ℕ → List ℕ) (many i : ℕ) (l : Log) (x : Step) → TellsMail known.now.names l i self.old.mail
             → IsJudged path who many l i x actor call.now known.now act.now → OnOk result (NotesAdded (turn l i x) self.old.found self.new.found) }
         ensures acts { self.old.now < 4294967296
@@ -107,6 +112,7 @@ impl Watch {
     ) -> Result<(), LineFault>
         ensures found { OnOk result (self.new.found ≡ self.old.found) }
         ensures files { OnOk result (self.new.files ≡ self.old.files) }
+        ensures now { OnOk result (self.new.now ≡ self.old.now) }
         ensures mail { OnOk result (self.new.mail ≡ self.old.mail) }
         ensures acts { self.old.now < 4294967296
             → OnOk result (NotesAct actor self.old.now (acted known.now.names act.now.spot call.now) self.old.actors self.new.actors) }
@@ -130,6 +136,7 @@ impl Watch {
     ) -> Result<(), LineFault>
         ensures found { OnOk result (self.new.found ≡ self.old.found) }
         ensures files { OnOk result (self.new.files ≡ self.old.files) }
+        ensures now { OnOk result (self.new.now ≡ self.old.now) }
         ensures mail { OnOk result (self.new.mail ≡ self.old.mail) }
         ensures acts { self.old.now < 4294967296
             → OnOk result (NotesAct actor self.old.now (acted_at known.now.names spot (Some reply)) self.old.actors self.new.actors) }

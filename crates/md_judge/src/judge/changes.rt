@@ -1,5 +1,5 @@
 //! Changes of paths: the clauses that they break, and what is kept of them.
-ghost use Rattle.std.specs.Prelude.{◌≡◌, ℕ, suc, IsSome, OnOk};
+ghost use Rattle.std.specs.Prelude.{◌≡◌, ◌+◌, ℕ, suc, Some, IsSome, OnOk};
 ghost use Rattle.md_dirs.specs.declared.paths.Path.{Path};
 ghost use Rattle.md_log.specs.declared.clause.Clause.TheVariants as clause;
 ghost use Rattle.md_log.specs.declared.line.Step.{Step};
@@ -12,6 +12,9 @@ ghost use Rattle.md_judge.specs.Found.{Keeps, NotesOne, KeepsPaths, KeepsFiles, 
 ghost use Rattle.md_judge.specs.Known.{EachSpot};
 ghost use Rattle.md_judge.specs.Law.{turn};
 ghost use Rattle.md_judge.specs.Logs.{Log};
+ghost use Rattle.md_judge.specs.Listings.{message_of};
+ghost use Rattle.md_judge.specs.Moments.{kept_moment};
+ghost use Rattle.md_judge.specs.Timed.{CameAt, TurnedAt, WentAt, MakesTimes};
 ghost use Rattle.md_judge.specs.Mailed.{AddAt, AddStep, TurnAt, TurnStep, TakeAt, TakeStep, MakeStep, TellsMail, NotesAdded};
 ghost use Rattle.md_judge.specs.Recalled.{IsSpotOf};
 ghost use Rattle.md_judge.specs.Told.{at};
@@ -36,6 +39,7 @@ impl Watch {
         ensures answers { OnOk result (KeepsAnswers self.old.found self.new.found) }
         ensures files { OnOk result (self.new.files ≡ self.old.files) }
         ensures mailed { OnOk result (MakeStep known.now.names act.now.change self.old.mail self.new.mail) }
+        ensures times { OnOk result (MakesTimes known.now.names self.old.now act.now.change self.old.mail self.new.mail) }
         ensures added { (path : Spot → Path) (l : Log) (i : ℕ) (x : Step) → IsDone path known.now.names (turn l i x) act.now
             → TellsMail known.now.names l i self.old.mail → OnOk result (NotesAdded (turn l i x) self.old.found self.new.found) }
         ensures acts { OnOk result (KeepsActs self.old.actors self.new.actors) }
@@ -121,6 +125,7 @@ impl Watch {
         ensures files { OnOk result (self.new.files ≡ self.old.files) }
         ensures mailed { OnOk result (MakeStep known.now.names change self.old.mail self.new.mail) }
         ensures acts { OnOk result (KeepsActs self.old.actors self.new.actors) }
+        ensures times { OnOk result (MakesTimes known.now.names self.old.now change self.old.mail self.new.mail) }
     {
         self.add(known, actor, change.added)?;
         self.turn(known, actor, change.turned)?;
@@ -137,6 +142,9 @@ impl Watch {
         ensures files { OnOk result (self.new.files ≡ self.old.files) }
         ensures mailed { OnOk result (AddStep known.now.names added self.old.mail self.new.mail) }
         ensures acts { OnOk result (KeepsActs self.old.actors self.new.actors) }
+        ensures times { OnOk result ((folder u : ℕ) → CameAt known.now.names (kept_moment (self.old.now + 1)) added folder u
+            (message_of self.old.mail folder u) (message_of self.new.mail folder u)) }
+        ensures now { OnOk result (self.new.now ≡ self.old.now) }
     {
         let Some((spot, file)) = added else {
             return Ok(());
@@ -155,6 +163,9 @@ impl Watch {
         ensures files { OnOk result (self.new.files ≡ self.old.files) }
         ensures mailed { OnOk result (TurnStep known.now.names turned self.old.mail self.new.mail) }
         ensures acts { OnOk result (KeepsActs self.old.actors self.new.actors) }
+        ensures times { OnOk result ((folder u : ℕ) → TurnedAt known.now.names turned folder u
+            (message_of self.old.mail folder u) (message_of self.new.mail folder u)) }
+        ensures now { OnOk result (self.new.now ≡ self.old.now) }
     {
         let Some((spot, old, new)) = turned else {
             return Ok(());
@@ -173,6 +184,8 @@ impl Watch {
         ensures files { OnOk result (self.new.files ≡ self.old.files) }
         ensures mailed { OnOk result (TakeStep known.now.names taken self.old.mail self.new.mail) }
         ensures acts { OnOk result (KeepsActs self.old.actors self.new.actors) }
+        ensures times { OnOk result ((folder u : ℕ) → WentAt known.now.names self.old.now taken folder u
+            (message_of self.old.mail folder u) (message_of self.new.mail folder u)) }
     {
         let Some((spot, file)) = taken else {
             return Ok(());
@@ -184,6 +197,7 @@ impl Watch {
     fn note_added(&mut self, known: &Known, actor: u32, spot: Spot) -> Result<(), LineFault>
         ensures found { OnOk result (self.new.found ≡ self.old.found) }
         ensures files { OnOk result (self.new.files ≡ self.old.files) }
+        ensures now { OnOk result (self.new.now ≡ self.old.now) }
         ensures mail { OnOk result (self.new.mail ≡ self.old.mail) }
         ensures acts { OnOk result (KeepsActs self.old.actors self.new.actors) }
     {
@@ -239,8 +253,11 @@ impl Watch {
     ) -> Result<(), LineFault>
         ensures found { OnOk result (self.new.found ≡ self.old.found) }
         ensures files { OnOk result (self.new.files ≡ self.old.files) }
+        ensures now { OnOk result (self.new.now ≡ self.old.now) }
         ensures mailed { OnOk result (AddAt (unique_in known.now.names spot) spot file self.old.mail self.new.mail) }
         ensures actors { OnOk result (self.new.actors ≡ self.old.actors) }
+        ensures times { OnOk result ((folder u : ℕ) → CameAt known.now.names (kept_moment at) (Some (spot, file)) folder u
+            (message_of self.old.mail folder u) (message_of self.new.mail folder u)) }
     {
         let Some(unique) = known.unique_at(spot) else {
             return Ok(());
@@ -265,8 +282,11 @@ impl Watch {
     ) -> Result<(), LineFault>
         ensures found { OnOk result (self.new.found ≡ self.old.found) }
         ensures files { OnOk result (self.new.files ≡ self.old.files) }
+        ensures now { OnOk result (self.new.now ≡ self.old.now) }
         ensures mailed { OnOk result (TurnAt (unique_in known.now.names spot) spot old new self.old.mail self.new.mail) }
         ensures acts { OnOk result (KeepsActs self.old.actors self.new.actors) }
+        ensures times { OnOk result ((folder u : ℕ) → TurnedAt known.now.names (Some (spot, old, new)) folder u
+            (message_of self.old.mail folder u) (message_of self.new.mail folder u)) }
     {
         let Some(unique) = known.unique_at(spot) else {
             return Ok(());
@@ -286,6 +306,8 @@ impl Watch {
         ensures files { OnOk result (self.new.files ≡ self.old.files) }
         ensures mailed { OnOk result (TakeAt (unique_in known.now.names spot) spot file self.old.mail self.new.mail) }
         ensures actors { OnOk result (self.new.actors ≡ self.old.actors) }
+        ensures times { OnOk result ((folder u : ℕ) → WentAt known.now.names self.old.now (Some (spot, file)) folder u
+            (message_of self.old.mail folder u) (message_of self.new.mail folder u)) }
     {
         let at = self.now;
         let Some(unique) = known.unique_at(spot) else {

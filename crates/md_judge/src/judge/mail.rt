@@ -1,12 +1,13 @@
 //! The messages of folders.
-ghost use Rattle.std.specs.Prelude.{◌≡◌, ◌↔◌, ◌⊎◌, ◌+◌, ◌-◌, ◌<◌, ℕ, List, [], Some, None, IsTrue, IsSome, OnOk, is_some, slice_get, slice_set};
+ghost use Rattle.std.specs.Prelude.{◌≡◌, ◌↔◌, ◌⊎◌, ◌+◌, ◌-◌, ◌<◌, ◌++◌, ◌∷◌, ℕ, List, [], Some, None, IsTrue, IsSome, OnOk, is_some, slice_get, slice_set};
 ghost use Rattle.std.specs.Option.{option_copied, option_map};
 ghost use Rattle.md_judge.specs.Claims.{count_of as count_there};
 ghost use Rattle.md_judge.specs.Messages.{WasFile};
-ghost use Rattle.md_judge.specs.Listings.{is_of, was_in, was_through, message_of};
+ghost use Rattle.md_judge.specs.Listings.{is_of, times_of, was_in, was_through, message_of};
 ghost use Rattle.md_judge.specs.declared.judge.mail.Message.{Message};
 ghost use Rattle.md_judge.specs.declared.judge.mail.Presence.{Presence};
 ghost use Rattle.md_judge.specs.Copies.{copies_of};
+ghost use Rattle.md_judge.specs.Timed.{TimedBy, ArePresent};
 ghost use Rattle.md_judge.specs.Mailed.{count_of, count_after, IsBy, Moves, MovesOne, MakesOne, Prepares, KeepsOthers, is_free, is_first, fresh, begun, Recounts, one_more, one_fewer};
 
 use super::befores::{Moment, line_before, moment_of};
@@ -79,6 +80,7 @@ impl Message {
         ensures more { OnOk result (self.new ≡ record self.old { more = self.new.more }) }
         ensures files { OnOk result ((n : ℕ) → WasFile self.new n ↔ WasFile self.old n) }
         ensures some { OnOk result (IsSome self.new.more) }
+        ensures times { OnOk result (times_of self.new ≡ times_of self.old) }
     {
         if self.more.is_none() {
             let past = Past {
@@ -135,6 +137,7 @@ impl Message {
     fn make(&mut self, alloc: Global, step: Move) -> Result<(), LineFault>
         ensures moves { OnOk result (Moves (count_after step) (IsBy step) (Some self.old) (Some self.new)) }
         ensures folder { OnOk result (self.new.folder ≡ self.old.folder) }
+        ensures times { OnOk result (TimedBy step (Some self.old) (Some self.new)) }
     {
         match step {
             Move::Comes { since, file } => {
@@ -148,7 +151,9 @@ impl Message {
 
     /// It has one more path, from a moment on. More than 4,294,967,295 are not counted.
     fn come(&mut self, since: Moment) -> Result<(), LineFault>
-        ensures { OnOk result (self.new ≡ record self.old { count = self.old.count + 1; since = self.new.since }) }
+        ensures rest { OnOk result (self.new ≡ record self.old { count = self.old.count + 1; since = self.new.since }) }
+        ensures begins { OnOk result (self.old.count ≡ 0 → self.new.since ≡ since) }
+        ensures goes_on { OnOk result (0 < self.old.count → self.new.since ≡ self.old.since) }
     {
         if self.count == u32::MAX {
             return Err(LineFault::NoMemory);
@@ -164,6 +169,7 @@ impl Message {
     fn be(&mut self, alloc: Global, file: u32) -> Result<(), LineFault>
         ensures more { OnOk result (self.new ≡ record self.old { more = self.new.more }) }
         ensures files { OnOk result ((n : ℕ) → WasFile self.new n ↔ (WasFile self.old n ⊎ (n ≡ file))) }
+        ensures times { OnOk result (times_of self.new ≡ times_of self.old) }
     {
         if self.was_file(file) {
             return Ok(());
@@ -180,6 +186,9 @@ impl Message {
         ensures count { OnOk result (self.new.count ≡ self.old.count - 1) }
         ensures folder { OnOk result (self.new.folder ≡ self.old.folder) }
         ensures files { OnOk result ((n : ℕ) → WasFile self.new n ↔ WasFile self.old n) }
+        ensures since { OnOk result (self.new.since ≡ self.old.since) }
+        ensures ends { OnOk result (self.new.count ≡ 0 → times_of self.new ≡ times_of self.old ++ (self.old.since, last) ∷ []) }
+        ensures stays { OnOk result (0 < self.new.count → times_of self.new ≡ times_of self.old) }
     {
         self.count = self.count.saturating_sub(1);
         if self.count > 0 {
@@ -286,6 +295,7 @@ impl Mail {
     pub(super) fn make(&mut self, key: Key, step: Move) -> Result<(), LineFault>
         ensures moves { OnOk result (MovesOne key.0 key.1 (count_after step) (IsBy step) self.old self.new) }
         ensures copied { OnOk result (self.new.copied ≡ self.old.copied) }
+        ensures times { OnOk result (TimedBy step (message_of self.old key.0 key.1) (message_of self.new key.0 key.1)) }
     {
         self.prepare(key, step)?;
         self.make_message(key, step)?;
@@ -307,6 +317,8 @@ impl Mail {
     fn make_message(&mut self, key: Key, step: Move) -> Result<(), LineFault>
         ensures moves { OnOk result (MakesOne key.0 key.1 step self.old self.new) }
         ensures copied { OnOk result (self.new.copied ≡ self.old.copied) }
+        ensures times { OnOk result (IsSome (message_of self.old key.0 key.1)
+            → TimedBy step (message_of self.old key.0 key.1) (message_of self.new key.0 key.1)) }
     {
         let alloc = self.alloc;
         if self.is_first(key) {

@@ -1,4 +1,4 @@
-use Rattle.std.proofs.Common.{suc, ◌≡◌, IsTrue, IsSome, sym, subst, ◌∙◌}
+use Rattle.std.proofs.Common.{ℕ, suc, ◌≡◌, IsTrue, IsSome, sym, subst, ◌∙◌}
 use Rattle.md_log.specs.declared.clause.Clause.TheVariants as clause
 use Rattle.md_judge.specs.Found.{Keeps, NotesOne, KeepsPaths, KeepsAdded, KeepsFiles, KeepsAnswers, NotesFiles}
 use Rattle.md_judge.specs.declared.judge.files.Files.{Files}
@@ -7,9 +7,11 @@ use Rattle.md_judge.specs.Law.{turn}
 use Rattle.md_judge.specs.declared.judge.mail.Mail.{Mail}
 use Rattle.md_judge.specs.Actors.{KeepsActs, NotesAct, acted as acted-of}
 use Rattle.md_judge.specs.Mailed.{MakeStep, TellsMail, NotesAdded}
+use Rattle.md_judge.specs.Timed.{MakesTimes, AreTimed}
 use Rattle.md_judge.proofs.Lined.{notes-then}
 use Rattle.md_judge.proofs.Posted.{tells-step}
-use Rattle.md_judge.proofs.Sparing.{answers-on, unnoted-answers, keeps-same, keeps-one, keeps-on, noted, unnoted, notes-one, one-notes, ok-then, same-files, files-on, notes-files, unnoted-files, unnoted-added, added-same, added-on, added-notes}
+use Rattle.md_judge.proofs.Retimed.{times-made}
+use Rattle.md_judge.proofs.Sparing.{answers-on, unnoted-answers, keeps-same, keeps-one, keeps-on, noted, unnoted, notes-one, one-notes, ok-then, ok-two, same-files, files-on, notes-files, unnoted-files, unnoted-added, added-same, added-on, added-notes}
 use Rattle.md_judge.proofs.judge.watch.Watch.call.Goals as goal
 
 pub returns : goal.returns
@@ -55,6 +57,18 @@ returns c =
           ok-then c.change.result (MakeStep names change c.note_call.new.self.mail last) (TellsMail names l (suc i) last)
           (λ makes. tells-step path names l i change judged.done.leads judged.done.spots c.args.self.now.mail last
           (subst (λ (m : Mail). MakeStep names change m last) mail makes) tells) c.change.ensures.mailed;
+      timed = λ path who many i l x lines tells judged timed rises here short.
+          let change = c.args.act.now.change in
+          let first = c.args.self.now.mail in
+          let last = c.change.new.self.mail in
+          let now : c.note_call.new.self.now ≡ c.args.self.now.now = c.in_ok-note_call.ensures.now in
+          ok-two c.change.result (MakeStep names change c.note_call.new.self.mail last) (MakesTimes names c.note_call.new.self.now change c.note_call.new.self.mail last)
+          (AreTimed lines names l (suc i) last)
+          (λ makes times. times-made lines rises names l i path change judged.done.leads judged.done.spots first last tells.0
+          (tells-step path names l i change judged.done.leads judged.done.spots first last (subst (λ (m : Mail). MakeStep names change m last) mail makes) tells).0
+          timed c.args.self.now.now here short
+          (subst (λ k. MakesTimes names k change first last) now (subst (λ (m : Mail). MakesTimes names c.note_call.new.self.now change m last) mail times)))
+          c.change.ensures.mailed c.change.ensures.times;
       added = λ path who many i l x tells judged.
           let t = turn l i x in
           let first : KeepsAdded old noting = unnoted-added wrong clause.NotADirectory (λ e. cc) (λ e. cc) old noting c.note.ensures in

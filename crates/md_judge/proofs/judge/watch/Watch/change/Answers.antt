@@ -1,4 +1,4 @@
-use Rattle.std.proofs.Common.{IsSome, sym, subst, ap, ◌∙◌}
+use Rattle.std.proofs.Common.{ℕ, IsSome, sym, subst, ap, ◌∙◌}
 use Rattle.md_log.specs.declared.clause.Clause.TheVariants as clause
 use Rattle.md_judge.specs.declared.judge.about.Actors.{Actors}
 use Rattle.md_judge.specs.declared.judge.mail.Mail.{Mail}
@@ -7,6 +7,7 @@ use Rattle.md_judge.specs.Actors.{KeepsActs}
 use Rattle.md_judge.specs.Found.{KeepsFiles, KeepsAnswers}
 use Rattle.md_judge.specs.Law.{turn}
 use Rattle.md_judge.specs.Mailed.{MakeStep}
+use Rattle.md_judge.specs.Timed.{MakesTimes}
 use Rattle.md_judge.proofs.Sparing.{keeps-one, notes-one, turned-found, same-files, files-on, unnoted-files, unnoted-added, added-same, added-on, notes-added, added-notes, answers-same, answers-on, unnoted-answers}
 use Rattle.md_judge.proofs.judge.watch.Watch.change.Goals as goal
 
@@ -35,6 +36,13 @@ returns c =
       mailed = subst (λ (m : Mail). MakeStep c.args.known.now.names change m c.check_going.new.self.mail) (ap (λ (w : Watch). w.mail) c.check_coming.ensures.rest)
           (subst (λ (m : Mail). MakeStep c.args.known.now.names change c.check_coming.new.self.mail m) (sym (ap (λ (w : Watch). w.mail) c.check_going.ensures.rest))
           c.in_ok-make.ensures.mailed);
+      times =
+          let names = c.args.known.now.names in
+          let coming = c.check_coming.ensures.rest in
+          subst (λ (k : ℕ). MakesTimes names k change c.args.self.now.mail c.check_going.new.self.mail) (ap (λ (w : Watch). w.now) coming)
+          (subst (λ (m : Mail). MakesTimes names c.check_coming.new.self.now change m c.check_going.new.self.mail) (ap (λ (w : Watch). w.mail) coming)
+          (subst (λ (m : Mail). MakesTimes names c.check_coming.new.self.now change c.check_coming.new.self.mail m)
+          (sym (ap (λ (w : Watch). w.mail) c.check_going.ensures.rest)) c.in_ok-make.ensures.times));
       added = λ path l i x done tells.
           let t = turn l i x in
           notes-added t old joined new

@@ -4,9 +4,11 @@ use Rattle.md_judge.specs.declared.judge.mail.Mail.{Mail}
 use Rattle.md_judge.specs.Actors.{done_by}
 use Rattle.md_judge.specs.Files.{unique_in}
 use Rattle.md_judge.specs.Mailed.{Recounts, one_more, one_fewer, TurnAt}
+use Rattle.md_judge.specs.Timed.{TimesStay}
 use Rattle.md_judge.proofs.Lined.{acts-kept, changed-same}
 use Rattle.md_judge.proofs.Sparing.{ok-then}
 use Rattle.md_judge.proofs.Stepping.{on-ok}
+use Rattle.md_judge.proofs.Timely.{timed-spot}
 use Rattle.md_judge.proofs.Writing.{moves-same}
 use Rattle.md_judge.proofs.judge.watch.Watch.turn_path.Goals as goal
 
@@ -37,3 +39,15 @@ returns-clause-acts c =
     let noted = c.note_change.new.self in
     on-ok c.copy.result (acts-kept old c.keep.new.self c.args.actor key noted c.in_ok-keep.ensures
     (changed-same (done_by old c.args.actor key) c.done-about.result noted noted c.done-about.ensures c.note_change.ensures refl refl))
+
+pub returns-clause-times : goal.returns-clause-times
+returns-clause-times c =
+    let old = c.args.self.now.mail in
+    let made = c.make.new.self in
+    let spot = c.args.spot in
+    let unique = c.in-Some.unique in
+    let some : unique_in c.args.known.now.names spot ≡ Some unique = sym c.unique_at.ensures ∙ c.in-Some.is in
+    on-ok c.copy.result (timed-spot c.args.known.now.names spot unique TimesStay old made c.copy.new.self some c.in_ok-make.ensures.times
+    c.in_ok-make.ensures.moves.others
+    (ap (λ (m : Mail). m.first) c.copy.ensures.messages ∙ ap (λ (m : Mail). m.first) c.uncopy.ensures.messages)
+    (ap (λ (m : Mail). m.others) c.copy.ensures.messages ∙ ap (λ (m : Mail). m.others) c.uncopy.ensures.messages))
