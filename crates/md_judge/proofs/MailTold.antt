@@ -1,12 +1,11 @@
 -- What is kept of messages and of their times is what the check of complete listings goes by.
-use Rattle.std.proofs.Common.{ℕ, ◌≡◌, ◌↔◌, ◌<◌, ◌≤◌, inl, inr, List, [], Option, Some, None, get_or, slice_get, length, sym, ap, subst, ◌∙◌, arith}
+use Rattle.std.proofs.Common.{ℕ, ◌≡◌, ◌↔◌, ◌<◌, inl, inr, List, [], Some, get_or, slice_get, length, sym, ap, subst, ◌∙◌, arith}
 use Rattle.std.proofs.lemmas.Bool.{cases_lt}
 use Rattle.std.proofs.lemmas.Option.{slice_get-get_or}
 use Rattle.md_judge.specs.declared.judge.mail.Mail.{Mail}
-use Rattle.md_judge.specs.declared.judge.mail.Message.{Message}
 use Rattle.md_judge.specs.declared.judge.tables.Names.{Names}
 use Rattle.md_judge.specs.Gathered.{IsMailTold}
-use Rattle.md_judge.specs.Listings.{message_of, present_in, IsIn, RecalledTimes}
+use Rattle.md_judge.specs.Listings.{message_of, RecalledTimes}
 use Rattle.md_judge.specs.Logs.{Log}
 use Rattle.md_judge.specs.Mailed.{count_of, IsPathThere, AreMailed}
 use Rattle.md_judge.specs.Names.{GrowsUniques}

@@ -1,8 +1,7 @@
 -- What is kept of the times of messages stays what a log tells through a change of paths, and as names get numbers.
-use Rattle.std.proofs.Common.{ℕ, suc, ◌≡◌, ◌<◌, ◌≤◌, ◌+◌, ◌↔◌, ◌⊎◌, inl, inr, min, true, List, [], Option, Some, None, slice_get, get_or, length, refl, sym, ap, subst, ◌∙◌, arith}
+use Rattle.std.proofs.Common.{ℕ, suc, ◌≡◌, ◌<◌, ◌≤◌, ◌+◌, ◌↔◌, ◌⊎◌, inl, inr, min, List, [], Option, Some, None, slice_get, get_or, length, refl, sym, ap, subst, ◌∙◌, arith}
 use Rattle.std.proofs.lemmas.Bool.{cases_lt}
 use Rattle.std.proofs.lemmas.Option.{slice_get_within, slice_get-get_or}
-use Rattle.md_dirs.specs.State.{file_at}
 use Rattle.md_dirs.specs.declared.paths.Path.{Path}
 use Rattle.md_judge.specs.declared.judge.acts.Change.{Change}
 use Rattle.md_judge.specs.declared.judge.directories.Spot.{Spot}
@@ -10,7 +9,6 @@ use Rattle.md_judge.specs.declared.judge.mail.Mail.{Mail}
 use Rattle.md_judge.specs.declared.judge.mail.Message.{Message}
 use Rattle.md_judge.specs.declared.judge.tables.Names.{Names}
 use Rattle.md_judge.specs.Changes.{IsPathOf, Leads}
-use Rattle.md_judge.specs.Files.{unique_in}
 use Rattle.md_judge.specs.Known.{EachPath, EachSpot}
 use Rattle.md_judge.specs.Listings.{message_of, IsIn, WasAtLine, RecalledTimes}
 use Rattle.md_judge.specs.Logs.{Log}

@@ -1,4 +1,4 @@
-use Rattle.std.proofs.Common.{ℕ, ◌≡◌, ◌<◌, ◌++◌, ◌∷◌, [], Some, OnOk, sym, subst}
+use Rattle.std.proofs.Common.{◌≡◌, ◌<◌, ◌++◌, ◌∷◌, [], Some, OnOk, sym, subst}
 use Rattle.md_judge.specs.declared.judge.mail.Move.{Move}
 use Rattle.md_judge.specs.declared.judge.mail.Move.TheVariants.{Goes}
 use Rattle.md_judge.specs.Listings.{times_of}

@@ -1,6 +1,5 @@
-use Rattle.std.proofs.Common.{ℕ, ◌≡◌, ◌∙◌, Option, Some, sym, ap, subst}
+use Rattle.std.proofs.Common.{◌≡◌, ◌∙◌, Some, sym, ap, subst}
 use Rattle.md_judge.specs.declared.judge.mail.Mail.{Mail}
-use Rattle.md_judge.specs.declared.judge.mail.Message.{Message}
 use Rattle.md_judge.specs.declared.judge.watch.Watch.{Watch}
 use Rattle.md_judge.specs.Files.{unique_in}
 use Rattle.md_judge.specs.Listings.{message_of}

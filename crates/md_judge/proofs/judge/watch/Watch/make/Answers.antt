@@ -1,4 +1,4 @@
-use Rattle.std.proofs.Common.{ℕ, ◌≡◌, ◌∙◌, subst}
+use Rattle.std.proofs.Common.{ℕ, ◌∙◌, subst}
 use Rattle.md_judge.specs.Listings.{message_of}
 use Rattle.md_judge.specs.Mailed.{TakeStep, MakeStep}
 use Rattle.md_judge.specs.Timed.{WentAt, MakesTimes}
