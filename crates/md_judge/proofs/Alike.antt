@@ -79,7 +79,7 @@ filed-alike who many l l' i files a are =
           (are.there j low p n (sym (a.paths j low p) ∙ is));
     }
 
-get-push : {X : Type 0} (xs : List X) (w : X) (k : ℕ) → k < length xs → slice_get (xs ++ w ∷ []) k ≡ slice_get xs k
+pub get-push : {X : Type 0} (xs : List X) (w : X) (k : ℕ) → k < length xs → slice_get (xs ++ w ∷ []) k ≡ slice_get xs k
 get-push [] w k low = absurd (omega (arith, low))
 get-push (x ∷ xs) w zero low = refl
 get-push (x ∷ xs) w (suc k) low = get-push xs w k (omega (arith, low))

@@ -13,8 +13,8 @@ use Rattle.md_judge.specs.declared.judge.mail.Held.{Held}
 use Rattle.md_judge.specs.declared.judge.mail.Presence.{Presence}
 use Rattle.md_judge.specs.Logs.{Log}
 use Rattle.md_judge.specs.Told.{at, IsThere, IsSpan}
-use Rattle.md_judge.specs.Law.{Turn, turn, IsSuccess, LostAndLeft, IsSo}
-use Rattle.md_judge.specs.Claims.{HasLooked, GivesUp, WasHeld, HasMoved, WasAbsent, IsUpheld, ClaimFinds, IsLook, IsMove, IsLastLine, HasFlags, IsLastMoment, RecallsHeld, IsSince, RecallsPresence, RecallsSo, IsClaim, BrokenByClaim}
+use Rattle.md_judge.specs.Law.{Turn, turn, IsSuccess, LostAndLeft, IsSo, GaveUp}
+use Rattle.md_judge.specs.Claims.{HasLooked, GivesUp, WasHeld, HasMoved, WasAbsent, IsUpheld, ClaimFinds, IsLook, IsMove, IsLastLine, HasFlags, IsLastMoment, RecallsHeld, IsSince, RecallsPresence, RecallsSo, IsAnswerOf, BrokenByClaim}
 
 -- ---- the span of an answer is one
 
@@ -178,7 +178,7 @@ module _ (line : ℕ → ℕ) (rises : (a b : ℕ) → a < b → line a < line b
 
 -- ---- an answer
 
-module _ (line : ℕ → ℕ) (first i folder : ℕ) (unique : List ℕ) (l : Log) (x : Step) (k : Claim) (is : IsClaim line first i folder unique l x k) where
+module _ (line : ℕ → ℕ) (first i folder : ℕ) (unique : List ℕ) (l : Log) (x : Step) (k : Claim) (is : IsAnswerOf line first i folder unique l x k) where
   abbrev t : Turn
   t = turn l i x
 
@@ -290,13 +290,6 @@ module _ (line : ℕ → ℕ) (first i folder : ℕ) (unique : List ℕ) (l : Lo
 
   -- ---- both
 
-  claim-broken : (c : Clause) → ClaimFinds k c → BrokenByClaim t c
-  claim-broken clause.GaveUp found =
-      (first, k.said, folder, unique, is.call, found.0, is.span, is.there.0 found.1.0, lost found.1)
-  claim-broken clause.AnsweredFalsely found =
-      (first, k.said, folder, unique, is.call, is.span, λ true. found ((so k.said is.so).1 true))
-  claim-broken c found = absurd found
-
   -- the law's words for an answer that gives up, and for one that is not so
   abbrev GaveUpBy : ℕ → Said → ℕ → List ℕ → Type 0
   GaveUpBy f s g u = IsSuccess s × IsThere (at l i) g u × LostAndLeft t f g u
@@ -304,16 +297,29 @@ module _ (line : ℕ → ℕ) (first i folder : ℕ) (unique : List ℕ) (l : Lo
   abbrev FalseBy : ℕ → Said → ℕ → List ℕ → Type 0
   FalseBy f s g u = IsSo t f g u s → ⊥
 
-  claim-found : (c : Clause) → BrokenByClaim t c → ClaimFinds k c
-  claim-found clause.GaveUp b =
-      let gave : GaveUpBy b.0 b.1 b.2 b.3 = (b.5, b.7, b.8) in
-      let by = this GaveUpBy b.0 b.1 b.2 b.3 b.4 b.6 gave in
-      (by.0, given by.1 by.2)
-  claim-found clause.AnsweredFalsely b =
+  -- an answer is found to give up just where the law has it
+  pub gave-up : (IsSuccess k.said × GivesUp k) ↔ GaveUp t
+  gave-up = (
+    λ found. (first, k.said, folder, unique, is.call, found.0, is.span, is.there.0 found.1.0, lost found.1),
+    λ b.
+        let gave : GaveUpBy b.0 b.1 b.2 b.3 = (b.5, b.7, b.8) in
+        let by = this GaveUpBy b.0 b.1 b.2 b.3 b.4 b.6 gave in
+        (by.0, given by.1 by.2),
+  )
+
+  claim-broken : RecallsSo line t first folder unique k.said k → (c : Clause) → ClaimFinds k c → BrokenByClaim t c
+  claim-broken recalls clause.GaveUp found = gave-up.0 found
+  claim-broken recalls clause.AnsweredFalsely found =
+      (first, k.said, folder, unique, is.call, is.span, λ true. found ((so k.said recalls).1 true))
+  claim-broken recalls c found = absurd found
+
+  claim-found : RecallsSo line t first folder unique k.said k → (c : Clause) → BrokenByClaim t c → ClaimFinds k c
+  claim-found recalls clause.GaveUp b = gave-up.1 b
+  claim-found recalls clause.AnsweredFalsely b =
       let by = this FalseBy b.0 b.1 b.2 b.3 b.4 b.5 b.6 in
-      λ upheld. by ((so k.said is.so).0 upheld)
-  claim-found c b = absurd b
+      λ upheld. by ((so k.said recalls).0 upheld)
+  claim-found recalls c b = absurd b
 
   -- what is found at an answer is what the law has
-  pub claim-lawful : (c : Clause) → ClaimFinds k c ↔ BrokenByClaim t c
-  claim-lawful c = (claim-broken c, claim-found c)
+  pub claim-lawful : RecallsSo line t first folder unique k.said k → (c : Clause) → ClaimFinds k c ↔ BrokenByClaim t c
+  claim-lawful recalls c = (claim-broken recalls c, claim-found recalls c)

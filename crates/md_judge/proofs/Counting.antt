@@ -139,3 +139,17 @@ counted-some P many (paths, those, size) = (
     within : (all : List Path) (p : Path) (k : ℕ) → slice_get all k ≡ Some p → length all ≡ many → 0 < many
     within [] p k is same = cc
     within (x ∷ xs) p k is same = omega (arith, same)
+
+-- it holds of two just where it holds of more than one
+pub counted-two : (P : Path → Type 0) (many : ℕ) → HoldsOf P many → (1 < many) ↔ ((p q : Path) × (p ≢ q) × P p × P q)
+counted-two P many holds = (
+  λ two.
+      let one = (counted-some P many holds).0 (omega (arith, two)) in
+      let rest = counted-less P many one.0 holds one.1 in
+      let other = (counted-some (λ p. P p × (p ≢ one.0)) (many - 1) rest).0 (omega (arith, two)) in
+      (one.0, other.0, λ same. other.1.1 (sym same), one.1, other.1.0),
+  λ both.
+      let rest = counted-less P many both.0 holds both.3 in
+      let left : 0 < many - 1 = (counted-some (λ p. P p × (p ≢ both.0)) (many - 1) rest).1 (both.1, (both.4, λ same. both.2 (sym same))) in
+      omega (arith, left),
+)

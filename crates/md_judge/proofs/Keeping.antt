@@ -17,7 +17,7 @@ use Rattle.md_judge.specs.Listings.{message_cmp}
 use Rattle.md_judge.specs.Open.{Listings, reading_of, first_of, shows_of, first_in, shows_in, ShowsMore, IsOver, KeepsPart}
 
 -- two keys that are one to the map are one
-tied : (a f b g : ℕ) → is_eq (message_cmp (a, f) (b, g)) ≡ true → (a ≡ b) × (f ≡ g)
+pub tied : (a f b g : ℕ) → is_eq (message_cmp (a, f) (b, g)) ≡ true → (a ≡ b) × (f ≡ g)
 tied a f b g is = by (nat_cmp a b) refl is
   where
     by : (o : Ordering) → nat_cmp a b ≡ o → is_eq (ordering_then o (nat_cmp f g)) ≡ true → (a ≡ b) × (f ≡ g)

@@ -162,7 +162,7 @@ module _ (line : ℕ → ℕ) (rises : (a b : ℕ) → a < b → line a < line b
 -- ---- a listing begins with one step
 
 -- what a listing has read after a step
-read-step : (l : Log) (actor : List ℕ) (folder i : ℕ) (n : Numbered) → slice_get l.steps i ≡ Some n
+pub read-step : (l : Log) (actor : List ℕ) (folder i : ℕ) (n : Numbered) → slice_get l.steps i ≡ Some n
     → read_at l actor folder (suc i) ≡ (if bytes_eq n.step.actor actor then with_call folder n.step.call (read_at l actor folder i) else read_at l actor folder i)
 read-step l actor folder i n is =
     let read : Read → Numbered → Read = λ r x. if bytes_eq x.step.actor actor then with_call folder x.step.call r else r in

@@ -108,13 +108,13 @@ module _ (l l' : Log) (i : ℕ) (a : AreAlike l l' i) where
   part-alike : (j : ℕ) (actor : List ℕ) (folder : ℕ) (place : Place) (r : Reply) → j < i → IsPart l j actor folder place r → IsPart l' j actor folder place r
   part-alike j actor folder place r low p = (p.0, p.1, step-alike l l' i a j p.0 low p.2, p.3, p.4)
 
-  shows-alike : (first last : ℕ) (actor : List ℕ) (folder : ℕ) (place : Place) (name : List ℕ) → last < i
+  pub shows-alike : (first last : ℕ) (actor : List ℕ) (folder : ℕ) (place : Place) (name : List ℕ) → last < i
       → Shows l first last actor folder place name → Shows l' first last actor folder place name
   shows-alike first last actor folder place name low s =
       let to = s.5 in
       (s.0, s.1, s.2, s.3, s.4, s.5, step-alike l l' i a s.0 s.1 (omega (arith, to, low)) s.6, s.7, s.8, s.9)
 
-  read-alike : (actor : List ℕ) (folder k : ℕ) → k ≤ i → read_at l actor folder k ≡ read_at l' actor folder k
+  pub read-alike : (actor : List ℕ) (folder k : ℕ) → k ≤ i → read_at l actor folder k ≡ read_at l' actor folder k
   read-alike actor folder k low =
       ap (fold (λ (r : Read) (x : Numbered). if bytes_eq x.step.actor actor then with_call folder x.step.call r else r) nothing_read) (a.parts k low)
 
@@ -165,7 +165,7 @@ module _ (l l' : Log) (i : ℕ) (a : AreAlike l l' i) where
             );
       }
 
-  whole-alike : (first last : ℕ) (actor : List ℕ) (folder : ℕ) (place : Place) → last < i → IsWholeReading l first last actor folder place
+  pub whole-alike : (first last : ℕ) (actor : List ℕ) (folder : ℕ) (place : Place) → last < i → IsWholeReading l first last actor folder place
       → IsWholeReading l' first last actor folder place
   whole-alike first last actor folder place low w =
       (reading-alike first last actor folder place low w.0, part-alike l l' i a last actor folder place reply.Ok low w.1)

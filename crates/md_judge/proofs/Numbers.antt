@@ -27,7 +27,7 @@ pub unique_front : (name : List ℕ) → take (length (unique_of name)) name ≡
 unfolding unique_of
 unique_front name = ap (λ n. take n name) (length-take (position_or_len is_colon name) name) ∙ take_min (position_or_len is_colon name) name
 
-split_is : (name : List ℕ) (parts : List ℕ × Info) → split_of name ≡ Some parts → parts.0 ≡ unique_of name
+pub split_is : (name : List ℕ) (parts : List ℕ × Info) → split_of name ≡ Some parts → parts.0 ≡ unique_of name
 split_is name parts is = elim (is_message_name name) as (λ b. (if b then Some (unique_of name, info_of name) else None) ≡ Some parts → parts.0 ≡ unique_of name) [
   | true ↦ λ e. cc
   | false ↦ λ e. cc
@@ -66,4 +66,5 @@ module _ (names : Names) where
     apart = λ a b n sa sb. names_apart a b (split_of a) (split_of b) (n / 4294967296) (n % 4294967296) refl refl sa sb;
     one = λ a m n sm sn. one_number a (split_of a) m n apart sm sn;
     few = λ a n s. few_numbers few a (split_of a) n s;
+    uniques = apart.0;
   }

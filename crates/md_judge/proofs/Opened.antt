@@ -87,20 +87,20 @@ module _ (who : ℕ → List ℕ) (many : ℕ) (l l' : Log) (names : Names) (p :
     (free : file_at l.opening p ≡ None)
     (paths : (q : Path) → file_at l'.opening q ≡ cond (eq_by_cmp path_cmp q p) (Some file) (file_at l.opening q)) where
   -- spots stand for paths with the name of this one
-  abbrev path : Spot → Path
+  abbrev pub path : Spot → Path
   path q = path_of q.folder q.place p.name
 
   path-is : path spot ≡ p
   path-is = let folder = of.folder in let place = of.place in λ i. path_of (folder i) (place i) p.name
 
-  abbrev change : Change
+  abbrev pub change : Change
   change = record { taken = None; added = Some (spot, file); turned = None; is_unlink = false }
 
-  leads : Leads path change l.opening l'.opening
+  pub leads : Leads path change l.opening l'.opening
   leads = adds path l.opening l'.opening None false (λ y n e. absurd (never y n e)) spot file (ap (file_at l.opening) path-is ∙ free)
       (λ q. paths q ∙ ap (λ v. cond (eq_by_cmp path_cmp q v) (Some file) (file_at l.opening q)) (sym path-is))
 
-  spots : EachSpot (λ q. IsSpotOf names (path q) q) change
+  pub spots : EachSpot (λ q. IsSpotOf names (path q) q) change
   spots = (tt, tt, subst (λ v. IsSpotOf names v spot) (sym path-is) of)
 
   module _ (mid new : List Filed) (first : (n : ℕ) (f : FileFacts) → facts_at mid n ≡ Some f → IsFirst who many l l' n f)

@@ -14,7 +14,7 @@ use Rattle.md_judge.specs.Logs.{Log, Numbered}
 use Rattle.md_judge.specs.Told.{IsStep, IsPart, IsReading, Shows}
 use Rattle.md_judge.specs.Names.{IsNumber}
 use Rattle.md_judge.specs.declared.judge.tables.Names.{Names}
-use Rattle.md_judge.specs.Open.{IsOpen, NoneIsOpen, ShowsBefore, AreNumbersOf, AreNames, ShowsMore, IsOver, RecallsOpen}
+use Rattle.md_judge.specs.Open.{IsOpen, NoneIsOpen, ShowsBefore, AreNumbersOf, AreNames, ShowsMore, IsOver, IsPartKept, RecallsOpen}
 
 -- a number is among the first of these
 abbrev pub AmongFirst : List ℕ → ℕ → ℕ → Type 0
@@ -211,14 +211,6 @@ named-number names shown numbers are n k =
     (name, are.each k.0 name n at k.1, (k.0, at))
 
 -- ---- a part of a reading
-
--- What is kept of a reading at a part of it: the line of its first part, and the numbers of the names that were shown by now.
-pub record IsPartKept (line : ℕ → ℕ) (names : Names) (l : Log) (i : ℕ) (actor : List ℕ) (folder : ℕ) (place : Place) (first : ℕ) (shown : ℕ → Bool)
-    : Type 0 where
-  pub begin : ℕ
-  pub line_is : first ≡ line begin
-  pub reading : IsReading l begin i actor folder place
-  pub names_are : AreNumbersOf names (Shows l begin i actor folder place) shown
 
 module _ (line : ℕ → ℕ) (names : Names) (l : Log) (i : ℕ) (x : Step) (folder : ℕ) (place : Place) (r : Reply) (shown : List (List ℕ))
     (numbers : List ℕ) (now : ℕ) (is : IsStep l i x) (calls : x.call ≡ call.List folder place r shown) (here : now ≡ line i)

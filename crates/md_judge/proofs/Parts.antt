@@ -36,7 +36,7 @@ no-later l i actor folder place a b one other lt =
     let up = other.ordered in
     end.5 (one.goes_on end.0 end.1 end.2 (let low : end.0 < i = omega (arith, before, up) in low) end.4)
 
-one-reading : (l : Log) (i : ℕ) (actor : List ℕ) (folder : ℕ) (place : Place) (a b : ℕ) → IsReading l a i actor folder place
+pub one-reading : (l : Log) (i : ℕ) (actor : List ℕ) (folder : ℕ) (place : Place) (a b : ℕ) → IsReading l a i actor folder place
     → IsReading l b i actor folder place → a ≡ b
 one-reading l i actor folder place a b one other = elim (cases_order a b) [
   | inl same ↦ same

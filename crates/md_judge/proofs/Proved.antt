@@ -5,31 +5,49 @@ use Rattle.md_log.specs.declared.clause.Clause.TheVariants as clause
 use Rattle.md_judge.specs.declared.judge.clauses.Clauses.{Clauses}
 use Rattle.md_judge.specs.declared.judge.found.Found.{Found}
 use Rattle.md_judge.specs.Filed.{BrokenByFiles}
-use Rattle.md_judge.specs.Found.{Has, GoesByFiles, KeepsFiles, NotesFiles}
-use Rattle.md_judge.specs.Law.{Turn, Breaks, NotADirectory, Overwritten}
+use Rattle.md_judge.specs.Found.{Has, KeepsAdded, GoesByFiles, KeepsFiles, NotesFiles}
+use Rattle.md_judge.specs.Law.{Turn, Breaks, NotADirectory, Overwritten, TwoNames, UsedAgain, GaveUp}
+use Rattle.md_judge.specs.Mailed.{NotesAdded}
 use Rattle.md_judge.specs.Verdict.{IsProved}
 use Rattle.md_judge.proofs.Sparing.{found-none, found-one}
 
-pub each-proved : (broken : Clauses) (t : Turn) → (Has broken clause.NotADirectory ↔ NotADirectory t) → (Has broken clause.Overwritten ↔ Overwritten t)
+-- clauses of which it is proved one by one
+pub record IsJudgedAlone (broken : Clauses) (t : Turn) : Type 0 where
+  pub wrong : Has broken clause.NotADirectory ↔ NotADirectory t
+  pub overwritten : Has broken clause.Overwritten ↔ Overwritten t
+  pub gave_up : Has broken clause.GaveUp ↔ GaveUp t
+
+pub each-proved : (broken : Clauses) (t : Turn) → IsJudgedAlone broken t → (Has broken clause.TwoNames ↔ TwoNames t)
+    → (Has broken clause.UsedAgain ↔ UsedAgain t)
     → ((c : Clause) → GoesByFiles c → Has broken c ↔ BrokenByFiles t c) → (c : Clause) → IsProved c → Has broken c ↔ Breaks c t
-each-proved broken t wrong overwritten files clause.NotADirectory proved = wrong
-each-proved broken t wrong overwritten files clause.Overwritten proved = overwritten
-each-proved broken t wrong overwritten files clause.SeenBeforeWhole proved = files clause.SeenBeforeWhole tt
-each-proved broken t wrong overwritten files clause.Mixed proved = files clause.Mixed tt
-each-proved broken t wrong overwritten files clause.NotFlushed proved = files clause.NotFlushed tt
-each-proved broken t wrong overwritten files clause.MovedBack proved = files clause.MovedBack tt
-each-proved broken t wrong overwritten files clause.CleanedEarly proved = files clause.CleanedEarly tt
-each-proved broken t wrong overwritten files c proved = absurd proved
+each-proved broken t alone two again files clause.NotADirectory proved = alone.wrong
+each-proved broken t alone two again files clause.Overwritten proved = alone.overwritten
+each-proved broken t alone two again files clause.SeenBeforeWhole proved = files clause.SeenBeforeWhole tt
+each-proved broken t alone two again files clause.Mixed proved = files clause.Mixed tt
+each-proved broken t alone two again files clause.NotFlushed proved = files clause.NotFlushed tt
+each-proved broken t alone two again files clause.MovedBack proved = files clause.MovedBack tt
+each-proved broken t alone two again files clause.CleanedEarly proved = files clause.CleanedEarly tt
+each-proved broken t alone two again files clause.TwoNames proved = two
+each-proved broken t alone two again files clause.UsedAgain proved = again
+each-proved broken t alone two again files clause.GaveUp proved = alone.gave_up
+each-proved broken t alone two again files c proved = absurd proved
 
 module _ (t : Turn) (begun there new : Found) (nothing : (c : Clause) → Has begun.broken c → ⊥) (same : there ≡ begun) where
-  -- where none of the clauses that go by files is broken or noted
-  pub kept-proved : (Has new.broken clause.NotADirectory ↔ NotADirectory t) → (Has new.broken clause.Overwritten ↔ Overwritten t) → KeepsFiles there new → ((c : Clause) → BrokenByFiles t c → ⊥)
-      → (c : Clause) → IsProved c → Has new.broken c ↔ Breaks c t
-  kept-proved wrong overwritten keeps none = each-proved new.broken t wrong overwritten
-      (λ c by. found-none c (BrokenByFiles t c) there new (subst (λ (f : Found). Has f.broken c → ⊥) (sym same) (nothing c)) (keeps c by) (none c))
+  was-none : (c : Clause) → Has there.broken c → ⊥
+  was-none c = subst (λ (f : Found). Has f.broken c → ⊥) (sym same) (nothing c)
+
+  -- where none of the clauses that go by files or by messages is broken or noted
+  pub kept-proved : IsJudgedAlone new.broken t → KeepsFiles there new → ((c : Clause) → BrokenByFiles t c → ⊥) → KeepsAdded there new
+      → (TwoNames t → ⊥) → (UsedAgain t → ⊥) → (c : Clause) → IsProved c → Has new.broken c ↔ Breaks c t
+  kept-proved alone keeps none added no-two no-again = each-proved new.broken t alone
+      (found-none clause.TwoNames (TwoNames t) there new (was-none clause.TwoNames) added.two no-two)
+      (found-none clause.UsedAgain (UsedAgain t) there new (was-none clause.UsedAgain) added.again no-again)
+      (λ c by. found-none c (BrokenByFiles t c) there new (was-none c) (keeps c by) (none c))
 
   -- where they are noted just where they are broken
-  pub noted-proved : (Has new.broken clause.NotADirectory ↔ NotADirectory t) → (Has new.broken clause.Overwritten ↔ Overwritten t) → NotesFiles (BrokenByFiles t) begun new
+  pub noted-proved : IsJudgedAlone new.broken t → NotesFiles (BrokenByFiles t) begun new → NotesAdded t begun new
       → (c : Clause) → IsProved c → Has new.broken c ↔ Breaks c t
-  noted-proved wrong overwritten notes = each-proved new.broken t wrong overwritten
+  noted-proved alone notes added = each-proved new.broken t alone
+      (found-one clause.TwoNames (TwoNames t) (TwoNames t) begun new (nothing clause.TwoNames) added.two (λ h. h, λ h. h))
+      (found-one clause.UsedAgain (UsedAgain t) (UsedAgain t) begun new (nothing clause.UsedAgain) added.again (λ h. h, λ h. h))
       (λ c by. found-one c (BrokenByFiles t c) (BrokenByFiles t c) begun new (nothing c) (notes c by) (λ h. h, λ h. h))

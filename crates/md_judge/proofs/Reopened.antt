@@ -53,12 +53,12 @@ one-more [] y (suc i) x is = absurd (cc is)
 one-more (z ∷ xs) y zero x is = inl is
 one-more (z ∷ xs) y (suc i) x is = elim (one-more xs y i x is) [ inl was ↦ inl was | inr last ↦ inr (ap suc last.0, last.1) ]
 
-stays : {A : Type 0} (xs : List A) (y : A) (i : ℕ) (x : A) → slice_get xs i ≡ Some x → slice_get (xs ++ y ∷ []) i ≡ Some x
+pub stays : {A : Type 0} (xs : List A) (y : A) (i : ℕ) (x : A) → slice_get xs i ≡ Some x → slice_get (xs ++ y ∷ []) i ≡ Some x
 stays [] y i x is = absurd (cc is)
 stays (z ∷ xs) y zero x is = is
 stays (z ∷ xs) y (suc i) x is = stays xs y i x is
 
-last-is : {A : Type 0} (xs : List A) (y : A) → slice_get (xs ++ y ∷ []) (length xs) ≡ Some y
+pub last-is : {A : Type 0} (xs : List A) (y : A) → slice_get (xs ++ y ∷ []) (length xs) ≡ Some y
 last-is [] y = refl
 last-is (x ∷ xs) y = last-is xs y
 
@@ -103,7 +103,7 @@ one-place New Cur = inr (λ same. cc same)
 one-place Cur Tmp = inr (λ same. cc same)
 one-place Cur New = inr (λ same. cc same)
 
-one-number : (a b : ℕ) → (a ≡ b) ⊎ (a ≡ b → ⊥)
+pub one-number : (a b : ℕ) → (a ≡ b) ⊎ (a ≡ b → ⊥)
 one-number a b = elim (cases_order a b) [
   | inl same ↦ inl same
   | inr apart ↦ inr (λ same. elim apart [ inl lt ↦ omega (arith, lt, same) | inr lt ↦ omega (arith, lt, same) ])
@@ -120,7 +120,7 @@ one-reader a b f g p q = elim (one-number a b) [
 ]
 
 -- two calls that are one read one directory
-same-part : (l : Log) (i : ℕ) (x : Step) (actor : List ℕ) (folder : ℕ) (place : Place) (r : Reply) → IsStep l i x → (of : IsPart l i actor folder place r)
+pub same-part : (l : Log) (i : ℕ) (x : Step) (actor : List ℕ) (folder : ℕ) (place : Place) (r : Reply) → IsStep l i x → (of : IsPart l i actor folder place r)
     → (x.actor ≡ actor) × (x.call ≡ call.List folder place r of.1)
 same-part l i x actor folder place r is of =
     let same : of.0 ≡ x = one-step l i of.0 x of.2 is in
@@ -241,17 +241,21 @@ numbers-next old new shown numbers more i d n within long pushed keeps is had k 
           subst (IsNumber new name) last.1 (subst (λ w. IsNumber new w n) same is)
     ]
 
+-- a word that comes to words that are apart has no number yet
+pub fresh-one : (old : List (List ℕ)) (word : List ℕ) → AreApart (old ++ word ∷ []) → (a : ℕ) → slice_get old a ≡ Some word → ⊥
+fresh-one old word apart a was =
+    let low = slice_get_within old a word was in
+    let same : a ≡ length old = apart a (length old) word (stays old word a word was) (last-is old word) in
+    omega (arith, low, same)
+
 -- an actor is asked for its number
 pub actors-after : (line : ℕ → ℕ) (old new : List (List ℕ)) (is_new : Bool) (actor : List ℕ) (names : Names) (l : Log) (i : ℕ) (m : Listings)
     → new ≡ (if is_new then old ++ actor ∷ [] else old) → AreApart new → AreOpen line old names l i m → AreOpen line new names l i m
 actors-after line old new false actor names l i m grows apart is = subst (λ (words : List (List ℕ)). AreOpen line words names l i m) (sym grows) is
 actors-after line old new true actor names l i m grows apart is =
-    let fresh : (a : ℕ) → slice_get old a ≡ Some actor → ⊥ = λ a was.
-    let low = slice_get_within old a actor was in
     let apart' : AreApart (old ++ actor ∷ []) = subst (λ (words : List (List ℕ)). AreApart words) grows apart in
-    let same : a ≡ length old = apart' a (length old) actor (stays old actor a actor was) (last-is old actor) in
-    omega (arith, low, same) in
-    subst (λ (words : List (List ℕ)). AreOpen line words names l i m) (sym grows) (actors-grow line old actor names l i m fresh is)
+    subst (λ (words : List (List ℕ)). AreOpen line words names l i m) (sym grows)
+    (actors-grow line old actor names l i m (fresh-one old actor apart') is)
 
 -- ---- calls
 

@@ -29,7 +29,7 @@ use Rattle.md_judge.proofs.Named.{now-names, names-now, now-leaves, leaves-now}
 -- ---- whether a spot's path names a message
 
 -- what the two parts of a message's name say
-abbrev said : Names → ℕ → ℕ → NameFacts
+abbrev pub said : Names → ℕ → ℕ → NameFacts
 said names front ending = record { unique = Some front; flags = unwrap_or (slice_get names.flags.items ending) None }
 
 -- where a name's number has an end it is a message's

@@ -16,13 +16,17 @@ use Rattle.md_judge.specs.declared.judge.found.Found.{Found}
 use Rattle.md_judge.specs.declared.judge.mail.Message.{Message}
 use Rattle.md_judge.specs.declared.judge.tables.Names.{Names}
 use Rattle.md_judge.specs.Files.{facts_at, named_by, turned_by, WriteFinds, AtFinds, NamedFinds, NameFinds, LeftFinds, LeaveFinds, ChangeFinds}
-use Rattle.md_judge.specs.Found.{Has, Notes, Keeps, NotesOne, KeepsPaths, GoesByFiles, KeepsFiles, NotesFiles}
+use Rattle.md_judge.specs.Law.{Turn, TwoNames, UsedAgain}
+use Rattle.md_judge.specs.Mailed.{NotesAdded}
+use Rattle.md_judge.specs.Found.{Has, Notes, Keeps, NotesOne, KeepsPaths, KeepsAdded, KeepsAnswers, GoesByFiles, KeepsFiles, NotesFiles}
 use Rattle.md_judge.specs.Messages.{AddFinds}
 
--- the clause goes by more than the paths of a step
+-- the clause goes by more than the paths of a step, and not by answers
 abbrev pub GoesByMore : Clause → Type 0
 GoesByMore clause.NotADirectory = ⊥
 GoesByMore clause.Overwritten = ⊥
+GoesByMore clause.GaveUp = ⊥
+GoesByMore clause.AnsweredFalsely = ⊥
 GoesByMore c = Unit {0}
 
 -- ---- what is kept
@@ -40,23 +44,57 @@ one-kept c old new notes = (
   λ h. notes.1 (inl h),
 )
 
+pub keeps-one : (c : Clause) (a b d : Found) → Keeps c a b → Keeps c b d → Keeps c a d
+keeps-one c a b d first then = (λ h. first.0 (then.0 h), λ h. then.1 (first.1 h))
+
+-- of the clauses that go by answers nothing else is found, where none of them is noted
+pub answers-kept : (P : Clause → Type 0) → (P clause.GaveUp → ⊥) → (P clause.AnsweredFalsely → ⊥) → (old new : Found) → Notes P old new
+    → KeepsAnswers old new
+answers-kept P gave false old new notes = record {
+  gave_up = kept P clause.GaveUp gave old new notes;
+  falsely = kept P clause.AnsweredFalsely false old new notes;
+}
+
+pub answers-same : (old new : Found) → new ≡ old → KeepsAnswers old new
+answers-same old new same = subst (KeepsAnswers old) (sym same) (record { gave_up = (λ h. h, λ h. h); falsely = (λ h. h, λ h. h) })
+
+pub answers-on : (a b d : Found) → KeepsAnswers a b → KeepsAnswers b d → KeepsAnswers a d
+answers-on a b d first then = record {
+  gave_up = keeps-one clause.GaveUp a b d first.gave_up then.gave_up;
+  falsely = keeps-one clause.AnsweredFalsely a b d first.falsely then.falsely;
+}
+
 pub keeps-paths : (P : Clause → Type 0) → ((c : Clause) → P c → GoesByMore c) → (old new : Found) → Notes P old new → KeepsPaths old new
 keeps-paths P more old new notes = record {
   wrong = kept P clause.NotADirectory (more clause.NotADirectory) old new notes;
   overwrites = kept P clause.Overwritten (more clause.Overwritten) old new notes;
+  answers = answers-kept P (more clause.GaveUp) (more clause.AnsweredFalsely) old new notes;
 }
 
 pub keeps-same : (old new : Found) → new ≡ old → KeepsPaths old new
-keeps-same old new same = subst (KeepsPaths old) (sym same) (record { wrong = (λ h. h, λ h. h); overwrites = (λ h. h, λ h. h) })
-
-pub keeps-one : (c : Clause) (a b d : Found) → Keeps c a b → Keeps c b d → Keeps c a d
-keeps-one c a b d first then = (λ h. first.0 (then.0 h), λ h. then.1 (first.1 h))
+keeps-same old new same = subst (KeepsPaths old) (sym same) (record { wrong = (λ h. h, λ h. h); overwrites = (λ h. h, λ h. h); answers = answers-same old old refl })
 
 pub keeps-on : (a b d : Found) → KeepsPaths a b → KeepsPaths b d → KeepsPaths a d
 keeps-on a b d first then = record {
   wrong = keeps-one clause.NotADirectory a b d first.wrong then.wrong;
   overwrites = keeps-one clause.Overwritten a b d first.overwrites then.overwrites;
+  answers = answers-on a b d first.answers then.answers;
 }
+
+-- ---- clauses that go by paths of messages that are added
+
+pub added-same : (old new : Found) → new ≡ old → KeepsAdded old new
+added-same old new same = subst (KeepsAdded old) (sym same) (record { two = (λ h. h, λ h. h); again = (λ h. h, λ h. h) })
+
+pub added-on : (a b d : Found) → KeepsAdded a b → KeepsAdded b d → KeepsAdded a d
+added-on a b d first then = record {
+  two = keeps-one clause.TwoNames a b d first.two then.two;
+  again = keeps-one clause.UsedAgain a b d first.again then.again;
+}
+
+pub added-kept : (old new : Found) → (Has new.broken clause.TwoNames ↔ (Has old.broken clause.TwoNames ⊎ ⊥))
+    → (Has new.broken clause.UsedAgain ↔ (Has old.broken clause.UsedAgain ⊎ ⊥)) → KeepsAdded old new
+added-kept old new two again = record { two = one-kept clause.TwoNames old new two; again = one-kept clause.UsedAgain old new again }
 
 -- ---- clauses that go by files
 
@@ -97,12 +135,38 @@ one-notes c P a b d first then = (
   λ h. then.1 (elim h [ inl was ↦ inl (first.1 was) | inr now ↦ inr now ]),
 )
 
+-- they are noted, before and after steps that keep them
+pub notes-added : (t : Turn) (a b d : Found) → NotesAdded t a b → KeepsAdded b d → NotesAdded t a d
+notes-added t a b d first then = record {
+  two = notes-one clause.TwoNames (TwoNames t) a b d first.two then.two;
+  again = notes-one clause.UsedAgain (UsedAgain t) a b d first.again then.again;
+}
+
+pub added-notes : (t : Turn) (a b d : Found) → KeepsAdded a b → NotesAdded t b d → NotesAdded t a d
+added-notes t a b d first then = record {
+  two = one-notes clause.TwoNames (TwoNames t) a b d first.two then.two;
+  again = one-notes clause.UsedAgain (UsedAgain t) a b d first.again then.again;
+}
+
+-- of what does not hold nothing is noted where the clause is kept
+pub keeps-notes : (c : Clause) (P : Type 0) (old new : Found) → Keeps c old new → (P → ⊥) → NotesOne c P old new
+keeps-notes c P old new keeps none = (λ h. inl (keeps.0 h), λ h. elim h [ inl was ↦ keeps.1 was | inr now ↦ absurd (none now) ])
+
 pub paths-kept : (old new : Found) → (Has new.broken clause.NotADirectory ↔ (Has old.broken clause.NotADirectory ⊎ ⊥))
-    → (Has new.broken clause.Overwritten ↔ (Has old.broken clause.Overwritten ⊎ ⊥)) → KeepsPaths old new
-paths-kept old new wrong overwrites = record {
+    → (Has new.broken clause.Overwritten ↔ (Has old.broken clause.Overwritten ⊎ ⊥)) → (Has new.broken clause.GaveUp ↔ (Has old.broken clause.GaveUp ⊎ ⊥))
+    → (Has new.broken clause.AnsweredFalsely ↔ (Has old.broken clause.AnsweredFalsely ⊎ ⊥)) → KeepsPaths old new
+paths-kept old new wrong overwrites gave false = record {
   wrong = one-kept clause.NotADirectory old new wrong;
   overwrites = one-kept clause.Overwritten old new overwrites;
+  answers = record { gave_up = one-kept clause.GaveUp old new gave; falsely = one-kept clause.AnsweredFalsely old new false };
 }
+
+-- a clause is noted where what is the same holds
+pub noted-as : (c : Clause) (P Q : Type 0) (old new : Found) → P ↔ Q → NotesOne c P old new → NotesOne c Q old new
+noted-as c P Q old new same notes = (
+  λ h. elim (notes.0 h) [ inl was ↦ inl was | inr now ↦ inr (same.0 now) ],
+  λ h. notes.1 (elim h [ inl was ↦ inl was | inr now ↦ inr (same.1 now) ]),
+)
 
 -- the clauses that go by files are noted, before and after steps that keep them
 pub notes-files : (P : Clause → Type 0) (a b d e : Found) → KeepsFiles a b → Notes P b d → KeepsFiles d e → NotesFiles P a e
@@ -120,6 +184,20 @@ unnoted b k c other old new notes = kept (λ c. IsTrue b × (c ≡ k)) c (λ h. 
 
 pub unnoted-files : (b : Bool) (k : Clause) → (GoesByFiles k → ⊥) → (old new : Found) → Notes (λ c. IsTrue b × (c ≡ k)) old new → KeepsFiles old new
 unnoted-files b k none old new notes c by = unnoted b k c (λ same. none (subst GoesByFiles same by)) old new notes
+
+pub unnoted-added : (b : Bool) (k : Clause) → (clause.TwoNames ≡ k → ⊥) → (clause.UsedAgain ≡ k → ⊥) → (old new : Found)
+    → Notes (λ c. IsTrue b × (c ≡ k)) old new → KeepsAdded old new
+unnoted-added b k two again old new notes = record {
+  two = unnoted b k clause.TwoNames two old new notes;
+  again = unnoted b k clause.UsedAgain again old new notes;
+}
+
+pub unnoted-answers : (b : Bool) (k : Clause) → (clause.GaveUp ≡ k → ⊥) → (clause.AnsweredFalsely ≡ k → ⊥) → (old new : Found)
+    → Notes (λ c. IsTrue b × (c ≡ k)) old new → KeepsAnswers old new
+unnoted-answers b k gave false old new notes = record {
+  gave_up = unnoted b k clause.GaveUp gave old new notes;
+  falsely = unnoted b k clause.AnsweredFalsely false old new notes;
+}
 
 -- where nothing was found before, the clause is found just where it is noted
 pub found-none : (c : Clause) (P : Type 0) (old new : Found) → (Has old.broken c → ⊥) → Keeps c old new → (P → ⊥) → Has new.broken c ↔ P
@@ -149,37 +227,54 @@ ok-then (Err e) P Q so holds = tt
 
 -- ---- files
 
-write-more : (actor : ℕ) (r : Reply) (f : Option FileFacts) (c : Clause) → WriteFinds actor r f c → GoesByMore c
+files-more : (c : Clause) → GoesByFiles c → GoesByMore c
+files-more clause.NotADirectory by = by
+files-more clause.Overwritten by = by
+files-more clause.GaveUp by = by
+files-more clause.AnsweredFalsely by = by
+files-more c by = tt
+
+-- what is noted of clauses that go by files is nothing of those that go by paths
+pub files-spare-paths : (P : Clause → Type 0) → ((c : Clause) → P c → GoesByFiles c) → (old new : Found) → Notes P old new → KeepsPaths old new
+files-spare-paths P by old new notes = keeps-paths P (λ c is. files-more c (by c is)) old new notes
+
+pub files-spare-added : (P : Clause → Type 0) → ((c : Clause) → P c → GoesByFiles c) → (old new : Found) → Notes P old new → KeepsAdded old new
+files-spare-added P by old new notes = record {
+  two = kept P clause.TwoNames (by clause.TwoNames) old new notes;
+  again = kept P clause.UsedAgain (by clause.UsedAgain) old new notes;
+}
+
+write-more : (actor : ℕ) (r : Reply) (f : Option FileFacts) (c : Clause) → WriteFinds actor r f c → GoesByFiles c
 write-more actor reply.Ok (Some f) clause.SeenBeforeWhole found = tt
 write-more actor reply.Ok (Some f) clause.Mixed found = tt
 write-more actor r f c found = absurd found
 
 pub at-more : (message : Bool) (actor : ℕ) (files : List Filed) (d : Deed) (r : Reply) (file : Option ℕ) (c : Clause)
-    → AtFinds message actor files d r file c → GoesByMore c
+    → AtFinds message actor files d r file c → GoesByFiles c
 at-more message actor files deed.Create reply.Ok file clause.SeenBeforeWhole found = tt
 at-more message actor files deed.Write r (Some n) c found = write-more actor r (facts_at files n) c found
 at-more message actor files d r file c found = absurd found
 
-named-more : (place : Place) (f : Option FileFacts) (c : Clause) → NamedFinds place f c → GoesByMore c
+named-more : (place : Place) (f : Option FileFacts) (c : Clause) → NamedFinds place f c → GoesByFiles c
 named-more place (Some f) clause.SeenBeforeWhole found = tt
 named-more place (Some f) clause.NotFlushed found = tt
 named-more New (Some f) clause.MovedBack found = tt
 named-more place f c found = absurd found
 
-name-more : (names : Names) (files : List Filed) (p : Option (Spot × ℕ)) (c : Clause) → NameFinds names files p c → GoesByMore c
+name-more : (names : Names) (files : List Filed) (p : Option (Spot × ℕ)) (c : Clause) → NameFinds names files p c → GoesByFiles c
 name-more names files None c found = absurd found
 name-more names files (Some p) c found = named-more p.0.place (facts_at files p.1) c found.1
 
-left-more : (actor now : ℕ) (place : Place) (f : Option FileFacts) (c : Clause) → LeftFinds actor now place f c → GoesByMore c
+left-more : (actor now : ℕ) (place : Place) (f : Option FileFacts) (c : Clause) → LeftFinds actor now place f c → GoesByFiles c
 left-more actor now Tmp (Some f) clause.CleanedEarly found = tt
 left-more actor now place f c found = absurd found
 
-leave-more : (actor now : ℕ) (files : List Filed) (p : Option (Spot × ℕ)) (c : Clause) → LeaveFinds actor now files p c → GoesByMore c
+leave-more : (actor now : ℕ) (files : List Filed) (p : Option (Spot × ℕ)) (c : Clause) → LeaveFinds actor now files p c → GoesByFiles c
 leave-more actor now files None c found = absurd found
 leave-more actor now files (Some p) c found = left-more actor now p.0.place (facts_at files p.1) c found
 
 pub change-more : (names : Names) (actor now : ℕ) (change : Change) (old new : List Filed) (c : Clause)
-    → ChangeFinds names actor now change old new c → GoesByMore c
+    → ChangeFinds names actor now change old new c → GoesByFiles c
 change-more names actor now change old new c found = elim found [
   | inl named ↦ name-more names old (named_by change) c named
   | inr left ↦ elim left [
@@ -203,3 +298,10 @@ spare-added (Some m) file leaving = spare-files (AddFinds (Some m) file leaving)
 pub ok-two : {A E : Type 0} (r : Result A E) (P Q R : Type 0) → (P → Q → R) → OnOk r P → OnOk r Q → OnOk r R
 ok-two (Ok x) P Q R so one two = so one two
 ok-two (Err e) P Q R so one two = tt
+
+pub ok-three : {A E : Type 0} (r : Result A E) (P Q R S : Type 0) → (P → Q → R → S) → OnOk r P → OnOk r Q → OnOk r R → OnOk r S
+ok-three (Ok x) P Q R S so one two three = so one two three
+ok-three (Err e) P Q R S so one two three = tt
+
+pub ok-both : {A E : Type 0} (r : Result A E) (P Q : Type 0) → OnOk r P → OnOk r Q → OnOk r (P × Q)
+ok-both r P Q = ok-two r P Q (P × Q) (λ p q. (p, q))

@@ -33,8 +33,11 @@ use Rattle.md_judge.specs.Logs.{Log, Numbered, is_passed_over, has_begun, with_l
 use Rattle.md_judge.specs.Recalled.{HasFolders}
 use Rattle.md_judge.specs.Told.{Moment, at}
 use Rattle.md_judge.specs.Verdict.{IsProved, HasNoTicks, Remembers, IsAmong, AreLinesOf, HasRead, IsHeadOf, IsBroken, AddsFinding, KeepsHead}
+use Rattle.md_judge.proofs.Mailbegun.{tells-longer, tells-opening}
+use Rattle.md_judge.proofs.Actors.{acting-first, acting-longer}
 use Rattle.md_judge.proofs.Opened.{filed-opening, filed-longer}
 use Rattle.md_judge.proofs.ReadLonger.{open-first, open-longer}
+use Rattle.md_judge.proofs.Regathered.{listings-first, listings-longer}
 use Rattle.md_judge.proofs.Reopened.{one-more}
 use Rattle.md_judge.proofs.Housed.{folders-stay, file-housed, also-housed}
 use Rattle.md_judge.proofs.Prefixes.{same-moment, told-longer, finding-longer, finding-none, opening-told}
@@ -61,6 +64,9 @@ remembers-longer lines l n i j low keeps = record {
   filed = filed-longer (name_at j.actor_names) (length j.actor_names) l n i j.watch.files.all.items low keeps.filed;
   clock = keeps.clock ∙ ap (λ (m : Moment). m.now) (sym (same-moment l n i low));
   opens = open-longer l n lines j.actor_names j.known.names i j.listings low keeps.opens;
+  mailed = tells-longer j.known.names l n i j.watch.mail low keeps.mailed;
+  gathers = listings-longer l n lines j.actor_names j.known.names i j.listings low keeps.gathers;
+  acting = acting-longer lines j.actor_names j.known.names.uniques l n i j.watch.actors j.listings low keeps.acting;
 }
 
 -- what it keeps of the beginning it keeps of each log that begins so
@@ -71,6 +77,9 @@ remembers-opening lines l l' j same clock keeps = record {
       (ap (λ (s : State). s.files) same) keeps.filed;
   clock = keeps.clock ∙ sym clock;
   opens = open-first lines lines j.actor_names j.known.names l l' j.listings keeps.opens;
+  mailed = tells-opening j.known.names l l' j.watch.mail (λ p. ap (λ (s : State). file_at s p) same) keeps.mailed;
+  gathers = listings-first lines lines j.actor_names j.known.names l l' j.listings keeps.gathers;
+  acting = acting-first lines j.actor_names j.known.names.uniques l l' j.watch.actors j.watch.actors j.listings refl keeps.acting;
 }
 
 -- ---- findings that are added
@@ -205,6 +214,15 @@ lines-rise number l rises below a b up = by (slice_get l.steps a) (slice_get l.s
     by None (Some y) first last = absurd (none-after l.steps a b y up first last)
     by None None first last = omega (arith, up)
 
+-- and so are lines of steps above 0
+lines-above : (number : ℕ) (l : Log) → 0 < number → ((k : ℕ) (x : Numbered) → slice_get l.steps k ≡ Some x → 0 < x.number)
+    → (a : ℕ) → 0 < line-at number l a
+lines-above number l first above a = by (slice_get l.steps a) refl
+  where
+    by : (o : Option Numbered) → slice_get l.steps a ≡ o → 0 < number-by (number + a) o
+    by (Some x) is = above a x is
+    by None is = omega (arith, first)
+
 module _ (number : ℕ) (l : Log) (x : Step) (s t : Session) (read : HasRead number l s) where
   abbrev one : Numbered
   one = record { number = number; step = x }
@@ -219,6 +237,12 @@ module _ (number : ℕ) (l : Log) (x : Step) (s t : Session) (read : HasRead num
   below-longer k y is = elim (one-more l.steps one k y is) [
     | inl was ↦ let lt = read.below k y was in omega (arith, lt)
     | inr last ↦ let same : number ≡ y.number = ap (λ (z : Numbered). z.number) last.1 in omega (arith, same)
+  ]
+
+  above-longer : (k : ℕ) (y : Numbered) → slice_get longer.steps k ≡ Some y → 0 < y.number
+  above-longer k y is = elim (one-more l.steps one k y is) [
+    | inl was ↦ read.above k y was
+    | inr last ↦ let first = read.first in let same : number ≡ y.number = ap (λ (z : Numbered). z.number) last.1 in omega (arith, first, same)
   ]
 
   rises-longer : (a b : ℕ) (y z : Numbered) → a < b → slice_get longer.steps a ≡ Some y → slice_get longer.steps b ≡ Some z → y.number < z.number
@@ -273,7 +297,7 @@ module _ (number : ℕ) (l : Log) (x : Step) (s t : Session) (read : HasRead num
       → ((lines : ℕ → ℕ) (m : Log) (i : ℕ) → Remembers lines m i s.judge → slice_get m.steps i ≡ Some (record { number = number; step = x })
       → lines i ≡ number → number < 4294967295 → HasFolders (at m i) x.call → Remembers lines m (suc i) t.judge)
       → ((lines : ℕ → ℕ) (m : Log) (i : ℕ) → Remembers lines m i s.judge → slice_get m.steps i ≡ Some (record { number = number; step = x })
-      → lines i ≡ number → number < 4294967295 → ((a b : ℕ) → a < b → lines a < lines b) → HasFolders (at m i) x.call
+      → lines i ≡ number → number < 4294967295 → ((a b : ℕ) → a < b → lines a < lines b) → ((a : ℕ) → 0 < lines a) → HasFolders (at m i) x.call
       → (c : Clause) → IsProved c → AddsFinding c number (Breaks c (turn m i x) × (Has s.judge.allowed c → ⊥)) s t)
       → number < 4294967295 → HasFolders (at l (length l.steps)) x.call → HasRead (suc number) longer t
   step-read keeps told found short there =
@@ -282,7 +306,7 @@ module _ (number : ℕ) (l : Log) (x : Step) (s t : Session) (read : HasRead num
       let there' : HasFolders (at longer i) x.call = subst (λ (st : State). HasFolders st x.call) same there in
       let adds : (c : Clause) → IsProved c → AddsFinding c number (Breaks c (turn longer i x) × (Has s.judge.allowed c → ⊥)) s t =
       found own longer i (told-before own own-lines) (last-is l.steps one) (here own own-lines) short
-      (lines-rise (suc number) longer rises-longer below-longer) there' in
+      (lines-rise (suc number) longer rises-longer below-longer) (lines-above (suc number) longer (omega arith) above-longer) there' in
       let long : suc i ≡ length longer.steps = (let more = length_push l.steps one in omega (arith, more)) in
       record {
         folders = keeps.folders ∙ read.folders;
@@ -291,6 +315,8 @@ module _ (number : ℕ) (l : Log) (x : Step) (s t : Session) (read : HasRead num
         told = λ lines are. subst (λ k. Remembers lines longer k t.judge) long
             (told lines longer i (told-before lines are) (last-is l.steps one) (here lines are) short there');
         rises = rises-longer;
+        above = above-longer;
+        first = omega arith;
         below = below-longer;
         waits = ap (λ (w : Stretch). w.steps.items) keeps.stretch ∙ read.waits;
         moved = ap (λ (w : Stretch). w.moved.entries) keeps.stretch ∙ read.moved;
@@ -306,17 +332,17 @@ module _ (number : ℕ) (l : Log) (x : Step) (s t : Session) (read : HasRead num
       → ((lines : ℕ → ℕ) (m : Log) (i : ℕ) → Remembers lines m i now.judge → slice_get m.steps i ≡ Some (record { number = number; step = x })
       → lines i ≡ number → number < 4294967295 → HasFolders (at m i) x.call → OnOk r (Remembers lines m (suc i) t.judge))
       → ((lines : ℕ → ℕ) (m : Log) (i : ℕ) → Remembers lines m i now.judge → slice_get m.steps i ≡ Some (record { number = number; step = x })
-      → lines i ≡ number → number < 4294967295 → ((a b : ℕ) → a < b → lines a < lines b) → HasFolders (at m i) x.call
+      → lines i ≡ number → number < 4294967295 → ((a b : ℕ) → a < b → lines a < lines b) → ((a : ℕ) → 0 < lines a) → HasFolders (at m i) x.call
       → OnOk r ((c : Clause) → IsProved c → AddsFinding c number (Breaks c (turn m i x) × (Has now.judge.allowed c → ⊥)) now t))
       → number < 4294967295 → HasFolders (at l (length l.steps)) x.call → OnOk r (HasRead (suc number) longer t)
   step-read-on now same r keeps told found short there = on-ok-by r (HasRead (suc number) longer t) (λ holds.
       step-read (subst (λ (v : Session). KeepsHead v t) same (holds (KeepsHead now t) keeps))
       (λ lines m i was is at-line low in-folder. holds (Remembers lines m (suc i) t.judge)
       (told lines m i (subst (λ (v : Session). Remembers lines m i v.judge) (sym same) was) is at-line low in-folder))
-      (λ lines m i was is at-line low rises in-folder.
+      (λ lines m i was is at-line low rises above in-folder.
       subst (λ (v : Session). (c : Clause) → IsProved c → AddsFinding c number (Breaks c (turn m i x) × (Has v.judge.allowed c → ⊥)) v t) same
       (holds ((c : Clause) → IsProved c → AddsFinding c number (Breaks c (turn m i x) × (Has now.judge.allowed c → ⊥)) now t)
-      (found lines m i (subst (λ (v : Session). Remembers lines m i v.judge) (sym same) was) is at-line low rises in-folder)))
+      (found lines m i (subst (λ (v : Session). Remembers lines m i v.judge) (sym same) was) is at-line low rises above in-folder)))
       short there)
 
 -- ---- one more line of the beginning
@@ -341,7 +367,9 @@ module _ (number : ℕ) (l l' : Log) (s t : Session) (read : HasRead number l s)
         subst (λ (xs : List Numbered). Remembers lines l (length xs) s.judge) none (read.told lines before) in
         subst (λ (xs : List Numbered). Remembers lines l' (length xs) t.judge) (sym still) (told lines (omega (arith, early)) was);
     rises = λ a b y z up first last. absurd (no-step l'.steps still a y first);
+    above = λ k y is. absurd (no-step l'.steps still k y is);
     below = λ k y is. absurd (no-step l'.steps still k y is);
+    first = omega arith;
     waits = ap (λ (w : Stretch). w.steps.items) stretch ∙ read.waits;
     moved = ap (λ (w : Stretch). w.moved.entries) stretch ∙ read.moved;
     allowed = allowed;
@@ -359,6 +387,8 @@ over-read number l s read = record {
   housed = read.housed;
   told = λ lines are. read.told lines (record { steps = are.steps; opening = λ none. let early = are.opening none in omega (arith, early) });
   rises = read.rises;
+  above = read.above;
+  first = omega arith;
   below = λ k y is. let lt = read.below k y is in omega (arith, lt);
   waits = read.waits;
   moved = read.moved;

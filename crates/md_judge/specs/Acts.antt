@@ -45,6 +45,12 @@ pub record IsOfPath (names : Names) (t : Turn) (act : Act) (p : Path) : Type 0 w
   pub of : IsSpotOf names p spot
   pub file : act.file ≡ file_at t.old p
 
+-- the act names the path that the call names first
+abbrev pub NamesFirst : Names → Call → Act → Type 0
+NamesFirst names (call.At d p r) act = (s : Spot) × (act.spot ≡ Some s) × IsSpotOf names p s
+NamesFirst names (call.Between n p q r) act = (s : Spot) × (act.spot ≡ Some s) × IsSpotOf names p s
+NamesFirst names c act = Unit {0}
+
 -- A step did to paths what its act says, at which these spots stand for paths: the change leads from the paths before the step to those
 -- after it, and its spots are those of their paths.
 pub record IsDone (path : Spot → Path) (names : Names) (t : Turn) (act : Act) : Type 0 where

@@ -133,8 +133,9 @@ RecallsSo line t first folder unique said.Failed k = (k.about.is_changed ≡ tru
     ↔ ((j : ℕ) × (x : Step) × IsOwn t.log first t.i t.step.actor j x × ChangesMessage t.log j folder unique)
 RecallsSo line t first folder unique said.NotThere k = RecallsPresence line (λ j. IsThere (at t.log j) folder unique) t.i k.message
 
--- A step answers so, its span begins with this step, the lines of steps rise, and what is kept is what the log tells.
-pub record IsClaim (line : ℕ → ℕ) (first i folder : ℕ) (unique : List ℕ) (l : Log) (x : Step) (k : Claim) : Type 0 where
+-- A step answers so, its span begins with this step, the lines of steps rise, and what is kept of the actor's calls on the message, of its
+-- readings of the folder and of whether the message is there is what the log tells.
+pub record IsAnswerOf (line : ℕ → ℕ) (first i folder : ℕ) (unique : List ℕ) (l : Log) (x : Step) (k : Claim) : Type 0 where
   pub call : x.call ≡ call.Answer k.said folder unique
   pub span : IsSpan l first i x.actor folder unique
   pub rises : (a b : ℕ) → a < b → line a < line b
@@ -143,6 +144,10 @@ pub record IsClaim (line : ℕ → ℕ) (first i folder : ℕ) (unique : List �
   pub acts : RecallsActs line (turn l i x) first folder unique k.about
   pub looks : IsLastLine line (IsLook (turn l i x) folder) k.looked
   pub there : (0 < count_of k.message) ↔ IsThere (at l i) folder unique
+
+-- So it is, and what is kept of what the answer says is what the log tells.
+pub record IsClaim (line : ℕ → ℕ) (first i folder : ℕ) (unique : List ℕ) (l : Log) (x : Step) (k : Claim) : Type 0 where
+  pub answer : IsAnswerOf line first i folder unique l x k
   pub so : RecallsSo line (turn l i x) first folder unique k.said k
 
 -- the clause is broken by an answer

@@ -37,10 +37,21 @@ Keeps c old new = Has new.broken c ↔ Has old.broken c
 abbrev pub NotesOne : Clause → Type 0 → Found → Found → Type 0
 NotesOne c P old new = Has new.broken c ↔ (Has old.broken c ⊎ P)
 
--- Of the clauses that go by the paths of a step nothing else is found than before.
+-- Of the clauses that go by answers nothing else is found than before.
+pub record KeepsAnswers (old new : Found) : Type 0 where
+  pub gave_up : Keeps clause.GaveUp old new
+  pub falsely : Keeps clause.AnsweredFalsely old new
+
+-- Of the clauses that go by the paths of a step, and of those that go by answers, nothing else is found than before.
 pub record KeepsPaths (old new : Found) : Type 0 where
   pub wrong : Keeps clause.NotADirectory old new
   pub overwrites : Keeps clause.Overwritten old new
+  pub answers : KeepsAnswers old new
+
+-- Of the clauses that go by paths of messages that are added nothing else is found than before.
+pub record KeepsAdded (old new : Found) : Type 0 where
+  pub two : Keeps clause.TwoNames old new
+  pub again : Keeps clause.UsedAgain old new
 
 -- the clause goes by what was done to files
 abbrev pub GoesByFiles : Clause → Type 0

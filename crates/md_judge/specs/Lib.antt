@@ -14,8 +14,13 @@ pub mod Claims
 pub mod Listings
 pub mod Readings
 pub mod Open
+pub mod Gathered
 pub mod Moments
 pub mod Recalled
 pub mod Acts
 pub mod Filed
+pub mod Copies
+pub mod Mailed
+pub mod Timed
+pub mod Actors
 pub mod Verdict

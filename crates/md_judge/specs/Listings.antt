@@ -39,10 +39,14 @@ was_in m first last = (nat_lt 0 m.count && nat_le m.since first) || was_through 
 abbrev pub message_cmp : ℕ × ℕ → ℕ × ℕ → Ordering
 message_cmp a b = ordering_then (nat_cmp a.0 b.0) (nat_cmp a.1 b.1)
 
+-- the message is one of this folder; the last number is the folder of a message that is none
+abbrev pub is_of : Message → ℕ → Bool
+is_of m folder = (m.folder == folder) && not (folder == 4294967295)
+
 -- the first of two messages, where it is in this folder, and else the other
 abbrev pub first_or : Option Message → ℕ → Option Message → Option Message
 first_or None folder other = other
-first_or (Some first) folder other = if first.folder == folder then Some first else other
+first_or (Some first) folder other = if is_of first folder then Some first else other
 
 -- what is kept of a message: by the number of its unique name, in the folder where that came first, and by both in others
 abbrev pub message_of : Mail → ℕ → ℕ → Option Message

@@ -3,6 +3,7 @@ use Rattle.std.specs.Prelude.{ℕ, ◌≡◌, ◌<◌, ◌/◌, ◌%◌, ◌^◌
 use Rattle.md_name.specs.declared.info.Info.{Info}
 use Rattle.md_name.specs.Names.{split_of}
 use Rattle.md_judge.specs.declared.judge.tables.Names.{Names}
+use Rattle.md_judge.specs.Words.{AreApart}
 
 -- the two parts of a number stand for a name: for the unique part and what comes after it, or for a name that is no message's as a whole
 abbrev pub StandFor : Names → List ℕ → Option (List ℕ × Info) → ℕ → ℕ → Type 0
@@ -15,15 +16,21 @@ StandFor names name (Some parts) front ending =
 abbrev pub IsNumber : Names → List ℕ → ℕ → Type 0
 IsNumber names name n = StandFor names name (split_of name) (n / 4294967296) (n % 4294967296)
 
--- Two names have two numbers, and a name has one, which is a word of 64 bits.
+-- Two names have two numbers, and a name has one, which is a word of 64 bits. So have two unique names.
 pub record AreNumbered (names : Names) : Type 0 where
   pub apart : (a b : List ℕ) (n : ℕ) → IsNumber names a n → IsNumber names b n → a ≡ b
   pub one : (a : List ℕ) (m n : ℕ) → IsNumber names a m → IsNumber names a n → m ≡ n
   pub few : (a : List ℕ) (n : ℕ) → IsNumber names a n → n < 2 ^ 64
+  pub uniques : AreApart names.uniques
 
 -- names stand for what they stood for
 abbrev pub KeepNumbers : Names → Names → Type 0
 KeepNumbers old new = (name : List ℕ) (n : ℕ) → IsNumber old name n → IsNumber new name n
+
+-- Unique names keep their numbers, and others may get some: still two of them have two.
+pub record GrowsUniques (old new : Names) : Type 0 where
+  pub keeps : (unique : List ℕ) (u : ℕ) → slice_get old.uniques u ≡ Some unique → slice_get new.uniques u ≡ Some unique
+  pub apart : AreApart old.uniques → AreApart new.uniques
 
 -- the number that is kept of a unique name is that of the name's unique part, where it is a message's
 abbrev pub IsUnique : Names → Option (List ℕ × Info) → Option ℕ → Type 0

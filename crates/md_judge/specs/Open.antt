@@ -18,7 +18,7 @@ use Rattle.md_judge.specs.Listings.{message_cmp, IsIn}
 use Rattle.md_judge.specs.Logs.{Log}
 use Rattle.md_judge.specs.Names.{IsNumber, AreNumbered, KeepNumbers}
 use Rattle.md_judge.specs.Recalled.{IsToldAt}
-use Rattle.md_judge.specs.Told.{at, IsStep, IsPart, Shows}
+use Rattle.md_judge.specs.Told.{at, IsStep, IsPart, IsReading, Shows}
 
 -- ---- what is kept
 
@@ -110,6 +110,14 @@ pub record AreOpen (line : ℕ → ℕ) (actors : List (List ℕ)) (names : Name
   pub unused : (a folder : ℕ) (place : Place) → length actors ≤ a → IsOver (first_in m a folder place) (shows_in m a folder place)
   pub numbered : (j : ℕ) (actor : List ℕ) (folder : ℕ) (place : Place) (r : Reply) → j < i → IsPart l j actor folder place r
       → (a : ℕ) × (slice_get actors a ≡ Some actor)
+
+-- What is kept of a reading at a part of it: the line of its first part, and the numbers of the names that were shown by now.
+pub record IsPartKept (line : ℕ → ℕ) (names : Names) (l : Log) (i : ℕ) (actor : List ℕ) (folder : ℕ) (place : Place) (first : ℕ)
+    (shown : ℕ → Bool) : Type 0 where
+  pub begin : ℕ
+  pub line_is : first ≡ line begin
+  pub reading : IsReading l begin i actor folder place
+  pub names_are : AreNumbersOf names (Shows l begin i actor folder place) shown
 
 -- A step is this part of a reading, the lines of steps rise, and what is kept of paths and of the reading before it is what the log tells.
 pub record IsToldPart (line : ℕ → ℕ) (l : Log) (i : ℕ) (x : Step) (folder : ℕ) (place : Place) (r : Reply) (shown : List (List ℕ)) (known : Known)

@@ -8,10 +8,13 @@ use Rattle.md_log.specs.declared.line.Line.TheVariants as line
 use Rattle.md_judge.specs.declared.log.Finding.{Finding}
 use Rattle.md_judge.specs.declared.session.Session.{Session}
 use Rattle.md_judge.specs.declared.judge.Judge.{Judge}
+use Rattle.md_judge.specs.Actors.{AreActing}
 use Rattle.md_judge.specs.Filed.{AreFiled, name_at}
 use Rattle.md_judge.specs.Found.{Has}
+use Rattle.md_judge.specs.Gathered.{AreGathered}
 use Rattle.md_judge.specs.Law.{IsAllowed, IsFinding}
 use Rattle.md_judge.specs.Logs.{Log, Numbered, empty_log, has_begun, log_by}
+use Rattle.md_judge.specs.Mailed.{TellsMail}
 use Rattle.md_judge.specs.Open.{AreOpen}
 use Rattle.md_judge.specs.Recalled.{IsToldAt}
 use Rattle.md_judge.specs.Told.{moment}
@@ -23,8 +26,11 @@ IsProved clause.Overwritten = Unit {0}
 IsProved clause.SeenBeforeWhole = Unit {0}
 IsProved clause.Mixed = Unit {0}
 IsProved clause.NotFlushed = Unit {0}
+IsProved clause.TwoNames = Unit {0}
+IsProved clause.UsedAgain = Unit {0}
 IsProved clause.MovedBack = Unit {0}
 IsProved clause.CleanedEarly = Unit {0}
+IsProved clause.GaveUp = Unit {0}
 IsProved c = ⊥
 
 -- no step of the log has ticks
@@ -35,12 +41,16 @@ HasNoTicks l = (k : ℕ) (x : Numbered) → slice_get l.steps k ≡ Some x → x
 abbrev pub IsAmong : List Finding → ℕ → Clause → Type 0
 IsAmong found number c = (k : ℕ) × (f : Finding) × (slice_get found k ≡ Some f) × (f.line ≡ number) × (f.clause ≡ c)
 
--- What the judge keeps of paths, of files, of the clock and of readings that go on is what a log tells at a moment.
+-- What the judge keeps of paths, of files, of the clock, of messages, of readings and listings that go on and of actors is what a log tells
+-- at a moment.
 pub record Remembers (lines : ℕ → ℕ) (l : Log) (i : ℕ) (j : Judge) : Type 0 where
   pub told : IsToldAt lines l i j.known
   pub filed : AreFiled (name_at j.actor_names) (length j.actor_names) l i j.watch.files.all.items
   pub clock : j.known.clock ≡ (moment l i).now
   pub opens : AreOpen lines j.actor_names j.known.names l i j.listings
+  pub mailed : TellsMail j.known.names l i j.watch.mail
+  pub gathers : AreGathered lines j.actor_names j.known.names l i j.listings
+  pub acting : AreActing lines j.actor_names j.known.names.uniques l i j.watch.actors j.listings
 
 -- Lines are numbered as a log has them that was read up to this line, which is the next: each step has its line, and before the first
 -- step come the lines of the beginning.
@@ -48,14 +58,16 @@ pub record AreLinesOf (number : ℕ) (l : Log) (lines : ℕ → ℕ) : Type 0 wh
   pub steps : (k : ℕ) (x : Numbered) → slice_get l.steps k ≡ Some x → lines k ≡ x.number
   pub opening : l.steps ≡ [] → number ≤ lines 0
 
--- A session has read the lines before this one, which are this log, and no step waits or was moved. The lines of its steps rise.
+-- A session has read the lines before this one, which are this log, and no step waits or was moved. The lines of its steps rise from 1 on.
 pub record HasRead (number : ℕ) (l : Log) (s : Session) : Type 0 where
   pub folders : s.folders ≡ l.folders
   pub begun : s.has_begun ≡ has_begun l
   pub housed : l.opening.folders ≡ length l.folders
   pub told : (lines : ℕ → ℕ) → AreLinesOf number l lines → Remembers lines l (length l.steps) s.judge
   pub rises : (a b : ℕ) (x y : Numbered) → a < b → slice_get l.steps a ≡ Some x → slice_get l.steps b ≡ Some y → x.number < y.number
+  pub above : (k : ℕ) (x : Numbered) → slice_get l.steps k ≡ Some x → 0 < x.number
   pub below : (k : ℕ) (x : Numbered) → slice_get l.steps k ≡ Some x → x.number < number
+  pub first : 0 < number
   pub waits : s.stretch.steps.items ≡ []
   pub moved : s.stretch.moved.entries ≡ []
   pub allowed : (c : Clause) → IsProved c → Has s.judge.allowed c ↔ IsAllowed l c

@@ -32,6 +32,10 @@ hash_of word = folding.finish (folding.write folding.initial word) % 4294967296
 abbrev pub AreApart : List (List ℕ) → Type 0
 AreApart words = (m n : ℕ) (word : List ℕ) → slice_get words m ≡ Some word → slice_get words n ≡ Some word → m ≡ n
 
+-- words stand for what they stood for
+abbrev pub KeepWords : List (List ℕ) → List (List ℕ) → Type 0
+KeepWords old new = (n : ℕ) (word : List ℕ) → slice_get old n ≡ Some word → slice_get new n ≡ Some word
+
 -- a number is put for the word under its hash, or under itself
 abbrev pub Finds : Index → List ℕ → ℕ → Type 0
 Finds index word n = (get nat_cmp index.by_hash (hash_of word) ≡ Some n)

@@ -9,12 +9,13 @@ ghost use Rattle.md_log.specs.declared.clause.Clause.{Clause};
 ghost use Rattle.md_log.specs.declared.clause.Clause.TheVariants as clause;
 ghost use Rattle.md_judge.specs.Acts.{ReadsNone};
 ghost use Rattle.md_judge.specs.Found.{Has};
-ghost use Rattle.md_judge.specs.Law.{turn, Breaks, NotADirectory, Overwritten};
+ghost use Rattle.md_judge.specs.Law.{turn, Breaks, NotADirectory, Overwritten, GaveUp};
 ghost use Rattle.md_judge.specs.Told.{at};
 ghost use Rattle.md_judge.specs.Recalled.{IsToldAt, HasFolders};
 ghost use Rattle.md_judge.specs.Verdict.{IsProved, Remembers};
-ghost use Rattle.md_judge.specs.Names.{AreNumbered, KeepNumbers};
+ghost use Rattle.md_judge.specs.Names.{AreNumbered, KeepNumbers, GrowsUniques};
 ghost use Rattle.md_judge.specs.Open.{AreNames, AreOpen, KeepsOpen};
+ghost use Rattle.md_judge.specs.Gathered.{AreGathered};
 
 mod about;
 mod acts;
@@ -147,7 +148,7 @@ impl Judge {
             → self.old.watch.now ≡ line → HasFolders (at l i) step.call → OnOk result (Remembers lines l (suc i) self.new) }
         ensures broken { (lines : ℕ → ℕ) (l : Log) (i : ℕ) → Remembers lines l i self.old
             → slice_get l.steps i ≡ Some (record { number = line; step = step }) → lines i ≡ line → line < 4294967295
-            → self.old.watch.now ≡ line → ((a b : ℕ) → a < b → lines a < lines b) → HasFolders (at l i) step.call
+            → self.old.watch.now ≡ line → ((a b : ℕ) → a < b → lines a < lines b) → ((a : ℕ) → 0 < lines a) → HasFolders (at l i) step.call
             → OnOk result ((c : Clause) → IsProved c → Has self.new.watch.found.broken c ↔ Breaks c (turn l i step)) }
         ensures overwritten { (lines : ℕ → ℕ) (l : Log) (i : ℕ) → IsToldAt lines l i self.old.known
             → slice_get l.steps i ≡ Some (record { number = line; step = step }) → lines i ≡ line → line < 4294967295
@@ -160,16 +161,26 @@ impl Judge {
             → AreOpen lines self.old.actor_names self.old.known.names l i self.old.listings
             → slice_get l.steps i ≡ Some (record { number = line; step = step }) → lines i ≡ line → self.old.watch.now ≡ line
             → OnOk result (AreOpen lines self.new.actor_names self.new.known.names l (suc i) self.new.listings) }
+        ensures gathers { (lines : ℕ → ℕ) (l : Log) (i : ℕ)
+            → AreOpen lines self.old.actor_names self.old.known.names l i self.old.listings
+            → AreGathered lines self.old.actor_names self.old.known.names l i self.old.listings
+            → slice_get l.steps i ≡ Some (record { number = line; step = step }) → lines i ≡ line → self.old.watch.now ≡ line
+            → OnOk result (AreGathered lines self.new.actor_names self.new.known.names l (suc i) self.new.listings) }
         ensures read { (lines : ℕ → ℕ) (l : Log) (i : ℕ) → IsToldAt lines l i self.old.known
             → AreOpen lines self.old.actor_names self.old.known.names l i self.old.listings
             → slice_get l.steps i ≡ Some (record { number = line; step = step }) → lines i ≡ line → line < 4294967295
             → HasFolders (at l i) step.call → self.old.watch.now ≡ line → ((a b : ℕ) → a < b → lines a < lines b)
             → OnOk result (Has self.new.watch.found.broken clause.NotADirectory ↔ NotADirectory (turn l i step)) }
+        ensures gave_up { (lines : ℕ → ℕ) (l : Log) (i : ℕ) → Remembers lines l i self.old
+            → slice_get l.steps i ≡ Some (record { number = line; step = step }) → lines i ≡ line → line < 4294967295
+            → self.old.watch.now ≡ line → ((a b : ℕ) → a < b → lines a < lines b) → ((a : ℕ) → 0 < lines a)
+            → OnOk result (Has self.new.watch.found.broken clause.GaveUp ↔ GaveUp (turn l i step)) }
         ensures allowed { OnOk result (self.new.allowed ≡ self.old.allowed) }
     {
         let (actor, _) = self.actor_names.number(step.actor.as_slice())?;
         self.actor_names.are_apart();
         self.act = self.known.step(line, &step)?;
+        self.known.names.are_numbered();
         self.watch.begin(actor)?;
         match &step.call {
             Call::List {
@@ -222,6 +233,7 @@ impl Judge {
         ensures known { (lines : ℕ → ℕ) (l : Log) (i : ℕ) → IsToldAt lines l i self.old.known → OnOk result (IsToldAt lines l i self.new.known) }
         ensures numbers { IfOk result (λ numbers. AreNames self.new.known.names names.now numbers.items) }
         ensures keeps { KeepNumbers self.old.known.names self.new.known.names }
+        ensures uniques { OnOk result (GrowsUniques self.old.known.names self.new.known.names) }
         ensures numbered { OnOk result (AreNumbered self.new.known.names) }
         ensures clock { OnOk result (self.new.known.clock ≡ self.old.known.clock) }
         ensures rest { (self.new.watch ≡ self.old.watch) × (self.new.listings ≡ self.old.listings) × (self.new.actor_names ≡ self.old.actor_names) }

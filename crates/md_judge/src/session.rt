@@ -245,7 +245,7 @@ impl Session {
             → HasFolders (at l i) step.call → OnOk result (Remembers lines l (suc i) self.new.judge) }
         ensures found { (lines : ℕ → ℕ) (l : Log) (i : ℕ) → Remembers lines l i self.old.judge
             → slice_get l.steps i ≡ Some (record { number = moment; step = step }) → lines i ≡ moment → moment < 4294967295
-            → ((a b : ℕ) → a < b → lines a < lines b) → HasFolders (at l i) step.call
+            → ((a b : ℕ) → a < b → lines a < lines b) → ((a : ℕ) → 0 < lines a) → HasFolders (at l i) step.call
             → OnOk result ((c : Clause) → IsProved c
             → AddsFinding c line (Breaks c (turn l i step) × (Has self.old.judge.allowed c → ⊥)) self.old self.new) }
     {

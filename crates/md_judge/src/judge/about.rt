@@ -1,6 +1,7 @@
 //! What actors did about messages since they last answered.
-ghost use Rattle.std.specs.Prelude.{◌≡◌, ◌↔◌, IsTrue};
+ghost use Rattle.std.specs.Prelude.{if◌then◌else◌, ◌⊎◌, ◌≡◌, ◌↔◌, ◌<◌, ℕ, Some, None, IsTrue, OnOk, true, length, slice_get, unwrap_or};
 ghost use Rattle.md_judge.specs.Claims.{IsRefused};
+ghost use Rattle.md_judge.specs.Actors.{kept, done_by, begun_by, lines_of, is_about, no_about, IsAnswered, PutsAbout, Tells};
 
 use super::befores::{Mark, Moment, NO_MARK, line_at, mark_of, moment_of};
 use super::mail::Key;
@@ -33,13 +34,18 @@ const NOTHING: About = About {
 
 impl About {
     /// Notes a call on the message.
-    pub(super) fn note_act(&mut self, line: usize, was_refused: bool) {
+    pub(super) fn note_act(&mut self, line: usize, was_refused: bool)
+        ensures act { line < 4294967296 → self.new.act ≡ line }
+        ensures rest { self.new ≡ record self.old { act = self.new.act; was_refused = was_refused } }
+    {
         self.act = mark_of(line);
         self.was_refused = was_refused;
     }
 
     /// Notes a step that changed the message's paths.
-    pub(super) fn note_change(&mut self, line: usize) {
+    pub(super) fn note_change(&mut self, line: usize)
+        ensures { self.new ≡ record self.old { is_changed = true; changed_at = self.new.changed_at } }
+    {
         self.changed_at = mark_of(line);
         self.is_changed = true;
     }
@@ -60,14 +66,13 @@ impl About {
 /// The lines of an actor that matter.
 #[derive(Clone, Copy)]
 struct Lines {
-    /// The first; 0 where there is none.
-    first: usize,
+    first: Option<usize>,
     /// The message of its last line, where that was an answer.
     answered: Option<Key>,
 }
 
 const NO_LINES: Lines = Lines {
-    first: 0,
+    first: None,
     answered: None,
 };
 
@@ -84,7 +89,10 @@ pub(super) struct Actors {
 }
 
 impl Actors {
-    pub(super) fn new(alloc: Global) -> Self {
+    pub(super) fn new(alloc: Global) -> Self
+        ensures begun { (a : ℕ) (k : ℕ × ℕ) → begun_by result a k ≡ None }
+        ensures done { (a : ℕ) (k : ℕ × ℕ) → done_by result a k ≡ no_about }
+    {
         Actors {
             about: Pairs::new(alloc),
             begun: Pairs::new(alloc),
@@ -94,25 +102,61 @@ impl Actors {
     }
 
     /// A line of an actor, which may be its first.
-    pub(super) fn note_line(&mut self, actor: u32, at: usize) -> Result<(), LineFault> {
-        // An actor may have a number before it has a line.
-        for _ in self.lines.len()..=actor as usize {
+    pub(super) fn note_line(&mut self, actor: u32, at: usize) -> Result<(), LineFault>
+        ensures begun { at < 4294967296
+            → OnOk result ((k : ℕ × ℕ) → begun_by self.new actor k ≡ Some (unwrap_or (begun_by self.old actor k) at)) }
+        ensures others { OnOk result ((a : ℕ) (k : ℕ × ℕ) → (a ≡ actor → ⊥) → begun_by self.new a k ≡ begun_by self.old a k) }
+        ensures done { OnOk result (self.new.about ≡ self.old.about) }
+    {
+        let lines = self.lines(actor);
+        self.begin_span(actor, lines.answered, at)?;
+        let lines = Lines {
+            first: Some(lines.first.unwrap_or(at)),
+            answered: None,
+        };
+        self.keep_lines(actor, lines)
+    }
+
+    /// A span about the message begins that the actor's last line was an answer about, where it was one.
+    fn begin_span(&mut self, actor: u32, answered: Option<Key>, at: usize) -> Result<(), LineFault>
+        ensures here { at < 4294967296 → OnOk result ((k : ℕ × ℕ)
+            → kept self.new.begun actor k ≡ (if is_about answered k then Some at else kept self.old.begun actor k)) }
+        ensures others { OnOk result ((a : ℕ) (k : ℕ × ℕ) → (a ≡ actor → ⊥) → kept self.new.begun a k ≡ kept self.old.begun a k) }
+        ensures lines { self.new.lines ≡ self.old.lines }
+        ensures about { self.new.about ≡ self.old.about }
+    {
+        match answered {
+            None => Ok(()),
+            Some(key) => self.begun.insert(actor, key, moment_of(at)),
+        }
+    }
+
+    fn lines(&self, actor: u32) -> Lines
+        ensures { result ≡ lines_of self.now actor }
+    {
+        self.lines.get(actor as usize).copied().unwrap_or(NO_LINES)
+    }
+
+    /// Keeps the lines of an actor, which may have a number before it has a line.
+    fn keep_lines(&mut self, actor: u32, lines: Lines) -> Result<(), LineFault>
+        ensures here { OnOk result (lines_of self.new actor ≡ lines) }
+        ensures others { OnOk result ((a : ℕ) → (a ≡ actor → ⊥) → lines_of self.new a ≡ lines_of self.old a) }
+        ensures begun { self.new.begun ≡ self.old.begun }
+        ensures about { self.new.about ≡ self.old.about }
+    {
+        while self.lines.len() <= actor as usize {
             self.lines.push(NO_LINES)?;
         }
-        let Some(lines) = self.lines.get_mut(actor as usize) else {
-            return Ok(());
-        };
-        if lines.first == 0 {
-            lines.first = at;
-        }
-        if let Some(key) = lines.answered.take() {
-            self.begun.insert(actor, key, moment_of(at))?;
+        if let Some(kept) = self.lines.get_mut(actor as usize) {
+            *kept = lines;
         }
         Ok(())
     }
 
     /// Keeps what the actor did about the message since its last answer.
-    pub(super) fn keep(&mut self, actor: u32, key: Key, about: About) -> Result<(), LineFault> {
+    pub(super) fn keep(&mut self, actor: u32, key: Key, about: About) -> Result<(), LineFault>
+        ensures { OnOk result (PutsAbout actor key about self.old self.new) }
+    {
         self.about.insert(actor, key, about)
     }
 
@@ -123,7 +167,11 @@ impl Actors {
         key: Key,
         to: u32,
         line: usize,
-    ) -> Result<(), LineFault> {
+    ) -> Result<(), LineFault>
+        ensures about { OnOk result (self.new.about ≡ self.old.about) }
+        ensures begun { OnOk result (self.new.begun ≡ self.old.begun) }
+        ensures lines { OnOk result (self.new.lines ≡ self.old.lines) }
+    {
         self.moved.insert(((actor, key), to), line)?;
         Ok(())
     }
@@ -134,27 +182,40 @@ impl Actors {
     }
 
     /// What the actor did about the message since its last answer.
-    pub(super) fn done(&self, actor: u32, key: Key) -> About {
+    pub(super) fn done(&self, actor: u32, key: Key) -> About
+        ensures { result ≡ done_by self.now actor key }
+    {
         self.about.get(actor, key).unwrap_or(NOTHING)
     }
 
     /// The actor answers about the message, so that nothing was done since.
-    pub(super) fn told(&mut self, actor: u32, key: Key) {
+    pub(super) fn told(&mut self, actor: u32, key: Key)
+        ensures { Tells actor key self.old self.new }
+    {
         self.about.remove(actor, key);
         self.begun.remove(actor, key);
+        self.note_answer(actor, key);
+    }
+
+    /// The last line of an actor that has one was an answer about the message.
+    fn note_answer(&mut self, actor: u32, key: Key)
+        ensures here { IsAnswered key (lines_of self.old actor) (lines_of self.new actor) }
+        ensures others { (a : ℕ) → (a ≡ actor → ⊥) → lines_of self.new a ≡ lines_of self.old a }
+        ensures begun { self.new.begun ≡ self.old.begun }
+        ensures about { self.new.about ≡ self.old.about }
+    {
         if let Some(lines) = self.lines.get_mut(actor as usize) {
             lines.answered = Some(key);
         }
     }
 
     /// The first line of the span of an answer.
-    pub(super) fn first_line(&self, actor: u32, key: Key) -> usize {
+    pub(super) fn first_line(&self, actor: u32, key: Key) -> usize
+        ensures { (n : ℕ) → begun_by self.now actor key ≡ Some n → result ≡ n }
+    {
         if let Some(begun) = self.begun.get(actor, key) {
             return begun as usize;
         }
-        match self.lines.get(actor as usize) {
-            None => 0,
-            Some(lines) => lines.first,
-        }
+        self.lines(actor).first.unwrap_or(0)
     }
 }

@@ -6,13 +6,16 @@ ghost use Rattle.md_judge.specs.Told.{ask_at, ask_between};
 ghost use Rattle.md_log.specs.declared.line.Deed.TheVariants as deed;
 ghost use Rattle.md_log.specs.declared.clause.Clause.TheVariants as clause;
 ghost use Rattle.md_judge.specs.Law.{turn, IsWrongReply, reply_by};
-ghost use Rattle.md_judge.specs.Found.{NotesOne, NotesFiles};
+ghost use Rattle.md_judge.specs.Found.{NotesOne, NotesFiles, KeepsAnswers};
 ghost use Rattle.md_judge.specs.Filed.{AreFiled, IsJudged, BrokenByFiles};
 ghost use Rattle.md_judge.specs.Logs.{Log};
+ghost use Rattle.md_judge.specs.Mailed.{TellsMail, NotesAdded};
+ghost use Rattle.md_judge.specs.Timed.{AreTimed};
 ghost use Rattle.md_log.specs.declared.line.Step.{Step};
 ghost use Rattle.md_judge.specs.Changes.{IsOlder, Leads};
 ghost use Rattle.md_judge.specs.Files.{named_by, turned_by};
 ghost use Rattle.md_judge.specs.Known.{EachSpot, IsBelow};
+ghost use Rattle.md_judge.specs.Actors.{NotesAct, acted, acted_at, reply_to_name};
 ghost use Rattle.md_judge.specs.declared.judge.directories.Spot.{Spot};
 
 use super::directories::Spot;
@@ -76,6 +79,17 @@ impl Watch {
         ensures finds { (path : Spot → Path) (who : ℕ → List ℕ) (many i : ℕ) (l : Log) (x : Step) → AreFiled who many l i self.old.files.all.items
             → IsJudged path who many l i x actor call.now known.now act.now
             → OnOk result (NotesFiles (BrokenByFiles (turn l i x)) self.old.found self.new.found) }
+        ensures mailed { (path : Spot → Path) (who : ℕ → List ℕ) (many i : ℕ) (l : Log) (x : Step) → TellsMail known.now.names l i self.old.mail
+            → IsJudged path who many l i x actor call.now known.now act.now → OnOk result (TellsMail known.now.names l (suc i) self.new.mail) }
+        ensures timed { (path : Spot → Path) (who : ℕ → List ℕ) (many i : ℕ) (l : Log) (x : Step) (lines : ℕ → ℕ)
+            → TellsMail known.now.names l i self.old.mail → IsJudged path who many l i x actor call.now known.now act.now
+            → AreTimed lines known.now.names l i self.old.mail → ((a b : ℕ) → a < b → lines a < lines b) → self.old.now ≡ lines i
+            → self.old.now < 4294967295 → OnOk result (AreTimed lines known.now.names l (suc i) self.new.mail) }
+        ensures added { (path : Spot → Path) (who : ℕ → List ℕ) (many i : ℕ) (l : Log) (x : Step) → TellsMail known.now.names l i self.old.mail
+            → IsJudged path who many l i x actor call.now known.now act.now → OnOk result (NotesAdded (turn l i x) self.old.found self.new.found) }
+        ensures acts { self.old.now < 4294967296
+            → OnOk result (NotesAct actor self.old.now (acted known.now.names act.now.spot call.now) self.old.actors self.new.actors) }
+        ensures answers { OnOk result (KeepsAnswers self.old.found self.new.found) }
     {
         self.found
             .note(act.is_wrong, Clause::NotADirectory, act.wrong_before);
@@ -84,10 +98,32 @@ impl Watch {
             line: self.now,
         };
         self.files.call(&mut self.found, known, by, call, act)?;
-        if let (Some(spot), Some(reply)) = (act.spot, reply_to_name(call)) {
-            self.note_act(known, actor, spot, reply)?;
-        }
+        self.note_call(known, actor, call, act)?;
         self.change(known, actor, act)
+    }
+
+    /// A call, which may be one on a message by a name of it.
+    fn note_call(
+        &mut self,
+        known: &Known,
+        actor: u32,
+        call: &Call,
+        act: &Act,
+    ) -> Result<(), LineFault>
+        ensures found { OnOk result (self.new.found ≡ self.old.found) }
+        ensures files { OnOk result (self.new.files ≡ self.old.files) }
+        ensures now { OnOk result (self.new.now ≡ self.old.now) }
+        ensures mail { OnOk result (self.new.mail ≡ self.old.mail) }
+        ensures acts { self.old.now < 4294967296
+            → OnOk result (NotesAct actor self.old.now (acted known.now.names act.now.spot call.now) self.old.actors self.new.actors) }
+    {
+        let Some(spot) = act.spot else {
+            return Ok(());
+        };
+        let Some(reply) = reply_to_name(call) else {
+            return Ok(());
+        };
+        self.note_act(known, actor, spot, reply)
     }
 
     /// A call on a message by a name of it.
@@ -100,19 +136,31 @@ impl Watch {
     ) -> Result<(), LineFault>
         ensures found { OnOk result (self.new.found ≡ self.old.found) }
         ensures files { OnOk result (self.new.files ≡ self.old.files) }
+        ensures now { OnOk result (self.new.now ≡ self.old.now) }
+        ensures mail { OnOk result (self.new.mail ≡ self.old.mail) }
+        ensures acts { self.old.now < 4294967296
+            → OnOk result (NotesAct actor self.old.now (acted_at known.now.names spot (Some reply)) self.old.actors self.new.actors) }
     {
         if let Some(unique) = known.unique_at(spot) {
             let key = (spot.folder, unique);
             let mut about = self.actors.done(actor, key);
-            about.note_act(self.now, reply != Reply::Ok);
+            about.note_act(self.now, is_refused(reply));
             self.actors.keep(actor, key, about)?;
         }
         Ok(())
     }
 }
 
+fn is_refused(reply: Reply) -> bool
+    ensures { IsTrue result ↔ (reply ≢ Reply.Ok) }
+{
+    reply != Reply::Ok
+}
+
 /// The reply to a call that acts on a message by a name of it.
-fn reply_to_name(call: &Call) -> Option<Reply> {
+fn reply_to_name(call: &Call) -> Option<Reply>
+    ensures { result ≡ reply_to_name call.now }
+{
     match call {
         Call::At {
             deed: Deed::Unlink,

@@ -1,5 +1,5 @@
 //! The earlier lines that broken clauses go back to.
-ghost use Rattle.std.specs.Prelude.{◌≡◌};
+ghost use Rattle.std.specs.Prelude.{◌≡◌, ◌<◌};
 ghost use Rattle.md_judge.specs.Moments.{kept_moment};
 
 use md_log::Clause;
@@ -21,7 +21,9 @@ pub(super) fn moment_of(moment: usize) -> Moment
 pub(super) const NO_MARK: Mark = 0;
 
 /// The mark of a line. A line past 4,294,967,295 has none.
-pub(super) fn mark_of(line: usize) -> Mark {
+pub(super) fn mark_of(line: usize) -> Mark
+    ensures { line < 4294967296 → result ≡ line }
+{
     u32::try_from(line).unwrap_or(NO_MARK)
 }
 

@@ -1,15 +1,32 @@
 //! Changes of paths: the clauses that they break, and what is kept of them.
-ghost use Rattle.std.specs.Prelude.{◌≡◌, IsSome, OnOk};
+ghost use Rattle.std.specs.Prelude.{◌≡◌, ◌+◌, ℕ, suc, Some, IsSome, OnOk};
+ghost use Rattle.md_dirs.specs.declared.paths.Path.{Path};
 ghost use Rattle.md_log.specs.declared.clause.Clause.TheVariants as clause;
-ghost use Rattle.md_judge.specs.Found.{Keeps, NotesOne, KeepsPaths, KeepsFiles};
+ghost use Rattle.md_log.specs.declared.line.Step.{Step};
+ghost use Rattle.md_judge.specs.declared.judge.directories.Spot.{Spot};
+ghost use Rattle.md_judge.specs.Actors.{KeepsActs};
+ghost use Rattle.md_judge.specs.Acts.{IsDone};
+ghost use Rattle.md_judge.specs.Changes.{Leads};
+ghost use Rattle.md_judge.specs.Files.{unique_in};
+ghost use Rattle.md_judge.specs.Found.{Keeps, NotesOne, KeepsPaths, KeepsFiles, KeepsAdded, KeepsAnswers};
+ghost use Rattle.md_judge.specs.Known.{EachSpot};
+ghost use Rattle.md_judge.specs.Law.{turn};
+ghost use Rattle.md_judge.specs.Logs.{Log};
+ghost use Rattle.md_judge.specs.Listings.{message_of};
+ghost use Rattle.md_judge.specs.Moments.{kept_moment};
+ghost use Rattle.md_judge.specs.Timed.{CameAt, TurnedAt, WentAt, MakesTimes};
+ghost use Rattle.md_judge.specs.Mailed.{AddAt, AddStep, TurnAt, TurnStep, TakeAt, TakeStep, MakeStep, TellsMail, NotesAdded};
+ghost use Rattle.md_judge.specs.Recalled.{IsSpotOf};
+ghost use Rattle.md_judge.specs.Told.{at};
 
 use super::acts::Change;
-use super::befores::line_before;
+use super::befores::{line_before, moment_of};
 use super::comings::{check_added, leaving};
 use super::directories::Spot;
 use super::flags::TRASHED;
 use super::goings::{Going, check_taken};
 use super::known::{Act, Known};
+use super::mail::Move;
 use super::watch::Watch;
 use md_log::{Clause, LineFault};
 
@@ -19,7 +36,13 @@ impl Watch {
         ensures wrong { OnOk result (Keeps clause.NotADirectory self.old.found self.new.found) }
         ensures overwrites { OnOk result (NotesOne clause.Overwritten (IsSome act.now.change.turned) self.old.found self.new.found) }
         ensures others { OnOk result (KeepsFiles self.old.found self.new.found) }
+        ensures answers { OnOk result (KeepsAnswers self.old.found self.new.found) }
         ensures files { OnOk result (self.new.files ≡ self.old.files) }
+        ensures mailed { OnOk result (MakeStep known.now.names act.now.change self.old.mail self.new.mail) }
+        ensures times { OnOk result (MakesTimes known.now.names self.old.now act.now.change self.old.mail self.new.mail) }
+        ensures added { (path : Spot → Path) (l : Log) (i : ℕ) (x : Step) → IsDone path known.now.names (turn l i x) act.now
+            → TellsMail known.now.names l i self.old.mail → OnOk result (NotesAdded (turn l i x) self.old.found self.new.found) }
+        ensures acts { OnOk result (KeepsActs self.old.actors self.new.actors) }
     {
         let change = act.change;
         self.found.note(
@@ -27,25 +50,50 @@ impl Watch {
             Clause::Overwritten,
             act.turned_before,
         );
-        if let Some((spot, file)) = change.added
-            && let Some(unique) = known.unique_at(spot)
-        {
-            let leaving = leaving(known, change.taken, spot.folder, unique);
-            let message = self.mail.message((spot.folder, unique));
-            check_added(&mut self.found, message, file, leaving);
-        }
+        self.check_coming(known, &change);
         self.make(known, actor, change)?;
+        self.check_going(known, &change);
+        Ok(())
+    }
+
+    /// A path, where there is one, is to be added: whether its message is there, or was.
+    fn check_coming(&mut self, known: &Known, change: &Change)
+        ensures paths { KeepsPaths self.old.found self.new.found }
+        ensures others { KeepsFiles self.old.found self.new.found }
+        ensures rest { self.new ≡ record self.old { found = self.new.found } }
+        ensures law { (path : Spot → Path) (l : Log) (i : ℕ) (x : Step) → Leads path change.now (at l i) (at l (suc i))
+            → EachSpot (λ q. IsSpotOf known.now.names (path q) q) change.now → TellsMail known.now.names l i self.old.mail
+            → NotesAdded (turn l i x) self.old.found self.new.found }
+    {
+        let Some((spot, file)) = change.added else {
+            return;
+        };
+        let Some(unique) = known.unique_at(spot) else {
+            return;
+        };
+        let leaving = leaving(known, change.taken, spot.folder, unique);
+        let message = self.mail.message((spot.folder, unique));
+        check_added(&mut self.found, message, file, leaving);
+    }
+
+    /// A path, where there is one, was taken: whether it was a message's that may not go so.
+    fn check_going(&mut self, known: &Known, change: &Change)
+        ensures paths { KeepsPaths self.old.found self.new.found }
+        ensures others { KeepsFiles self.old.found self.new.found }
+        ensures added { KeepsAdded self.old.found self.new.found }
+        ensures rest { self.new ≡ record self.old { found = self.new.found } }
+    {
         if let Some((spot, file)) = change.taken {
             self.check_taken(known, spot, file, change.is_unlink);
         }
-        Ok(())
     }
 
     /// A path was taken: whether it was a message's that may not go so.
     fn check_taken(&mut self, known: &Known, spot: Spot, file: u32, is_unlink: bool)
         ensures paths { KeepsPaths self.old.found self.new.found }
         ensures others { KeepsFiles self.old.found self.new.found }
-        ensures files { self.new.files ≡ self.old.files }
+        ensures added { KeepsAdded self.old.found self.new.found }
+        ensures rest { self.new ≡ record self.old { found = self.new.found } }
     {
         let Some(unique) = known.unique_at(spot) else {
             return;
@@ -75,24 +123,83 @@ impl Watch {
     fn make(&mut self, known: &Known, actor: u32, change: Change) -> Result<(), LineFault>
         ensures found { OnOk result (self.new.found ≡ self.old.found) }
         ensures files { OnOk result (self.new.files ≡ self.old.files) }
+        ensures mailed { OnOk result (MakeStep known.now.names change self.old.mail self.new.mail) }
+        ensures acts { OnOk result (KeepsActs self.old.actors self.new.actors) }
+        ensures times { OnOk result (MakesTimes known.now.names self.old.now change self.old.mail self.new.mail) }
     {
-        if let Some((spot, file)) = change.added {
-            self.note_added(known, actor, spot)?;
-            self.add_path(known, self.now.saturating_add(1), spot, file)?;
-        }
-        if let Some((spot, old, new)) = change.turned {
-            self.turn_path(known, actor, spot, old, new)?;
-        }
-        if let Some((spot, file)) = change.taken {
-            self.take_path(known, spot, file)?;
-            self.note_taken(known, actor, spot, change.is_unlink)?;
-        }
-        Ok(())
+        self.add(known, actor, change.added)?;
+        self.turn(known, actor, change.turned)?;
+        self.take(known, actor, change.taken, change.is_unlink)
+    }
+
+    fn add(
+        &mut self,
+        known: &Known,
+        actor: u32,
+        added: Option<(Spot, u32)>,
+    ) -> Result<(), LineFault>
+        ensures found { OnOk result (self.new.found ≡ self.old.found) }
+        ensures files { OnOk result (self.new.files ≡ self.old.files) }
+        ensures mailed { OnOk result (AddStep known.now.names added self.old.mail self.new.mail) }
+        ensures acts { OnOk result (KeepsActs self.old.actors self.new.actors) }
+        ensures times { OnOk result ((folder u : ℕ) → CameAt known.now.names (kept_moment (self.old.now + 1)) added folder u
+            (message_of self.old.mail folder u) (message_of self.new.mail folder u)) }
+        ensures now { OnOk result (self.new.now ≡ self.old.now) }
+    {
+        let Some((spot, file)) = added else {
+            return Ok(());
+        };
+        self.note_added(known, actor, spot)?;
+        self.add_path(known, self.now.saturating_add(1), spot, file)
+    }
+
+    fn turn(
+        &mut self,
+        known: &Known,
+        actor: u32,
+        turned: Option<(Spot, u32, u32)>,
+    ) -> Result<(), LineFault>
+        ensures found { OnOk result (self.new.found ≡ self.old.found) }
+        ensures files { OnOk result (self.new.files ≡ self.old.files) }
+        ensures mailed { OnOk result (TurnStep known.now.names turned self.old.mail self.new.mail) }
+        ensures acts { OnOk result (KeepsActs self.old.actors self.new.actors) }
+        ensures times { OnOk result ((folder u : ℕ) → TurnedAt known.now.names turned folder u
+            (message_of self.old.mail folder u) (message_of self.new.mail folder u)) }
+        ensures now { OnOk result (self.new.now ≡ self.old.now) }
+    {
+        let Some((spot, old, new)) = turned else {
+            return Ok(());
+        };
+        self.turn_path(known, actor, spot, old, new)
+    }
+
+    fn take(
+        &mut self,
+        known: &Known,
+        actor: u32,
+        taken: Option<(Spot, u32)>,
+        is_unlink: bool,
+    ) -> Result<(), LineFault>
+        ensures found { OnOk result (self.new.found ≡ self.old.found) }
+        ensures files { OnOk result (self.new.files ≡ self.old.files) }
+        ensures mailed { OnOk result (TakeStep known.now.names taken self.old.mail self.new.mail) }
+        ensures acts { OnOk result (KeepsActs self.old.actors self.new.actors) }
+        ensures times { OnOk result ((folder u : ℕ) → WentAt known.now.names self.old.now taken folder u
+            (message_of self.old.mail folder u) (message_of self.new.mail folder u)) }
+    {
+        let Some((spot, file)) = taken else {
+            return Ok(());
+        };
+        self.take_path(known, spot, file)?;
+        self.note_taken(known, actor, spot, is_unlink)
     }
 
     fn note_added(&mut self, known: &Known, actor: u32, spot: Spot) -> Result<(), LineFault>
         ensures found { OnOk result (self.new.found ≡ self.old.found) }
         ensures files { OnOk result (self.new.files ≡ self.old.files) }
+        ensures now { OnOk result (self.new.now ≡ self.old.now) }
+        ensures mail { OnOk result (self.new.mail ≡ self.old.mail) }
+        ensures acts { OnOk result (KeepsActs self.old.actors self.new.actors) }
     {
         if let Some(unique) = known.unique_at(spot) {
             let key = (spot.folder, unique);
@@ -114,6 +221,8 @@ impl Watch {
     ) -> Result<(), LineFault>
         ensures found { OnOk result (self.new.found ≡ self.old.found) }
         ensures files { OnOk result (self.new.files ≡ self.old.files) }
+        ensures mail { OnOk result (self.new.mail ≡ self.old.mail) }
+        ensures acts { OnOk result (KeepsActs self.old.actors self.new.actors) }
     {
         let Some(unique) = known.unique_at(spot) else {
             return Ok(());
@@ -144,12 +253,18 @@ impl Watch {
     ) -> Result<(), LineFault>
         ensures found { OnOk result (self.new.found ≡ self.old.found) }
         ensures files { OnOk result (self.new.files ≡ self.old.files) }
+        ensures now { OnOk result (self.new.now ≡ self.old.now) }
+        ensures mailed { OnOk result (AddAt (unique_in known.now.names spot) spot file self.old.mail self.new.mail) }
+        ensures actors { OnOk result (self.new.actors ≡ self.old.actors) }
+        ensures times { OnOk result ((folder u : ℕ) → CameAt known.now.names (kept_moment at) (Some (spot, file)) folder u
+            (message_of self.old.mail folder u) (message_of self.new.mail folder u)) }
     {
         let Some(unique) = known.unique_at(spot) else {
             return Ok(());
         };
         let key = (spot.folder, unique);
-        self.mail.add(at, key, file)?;
+        let since = moment_of(at);
+        self.mail.make(key, Move::Comes { since, file })?;
         if let Some(flags) = known.other_flags(spot) {
             self.mail.hold(at, key, flags)?;
         }
@@ -167,12 +282,17 @@ impl Watch {
     ) -> Result<(), LineFault>
         ensures found { OnOk result (self.new.found ≡ self.old.found) }
         ensures files { OnOk result (self.new.files ≡ self.old.files) }
+        ensures now { OnOk result (self.new.now ≡ self.old.now) }
+        ensures mailed { OnOk result (TurnAt (unique_in known.now.names spot) spot old new self.old.mail self.new.mail) }
+        ensures acts { OnOk result (KeepsActs self.old.actors self.new.actors) }
+        ensures times { OnOk result ((folder u : ℕ) → TurnedAt known.now.names (Some (spot, old, new)) folder u
+            (message_of self.old.mail folder u) (message_of self.new.mail folder u)) }
     {
         let Some(unique) = known.unique_at(spot) else {
             return Ok(());
         };
         let key = (spot.folder, unique);
-        self.mail.turn(key, new)?;
+        self.mail.make(key, Move::Turns { file: new })?;
         let mut about = self.actors.done(actor, key);
         about.note_change(self.now);
         self.actors.keep(actor, key, about)?;
@@ -184,13 +304,17 @@ impl Watch {
     fn take_path(&mut self, known: &Known, spot: Spot, file: u32) -> Result<(), LineFault>
         ensures found { OnOk result (self.new.found ≡ self.old.found) }
         ensures files { OnOk result (self.new.files ≡ self.old.files) }
+        ensures mailed { OnOk result (TakeAt (unique_in known.now.names spot) spot file self.old.mail self.new.mail) }
+        ensures actors { OnOk result (self.new.actors ≡ self.old.actors) }
+        ensures times { OnOk result ((folder u : ℕ) → WentAt known.now.names self.old.now (Some (spot, file)) folder u
+            (message_of self.old.mail folder u) (message_of self.new.mail folder u)) }
     {
         let at = self.now;
         let Some(unique) = known.unique_at(spot) else {
             return Ok(());
         };
         let key = (spot.folder, unique);
-        self.mail.take(at, key)?;
+        self.mail.make(key, Move::Goes { last: at })?;
         if let Some(flags) = known.other_flags(spot) {
             self.mail.unhold(at, key, flags);
         }

@@ -1,10 +1,11 @@
 //! What actors answer about messages, and the clauses that go by it.
 ghost use Rattle.std.specs.Prelude.{◌≡◌, ◌↔◌, ℕ, List, IsTrue};
+ghost use Rattle.md_log.specs.declared.clause.Clause.TheVariants as clause;
 ghost use Rattle.md_log.specs.declared.line.Step.{Step};
 ghost use Rattle.md_judge.specs.Logs.{Log};
-ghost use Rattle.md_judge.specs.Law.{turn, IsSuccess};
-ghost use Rattle.md_judge.specs.Found.{Notes};
-ghost use Rattle.md_judge.specs.Claims.{count_of, HasLooked, GivesUp, WasHeld, HasMoved, WasAbsent, IsUpheld, ClaimFinds, IsClaim, BrokenByClaim};
+ghost use Rattle.md_judge.specs.Law.{turn, IsSuccess, GaveUp};
+ghost use Rattle.md_judge.specs.Found.{Notes, NotesOne};
+ghost use Rattle.md_judge.specs.Claims.{count_of, HasLooked, GivesUp, WasHeld, HasMoved, WasAbsent, IsUpheld, ClaimFinds, IsAnswerOf, IsClaim, BrokenByClaim};
 
 use super::about::About;
 use super::befores::{line_at, line_before};
@@ -125,6 +126,8 @@ pub(super) fn check_claim(found: &mut Found, claim: &Claim)
     ensures finds { Notes (ClaimFinds claim.now) found.old found.new }
     ensures law { (line : ℕ → ℕ) (first i folder : ℕ) (unique : List ℕ) (l : Log) (x : Step)
         → IsClaim line first i folder unique l x claim.now → Notes (BrokenByClaim (turn l i x)) found.old found.new }
+    ensures gives_up { (line : ℕ → ℕ) (first i folder : ℕ) (unique : List ℕ) (l : Log) (x : Step)
+        → IsAnswerOf line first i folder unique l x claim.now → NotesOne clause.GaveUp (GaveUp (turn l i x)) found.old found.new }
 {
     found.note(claim.gives_up(), Clause::GaveUp, claim.about.act_line());
     found.note(claim.is_false(), Clause::AnsweredFalsely, claim.denied_by());

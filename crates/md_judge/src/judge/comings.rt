@@ -1,5 +1,5 @@
 //! Paths of messages that come, and the clauses that go by their messages.
-ghost use Rattle.std.specs.Prelude.{ℕ};
+ghost use Rattle.std.specs.Prelude.{◌≡◌, ℕ};
 ghost use Rattle.std.specs.Option.{option_copied};
 ghost use Rattle.md_dirs.specs.declared.paths.Path.{Path};
 ghost use Rattle.md_log.specs.declared.line.Step.{Step};
@@ -9,6 +9,7 @@ ghost use Rattle.md_judge.specs.Logs.{Log};
 ghost use Rattle.md_judge.specs.Law.{turn};
 ghost use Rattle.md_judge.specs.Found.{Notes};
 ghost use Rattle.md_judge.specs.Messages.{AddFinds, IsAddition, BrokenByAdding};
+ghost use Rattle.md_judge.specs.Mailed.{leaving_of};
 
 use super::befores::line_before;
 use super::directories::Spot;
@@ -39,7 +40,9 @@ pub(super) fn check_added(found: &mut Found, message: Option<&Message>, file: u3
 }
 
 /// How many paths of a message go with a path that is taken: one or none.
-pub(super) fn leaving(known: &Known, taken: Option<(Spot, u32)>, folder: u32, unique: u32) -> u32 {
+pub(super) fn leaving(known: &Known, taken: Option<(Spot, u32)>, folder: u32, unique: u32) -> u32
+    ensures { result ≡ leaving_of known.now.names taken folder unique }
+{
     match taken {
         Some((spot, _)) if spot.folder == folder && known.unique_at(spot) == Some(unique) => 1,
         _ => 0,

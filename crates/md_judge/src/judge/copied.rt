@@ -1,4 +1,8 @@
 //! Which messages files are copies of.
+ghost use Rattle.std.specs.Prelude.{◌≡◌, ◌↔◌, ◌<◌, ℕ, IsTrue, IfOk, OnOk, slice_get, true};
+ghost use Rattle.md_judge.specs.Copies.{copies_by, copies_of, is_place};
+ghost use Rattle.md_judge.specs.Mailed.{Recounts, one_more, one_fewer};
+
 use md_log::LineFault;
 use std::alloc::Global;
 use std::collections::BTreeMap;
@@ -23,7 +27,9 @@ pub(super) struct Copied {
 }
 
 impl Copied {
-    pub(super) fn new(alloc: Global) -> Self {
+    pub(super) fn new(alloc: Global) -> Self
+        ensures { (n u : ℕ) → copies_of result n u ≡ 0 }
+    {
         Copied {
             first: Vec::new(alloc),
             others: BTreeMap::new(alloc),
@@ -31,11 +37,10 @@ impl Copied {
     }
 
     /// Whether the file has a path of a message of the unique name.
-    pub(super) fn has(&self, file: u32, unique: u32) -> bool {
-        if let Some(first) = self.first.get(file as usize)
-            && first.unique == unique
-            && first.count > 0
-        {
+    pub(super) fn has(&self, file: u32, unique: u32) -> bool
+        ensures { IsTrue result ↔ (0 < copies_of self.now file unique) }
+    {
+        if self.first_count(file, unique) > 0 {
             return true;
         }
         match self.others.get(&(file, unique)) {
@@ -44,34 +49,94 @@ impl Copied {
         }
     }
 
+    /// How many paths of messages of the unique name are kept in the file's first place.
+    fn first_count(&self, file: u32, unique: u32) -> u32
+        ensures { result ≡ copies_by (slice_get self.now.first.items file) unique }
+    {
+        match self.first.get(file as usize) {
+            Some(first) if first.unique == unique => first.count,
+            _ => 0,
+        }
+    }
+
     /// One path more. Where the place of the first unique name is free, any name takes it.
-    pub(super) fn add(&mut self, file: u32, unique: u32) -> Result<(), LineFault> {
+    pub(super) fn add(&mut self, file: u32, unique: u32) -> Result<(), LineFault>
+        ensures { OnOk result (Recounts file unique one_more self.old self.new) }
+    {
+        self.make_room(file)?;
+        if self.is_place(file, unique) {
+            return self.add_first(file, unique);
+        }
+        let count = self.others.get(&(file, unique)).copied().unwrap_or(0);
+        self.others.insert((file, unique), one_more(count)?)?;
+        Ok(())
+    }
+
+    /// Whether the file's first place is that of the unique name, or free.
+    fn is_place(&self, file: u32, unique: u32) -> bool
+        ensures { result ≡ is_place (slice_get self.now.first.items file) unique }
+    {
+        match self.first.get(file as usize) {
+            None => false,
+            Some(first) => first.unique == unique || first.count == 0,
+        }
+    }
+
+    /// One path more in the first place, which is the unique name's or free.
+    fn add_first(&mut self, file: u32, unique: u32) -> Result<(), LineFault>
+        ensures { is_place (slice_get self.old.first.items file) unique ≡ true → OnOk result (Recounts file unique one_more self.old self.new) }
+    {
+        if let Some(first) = self.first.get_mut(file as usize) {
+            first.unique = unique;
+            first.count = one_more(first.count)?;
+        }
+        Ok(())
+    }
+
+    /// The file has a place for the first unique name.
+    fn make_room(&mut self, file: u32) -> Result<(), LineFault>
+        ensures { OnOk result ((n u : ℕ) → copies_of self.new n u ≡ copies_of self.old n u) }
+    {
         for _ in self.first.len()..=file as usize {
             self.first.push(NO_COPIES)?;
         }
-        if let Some(first) = self.first.get_mut(file as usize)
-            && (first.unique == unique || first.count == 0)
-        {
-            first.unique = unique;
-            first.count = first.count.saturating_add(1);
-            return Ok(());
-        }
-        let count = self.others.entry((file, unique))?.or_insert(0);
-        *count = count.saturating_add(1);
         Ok(())
     }
 
     /// One path fewer.
-    pub(super) fn remove(&mut self, file: u32, unique: u32) {
-        if let Some(first) = self.first.get_mut(file as usize)
-            && first.unique == unique
-            && first.count > 0
-        {
-            first.count -= 1;
-            return;
+    pub(super) fn remove(&mut self, file: u32, unique: u32)
+        ensures { Recounts file unique one_fewer self.old self.new }
+    {
+        if self.first_count(file, unique) == 0 {
+            self.remove_other(file, unique);
+        } else {
+            self.remove_first(file, unique);
         }
+    }
+
+    fn remove_first(&mut self, file: u32, unique: u32)
+        ensures { 0 < copies_by (slice_get self.old.first.items file) unique → Recounts file unique one_fewer self.old self.new }
+    {
+        if let Some(first) = self.first.get_mut(file as usize) {
+            first.count = first.count.saturating_sub(1);
+        }
+    }
+
+    fn remove_other(&mut self, file: u32, unique: u32)
+        ensures { copies_by (slice_get self.old.first.items file) unique ≡ 0 → Recounts file unique one_fewer self.old self.new }
+    {
         if let Some(count) = self.others.get_mut(&(file, unique)) {
             *count = count.saturating_sub(1);
         }
+    }
+}
+
+/// A count with one more. More than 4,294,967,295 are not counted.
+fn one_more(count: u32) -> Result<u32, LineFault>
+    ensures { IfOk result (λ more. more ≡ one_more count) }
+{
+    match count {
+        u32::MAX => Err(LineFault::NoMemory),
+        count => Ok(count + 1),
     }
 }

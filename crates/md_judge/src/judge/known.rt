@@ -1,5 +1,5 @@
 //! What is known of the directories: the files at paths, how many files were made, and the clock.
-ghost use Rattle.std.specs.Prelude.{◌≡◌, ◌+◌, ◌<◌, ◌⊎◌, ℕ, suc, Some, Ok, true, length, max, slice_get, OnOk, IfOk, IfErr};
+ghost use Rattle.std.specs.Prelude.{◌≡◌, ◌+◌, ◌<◌, ◌⊎◌, [], ℕ, suc, Some, Ok, true, length, max, slice_get, OnOk, IfOk, IfErr};
 ghost use Rattle.md_dirs.specs.State.{State, file_at, has_folder};
 ghost use Rattle.md_dirs.specs.declared.paths.Path.{Path};
 ghost use Rattle.md_log.specs.declared.error.LineFault.TheVariants.{NoMemory, SamePath, NoSuchPath};
@@ -9,12 +9,12 @@ ghost use Rattle.md_judge.specs.Told.{at, ask_at, ask_between, after_ask, after_
 ghost use Rattle.md_log.specs.declared.line.Step.{Step};
 ghost use Rattle.md_log.specs.declared.line.Call.TheVariants as call;
 ghost use Rattle.md_judge.specs.Law.{turn};
-ghost use Rattle.md_judge.specs.Acts.{IsActOf, Does, ReadsNone};
+ghost use Rattle.md_judge.specs.Acts.{IsActOf, Does, NamesFirst, ReadsNone};
 ghost use Rattle.md_judge.specs.Changes.{IsOlder, Leads};
 ghost use Rattle.md_judge.specs.Files.{unique_in, is_message_in};
 ghost use Rattle.md_judge.specs.Known.{EachSpot, IsBelow, files_after, Stands, Holds, Leaves};
 ghost use Rattle.md_judge.specs.Moments.{IsKnownAt, GoesOn};
-ghost use Rattle.md_judge.specs.Names.{AreNumbered, KeepNumbers};
+ghost use Rattle.md_judge.specs.Names.{AreNumbered, KeepNumbers, GrowsUniques};
 ghost use Rattle.md_judge.specs.Recalled.{IsSpotOf, IsToldAt, HasFolders, Agrees};
 
 use super::acts::{
@@ -64,6 +64,7 @@ impl Known {
     pub(super) fn new(alloc: Global) -> Self
         ensures told { (lines : ℕ → ℕ) → IsToldAt lines empty_log 0 result }
         ensures clock { result.clock ≡ 0 }
+        ensures uniques { result.names.uniques ≡ [] }
     {
         Known {
             names: Names::new(alloc),
@@ -77,6 +78,7 @@ impl Known {
     pub(super) fn spot(&mut self, path: &Path) -> Result<Spot, LineFault>
         ensures spot { IfOk result (λ s. IsSpotOf self.new.names path.now s) }
         ensures keeps { KeepNumbers self.old.names self.new.names }
+        ensures uniques { OnOk result (GrowsUniques self.old.names self.new.names) }
         ensures numbered { OnOk result (AreNumbered self.new.names) }
         ensures told { (lines : ℕ → ℕ) (l : Log) (i : ℕ) → IsToldAt lines l i self.old → OnOk result (IsToldAt lines l i self.new) }
         ensures clock { self.new.clock ≡ self.old.clock }
@@ -129,7 +131,9 @@ impl Known {
         ensures puts { (lines : ℕ → ℕ) (l : Log) → IsToldAt lines l 0 self.old
             → IfOk result (λ r. IsSpotOf self.new.names path.now r.0 × (r.1 ≡ length (at l 0).files)) }
         ensures clock { OnOk result (self.new.clock ≡ max self.old.clock stamp) }
+        ensures numbered { OnOk result (AreNumbered self.new.names) }
         ensures keeps { KeepNumbers self.old.names self.new.names }
+        ensures uniques { OnOk result (GrowsUniques self.old.names self.new.names) }
         ensures fault { IfErr result (λ e. (e ≡ SamePath) ⊎ (e ≡ NoMemory)) }
     {
         let spot = self.spot(path)?;
@@ -156,7 +160,9 @@ impl Known {
         ensures puts { (lines : ℕ → ℕ) (l : Log) → IsToldAt lines l 0 self.old
             → IfOk result (λ r. IsSpotOf self.new.names path.now r.0 × (file_at (at l 0) old.now ≡ Some r.1)) }
         ensures clock { OnOk result (self.new.clock ≡ self.old.clock) }
+        ensures numbered { OnOk result (AreNumbered self.new.names) }
         ensures keeps { KeepNumbers self.old.names self.new.names }
+        ensures uniques { OnOk result (GrowsUniques self.old.names self.new.names) }
         ensures fault { IfErr result (λ e. (e ≡ SamePath) ⊎ (e ≡ NoSuchPath) ⊎ (e ≡ NoMemory)) }
     {
         let spot = self.spot(path)?;
@@ -185,6 +191,8 @@ impl Known {
         ensures clock { (l : Log) (i : ℕ) → self.old.clock ≡ (moment l i).now → slice_get l.steps i ≡ Some (record { number = line; step = step.now })
             → self.new.clock ≡ (moment l (suc i)).now }
         ensures keeps { KeepNumbers self.old.names self.new.names }
+        ensures uniques { OnOk result (GrowsUniques self.old.names self.new.names) }
+        ensures first { IfOk result (λ act. NamesFirst self.new.names step.now.call act) }
         ensures lists { (ReadsNone step.now.call → ⊥) → self.new ≡ record self.old { clock = self.new.clock } }
     {
         self.clock = self.clock.max(step.moment);
@@ -203,6 +211,8 @@ impl Known {
             → IfOk result (λ act. Does self.new.names (turn l i x) act) }
         ensures clock { self.new.clock ≡ self.old.clock }
         ensures keeps { KeepNumbers self.old.names self.new.names }
+        ensures uniques { OnOk result (GrowsUniques self.old.names self.new.names) }
+        ensures first { IfOk result (λ act. NamesFirst self.new.names call.now act) }
         ensures lists { (ReadsNone call.now → ⊥) → self.new ≡ self.old }
     {
         match call {
@@ -239,6 +249,7 @@ impl Known {
             → x.call ≡ call.At deed p reply → IfOk result (λ act. Does self.new.names (turn l i x) act) }
         ensures clock { self.new.clock ≡ self.old.clock }
         ensures names { self.new.names ≡ self.old.names }
+        ensures spot { IfOk result (λ act. act.spot ≡ Some spot) }
     {
         let file = self.directories.file_at(spot);
         let before = self.directories.last_change(spot);
@@ -280,6 +291,7 @@ impl Known {
             → IfOk result (λ act. Does self.new.names (turn l i x) act) }
         ensures clock { self.new.clock ≡ self.old.clock }
         ensures names { self.new.names ≡ self.old.names }
+        ensures spot { IfOk result (λ act. act.spot ≡ Some old) }
     {
         let file = self.directories.file_at(old);
         let there = self.directories.file_at(new);

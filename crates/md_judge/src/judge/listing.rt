@@ -1,17 +1,19 @@
 //! Readings of directories, and listings.
-ghost use Rattle.std.specs.Prelude.{◌≡◌, ◌<◌, IfSome, ℕ, List, Some, None, OnOk, IfOk, unwrap_or};
+ghost use Rattle.std.specs.Prelude.{◌≡◌, ◌≢◌, ◌<◌, ◌↔◌, IsTrue, IfSome, ℕ, List, Some, None, OnOk, IfOk, unwrap_or};
 ghost use Rattle.std.specs.Ordering.{nat_cmp};
 ghost use Rattle.std.specs.BTreeSet as ordered;
 ghost use Rattle.std.specs.Option.{option_copied, option_map};
 ghost use Rattle.md_dirs.specs.declared.paths.Place.{Place};
 ghost use Rattle.md_log.specs.declared.line.Step.{Step};
 ghost use Rattle.md_judge.specs.Logs.{Log};
-ghost use Rattle.md_judge.specs.Law.{turn, NotADirectory};
+ghost use Rattle.md_judge.specs.Law.{turn, NotADirectory, Unlisted};
 ghost use Rattle.md_log.specs.declared.clause.Clause.TheVariants as clause;
-ghost use Rattle.md_judge.specs.Found.{Notes, NotesOne, Keeps, KeepsPaths, KeepsFiles};
+ghost use Rattle.md_judge.specs.Actors.{NotesLook};
+ghost use Rattle.md_judge.specs.Found.{Notes, NotesOne, Keeps, KeepsPaths, KeepsFiles, KeepsAdded, KeepsAnswers};
 ghost use Rattle.md_judge.specs.declared.judge.directories.Named.{Named};
 ghost use Rattle.md_judge.specs.Readings.{shown_wrongly, lacked, wrong_name, PartFinds, IsPartOf, BrokenByPart};
 ghost use Rattle.md_judge.specs.Open.{reading_of, first_in, shows_in, ShowsMore, IsOver, KeepsPart, IsToldPart};
+ghost use Rattle.md_judge.specs.Gathered.{gathered_of, gathered_in, nothing_gathered, with_read, is_complete, Gathers, EndsReading, KeepsGathered, RecallsGathered, IsMailTold, IsToldEnd};
 ghost use Rattle.md_judge.specs.Listings.{lacking, is_lacking, was_at_each, ListFinds, LeavesOut, IsCompleted, BrokenByListing};
 
 use super::directories::Directory;
@@ -80,7 +82,8 @@ pub(super) struct Listing {
 
 impl Listing {
     fn new(alloc: Global) -> Self
-        ensures { (p : Place) → IsOver (reading_of result p).first (λ n. ordered.contains nat_cmp (reading_of result p).shown n) }
+        ensures over { (p : Place) → IsOver (reading_of result p).first (λ n. ordered.contains nat_cmp (reading_of result p).shown n) }
+        ensures nothing { gathered_of result ≡ nothing_gathered }
     {
         Listing {
             looked: None,
@@ -124,6 +127,8 @@ impl Listing {
             (λ n. ordered.contains nat_cmp (reading_of self.entry.now place).shown n)
             (reading_of self.exit.now place).first (λ n. ordered.contains nat_cmp (reading_of self.exit.now place).shown n)) }
         ensures others { (p : Place) → (p ≡ place → ⊥) → reading_of self.exit.now p ≡ reading_of self.entry.now p }
+        ensures listing { gathered_of self.exit.now ≡ gathered_of self.entry.now }
+        ensures looked { self.exit.now.looked ≡ self.entry.now.looked }
     {
         match place {
             Place::Tmp => self.tmp.show(at, names),
@@ -136,6 +141,9 @@ impl Listing {
     fn take(&mut self, alloc: Global, place: Place) -> Reading
         ensures over { IsOver (reading_of self.exit.now place).first (λ n. ordered.contains nat_cmp (reading_of self.exit.now place).shown n) }
         ensures others { (p : Place) → (p ≡ place → ⊥) → reading_of self.exit.now p ≡ reading_of self.entry.now p }
+        ensures taken { result ≡ reading_of self.entry.now place }
+        ensures listing { gathered_of self.exit.now ≡ gathered_of self.entry.now }
+        ensures looked { self.exit.now.looked ≡ self.entry.now.looked }
     {
         let mut reading = Reading::none(alloc);
         match place {
@@ -154,7 +162,10 @@ impl Listing {
         span: (usize, usize),
         shown: &BTreeSet<Name>,
     ) -> Result<(), LineFault>
-        ensures { (p : Place) → reading_of self.exit.now p ≡ reading_of self.entry.now p }
+        ensures readings { (p : Place) → reading_of self.exit.now p ≡ reading_of self.entry.now p }
+        ensures gathers { OnOk result (Gathers names.now place span (λ n. ordered.contains nat_cmp shown.now n) (gathered_of self.entry.now)
+            (gathered_of self.exit.now)) }
+        ensures looked { self.exit.now.looked ≡ self.entry.now.looked }
     {
         for name in shown.iter() {
             if let Some(unique) = names.facts(*name).unique {
@@ -162,18 +173,32 @@ impl Listing {
             }
         }
         self.spans.push(span)?;
-        self.has_new = self.has_new || place == Place::New;
-        self.has_cur = self.has_cur || place == Place::Cur;
+        self.note_read(place);
         Ok(())
     }
 
-    fn is_complete(&self) -> bool {
+    /// It has read a place.
+    fn note_read(&mut self, place: Place)
+        ensures { self.exit.now ≡ with_read place self.entry.now }
+    {
+        match place {
+            Place::Tmp => {}
+            Place::New => self.has_new = true,
+            Place::Cur => self.has_cur = true,
+        }
+    }
+
+    fn is_complete(&self) -> bool
+        ensures { result ≡ is_complete (gathered_of self.now) }
+    {
         self.has_new && self.has_cur
     }
 
     /// The next reading begins the next listing.
     fn clear(&mut self)
-        ensures { (p : Place) → reading_of self.exit.now p ≡ reading_of self.entry.now p }
+        ensures readings { (p : Place) → reading_of self.exit.now p ≡ reading_of self.entry.now p }
+        ensures nothing { gathered_of self.exit.now ≡ nothing_gathered }
+        ensures looked { self.exit.now.looked ≡ self.entry.now.looked }
     {
         self.has_new = false;
         self.has_cur = false;
@@ -220,6 +245,13 @@ impl Listing {
                 .all(|span| message.was_there(span.0, span.1)),
         }
     }
+}
+
+/// Whether a last part that is answered so completes a reading of new or cur.
+fn is_whole(place: Place, reply: Reply) -> bool
+    ensures { IsTrue result ↔ ((reply ≡ Reply.Ok) × (place ≢ Place.Tmp)) }
+{
+    matches!((place, reply), (Place::New | Place::Cur, Reply::Ok))
 }
 
 /// A listing of a folder is complete: whether it lacks a message that was there at each of its readings.
@@ -318,12 +350,24 @@ impl Watch {
     ) -> Result<(), LineFault>
         ensures overwrites { OnOk result (Keeps clause.Overwritten self.old.found self.new.found) }
         ensures others { OnOk result (KeepsFiles self.old.found self.new.found) }
+        ensures added { OnOk result (KeepsAdded self.old.found self.new.found) }
         ensures files { OnOk result (self.new.files ≡ self.old.files) }
+        ensures mail { OnOk result (self.new.mail ≡ self.old.mail) }
         ensures wrong { (lines : ℕ → ℕ) (l : Log) (i : ℕ) (x : Step) (shown : List (List ℕ))
             → IsToldPart lines l i x folder place reply shown known.now names.now self.old.now
             (first_in listings.old actor folder place) (shows_in listings.old actor folder place)
             → OnOk result (NotesOne clause.NotADirectory (NotADirectory (turn l i x)) self.old.found self.new.found) }
         ensures part { OnOk result (KeepsPart actor folder place reply names.now self.old.now listings.old listings.new) }
+        ensures listing { OnOk result (KeepsGathered known.now.names actor folder place reply names.now self.old.now listings.old listings.new) }
+        ensures unlisted { (lines : ℕ → ℕ) (l : Log) (i : ℕ) (x : Step) (shown : List (List ℕ))
+            → IsToldPart lines l i x folder place reply shown known.now names.now self.old.now
+            (first_in listings.old actor folder place) (shows_in listings.old actor folder place)
+            → RecallsGathered lines known.now.names l i x.actor folder (gathered_in listings.old actor folder)
+            → IsMailTold lines known.now.names l i folder self.old.mail
+            → OnOk result (NotesOne clause.Unlisted (Unlisted (turn l i x)) self.old.found self.new.found) }
+        ensures answers { OnOk result (KeepsAnswers self.old.found self.new.found) }
+        ensures looks { OnOk result (NotesLook actor folder self.old.now listings.old listings.new) }
+        ensures actors { OnOk result (self.new.actors ≡ self.old.actors) }
     {
         let key = (actor, folder);
         let mut listing = match listings.remove(&key) {
@@ -357,12 +401,21 @@ impl Watch {
     ) -> Result<(), LineFault>
         ensures paths { OnOk result (KeepsPaths self.old.found self.new.found) }
         ensures others { OnOk result (KeepsFiles self.old.found self.new.found) }
+        ensures added { OnOk result (KeepsAdded self.old.found self.new.found) }
         ensures files { OnOk result (self.new.files ≡ self.old.files) }
         ensures over { IsOver (reading_of listing.exit.now place).first (λ n. ordered.contains nat_cmp (reading_of listing.exit.now place).shown n) }
         ensures apart { (p : Place) → (p ≡ place → ⊥) → reading_of listing.exit.now p ≡ reading_of listing.entry.now p }
+        ensures ends { OnOk result (EndsReading known.now.names place reply (first, self.old.now)
+            (λ n. ordered.contains nat_cmp (reading_of listing.entry.now place).shown n) (gathered_of listing.entry.now) (gathered_of listing.exit.now)) }
+        ensures unlisted { (lines : ℕ → ℕ) (l : Log) (i : ℕ) (x : Step) → IsToldEnd lines known.now.names l i x folder place reply self.old.now first
+            (λ n. ordered.contains nat_cmp (reading_of listing.entry.now place).shown n) (gathered_of listing.entry.now) self.old.mail
+            → OnOk result (NotesOne clause.Unlisted (Unlisted (turn l i x)) self.old.found self.new.found) }
+        ensures mail { self.new.mail ≡ self.old.mail }
+        ensures looked { listing.exit.now.looked ≡ listing.entry.now.looked }
+        ensures actors { self.new.actors ≡ self.old.actors }
     {
         let done = listing.take(self.alloc, place);
-        if reply != Reply::Ok || place == Place::Tmp {
+        if !is_whole(place, reply) {
             return Ok(());
         }
         listing.finish(&known.names, place, (first, self.now), &done.shown)?;

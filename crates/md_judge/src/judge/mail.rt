@@ -1,8 +1,14 @@
 //! The messages of folders.
-ghost use Rattle.std.specs.Prelude.{◌≡◌, ◌↔◌, IsTrue, slice_get};
-ghost use Rattle.std.specs.Option.{option_copied};
+ghost use Rattle.std.specs.Prelude.{◌≡◌, ◌↔◌, ◌⊎◌, ◌+◌, ◌-◌, ◌<◌, ◌++◌, ◌∷◌, ℕ, List, [], Some, None, IsTrue, IsSome, OnOk, is_some, slice_get, slice_set};
+ghost use Rattle.std.specs.Option.{option_copied, option_map};
+ghost use Rattle.md_judge.specs.Claims.{count_of as count_there};
 ghost use Rattle.md_judge.specs.Messages.{WasFile};
-ghost use Rattle.md_judge.specs.Listings.{was_in, was_through, message_of};
+ghost use Rattle.md_judge.specs.Listings.{is_of, times_of, was_in, was_through, message_of};
+ghost use Rattle.md_judge.specs.declared.judge.mail.Message.{Message};
+ghost use Rattle.md_judge.specs.declared.judge.mail.Presence.{Presence};
+ghost use Rattle.md_judge.specs.Copies.{copies_of};
+ghost use Rattle.md_judge.specs.Timed.{TimedBy, ArePresent};
+ghost use Rattle.md_judge.specs.Mailed.{count_of, count_after, IsBy, Moves, MovesOne, MakesOne, Prepares, KeepsOthers, is_free, is_first, fresh, begun, Recounts, one_more, one_fewer};
 
 use super::befores::{Moment, line_before, moment_of};
 use super::copied::Copied;
@@ -38,8 +44,21 @@ struct Past {
 /// The folder of a message that is none.
 const NO_FOLDER: u32 = u32::MAX;
 
+/// What a step does to a message.
+#[derive(Clone, Copy)]
+pub(super) enum Move {
+    /// It has one more path, which names this file, from a moment on.
+    Comes { since: Moment, file: u32 },
+    /// One of its paths names this file, and named another.
+    Turns { file: u32 },
+    /// It has one path fewer, which was there for the last time at this moment.
+    Goes { last: usize },
+}
+
 impl Message {
-    fn new(folder: u32, since: Moment, file: u32) -> Self {
+    fn new(folder: u32, since: Moment, file: u32) -> Self
+        ensures { result ≡ fresh folder since file }
+    {
         Message {
             folder,
             count: 0,
@@ -49,7 +68,20 @@ impl Message {
         }
     }
 
-    fn past(&mut self, alloc: Global) -> Result<&mut Past, LineFault> {
+    /// Whether it is a message of this folder.
+    fn is_of(&self, folder: u32) -> bool
+        ensures { result ≡ is_of self.now folder }
+    {
+        self.folder == folder && folder != NO_FOLDER
+    }
+
+    /// It has a past from now on, where it had none.
+    fn begin_past(&mut self, alloc: Global) -> Result<(), LineFault>
+        ensures more { OnOk result (self.new ≡ record self.old { more = self.new.more }) }
+        ensures files { OnOk result ((n : ℕ) → WasFile self.new n ↔ WasFile self.old n) }
+        ensures some { OnOk result (IsSome self.new.more) }
+        ensures times { OnOk result (times_of self.new ≡ times_of self.old) }
+    {
         if self.more.is_none() {
             let past = Past {
                 times: Vec::new(alloc),
@@ -57,10 +89,7 @@ impl Message {
             };
             self.more = Some(Box::new(alloc, past)?);
         }
-        match &mut self.more {
-            Some(past) => Ok(past),
-            None => Err(LineFault::NoMemory),
-        }
+        Ok(())
     }
 
     /// Whether it was there from a moment to another, which is no later than now.
@@ -104,10 +133,70 @@ impl Message {
         self.count == 0 && !self.was_file(file)
     }
 
+    /// It makes a move.
+    fn make(&mut self, alloc: Global, step: Move) -> Result<(), LineFault>
+        ensures moves { OnOk result (Moves (count_after step) (IsBy step) (Some self.old) (Some self.new)) }
+        ensures folder { OnOk result (self.new.folder ≡ self.old.folder) }
+        ensures times { OnOk result (TimedBy step (Some self.old) (Some self.new)) }
+    {
+        match step {
+            Move::Comes { since, file } => {
+                self.come(since)?;
+                self.be(alloc, file)
+            }
+            Move::Turns { file } => self.be(alloc, file),
+            Move::Goes { last } => self.go(alloc, last),
+        }
+    }
+
+    /// It has one more path, from a moment on. More than 4,294,967,295 are not counted.
+    fn come(&mut self, since: Moment) -> Result<(), LineFault>
+        ensures rest { OnOk result (self.new ≡ record self.old { count = self.old.count + 1; since = self.new.since }) }
+        ensures begins { OnOk result (self.old.count ≡ 0 → self.new.since ≡ since) }
+        ensures goes_on { OnOk result (0 < self.old.count → self.new.since ≡ self.old.since) }
+    {
+        if self.count == u32::MAX {
+            return Err(LineFault::NoMemory);
+        }
+        if self.count == 0 {
+            self.since = since;
+        }
+        self.count += 1;
+        Ok(())
+    }
+
     /// It is a file.
-    fn be(&mut self, alloc: Global, file: u32) -> Result<(), LineFault> {
-        if !self.was_file(file) {
-            self.past(alloc)?.files.insert(file)?;
+    fn be(&mut self, alloc: Global, file: u32) -> Result<(), LineFault>
+        ensures more { OnOk result (self.new ≡ record self.old { more = self.new.more }) }
+        ensures files { OnOk result ((n : ℕ) → WasFile self.new n ↔ (WasFile self.old n ⊎ (n ≡ file))) }
+        ensures times { OnOk result (times_of self.new ≡ times_of self.old) }
+    {
+        if self.was_file(file) {
+            return Ok(());
+        }
+        self.begin_past(alloc)?;
+        if let Some(past) = &mut self.more {
+            past.files.insert(file)?;
+        }
+        Ok(())
+    }
+
+    /// It has one path fewer: where it has none, the moment was its last.
+    fn go(&mut self, alloc: Global, last: usize) -> Result<(), LineFault>
+        ensures count { OnOk result (self.new.count ≡ self.old.count - 1) }
+        ensures folder { OnOk result (self.new.folder ≡ self.old.folder) }
+        ensures files { OnOk result ((n : ℕ) → WasFile self.new n ↔ WasFile self.old n) }
+        ensures since { OnOk result (self.new.since ≡ self.old.since) }
+        ensures ends { OnOk result (self.new.count ≡ 0 → times_of self.new ≡ times_of self.old ++ (self.old.since, last) ∷ []) }
+        ensures stays { OnOk result (0 < self.new.count → times_of self.new ≡ times_of self.old) }
+    {
+        self.count = self.count.saturating_sub(1);
+        if self.count > 0 {
+            return Ok(());
+        }
+        self.begin_past(alloc)?;
+        if let Some(past) = &mut self.more {
+            past.times.push((self.since as usize, last))?;
         }
         Ok(())
     }
@@ -172,7 +261,10 @@ pub(super) struct Mail {
 }
 
 impl Mail {
-    pub(super) fn new(alloc: Global) -> Self {
+    pub(super) fn new(alloc: Global) -> Self
+        ensures messages { (folder u : ℕ) → message_of result folder u ≡ None }
+        ensures copies { (n u : ℕ) → copies_of result.copied n u ≡ 0 }
+    {
         Mail {
             alloc,
             first: Vec::new(alloc),
@@ -183,7 +275,9 @@ impl Mail {
         }
     }
 
-    pub(super) fn add_folder(&mut self) -> Result<(), LineFault> {
+    pub(super) fn add_folder(&mut self) -> Result<(), LineFault>
+        ensures { self.new ≡ record self.old { present = self.new.present } }
+    {
         self.present.push(BTreeSet::new(self.alloc))?;
         Ok(())
     }
@@ -192,45 +286,150 @@ impl Mail {
         ensures { option_copied result ≡ message_of self.now key.0 key.1 }
     {
         match self.first.get(key.1 as usize) {
-            Some(first) if first.folder == key.0 => Some(first),
+            Some(first) if first.is_of(key.0) => Some(first),
             _ => self.others.get(&key),
         }
     }
 
-    fn message_mut(&mut self, key: Key) -> Option<&mut Message> {
+    /// A step does this to a message.
+    pub(super) fn make(&mut self, key: Key, step: Move) -> Result<(), LineFault>
+        ensures moves { OnOk result (MovesOne key.0 key.1 (count_after step) (IsBy step) self.old self.new) }
+        ensures copied { OnOk result (self.new.copied ≡ self.old.copied) }
+        ensures times { OnOk result (TimedBy step (message_of self.old key.0 key.1) (message_of self.new key.0 key.1)) }
+    {
+        self.prepare(key, step)?;
+        self.make_message(key, step)?;
+        self.keep_present(key, step)
+    }
+
+    /// Where the message comes, there is one that may have no path yet.
+    fn prepare(&mut self, key: Key, step: Move) -> Result<(), LineFault>
+        ensures prepares { OnOk result (Prepares step key.0 key.1 self.old self.new) }
+        ensures copied { OnOk result (self.new.copied ≡ self.old.copied) }
+    {
+        match step {
+            Move::Comes { since, file } => self.begin(since, key, file),
+            Move::Turns { .. } => Ok(()),
+            Move::Goes { .. } => Ok(()),
+        }
+    }
+
+    fn make_message(&mut self, key: Key, step: Move) -> Result<(), LineFault>
+        ensures moves { OnOk result (MakesOne key.0 key.1 step self.old self.new) }
+        ensures copied { OnOk result (self.new.copied ≡ self.old.copied) }
+        ensures times { OnOk result (IsSome (message_of self.old key.0 key.1)
+            → TimedBy step (message_of self.old key.0 key.1) (message_of self.new key.0 key.1)) }
+    {
+        let alloc = self.alloc;
         if self.is_first(key) {
-            self.first.get_mut(key.1 as usize)
-        } else {
-            self.others.get_mut(&key)
-        }
-    }
-
-    /// Whether the unique name came to this folder first.
-    fn is_first(&self, key: Key) -> bool {
-        match self.first.get(key.1 as usize) {
-            None => false,
-            Some(first) => first.folder == key.0,
-        }
-    }
-
-    /// Where the message never was in its folder, there comes one that has no path yet.
-    fn begin(&mut self, at: Moment, key: Key, file: u32) -> Result<(), LineFault> {
-        for _ in self.first.len()..=key.1 as usize {
-            self.first.push(Message::new(NO_FOLDER, 0, 0))?;
-        }
-        if let Some(first) = self.first.get_mut(key.1 as usize)
-            && first.folder == NO_FOLDER
-        {
-            *first = Message::new(key.0, at, file);
-        }
-        if !self.is_first(key) && !self.others.contains_key(&key) {
-            self.others.insert(key, Message::new(key.0, at, file))?;
+            if let Some(first) = self.first.get_mut(key.1 as usize) {
+                first.make(alloc, step)?;
+            }
+        } else if let Some(other) = self.others.get_mut(&key) {
+            other.make(alloc, step)?;
         }
         Ok(())
     }
 
+    /// Keeps whether the folder has the message.
+    fn keep_present(&mut self, key: Key, step: Move) -> Result<(), LineFault>
+        ensures { OnOk result (self.new ≡ record self.old { present = self.new.present }) }
+    {
+        let count = self.count(key);
+        let Some(present) = self.present.get_mut(key.0 as usize) else {
+            return Ok(());
+        };
+        match step {
+            Move::Comes { .. } => {
+                present.insert(key.1)?;
+            }
+            Move::Goes { .. } if count == 0 => {
+                present.remove(&key.1);
+            }
+            _ => {}
+        }
+        Ok(())
+    }
+
+    /// Whether the message ever was in its folder.
+    fn has(&self, key: Key) -> bool
+        ensures { result ≡ is_some (message_of self.now key.0 key.1) }
+    {
+        self.message(key).is_some()
+    }
+
+    /// Whether the unique name came to this folder first.
+    fn is_first(&self, key: Key) -> bool
+        ensures { result ≡ is_first (slice_get self.now.first.items key.1) key.0 }
+    {
+        match self.first.get(key.1 as usize) {
+            None => false,
+            Some(first) => first.is_of(key.0),
+        }
+    }
+
+    /// Where the message never was in its folder, there comes one that has no path yet.
+    fn begin(&mut self, since: Moment, key: Key, file: u32) -> Result<(), LineFault>
+        ensures message { OnOk result (message_of self.new key.0 key.1 ≡ Some (begun (fresh key.0 since file) (message_of self.old key.0 key.1))) }
+        ensures others { OnOk result (KeepsOthers key.0 key.1 self.old self.new) }
+        ensures copied { OnOk result (self.new.copied ≡ self.old.copied) }
+    {
+        if self.has(key) {
+            return Ok(());
+        }
+        self.make_room(key.1)?;
+        self.put(key, Message::new(key.0, since, file))
+    }
+
+    /// The unique name has a place for the folder where it comes first.
+    fn make_room(&mut self, unique: u32) -> Result<(), LineFault>
+        ensures messages { OnOk result ((f v : ℕ) → message_of self.new f v ≡ message_of self.old f v) }
+        ensures copied { OnOk result (self.new.copied ≡ self.old.copied) }
+    {
+        for _ in self.first.len()..=unique as usize {
+            self.first.push(Message::new(NO_FOLDER, 0, 0))?;
+        }
+        Ok(())
+    }
+
+    /// Puts a message that is not there: first of its unique name, where the place is free.
+    fn put(&mut self, key: Key, message: Message) -> Result<(), LineFault>
+        ensures message { message_of self.old key.0 key.1 ≡ None → message.folder ≡ key.0
+            → OnOk result (message_of self.new key.0 key.1 ≡ Some message) }
+        ensures others { message_of self.old key.0 key.1 ≡ None → message.folder ≡ key.0 → OnOk result (KeepsOthers key.0 key.1 self.old self.new) }
+        ensures copied { OnOk result (self.new.copied ≡ self.old.copied) }
+    {
+        if self.is_free(key) {
+            self.put_first(key.1, message);
+            return Ok(());
+        }
+        self.others.insert(key, message)?;
+        Ok(())
+    }
+
+    /// Whether the unique name's first place is free, and the folder may take it.
+    fn is_free(&self, key: Key) -> bool
+        ensures { result ≡ is_free (slice_get self.now.first.items key.1) key.0 }
+    {
+        match self.first.get(key.1 as usize) {
+            None => false,
+            Some(first) => key.0 != NO_FOLDER && first.folder == NO_FOLDER,
+        }
+    }
+
+    fn put_first(&mut self, unique: u32, message: Message)
+        ensures first { self.new.first.items ≡ slice_set self.old.first.items unique message }
+        ensures rest { self.new ≡ record self.old { first = self.new.first } }
+    {
+        if let Some(first) = self.first.get_mut(unique as usize) {
+            *first = message;
+        }
+    }
+
     /// How many paths the message has.
-    pub(super) fn count(&self, key: Key) -> u32 {
+    pub(super) fn count(&self, key: Key) -> u32
+        ensures { result ≡ count_of (message_of self.now key.0 key.1) }
+    {
         match self.message(key) {
             None => 0,
             Some(message) => message.count,
@@ -238,7 +437,9 @@ impl Mail {
     }
 
     /// The message, where it ever was in its folder.
-    pub(super) fn presence(&self, key: Key) -> Option<Presence> {
+    pub(super) fn presence(&self, key: Key) -> Option<Presence>
+        ensures count { count_there result ≡ count_of (message_of self.now key.0 key.1) }
+    {
         let message = self.message(key)?;
         Some(Presence {
             count: message.count,
@@ -259,7 +460,9 @@ impl Mail {
     }
 
     /// Whether the file is a message of the unique name in any folder.
-    pub(super) fn is_copied(&self, file: u32, unique: u32) -> bool {
+    pub(super) fn is_copied(&self, file: u32, unique: u32) -> bool
+        ensures { IsTrue result ↔ (0 < copies_of self.now.copied file unique) }
+    {
         self.copied.has(file, unique)
     }
 
@@ -280,60 +483,25 @@ impl Mail {
         Ok(folders)
     }
 
-    /// The message has one more path, from the moment `at` on.
-    pub(super) fn add(&mut self, at: usize, key: Key, file: u32) -> Result<(), LineFault> {
-        let alloc = self.alloc;
-        let at = moment_of(at);
-        self.begin(at, key, file)?;
-        if let Some(message) = self.message_mut(key) {
-            if message.count == 0 {
-                message.since = at;
-            }
-            message.count = message.count.saturating_add(1);
-            message.be(alloc, file)?;
-        }
-        if let Some(present) = self.present.get_mut(key.0 as usize) {
-            present.insert(key.1)?;
-        }
-        Ok(())
-    }
-
-    /// The message is a further file.
-    pub(super) fn turn(&mut self, key: Key, file: u32) -> Result<(), LineFault> {
-        let alloc = self.alloc;
-        match self.message_mut(key) {
-            None => Ok(()),
-            Some(message) => message.be(alloc, file),
-        }
-    }
-
-    /// The message has one path fewer: where it has none, the moment `at` was its last.
-    pub(super) fn take(&mut self, at: usize, key: Key) -> Result<(), LineFault> {
-        let alloc = self.alloc;
-        if let Some(message) = self.message_mut(key) {
-            message.count = message.count.saturating_sub(1);
-            if message.count == 0 {
-                let time = (message.since as usize, at);
-                message.past(alloc)?.times.push(time)?;
-                if let Some(present) = self.present.get_mut(key.0 as usize) {
-                    present.remove(&key.1);
-                }
-            }
-        }
-        Ok(())
-    }
-
     /// One more path of the file is a message of the unique name.
-    pub(super) fn copy(&mut self, file: u32, unique: u32) -> Result<(), LineFault> {
+    pub(super) fn copy(&mut self, file: u32, unique: u32) -> Result<(), LineFault>
+        ensures copied { OnOk result (Recounts file unique one_more self.old.copied self.new.copied) }
+        ensures messages { self.new ≡ record self.old { copied = self.new.copied } }
+    {
         self.copied.add(file, unique)
     }
 
-    pub(super) fn uncopy(&mut self, file: u32, unique: u32) {
+    pub(super) fn uncopy(&mut self, file: u32, unique: u32)
+        ensures copied { Recounts file unique one_fewer self.old.copied self.new.copied }
+        ensures messages { self.new ≡ record self.old { copied = self.new.copied } }
+    {
         self.copied.remove(file, unique);
     }
 
     /// One more path in cur shows these flags, from the moment `at` on.
-    pub(super) fn hold(&mut self, at: usize, key: Key, flags: u64) -> Result<(), LineFault> {
+    pub(super) fn hold(&mut self, at: usize, key: Key, flags: u64) -> Result<(), LineFault>
+        ensures { OnOk result (self.new ≡ record self.old { held = self.new.held }) }
+    {
         let held = self
             .held
             .entry((key.0, (key.1, flags)))?
@@ -343,7 +511,9 @@ impl Mail {
     }
 
     /// A path in cur showed these flags for the last time at the moment `at`.
-    pub(super) fn unhold(&mut self, at: usize, key: Key, flags: u64) {
+    pub(super) fn unhold(&mut self, at: usize, key: Key, flags: u64)
+        ensures { self.new ≡ record self.old { held = self.new.held } }
+    {
         if let Some(held) = self.held.get_mut(&(key.0, (key.1, flags))) {
             held.count = held.count.saturating_sub(1);
             held.last = at;

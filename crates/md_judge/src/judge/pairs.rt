@@ -1,4 +1,7 @@
 //! What is kept of each actor and message.
+ghost use Rattle.std.specs.Prelude.{IfSome, ◌≡◌, ◌<◌, ℕ, Some, None, IsTrue, OnOk, is_some, length, slice_get};
+ghost use Rattle.md_judge.specs.Actors.{in_column, kept, IsFree, HasRoom, MayPut, Puts};
+
 use super::mail::Key;
 use md_log::LineFault;
 use std::alloc::Global;
@@ -15,6 +18,13 @@ struct Slot<V> {
 /// The actor of a slot that is free.
 const NOBODY: u16 = u16::MAX;
 
+/// A number of an actor or a folder, as slots have it.
+fn short(number: u32) -> u16
+    ensures { number < 65536 → result ≡ number }
+{
+    u16::try_from(number).unwrap_or(NOBODY)
+}
+
 /// Slots by the numbers of unique names.
 #[derive(Drop)]
 struct Column<V> {
@@ -22,13 +32,18 @@ struct Column<V> {
 }
 
 impl<V: Copy + Drop> Column<V> {
-    fn new(alloc: Global) -> Self {
+    fn new(alloc: Global) -> Self
+        ensures { (a : ℕ) (k : ℕ × ℕ) → in_column result a k ≡ None }
+    {
         Column {
             slots: Vec::new(alloc),
         }
     }
 
-    fn get(&self, actor: u32, key: Key) -> Option<V> {
+    fn get(&self, actor: u32, key: Key) -> Option<V>
+        ensures value { result ≡ in_column self.now actor key }
+        ensures few { IfSome result (λ _. (actor < 65535) × (key.0 < 65536)) }
+    {
         let slot = self.slots.get(key.1 as usize)?;
         let is_own = u32::from(slot.actor) == actor && u32::from(slot.folder) == key.0;
         if is_own && slot.actor != NOBODY {
@@ -38,12 +53,17 @@ impl<V: Copy + Drop> Column<V> {
         }
     }
 
-    fn has(&self, actor: u32, key: Key) -> bool {
+    fn has(&self, actor: u32, key: Key) -> bool
+        ensures there { result ≡ is_some (in_column self.now actor key) }
+        ensures few { IsTrue result → (actor < 65535) × (key.0 < 65536) }
+    {
         self.get(actor, key).is_some()
     }
 
     /// Whether a value of this actor and message may come: where the slot is free, and where their numbers are below 65,535.
-    fn has_room(&self, actor: u32, key: Key) -> bool {
+    fn has_room(&self, actor: u32, key: Key) -> bool
+        ensures { IsTrue result → HasRoom self.now actor key }
+    {
         let none = u32::from(NOBODY);
         let is_free = match self.slots.get(key.1 as usize) {
             None => true,
@@ -53,24 +73,43 @@ impl<V: Copy + Drop> Column<V> {
     }
 
     /// Puts a value, whose slot is its own or has room for it.
-    fn put(&mut self, actor: u32, key: Key, value: V) -> Result<(), LineFault> {
-        for _ in self.slots.len()..=key.1 as usize {
+    fn put(&mut self, actor: u32, key: Key, value: V) -> Result<(), LineFault>
+        ensures { MayPut self.old actor key → OnOk result (Puts actor key (Some value) (in_column self.old) (in_column self.new)) }
+    {
+        self.reserve(key.1 as usize, value)?;
+        if let Some(slot) = self.slots.get_mut(key.1 as usize) {
+            *slot = Slot {
+                actor: short(actor),
+                folder: short(key.0),
+                value,
+            };
+        }
+        Ok(())
+    }
+
+    /// Slots up to this one are there, of which those that come are free.
+    fn reserve(&mut self, last: usize, value: V) -> Result<(), LineFault>
+        ensures there { OnOk result (last < length self.new.slots.items) }
+        ensures same { OnOk result ((a : ℕ) (k : ℕ × ℕ) → in_column self.new a k ≡ in_column self.old a k) }
+        ensures free { OnOk result ((n : ℕ) → IsFree (slice_get self.old.slots.items n) → IsFree (slice_get self.new.slots.items n)) }
+    {
+        while self.slots.len() <= last {
             self.slots.push(Slot {
                 actor: NOBODY,
                 folder: NOBODY,
                 value,
             })?;
         }
-        if let Some(slot) = self.slots.get_mut(key.1 as usize) {
-            slot.actor = u16::try_from(actor).unwrap_or(NOBODY);
-            slot.folder = u16::try_from(key.0).unwrap_or(NOBODY);
-            slot.value = value;
-        }
         Ok(())
     }
 
-    /// Makes a slot free.
-    fn clear(&mut self, key: Key) {
+    /// Takes a value, and makes its slot free.
+    fn remove(&mut self, actor: u32, key: Key)
+        ensures { Puts actor key None (in_column self.old) (in_column self.new) }
+    {
+        if !self.has(actor, key) {
+            return;
+        }
         if let Some(slot) = self.slots.get_mut(key.1 as usize) {
             slot.actor = NOBODY;
         }
@@ -94,7 +133,9 @@ pub(super) struct Pairs<V> {
 }
 
 impl<V: Copy + Drop> Pairs<V> {
-    pub(super) fn new(alloc: Global) -> Self {
+    pub(super) fn new(alloc: Global) -> Self
+        ensures { (a : ℕ) (k : ℕ × ℕ) → kept result a k ≡ None }
+    {
         Pairs {
             first: Column::new(alloc),
             second: Column::new(alloc),
@@ -102,7 +143,9 @@ impl<V: Copy + Drop> Pairs<V> {
         }
     }
 
-    pub(super) fn get(&self, actor: u32, key: Key) -> Option<V> {
+    pub(super) fn get(&self, actor: u32, key: Key) -> Option<V>
+        ensures { result ≡ kept self.now actor key }
+    {
         if let Some(value) = self.first.get(actor, key) {
             return Some(value);
         }
@@ -112,7 +155,9 @@ impl<V: Copy + Drop> Pairs<V> {
         self.others.get(&(actor, key)).copied()
     }
 
-    pub(super) fn insert(&mut self, actor: u32, key: Key, value: V) -> Result<(), LineFault> {
+    pub(super) fn insert(&mut self, actor: u32, key: Key, value: V) -> Result<(), LineFault>
+        ensures { OnOk result (Puts actor key (Some value) (kept self.old) (kept self.new)) }
+    {
         match self.place(actor, key) {
             Where::First => self.first.put(actor, key, value),
             Where::Second => self.second.put(actor, key, value),
@@ -124,7 +169,11 @@ impl<V: Copy + Drop> Pairs<V> {
     }
 
     /// Where the value is, or may come.
-    fn place(&self, actor: u32, key: Key) -> Where {
+    fn place(&self, actor: u32, key: Key) -> Where
+        ensures first { result ≡ Where.First → MayPut self.now.first actor key }
+        ensures second { result ≡ Where.Second → (in_column self.now.first actor key ≡ None) × MayPut self.now.second actor key }
+        ensures beside { result ≡ Where.Beside → (in_column self.now.first actor key ≡ None) × (in_column self.now.second actor key ≡ None) }
+    {
         if self.first.has(actor, key) {
             return Where::First;
         }
@@ -143,13 +192,11 @@ impl<V: Copy + Drop> Pairs<V> {
         Where::Beside
     }
 
-    pub(super) fn remove(&mut self, actor: u32, key: Key) {
-        if self.first.has(actor, key) {
-            self.first.clear(key);
-        } else if self.second.has(actor, key) {
-            self.second.clear(key);
-        } else {
-            self.others.remove(&(actor, key));
-        }
+    pub(super) fn remove(&mut self, actor: u32, key: Key)
+        ensures { Puts actor key None (kept self.old) (kept self.new) }
+    {
+        self.first.remove(actor, key);
+        self.second.remove(actor, key);
+        self.others.remove(&(actor, key));
     }
 }

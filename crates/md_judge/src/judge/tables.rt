@@ -5,7 +5,7 @@ ghost use Rattle.md_name.specs.Names.{split_of};
 ghost use Rattle.md_log.specs.declared.error.LineFault.TheVariants.{NoMemory};
 ghost use Rattle.md_judge.specs.Files.{name_facts};
 ghost use Rattle.md_judge.specs.Words.{hash_of, AreApart, Finds};
-ghost use Rattle.md_judge.specs.Names.{StandFor, IsNumber, AreNumbered, KeepNumbers, IsUnique};
+ghost use Rattle.md_judge.specs.Names.{StandFor, IsNumber, AreNumbered, KeepNumbers, GrowsUniques, IsUnique};
 
 use super::flags::bits_of;
 use super::texts::Words;
@@ -226,6 +226,7 @@ impl Names {
         ensures number { IfOk result (λ u. slice_get self.new.uniques u ≡ Some unique.now) }
         ensures endings { self.new.endings ≡ self.old.endings }
         ensures keeps { KeepNumbers self.old self.new }
+        ensures uniques { OnOk result (GrowsUniques self.old self.new) }
         ensures numbered { OnOk result (AreNumbered self.new) }
         ensures fault { IfErr result (λ e. e ≡ NoMemory) }
     {
@@ -238,6 +239,7 @@ impl Names {
     pub(super) fn number(&mut self, name: &[u8]) -> Result<Name, LineFault>
         ensures number { IfOk result (λ n. IsNumber self.new name.now n) }
         ensures keeps { KeepNumbers self.old self.new }
+        ensures uniques { OnOk result (GrowsUniques self.old self.new) }
         ensures facts { IfOk result (λ n. IsUnique self.new (split_of name.now) (name_facts self.new n).unique) }
         ensures numbered { OnOk result (AreNumbered self.new) }
         ensures fault { IfErr result (λ e. e ≡ NoMemory) }
@@ -250,6 +252,7 @@ impl Names {
     fn number_of(&mut self, name: &[u8]) -> Result<Name, LineFault>
         ensures number { IfOk result (λ n. IsNumber self.new name.now n) }
         ensures keeps { KeepNumbers self.old self.new }
+        ensures uniques { OnOk result (GrowsUniques self.old self.new) }
         ensures fault { IfErr result (λ e. e ≡ NoMemory) }
     {
         match split(name) {
@@ -262,6 +265,7 @@ impl Names {
     fn other(&mut self, name: &[u8]) -> Result<Name, LineFault>
         ensures number { IfOk result (λ n. StandFor self.new name.now None (n / 4294967296) (n % 4294967296)) }
         ensures keeps { KeepNumbers self.old self.new }
+        ensures uniques { self.new.uniques ≡ self.old.uniques }
         ensures fault { IfErr result (λ e. e ≡ NoMemory) }
     {
         let (number, _) = self.others.number(name)?;
@@ -272,6 +276,7 @@ impl Names {
     fn message(&mut self, name: &[u8], unique: &[u8], info: Info) -> Result<Name, LineFault>
         ensures number { IfOk result (λ n. StandFor self.new name.now (Some (unique.now, info)) (n / 4294967296) (n % 4294967296)) }
         ensures keeps { KeepNumbers self.old self.new }
+        ensures uniques { OnOk result (GrowsUniques self.old self.new) }
         ensures fault { IfErr result (λ e. e ≡ NoMemory) }
     {
         let ending = self.ending(name.get(unique.len()..).unwrap_or(&[]), info)?;
@@ -283,6 +288,7 @@ impl Names {
         ensures number { IfOk result (λ n. slice_get self.new.endings n ≡ Some ending.now) }
         ensures few { IfOk result (λ n. n < 4294967295) }
         ensures keeps { KeepNumbers self.old self.new }
+        ensures uniques { self.new.uniques ≡ self.old.uniques }
         ensures fault { IfErr result (λ e. e ≡ NoMemory) }
     {
         let (number, is_new) = self.endings.number(ending)?;

@@ -1,6 +1,14 @@
 //! What actors told their users, beside what is so.
-ghost use Rattle.std.specs.Prelude.{◌≡◌};
-ghost use Rattle.md_judge.specs.Found.{KeepsPaths, KeepsFiles};
+ghost use Rattle.std.specs.Prelude.{◌≡◌, ℕ, List, Some};
+ghost use Rattle.md_log.specs.declared.clause.Clause.TheVariants as clause;
+ghost use Rattle.md_log.specs.declared.line.Step.{Step};
+ghost use Rattle.md_judge.specs.Claims.{count_of};
+ghost use Rattle.md_judge.specs.Law.{turn, GaveUp};
+ghost use Rattle.md_judge.specs.Listings.{message_of};
+ghost use Rattle.md_judge.specs.Logs.{Log};
+ghost use Rattle.md_judge.specs.Actors.{Tells, begun_by, done_by, looked_by, IsAnswering};
+ghost use Rattle.md_judge.specs.Mailed.{count_of as paths_of};
+ghost use Rattle.md_judge.specs.Found.{Keeps, NotesOne, KeepsFiles, KeepsAdded};
 
 use super::claims::{Claim, check_claim};
 use super::flags::bits_of;
@@ -21,9 +29,16 @@ impl Watch {
         said: Said,
         key: Key,
     )
-        ensures paths { KeepsPaths self.old.found self.new.found }
+        ensures wrong { Keeps clause.NotADirectory self.old.found self.new.found }
+        ensures overwrites { Keeps clause.Overwritten self.old.found self.new.found }
         ensures others { KeepsFiles self.old.found self.new.found }
+        ensures added { KeepsAdded self.old.found self.new.found }
         ensures files { self.new.files ≡ self.old.files }
+        ensures mail { self.new.mail ≡ self.old.mail }
+        ensures tells { Tells actor key self.old.actors self.new.actors }
+        ensures gave_up { (lines : ℕ → ℕ) (first i : ℕ) (unique : List ℕ) (l : Log) (x : Step)
+            → IsAnswering lines first i actor said key unique l x self.old listings.now
+            → NotesOne clause.GaveUp (GaveUp (turn l i x)) self.old.found self.new.found }
     {
         let claim = self.claim(known, listings, actor, said, key);
         check_claim(&mut self.found, &claim);
@@ -31,7 +46,13 @@ impl Watch {
     }
 
     /// What is kept of an answer.
-    fn claim(&self, known: &Known, listings: &Listings, actor: u32, said: Said, key: Key) -> Claim {
+    fn claim(&self, known: &Known, listings: &Listings, actor: u32, said: Said, key: Key) -> Claim
+        ensures said { result.said ≡ said }
+        ensures first { (n : ℕ) → begun_by self.entry.now.actors actor key ≡ Some n → result.first ≡ n }
+        ensures about { result.about ≡ done_by self.entry.now.actors actor key }
+        ensures count { count_of result.message ≡ paths_of (message_of self.entry.now.mail key.0 key.1) }
+        ensures looked { result.looked ≡ looked_by listings.now actor key.0 }
+    {
         let about = self.actors.done(actor, key);
         let looked = match listings.get(&(actor, key.0)) {
             None => None,

@@ -1,8 +1,12 @@
 //! What is kept of files, messages and actors, and the clauses that a step breaks.
-ghost use Rattle.std.specs.Prelude.{◌≡◌, [], OnOk};
+ghost use Rattle.std.specs.Prelude.{◌≡◌, ◌<◌, ℕ, [], Some, None, OnOk, unwrap_or};
 ghost use Rattle.md_log.specs.declared.clause.Clause.{Clause};
-ghost use Rattle.md_judge.specs.Files.{named, Changes};
+ghost use Rattle.md_judge.specs.Actors.{begun_by, done_by, no_about};
+ghost use Rattle.md_judge.specs.Copies.{copies_of};
+ghost use Rattle.md_judge.specs.Files.{named, unique_in, Changes};
 ghost use Rattle.md_judge.specs.Found.{Has};
+ghost use Rattle.md_judge.specs.Listings.{message_of};
+ghost use Rattle.md_judge.specs.Mailed.{AddAt};
 
 use super::about::Actors;
 use super::directories::Spot;
@@ -28,7 +32,11 @@ pub(super) struct Watch {
 
 impl Watch {
     pub(super) fn new(alloc: Global) -> Self
-        ensures { result.files.all.items ≡ [] }
+        ensures files { result.files.all.items ≡ [] }
+        ensures messages { (folder u : ℕ) → message_of result.mail folder u ≡ None }
+        ensures copies { (n u : ℕ) → copies_of result.mail.copied n u ≡ 0 }
+        ensures begun { (a : ℕ) (k : ℕ × ℕ) → begun_by result.actors a k ≡ None }
+        ensures done { (a : ℕ) (k : ℕ × ℕ) → done_by result.actors a k ≡ no_about }
     {
         Watch {
             alloc,
@@ -42,7 +50,9 @@ impl Watch {
 
     /// One more folder, after the others.
     pub(super) fn add_folder(&mut self) -> Result<(), LineFault>
-        ensures { self.new.files ≡ self.old.files }
+        ensures files { self.new.files ≡ self.old.files }
+        ensures mail { self.new.mail ≡ record self.old.mail { present = self.new.mail.present } }
+        ensures actors { self.new.actors ≡ self.old.actors }
     {
         self.mail.add_folder()
     }
@@ -50,7 +60,9 @@ impl Watch {
     /// Goes on to the moment of a line.
     pub(super) fn go_to(&mut self, moment: usize)
         ensures files { self.new.files ≡ self.old.files }
+        ensures mail { self.new.mail ≡ self.old.mail }
         ensures now { self.new.now ≡ moment }
+        ensures actors { self.new.actors ≡ self.old.actors }
     {
         self.now = moment;
     }
@@ -59,7 +71,12 @@ impl Watch {
     pub(super) fn begin(&mut self, actor: u32) -> Result<(), LineFault>
         ensures nothing { (c : Clause) → Has self.new.found.broken c → ⊥ }
         ensures files { self.new.files ≡ self.old.files }
+        ensures mail { self.new.mail ≡ self.old.mail }
         ensures now { self.new.now ≡ self.old.now }
+        ensures begun { self.old.now < 4294967296 → OnOk result ((k : ℕ × ℕ)
+            → begun_by self.new.actors actor k ≡ Some (unwrap_or (begun_by self.old.actors actor k) self.old.now)) }
+        ensures others { OnOk result ((a : ℕ) (k : ℕ × ℕ) → (a ≡ actor → ⊥) → begun_by self.new.actors a k ≡ begun_by self.old.actors a k) }
+        ensures done { OnOk result ((a : ℕ) (k : ℕ × ℕ) → done_by self.new.actors a k ≡ done_by self.old.actors a k) }
     {
         self.found = Found::nothing();
         self.actors.note_line(actor, self.now)
@@ -73,7 +90,9 @@ impl Watch {
         spot: Spot,
         file: u32,
     ) -> Result<(), LineFault>
-        ensures { OnOk result (Changes file (named known.now.names spot) self.old.files.all.items self.new.files.all.items) }
+        ensures files { OnOk result (Changes file (named known.now.names spot) self.old.files.all.items self.new.files.all.items) }
+        ensures mailed { OnOk result (AddAt (unique_in known.now.names spot) spot file self.old.mail self.new.mail) }
+        ensures actors { OnOk result (self.new.actors ≡ self.old.actors) }
     {
         self.files.name(known, line, spot, file)?;
         self.add_path(known, line.saturating_add(1), spot, file)

@@ -1,6 +1,6 @@
 use Rattle.std.proofs.Common.{ℕ, ◌≡◌, List, Some, slice_get, length}
 use Rattle.md_judge.specs.Logs.{Log}
-use Rattle.md_judge.specs.Names.{IsNumber, KeepNumbers}
+use Rattle.md_judge.specs.Names.{IsNumber, KeepNumbers, GrowsUniques}
 use Rattle.md_judge.specs.Recalled.{IsToldAt}
 use Rattle.md_judge.specs.Verdict.{Remembers}
 use Rattle.md_judge.proofs.judge.Judge.numbers.Given as goal
@@ -15,6 +15,7 @@ invariant-loop-name l = record {
   each : (k : ℕ) (name : List ℕ) (n : ℕ) → slice_get l.names k ≡ Some name → slice_get l.numbers.items k ≡ Some n
       → IsNumber l.self.known.names name n;
   keeps : KeepNumbers l.fn.self.known.names l.self.known.names;
+  uniques : GrowsUniques l.fn.self.known.names l.self.known.names;
   clock : l.self.known.clock ≡ l.fn.self.known.clock;
   watch : l.self.watch ≡ l.fn.self.watch;
   listings : l.self.listings ≡ l.fn.self.listings;

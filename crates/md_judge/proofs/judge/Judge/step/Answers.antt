@@ -1,33 +1,52 @@
 use Rattle.md_judge.proofs.Growing.{grows}
 use Rattle.md_judge.proofs.Stepping.{on-ok}
-use Rattle.std.proofs.Common.{ℕ, suc, ◌≡◌, ◌↔◌, List, Some, slice_get, length, refl, sym, ap, subst, ◌∙◌}
+use Rattle.std.proofs.Common.{ℕ, suc, ◌≡◌, ◌↔◌, inl, List, ◌<◌, OnOk, Some, slice_get, length, refl, sym, ap, subst, ◌∙◌, arith}
 use Rattle.std.proofs.lemmas.Bool.{ltb-true}
 use Rattle.md_dirs.specs.declared.paths.Path.{Path}
 use Rattle.md_log.specs.declared.clause.Clause.{Clause}
 use Rattle.md_log.specs.declared.clause.Clause.TheVariants as clause
 use Rattle.md_log.specs.declared.line.Deed.{Deed}
 use Rattle.md_log.specs.declared.line.Reply.{Reply}
+use Rattle.md_log.specs.declared.line.Call.{Call}
 use Rattle.md_log.specs.declared.line.Call.TheVariants as call
+use Rattle.std.specs.Prelude.{unwrap_or}
+use Rattle.md_judge.specs.declared.judge.about.About.{About}
+use Rattle.md_judge.specs.declared.judge.mail.Mail.{Mail}
+use Rattle.md_judge.specs.Claims.{RecallsActs}
+use Rattle.md_judge.specs.Listings.{message_of}
 use Rattle.md_judge.specs.declared.judge.files.Files.{Files}
+use Rattle.md_log.specs.declared.line.Said.{Said}
+use Rattle.md_judge.specs.Logs.{Log}
+use Rattle.md_judge.specs.Actors.{AreActing, NotesAct, NotesLook, MayStand, acted, begun_by, done_by}
 use Rattle.md_judge.specs.Acts.{ReadsNone}
 use Rattle.md_judge.specs.Filed.{AreFiled, IsJudged, BrokenByFiles, name_at}
-use Rattle.md_judge.specs.Found.{Has, NotesOne, KeepsFiles, NotesFiles}
-use Rattle.md_judge.specs.Open.{first_in, shows_in, KeepsPart, AreNames, AreOpen, IsToldPart}
+use Rattle.md_judge.specs.Found.{Has, NotesOne, KeepsAdded, KeepsFiles, KeepsAnswers, NotesFiles}
+use Rattle.md_judge.specs.Gathered.{KeepsGathered, AreGathered}
+use Rattle.md_judge.specs.Mailed.{TellsMail, NotesAdded, count_of}
+use Rattle.md_judge.specs.Open.{Listings, first_in, shows_in, KeepsPart, AreNames, AreOpen, IsToldPart}
 use Rattle.md_judge.specs.Recalled.{IsToldAt, HasFolders}
-use Rattle.md_judge.specs.Words.{AreApart}
+use Rattle.md_judge.specs.Words.{AreApart, KeepWords}
 use Rattle.md_judge.specs.declared.judge.found.Found.{Found}
 use Rattle.md_judge.specs.declared.judge.known.Known.{Known}
 use Rattle.md_judge.specs.declared.judge.watch.Watch.{Watch}
-use Rattle.md_judge.specs.Law.{turn, Breaks, IsWrongCall, NotADirectory, Overwritten}
+use Rattle.md_judge.specs.Law.{turn, Breaks, IsWrongCall, NotADirectory, Overwritten, GaveUp}
 use Rattle.md_judge.specs.Logs.{Numbered}
-use Rattle.md_judge.specs.Told.{moment, at, after_step, after_call, IsStep}
+use Rattle.md_judge.specs.Told.{moment, at, after_step, after_call, IsThere, IsStep, ActsOn, Looks}
 use Rattle.md_judge.specs.Verdict.{IsProved}
+use Rattle.md_judge.proofs.Acted.{acts-on, on-acts}
+use Rattle.md_judge.proofs.Actors.{acting-before, acting-called, acting-read, acting-answered, no-looks, stood}
+use Rattle.md_judge.proofs.Spanning.{span-of, acts-in}
 use Rattle.md_judge.proofs.Acting.{none-overwritten, found-overwritten, found-wrong, found-still}
 use Rattle.md_judge.proofs.Alike.{acts-by, filed-grows}
 use Rattle.md_judge.proofs.Judged.{still-filed, still-lawful}
-use Rattle.md_judge.proofs.Proved.{kept-proved, noted-proved}
+use Rattle.md_judge.proofs.Mailbegun.{tells-still, still-two, still-again}
+use Rattle.md_judge.proofs.Posted.{tells-grows}
+use Rattle.md_judge.proofs.Present.{are-present}
+use Rattle.md_judge.proofs.Proved.{IsJudgedAlone, kept-proved, noted-proved}
+use Rattle.md_judge.proofs.Regathered.{gathered-before, gathered-rests, listings-next}
+use Rattle.md_judge.proofs.Uniqued.{grows-on}
 use Rattle.md_judge.proofs.Reopened.{IsNoPart, open-before, open-rests, open-next, answer-no-part, reads-none}
-use Rattle.md_judge.proofs.Sparing.{found-none, found-one, ok-then, ok-two}
+use Rattle.md_judge.proofs.Sparing.{found-none, found-one, ok-then, ok-two, ok-three, ok-both}
 use Rattle.md_judge.proofs.Stepping.{at-next, clocked}
 use Rattle.md_judge.proofs.judge.Judge.step.Goals as goal
 
@@ -55,12 +74,12 @@ returns-in-Answer-clause-overwritten c = λ lines l i told is here short there.
     let still : at l (suc i) ≡ at l i =
     at-next l i x is ∙ ap (λ v. after_call v (after_step (moment l i) x).now (at l i)) c.in-Answer.is in
     found-none clause.Overwritten (Overwritten (turn l i c.args.step)) c.begin.new.self.found c.answer.new.self.found
-    (c.begin.ensures.nothing clause.Overwritten) c.answer.ensures.paths.overwrites (none-overwritten (at l i) (at l (suc i)) still)
+    (c.begin.ensures.nothing clause.Overwritten) c.answer.ensures.overwrites (none-overwritten (at l i) (at l (suc i)) still)
 
 pub returns-in-Answer-clause-wrong : goal.returns-in-Answer-clause-wrong
 returns-in-Answer-clause-wrong c = λ lines l i told is here short there on.
     found-none clause.NotADirectory (NotADirectory (turn l i c.args.step)) c.begin.new.self.found c.answer.new.self.found
-    (c.begin.ensures.nothing clause.NotADirectory) c.answer.ensures.paths.wrong (subst (IsWrongCall (turn l i c.args.step)) c.in-Answer.is)
+    (c.begin.ensures.nothing clause.NotADirectory) c.answer.ensures.wrong (subst (IsWrongCall (turn l i c.args.step)) c.in-Answer.is)
 
 pub returns-in-Answer-clause-allowed : goal.returns-in-Answer-clause-allowed
 returns-in-Answer-clause-allowed c = refl
@@ -169,6 +188,202 @@ returns-clause-read c = λ lines l i told is-open is here short there now rises.
     returns-clause-wrong c lines l i told is here short there
     (reads-none c.args.step.call (λ folder place r shown same. c.in_default.not-List folder place r shown same))
 
+-- ---- listings that go on
+
+pub returns-in-List-clause-gathers : goal.returns-in-List-clause-gathers
+returns-in-List-clause-gathers c = λ lines l i is-open goes is here now.
+    let first = c.args.self.now in
+    let judge = c.numbers.new.self in
+    let names = judge.known.names in
+    let number = c.in_ok-actor.actor in
+    let folder = c.in-List.folder in
+    let place = c.in-List.place in
+    let x = c.args.step in
+    let opened = open-before lines first.actor_names c.number.new.self judge.actor_names c.in_ok-actor.field-0-1 c.as_slice.result.now
+    first.known.names c.step.new.self.names names l i first.listings judge.listings c.in_ok-actor.ensures.grows c.are_apart.ensures.apart
+    c.step.ensures.keeps c.numbers.ensures.keeps c.numbers.ensures.rest.2 c.numbers.ensures.rest.1 is-open in
+    let before = gathered-before lines first.actor_names c.number.new.self judge.actor_names c.in_ok-actor.field-0-1 c.as_slice.result.now
+    first.known.names c.step.new.self.names names l i first.listings judge.listings c.in_ok-actor.ensures.grows c.are_apart.ensures.apart
+    c.step.ensures.keeps c.numbers.ensures.keeps c.numbers.ensures.rest.2 c.numbers.ensures.rest.1 goes in
+    let named = subst (λ (ws : List (List ℕ)). slice_get ws number ≡ Some x.actor) (sym c.numbers.ensures.rest.2)
+    (c.in_ok-actor.ensures.found ∙ ap Some c.as_slice.ensures) in
+    let apart = subst (λ (ws : List (List ℕ)). AreApart ws) (sym c.numbers.ensures.rest.2) c.are_apart.ensures.apart in
+    let here' : judge.watch.now ≡ lines i = ap (λ (w : Watch). w.now) c.numbers.ensures.rest.0 ∙ c.begin.ensures.now ∙ now ∙ sym here in
+    let are = subst (λ (ns : List ℕ). AreNames names c.in-List.shown ns) (sym c.deref.ensures.value)
+    (subst (λ (ws : List (List ℕ)). AreNames names ws c.in_ok-names-in-List.names.items) c.as_slice-in-List.ensures c.in_ok-names-in-List.ensures.numbers) in
+    ok-then c.list.result (KeepsGathered names number folder place c.in-List.reply c.deref.result.now judge.watch.now judge.listings c.list.new.listings)
+    (AreGathered lines judge.actor_names names l (suc i) c.list.new.listings)
+    (λ keeps. listings-next lines judge.actor_names names l i judge.listings c.list.new.listings before x (c.args.line, is) apart number folder place
+    c.in-List.reply c.in-List.shown c.deref.result.now judge.watch.now named c.in-List.is here' are
+    (opened.open_at number x.actor folder place named) keeps) c.list.ensures.listing
+
+pub returns-in-Answer-clause-gathers : goal.returns-in-Answer-clause-gathers
+returns-in-Answer-clause-gathers c = λ lines l i is-open goes is here now.
+    let first = c.args.self.now in
+    let before = gathered-before lines first.actor_names c.number.new.self c.number.new.self c.in_ok-actor.field-0-1 c.as_slice.result.now
+    first.known.names c.step.new.self.names c.unique.new.self l i first.listings first.listings c.in_ok-actor.ensures.grows c.are_apart.ensures.apart
+    c.step.ensures.keeps c.unique.ensures.keeps refl refl goes in
+    gathered-rests lines c.number.new.self c.unique.new.self l i first.listings first.listings before c.args.step (c.args.line, is)
+    (subst IsNoPart (sym c.in-Answer.is) (answer-no-part _ _ _))
+
+pub returns-clause-gathers : goal.returns-clause-gathers
+returns-clause-gathers c = λ lines l i is-open goes is here now.
+    let first = c.args.self.now in
+    let before = gathered-before lines first.actor_names c.number.new.self c.number.new.self c.in_ok-actor.field-0-1 c.as_slice.result.now
+    first.known.names c.step.new.self.names c.step.new.self.names l i first.listings first.listings c.in_ok-actor.ensures.grows c.are_apart.ensures.apart
+    c.step.ensures.keeps (λ name n of. of) refl refl goes in
+    on-ok c.call.result (gathered-rests lines c.number.new.self c.step.new.self.names l i first.listings first.listings before c.args.step
+    (c.args.line, is) (λ folder place r shown same. c.in_default.not-List folder place r shown same))
+
+-- ---- what is kept of actors
+
+returns-in-List-acting : (c : goal.Joined-step-6) (lines : ℕ → ℕ) (l : Log) (i : ℕ)
+    → AreActing lines c.args.self.now.actor_names c.args.self.now.known.names.uniques l i c.args.self.now.watch.actors c.args.self.now.listings
+    → slice_get l.steps i ≡ Some (record { number = c.args.line; step = c.args.step }) → lines i ≡ c.args.line → c.args.line < 4294967295
+    → c.args.self.now.watch.now ≡ c.args.line
+    → OnOk c.list.result (AreActing lines c.numbers.new.self.actor_names c.numbers.new.self.known.names.uniques l (suc i) c.list.new.self.actors c.list.new.listings)
+returns-in-List-acting c lines l i acting is here short now =
+    let x = c.args.step in
+    let first = c.args.self.now in
+    let judge = c.numbers.new.self in
+    let names = c.number.new.self in
+    let me = c.in_ok-actor.actor in
+    let uniques = judge.known.names.uniques in
+    let numbered = c.in_ok-names-in-List.ensures.numbered in
+    let read = c.in-List.folder in
+    let before = acting-before lines first.actor_names names c.in_ok-actor.field-0-1 c.as_slice.result.now first.known.names.uniques uniques l i
+    first.watch.actors first.listings c.in_ok-actor.ensures.grows c.are_apart.ensures.apart
+    (λ n w of. c.in_ok-names-in-List.ensures.uniques.keeps w n (c.in_ok-self.ensures.uniques.keeps w n of)) numbered.uniques acting in
+    let few : first.watch.now < 4294967296 = omega (arith, now, short) in
+    let named = c.in_ok-actor.ensures.found ∙ ap Some c.as_slice.ensures in
+    let no-answer : (said : Said) (folder : ℕ) (unique : List ℕ) → x.call ≡ call.Answer said folder unique → ⊥ = λ said folder unique e.
+    let no = c.in-List.is in cc in
+    let same-now : judge.watch.now ≡ first.watch.now = ap (λ (w : Watch). w.now) c.numbers.ensures.rest.0 ∙ c.begin.ensures.now in
+    ok-two c.list.result (NotesLook me read judge.watch.now judge.listings c.list.new.listings) (c.list.new.self.actors ≡ judge.watch.actors) _
+    (λ notes still. subst (λ (ws : List (List ℕ)). AreActing lines ws uniques l (suc i) c.list.new.self.actors c.list.new.listings) (sym c.numbers.ensures.rest.2)
+    (acting-read lines names uniques l i x (c.args.line, is) me named c.are_apart.ensures.apart first.watch.actors c.begin.new.self.actors
+    c.list.new.self.actors first.watch.now (now ∙ sym here) first.listings c.list.new.listings before
+    (c.in_ok-begin.ensures.begun few) c.in_ok-begin.ensures.others c.in_ok-begin.ensures.done
+    no-answer (λ f w e on. subst (λ (v : Call). ActsOn v f w e) c.in-List.is on)
+    (still ∙ ap (λ (w : Watch). w.actors) c.numbers.ensures.rest.0) read
+    (λ f. subst (λ (v : Call). Looks v f ↔ (read ≡ f)) (sym c.in-List.is) (λ h. h, λ h. h))
+    (subst (λ (n : ℕ). NotesLook me read n first.listings c.list.new.listings) same-now
+    (subst (λ (ls : Listings). NotesLook me read judge.watch.now ls c.list.new.listings) c.numbers.ensures.rest.1 notes))))
+    c.list.ensures.looks c.list.ensures.actors
+
+returns-in-Answer-acting : (c : goal.Joined-step-8) (lines : ℕ → ℕ) (l : Log) (i : ℕ)
+    → AreActing lines c.args.self.now.actor_names c.args.self.now.known.names.uniques l i c.args.self.now.watch.actors c.args.self.now.listings
+    → slice_get l.steps i ≡ Some (record { number = c.args.line; step = c.args.step }) → lines i ≡ c.args.line → c.args.line < 4294967295
+    → c.args.self.now.watch.now ≡ c.args.line
+    → AreActing lines c.number.new.self c.unique.new.self.uniques l (suc i) c.answer.new.self.actors c.args.self.now.listings
+returns-in-Answer-acting c lines l i acting is here short now =
+    let x = c.args.step in
+    let first = c.args.self.now in
+    let names = c.number.new.self in
+    let me = c.in_ok-actor.actor in
+    let uniques = c.unique.new.self.uniques in
+    let numbered = c.in_ok-unique-in-Answer.ensures.numbered in
+    let before = acting-before lines first.actor_names names c.in_ok-actor.field-0-1 c.as_slice.result.now first.known.names.uniques uniques l i
+    first.watch.actors first.listings c.in_ok-actor.ensures.grows c.are_apart.ensures.apart
+    (λ n w of. c.in_ok-unique-in-Answer.ensures.uniques.keeps w n (c.in_ok-self.ensures.uniques.keeps w n of)) numbered.uniques acting in
+    let few : first.watch.now < 4294967296 = omega (arith, now, short) in
+    let named = c.in_ok-actor.ensures.found ∙ ap Some c.as_slice.ensures in
+    acting-answered lines names uniques l i x (c.args.line, is) me named c.are_apart.ensures.apart first.watch.actors c.begin.new.self.actors
+    c.answer.new.self.actors first.watch.now (now ∙ sym here) first.listings first.listings before
+    (c.in_ok-begin.ensures.begun few) c.in_ok-begin.ensures.others c.in_ok-begin.ensures.done
+    c.in-Answer.said c.in-Answer.folder c.in_ok-unique-in-Answer.unique c.in-Answer.unique c.in-Answer.is
+    (c.in_ok-unique-in-Answer.ensures.number ∙ ap Some c.as_slice-in-Answer.ensures) numbered.uniques c.answer.ensures.tells refl
+
+returns-acting : (c : goal.Joined-step-9) (lines : ℕ → ℕ) (l : Log) (i : ℕ)
+    → AreActing lines c.args.self.now.actor_names c.args.self.now.known.names.uniques l i c.args.self.now.watch.actors c.args.self.now.listings
+    → slice_get l.steps i ≡ Some (record { number = c.args.line; step = c.args.step }) → lines i ≡ c.args.line → c.args.line < 4294967295
+    → c.args.self.now.watch.now ≡ c.args.line
+    → OnOk c.call.result (AreActing lines c.number.new.self c.step.new.self.names.uniques l (suc i) c.call.new.self.actors c.args.self.now.listings)
+returns-acting c lines l i acting is here short now =
+    let x = c.args.step in
+    let names = c.number.new.self in
+    let first = c.args.self.now in
+    let uniques = c.step.new.self.names.uniques in
+    let numbered = c.are_numbered.ensures in
+    let before = acting-before lines first.actor_names names c.in_ok-actor.field-0-1 c.as_slice.result.now first.known.names.uniques uniques l i first.watch.actors
+    first.listings c.in_ok-actor.ensures.grows c.are_apart.ensures.apart (λ n w of. c.in_ok-self.ensures.uniques.keeps w n of) numbered.uniques acting in
+    let few : first.watch.now < 4294967296 = omega (arith, now, short) in
+    let few' : c.begin.new.self.now < 4294967296 = (let same = c.begin.ensures.now in omega (arith, few, same)) in
+    let named = c.in_ok-actor.ensures.found ∙ ap Some c.as_slice.ensures in
+    let act = c.in_ok-self.field-0 in
+    let on = acted c.step.new.self.names act.spot x.call in
+    let no-answer : (said : Said) (folder : ℕ) (unique : List ℕ) → x.call ≡ call.Answer said folder unique → ⊥ =
+    λ said folder unique e. c.in_default.not-Answer said folder unique e in
+    let no-list : (folder : ℕ) → Looks x.call folder → ⊥ = no-looks x.call (λ folder place r shown e. c.in_default.not-List folder place r shown e) in
+    ok-then c.call.result (NotesAct c.in_ok-actor.actor c.begin.new.self.now on c.begin.new.self.actors c.call.new.self.actors) _
+    (λ notes. acting-called lines names uniques l i x (c.args.line, is) c.in_ok-actor.actor named c.are_apart.ensures.apart first.watch.actors
+    c.begin.new.self.actors c.call.new.self.actors first.watch.now (now ∙ sym here) first.listings first.listings before
+    (c.in_ok-begin.ensures.begun few) c.in_ok-begin.ensures.others c.in_ok-begin.ensures.done
+    no-answer on (acts-on c.step.new.self.names act.spot act refl x.call c.in_ok-self.ensures.first)
+    (on-acts c.step.new.self.names act.spot act refl x.call c.in_ok-self.ensures.first) no-list numbered.uniques
+    (subst (λ (n : ℕ). NotesAct c.in_ok-actor.actor n on c.begin.new.self.actors c.call.new.self.actors) c.begin.ensures.now notes) refl)
+    (c.call.ensures.acts few')
+
+-- ---- answers that give up
+
+pub returns-in-List-clause-gave_up : goal.returns-in-List-clause-gave_up
+returns-in-List-clause-gave_up c = λ lines l i keeps is here short now rises counted.
+    let t = turn l i c.args.step in
+    let old = c.numbers.new.self.watch.found in
+    let none : GaveUp t → ⊥ = λ gave. let answers = gave.4 in let no = c.in-List.is in cc in
+    ok-then c.list.result (KeepsAnswers old c.list.new.self.found) (Has c.list.new.self.found.broken clause.GaveUp ↔ GaveUp t)
+    (λ answers. found-none clause.GaveUp (GaveUp t) old c.list.new.self.found
+    (subst (λ (f : Found). Has f.broken clause.GaveUp → ⊥) (sym c.in_ok-names-in-List.ensures.found) (c.begin.ensures.nothing clause.GaveUp))
+    answers.gave_up none) c.list.ensures.answers
+
+pub returns-in-Answer-clause-gave_up : goal.returns-in-Answer-clause-gave_up
+returns-in-Answer-clause-gave_up c = λ lines l i keeps is here short now rises counted.
+    let x = c.args.step in
+    let step-is : IsStep l i x = (c.args.line, is) in
+    let first = c.args.self.now in
+    let names = c.number.new.self in
+    let me = c.in_ok-actor.actor in
+    let uniques = c.unique.new.self.uniques in
+    let numbered = c.in_ok-unique-in-Answer.ensures.numbered in
+    let keeps-words : KeepWords first.known.names.uniques uniques = λ n w of. c.in_ok-unique-in-Answer.ensures.uniques.keeps w n (c.in_ok-self.ensures.uniques.keeps w n of) in
+    let before = acting-before lines first.actor_names names c.in_ok-actor.field-0-1 c.as_slice.result.now first.known.names.uniques uniques l i
+    first.watch.actors first.listings c.in_ok-actor.ensures.grows c.are_apart.ensures.apart keeps-words numbered.uniques keeps.acting in
+    let few : first.watch.now < 4294967296 = omega (arith, now, short) in
+    let folder = c.in-Answer.folder in
+    let u = c.in_ok-unique-in-Answer.unique in
+    let unique = c.in-Answer.unique in
+    let key : ℕ × ℕ = (folder, u) in
+    let named : MayStand names me x.actor = inl (c.in_ok-actor.ensures.found ∙ ap Some c.as_slice.ensures) in
+    let of : MayStand uniques u unique = inl (c.in_ok-unique-in-Answer.ensures.number ∙ ap Some c.as_slice-in-Answer.ensures) in
+    let o = begun_by first.watch.actors me key in
+    let span = span-of lines l i x step-is x.actor folder unique refl o (before.begun me x.actor folder u unique named of) in
+    let t = turn l i x in
+    let done : About = done_by first.watch.actors me key in
+    let notes = c.answer.ensures.gave_up lines span.0 i unique l x (record {
+      call = c.in-Answer.is;
+      span = span.2;
+      rises = rises;
+      counted = counted;
+      begins = c.in_ok-begin.ensures.begun few key ∙ ap (λ (n : ℕ). Some (unwrap_or o n)) (now ∙ sym here) ∙ ap Some span.1;
+      acts = subst (λ (a : About). RecallsActs lines t span.0 folder unique a) (sym (c.in_ok-begin.ensures.done me key))
+          (acts-in lines l i x step-is x.actor folder unique span.0 refl span.2 done (before.done me x.actor folder u unique named of));
+      looks = before.looks me x.actor folder named;
+      there = subst (λ (m : Mail). (0 < count_of (message_of m folder u)) ↔ IsThere (at l i) folder unique) (sym c.begin.ensures.mail)
+          (are-present first.known.names l i first.watch.mail keeps.mailed.0 folder u unique
+          (stood first.known.names.uniques uniques keeps-words numbered.uniques u unique of));
+    }) in
+    found-one clause.GaveUp (GaveUp t) (GaveUp t) c.begin.new.self.found c.answer.new.self.found (c.begin.ensures.nothing clause.GaveUp) notes
+    (λ h. h, λ h. h)
+
+pub returns-clause-gave_up : goal.returns-clause-gave_up
+returns-clause-gave_up c = λ lines l i keeps is here short now rises counted.
+    let t = turn l i c.args.step in
+    let old = c.begin.new.self.found in
+    let none : GaveUp t → ⊥ = λ gave. c.in_default.not-Answer gave.1 gave.2 gave.3 gave.4 in
+    ok-then c.call.result (KeepsAnswers old c.call.new.self.found) (Has c.call.new.self.found.broken clause.GaveUp ↔ GaveUp t)
+    (λ answers. found-none clause.GaveUp (GaveUp t) old c.call.new.self.found (c.begin.ensures.nothing clause.GaveUp) answers.gave_up none)
+    c.call.ensures.answers
+
 -- ---- what is kept, and what is found
 
 pub returns-in-List-clause-told : goal.returns-in-List-clause-told
@@ -188,17 +403,32 @@ returns-in-List-clause-told c = λ lines l i keeps is here short now there.
     (still-filed who (length names) l i x step-is actor acts c.args.self.now.watch.files.all.items are c.step.new.self.names still apart) in
     let judge = c.numbers.new.self in
     let told = c.in_ok-names-in-List.ensures.known lines l (suc i) (c.in_ok-self.ensures.told lines l i keeps.told is here short there) in
-    ok-two c.list.result (c.list.new.self.files ≡ judge.watch.files) (AreOpen lines judge.actor_names judge.known.names l (suc i) c.list.new.listings) _
-    (λ same opens. record {
+    let first = c.args.self.now in
+    let grows = grows-on first.known.names c.step.new.self.names judge.known.names c.in_ok-self.ensures.uniques c.in_ok-names-in-List.ensures.uniques in
+    let mail = tells-still l i still judge.known.names first.watch.mail
+    (tells-grows first.known.names judge.known.names grows l i first.watch.mail keeps.mailed) in
+    let kept-open = AreOpen lines judge.actor_names judge.known.names l (suc i) c.list.new.listings in
+    let kept-listings = AreGathered lines judge.actor_names judge.known.names l (suc i) c.list.new.listings in
+    let same-mail = c.list.new.self.mail ≡ judge.watch.mail in
+    let kept-actors = AreActing lines judge.actor_names judge.known.names.uniques l (suc i) c.list.new.self.actors c.list.new.listings in
+    ok-three c.list.result (c.list.new.self.files ≡ judge.watch.files) (kept-open × kept-listings) (same-mail × kept-actors) _
+    (λ same read rest. record {
       told = told;
       filed = subst (λ (ws : List (List ℕ)). AreFiled (name_at ws) (length ws) l (suc i) c.list.new.self.files.all.items) (sym c.numbers.ensures.rest.2)
           (subst (λ (f : Files). AreFiled who (length names) l (suc i) f.all.items) (sym (same ∙ ap (λ (w : Watch). w.files) c.numbers.ensures.rest.0)) kept);
       clock = c.in_ok-names-in-List.ensures.clock ∙ c.step.ensures.clock l i keeps.clock is;
-      opens = opens;
-    }) c.list.ensures.files (returns-in-List-clause-opens c lines l i keeps.opens is here now)
+      opens = read.0;
+      gathers = read.1;
+      mailed = subst (λ (m : Mail). TellsMail judge.known.names l (suc i) m)
+          (sym (rest.0 ∙ ap (λ (w : Watch). w.mail) c.numbers.ensures.rest.0 ∙ c.begin.ensures.mail)) mail;
+      acting = rest.1;
+    }) c.list.ensures.files
+    (ok-both c.list.result kept-open kept-listings (returns-in-List-clause-opens c lines l i keeps.opens is here now)
+    (returns-in-List-clause-gathers c lines l i keeps.opens keeps.gathers is here now))
+    (ok-both c.list.result same-mail kept-actors c.list.ensures.mail (returns-in-List-acting c lines l i keeps.acting is here short now))
 
 pub returns-in-List-clause-broken : goal.returns-in-List-clause-broken
-returns-in-List-clause-broken c = λ lines l i keeps is here short now rises there.
+returns-in-List-clause-broken c = λ lines l i keeps is here short now rises counted there.
     let x = c.args.step in
     let step-is : IsStep l i x = (c.args.line, is) in
     let names = c.number.new.self in
@@ -215,16 +445,21 @@ returns-in-List-clause-broken c = λ lines l i keeps is here short now rises the
     let new = c.list.new.self.found in
     let wrong = Has new.broken clause.NotADirectory ↔ NotADirectory t in
     let overwritten = Has new.broken clause.Overwritten ↔ Overwritten t in
-    ok-two c.list.result (wrong × overwritten) (KeepsFiles shown new) ((k : Clause) → IsProved k → Has new.broken k ↔ Breaks k t)
-    (λ paths kept. kept-proved t c.begin.new.self.found shown new c.begin.ensures.nothing c.in_ok-names-in-List.ensures.found paths.0 paths.1 kept
-    (still-lawful who (length names) l i x step-is actor acts c.args.self.now.watch.files.all.items are c.step.new.self.names still apart))
-    (ok-two c.list.result wrong overwritten (wrong × overwritten) (λ w o. (w, o))
+    let gave = Has new.broken clause.GaveUp ↔ GaveUp t in
+    ok-three c.list.result (IsJudgedAlone new.broken t) (KeepsFiles shown new) (KeepsAdded shown new)
+    ((k : Clause) → IsProved k → Has new.broken k ↔ Breaks k t)
+    (λ alone kept added. kept-proved t c.begin.new.self.found shown new c.begin.ensures.nothing c.in_ok-names-in-List.ensures.found alone kept
+    (still-lawful who (length names) l i x step-is actor acts c.args.self.now.watch.files.all.items are c.step.new.self.names still apart)
+    added (still-two l i still x) (still-again l i still x))
+    (ok-three c.list.result wrong overwritten gave (IsJudgedAlone new.broken t) (λ w o g. record { wrong = w; overwritten = o; gave_up = g })
     (returns-in-List-clause-read c lines l i keeps.told keeps.opens is here short there now rises)
-    (returns-in-List-clause-overwritten c lines l i keeps.told is here short there)) c.list.ensures.others
+    (returns-in-List-clause-overwritten c lines l i keeps.told is here short there)
+    (returns-in-List-clause-gave_up c lines l i keeps is here short now rises counted)) c.list.ensures.others c.list.ensures.added
 
 pub returns-in-Answer-clause-told : goal.returns-in-Answer-clause-told
 returns-in-Answer-clause-told c = λ lines l i keeps is here short now there.
     let x = c.args.step in
+    let first = c.args.self.now in
     let step-is : IsStep l i x = (c.args.line, is) in
     let names = c.number.new.self in
     let actor = c.in_ok-actor.actor in
@@ -242,10 +477,16 @@ returns-in-Answer-clause-told c = λ lines l i keeps is here short now there.
           (still-filed who (length names) l i x step-is actor acts c.args.self.now.watch.files.all.items are c.step.new.self.names still apart);
       clock = c.step.ensures.clock l i keeps.clock is;
       opens = returns-in-Answer-clause-opens c lines l i keeps.opens is here now;
+      gathers = returns-in-Answer-clause-gathers c lines l i keeps.opens keeps.gathers is here now;
+      mailed = subst (λ (m : Mail). TellsMail c.unique.new.self l (suc i) m) (sym (c.answer.ensures.mail ∙ c.begin.ensures.mail))
+          (tells-still l i still c.unique.new.self first.watch.mail (tells-grows first.known.names c.unique.new.self
+          (grows-on first.known.names c.step.new.self.names c.unique.new.self c.in_ok-self.ensures.uniques c.in_ok-unique-in-Answer.ensures.uniques)
+          l i first.watch.mail keeps.mailed));
+      acting = returns-in-Answer-acting c lines l i keeps.acting is here short now;
     }
 
 pub returns-in-Answer-clause-broken : goal.returns-in-Answer-clause-broken
-returns-in-Answer-clause-broken c = λ lines l i keeps is here short now rises there.
+returns-in-Answer-clause-broken c = λ lines l i keeps is here short now rises counted there.
     let x = c.args.step in
     let step-is : IsStep l i x = (c.args.line, is) in
     let names = c.number.new.self in
@@ -258,10 +499,13 @@ returns-in-Answer-clause-broken c = λ lines l i keeps is here short now rises t
     let still : at l (suc i) ≡ at l i = at-next l i y is ∙ ap (λ v. after_call v (after_step (moment l i) y).now (at l i)) c.in-Answer.is in
     let apart : (d : Deed) (p : Path) (r : Reply) → x.call ≡ call.At d p r → ⊥ = λ d p r e. let no = c.in-Answer.is in cc in
     let found = c.begin.new.self.found in
-    kept-proved (turn l i x) found found c.answer.new.self.found c.begin.ensures.nothing refl
-    (returns-in-Answer-clause-read c lines l i keeps.told keeps.opens is here short there now rises)
-    (returns-in-Answer-clause-overwritten c lines l i keeps.told is here short there) c.answer.ensures.others
+    kept-proved (turn l i x) found found c.answer.new.self.found c.begin.ensures.nothing refl (record {
+      wrong = returns-in-Answer-clause-read c lines l i keeps.told keeps.opens is here short there now rises;
+      overwritten = returns-in-Answer-clause-overwritten c lines l i keeps.told is here short there;
+      gave_up = returns-in-Answer-clause-gave_up c lines l i keeps is here short now rises counted;
+    }) c.answer.ensures.others
     (still-lawful who (length names) l i x step-is actor acts c.args.self.now.watch.files.all.items are c.step.new.self.names still apart)
+    c.answer.ensures.added (still-two l i still x) (still-again l i still x)
 
 pub returns-clause-told : goal.returns-clause-told
 returns-clause-told c = λ lines l i keeps is here short now there.
@@ -279,17 +523,30 @@ returns-clause-told c = λ lines l i keeps is here short now there.
     let clock = c.step.ensures.clock l i keeps.clock is in
     let judged : IsJudged done.0 who (length names) l i x actor x.call c.step.new.self c.in_ok-self.field-0 =
     record { step = step-is; call = refl; acts = acts; clock = clock; done = done.1 } in
-    ok-two c.call.result (AreFiled who (length names) l (suc i) c.call.new.self.files.all.items)
-    (AreOpen lines names c.step.new.self.names l (suc i) c.args.self.now.listings) _
-    (λ filed opens. record {
+    let first = c.args.self.now in
+    let mail = subst (λ (m : Mail). TellsMail c.step.new.self.names l i m) (sym c.begin.ensures.mail)
+    (tells-grows first.known.names c.step.new.self.names c.in_ok-self.ensures.uniques l i first.watch.mail keeps.mailed) in
+    let kept-open = AreOpen lines names c.step.new.self.names l (suc i) c.args.self.now.listings in
+    let kept-listings = AreGathered lines names c.step.new.self.names l (suc i) c.args.self.now.listings in
+    let kept-mail = TellsMail c.step.new.self.names l (suc i) c.call.new.self.mail in
+    let kept-actors = AreActing lines names c.step.new.self.names.uniques l (suc i) c.call.new.self.actors c.args.self.now.listings in
+    ok-three c.call.result (AreFiled who (length names) l (suc i) c.call.new.self.files.all.items) (kept-open × kept-listings) (kept-mail × kept-actors) _
+    (λ filed read rest. record {
       told = c.in_ok-self.ensures.told lines l i keeps.told is here short there;
       filed = filed;
       clock = clock;
-      opens = opens;
-    }) (c.call.ensures.filed done.0 who (length names) i l x kept judged) (returns-clause-opens c lines l i keeps.opens is here now)
+      opens = read.0;
+      gathers = read.1;
+      mailed = rest.0;
+      acting = rest.1;
+    }) (c.call.ensures.filed done.0 who (length names) i l x kept judged)
+    (ok-both c.call.result kept-open kept-listings (returns-clause-opens c lines l i keeps.opens is here now)
+    (returns-clause-gathers c lines l i keeps.opens keeps.gathers is here now))
+    (ok-both c.call.result kept-mail kept-actors (c.call.ensures.mailed done.0 who (length names) i l x mail judged)
+    (returns-acting c lines l i keeps.acting is here short now))
 
 pub returns-clause-broken : goal.returns-clause-broken
-returns-clause-broken c = λ lines l i keeps is here short now rises there.
+returns-clause-broken c = λ lines l i keeps is here short now rises counted there.
     let x = c.args.step in
     let step-is : IsStep l i x = (c.args.line, is) in
     let names = c.number.new.self in
@@ -309,8 +566,14 @@ returns-clause-broken c = λ lines l i keeps is here short now rises there.
     let new = c.call.new.self.found in
     let wrong = Has new.broken clause.NotADirectory ↔ NotADirectory t in
     let overwritten = Has new.broken clause.Overwritten ↔ Overwritten t in
-    ok-two c.call.result (wrong × overwritten) (NotesFiles (BrokenByFiles t) begun new) ((k : Clause) → IsProved k → Has new.broken k ↔ Breaks k t)
-    (λ paths. noted-proved t begun begun new c.begin.ensures.nothing refl paths.0 paths.1)
-    (ok-two c.call.result wrong overwritten (wrong × overwritten) (λ w o. (w, o))
+    let gave = Has new.broken clause.GaveUp ↔ GaveUp t in
+    let first = c.args.self.now in
+    let mail = subst (λ (m : Mail). TellsMail c.step.new.self.names l i m) (sym c.begin.ensures.mail)
+    (tells-grows first.known.names c.step.new.self.names c.in_ok-self.ensures.uniques l i first.watch.mail keeps.mailed) in
+    ok-three c.call.result (IsJudgedAlone new.broken t) (NotesFiles (BrokenByFiles t) begun new) (NotesAdded t begun new)
+    ((k : Clause) → IsProved k → Has new.broken k ↔ Breaks k t) (noted-proved t begun begun new c.begin.ensures.nothing refl)
+    (ok-three c.call.result wrong overwritten gave (IsJudgedAlone new.broken t) (λ w o g. record { wrong = w; overwritten = o; gave_up = g })
     (returns-clause-read c lines l i keeps.told keeps.opens is here short there now rises)
-    (returns-clause-overwritten c lines l i keeps.told is here short there)) (c.call.ensures.finds done.0 who (length names) i l x kept judged)
+    (returns-clause-overwritten c lines l i keeps.told is here short there)
+    (returns-clause-gave_up c lines l i keeps is here short now rises counted))
+    (c.call.ensures.finds done.0 who (length names) i l x kept judged) (c.call.ensures.added done.0 who (length names) i l x mail judged)

@@ -1,4 +1,4 @@
-use Rattle.std.proofs.Common.{refl}
+use Rattle.std.proofs.Common.{refl, arith}
 use Rattle.md_judge.specs.Logs.{empty_log}
 use Rattle.md_judge.proofs.Prefixes.{finding-none}
 use Rattle.md_judge.proofs.Verdicts.{no-step}
@@ -15,6 +15,8 @@ returns c = record {
       housed = refl;
       told = λ lines are. c.new-2.ensures.told lines;
       rises = λ a b x y up is after. absurd (no-step empty_log.steps refl a x is);
+      above = λ k x is. absurd (no-step empty_log.steps refl k x is);
+      first = omega arith;
       below = λ k x is. absurd (no-step empty_log.steps refl k x is);
       waits = c.new-5.ensures.waits;
       moved = c.new-5.ensures.moved;

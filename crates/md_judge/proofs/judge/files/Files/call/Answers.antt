@@ -1,11 +1,11 @@
 use Rattle.md_judge.specs.Filed.{AreFiled, BrokenByFiles}
 use Rattle.md_judge.specs.Files.{ChangeFinds, ChangeStep}
-use Rattle.md_judge.specs.Found.{Notes, KeepsPaths}
+use Rattle.md_judge.specs.Found.{Notes, KeepsPaths, KeepsAdded}
 use Rattle.md_judge.specs.Law.{turn}
 use Rattle.md_judge.specs.Recalls.{BrokenByChange}
 use Rattle.std.proofs.Common.{suc}
 use Rattle.md_judge.proofs.Judged.{notes-both, on-both, filed-call, change-call}
-use Rattle.md_judge.proofs.Sparing.{keeps-paths, keeps-on, ok-then, change-more}
+use Rattle.md_judge.proofs.Sparing.{keeps-on, added-on, files-spare-paths, files-spare-added, ok-then, change-more}
 use Rattle.md_judge.proofs.judge.files.Files.call.Goals as goal
 
 pub returns-clause-paths : goal.returns-clause-paths
@@ -15,7 +15,18 @@ returns-clause-paths c =
     let new = c.change.new.found in
     let finds = ChangeFinds c.args.known.now.names c.args.by.actor c.args.known.now.clock c.args.act.now.change c.on_path.new.self.all.items c.change.new.self.all.items in
     ok-then c.change.result (Notes finds between new) (KeepsPaths old new)
-    (λ notes. keeps-on old between new c.in_ok-on_path.ensures.paths (keeps-paths finds
+    (λ notes. keeps-on old between new c.in_ok-on_path.ensures.paths (files-spare-paths finds
+    (change-more c.args.known.now.names c.args.by.actor c.args.known.now.clock c.args.act.now.change c.on_path.new.self.all.items c.change.new.self.all.items)
+    between new notes)) c.change.ensures.finds
+
+pub returns-clause-added : goal.returns-clause-added
+returns-clause-added c =
+    let old = c.args.found.now in
+    let between = c.on_path.new.found in
+    let new = c.change.new.found in
+    let finds = ChangeFinds c.args.known.now.names c.args.by.actor c.args.known.now.clock c.args.act.now.change c.on_path.new.self.all.items c.change.new.self.all.items in
+    ok-then c.change.result (Notes finds between new) (KeepsAdded old new)
+    (λ notes. added-on old between new c.in_ok-on_path.ensures.added (files-spare-added finds
     (change-more c.args.known.now.names c.args.by.actor c.args.known.now.clock c.args.act.now.change c.on_path.new.self.all.items c.change.new.self.all.items)
     between new notes)) c.change.ensures.finds
 

@@ -1,10 +1,10 @@
 use Rattle.std.proofs.Common.{◌≡◌, sym, ap, ◌∙◌}
-use Rattle.md_judge.specs.Found.{Notes, KeepsPaths}
+use Rattle.md_judge.specs.Found.{Notes, KeepsPaths, KeepsAdded}
 use Rattle.md_judge.specs.Files.{is_message_in, AtFinds}
 use Rattle.md_judge.specs.Told.{is_message}
 use Rattle.md_judge.proofs.Judged.{is-at}
 use Rattle.md_judge.proofs.Shown.{message-of}
-use Rattle.md_judge.proofs.Sparing.{keeps-paths, ok-then, at-more}
+use Rattle.md_judge.proofs.Sparing.{files-spare-paths, files-spare-added, ok-then, at-more}
 use Rattle.md_judge.proofs.judge.files.Files.on_path.Goals as goal
 
 pub returns-in-None-clause-law : goal.returns-in-None-clause-law
@@ -21,7 +21,16 @@ returns-in-Some-clause-paths c =
     let all = c.args.self.now.all.items in
     let finds = AtFinds is_message actor all c.in-At.deed c.in-At.reply c.args.act.now.file in
     ok-then c.at.result (Notes finds c.args.found.now c.at.new.found) (KeepsPaths c.args.found.now c.at.new.found)
-    (keeps-paths finds (at-more is_message actor all c.in-At.deed c.in-At.reply c.args.act.now.file) c.args.found.now c.at.new.found) c.at.ensures.finds
+    (files-spare-paths finds (at-more is_message actor all c.in-At.deed c.in-At.reply c.args.act.now.file) c.args.found.now c.at.new.found) c.at.ensures.finds
+
+pub returns-in-Some-clause-added : goal.returns-in-Some-clause-added
+returns-in-Some-clause-added c =
+    let is_message = is_message_in c.args.known.now.names c.in-Some.spot in
+    let actor = c.args.by.actor in
+    let all = c.args.self.now.all.items in
+    let finds = AtFinds is_message actor all c.in-At.deed c.in-At.reply c.args.act.now.file in
+    ok-then c.at.result (Notes finds c.args.found.now c.at.new.found) (KeepsAdded c.args.found.now c.at.new.found)
+    (files-spare-added finds (at-more is_message actor all c.in-At.deed c.in-At.reply c.args.act.now.file) c.args.found.now c.at.new.found) c.at.ensures.finds
 
 pub returns-in-Some-clause-law : goal.returns-in-Some-clause-law
 returns-in-Some-clause-law c = λ path who many i l x are judged.

@@ -1,17 +1,33 @@
-use Rattle.std.proofs.Common.{suc, ◌≡◌, ◌<◌, ◌^◌, inl, inr, true, Result, Ok, Err, IfOk, refl, sym, subst, ap, ◌∙◌}
+use Rattle.std.proofs.Common.{suc, ◌≡◌, ◌<◌, ◌^◌, inl, inr, true, Result, Ok, Err, IfOk, Some, None, false, refl, sym, subst, ap, ◌∙◌}
 use Rattle.md_dirs.specs.State.{has_folder}
-use Rattle.md_judge.specs.Acts.{IsWrongAsk, IsActOf}
+use Rattle.md_log.specs.declared.line.Call.{Call}
+use Rattle.md_judge.specs.declared.judge.known.Act.{Act}
+use Rattle.md_judge.specs.declared.judge.tables.Names.{Names}
+use Rattle.md_judge.specs.Acts.{IsWrongAsk, IsActOf, NamesFirst}
 use Rattle.md_judge.specs.Law.{turn}
 use Rattle.md_judge.specs.Told.{at, ask_at, ask_between, after_ask, after_call}
 use Rattle.md_judge.specs.Moments.{GoesOn}
 use Rattle.md_judge.specs.Recalled.{IsSpotOf, HasFolders}
 use Rattle.md_judge.proofs.Acting.{acts-at, acts-between, acts-none, done-none}
 use Rattle.md_judge.proofs.Pathed.{path_by, path-is}
-use Rattle.md_judge.proofs.Stepping.{rests}
+use Rattle.md_judge.proofs.Stepping.{rests, on-ok}
+use Rattle.md_judge.proofs.Uniqued.{grows-same, grows-on}
+use Rattle.md_judge.specs.declared.judge.tables.Names.{Names}
 use Rattle.md_judge.proofs.Telling.{known-by}
 use Rattle.md_judge.specs.Names.{IsNumber}
 use Rattle.md_judge.specs.Acts.{ReadsNone}
 use Rattle.md_judge.proofs.judge.known.Known.call.Goals as goal
+
+-- a call on no path does nothing to paths
+abbrev no-act : Act
+no-act = record {
+  is_wrong = false;
+  wrong_before = None;
+  spot = None;
+  file = None;
+  change = record { taken = None; added = None; turned = None; is_unlink = false };
+  turned_before = None;
+}
 
 -- what follows of a value holds of it where there is one
 if-ok : {A E : Type 0} (r : Result A E) (P Q : A → Type 0) → ((a : A) → P a → Q a) → IfOk r P → IfOk r Q
@@ -54,7 +70,15 @@ returns-in_ok-spot-in-At c = record {
       c.at.ensures.done path now lines l i x (spot.told lines l i told) spot.numbered spot.spot goes' there' (is ∙ c.in-At.is);
   clock = c.at.ensures.clock ∙ c.spot.ensures.clock;
   keeps = λ name n is. subst (λ t. IsNumber t name n) (sym c.at.ensures.names) (c.spot.ensures.keeps name n is);
+  first =
+      let names = c.at.new.self.names in
+      let s = c.in_ok-spot-in-At.spot in
+      if-ok c.at.result (λ act. act.spot ≡ Some s) (λ act. NamesFirst names c.args.call.now act)
+      (λ act is. subst (λ (v : Call). NamesFirst names v act) (sym c.in-At.is)
+      (s, is, subst (λ (t : Names). IsSpotOf t c.in-At.path s) (sym c.at.ensures.names) c.in_ok-spot-in-At.ensures.spot)) c.at.ensures.spot;
   lists = λ reads. absurd (reads (subst ReadsNone (sym c.in-At.is) tt));
+  uniques = on-ok c.at.result (grows-on c.args.self.now.names c.spot.new.self.names c.at.new.self.names c.in_ok-spot-in-At.ensures.uniques
+      (grows-same c.spot.new.self.names c.at.new.self.names (ap (λ (n : Names). n.uniques) c.at.ensures.names)));
 }
 
 pub returns-in_ok-new-in-Between : goal.returns-in_ok-new-in-Between
@@ -113,7 +137,25 @@ returns-in_ok-new-in-Between c = record {
   clock = c.between.ensures.clock ∙ c.spot-in-Between-2.ensures.clock ∙ c.spot-in-Between.ensures.clock;
   keeps = λ name n is. subst (λ t. IsNumber t name n) (sym c.between.ensures.names)
       (c.spot-in-Between-2.ensures.keeps name n (c.spot-in-Between.ensures.keeps name n is));
+  first =
+      let names = c.between.new.self.names in
+      let s = c.in_ok-old-in-Between.old in
+      let of = c.in_ok-old-in-Between.ensures.spot in
+      let old = c.in-Between.old in
+      let number = c.in_ok-new-in-Between.ensures.keeps old.name s.name of.number in
+      if-ok c.between.result (λ act. act.spot ≡ Some s) (λ act. NamesFirst names c.args.call.now act)
+      (λ act is. subst (λ (v : Call). NamesFirst names v act) (sym c.in-Between.is)
+      (s, is, subst (λ (t : Names). IsSpotOf t old s) (sym c.between.ensures.names) (record { folder = of.folder; place = of.place; number = number })))
+      c.between.ensures.spot;
   lists = λ reads. absurd (reads (subst ReadsNone (sym c.in-Between.is) tt));
+  uniques =
+      let first = c.args.self.now.names in
+      let second = c.spot-in-Between.new.self.names in
+      let third = c.spot-in-Between-2.new.self.names in
+      let last = c.between.new.self.names in
+      on-ok c.between.result (grows-on first third last
+      (grows-on first second third c.in_ok-old-in-Between.ensures.uniques c.in_ok-new-in-Between.ensures.uniques)
+      (grows-same third last (ap (λ (n : Names). n.uniques) c.between.ensures.names)));
 }
 
 pub returns-in-List : goal.returns-in-List
@@ -142,7 +184,12 @@ returns-in-List c = record {
       done-none c.args.self.now.names l i x _ refl same (elim c.in-List.is [ inl of ↦ λ d p r e. let no = of.4 in cc | inr of ↦ λ d p r e. let no = of.3 in cc ]);
   clock = refl;
   keeps = λ name n is. is;
+  first = elim c.in-List.is [
+    | inl of ↦ subst (λ (v : Call). NamesFirst c.args.self.now.names v no-act) (sym of.4) tt
+    | inr of ↦ subst (λ (v : Call). NamesFirst c.args.self.now.names v no-act) (sym of.3) tt
+  ];
   lists = λ reads. refl;
+  uniques = grows-same c.args.self.now.names c.args.self.now.names refl;
 }
 
 pub returns-in-List-2 : goal.returns-in-List-2
@@ -171,5 +218,10 @@ returns-in-List-2 c = record {
       done-none c.args.self.now.names l i x _ refl same (elim c.in-List.is [ inl of ↦ λ d p r e. let no = of.4 in cc | inr of ↦ λ d p r e. let no = of.3 in cc ]);
   clock = refl;
   keeps = λ name n is. is;
+  first = elim c.in-List.is [
+    | inl of ↦ subst (λ (v : Call). NamesFirst c.args.self.now.names v no-act) (sym of.4) tt
+    | inr of ↦ subst (λ (v : Call). NamesFirst c.args.self.now.names v no-act) (sym of.3) tt
+  ];
   lists = λ reads. refl;
+  uniques = grows-same c.args.self.now.names c.args.self.now.names refl;
 }

@@ -1,12 +1,17 @@
-use Rattle.std.proofs.Common.{suc, ◌≡◌, IsTrue, IsSome, sym, subst, ap, ◌∙◌}
+use Rattle.std.proofs.Common.{suc, ◌≡◌, IsTrue, IsSome, sym, subst, ◌∙◌}
 use Rattle.md_log.specs.declared.clause.Clause.TheVariants as clause
-use Rattle.md_judge.specs.declared.judge.watch.Watch.{Watch}
-use Rattle.md_judge.specs.Found.{Keeps, NotesOne, KeepsPaths, KeepsFiles, NotesFiles}
+use Rattle.md_judge.specs.Found.{Keeps, NotesOne, KeepsPaths, KeepsAdded, KeepsFiles, KeepsAnswers, NotesFiles}
 use Rattle.md_judge.specs.declared.judge.files.Files.{Files}
 use Rattle.md_judge.specs.Filed.{AreFiled, BrokenByFiles}
 use Rattle.md_judge.specs.Law.{turn}
-use Rattle.md_judge.proofs.Sparing.{keeps-same, keeps-one, keeps-on, noted, unnoted, notes-one, one-notes, ok-then, same-files, files-on, notes-files, unnoted-files}
-use Rattle.md_judge.proofs.judge.watch.Watch.call.Goals.{in-Some-Some+in_ok-note_act, in-Some+in-None-1, in-None-1}
+use Rattle.md_judge.specs.declared.judge.mail.Mail.{Mail}
+use Rattle.md_judge.specs.Actors.{KeepsActs, NotesAct, acted as acted-of}
+use Rattle.md_judge.specs.Mailed.{MakeStep, TellsMail, NotesAdded}
+use Rattle.md_judge.specs.Timed.{MakesTimes, AreTimed}
+use Rattle.md_judge.proofs.Lined.{notes-then}
+use Rattle.md_judge.proofs.Posted.{tells-step}
+use Rattle.md_judge.proofs.Retimed.{times-made}
+use Rattle.md_judge.proofs.Sparing.{answers-on, unnoted-answers, keeps-same, keeps-one, keeps-on, noted, unnoted, notes-one, one-notes, ok-then, ok-two, same-files, files-on, notes-files, unnoted-files, unnoted-added, added-same, added-on, added-notes}
 use Rattle.md_judge.proofs.judge.watch.Watch.call.Goals as goal
 
 pub returns : goal.returns
@@ -14,15 +19,13 @@ returns c =
     let old = c.args.self.now.found in
     let noting = c.note.new.self in
     let filed = c.call.new.found in
-    let acted = c.match-act.self.found in
+    let acted = c.note_call.new.self.found in
     let new = c.change.new.self.found in
     let wrong = c.args.act.now.is_wrong in
     let turned = c.args.act.now.change.turned in
-    let acts : KeepsPaths filed acted = elim c.match-act.branch [
-      | in-Some-Some+in_ok-note_act w ↦ keeps-same filed acted (ap (λ (s : Watch). s.found) w.self-is ∙ w.in_ok-note_act.ensures.found)
-      | in-Some+in-None-1 w ↦ keeps-same filed acted (ap (λ (s : Watch). s.found) w.self-is)
-      | in-None-1 w ↦ keeps-same filed acted (ap (λ (s : Watch). s.found) w.self-is)
-    ] in
+    let names = c.args.known.now.names in
+    let mail : c.note_call.new.self.mail ≡ c.args.self.now.mail = c.in_ok-note_call.ensures.mail in
+    let acts : KeepsPaths filed acted = keeps-same filed acted c.in_ok-note_call.ensures.found in
     let keeps : KeepsPaths noting acted = keeps-on noting filed acted c.in_ok-call.ensures.paths acts in
     let notes : NotesOne clause.NotADirectory (IsTrue wrong) old acted =
     notes-one clause.NotADirectory (IsTrue wrong) old noting acted
@@ -38,22 +41,48 @@ returns c =
       filed = λ path who many i l x are judged.
           let mid = c.call.new.self.all.items in
           let filed = c.in_ok-call.ensures.filed path who many i l x are judged in
-          let acted : c.match-act.self.files ≡ c.call.new.self = elim c.match-act.branch [
-            | in-Some-Some+in_ok-note_act w ↦ ap (λ (s : Watch). s.files) w.self-is ∙ w.in_ok-note_act.ensures.files
-            | in-Some+in-None-1 w ↦ ap (λ (s : Watch). s.files) w.self-is
-            | in-None-1 w ↦ ap (λ (s : Watch). s.files) w.self-is
-          ] in
-          ok-then c.change.result (c.change.new.self.files ≡ c.match-act.self.files) (AreFiled who many l (suc i) c.change.new.self.files.all.items)
+          let acted : c.note_call.new.self.files ≡ c.call.new.self = c.in_ok-note_call.ensures.files in
+          ok-then c.change.result (c.change.new.self.files ≡ c.note_call.new.self.files) (AreFiled who many l (suc i) c.change.new.self.files.all.items)
           (λ same. subst (λ (f : Files). AreFiled who many l (suc i) f.all.items) (sym (same ∙ acted)) filed) c.change.ensures.files;
       finds = λ path who many i l x are judged.
           let first : KeepsFiles old noting = unnoted-files wrong clause.NotADirectory (λ h. h) old noting c.note.ensures in
-          let then : KeepsFiles filed acted = elim c.match-act.branch [
-            | in-Some-Some+in_ok-note_act w ↦ same-files filed acted (ap (λ (s : Watch). s.found) w.self-is ∙ w.in_ok-note_act.ensures.found)
-            | in-Some+in-None-1 w ↦ same-files filed acted (ap (λ (s : Watch). s.found) w.self-is)
-            | in-None-1 w ↦ same-files filed acted (ap (λ (s : Watch). s.found) w.self-is)
-          ] in
+          let then : KeepsFiles filed acted = same-files filed acted c.in_ok-note_call.ensures.found in
           let broken = BrokenByFiles (turn l i x) in
           ok-then c.change.result (KeepsFiles acted new) (NotesFiles broken old new)
           (λ last. notes-files broken old noting filed new first (c.in_ok-call.ensures.finds path who many i l x are judged) (files-on filed acted new then last))
           c.change.ensures.others;
+      mailed = λ path who many i l x tells judged.
+          let change = c.args.act.now.change in
+          let last = c.change.new.self.mail in
+          ok-then c.change.result (MakeStep names change c.note_call.new.self.mail last) (TellsMail names l (suc i) last)
+          (λ makes. tells-step path names l i change judged.done.leads judged.done.spots c.args.self.now.mail last
+          (subst (λ (m : Mail). MakeStep names change m last) mail makes) tells) c.change.ensures.mailed;
+      timed = λ path who many i l x lines tells judged timed rises here short.
+          let change = c.args.act.now.change in
+          let first = c.args.self.now.mail in
+          let last = c.change.new.self.mail in
+          let now : c.note_call.new.self.now ≡ c.args.self.now.now = c.in_ok-note_call.ensures.now in
+          ok-two c.change.result (MakeStep names change c.note_call.new.self.mail last) (MakesTimes names c.note_call.new.self.now change c.note_call.new.self.mail last)
+          (AreTimed lines names l (suc i) last)
+          (λ makes times. times-made lines rises names l i path change judged.done.leads judged.done.spots first last tells.0
+          (tells-step path names l i change judged.done.leads judged.done.spots first last (subst (λ (m : Mail). MakeStep names change m last) mail makes) tells).0
+          timed c.args.self.now.now here short
+          (subst (λ k. MakesTimes names k change first last) now (subst (λ (m : Mail). MakesTimes names c.note_call.new.self.now change m last) mail times)))
+          c.change.ensures.mailed c.change.ensures.times;
+      added = λ path who many i l x tells judged.
+          let t = turn l i x in
+          let first : KeepsAdded old noting = unnoted-added wrong clause.NotADirectory (λ e. cc) (λ e. cc) old noting c.note.ensures in
+          let then : KeepsAdded filed acted = added-same filed acted c.in_ok-note_call.ensures.found in
+          let keeps = added-on old noting acted first (added-on noting filed acted c.in_ok-call.ensures.added then) in
+          ok-then c.change.result (NotesAdded t acted new) (NotesAdded t old new) (added-notes t old acted new keeps)
+          (c.change.ensures.added path l i x judged.done (subst (λ (m : Mail). TellsMail names l i m) (sym mail) tells));
+      answers = ok-then c.change.result (KeepsAnswers acted new) (KeepsAnswers old new)
+          (answers-on old acted new (answers-on old noting acted
+          (unnoted-answers wrong clause.NotADirectory (λ e. cc) (λ e. cc) old noting c.note.ensures) keeps.answers)) c.change.ensures.answers;
+      acts = λ few.
+          let mid = c.note_call.new.self.actors in
+          let last = c.change.new.self.actors in
+          let on = acted-of c.args.known.now.names c.args.act.now.spot c.args.call.now in
+          ok-then c.change.result (KeepsActs mid last) (NotesAct c.args.actor c.args.self.now.now on c.args.self.now.actors last)
+          (notes-then c.args.self.now.actors mid last c.args.actor c.args.self.now.now on (c.in_ok-note_call.ensures.acts few)) c.change.ensures.acts;
     }

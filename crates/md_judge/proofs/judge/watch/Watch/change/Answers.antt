@@ -1,79 +1,55 @@
-use Rattle.std.proofs.Common.{◌≡◌, IsSome, sym, subst, ap, ◌∙◌}
-use Rattle.std.specs.Option.{option_copied}
+use Rattle.std.proofs.Common.{ℕ, IsSome, sym, subst, ap, ◌∙◌}
 use Rattle.md_log.specs.declared.clause.Clause.TheVariants as clause
+use Rattle.md_judge.specs.declared.judge.about.Actors.{Actors}
+use Rattle.md_judge.specs.declared.judge.mail.Mail.{Mail}
 use Rattle.md_judge.specs.declared.judge.watch.Watch.{Watch}
-use Rattle.md_judge.specs.Found.{KeepsPaths, KeepsFiles}
-use Rattle.md_judge.specs.Messages.{AddFinds}
-use Rattle.md_judge.proofs.Sparing.{keeps-paths, keeps-same, keeps-one, notes-one, turned-found, add-more, spare-added, same-files, files-on, unnoted-files}
-use Rattle.md_judge.proofs.judge.watch.Watch.change.Goals.{in-Some+in-Some-unique_at, in_default}
+use Rattle.md_judge.specs.Actors.{KeepsActs}
+use Rattle.md_judge.specs.Found.{KeepsFiles, KeepsAnswers}
+use Rattle.md_judge.specs.Law.{turn}
+use Rattle.md_judge.specs.Mailed.{MakeStep}
+use Rattle.md_judge.specs.Timed.{MakesTimes}
+use Rattle.md_judge.proofs.Sparing.{keeps-one, notes-one, turned-found, same-files, files-on, unnoted-files, unnoted-added, added-same, added-on, notes-added, added-notes, answers-same, answers-on, unnoted-answers}
 use Rattle.md_judge.proofs.judge.watch.Watch.change.Goals as goal
 
-pub returns-in-Some-taken : goal.returns-in-Some-taken
-returns-in-Some-taken c =
+pub returns : goal.returns
+returns c =
     let old = c.args.self.now.found in
     let noting = c.note.new.self in
-    let joined = c.match-change.self.found in
+    let joined = c.check_coming.new.self.found in
     let made = c.make.new.self.found in
-    let new = c.check_taken.new.self.found in
-    let turned = c.args.act.now.change.turned in
-    let joins : KeepsPaths noting joined = elim c.match-change.branch [
-      | in-Some+in-Some-unique_at w ↦
-          let message = option_copied w.message-message.result in
-          let file = w.in-Some.file in
-          let leaving = w.leaving-leaving.result in
-          subst (λ (s : Watch). KeepsPaths noting s.found) (sym w.self-is)
-          (keeps-paths (AddFinds message file leaving) (add-more message file leaving) noting w.check_added.new.found w.check_added.ensures.finds)
-      | in_default w ↦ keeps-same noting joined (ap (λ (s : Watch). s.found) w.self-is)
-    ] in
-    let turns = turned-found c.is_some.result turned old noting joined made c.is_some.ensures c.note.ensures joins c.in_ok-make.ensures.found in
-    let joins-files : KeepsFiles noting joined = elim c.match-change.branch [
-      | in-Some+in-Some-unique_at w ↦
-          subst (λ (s : Watch). KeepsFiles noting s.found) (sym w.self-is)
-          (spare-added (option_copied w.message-message.result) w.in-Some.file w.leaving-leaving.result noting w.check_added.new.found w.check_added.ensures.finds)
-      | in_default w ↦ same-files noting joined (ap (λ (s : Watch). s.found) w.self-is)
-    ] in
+    let new = c.check_going.new.self.found in
+    let change = c.args.act.now.change in
+    let turns = turned-found c.is_some.result change.turned old noting joined made c.is_some.ensures c.note.ensures c.check_coming.ensures.paths
+    c.in_ok-make.ensures.found in
     let others : KeepsFiles old made = files-on old noting made
     (unnoted-files c.is_some.result clause.Overwritten (λ h. h) old noting c.note.ensures)
-    (files-on noting joined made joins-files (same-files joined made c.in_ok-make.ensures.found)) in
-    let files : c.match-change.self.files ≡ c.args.self.now.files = elim c.match-change.branch [
-      | in-Some+in-Some-unique_at w ↦ ap (λ (s : Watch). s.files) w.self-is
-      | in_default w ↦ ap (λ (s : Watch). s.files) w.self-is
-    ] in
+    (files-on noting joined made c.check_coming.ensures.others (same-files joined made c.in_ok-make.ensures.found)) in
+    let answers : KeepsAnswers old made = answers-on old noting made
+    (unnoted-answers c.is_some.result clause.Overwritten (λ e. cc) (λ e. cc) old noting c.note.ensures)
+    (answers-on noting joined made c.check_coming.ensures.paths.answers (answers-same joined made c.in_ok-make.ensures.found)) in
     record {
-      wrong = keeps-one clause.NotADirectory old made new turns.0 c.check_taken.ensures.paths.wrong;
-      overwrites = notes-one clause.Overwritten (IsSome turned) old made new turns.1 c.check_taken.ensures.paths.overwrites;
-      others = files-on old made new others c.check_taken.ensures.others;
-      files = c.check_taken.ensures.files ∙ c.in_ok-make.ensures.files ∙ files;
+      wrong = keeps-one clause.NotADirectory old made new turns.0 c.check_going.ensures.paths.wrong;
+      overwrites = notes-one clause.Overwritten (IsSome change.turned) old made new turns.1 c.check_going.ensures.paths.overwrites;
+      others = files-on old made new others c.check_going.ensures.others;
+      answers = answers-on old made new answers c.check_going.ensures.paths.answers;
+      files = ap (λ (w : Watch). w.files) c.check_going.ensures.rest ∙ c.in_ok-make.ensures.files ∙ ap (λ (w : Watch). w.files) c.check_coming.ensures.rest;
+      mailed = subst (λ (m : Mail). MakeStep c.args.known.now.names change m c.check_going.new.self.mail) (ap (λ (w : Watch). w.mail) c.check_coming.ensures.rest)
+          (subst (λ (m : Mail). MakeStep c.args.known.now.names change c.check_coming.new.self.mail m) (sym (ap (λ (w : Watch). w.mail) c.check_going.ensures.rest))
+          c.in_ok-make.ensures.mailed);
+      times =
+          let names = c.args.known.now.names in
+          let coming = c.check_coming.ensures.rest in
+          subst (λ (k : ℕ). MakesTimes names k change c.args.self.now.mail c.check_going.new.self.mail) (ap (λ (w : Watch). w.now) coming)
+          (subst (λ (m : Mail). MakesTimes names c.check_coming.new.self.now change m c.check_going.new.self.mail) (ap (λ (w : Watch). w.mail) coming)
+          (subst (λ (m : Mail). MakesTimes names c.check_coming.new.self.now change c.check_coming.new.self.mail m)
+          (sym (ap (λ (w : Watch). w.mail) c.check_going.ensures.rest)) c.in_ok-make.ensures.times));
+      added = λ path l i x done tells.
+          let t = turn l i x in
+          notes-added t old joined new
+          (added-notes t old noting joined (unnoted-added c.is_some.result clause.Overwritten (λ e. cc) (λ e. cc) old noting c.note.ensures)
+          (c.check_coming.ensures.law path l i x done.leads done.spots tells))
+          (added-on joined made new (added-same joined made c.in_ok-make.ensures.found) c.check_going.ensures.added);
+      acts = subst (λ (a : Actors). KeepsActs a c.check_going.new.self.actors) (ap (λ (w : Watch). w.actors) c.check_coming.ensures.rest)
+          (subst (λ (a : Actors). KeepsActs c.check_coming.new.self.actors a) (sym (ap (λ (w : Watch). w.actors) c.check_going.ensures.rest))
+          c.in_ok-make.ensures.acts);
     }
-
-pub returns-in_default : goal.returns-in_default
-returns-in_default c =
-    let old = c.args.self.now.found in
-    let noting = c.note.new.self in
-    let joined = c.match-change.self.found in
-    let made = c.make.new.self.found in
-    let turned = c.args.act.now.change.turned in
-    let joins : KeepsPaths noting joined = elim c.match-change.branch [
-      | in-Some+in-Some-unique_at w ↦
-          let message = option_copied w.message-message.result in
-          let file = w.in-Some.file in
-          let leaving = w.leaving-leaving.result in
-          subst (λ (s : Watch). KeepsPaths noting s.found) (sym w.self-is)
-          (keeps-paths (AddFinds message file leaving) (add-more message file leaving) noting w.check_added.new.found w.check_added.ensures.finds)
-      | in_default w ↦ keeps-same noting joined (ap (λ (s : Watch). s.found) w.self-is)
-    ] in
-    let turns = turned-found c.is_some.result turned old noting joined made c.is_some.ensures c.note.ensures joins c.in_ok-make.ensures.found in
-    let joins-files : KeepsFiles noting joined = elim c.match-change.branch [
-      | in-Some+in-Some-unique_at w ↦
-          subst (λ (s : Watch). KeepsFiles noting s.found) (sym w.self-is)
-          (spare-added (option_copied w.message-message.result) w.in-Some.file w.leaving-leaving.result noting w.check_added.new.found w.check_added.ensures.finds)
-      | in_default w ↦ same-files noting joined (ap (λ (s : Watch). s.found) w.self-is)
-    ] in
-    let others : KeepsFiles old made = files-on old noting made
-    (unnoted-files c.is_some.result clause.Overwritten (λ h. h) old noting c.note.ensures)
-    (files-on noting joined made joins-files (same-files joined made c.in_ok-make.ensures.found)) in
-    let files : c.match-change.self.files ≡ c.args.self.now.files = elim c.match-change.branch [
-      | in-Some+in-Some-unique_at w ↦ ap (λ (s : Watch). s.files) w.self-is
-      | in_default w ↦ ap (λ (s : Watch). s.files) w.self-is
-    ] in
-    record { wrong = turns.0; overwrites = turns.1; others = others; files = c.in_ok-make.ensures.files ∙ files }

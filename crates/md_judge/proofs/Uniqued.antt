@@ -1,0 +1,87 @@
+-- What the number of a spot says of the unique name of its path, and how unique names keep their numbers.
+use Rattle.std.proofs.Common.{ℕ, ◌≡◌, ◌/◌, ◌%◌, ◌++◌, Bool, true, false, cond, List, [], ◌∷◌, Option, Some, None, is_some, nat_eq, slice_get, refl, sym, ap, subst, ◌∙◌, arith}
+use Rattle.std.proofs.lemmas.Bool.{eq-eqb}
+use Rattle.std.proofs.lemmas.Option.{slice_get_within}
+use Rattle.std.proofs.lemmas.Bool.Decides.{nat_tests}
+use Rattle.md_name.specs.declared.info.Info.{Info}
+use Rattle.md_name.specs.Names.{split_of, unique_of}
+use Rattle.md_dirs.specs.declared.paths.Path.{Path}
+use Rattle.md_dirs.specs.declared.paths.Place.{Place}
+use Rattle.md_dirs.specs.declared.paths.Place.TheVariants.{Tmp, New, Cur}
+use Rattle.md_judge.specs.declared.judge.directories.Spot.{Spot}
+use Rattle.md_judge.specs.declared.judge.tables.Names.{Names}
+use Rattle.md_judge.specs.Files.{no_facts, facts_by, unique_by, unique_in}
+use Rattle.md_judge.specs.Names.{StandFor, GrowsUniques}
+use Rattle.md_judge.specs.Recalled.{IsSpotOf}
+use Rattle.md_judge.specs.Told.{is_message}
+use Rattle.md_judge.specs.Words.{AreApart}
+use Rattle.md_judge.proofs.Alike.{get-push}
+use Rattle.md_judge.proofs.Numbers.{split_is}
+use Rattle.md_judge.proofs.Shown.{said, message-of}
+
+-- the unique name that the parts of a name's number have is that of the name
+by-parts : (names : Names) (place : Place) (name : List ℕ) (o : Option (List ℕ × Info)) (front ending u : ℕ) → split_of name ≡ o
+    → StandFor names name o front ending → unique_by place (facts_by names.flags.items front ending) ≡ Some u → slice_get names.uniques u ≡ Some (unique_of name)
+by-parts names place name None front ending u split s is =
+    let none : nat_eq ending 4294967295 ≡ true = eq-eqb ending 4294967295 s.0 in
+    by place (sym (ap (λ b. unique_by place (cond b no_facts (said names front ending))) none) ∙ is)
+  where
+    by : (q : Place) → unique_by q no_facts ≡ Some u → slice_get names.uniques u ≡ Some (unique_of name)
+    by Tmp e = cc
+    by New e = cc
+    by Cur e = cc
+by-parts names place name (Some parts) front ending u split s is =
+    let low = s.0 in
+    let some : nat_eq ending 4294967295 ≡ false = grind (arith, nat_tests, low) in
+    by place (sym (ap (λ b. unique_by place (cond b no_facts (said names front ending))) some) ∙ is)
+  where
+    here : front ≡ u → slice_get names.uniques u ≡ Some (unique_of name)
+    here same = subst (λ k. slice_get names.uniques k ≡ Some (unique_of name)) same (s.1 ∙ ap Some (split_is name parts split))
+
+    by : (q : Place) → unique_by q (said names front ending) ≡ Some u → slice_get names.uniques u ≡ Some (unique_of name)
+    by Tmp e = cc
+    by New e = here (cc)
+    by Cur e = here (cc)
+
+module _ (names : Names) (p : Path) (q : Spot) (of : IsSpotOf names p q) where
+  -- a spot with the number of a unique name is that of a message's path, which has this unique name
+  pub unique-some : (u : ℕ) → unique_in names q ≡ Some u → (is_message p ≡ true) × (slice_get names.uniques u ≡ Some (unique_of p.name))
+  unique-some u is = (
+    sym (message-of names p q of) ∙ ap is_some is,
+    by-parts names q.place p.name (split_of p.name) (q.name / 4294967296) (q.name % 4294967296) u refl of.number is,
+  )
+
+  -- and one without is that of none
+  pub unique-none : unique_in names q ≡ None → is_message p ≡ true → ⊥
+  unique-none is shown = let no : is_message p ≡ false = sym (message-of names p q of) ∙ ap is_some is in cc
+
+  -- the unique name of a message's path has a number
+  pub unique-there : is_message p ≡ true → (u : ℕ) × (slice_get names.uniques u ≡ Some (unique_of p.name))
+  unique-there shown = by (unique_in names q) refl
+    where
+      by : (o : Option ℕ) → unique_in names q ≡ o → (u : ℕ) × (slice_get names.uniques u ≡ Some (unique_of p.name))
+      by None is = absurd (unique-none is shown)
+      by (Some u) is = (u, (unique-some u is).1)
+
+-- ---- unique names keep their numbers
+
+pub grows-same : (old new : Names) → new.uniques ≡ old.uniques → GrowsUniques old new
+grows-same old new same = record {
+  keeps = λ unique u is. ap (λ us. slice_get us u) same ∙ is;
+  apart = λ apart. subst AreApart (sym same) apart;
+}
+
+pub grows-on : (a b d : Names) → GrowsUniques a b → GrowsUniques b d → GrowsUniques a d
+grows-on a b d first then = record {
+  keeps = λ unique u is. then.keeps unique u (first.keeps unique u is);
+  apart = λ apart. then.apart (first.apart apart);
+}
+
+-- a table with one word more, or with none
+pub grows-by : (old new : Names) (word : List ℕ) (more : Bool) → new.uniques ≡ cond more (old.uniques ++ word ∷ []) old.uniques → AreApart new.uniques
+    → GrowsUniques old new
+grows-by old new word more is apart = record { keeps = λ unique u there. ap (λ us. slice_get us u) is ∙ by more unique u there; apart = λ _. apart }
+  where
+    by : (b : Bool) (unique : List ℕ) (u : ℕ) → slice_get old.uniques u ≡ Some unique → slice_get (cond b (old.uniques ++ word ∷ []) old.uniques) u ≡ Some unique
+    by true unique u there = get-push old.uniques word u (slice_get_within old.uniques u unique there) ∙ there
+    by false unique u there = there

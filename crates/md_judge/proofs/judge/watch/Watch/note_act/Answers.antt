@@ -1,0 +1,22 @@
+use Rattle.std.proofs.Common.{ℕ, ◌≡◌, ◌≢◌, ◌↔◌, true, Option, sym, subst, ap, ◌∙◌}
+use Rattle.std.specs.Option.{option_map}
+use Rattle.md_log.specs.declared.line.Reply.{Reply}
+use Rattle.md_log.specs.declared.line.Reply.TheVariants as reply
+use Rattle.md_judge.specs.declared.judge.about.About.{About}
+use Rattle.md_judge.specs.Actors.{NotesAct}
+use Rattle.md_judge.proofs.Lined.{notes-act}
+use Rattle.md_judge.proofs.judge.watch.Watch.note_act.Goals as goal
+
+pub returns-in_ok-keep-clause-acts : goal.returns-in_ok-keep-clause-acts
+returns-in_ok-keep-clause-acts c = λ few.
+    let old = c.args.self.now.actors in
+    let new = c.keep.new.self in
+    let now = c.args.self.now.now in
+    let r = c.args.reply in
+    let key : ℕ × ℕ = (c.args.spot.folder, c.in-Some.unique) in
+    let about = c.note_act.new.self in
+    let refused : (about.was_refused ≡ true) ↔ (r ≢ reply.Ok) =
+    subst (λ (a : About). (a.was_refused ≡ true) ↔ (r ≢ reply.Ok)) (sym c.note_act.ensures.rest) c.is_refused.ensures in
+    subst (λ (o : Option ((ℕ × ℕ) × Reply)). NotesAct c.args.actor now o old new)
+    (ap (option_map (λ (u : ℕ). ((c.args.spot.folder, u), r))) (sym c.in-Some.is ∙ c.unique_at.ensures))
+    (notes-act old new c.args.actor now key r about c.in_ok-keep.ensures (c.note_act.ensures.act few) refused)

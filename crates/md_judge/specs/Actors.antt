@@ -1,0 +1,226 @@
+-- What the judge keeps of actors is what a log tells of them: when their spans began, what they did in them, and when they looked.
+use Rattle.std.specs.Prelude.{ℕ, ◌≡◌, ◌≢◌, ◌↔◌, ◌<◌, ◌≤◌, ◌⊎◌, ◌&&◌, not, List, Option, Some, None, Bool, true, false, slice_get, length, unwrap_or, ◌==◌, if◌then◌else◌, IsSome}
+use Rattle.std.specs.Option.{option_or, option_map}
+use Rattle.std.specs.declared.cmp.Ordering.{Ordering}
+use Rattle.std.specs.Ordering.{nat_cmp, ordering_then}
+use Rattle.std.specs.BTreeMap.{get}
+use Rattle.md_log.specs.declared.line.Call.{Call}
+use Rattle.md_log.specs.declared.line.Call.TheVariants as call
+use Rattle.md_log.specs.declared.line.Deed.TheVariants as deed
+use Rattle.md_log.specs.declared.line.Reply.{Reply}
+use Rattle.md_log.specs.declared.line.Reply.TheVariants as reply
+use Rattle.md_log.specs.declared.line.Said.{Said}
+use Rattle.md_log.specs.declared.line.Step.{Step}
+use Rattle.md_judge.specs.declared.judge.about.About.{About}
+use Rattle.md_judge.specs.declared.judge.about.Actors.{Actors}
+use Rattle.md_judge.specs.declared.judge.about.Lines.{Lines}
+use Rattle.md_judge.specs.declared.judge.directories.Spot.{Spot}
+use Rattle.md_judge.specs.declared.judge.listing.Listing.{Listing}
+use Rattle.md_judge.specs.declared.judge.pairs.Column.{Column}
+use Rattle.md_judge.specs.declared.judge.pairs.Pairs.{Pairs}
+use Rattle.md_judge.specs.declared.judge.pairs.Slot.{Slot}
+use Rattle.md_judge.specs.declared.judge.tables.Names.{Names}
+use Rattle.md_judge.specs.declared.judge.watch.Watch.{Watch}
+use Rattle.md_judge.specs.Claims.{RecallsActs, IsLastLine, IsLook}
+use Rattle.md_judge.specs.Files.{unique_in}
+use Rattle.md_judge.specs.Law.{turn}
+use Rattle.md_judge.specs.Listings.{message_cmp, message_of}
+use Rattle.md_judge.specs.Logs.{Log}
+use Rattle.md_judge.specs.Mailed.{count_of}
+use Rattle.md_judge.specs.Open.{Listings}
+use Rattle.md_judge.specs.Told.{at, IsThere, IsStep, IsAnswer, IsSpan, ActsOn, Looks}
+
+-- ---- values by actors and messages
+
+-- the value of a slot, where it is an actor's of a folder
+abbrev pub in_slot : {V : Type 0} → ℕ → ℕ → Option (Slot V) → Option V
+in_slot actor folder None = None
+in_slot actor folder (Some s) = if (s.actor == actor && s.folder == folder) && not (s.actor == 65535) then Some s.value else None
+
+-- the value of an actor and a message in a column
+abbrev pub in_column : {V : Type 0} → Column V → ℕ → ℕ × ℕ → Option V
+in_column c actor key = in_slot actor key.0 (slice_get c.slots.items key.1)
+
+-- the slot is no actor's
+abbrev pub IsFree : {V : Type 0} → Option (Slot V) → Type 0
+IsFree None = Unit {0}
+IsFree (Some s) = s.actor ≡ 65535
+
+-- a value of the actor and the message may come to the column
+abbrev pub HasRoom : {V : Type 0} → Column V → ℕ → ℕ × ℕ → Type 0
+HasRoom c actor key = IsFree (slice_get c.slots.items key.1) × (actor < 65535) × (key.0 < 65536)
+
+-- the column has a value of the actor and the message, or one may come there
+abbrev pub MayPut : {V : Type 0} → Column V → ℕ → ℕ × ℕ → Type 0
+MayPut c actor key = (IsSome (in_column c actor key) ⊎ IsFree (slice_get c.slots.items key.1)) × (actor < 65535) × (key.0 < 65536)
+
+-- the order of actors and messages
+abbrev pub actor_cmp : ℕ × (ℕ × ℕ) → ℕ × (ℕ × ℕ) → Ordering
+actor_cmp a b = ordering_then (nat_cmp a.0 b.0) (message_cmp a.1 b.1)
+
+-- the value of an actor and a message
+abbrev pub kept : {V : Type 0} → Pairs V → ℕ → ℕ × ℕ → Option V
+kept p actor key = option_or (in_column p.first actor key) (option_or (in_column p.second actor key) (get actor_cmp p.others (actor, key)))
+
+-- it is another actor, or another message
+abbrev pub IsOther : ℕ → ℕ × ℕ → ℕ → ℕ × ℕ → Type 0
+IsOther a k b m = a ≡ b → k.0 ≡ m.0 → k.1 ≡ m.1 → ⊥
+
+-- An actor and a message come to have this value, and no other value changes.
+pub record Puts {V : Type 0} (actor : ℕ) (key : ℕ × ℕ) (value : Option V) (old new : ℕ → ℕ × ℕ → Option V) : Type 0 where
+  pub here : new actor key ≡ value
+  pub others : (a : ℕ) (k : ℕ × ℕ) → IsOther a k actor key → new a k ≡ old a k
+
+-- ---- what is kept of actors
+
+-- nothing was done about a message
+abbrev pub no_about : About
+no_about = record { act = 0; was_refused = false; is_added = false; is_changed = false; is_unlinked = false; changed_at = 0 }
+
+-- what an actor did about a message since it last answered about it
+abbrev pub done_by : Actors → ℕ → ℕ × ℕ → About
+done_by a actor key = unwrap_or (kept a.about actor key) no_about
+
+-- the actor has no line
+abbrev pub no_lines : Lines
+no_lines = record { first = None; answered = None }
+
+-- the lines of an actor that matter
+abbrev pub lines_of : Actors → ℕ → Lines
+lines_of a actor = unwrap_or (slice_get a.lines.items actor) no_lines
+
+-- the last line of an actor that has one was an answer about the message
+abbrev pub IsAnswered : ℕ × ℕ → Lines → Lines → Type 0
+IsAnswered key old new = (new ≡ record old { answered = Some key }) ⊎ ((old ≡ no_lines) × (new ≡ no_lines))
+
+-- the last line was an answer about this message
+abbrev pub is_about : Option (ℕ × ℕ) → ℕ × ℕ → Bool
+is_about None key = false
+is_about (Some k) key = k.0 == key.0 && k.1 == key.1
+
+-- the line at which an actor's span about a message began: none where it did nothing since it answered about it
+abbrev pub begun_by : Actors → ℕ → ℕ × ℕ → Option ℕ
+begun_by a actor key =
+    if is_about (lines_of a actor).answered key then None else option_or (kept a.begun actor key) (lines_of a actor).first
+
+-- the line at which an actor last read a folder
+abbrev pub looked_of : Option Listing → Option ℕ
+looked_of None = None
+looked_of (Some s) = s.looked
+
+abbrev pub looked_by : Listings → ℕ → ℕ → Option ℕ
+looked_by m actor folder = looked_of (get message_cmp m (actor, folder))
+
+-- What is kept of calls is as it was, but for what they changed.
+abbrev pub SameAct : About → About → Type 0
+SameAct old new = (new.act ≡ old.act) × (new.was_refused ≡ old.was_refused)
+
+-- What an actor did about a message comes to be this, and nothing else changes.
+pub record PutsAbout (actor : ℕ) (key : ℕ × ℕ) (about : About) (old new : Actors) : Type 0 where
+  pub here : done_by new actor key ≡ about
+  pub others : (a : ℕ) (k : ℕ × ℕ) → IsOther a k actor key → done_by new a k ≡ done_by old a k
+  pub begun : (a : ℕ) (k : ℕ × ℕ) → begun_by new a k ≡ begun_by old a k
+
+-- An actor answers about a message: its span is over, and with it what it did in it. Other spans go on.
+pub record Tells (actor : ℕ) (key : ℕ × ℕ) (old new : Actors) : Type 0 where
+  pub begun : begun_by new actor key ≡ None
+  pub done : done_by new actor key ≡ no_about
+  pub away : (a : ℕ) (k : ℕ × ℕ) → (a ≡ actor → ⊥) → begun_by new a k ≡ begun_by old a k
+  pub goes_on : (k : ℕ × ℕ) (n : ℕ) → IsOther actor k actor key → begun_by old actor k ≡ Some n → begun_by new actor k ≡ Some n
+  pub stays : (a : ℕ) (k : ℕ × ℕ) → IsOther a k actor key → done_by new a k ≡ done_by old a k
+
+-- the reply to a call that acts on a message by a name of it
+abbrev pub reply_to_name : Call → Option Reply
+reply_to_name (call.At deed.Unlink p r) = Some r
+reply_to_name (call.Between n old new r) = Some r
+reply_to_name c = None
+
+-- the message on which a call acts by a name of it, which is at a spot, and the reply
+abbrev pub acted_at : Names → Spot → Option Reply → Option ((ℕ × ℕ) × Reply)
+acted_at names s None = None
+acted_at names s (Some r) = option_map (λ u. ((s.folder, u), r)) (unique_in names s)
+
+abbrev pub acted : Names → Option Spot → Call → Option ((ℕ × ℕ) × Reply)
+acted names None c = None
+acted names (Some s) c = acted_at names s (reply_to_name c)
+
+-- An actor's call at a line acts on this message and is answered so, or on none.
+pub record NotesAct (actor line : ℕ) (on : Option ((ℕ × ℕ) × Reply)) (old new : Actors) : Type 0 where
+  pub begun : (a : ℕ) (k : ℕ × ℕ) → begun_by new a k ≡ begun_by old a k
+  pub here : (k : ℕ × ℕ) (r : Reply) → on ≡ Some (k, r)
+      → ((done_by new actor k).act ≡ line) × (((done_by new actor k).was_refused ≡ true) ↔ (r ≢ reply.Ok))
+  pub others : (a : ℕ) (k : ℕ × ℕ) → (a ≡ actor → (r : Reply) → on ≡ Some (k, r) → ⊥) → SameAct (done_by old a k) (done_by new a k)
+
+-- What is kept of spans and of the calls in them is as it was.
+pub record KeepsActs (old new : Actors) : Type 0 where
+  pub begun : (a : ℕ) (k : ℕ × ℕ) → begun_by new a k ≡ begun_by old a k
+  pub acts : (a : ℕ) (k : ℕ × ℕ) → SameAct (done_by old a k) (done_by new a k)
+
+-- An actor reads a folder at a line.
+pub record NotesLook (actor folder line : ℕ) (old new : Listings) : Type 0 where
+  pub here : looked_by new actor folder ≡ Some line
+  pub others : (a f : ℕ) → (a ≡ actor → f ≡ folder → ⊥) → looked_by new a f ≡ looked_by old a f
+
+-- ---- what a log tells
+
+-- the step is the actor's own, and it has not answered about the message since
+abbrev pub IsUntold : Log → ℕ → List ℕ → ℕ → List ℕ → ℕ → Step → Type 0
+IsUntold l i actor folder unique j x = (j < i) × IsStep l j x × (x.actor ≡ actor)
+    × ((k : ℕ) → j ≤ k → k < i → IsAnswer l k actor folder unique → ⊥)
+
+-- since each step of the actor it has answered about the message
+abbrev pub HasTold : Log → ℕ → List ℕ → ℕ → List ℕ → Type 0
+HasTold l i actor folder unique = (j : ℕ) (x : Step) → j < i → IsStep l j x → x.actor ≡ actor
+    → (k : ℕ) × (j ≤ k) × (k < i) × IsAnswer l k actor folder unique
+
+-- A span of the actor's about the message began with this step, and goes on.
+pub record HasBegun (l : Log) (first i : ℕ) (actor : List ℕ) (folder : ℕ) (unique : List ℕ) : Type 0 where
+  pub low : first < i
+  pub own : (x : Step) × IsStep l first x × (x.actor ≡ actor)
+  pub begins : HasTold l first actor folder unique
+  pub goes_on : (k : ℕ) → first ≤ k → k < i → IsAnswer l k actor folder unique → ⊥
+
+-- what is kept of a span: the line of its first step, where it goes on
+abbrev pub RecallsBegun : (ℕ → ℕ) → Log → ℕ → List ℕ → ℕ → List ℕ → Option ℕ → Type 0
+RecallsBegun line l i actor folder unique None = HasTold l i actor folder unique
+RecallsBegun line l i actor folder unique (Some n) = (first : ℕ) × (n ≡ line first) × HasBegun l first i actor folder unique
+
+-- the actor's last call on the message since its last answer about it is this step's, and it is answered so
+abbrev pub IsLatest : Log → ℕ → List ℕ → ℕ → List ℕ → ℕ → Reply → Type 0
+IsLatest l i actor folder unique j r = (x : Step) × IsUntold l i actor folder unique j x × ActsOn x.call folder unique r
+    × ((k : ℕ) (y : Step) (e : Reply) → j < k → IsUntold l i actor folder unique k y → ActsOn y.call folder unique e → ⊥)
+
+-- What is kept of calls on a message is the line of the last one since the last answer about it, and whether it was refused.
+pub record RecallsDone (line : ℕ → ℕ) (l : Log) (i : ℕ) (actor : List ℕ) (folder : ℕ) (unique : List ℕ) (a : About) : Type 0 where
+  pub some : 0 < a.act → (j : ℕ) × (r : Reply) × IsLatest l i actor folder unique j r
+  pub last : (j : ℕ) (r : Reply) → IsLatest l i actor folder unique j r → (a.act ≡ line j) × ((a.was_refused ≡ true) ↔ (r ≢ reply.Ok))
+
+-- the actor reads the folder by a step before
+abbrev pub LookedAt : Log → ℕ → List ℕ → ℕ → ℕ → Type 0
+LookedAt l i actor folder j = (x : Step) × (j < i) × IsStep l j x × (x.actor ≡ actor) × Looks x.call folder
+
+-- A step answers so about a message, its span begins with this step, the lines of steps rise, and what is kept of the actor and of whether
+-- the message is there is what the log tells.
+pub record IsAnswering (line : ℕ → ℕ) (first i actor : ℕ) (said : Said) (key : ℕ × ℕ) (unique : List ℕ) (l : Log) (x : Step) (w : Watch)
+    (m : Listings) : Type 0 where
+  pub call : x.call ≡ call.Answer said key.0 unique
+  pub span : IsSpan l first i x.actor key.0 unique
+  pub rises : (a b : ℕ) → a < b → line a < line b
+  pub counted : (a : ℕ) → 0 < line a
+  pub begins : begun_by w.actors actor key ≡ Some (line first)
+  pub acts : RecallsActs line (turn l i x) first key.0 unique (done_by w.actors actor key)
+  pub looks : IsLastLine line (IsLook (turn l i x) key.0) (looked_by m actor key.0)
+  pub there : (0 < count_of (message_of w.mail key.0 key.1)) ↔ IsThere (at l i) key.0 unique
+
+-- The number may stand for the word: it is the word's, or it is no word's yet, and the word has no number.
+abbrev pub MayStand : List (List ℕ) → ℕ → List ℕ → Type 0
+MayStand words n word = (slice_get words n ≡ Some word) ⊎ ((length words ≤ n) × ((m : ℕ) → slice_get words m ≡ Some word → ⊥))
+
+-- What is kept of actors is what a log tells at a moment. So it is of those that have no number yet, of which nothing is kept.
+pub record AreActing (line : ℕ → ℕ) (actors uniques : List (List ℕ)) (l : Log) (i : ℕ) (a : Actors) (m : Listings) : Type 0 where
+  pub begun : (n : ℕ) (actor : List ℕ) (folder u : ℕ) (unique : List ℕ) → MayStand actors n actor → MayStand uniques u unique
+      → RecallsBegun line l i actor folder unique (begun_by a n (folder, u))
+  pub done : (n : ℕ) (actor : List ℕ) (folder u : ℕ) (unique : List ℕ) → MayStand actors n actor → MayStand uniques u unique
+      → RecallsDone line l i actor folder unique (done_by a n (folder, u))
+  pub looks : (n : ℕ) (actor : List ℕ) (folder : ℕ) → MayStand actors n actor
+      → IsLastLine line (LookedAt l i actor folder) (looked_by m n folder)
