@@ -13,6 +13,7 @@ use Rattle.md_log.specs.declared.line.Step.{Step}
 use Rattle.md_judge.specs.declared.judge.directories.Spot.{Spot}
 use Rattle.md_judge.specs.declared.judge.found.Found.{Found}
 use Rattle.md_judge.specs.declared.judge.known.Known.{Known}
+use Rattle.md_judge.specs.declared.judge.acts.Change.{Change}
 use Rattle.md_judge.specs.declared.judge.known.Act.{Act}
 use Rattle.md_judge.specs.Acts.{ReadsNone, IsWrongAsk, IsActOf, Does}
 use Rattle.md_judge.specs.Found.{Has, Keeps, NotesOne}
@@ -124,5 +125,6 @@ done-none names l i x act none same other =
         place = place-by names;
         spots = subst (λ c. EachSpot (λ q. IsSpotOf names (path q) q) c) (sym none) (tt, tt, tt);
         at = λ d p r e. absurd (other d p r e);
+        unlink = λ q n taken. absurd (let nothing : act.change.taken ≡ None = ap (λ (c : Change). c.taken) none in cc);
       },
     )

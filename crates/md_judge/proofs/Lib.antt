@@ -66,3 +66,5 @@ pub mod Timing
 pub mod MailTold
 pub mod Retimed
 pub mod Timely
+pub mod Marked
+pub mod Gone

@@ -14,10 +14,11 @@ use Rattle.md_judge.specs.declared.judge.tables.Names.{Names}
 use Rattle.md_judge.specs.Changes.{Leads}
 use Rattle.md_judge.specs.Copies.{copies_of}
 use Rattle.md_judge.specs.Files.{unique_in}
-use Rattle.md_judge.specs.Law.{turn, TwoNames, UsedAgain}
+use Rattle.md_judge.specs.Law.{turn, TwoNames, Gone, UsedAgain}
 use Rattle.md_judge.specs.Listings.{message_of}
 use Rattle.md_judge.specs.Logs.{Log, Numbered, empty_log}
 use Rattle.md_judge.specs.Mailed.{TellsMail, AddAt}
+use Rattle.md_judge.specs.Names.{AreMarked}
 use Rattle.md_judge.specs.Recalled.{IsSpotOf}
 use Rattle.md_judge.specs.Told.{Moment, at}
 use Rattle.md_judge.proofs.Longer.{alike-longer}
@@ -34,10 +35,11 @@ none-first p n j low is =
     cc
 
 pub tells-none : (names : Names) (mail : Mail) → names.uniques ≡ [] → ((folder u : ℕ) → message_of mail folder u ≡ None)
-    → ((n u : ℕ) → copies_of mail.copied n u ≡ 0) → TellsMail names empty_log 0 mail
-tells-none names mail none messages copies = (
+    → ((n u : ℕ) → copies_of mail.copied n u ≡ 0) → AreMarked names → TellsMail names empty_log 0 mail
+tells-none names mail none messages copies marked = (
   record {
     apart = λ m n word there _. absurd (nothing m word there);
+    marked = marked;
     messages = λ folder u unique number. absurd (nothing u unique number);
     numbered = λ j folder unique low there. absurd (none-first there.0 there.1 j low there.2.0);
     unused = λ folder u _. messages folder u;
@@ -66,7 +68,7 @@ tells-opening names l l' mail paths tells =
 pub tells-present : (names : Names) (l : Log) (i : ℕ) (old new : Mail) → new ≡ record old { present = new.present } → TellsMail names l i old
     → TellsMail names l i new
 tells-present names l i old new same tells = subst (TellsMail names l i) (sym same) (
-  record { apart = tells.0.apart; messages = tells.0.messages; numbered = tells.0.numbered; unused = tells.0.unused },
+  record { apart = tells.0.apart; marked = tells.0.marked; messages = tells.0.messages; numbered = tells.0.numbered; unused = tells.0.unused },
   tells.1,
 )
 
@@ -106,6 +108,9 @@ module _ (l : Log) (i : ℕ) (still : at l (suc i) ≡ at l i) where
 
   pub still-again : (x : Step) → UsedAgain (turn l i x) → ⊥
   still-again x broken = let same = same-file broken.0 in let free = broken.2.0 in let now = broken.2.1 in cc
+
+  pub still-gone : (x : Step) → Gone (turn l i x) → ⊥
+  still-gone x broken = let same = same-file broken.0 in let was = broken.2.0 in let now = broken.2.1 in cc
 
 -- ---- a line that puts a path
 

@@ -154,6 +154,7 @@ module _ (path : Spot → Path) (names : Names) where
     tells-next = (
       record {
         apart = tells.0.apart;
+        marked = tells.0.marked;
         messages = next-message;
         numbered = λ j folder unique low there. elim (comes j there.1 there.0 low there.2.0) [
           | inl before ↦ tells.0.numbered before.0 folder unique before.1 (there.0, there.1, (before.2, there.2.1))
@@ -207,6 +208,7 @@ module _ (names names' : Names) (grows : GrowsUniques names names') (l : Log) (i
   mailed-grows : (mail : Mail) → AreMailed names l i mail → AreMailed names' l i mail
   mailed-grows mail are = record {
     apart = grows.apart are.apart;
+    marked = grows.marked are.marked;
     messages = λ folder u unique number. by folder u unique number (slice_get names.uniques u) refl;
     numbered = λ j folder unique low there. let v = are.numbered j folder unique low there in (v.0, grows.keeps unique v.0 v.1);
     unused = λ folder u high. are.unused folder u (few u high);
@@ -256,6 +258,7 @@ module _ (names : Names) (l l' : Log) (i : ℕ) (paths : (j : ℕ) → j ≤ i �
   tells-alike tells = (
     record {
       apart = tells.0.apart;
+      marked = tells.0.marked;
       messages = λ folder u unique number. let is = tells.0.messages folder u unique number in record {
         count = counted-alike (IsPathThere (at l i) folder unique) (IsPathThere (at l' i) folder unique) _
             (λ p. (

@@ -16,9 +16,9 @@ use Rattle.md_judge.specs.declared.judge.found.Found.{Found}
 use Rattle.md_judge.specs.declared.judge.mail.Message.{Message}
 use Rattle.md_judge.specs.declared.judge.tables.Names.{Names}
 use Rattle.md_judge.specs.Files.{facts_at, named_by, turned_by, WriteFinds, AtFinds, NamedFinds, NameFinds, LeftFinds, LeaveFinds, ChangeFinds}
-use Rattle.md_judge.specs.Law.{Turn, TwoNames, UsedAgain}
-use Rattle.md_judge.specs.Mailed.{NotesAdded}
-use Rattle.md_judge.specs.Found.{Has, Notes, Keeps, NotesOne, KeepsPaths, KeepsAdded, KeepsAnswers, GoesByFiles, KeepsFiles, NotesFiles}
+use Rattle.md_judge.specs.Law.{Turn, TwoNames, Gone, UsedAgain}
+use Rattle.md_judge.specs.Mailed.{NotesMessages}
+use Rattle.md_judge.specs.Found.{Has, Notes, Keeps, NotesOne, KeepsPaths, KeepsMessages, KeepsAnswers, GoesByFiles, KeepsFiles, NotesFiles}
 use Rattle.md_judge.specs.Messages.{AddFinds}
 
 -- the clause goes by more than the paths of a step, and not by answers
@@ -83,18 +83,24 @@ keeps-on a b d first then = record {
 
 -- ---- clauses that go by paths of messages that are added
 
-pub added-same : (old new : Found) → new ≡ old → KeepsAdded old new
-added-same old new same = subst (KeepsAdded old) (sym same) (record { two = (λ h. h, λ h. h); again = (λ h. h, λ h. h) })
+pub added-same : (old new : Found) → new ≡ old → KeepsMessages old new
+added-same old new same = subst (KeepsMessages old) (sym same) (record { two = (λ h. h, λ h. h); again = (λ h. h, λ h. h); gone = (λ h. h, λ h. h) })
 
-pub added-on : (a b d : Found) → KeepsAdded a b → KeepsAdded b d → KeepsAdded a d
+pub added-on : (a b d : Found) → KeepsMessages a b → KeepsMessages b d → KeepsMessages a d
 added-on a b d first then = record {
   two = keeps-one clause.TwoNames a b d first.two then.two;
   again = keeps-one clause.UsedAgain a b d first.again then.again;
+  gone = keeps-one clause.Gone a b d first.gone then.gone;
 }
 
 pub added-kept : (old new : Found) → (Has new.broken clause.TwoNames ↔ (Has old.broken clause.TwoNames ⊎ ⊥))
-    → (Has new.broken clause.UsedAgain ↔ (Has old.broken clause.UsedAgain ⊎ ⊥)) → KeepsAdded old new
-added-kept old new two again = record { two = one-kept clause.TwoNames old new two; again = one-kept clause.UsedAgain old new again }
+    → (Has new.broken clause.UsedAgain ↔ (Has old.broken clause.UsedAgain ⊎ ⊥)) → (Has new.broken clause.Gone ↔ (Has old.broken clause.Gone ⊎ ⊥))
+    → KeepsMessages old new
+added-kept old new two again gone = record {
+  two = one-kept clause.TwoNames old new two;
+  again = one-kept clause.UsedAgain old new again;
+  gone = one-kept clause.Gone old new gone;
+}
 
 -- ---- clauses that go by files
 
@@ -135,17 +141,12 @@ one-notes c P a b d first then = (
   λ h. then.1 (elim h [ inl was ↦ inl (first.1 was) | inr now ↦ inr now ]),
 )
 
--- they are noted, before and after steps that keep them
-pub notes-added : (t : Turn) (a b d : Found) → NotesAdded t a b → KeepsAdded b d → NotesAdded t a d
-notes-added t a b d first then = record {
-  two = notes-one clause.TwoNames (TwoNames t) a b d first.two then.two;
-  again = notes-one clause.UsedAgain (UsedAgain t) a b d first.again then.again;
-}
-
-pub added-notes : (t : Turn) (a b d : Found) → KeepsAdded a b → NotesAdded t b d → NotesAdded t a d
-added-notes t a b d first then = record {
+-- they are noted, after steps that keep them
+pub messages-notes : (t : Turn) (a b d : Found) → KeepsMessages a b → NotesMessages t b d → NotesMessages t a d
+messages-notes t a b d first then = record {
   two = one-notes clause.TwoNames (TwoNames t) a b d first.two then.two;
   again = one-notes clause.UsedAgain (UsedAgain t) a b d first.again then.again;
+  gone = one-notes clause.Gone (Gone t) a b d first.gone then.gone;
 }
 
 -- of what does not hold nothing is noted where the clause is kept
@@ -185,9 +186,10 @@ unnoted b k c other old new notes = kept (λ c. IsTrue b × (c ≡ k)) c (λ h. 
 pub unnoted-files : (b : Bool) (k : Clause) → (GoesByFiles k → ⊥) → (old new : Found) → Notes (λ c. IsTrue b × (c ≡ k)) old new → KeepsFiles old new
 unnoted-files b k none old new notes c by = unnoted b k c (λ same. none (subst GoesByFiles same by)) old new notes
 
-pub unnoted-added : (b : Bool) (k : Clause) → (clause.TwoNames ≡ k → ⊥) → (clause.UsedAgain ≡ k → ⊥) → (old new : Found)
-    → Notes (λ c. IsTrue b × (c ≡ k)) old new → KeepsAdded old new
-unnoted-added b k two again old new notes = record {
+pub unnoted-added : (b : Bool) (k : Clause) → (clause.TwoNames ≡ k → ⊥) → (clause.UsedAgain ≡ k → ⊥) → (clause.Gone ≡ k → ⊥) → (old new : Found)
+    → Notes (λ c. IsTrue b × (c ≡ k)) old new → KeepsMessages old new
+unnoted-added b k two again gone old new notes = record {
+  gone = unnoted b k clause.Gone gone old new notes;
   two = unnoted b k clause.TwoNames two old new notes;
   again = unnoted b k clause.UsedAgain again old new notes;
 }
@@ -238,10 +240,11 @@ files-more c by = tt
 pub files-spare-paths : (P : Clause → Type 0) → ((c : Clause) → P c → GoesByFiles c) → (old new : Found) → Notes P old new → KeepsPaths old new
 files-spare-paths P by old new notes = keeps-paths P (λ c is. files-more c (by c is)) old new notes
 
-pub files-spare-added : (P : Clause → Type 0) → ((c : Clause) → P c → GoesByFiles c) → (old new : Found) → Notes P old new → KeepsAdded old new
+pub files-spare-added : (P : Clause → Type 0) → ((c : Clause) → P c → GoesByFiles c) → (old new : Found) → Notes P old new → KeepsMessages old new
 files-spare-added P by old new notes = record {
   two = kept P clause.TwoNames (by clause.TwoNames) old new notes;
   again = kept P clause.UsedAgain (by clause.UsedAgain) old new notes;
+  gone = kept P clause.Gone (by clause.Gone) old new notes;
 }
 
 write-more : (actor : ℕ) (r : Reply) (f : Option FileFacts) (c : Clause) → WriteFinds actor r f c → GoesByFiles c
@@ -289,6 +292,10 @@ pub add-more : (m : Option Message) (file leaving : ℕ) (c : Clause) → AddFin
 add-more (Some m) file leaving clause.UsedAgain found = tt
 add-more (Some m) file leaving clause.TwoNames found = tt
 add-more m file leaving c found = absurd found
+
+pub no-gone : (m : Option Message) (file leaving : ℕ) → AddFinds m file leaving clause.Gone → ⊥
+no-gone None file leaving found = found
+no-gone (Some m) file leaving found = found
 
 pub spare-added : (m : Option Message) (file leaving : ℕ) (old new : Found) → Notes (AddFinds m file leaving) old new → KeepsFiles old new
 spare-added None file leaving = spare-files (AddFinds None file leaving) (λ h. h) (λ h. h) (λ h. h) (λ h. h) (λ h. h)

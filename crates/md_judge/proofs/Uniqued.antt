@@ -11,7 +11,7 @@ use Rattle.md_dirs.specs.declared.paths.Place.TheVariants.{Tmp, New, Cur}
 use Rattle.md_judge.specs.declared.judge.directories.Spot.{Spot}
 use Rattle.md_judge.specs.declared.judge.tables.Names.{Names}
 use Rattle.md_judge.specs.Files.{no_facts, facts_by, unique_by, unique_in}
-use Rattle.md_judge.specs.Names.{StandFor, GrowsUniques}
+use Rattle.md_judge.specs.Names.{StandFor, AreMarked, GrowsUniques}
 use Rattle.md_judge.specs.Recalled.{IsSpotOf}
 use Rattle.md_judge.specs.Told.{is_message}
 use Rattle.md_judge.specs.Words.{AreApart}
@@ -65,8 +65,9 @@ module _ (names : Names) (p : Path) (q : Spot) (of : IsSpotOf names p q) where
 
 -- ---- unique names keep their numbers
 
-pub grows-same : (old new : Names) → new.uniques ≡ old.uniques → GrowsUniques old new
-grows-same old new same = record {
+pub grows-same : (old new : Names) → new.uniques ≡ old.uniques → (AreMarked old → AreMarked new) → GrowsUniques old new
+grows-same old new same marked = record {
+  marked = marked;
   keeps = λ unique u is. ap (λ us. slice_get us u) same ∙ is;
   apart = λ apart. subst AreApart (sym same) apart;
 }
@@ -75,13 +76,8 @@ pub grows-on : (a b d : Names) → GrowsUniques a b → GrowsUniques b d → Gro
 grows-on a b d first then = record {
   keeps = λ unique u is. then.keeps unique u (first.keeps unique u is);
   apart = λ apart. then.apart (first.apart apart);
+  marked = λ marked. then.marked (first.marked marked);
 }
 
--- a table with one word more, or with none
-pub grows-by : (old new : Names) (word : List ℕ) (more : Bool) → new.uniques ≡ cond more (old.uniques ++ word ∷ []) old.uniques → AreApart new.uniques
-    → GrowsUniques old new
-grows-by old new word more is apart = record { keeps = λ unique u there. ap (λ us. slice_get us u) is ∙ by more unique u there; apart = λ _. apart }
-  where
-    by : (b : Bool) (unique : List ℕ) (u : ℕ) → slice_get old.uniques u ≡ Some unique → slice_get (cond b (old.uniques ++ word ∷ []) old.uniques) u ≡ Some unique
-    by true unique u there = get-push old.uniques word u (slice_get_within old.uniques u unique there) ∙ there
-    by false unique u there = there
+pub grows-none : (old new : Names) → new ≡ old → GrowsUniques old new
+grows-none old new same = subst (GrowsUniques old) (sym same) (record { keeps = λ unique u is. is; apart = λ apart. apart; marked = λ marked. marked })

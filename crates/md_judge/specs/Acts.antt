@@ -1,11 +1,13 @@
 -- What a step did to paths, as the law has it.
-use Rattle.std.specs.Prelude.{◌≡◌, ◌↔◌, Some, IsTrue, IsSome}
+use Rattle.std.specs.Prelude.{ℕ, ◌≡◌, ◌↔◌, Option, Some, None, Bool, true, IsTrue, IsSome}
 use Rattle.md_dirs.specs.State.{file_at}
 use Rattle.md_dirs.specs.declared.paths.Path.{Path}
 use Rattle.md_log.specs.declared.line.Call.{Call}
 use Rattle.md_log.specs.declared.line.Call.TheVariants as call
 use Rattle.md_log.specs.declared.line.Deed.{Deed}
+use Rattle.md_log.specs.declared.line.Deed.TheVariants as deed
 use Rattle.md_log.specs.declared.line.Reply.{Reply}
+use Rattle.md_log.specs.declared.line.Reply.TheVariants as reply
 use Rattle.md_judge.specs.declared.judge.directories.Spot.{Spot}
 use Rattle.md_judge.specs.declared.judge.known.Act.{Act}
 use Rattle.md_judge.specs.declared.judge.tables.Names.{Names}
@@ -51,6 +53,11 @@ NamesFirst names (call.At d p r) act = (s : Spot) × (act.spot ≡ Some s) × Is
 NamesFirst names (call.Between n p q r) act = (s : Spot) × (act.spot ≡ Some s) × IsSpotOf names p s
 NamesFirst names c act = Unit {0}
 
+-- a path that a call on one path takes is unlinked
+abbrev pub UnlinksPath : Option (Spot × ℕ) → Bool → Deed → Reply → Type 0
+UnlinksPath None is_unlink d r = Unit {0}
+UnlinksPath (Some taken) is_unlink d r = (is_unlink ≡ true) × (d ≡ deed.Unlink) × (r ≡ reply.Ok)
+
 -- A step did to paths what its act says, at which these spots stand for paths: the change leads from the paths before the step to those
 -- after it, and its spots are those of their paths.
 pub record IsDone (path : Spot → Path) (names : Names) (t : Turn) (act : Act) : Type 0 where
@@ -58,6 +65,8 @@ pub record IsDone (path : Spot → Path) (names : Names) (t : Turn) (act : Act) 
   pub place : (q : Spot) → (path q).place ≡ q.place
   pub spots : EachSpot (λ q. IsSpotOf names (path q) q) act.change
   pub at : (d : Deed) (p : Path) (r : Reply) → t.step.call ≡ call.At d p r → IsOfPath names t act p
+  pub unlink : (q : Spot) (n : ℕ) → act.change.taken ≡ Some (q, n)
+      → (act.change.is_unlink ≡ true) ↔ (t.step.call ≡ call.At deed.Unlink (path q) reply.Ok)
 
 -- a step did to paths what its act says, where spots stand for paths in some way
 abbrev pub Does : Names → Turn → Act → Type 0

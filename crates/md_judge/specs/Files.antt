@@ -33,6 +33,10 @@ facts_by flags front ending =
 abbrev pub name_facts : Names → ℕ → NameFacts
 name_facts names name = facts_by names.flags.items (name / 4294967296) (name % 4294967296)
 
+-- by what is kept of its end a name shows the flag T
+abbrev pub is_trashed_in : Names → ℕ → Bool
+is_trashed_in names name = unwrap_or (slice_get names.trashed.items (name % 4294967296)) false
+
 abbrev pub unique_by : Place → NameFacts → Option ℕ
 unique_by Tmp facts = None
 unique_by New facts = facts.unique

@@ -48,10 +48,11 @@ pub record KeepsPaths (old new : Found) : Type 0 where
   pub overwrites : Keeps clause.Overwritten old new
   pub answers : KeepsAnswers old new
 
--- Of the clauses that go by paths of messages that are added nothing else is found than before.
-pub record KeepsAdded (old new : Found) : Type 0 where
+-- Of the clauses that go by paths of messages that come and go nothing else is found than before.
+pub record KeepsMessages (old new : Found) : Type 0 where
   pub two : Keeps clause.TwoNames old new
   pub again : Keeps clause.UsedAgain old new
+  pub gone : Keeps clause.Gone old new
 
 -- the clause goes by what was done to files
 abbrev pub GoesByFiles : Clause → Type 0

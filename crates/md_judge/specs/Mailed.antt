@@ -17,11 +17,12 @@ use Rattle.md_judge.specs.Copies.{copies_of}
 use Rattle.md_judge.specs.Files.{unique_in}
 use Rattle.md_judge.specs.Filed.{HoldsOf}
 use Rattle.md_judge.specs.Found.{NotesOne}
-use Rattle.md_judge.specs.Law.{Turn, TwoNames, UsedAgain}
+use Rattle.md_judge.specs.Law.{Turn, TwoNames, Gone, UsedAgain}
 use Rattle.md_judge.specs.Listings.{is_of, message_of}
 use Rattle.md_judge.specs.Logs.{Log}
 use Rattle.md_judge.specs.Messages.{WasFile, WasAs}
 use Rattle.md_judge.specs.Told.{at, is_message, IsMessageAt, IsThere}
+use Rattle.md_judge.specs.Names.{AreMarked}
 use Rattle.md_judge.specs.Words.{AreApart}
 
 -- ---- what a log tells
@@ -53,6 +54,7 @@ pub record IsMailed (l : Log) (i folder : ℕ) (unique : List ℕ) (o : Option M
 -- a number that stands for no unique name has nothing.
 pub record AreMailed (names : Names) (l : Log) (i : ℕ) (mail : Mail) : Type 0 where
   pub apart : AreApart names.uniques
+  pub marked : AreMarked names
   pub messages : (folder u : ℕ) (unique : List ℕ) → slice_get names.uniques u ≡ Some unique
       → IsMailed l i folder unique (message_of mail folder u)
   pub numbered : (j folder : ℕ) (unique : List ℕ) → j ≤ i → IsThere (at l j) folder unique
@@ -196,3 +198,9 @@ leaving_of names (Some taken) folder u = if taken.0.folder == folder then leavin
 pub record NotesAdded (t : Turn) (old new : Found) : Type 0 where
   pub two : NotesOne clause.TwoNames (TwoNames t) old new
   pub again : NotesOne clause.UsedAgain (UsedAgain t) old new
+
+-- Of the clauses that go by paths of messages that come and go, each is found besides where the law has it.
+pub record NotesMessages (t : Turn) (old new : Found) : Type 0 where
+  pub two : NotesOne clause.TwoNames (TwoNames t) old new
+  pub again : NotesOne clause.UsedAgain (UsedAgain t) old new
+  pub gone : NotesOne clause.Gone (Gone t) old new

@@ -1,7 +1,9 @@
 -- Which numbers stand for which names.
-use Rattle.std.specs.Prelude.{ℕ, ◌≡◌, ◌<◌, ◌/◌, ◌%◌, ◌^◌, List, Option, Some, None, length, drop, slice_get}
+use Rattle.std.specs.Prelude.{ℕ, ◌≡◌, ◌<◌, ◌/◌, ◌%◌, ◌^◌, List, Option, Some, None, Bool, false, length, drop, slice_get}
 use Rattle.md_name.specs.declared.info.Info.{Info}
-use Rattle.md_name.specs.Names.{split_of}
+use Rattle.md_name.specs.Letters.{Set}
+use Rattle.md_name.specs.Names.{split_of, info_of, flags_of}
+use Rattle.std.specs.FinSet as set
 use Rattle.md_judge.specs.declared.judge.tables.Names.{Names}
 use Rattle.md_judge.specs.Words.{AreApart}
 
@@ -27,10 +29,22 @@ pub record AreNumbered (names : Names) : Type 0 where
 abbrev pub KeepNumbers : Names → Names → Type 0
 KeepNumbers old new = (name : List ℕ) (n : ℕ) → IsNumber old name n → IsNumber new name n
 
--- Unique names keep their numbers, and others may get some: still two of them have two.
+-- a set of flags has T, where there is one
+abbrev pub has_trashed : Option Set → Bool
+has_trashed None = false
+has_trashed (Some had) = set.contains had 84
+
+-- Of each end of a message's name it is kept whether it shows the flag T.
+pub record AreMarked (names : Names) : Type 0 where
+  pub long : length names.trashed.items ≡ length names.endings
+  pub each : (k : ℕ) (ending : List ℕ) → slice_get names.endings k ≡ Some ending
+      → slice_get names.trashed.items k ≡ Some (has_trashed (flags_of (info_of ending)))
+
+-- Unique names keep their numbers, and others may get some: still two of them have two. What is kept of ends of names stays so.
 pub record GrowsUniques (old new : Names) : Type 0 where
   pub keeps : (unique : List ℕ) (u : ℕ) → slice_get old.uniques u ≡ Some unique → slice_get new.uniques u ≡ Some unique
   pub apart : AreApart old.uniques → AreApart new.uniques
+  pub marked : AreMarked old → AreMarked new
 
 -- the number that is kept of a unique name is that of the name's unique part, where it is a message's
 abbrev pub IsUnique : Names → Option (List ℕ × Info) → Option ℕ → Type 0

@@ -27,6 +27,7 @@ IsProved clause.SeenBeforeWhole = Unit {0}
 IsProved clause.Mixed = Unit {0}
 IsProved clause.NotFlushed = Unit {0}
 IsProved clause.TwoNames = Unit {0}
+IsProved clause.Gone = Unit {0}
 IsProved clause.UsedAgain = Unit {0}
 IsProved clause.MovedBack = Unit {0}
 IsProved clause.CleanedEarly = Unit {0}

@@ -1,5 +1,5 @@
 //! Calls on paths: what they are defined to answer, and what they do.
-ghost use Rattle.std.specs.Prelude.{◌≡◌, ◌≢◌, ◌↔◌, ◌<◌, ◌+◌, ◌⊎◌, ℕ, suc, List, Some, IsTrue, IsSome, OnOk, true, is_some, length};
+ghost use Rattle.std.specs.Prelude.{◌≡◌, ◌≢◌, ◌↔◌, ◌<◌, ◌+◌, ◌⊎◌, ℕ, suc, List, Some, IsTrue, IsSome, OnOk, true, false, is_some, length};
 ghost use Rattle.md_dirs.specs.State.{State, file_at, has_folder};
 ghost use Rattle.md_dirs.specs.declared.paths.Path.{Path};
 ghost use Rattle.md_judge.specs.Told.{ask_at, ask_between};
@@ -7,9 +7,10 @@ ghost use Rattle.md_log.specs.declared.line.Deed.TheVariants as deed;
 ghost use Rattle.md_log.specs.declared.clause.Clause.TheVariants as clause;
 ghost use Rattle.md_judge.specs.Law.{turn, IsWrongReply, reply_by};
 ghost use Rattle.md_judge.specs.Found.{NotesOne, NotesFiles, KeepsAnswers};
+ghost use Rattle.md_judge.specs.Acts.{UnlinksPath};
 ghost use Rattle.md_judge.specs.Filed.{AreFiled, IsJudged, BrokenByFiles};
 ghost use Rattle.md_judge.specs.Logs.{Log};
-ghost use Rattle.md_judge.specs.Mailed.{TellsMail, NotesAdded};
+ghost use Rattle.md_judge.specs.Mailed.{TellsMail, NotesMessages};
 ghost use Rattle.md_judge.specs.Timed.{AreTimed};
 ghost use Rattle.md_log.specs.declared.line.Step.{Step};
 ghost use Rattle.md_judge.specs.Changes.{IsOlder, Leads};
@@ -86,7 +87,7 @@ impl Watch {
             → AreTimed lines known.now.names l i self.old.mail → ((a b : ℕ) → a < b → lines a < lines b) → self.old.now ≡ lines i
             → self.old.now < 4294967295 → OnOk result (AreTimed lines known.now.names l (suc i) self.new.mail) }
         ensures added { (path : Spot → Path) (who : ℕ → List ℕ) (many i : ℕ) (l : Log) (x : Step) → TellsMail known.now.names l i self.old.mail
-            → IsJudged path who many l i x actor call.now known.now act.now → OnOk result (NotesAdded (turn l i x) self.old.found self.new.found) }
+            → IsJudged path who many l i x actor call.now known.now act.now → OnOk result (NotesMessages (turn l i x) self.old.found self.new.found) }
         ensures acts { self.old.now < 4294967296
             → OnOk result (NotesAct actor self.old.now (acted known.now.names act.now.spot call.now) self.old.actors self.new.actors) }
         ensures answers { OnOk result (KeepsAnswers self.old.found self.new.found) }
@@ -226,6 +227,7 @@ pub(super) fn create_change(spot: Spot, there: Option<u32>, file: u32) -> Change
         → Leads path result s ((ask_at deed.Create (path spot) now).after s) }
     ensures spots { EachSpot (λ q. q ≡ spot) result }
     ensures below { IsBelow (file + 1) result }
+    ensures unlinks { UnlinksPath result.taken result.is_unlink deed.Create Reply.Ok }
 {
     match there {
         None => Change {
@@ -249,6 +251,7 @@ pub(super) fn unlink_change(spot: Spot, file: u32) -> Change
         → Leads path result s ((ask_at deed.Unlink (path spot) now).after s) }
     ensures spots { EachSpot (λ q. q ≡ spot) result }
     ensures below { (bound : ℕ) → IsBelow bound result }
+    ensures unlinks { UnlinksPath result.taken result.is_unlink deed.Unlink Reply.Ok }
 {
     Change {
         taken: Some((spot, file)),
@@ -270,6 +273,7 @@ pub(super) fn naming_change(
         → Leads path result s ((ask_between naming (path old) (path new)).after s) }
     ensures spots { EachSpot (λ q. (q ≡ old) ⊎ (q ≡ new)) result }
     ensures below { (bound : ℕ) → file < bound → IsBelow bound result }
+    ensures unlinks { result.is_unlink ≡ false }
 {
     let taken = match naming {
         Naming::Link => None,

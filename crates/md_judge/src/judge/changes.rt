@@ -1,21 +1,25 @@
 //! Changes of paths: the clauses that they break, and what is kept of them.
-ghost use Rattle.std.specs.Prelude.{◌≡◌, ◌+◌, ℕ, suc, Some, IsSome, OnOk};
+ghost use Rattle.std.specs.Prelude.{◌≡◌, ◌+◌, ◌↔◌, ℕ, suc, Some, IsSome, OnOk, true};
 ghost use Rattle.md_dirs.specs.declared.paths.Path.{Path};
 ghost use Rattle.md_log.specs.declared.clause.Clause.TheVariants as clause;
+ghost use Rattle.md_log.specs.declared.line.Call.TheVariants as call;
+ghost use Rattle.md_log.specs.declared.line.Deed.TheVariants as deed;
+ghost use Rattle.md_log.specs.declared.line.Reply.TheVariants as reply;
 ghost use Rattle.md_log.specs.declared.line.Step.{Step};
+ghost use Rattle.md_judge.specs.declared.judge.acts.Change.{Change};
 ghost use Rattle.md_judge.specs.declared.judge.directories.Spot.{Spot};
 ghost use Rattle.md_judge.specs.Actors.{KeepsActs};
 ghost use Rattle.md_judge.specs.Acts.{IsDone};
 ghost use Rattle.md_judge.specs.Changes.{Leads};
 ghost use Rattle.md_judge.specs.Files.{unique_in};
-ghost use Rattle.md_judge.specs.Found.{Keeps, NotesOne, KeepsPaths, KeepsFiles, KeepsAdded, KeepsAnswers};
+ghost use Rattle.md_judge.specs.Found.{Keeps, NotesOne, KeepsPaths, KeepsFiles, KeepsAnswers};
 ghost use Rattle.md_judge.specs.Known.{EachSpot};
-ghost use Rattle.md_judge.specs.Law.{turn};
+ghost use Rattle.md_judge.specs.Law.{turn, Gone};
 ghost use Rattle.md_judge.specs.Logs.{Log};
 ghost use Rattle.md_judge.specs.Listings.{message_of};
 ghost use Rattle.md_judge.specs.Moments.{kept_moment};
 ghost use Rattle.md_judge.specs.Timed.{CameAt, TurnedAt, WentAt, MakesTimes};
-ghost use Rattle.md_judge.specs.Mailed.{AddAt, AddStep, TurnAt, TurnStep, TakeAt, TakeStep, MakeStep, TellsMail, NotesAdded};
+ghost use Rattle.md_judge.specs.Mailed.{AddAt, AddStep, TurnAt, TurnStep, TakeAt, TakeStep, MakeStep, TellsMail, NotesAdded, NotesMessages};
 ghost use Rattle.md_judge.specs.Recalled.{IsSpotOf};
 ghost use Rattle.md_judge.specs.Told.{at};
 
@@ -23,7 +27,6 @@ use super::acts::Change;
 use super::befores::{line_before, moment_of};
 use super::comings::{check_added, leaving};
 use super::directories::Spot;
-use super::flags::TRASHED;
 use super::goings::{Going, check_taken};
 use super::known::{Act, Known};
 use super::mail::Move;
@@ -41,7 +44,7 @@ impl Watch {
         ensures mailed { OnOk result (MakeStep known.now.names act.now.change self.old.mail self.new.mail) }
         ensures times { OnOk result (MakesTimes known.now.names self.old.now act.now.change self.old.mail self.new.mail) }
         ensures added { (path : Spot → Path) (l : Log) (i : ℕ) (x : Step) → IsDone path known.now.names (turn l i x) act.now
-            → TellsMail known.now.names l i self.old.mail → OnOk result (NotesAdded (turn l i x) self.old.found self.new.found) }
+            → TellsMail known.now.names l i self.old.mail → OnOk result (NotesMessages (turn l i x) self.old.found self.new.found) }
         ensures acts { OnOk result (KeepsActs self.old.actors self.new.actors) }
     {
         let change = act.change;
@@ -64,6 +67,7 @@ impl Watch {
         ensures law { (path : Spot → Path) (l : Log) (i : ℕ) (x : Step) → Leads path change.now (at l i) (at l (suc i))
             → EachSpot (λ q. IsSpotOf known.now.names (path q) q) change.now → TellsMail known.now.names l i self.old.mail
             → NotesAdded (turn l i x) self.old.found self.new.found }
+        ensures gone { Keeps clause.Gone self.old.found self.new.found }
     {
         let Some((spot, file)) = change.added else {
             return;
@@ -80,8 +84,14 @@ impl Watch {
     fn check_going(&mut self, known: &Known, change: &Change)
         ensures paths { KeepsPaths self.old.found self.new.found }
         ensures others { KeepsFiles self.old.found self.new.found }
-        ensures added { KeepsAdded self.old.found self.new.found }
+        ensures two { Keeps clause.TwoNames self.old.found self.new.found }
+        ensures again { Keeps clause.UsedAgain self.old.found self.new.found }
         ensures rest { self.new ≡ record self.old { found = self.new.found } }
+        ensures law { (path : Spot → Path) (l : Log) (i : ℕ) (x : Step) → Leads path change.now (at l i) (at l (suc i))
+            → ((q : Spot) → (path q).place ≡ q.place) → EachSpot (λ q. IsSpotOf known.now.names (path q) q) change.now
+            → ((q : Spot) (n : ℕ) → change.now.taken ≡ Some (q, n)
+            → (change.now.is_unlink ≡ true) ↔ (x.call ≡ call.At deed.Unlink (path q) reply.Ok))
+            → TellsMail known.now.names l (suc i) self.old.mail → NotesOne clause.Gone (Gone (turn l i x)) self.old.found self.new.found }
     {
         if let Some((spot, file)) = change.taken {
             self.check_taken(known, spot, file, change.is_unlink);
@@ -92,8 +102,13 @@ impl Watch {
     fn check_taken(&mut self, known: &Known, spot: Spot, file: u32, is_unlink: bool)
         ensures paths { KeepsPaths self.old.found self.new.found }
         ensures others { KeepsFiles self.old.found self.new.found }
-        ensures added { KeepsAdded self.old.found self.new.found }
+        ensures two { Keeps clause.TwoNames self.old.found self.new.found }
+        ensures again { Keeps clause.UsedAgain self.old.found self.new.found }
         ensures rest { self.new ≡ record self.old { found = self.new.found } }
+        ensures law { (path : Spot → Path) (l : Log) (i : ℕ) (x : Step) (c : Change) → Leads path c (at l i) (at l (suc i))
+            → ((q : Spot) → (path q).place ≡ q.place) → EachSpot (λ q. IsSpotOf known.now.names (path q) q) c → c.taken ≡ Some (spot, file)
+            → ((is_unlink ≡ true) ↔ (x.call ≡ call.At deed.Unlink (path spot) reply.Ok))
+            → TellsMail known.now.names l (suc i) self.old.mail → NotesOne clause.Gone (Gone (turn l i x)) self.old.found self.new.found }
     {
         let Some(unique) = known.unique_at(spot) else {
             return;
@@ -105,18 +120,11 @@ impl Watch {
             spot,
             file,
             is_unlink,
-            is_trashed: self.is_trashed(known, spot),
+            is_trashed: known.names.is_trashed(spot.name),
             left: message.count,
             is_copied: self.mail.is_copied(file, unique),
         };
         check_taken(&mut self.found, &going, line_before(message.since));
-    }
-
-    fn is_trashed(&self, known: &Known, spot: Spot) -> bool {
-        match known.names.facts(spot.name).flags {
-            None => false,
-            Some(flags) => flags & TRASHED != 0,
-        }
     }
 
     /// Keeps what a change does to messages. The new name comes first, so that a message that is renamed in its folder is there all the while.

@@ -6,7 +6,7 @@ ghost use Rattle.md_judge.specs.declared.judge.directories.Spot.{Spot};
 ghost use Rattle.md_judge.specs.Logs.{Log};
 ghost use Rattle.md_judge.specs.Law.{turn};
 ghost use Rattle.md_judge.specs.Recalls.{IsAt, IsChange, BrokenAt, BrokenByChange};
-ghost use Rattle.md_judge.specs.Found.{Notes, KeepsPaths, KeepsAdded};
+ghost use Rattle.md_judge.specs.Found.{Notes, KeepsPaths, KeepsMessages};
 ghost use Rattle.md_judge.specs.Filed.{AreFiled, IsJudged, BrokenByFiles};
 ghost use Rattle.md_judge.specs.Files.{is_message_in, named, facts_at, Changes, AtStep, CallStep, LeaveStep, ChangeStep, WriteFinds, AtFinds, NamedFinds, LeaveFinds, ChangeFinds};
 
@@ -37,7 +37,7 @@ impl Files {
         act: &Act,
     ) -> Result<(), LineFault>
         ensures paths { OnOk result (KeepsPaths found.old found.new) }
-        ensures added { OnOk result (KeepsAdded found.old found.new) }
+        ensures added { OnOk result (KeepsMessages found.old found.new) }
         ensures filed { (path : Spot → Path) (who : ℕ → List ℕ) (many i : ℕ) (l : Log) (x : Step) → AreFiled who many l i self.old.all.items
             → IsJudged path who many l i x by.actor call.now known.now act.now → OnOk result (AreFiled who many l (suc i) self.new.all.items) }
         ensures finds { (path : Spot → Path) (who : ℕ → List ℕ) (many i : ℕ) (l : Log) (x : Step) → AreFiled who many l i self.old.all.items
@@ -59,7 +59,7 @@ impl Files {
     ) -> Result<(), LineFault>
         ensures step { OnOk result (CallStep call.now act.now.spot by.actor known.now.clock act.now.file self.old.all.items self.new.all.items) }
         ensures paths { OnOk result (KeepsPaths found.old found.new) }
-        ensures added { OnOk result (KeepsAdded found.old found.new) }
+        ensures added { OnOk result (KeepsMessages found.old found.new) }
         ensures law { (path : Spot → Path) (who : ℕ → List ℕ) (many i : ℕ) (l : Log) (x : Step) → AreFiled who many l i self.old.all.items
             → IsJudged path who many l i x by.actor call.now known.now act.now
             → OnOk result (Notes (BrokenAt (turn l i x)) found.old found.new) }

@@ -1,9 +1,6 @@
 //! Flags as numbers.
 use md_name::Flags;
 
-/// The bit of the flag T, of a message that may be removed.
-pub(super) const TRASHED: u64 = 524_288;
-
 const LETTERS: &[u8; 52] = b"ABCDEFGHIJKLMNOPQRSTUVWXYZabcdefghijklmnopqrstuvwxyz";
 
 /// Flags as a number: a bit for each letter.

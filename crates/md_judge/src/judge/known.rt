@@ -1,5 +1,5 @@
 //! What is known of the directories: the files at paths, how many files were made, and the clock.
-ghost use Rattle.std.specs.Prelude.{◌≡◌, ◌+◌, ◌<◌, ◌⊎◌, [], ℕ, suc, Some, Ok, true, length, max, slice_get, OnOk, IfOk, IfErr};
+ghost use Rattle.std.specs.Prelude.{◌≡◌, ◌+◌, ◌<◌, ◌⊎◌, [], ℕ, suc, Some, Ok, true, false, length, max, slice_get, OnOk, IfOk, IfErr};
 ghost use Rattle.md_dirs.specs.State.{State, file_at, has_folder};
 ghost use Rattle.md_dirs.specs.declared.paths.Path.{Path};
 ghost use Rattle.md_log.specs.declared.error.LineFault.TheVariants.{NoMemory, SamePath, NoSuchPath};
@@ -9,12 +9,12 @@ ghost use Rattle.md_judge.specs.Told.{at, ask_at, ask_between, after_ask, after_
 ghost use Rattle.md_log.specs.declared.line.Step.{Step};
 ghost use Rattle.md_log.specs.declared.line.Call.TheVariants as call;
 ghost use Rattle.md_judge.specs.Law.{turn};
-ghost use Rattle.md_judge.specs.Acts.{IsActOf, Does, NamesFirst, ReadsNone};
+ghost use Rattle.md_judge.specs.Acts.{IsActOf, Does, NamesFirst, ReadsNone, UnlinksPath};
 ghost use Rattle.md_judge.specs.Changes.{IsOlder, Leads};
 ghost use Rattle.md_judge.specs.Files.{unique_in, is_message_in};
 ghost use Rattle.md_judge.specs.Known.{EachSpot, IsBelow, files_after, Stands, Holds, Leaves};
 ghost use Rattle.md_judge.specs.Moments.{IsKnownAt, GoesOn};
-ghost use Rattle.md_judge.specs.Names.{AreNumbered, KeepNumbers, GrowsUniques};
+ghost use Rattle.md_judge.specs.Names.{AreNumbered, KeepNumbers, GrowsUniques, AreMarked};
 ghost use Rattle.md_judge.specs.Recalled.{IsSpotOf, IsToldAt, HasFolders, Agrees};
 
 use super::acts::{
@@ -65,6 +65,7 @@ impl Known {
         ensures told { (lines : ℕ → ℕ) → IsToldAt lines empty_log 0 result }
         ensures clock { result.clock ≡ 0 }
         ensures uniques { result.names.uniques ≡ [] }
+        ensures marked { AreMarked result.names }
     {
         Known {
             names: Names::new(alloc),
@@ -331,6 +332,7 @@ fn change_at(deed: Deed, spot: Spot, there: Option<u32>, reply: Reply, next: u32
         → Leads path result s (after_ask reply (ask_at deed (path spot) now) s) }
     ensures spots { EachSpot (λ q. q ≡ spot) result }
     ensures below { IsBelow (files_after deed reply next) result }
+    ensures unlinks { UnlinksPath result.taken result.is_unlink deed reply }
 {
     match reply {
         Reply::Ok => made_at(deed, spot, there, next),
@@ -344,6 +346,7 @@ fn made_at(deed: Deed, spot: Spot, there: Option<u32>, next: u32) -> Change
         → Leads path result s ((ask_at deed (path spot) now).after s) }
     ensures spots { EachSpot (λ q. q ≡ spot) result }
     ensures below { IsBelow (files_after deed Reply.Ok next) result }
+    ensures unlinks { UnlinksPath result.taken result.is_unlink deed Reply.Ok }
 {
     match deed {
         Deed::Create => create_change(spot, there, next),
@@ -369,6 +372,7 @@ fn change_between(
         → Leads path result s (after_ask reply (ask_between naming (path old) (path new)) s) }
     ensures spots { EachSpot (λ q. (q ≡ old) ⊎ (q ≡ new)) result }
     ensures below { (bound : ℕ) → IsOlder file bound → IsBelow bound result }
+    ensures unlinks { result.is_unlink ≡ false }
 {
     match reply {
         Reply::Ok => made_between(naming, old, new, file, there),
@@ -388,6 +392,7 @@ fn made_between(
         → Leads path result s ((ask_between naming (path old) (path new)).after s) }
     ensures spots { EachSpot (λ q. (q ≡ old) ⊎ (q ≡ new)) result }
     ensures below { (bound : ℕ) → IsOlder file bound → IsBelow bound result }
+    ensures unlinks { result.is_unlink ≡ false }
 {
     match file {
         None => NO_CHANGE,

@@ -9,7 +9,7 @@ ghost use Rattle.md_judge.specs.Logs.{Log};
 ghost use Rattle.md_judge.specs.Law.{turn, NotADirectory, Unlisted};
 ghost use Rattle.md_log.specs.declared.clause.Clause.TheVariants as clause;
 ghost use Rattle.md_judge.specs.Actors.{NotesLook};
-ghost use Rattle.md_judge.specs.Found.{Notes, NotesOne, Keeps, KeepsPaths, KeepsFiles, KeepsAdded, KeepsAnswers};
+ghost use Rattle.md_judge.specs.Found.{Notes, NotesOne, Keeps, KeepsPaths, KeepsFiles, KeepsMessages, KeepsAnswers};
 ghost use Rattle.md_judge.specs.declared.judge.directories.Named.{Named};
 ghost use Rattle.md_judge.specs.Readings.{shown_wrongly, lacked, wrong_name, PartFinds, IsPartOf, BrokenByPart};
 ghost use Rattle.md_judge.specs.Open.{reading_of, first_in, shows_in, ShowsMore, IsOver, KeepsPart, IsToldPart};
@@ -350,7 +350,7 @@ impl Watch {
     ) -> Result<(), LineFault>
         ensures overwrites { OnOk result (Keeps clause.Overwritten self.old.found self.new.found) }
         ensures others { OnOk result (KeepsFiles self.old.found self.new.found) }
-        ensures added { OnOk result (KeepsAdded self.old.found self.new.found) }
+        ensures added { OnOk result (KeepsMessages self.old.found self.new.found) }
         ensures files { OnOk result (self.new.files ≡ self.old.files) }
         ensures mail { OnOk result (self.new.mail ≡ self.old.mail) }
         ensures wrong { (lines : ℕ → ℕ) (l : Log) (i : ℕ) (x : Step) (shown : List (List ℕ))
@@ -401,7 +401,7 @@ impl Watch {
     ) -> Result<(), LineFault>
         ensures paths { OnOk result (KeepsPaths self.old.found self.new.found) }
         ensures others { OnOk result (KeepsFiles self.old.found self.new.found) }
-        ensures added { OnOk result (KeepsAdded self.old.found self.new.found) }
+        ensures added { OnOk result (KeepsMessages self.old.found self.new.found) }
         ensures files { OnOk result (self.new.files ≡ self.old.files) }
         ensures over { IsOver (reading_of listing.exit.now place).first (λ n. ordered.contains nat_cmp (reading_of listing.exit.now place).shown n) }
         ensures apart { (p : Place) → (p ≡ place → ⊥) → reading_of listing.exit.now p ≡ reading_of listing.entry.now p }

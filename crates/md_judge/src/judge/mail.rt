@@ -439,6 +439,7 @@ impl Mail {
     /// The message, where it ever was in its folder.
     pub(super) fn presence(&self, key: Key) -> Option<Presence>
         ensures count { count_there result ≡ count_of (message_of self.now key.0 key.1) }
+        ensures same { option_map (λ (p : Presence). p.count) result ≡ option_map (λ (m : Message). m.count) (message_of self.now key.0 key.1) }
     {
         let message = self.message(key)?;
         Some(Presence {

@@ -1,16 +1,16 @@
 //! Words by numbers.
 ghost use Rattle.std.specs.Prelude.{◌≡◌, ◌≢◌, ◌<◌, ◌≤◌, ◌+◌, ◌*◌, ◌/◌, ◌%◌, ◌++◌, ◌∷◌, [], ℕ, List, Some, None, length, slice_get, if◌then◌else◌, IsTrue, IfOk, IfErr, IfSome, IfNone, OnOk, OnErr};
 ghost use Rattle.std.specs.Option.{option_copied};
-ghost use Rattle.md_name.specs.Names.{split_of};
+ghost use Rattle.md_name.specs.Names.{split_of, info_of, flags_of};
 ghost use Rattle.md_log.specs.declared.error.LineFault.TheVariants.{NoMemory};
-ghost use Rattle.md_judge.specs.Files.{name_facts};
+ghost use Rattle.md_judge.specs.Files.{name_facts, is_trashed_in};
 ghost use Rattle.md_judge.specs.Words.{hash_of, AreApart, Finds};
-ghost use Rattle.md_judge.specs.Names.{StandFor, IsNumber, AreNumbered, KeepNumbers, GrowsUniques, IsUnique};
+ghost use Rattle.md_judge.specs.Names.{StandFor, IsNumber, AreNumbered, KeepNumbers, GrowsUniques, AreMarked, has_trashed, IsUnique};
 
 use super::flags::bits_of;
 use super::texts::Words;
 use md_log::LineFault;
-use md_name::{Info, split};
+use md_name::{Flags, Info, split};
 use std::alloc::Global;
 use std::collections::BTreeMap;
 use std::hash::{FoldHasher, Hasher};
@@ -202,6 +202,8 @@ pub(super) struct Names {
     endings: Table,
     /// The flags of each ending.
     flags: Vec<Option<u64>>,
+    /// Whether each ending shows the flag T.
+    trashed: Vec<bool>,
     /// The ending that came first with these flags, but for the empty one: names in cur mostly have an info.
     chiefs: BTreeMap<u64, u64>,
     /// Names that are no message's.
@@ -210,12 +212,14 @@ pub(super) struct Names {
 
 impl Names {
     pub(super) fn new(alloc: Global) -> Self
-        ensures { (result.uniques ≡ []) × (result.endings ≡ []) × (result.others ≡ []) }
+        ensures words { (result.uniques ≡ []) × (result.endings ≡ []) × (result.others ≡ []) }
+        ensures marked { AreMarked result }
     {
         Names {
             uniques: Table::new(alloc),
             endings: Table::new(alloc),
             flags: Vec::new(alloc),
+            trashed: Vec::new(alloc),
             chiefs: BTreeMap::new(alloc),
             others: Table::new(alloc),
         }
@@ -265,7 +269,7 @@ impl Names {
     fn other(&mut self, name: &[u8]) -> Result<Name, LineFault>
         ensures number { IfOk result (λ n. StandFor self.new name.now None (n / 4294967296) (n % 4294967296)) }
         ensures keeps { KeepNumbers self.old self.new }
-        ensures uniques { self.new.uniques ≡ self.old.uniques }
+        ensures rest { self.new ≡ record self.old { others = self.new.others } }
         ensures fault { IfErr result (λ e. e ≡ NoMemory) }
     {
         let (number, _) = self.others.number(name)?;
@@ -276,7 +280,7 @@ impl Names {
     fn message(&mut self, name: &[u8], unique: &[u8], info: Info) -> Result<Name, LineFault>
         ensures number { IfOk result (λ n. StandFor self.new name.now (Some (unique.now, info)) (n / 4294967296) (n % 4294967296)) }
         ensures keeps { KeepNumbers self.old self.new }
-        ensures uniques { OnOk result (GrowsUniques self.old self.new) }
+        ensures uniques { split_of name.now ≡ Some (unique.now, info) → OnOk result (GrowsUniques self.old self.new) }
         ensures fault { IfErr result (λ e. e ≡ NoMemory) }
     {
         let ending = self.ending(name.get(unique.len()..).unwrap_or(&[]), info)?;
@@ -289,6 +293,7 @@ impl Names {
         ensures few { IfOk result (λ n. n < 4294967295) }
         ensures keeps { KeepNumbers self.old self.new }
         ensures uniques { self.new.uniques ≡ self.old.uniques }
+        ensures marked { info ≡ info_of ending.now → AreMarked self.old → OnOk result (AreMarked self.new) }
         ensures fault { IfErr result (λ e. e ≡ NoMemory) }
     {
         let (number, is_new) = self.endings.number(ending)?;
@@ -302,9 +307,12 @@ impl Names {
     /// Keeps what a new ending says.
     fn note_flags(&mut self, number: u64, ending: &[u8], info: Info) -> Result<(), LineFault>
         ensures words { (self.new.uniques ≡ self.old.uniques) × (self.new.endings ≡ self.old.endings) × (self.new.others ≡ self.old.others) }
+        ensures trashed { OnOk result (self.new.trashed.items ≡ self.old.trashed.items ++ has_trashed (flags_of info) ∷ []) }
         ensures fault { IfErr result (λ e. e ≡ NoMemory) }
     {
-        let flags = info.flags().map(bits_of);
+        let flags = info.flags();
+        self.trashed.push(has_trashed(flags))?;
+        let flags = flags.map(bits_of);
         self.flags.push(flags)?;
         if let Some(flags) = flags
             && !ending.is_empty()
@@ -330,6 +338,14 @@ impl Names {
         Some(name_of(unique, *ending))
     }
 
+    /// Whether the name of a message shows the flag T.
+    pub(super) fn is_trashed(&self, name: Name) -> bool
+        ensures { result ≡ is_trashed_in self.now name }
+    {
+        let ending = name % ENDINGS;
+        self.trashed.get(ending as usize).copied().unwrap_or(false)
+    }
+
     pub(super) fn facts(&self, name: Name) -> NameFacts
         ensures { result ≡ name_facts self.now name }
     {
@@ -341,6 +357,16 @@ impl Names {
             unique: Some((name / ENDINGS) as u32),
             flags: self.flags.get(ending as usize).copied().unwrap_or(None),
         }
+    }
+}
+
+/// Whether flags, where there are some, have T.
+fn has_trashed(flags: Option<Flags>) -> bool
+    ensures { result ≡ has_trashed flags }
+{
+    match flags {
+        None => false,
+        Some(flags) => flags.has(b'T'),
     }
 }
 

@@ -8,7 +8,7 @@ ghost use Rattle.md_judge.specs.Listings.{message_of};
 ghost use Rattle.md_judge.specs.Logs.{Log};
 ghost use Rattle.md_judge.specs.Actors.{Tells, begun_by, done_by, looked_by, IsAnswering};
 ghost use Rattle.md_judge.specs.Mailed.{count_of as paths_of};
-ghost use Rattle.md_judge.specs.Found.{Keeps, NotesOne, KeepsFiles, KeepsAdded};
+ghost use Rattle.md_judge.specs.Found.{Keeps, NotesOne, KeepsFiles, KeepsMessages};
 
 use super::claims::{Claim, check_claim};
 use super::flags::bits_of;
@@ -32,7 +32,7 @@ impl Watch {
         ensures wrong { Keeps clause.NotADirectory self.old.found self.new.found }
         ensures overwrites { Keeps clause.Overwritten self.old.found self.new.found }
         ensures others { KeepsFiles self.old.found self.new.found }
-        ensures added { KeepsAdded self.old.found self.new.found }
+        ensures added { KeepsMessages self.old.found self.new.found }
         ensures files { self.new.files ≡ self.old.files }
         ensures mail { self.new.mail ≡ self.old.mail }
         ensures tells { Tells actor key self.old.actors self.new.actors }

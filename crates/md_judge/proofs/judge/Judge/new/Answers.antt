@@ -14,7 +14,8 @@ returns-clause-told c = λ lines. record {
   filed = filed-first (name_at c.new.result) (length c.new.result) c.new-3.result.files.all.items c.new-3.ensures.files;
   clock = c.new-2.ensures.clock;
   opens = open-none lines _ _ empty_log _ c.new.ensures c.new-4.ensures.empty;
-  mailed = tells-none _ c.new-3.result.mail c.new-2.ensures.uniques c.new-3.ensures.messages c.new-3.ensures.copies;
+  mailed = tells-none _ c.new-3.result.mail c.new-2.ensures.uniques c.new-3.ensures.messages c.new-3.ensures.copies
+      c.new-2.ensures.marked;
   gathers = listings-none lines _ _ empty_log _ c.new.ensures c.new-4.ensures.empty;
   acting = acting-none lines c.new.result c.new-2.result.names.uniques empty_log c.new-3.result.actors c.new-4.result c.new-3.ensures.begun
       c.new-3.ensures.done (looked-none c.new-4.result c.new-4.ensures.empty);

@@ -20,9 +20,9 @@ use Rattle.md_judge.specs.Logs.{Log}
 use Rattle.md_judge.specs.Actors.{AreActing, NotesAct, NotesLook, MayStand, acted, begun_by, done_by}
 use Rattle.md_judge.specs.Acts.{ReadsNone}
 use Rattle.md_judge.specs.Filed.{AreFiled, IsJudged, BrokenByFiles, name_at}
-use Rattle.md_judge.specs.Found.{Has, NotesOne, KeepsAdded, KeepsFiles, KeepsAnswers, NotesFiles}
+use Rattle.md_judge.specs.Found.{Has, NotesOne, KeepsMessages, KeepsFiles, KeepsAnswers, NotesFiles}
 use Rattle.md_judge.specs.Gathered.{KeepsGathered, AreGathered}
-use Rattle.md_judge.specs.Mailed.{TellsMail, NotesAdded, count_of}
+use Rattle.md_judge.specs.Mailed.{TellsMail, NotesMessages, count_of}
 use Rattle.md_judge.specs.Open.{Listings, first_in, shows_in, KeepsPart, AreNames, AreOpen, IsToldPart}
 use Rattle.md_judge.specs.Recalled.{IsToldAt, HasFolders}
 use Rattle.md_judge.specs.Words.{AreApart, KeepWords}
@@ -39,7 +39,7 @@ use Rattle.md_judge.proofs.Spanning.{span-of, acts-in}
 use Rattle.md_judge.proofs.Acting.{none-overwritten, found-overwritten, found-wrong, found-still}
 use Rattle.md_judge.proofs.Alike.{acts-by, filed-grows}
 use Rattle.md_judge.proofs.Judged.{still-filed, still-lawful}
-use Rattle.md_judge.proofs.Mailbegun.{tells-still, still-two, still-again}
+use Rattle.md_judge.proofs.Mailbegun.{tells-still, still-two, still-again, still-gone}
 use Rattle.md_judge.proofs.Posted.{tells-grows}
 use Rattle.md_judge.proofs.Present.{are-present}
 use Rattle.md_judge.proofs.Proved.{IsJudgedAlone, kept-proved, noted-proved}
@@ -446,11 +446,11 @@ returns-in-List-clause-broken c = λ lines l i keeps is here short now rises cou
     let wrong = Has new.broken clause.NotADirectory ↔ NotADirectory t in
     let overwritten = Has new.broken clause.Overwritten ↔ Overwritten t in
     let gave = Has new.broken clause.GaveUp ↔ GaveUp t in
-    ok-three c.list.result (IsJudgedAlone new.broken t) (KeepsFiles shown new) (KeepsAdded shown new)
+    ok-three c.list.result (IsJudgedAlone new.broken t) (KeepsFiles shown new) (KeepsMessages shown new)
     ((k : Clause) → IsProved k → Has new.broken k ↔ Breaks k t)
     (λ alone kept added. kept-proved t c.begin.new.self.found shown new c.begin.ensures.nothing c.in_ok-names-in-List.ensures.found alone kept
     (still-lawful who (length names) l i x step-is actor acts c.args.self.now.watch.files.all.items are c.step.new.self.names still apart)
-    added (still-two l i still x) (still-again l i still x))
+    added (still-two l i still x) (still-again l i still x) (still-gone l i still x))
     (ok-three c.list.result wrong overwritten gave (IsJudgedAlone new.broken t) (λ w o g. record { wrong = w; overwritten = o; gave_up = g })
     (returns-in-List-clause-read c lines l i keeps.told keeps.opens is here short there now rises)
     (returns-in-List-clause-overwritten c lines l i keeps.told is here short there)
@@ -505,7 +505,7 @@ returns-in-Answer-clause-broken c = λ lines l i keeps is here short now rises c
       gave_up = returns-in-Answer-clause-gave_up c lines l i keeps is here short now rises counted;
     }) c.answer.ensures.others
     (still-lawful who (length names) l i x step-is actor acts c.args.self.now.watch.files.all.items are c.step.new.self.names still apart)
-    c.answer.ensures.added (still-two l i still x) (still-again l i still x)
+    c.answer.ensures.added (still-two l i still x) (still-again l i still x) (still-gone l i still x)
 
 pub returns-clause-told : goal.returns-clause-told
 returns-clause-told c = λ lines l i keeps is here short now there.
@@ -570,7 +570,7 @@ returns-clause-broken c = λ lines l i keeps is here short now rises counted the
     let first = c.args.self.now in
     let mail = subst (λ (m : Mail). TellsMail c.step.new.self.names l i m) (sym c.begin.ensures.mail)
     (tells-grows first.known.names c.step.new.self.names c.in_ok-self.ensures.uniques l i first.watch.mail keeps.mailed) in
-    ok-three c.call.result (IsJudgedAlone new.broken t) (NotesFiles (BrokenByFiles t) begun new) (NotesAdded t begun new)
+    ok-three c.call.result (IsJudgedAlone new.broken t) (NotesFiles (BrokenByFiles t) begun new) (NotesMessages t begun new)
     ((k : Clause) → IsProved k → Has new.broken k ↔ Breaks k t) (noted-proved t begun begun new c.begin.ensures.nothing refl)
     (ok-three c.call.result wrong overwritten gave (IsJudgedAlone new.broken t) (λ w o g. record { wrong = w; overwritten = o; gave_up = g })
     (returns-clause-read c lines l i keeps.told keeps.opens is here short there now rises)

@@ -1,6 +1,6 @@
 use Rattle.md_judge.specs.Filed.{AreFiled, BrokenByFiles}
 use Rattle.md_judge.specs.Files.{ChangeFinds, ChangeStep}
-use Rattle.md_judge.specs.Found.{Notes, KeepsPaths, KeepsAdded}
+use Rattle.md_judge.specs.Found.{Notes, KeepsPaths, KeepsMessages}
 use Rattle.md_judge.specs.Law.{turn}
 use Rattle.md_judge.specs.Recalls.{BrokenByChange}
 use Rattle.std.proofs.Common.{suc}
@@ -25,7 +25,7 @@ returns-clause-added c =
     let between = c.on_path.new.found in
     let new = c.change.new.found in
     let finds = ChangeFinds c.args.known.now.names c.args.by.actor c.args.known.now.clock c.args.act.now.change c.on_path.new.self.all.items c.change.new.self.all.items in
-    ok-then c.change.result (Notes finds between new) (KeepsAdded old new)
+    ok-then c.change.result (Notes finds between new) (KeepsMessages old new)
     (λ notes. added-on old between new c.in_ok-on_path.ensures.added (files-spare-added finds
     (change-more c.args.known.now.names c.args.by.actor c.args.known.now.clock c.args.act.now.change c.on_path.new.self.all.items c.change.new.self.all.items)
     between new notes)) c.change.ensures.finds

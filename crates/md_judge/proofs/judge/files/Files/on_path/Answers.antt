@@ -1,5 +1,5 @@
 use Rattle.std.proofs.Common.{◌≡◌, sym, ap, ◌∙◌}
-use Rattle.md_judge.specs.Found.{Notes, KeepsPaths, KeepsAdded}
+use Rattle.md_judge.specs.Found.{Notes, KeepsPaths, KeepsMessages}
 use Rattle.md_judge.specs.Files.{is_message_in, AtFinds}
 use Rattle.md_judge.specs.Told.{is_message}
 use Rattle.md_judge.proofs.Judged.{is-at}
@@ -29,7 +29,7 @@ returns-in-Some-clause-added c =
     let actor = c.args.by.actor in
     let all = c.args.self.now.all.items in
     let finds = AtFinds is_message actor all c.in-At.deed c.in-At.reply c.args.act.now.file in
-    ok-then c.at.result (Notes finds c.args.found.now c.at.new.found) (KeepsAdded c.args.found.now c.at.new.found)
+    ok-then c.at.result (Notes finds c.args.found.now c.at.new.found) (KeepsMessages c.args.found.now c.at.new.found)
     (files-spare-added finds (at-more is_message actor all c.in-At.deed c.in-At.reply c.args.act.now.file) c.args.found.now c.at.new.found) c.at.ensures.finds
 
 pub returns-in-Some-clause-law : goal.returns-in-Some-clause-law

@@ -1,4 +1,4 @@
-use Rattle.std.proofs.Common.{ℕ, suc, ◌≡◌, ◌<◌, ◌≤◌, ◌^◌, true, is_some, length, refl, sym, ap, subst, ◌∙◌}
+use Rattle.std.proofs.Common.{ℕ, suc, ◌≡◌, ◌<◌, ◌≤◌, ◌^◌, Some, true, is_some, length, refl, sym, ap, subst, ◌∙◌}
 use Rattle.md_dirs.specs.State.{State, file_at, has_folder}
 use Rattle.md_dirs.specs.declared.paths.Path.{Path}
 use Rattle.md_judge.specs.declared.judge.directories.Spot.{Spot}
@@ -6,8 +6,10 @@ use Rattle.md_judge.specs.declared.judge.acts.Change.{Change}
 use Rattle.md_judge.specs.declared.judge.known.Known.{Known}
 use Rattle.md_judge.specs.Told.{at, ask_at, after_ask}
 use Rattle.md_judge.specs.Changes.{IsOlder, Leads}
-use Rattle.md_judge.specs.Known.{files_after, number_at, Stands, Holds, EachSpot, IsHoused}
+use Rattle.md_judge.specs.Known.{files_after, number_at, Stands, Holds, EachPath, EachSpot, IsHoused}
 use Rattle.md_judge.specs.Moments.{GoesOn}
+use Rattle.md_judge.specs.Acts.{UnlinksPath}
+use Rattle.md_log.specs.declared.line.Call.TheVariants as call
 use Rattle.md_judge.specs.Recalled.{IsSpotOf, HasNumber}
 use Rattle.md_judge.proofs.Pathed.{path_by, path-is, place-by}
 use Rattle.md_judge.proofs.Telling.{known-by, comes, told-by}
@@ -114,5 +116,12 @@ returns-clause-done c = λ p now lines l i x told numbered of goes there call-is
           of = subst (λ q. IsSpotOf names q spot) one of;
           file = sym (is c path (2 ^ 64) now (at l i) known.stands known.holds low there') ∙ ap (file_at (at l i)) (same ∙ one);
         };
+        unlink = λ q n taken.
+            let change = c.change_at-change.result in
+            let here : q ≡ spot = subst (EachPath (λ s. s ≡ spot)) taken c.change_at-change.ensures.spots.0 in
+            let by : UnlinksPath (Some (q, n)) change.is_unlink c.args.deed c.args.reply =
+            subst (λ o. UnlinksPath o change.is_unlink c.args.deed c.args.reply) taken c.change_at-change.ensures.unlinks in
+            let on : p ≡ path q = sym same ∙ ap path (sym here) in
+            (λ h. call-is ∙ (λ j. call.At (by.1 j) (on j) (by.2 j)), λ h. by.0);
       },
     )

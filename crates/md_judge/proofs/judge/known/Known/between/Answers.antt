@@ -132,5 +132,6 @@ returns-clause-done c = λ p q lines l i x told numbered of of' goes there there
             (λ s e. elim e [ inl e ↦ subst (λ s. IsSpotOf names (path s) s) (sym e) first | inr e ↦ subst (λ s. IsSpotOf names (path s) s) (sym e) second ])
             c.change_between-change.result c.change_between-change.ensures.spots;
         at = λ d v r e. absurd (cc);
+        unlink = λ s n taken. (λ h. absurd (let no = c.change_between-change.ensures.unlinks in cc), λ e. absurd (cc));
       },
     )

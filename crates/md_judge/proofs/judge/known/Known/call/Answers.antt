@@ -11,8 +11,7 @@ use Rattle.md_judge.specs.Recalled.{IsSpotOf, HasFolders}
 use Rattle.md_judge.proofs.Acting.{acts-at, acts-between, acts-none, done-none}
 use Rattle.md_judge.proofs.Pathed.{path_by, path-is}
 use Rattle.md_judge.proofs.Stepping.{rests, on-ok}
-use Rattle.md_judge.proofs.Uniqued.{grows-same, grows-on}
-use Rattle.md_judge.specs.declared.judge.tables.Names.{Names}
+use Rattle.md_judge.proofs.Uniqued.{grows-none, grows-on}
 use Rattle.md_judge.proofs.Telling.{known-by}
 use Rattle.md_judge.specs.Names.{IsNumber}
 use Rattle.md_judge.specs.Acts.{ReadsNone}
@@ -78,7 +77,7 @@ returns-in_ok-spot-in-At c = record {
       (s, is, subst (λ (t : Names). IsSpotOf t c.in-At.path s) (sym c.at.ensures.names) c.in_ok-spot-in-At.ensures.spot)) c.at.ensures.spot;
   lists = λ reads. absurd (reads (subst ReadsNone (sym c.in-At.is) tt));
   uniques = on-ok c.at.result (grows-on c.args.self.now.names c.spot.new.self.names c.at.new.self.names c.in_ok-spot-in-At.ensures.uniques
-      (grows-same c.spot.new.self.names c.at.new.self.names (ap (λ (n : Names). n.uniques) c.at.ensures.names)));
+      (grows-none c.spot.new.self.names c.at.new.self.names c.at.ensures.names));
 }
 
 pub returns-in_ok-new-in-Between : goal.returns-in_ok-new-in-Between
@@ -155,7 +154,7 @@ returns-in_ok-new-in-Between c = record {
       let last = c.between.new.self.names in
       on-ok c.between.result (grows-on first third last
       (grows-on first second third c.in_ok-old-in-Between.ensures.uniques c.in_ok-new-in-Between.ensures.uniques)
-      (grows-same third last (ap (λ (n : Names). n.uniques) c.between.ensures.names)));
+      (grows-none third last c.between.ensures.names));
 }
 
 pub returns-in-List : goal.returns-in-List
@@ -189,7 +188,7 @@ returns-in-List c = record {
     | inr of ↦ subst (λ (v : Call). NamesFirst c.args.self.now.names v no-act) (sym of.3) tt
   ];
   lists = λ reads. refl;
-  uniques = grows-same c.args.self.now.names c.args.self.now.names refl;
+  uniques = grows-none c.args.self.now.names c.args.self.now.names refl;
 }
 
 pub returns-in-List-2 : goal.returns-in-List-2
@@ -223,5 +222,5 @@ returns-in-List-2 c = record {
     | inr of ↦ subst (λ (v : Call). NamesFirst c.args.self.now.names v no-act) (sym of.3) tt
   ];
   lists = λ reads. refl;
-  uniques = grows-same c.args.self.now.names c.args.self.now.names refl;
+  uniques = grows-none c.args.self.now.names c.args.self.now.names refl;
 }

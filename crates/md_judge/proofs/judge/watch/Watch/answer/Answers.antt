@@ -22,7 +22,7 @@ returns-clause-others c =
 pub returns-clause-added : goal.returns-clause-added
 returns-clause-added c =
     let finds = c.check_claim.ensures.finds in
-    added-kept c.args.self.now.found c.check_claim.new.found (finds clause.TwoNames) (finds clause.UsedAgain)
+    added-kept c.args.self.now.found c.check_claim.new.found (finds clause.TwoNames) (finds clause.UsedAgain) (finds clause.Gone)
 
 pub returns-clause-gave_up : goal.returns-clause-gave_up
 returns-clause-gave_up c = λ lines first i unique l x is.

@@ -1,17 +1,17 @@
 use Rattle.std.proofs.Common.{suc, ◌≡◌, IsTrue, IsSome, sym, subst, ◌∙◌}
 use Rattle.md_log.specs.declared.clause.Clause.TheVariants as clause
-use Rattle.md_judge.specs.Found.{Keeps, NotesOne, KeepsPaths, KeepsAdded, KeepsFiles, KeepsAnswers, NotesFiles}
+use Rattle.md_judge.specs.Found.{Keeps, NotesOne, KeepsPaths, KeepsMessages, KeepsFiles, KeepsAnswers, NotesFiles}
 use Rattle.md_judge.specs.declared.judge.files.Files.{Files}
 use Rattle.md_judge.specs.Filed.{AreFiled, BrokenByFiles}
 use Rattle.md_judge.specs.Law.{turn}
 use Rattle.md_judge.specs.declared.judge.mail.Mail.{Mail}
 use Rattle.md_judge.specs.Actors.{KeepsActs, NotesAct, acted as acted-of}
-use Rattle.md_judge.specs.Mailed.{MakeStep, TellsMail, NotesAdded}
+use Rattle.md_judge.specs.Mailed.{MakeStep, TellsMail, NotesMessages}
 use Rattle.md_judge.specs.Timed.{MakesTimes, AreTimed}
 use Rattle.md_judge.proofs.Lined.{notes-then}
 use Rattle.md_judge.proofs.Posted.{tells-step}
 use Rattle.md_judge.proofs.Retimed.{times-made}
-use Rattle.md_judge.proofs.Sparing.{answers-on, unnoted-answers, keeps-same, keeps-one, keeps-on, noted, unnoted, notes-one, one-notes, ok-then, ok-two, same-files, files-on, notes-files, unnoted-files, unnoted-added, added-same, added-on, added-notes}
+use Rattle.md_judge.proofs.Sparing.{answers-on, unnoted-answers, keeps-same, keeps-one, keeps-on, noted, unnoted, notes-one, one-notes, ok-then, ok-two, same-files, files-on, notes-files, unnoted-files, unnoted-added, added-same, added-on, messages-notes}
 use Rattle.md_judge.proofs.judge.watch.Watch.call.Goals as goal
 
 pub returns : goal.returns
@@ -71,10 +71,10 @@ returns c =
           c.change.ensures.mailed c.change.ensures.times;
       added = λ path who many i l x tells judged.
           let t = turn l i x in
-          let first : KeepsAdded old noting = unnoted-added wrong clause.NotADirectory (λ e. cc) (λ e. cc) old noting c.note.ensures in
-          let then : KeepsAdded filed acted = added-same filed acted c.in_ok-note_call.ensures.found in
+          let first : KeepsMessages old noting = unnoted-added wrong clause.NotADirectory (λ e. cc) (λ e. cc) (λ e. cc) old noting c.note.ensures in
+          let then : KeepsMessages filed acted = added-same filed acted c.in_ok-note_call.ensures.found in
           let keeps = added-on old noting acted first (added-on noting filed acted c.in_ok-call.ensures.added then) in
-          ok-then c.change.result (NotesAdded t acted new) (NotesAdded t old new) (added-notes t old acted new keeps)
+          ok-then c.change.result (NotesMessages t acted new) (NotesMessages t old new) (messages-notes t old acted new keeps)
           (c.change.ensures.added path l i x judged.done (subst (λ (m : Mail). TellsMail names l i m) (sym mail) tells));
       answers = ok-then c.change.result (KeepsAnswers acted new) (KeepsAnswers old new)
           (answers-on old acted new (answers-on old noting acted

@@ -5,10 +5,11 @@ use Rattle.md_judge.specs.declared.judge.mail.Mail.{Mail}
 use Rattle.md_judge.specs.declared.judge.watch.Watch.{Watch}
 use Rattle.md_judge.specs.Actors.{KeepsActs}
 use Rattle.md_judge.specs.Found.{KeepsFiles, KeepsAnswers}
-use Rattle.md_judge.specs.Law.{turn}
+use Rattle.md_judge.specs.Law.{turn, TwoNames, Gone, UsedAgain}
 use Rattle.md_judge.specs.Mailed.{MakeStep}
 use Rattle.md_judge.specs.Timed.{MakesTimes}
-use Rattle.md_judge.proofs.Sparing.{keeps-one, notes-one, turned-found, same-files, files-on, unnoted-files, unnoted-added, added-same, added-on, notes-added, added-notes, answers-same, answers-on, unnoted-answers}
+use Rattle.md_judge.proofs.Sparing.{keeps-one, notes-one, one-notes, turned-found, same-files, files-on, unnoted-files, unnoted-added, added-same, answers-same, answers-on, unnoted-answers}
+use Rattle.md_judge.proofs.Posted.{tells-step}
 use Rattle.md_judge.proofs.judge.watch.Watch.change.Goals as goal
 
 pub returns : goal.returns
@@ -45,10 +46,25 @@ returns c =
           (sym (ap (λ (w : Watch). w.mail) c.check_going.ensures.rest)) c.in_ok-make.ensures.times));
       added = λ path l i x done tells.
           let t = turn l i x in
-          notes-added t old joined new
-          (added-notes t old noting joined (unnoted-added c.is_some.result clause.Overwritten (λ e. cc) (λ e. cc) old noting c.note.ensures)
-          (c.check_coming.ensures.law path l i x done.leads done.spots tells))
-          (added-on joined made new (added-same joined made c.in_ok-make.ensures.found) c.check_going.ensures.added);
+          let names = c.args.known.now.names in
+          let first = unnoted-added c.is_some.result clause.Overwritten (λ e. cc) (λ e. cc) (λ e. cc) old noting c.note.ensures in
+          let coming = c.check_coming.ensures.law path l i x done.leads done.spots tells in
+          let then = added-same joined made c.in_ok-make.ensures.found in
+          let mail = ap (λ (w : Watch). w.mail) c.check_coming.ensures.rest in
+          let makes = subst (λ (m : Mail). MakeStep names change m c.make.new.self.mail) mail c.in_ok-make.ensures.mailed in
+          let after = tells-step path names l i change done.leads done.spots c.args.self.now.mail c.make.new.self.mail makes tells in
+          let two = TwoNames t in
+          let again = UsedAgain t in
+          let gone = Gone t in
+          record {
+            two = notes-one clause.TwoNames two old made new (notes-one clause.TwoNames two old joined made
+                (one-notes clause.TwoNames two old noting joined first.two coming.two) then.two) c.check_going.ensures.two;
+            again = notes-one clause.UsedAgain again old made new (notes-one clause.UsedAgain again old joined made
+                (one-notes clause.UsedAgain again old noting joined first.again coming.again) then.again) c.check_going.ensures.again;
+            gone = one-notes clause.Gone gone old made new (keeps-one clause.Gone old joined made
+                (keeps-one clause.Gone old noting joined first.gone c.check_coming.ensures.gone) then.gone)
+                (c.check_going.ensures.law path l i x done.leads done.place done.spots done.unlink after);
+          };
       acts = subst (λ (a : Actors). KeepsActs a c.check_going.new.self.actors) (ap (λ (w : Watch). w.actors) c.check_coming.ensures.rest)
           (subst (λ (a : Actors). KeepsActs c.check_coming.new.self.actors a) (sym (ap (λ (w : Watch). w.actors) c.check_going.ensures.rest))
           c.in_ok-make.ensures.acts);

@@ -2,7 +2,8 @@ use Rattle.std.proofs.Common.{sym, ◌∙◌}
 use Rattle.std.specs.Option.{option_copied}
 use Rattle.md_judge.specs.Messages.{AddFinds}
 use Rattle.md_judge.proofs.Coming.{coming-none, coming-other, coming-message}
-use Rattle.md_judge.proofs.Sparing.{keeps-paths, add-more}
+use Rattle.md_log.specs.declared.clause.Clause.TheVariants as clause
+use Rattle.md_judge.proofs.Sparing.{keeps-paths, add-more, no-gone, kept}
 use Rattle.md_judge.proofs.judge.watch.Watch.check_coming.Goals as goal
 
 pub returns-in_default-clause-law : goal.returns-in_default-clause-law
@@ -29,3 +30,10 @@ returns-clause-law c = λ path l i x leads spots tells.
     (sym c.unique_at.ensures ∙ c.in-Some-unique_at.is) c.args.self.now.mail tells (option_copied c.message-message.result) c.leaving-leaving.result
     c.message-message.ensures c.leaving-leaving.ensures c.args.self.now.found c.check_added.new.found
     (λ is. c.check_added.ensures.law path i l x c.args.change.now spot is)
+
+pub returns-clause-gone : goal.returns-clause-gone
+returns-clause-gone c =
+    let message = option_copied c.message-message.result in
+    let file = c.in-Some.file in
+    let leaving = c.leaving-leaving.result in
+    kept (AddFinds message file leaving) clause.Gone (no-gone message file leaving) c.args.self.now.found c.check_added.new.found c.check_added.ensures.finds

@@ -11,7 +11,7 @@ use Rattle.md_judge.specs.Open.{reading_of}
 use Rattle.md_judge.proofs.Unlisting.{text_of, is-completed, goes-on-still, part-none, reads-one}
 use Rattle.md_log.specs.declared.clause.Clause.TheVariants as clause
 use Rattle.md_judge.specs.declared.judge.watch.Watch.{Watch}
-use Rattle.md_judge.specs.Found.{NotesOne, KeepsPaths, KeepsFiles, KeepsAdded}
+use Rattle.md_judge.specs.Found.{NotesOne, KeepsPaths, KeepsFiles, KeepsMessages}
 use Rattle.md_judge.proofs.Sparing.{keeps-notes, paths-kept, keeps-same, files-kept, same-files, added-kept, added-same}
 use Rattle.md_judge.proofs.judge.watch.Watch.end_reading.Goals.{then-is_complete, else-is_complete}
 use Rattle.md_judge.proofs.judge.watch.Watch.end_reading.Goals as goal
@@ -51,8 +51,8 @@ returns-clause-added c =
     elim c.if-is_complete.branch [
       | then-is_complete w ↦
           let finds = w.check_listing.ensures.finds in
-          subst (λ (s : Watch). KeepsAdded found s.found) (sym w.self-is)
-          (added-kept found w.check_listing.new.found (finds clause.TwoNames) (finds clause.UsedAgain))
+          subst (λ (s : Watch). KeepsMessages found s.found) (sym w.self-is)
+          (added-kept found w.check_listing.new.found (finds clause.TwoNames) (finds clause.UsedAgain) (finds clause.Gone))
       | else-is_complete w ↦ added-same found c.if-is_complete.self.found (ap (λ (s : Watch). s.found) w.self-is)
     ]
 

@@ -23,7 +23,7 @@ use Rattle.md_judge.specs.declared.judge.listing.Reading.{Reading}
 use Rattle.md_log.specs.declared.clause.Clause.TheVariants as clause
 use Rattle.md_judge.specs.declared.judge.watch.Watch.{Watch}
 use Rattle.md_judge.proofs.Sparing.{answers-same, answers-on, keeps-notes, one-notes, one-kept, keeps-one, keeps-same, notes-one, files-kept, same-files, files-on, added-kept, added-same, added-on}
-use Rattle.md_judge.specs.Found.{Keeps, NotesOne, KeepsPaths, KeepsFiles, KeepsAdded, KeepsAnswers}
+use Rattle.md_judge.specs.Found.{Keeps, NotesOne, KeepsPaths, KeepsFiles, KeepsMessages, KeepsAnswers}
 use Rattle.md_judge.proofs.judge.watch.Watch.list.Goals.{in-Some, in-None, in-Some-directory, in_default, in-More, in_default-reply+in_ok-end_reading-in_default-reply}
 use Rattle.md_judge.proofs.judge.watch.Watch.list.Goals as goal
 
@@ -78,16 +78,16 @@ returns-clause-added c =
     let old = c.args.self.now.found in
     let part = c.match-directory.self.found in
     let new = c.match-reply.self.found in
-    let first : KeepsAdded old part = elim c.match-directory.branch [
+    let first : KeepsMessages old part = elim c.match-directory.branch [
       | in-Some-directory w ↦
           let finds = w.check_part.ensures.finds in
-          subst (λ (s : Watch). KeepsAdded old s.found) (sym w.self-is)
-          (added-kept old w.check_part.new.found (finds clause.TwoNames) (finds clause.UsedAgain))
+          subst (λ (s : Watch). KeepsMessages old s.found) (sym w.self-is)
+          (added-kept old w.check_part.new.found (finds clause.TwoNames) (finds clause.UsedAgain) (finds clause.Gone))
       | in_default w ↦ added-same old part (ap (λ (s : Watch). s.found) w.self-is)
     ] in
-    let then : KeepsAdded part new = elim c.match-reply.branch [
+    let then : KeepsMessages part new = elim c.match-reply.branch [
       | in_default-reply+in_ok-end_reading-in_default-reply w ↦
-          subst (λ (s : Watch). KeepsAdded part s.found) (sym w.self-is) w.in_ok-end_reading-in_default-reply.ensures.added
+          subst (λ (s : Watch). KeepsMessages part s.found) (sym w.self-is) w.in_ok-end_reading-in_default-reply.ensures.added
       | in-More w ↦ added-same part new (ap (λ (s : Watch). s.found) w.self-is)
     ] in
     added-on old part new first then
