@@ -68,3 +68,5 @@ pub mod Retimed
 pub mod Timely
 pub mod Marked
 pub mod Gone
+pub mod Presence
+pub mod Timekept

@@ -7,9 +7,9 @@ use Rattle.md_judge.specs.declared.judge.tables.Names.{Names}
 use Rattle.md_judge.specs.Gathered.{IsMailTold}
 use Rattle.md_judge.specs.Listings.{message_of, RecalledTimes}
 use Rattle.md_judge.specs.Logs.{Log}
-use Rattle.md_judge.specs.Mailed.{count_of, IsPathThere, AreMailed}
+use Rattle.md_judge.specs.Mailed.{count_of, IsPathThere, AreMailed, ArePresent}
 use Rattle.md_judge.specs.Names.{GrowsUniques}
-use Rattle.md_judge.specs.Timed.{ArePresent, AreTimed}
+use Rattle.md_judge.specs.Timed.{AreTimed}
 use Rattle.md_judge.specs.Told.{at, IsThere}
 use Rattle.md_judge.proofs.Counting.{counted-some}
 

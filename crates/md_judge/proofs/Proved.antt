@@ -6,7 +6,7 @@ use Rattle.md_judge.specs.declared.judge.clauses.Clauses.{Clauses}
 use Rattle.md_judge.specs.declared.judge.found.Found.{Found}
 use Rattle.md_judge.specs.Filed.{BrokenByFiles}
 use Rattle.md_judge.specs.Found.{Has, KeepsMessages, GoesByFiles, KeepsFiles, NotesFiles}
-use Rattle.md_judge.specs.Law.{Turn, Breaks, NotADirectory, Overwritten, TwoNames, Gone, UsedAgain, GaveUp}
+use Rattle.md_judge.specs.Law.{Turn, Breaks, NotADirectory, Overwritten, TwoNames, Gone, UsedAgain, Unlisted, GaveUp}
 use Rattle.md_judge.specs.Mailed.{NotesMessages}
 use Rattle.md_judge.specs.Verdict.{IsProved}
 use Rattle.md_judge.proofs.Sparing.{found-none, found-one}
@@ -16,6 +16,7 @@ pub record IsJudgedAlone (broken : Clauses) (t : Turn) : Type 0 where
   pub wrong : Has broken clause.NotADirectory ↔ NotADirectory t
   pub overwritten : Has broken clause.Overwritten ↔ Overwritten t
   pub gave_up : Has broken clause.GaveUp ↔ GaveUp t
+  pub unlisted : Has broken clause.Unlisted ↔ Unlisted t
 
 pub each-proved : (broken : Clauses) (t : Turn) → IsJudgedAlone broken t → (Has broken clause.TwoNames ↔ TwoNames t)
     → (Has broken clause.UsedAgain ↔ UsedAgain t) → (Has broken clause.Gone ↔ Gone t)
@@ -31,6 +32,7 @@ each-proved broken t alone two again gone files clause.TwoNames proved = two
 each-proved broken t alone two again gone files clause.UsedAgain proved = again
 each-proved broken t alone two again gone files clause.Gone proved = gone
 each-proved broken t alone two again gone files clause.GaveUp proved = alone.gave_up
+each-proved broken t alone two again gone files clause.Unlisted proved = alone.unlisted
 each-proved broken t alone two again gone files c proved = absurd proved
 
 module _ (t : Turn) (begun there new : Found) (nothing : (c : Clause) → Has begun.broken c → ⊥) (same : there ≡ begun) where

@@ -43,7 +43,7 @@ timed-grows line old new l i mail grows mailed timed folder u unique number = el
 
 -- ---- a change of paths
 
-came-times : (names : Names) (since : ℕ) (a : Option (Spot × ℕ)) (folder u : ℕ) (old new : Option Message) → CameAt names since a folder u old new
+pub came-times : (names : Names) (since : ℕ) (a : Option (Spot × ℕ)) (folder u : ℕ) (old new : Option Message) → CameAt names since a folder u old new
     → TimesCome since old new ⊎ (new ≡ old)
 came-times names since None folder u old new same = inr same
 came-times names since (Some a) folder u old new came = elim came [ inl hit ↦ inl hit.2 | inr same ↦ inr same ]

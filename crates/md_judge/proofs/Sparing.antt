@@ -18,7 +18,7 @@ use Rattle.md_judge.specs.declared.judge.tables.Names.{Names}
 use Rattle.md_judge.specs.Files.{facts_at, named_by, turned_by, WriteFinds, AtFinds, NamedFinds, NameFinds, LeftFinds, LeaveFinds, ChangeFinds}
 use Rattle.md_judge.specs.Law.{Turn, TwoNames, Gone, UsedAgain}
 use Rattle.md_judge.specs.Mailed.{NotesMessages}
-use Rattle.md_judge.specs.Found.{Has, Notes, Keeps, NotesOne, KeepsPaths, KeepsMessages, KeepsAnswers, GoesByFiles, KeepsFiles, NotesFiles}
+use Rattle.md_judge.specs.Found.{Has, Notes, Keeps, NotesOne, KeepsReplies, KeepsPaths, KeepsMessages, KeepsAnswers, GoesByFiles, KeepsFiles, NotesFiles}
 use Rattle.md_judge.specs.Messages.{AddFinds}
 
 -- the clause goes by more than the paths of a step, and not by answers
@@ -27,6 +27,7 @@ GoesByMore clause.NotADirectory = ⊥
 GoesByMore clause.Overwritten = ⊥
 GoesByMore clause.GaveUp = ⊥
 GoesByMore clause.AnsweredFalsely = ⊥
+GoesByMore clause.Unlisted = ⊥
 GoesByMore c = Unit {0}
 
 -- ---- what is kept
@@ -69,16 +70,30 @@ keeps-paths P more old new notes = record {
   wrong = kept P clause.NotADirectory (more clause.NotADirectory) old new notes;
   overwrites = kept P clause.Overwritten (more clause.Overwritten) old new notes;
   answers = answers-kept P (more clause.GaveUp) (more clause.AnsweredFalsely) old new notes;
+  unlisted = kept P clause.Unlisted (more clause.Unlisted) old new notes;
 }
 
 pub keeps-same : (old new : Found) → new ≡ old → KeepsPaths old new
-keeps-same old new same = subst (KeepsPaths old) (sym same) (record { wrong = (λ h. h, λ h. h); overwrites = (λ h. h, λ h. h); answers = answers-same old old refl })
+keeps-same old new same = subst (KeepsPaths old) (sym same) (record {
+  wrong = (λ h. h, λ h. h);
+  overwrites = (λ h. h, λ h. h);
+  answers = answers-same old old refl;
+  unlisted = (λ h. h, λ h. h);
+})
+
+pub replies-same : (old new : Found) → new ≡ old → KeepsReplies old new
+replies-same old new same = subst (KeepsReplies old) (sym same) (record {
+  wrong = (λ h. h, λ h. h);
+  overwrites = (λ h. h, λ h. h);
+  answers = answers-same old old refl;
+})
 
 pub keeps-on : (a b d : Found) → KeepsPaths a b → KeepsPaths b d → KeepsPaths a d
 keeps-on a b d first then = record {
   wrong = keeps-one clause.NotADirectory a b d first.wrong then.wrong;
   overwrites = keeps-one clause.Overwritten a b d first.overwrites then.overwrites;
   answers = answers-on a b d first.answers then.answers;
+  unlisted = keeps-one clause.Unlisted a b d first.unlisted then.unlisted;
 }
 
 -- ---- clauses that go by paths of messages that are added
@@ -153,13 +168,21 @@ messages-notes t a b d first then = record {
 pub keeps-notes : (c : Clause) (P : Type 0) (old new : Found) → Keeps c old new → (P → ⊥) → NotesOne c P old new
 keeps-notes c P old new keeps none = (λ h. inl (keeps.0 h), λ h. elim h [ inl was ↦ keeps.1 was | inr now ↦ absurd (none now) ])
 
-pub paths-kept : (old new : Found) → (Has new.broken clause.NotADirectory ↔ (Has old.broken clause.NotADirectory ⊎ ⊥))
+pub replies-kept : (old new : Found) → (Has new.broken clause.NotADirectory ↔ (Has old.broken clause.NotADirectory ⊎ ⊥))
     → (Has new.broken clause.Overwritten ↔ (Has old.broken clause.Overwritten ⊎ ⊥)) → (Has new.broken clause.GaveUp ↔ (Has old.broken clause.GaveUp ⊎ ⊥))
-    → (Has new.broken clause.AnsweredFalsely ↔ (Has old.broken clause.AnsweredFalsely ⊎ ⊥)) → KeepsPaths old new
-paths-kept old new wrong overwrites gave false = record {
+    → (Has new.broken clause.AnsweredFalsely ↔ (Has old.broken clause.AnsweredFalsely ⊎ ⊥)) → KeepsReplies old new
+replies-kept old new wrong overwrites gave false = record {
   wrong = one-kept clause.NotADirectory old new wrong;
   overwrites = one-kept clause.Overwritten old new overwrites;
   answers = record { gave_up = one-kept clause.GaveUp old new gave; falsely = one-kept clause.AnsweredFalsely old new false };
+}
+
+pub paths-kept : (old new : Found) → KeepsReplies old new → (Has new.broken clause.Unlisted ↔ (Has old.broken clause.Unlisted ⊎ ⊥)) → KeepsPaths old new
+paths-kept old new replies unlisted = record {
+  wrong = replies.wrong;
+  overwrites = replies.overwrites;
+  answers = replies.answers;
+  unlisted = one-kept clause.Unlisted old new unlisted;
 }
 
 -- a clause is noted where what is the same holds
@@ -234,6 +257,7 @@ files-more clause.NotADirectory by = by
 files-more clause.Overwritten by = by
 files-more clause.GaveUp by = by
 files-more clause.AnsweredFalsely by = by
+files-more clause.Unlisted by = by
 files-more c by = tt
 
 -- what is noted of clauses that go by files is nothing of those that go by paths

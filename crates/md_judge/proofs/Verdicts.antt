@@ -39,6 +39,7 @@ use Rattle.md_judge.proofs.Opened.{filed-opening, filed-longer}
 use Rattle.md_judge.proofs.ReadLonger.{open-first, open-longer}
 use Rattle.md_judge.proofs.Regathered.{listings-first, listings-longer}
 use Rattle.md_judge.proofs.Reopened.{one-more}
+use Rattle.md_judge.proofs.Timekept.{times-longer, times-opening}
 use Rattle.md_judge.proofs.Housed.{folders-stay, file-housed, also-housed}
 use Rattle.md_judge.proofs.Prefixes.{same-moment, told-longer, finding-longer, finding-none, opening-told}
 
@@ -65,6 +66,7 @@ remembers-longer lines l n i j low keeps = record {
   clock = keeps.clock ∙ ap (λ (m : Moment). m.now) (sym (same-moment l n i low));
   opens = open-longer l n lines j.actor_names j.known.names i j.listings low keeps.opens;
   mailed = tells-longer j.known.names l n i j.watch.mail low keeps.mailed;
+  timed = times-longer lines j.known.names l n i j.watch.mail low keeps.timed;
   gathers = listings-longer l n lines j.actor_names j.known.names i j.listings low keeps.gathers;
   acting = acting-longer lines j.actor_names j.known.names.uniques l n i j.watch.actors j.listings low keeps.acting;
 }
@@ -78,6 +80,7 @@ remembers-opening lines l l' j same clock keeps = record {
   clock = keeps.clock ∙ sym clock;
   opens = open-first lines lines j.actor_names j.known.names l l' j.listings keeps.opens;
   mailed = tells-opening j.known.names l l' j.watch.mail (λ p. ap (λ (s : State). file_at s p) same) keeps.mailed;
+  timed = times-opening lines j.known.names l l' j.watch.mail same keeps.timed;
   gathers = listings-first lines lines j.actor_names j.known.names l l' j.listings keeps.gathers;
   acting = acting-first lines j.actor_names j.known.names.uniques l l' j.watch.actors j.watch.actors j.listings refl keeps.acting;
 }

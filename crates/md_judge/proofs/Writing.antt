@@ -1,10 +1,12 @@
 -- What one write to the tables of messages and of copies does.
-use Rattle.std.proofs.Common.{ℕ, zero, suc, ◌≡◌, ◌≢◌, ◌+◌, ◌++◌, ◌&&◌, not, ◌⊎◌, inl, inr, Bool, true, false, cond, nat_eq, List, [], ◌∷◌, Option, Some, None, unwrap_or, slice_get, slice_set, refl, sym, ap, subst, ◌∙◌, arith}
+use Rattle.std.proofs.Common.{ℕ, zero, suc, ◌≡◌, ◌≢◌, ◌+◌, ◌++◌, ◌&&◌, not, ◌⊎◌, inl, inr, Bool, true, false, cond, nat_eq, List, [], ◌∷◌, Option, Some, None, unwrap_or, length, slice_get, slice_set, refl, sym, ap, subst, ◌∙◌, arith}
 use Rattle.std.proofs.lemmas.Bool.{eq-eqb, false_from_ne_true}
 use Rattle.std.proofs.lemmas.Bool.Decides.{nat_tests}
 use Rattle.std.proofs.lemmas.Option.{slice_get_within}
 use Rattle.std.specs.Ordering.{is_eq}
 use Rattle.std.specs.BTreeMap.{BTreeMap, get}
+use Rattle.std.specs.BTreeSet as ordered
+use Rattle.std.specs.Option.{option_map}
 use Rattle.md_dirs.proofs.Sound.{by_number, get-set_same, get-set_other}
 use Rattle.md_judge.specs.declared.judge.copied.Copied.{Copied}
 use Rattle.md_judge.specs.declared.judge.copied.Copies.{Copies}
@@ -13,8 +15,8 @@ use Rattle.md_judge.specs.declared.judge.mail.Message.{Message}
 use Rattle.md_judge.specs.declared.judge.mail.Move.{Move}
 use Rattle.md_judge.specs.declared.judge.mail.Move.TheVariants.{Comes, Turns, Goes}
 use Rattle.md_judge.specs.Copies.{copies_by, copies_of}
-use Rattle.md_judge.specs.Listings.{is_of, first_or, message_cmp, message_of}
-use Rattle.md_judge.specs.Mailed.{count_after, IsBy, Moves, MovesOne, MakesOne, Makes, Prepares, KeepsOthers, is_first, is_free, fresh, begun, Recounts}
+use Rattle.md_judge.specs.Listings.{is_of, first_or, message_cmp, message_of, present_in, IsIn}
+use Rattle.md_judge.specs.Mailed.{count_of, count_after, IsBy, Moves, KeepsPresent, MovesOne, MakesOne, Makes, Prepares, KeepsOthers, is_first, is_free, fresh, begun, Recounts}
 use Rattle.md_judge.proofs.Keeping.{tied}
 
 -- two keys are two to the map
@@ -168,12 +170,16 @@ none-made step old new folder u none same = record {
 -- ---- a move of a message that may come to be kept
 
 module _ (folder u : ℕ) (old mid new : Mail) where
+  -- it moves so, and the others stay
+  abbrev pub Moved : (ℕ → ℕ) → (Option Message → ℕ → Type 0) → Type 0
+  Moved count by = Moves count by (message_of old folder u) (message_of new folder u) × KeepsOthers folder u old new
+
   pub comes-one : (since file : ℕ) → message_of mid folder u ≡ Some (begun (fresh folder since file) (message_of old folder u)) → KeepsOthers folder u old mid
-      → MakesOne folder u (Comes since file) mid new → MovesOne folder u (count_after (Comes since file)) (IsBy (Comes since file)) old new
-  comes-one since file is keeps makes = record {
-    one = by (message_of old folder u) (subst (λ o. Makes (Comes since file) o (message_of new folder u)) is makes.one);
-    others = λ f v far. makes.others f v far ∙ keeps f v far;
-  }
+      → MakesOne folder u (Comes since file) mid new → Moved (count_after (Comes since file)) (IsBy (Comes since file))
+  comes-one since file is keeps makes = (
+    by (message_of old folder u) (subst (λ o. Makes (Comes since file) o (message_of new folder u)) is makes.one),
+    λ f v far. makes.others f v far ∙ keeps f v far,
+  )
     where
       by : (o : Option Message) → Moves (count_after (Comes since file)) (IsBy (Comes since file)) (Some (begun (fresh folder since file) o)) (message_of new folder u)
           → Moves (count_after (Comes since file)) (IsBy (Comes since file)) o (message_of new folder u)
@@ -186,8 +192,8 @@ module _ (folder u : ℕ) (old mid new : Mail) where
         );
       }
 
-  pub turns-one : (file : ℕ) → MakesOne folder u (Turns file) old new → MovesOne folder u (count_after (Turns file)) (IsBy (Turns file)) old new
-  turns-one file makes = record { one = by (message_of old folder u) makes.one; others = makes.others }
+  pub turns-one : (file : ℕ) → MakesOne folder u (Turns file) old new → Moved (count_after (Turns file)) (IsBy (Turns file))
+  turns-one file makes = (by (message_of old folder u) makes.one, makes.others)
     where
       by : (o : Option Message) → Makes (Turns file) o (message_of new folder u) → Moves (count_after (Turns file)) (IsBy (Turns file)) o (message_of new folder u)
       by (Some m) moves = moves
@@ -196,8 +202,8 @@ module _ (folder u : ℕ) (old mid new : Mail) where
         files = λ n. (λ was. absurd was, λ h. elim h [ inl was ↦ was | inr now ↦ let no = now.0 in absurd (cc) ]);
       })
 
-  pub goes-one : (last : ℕ) → MakesOne folder u (Goes last) old new → MovesOne folder u (count_after (Goes last)) (IsBy (Goes last)) old new
-  goes-one last makes = record { one = by (message_of old folder u) makes.one; others = makes.others }
+  pub goes-one : (last : ℕ) → MakesOne folder u (Goes last) old new → Moved (count_after (Goes last)) (IsBy (Goes last))
+  goes-one last makes = (by (message_of old folder u) makes.one, makes.others)
     where
       by : (o : Option Message) → Makes (Goes last) o (message_of new folder u) → Moves (count_after (Goes last)) (IsBy (Goes last)) o (message_of new folder u)
       by (Some m) moves = moves
@@ -207,7 +213,7 @@ module _ (folder u : ℕ) (old mid new : Mail) where
       })
 
   -- each move, of a message that is there before it where it comes
-  pub made-one : (step : Move) → Prepares step folder u old mid → MakesOne folder u step mid new → MovesOne folder u (count_after step) (IsBy step) old new
+  pub made-one : (step : Move) → Prepares step folder u old mid → MakesOne folder u step mid new → Moved (count_after step) (IsBy step)
   made-one (Comes since file) prepares makes = comes-one since file prepares.0 prepares.1 makes
   made-one (Turns file) same makes = turns-one file (subst (λ m. MakesOne folder u (Turns file) m new) same makes)
   made-one (Goes last) same makes = goes-one last (subst (λ m. MakesOne folder u (Goes last) m new) same makes)
@@ -219,11 +225,28 @@ messages-same old new first others f v =
     ap (λ fs. first_or (slice_get fs.items v) f (get message_cmp new.others (f, v))) first
     ∙ ap (λ os. first_or (slice_get old.first.items v) f (get message_cmp os (f, v))) others
 
+-- folders have the messages that they had
+pub present-same : (old mid new : Mail) → new.first ≡ mid.first → new.others ≡ mid.others → new.present ≡ mid.present → KeepsPresent old mid
+    → KeepsPresent old new
+present-same old mid new first others present keeps = record {
+  many = (λ k. length (present k).items) ∙ keeps.many;
+  present = λ is f v low.
+      let were : present_in new f ≡ present_in mid f =
+      λ k. unwrap_or (option_map (λ s. ordered.keys s) (slice_get (present k).items f)) [] in
+      let many : length new.present.items ≡ length mid.present.items = λ k. length (present k).items in
+      let had = keeps.present is f v (omega (arith, low, many)) in
+      let same = ap count_of (messages-same mid new first others f v) in (
+        λ has. let some = had.0 (subst (λ ks. IsIn ks v) were has) in omega (arith, some, same),
+        λ some. subst (λ ks. IsIn ks v) (sym were) (had.1 (omega (arith, some, same))),
+      );
+}
+
 pub moves-same : (folder u : ℕ) (count : ℕ → ℕ) (by : Option Message → ℕ → Type 0) (old mid new : Mail) → new.first ≡ mid.first → new.others ≡ mid.others
-    → MovesOne folder u count by old mid → MovesOne folder u count by old new
-moves-same folder u count by old mid new first others moves = record {
+    → new.present ≡ mid.present → MovesOne folder u count by old mid → MovesOne folder u count by old new
+moves-same folder u count by old mid new first others present moves = record {
   one = subst (Moves count by (message_of old folder u)) (sym (messages-same mid new first others folder u)) moves.one;
   others = λ f v far. messages-same mid new first others f v ∙ moves.others f v far;
+  present = present-same old mid new first others present moves.present;
 }
 
 -- where nothing is kept of a message, none is first in its folder

@@ -43,10 +43,17 @@ pub record KeepsAnswers (old new : Found) : Type 0 where
   pub falsely : Keeps clause.AnsweredFalsely old new
 
 -- Of the clauses that go by the paths of a step, and of those that go by answers, nothing else is found than before.
+pub record KeepsReplies (old new : Found) : Type 0 where
+  pub wrong : Keeps clause.NotADirectory old new
+  pub overwrites : Keeps clause.Overwritten old new
+  pub answers : KeepsAnswers old new
+
+-- Nor is it of the one that goes by listings.
 pub record KeepsPaths (old new : Found) : Type 0 where
   pub wrong : Keeps clause.NotADirectory old new
   pub overwrites : Keeps clause.Overwritten old new
   pub answers : KeepsAnswers old new
+  pub unlisted : Keeps clause.Unlisted old new
 
 -- Of the clauses that go by paths of messages that come and go nothing else is found than before.
 pub record KeepsMessages (old new : Found) : Type 0 where

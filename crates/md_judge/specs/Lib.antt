@@ -21,6 +21,7 @@ pub mod Acts
 pub mod Filed
 pub mod Copies
 pub mod Mailed
+pub mod Present
 pub mod Timed
 pub mod Actors
 pub mod Verdict

@@ -1,5 +1,5 @@
 -- What the judge keeps of messages and of the copies of files is what a log tells.
-use Rattle.std.specs.Prelude.{ℕ, ◌≡◌, ◌↔◌, ◌≤◌, ◌+◌, ◌-◌, ◌⊎◌, List, Option, Some, None, Bool, true, false, not, ◌&&◌, IsSome, length, slice_get, ◌==◌, if◌then◌else◌}
+use Rattle.std.specs.Prelude.{ℕ, ◌≡◌, ◌↔◌, ◌<◌, ◌≤◌, ◌+◌, ◌-◌, ◌⊎◌, List, Option, Some, None, Bool, true, false, not, ◌&&◌, IsSome, length, slice_get, ◌==◌, if◌then◌else◌}
 use Rattle.md_dirs.specs.State.{State, file_at}
 use Rattle.md_dirs.specs.declared.paths.Path.{Path}
 use Rattle.md_name.specs.Names.{unique_of}
@@ -18,7 +18,7 @@ use Rattle.md_judge.specs.Files.{unique_in}
 use Rattle.md_judge.specs.Filed.{HoldsOf}
 use Rattle.md_judge.specs.Found.{NotesOne}
 use Rattle.md_judge.specs.Law.{Turn, TwoNames, Gone, UsedAgain}
-use Rattle.md_judge.specs.Listings.{is_of, message_of}
+use Rattle.md_judge.specs.Listings.{is_of, message_of, present_in, IsIn}
 use Rattle.md_judge.specs.Logs.{Log}
 use Rattle.md_judge.specs.Messages.{WasFile, WasAs}
 use Rattle.md_judge.specs.Told.{at, is_message, IsMessageAt, IsThere}
@@ -90,10 +90,21 @@ pub record Moves (count : ℕ → ℕ) (by : Option Message → ℕ → Type 0) 
   pub counted : count_of new ≡ count (count_of old)
   pub files : (n : ℕ) → WasOf new n ↔ (WasOf old n ⊎ by old n)
 
+-- the messages that a folder has are those that have a path
+abbrev pub ArePresent : Mail → Type 0
+ArePresent mail = (folder u : ℕ) → folder < length mail.present.items
+    → IsIn (present_in mail folder) u ↔ (0 < count_of (message_of mail folder u))
+
+-- There are as many folders as before, and where each had the messages that have a path it has them still.
+pub record KeepsPresent (old new : Mail) : Type 0 where
+  pub many : length new.present.items ≡ length old.present.items
+  pub present : ArePresent old → ArePresent new
+
 -- One message of a folder moves so, and what is kept of the others stays.
 pub record MovesOne (folder u : ℕ) (count : ℕ → ℕ) (by : Option Message → ℕ → Type 0) (old new : Mail) : Type 0 where
   pub one : Moves count by (message_of old folder u) (message_of new folder u)
   pub others : (f v : ℕ) → (f ≡ folder → v ≡ u → ⊥) → message_of new f v ≡ message_of old f v
+  pub present : KeepsPresent old new
 
 -- what is kept of all messages but one stays
 abbrev pub KeepsOthers : ℕ → ℕ → Mail → Mail → Type 0

@@ -1,5 +1,5 @@
 -- When each message was there, as the judge keeps it, is what a log tells.
-use Rattle.std.specs.Prelude.{ℕ, ◌≡◌, ◌↔◌, ◌<◌, ◌⊎◌, ◌+◌, ◌++◌, ◌∷◌, List, [], Option, Some, None, length, slice_get}
+use Rattle.std.specs.Prelude.{ℕ, ◌≡◌, ◌<◌, ◌⊎◌, ◌+◌, ◌++◌, ◌∷◌, List, [], Option, Some, None, length, slice_get}
 use Rattle.md_judge.specs.declared.judge.mail.Mail.{Mail}
 use Rattle.md_judge.specs.declared.judge.mail.Message.{Message}
 use Rattle.md_judge.specs.declared.judge.mail.Move.{Move}
@@ -9,9 +9,9 @@ use Rattle.md_judge.specs.declared.judge.acts.Change.{Change}
 use Rattle.md_judge.specs.declared.judge.directories.Spot.{Spot}
 use Rattle.md_judge.specs.Files.{unique_in}
 use Rattle.md_judge.specs.Moments.{kept_moment}
-use Rattle.md_judge.specs.Listings.{times_of, message_of, present_in, IsIn, RecalledTimes}
+use Rattle.md_judge.specs.Listings.{times_of, message_of, RecalledTimes}
 use Rattle.md_judge.specs.Logs.{Log}
-use Rattle.md_judge.specs.Mailed.{count_of}
+use Rattle.md_judge.specs.Mailed.{count_of, ArePresent}
 use Rattle.md_judge.specs.Told.{at, IsThere}
 
 -- ---- what steps do to what is kept
@@ -73,14 +73,15 @@ MakesTimes names now c old new = (folder u : ℕ) → (one two : Option Message)
     × CameAt names (kept_moment (now + 1)) c.added folder u (message_of old folder u) one
     × TurnedAt names c.turned folder u one two × WentAt names now c.taken folder u two (message_of new folder u)
 
--- the messages that a folder has are those that have a path
-abbrev pub ArePresent : Mail → Type 0
-ArePresent mail = (folder u : ℕ) → folder < length mail.present.items
-    → IsIn (present_in mail folder) u ↔ (0 < count_of (message_of mail folder u))
-
 -- ---- what a log tells
 
 -- what is kept of the times of messages is what a log tells at a moment, of each unique name that has a number
 abbrev pub AreTimed : (ℕ → ℕ) → Names → Log → ℕ → Mail → Type 0
 AreTimed line names l i mail = (folder u : ℕ) (unique : List ℕ) → slice_get names.uniques u ≡ Some unique
     → RecalledTimes line (λ j. IsThere (at l j) folder unique) i (message_of mail folder u)
+
+-- What is kept of which messages folders have, and of when each was there, is what a log tells at a moment, where the lines of its steps rise.
+pub record TellsTimes (line : ℕ → ℕ) (names : Names) (l : Log) (i : ℕ) (mail : Mail) : Type 0 where
+  pub folders : length mail.present.items ≡ l.opening.folders
+  pub present : ArePresent mail
+  pub timed : ((a b : ℕ) → a < b → line a < line b) → AreTimed line names l i mail

@@ -17,6 +17,7 @@ use Rattle.md_judge.specs.Logs.{Log, Numbered, empty_log, has_begun, log_by}
 use Rattle.md_judge.specs.Mailed.{TellsMail}
 use Rattle.md_judge.specs.Open.{AreOpen}
 use Rattle.md_judge.specs.Recalled.{IsToldAt}
+use Rattle.md_judge.specs.Timed.{TellsTimes}
 use Rattle.md_judge.specs.Told.{moment}
 
 -- the clauses of which what is found of a whole log is proved to be what the law has
@@ -31,6 +32,7 @@ IsProved clause.Gone = Unit {0}
 IsProved clause.UsedAgain = Unit {0}
 IsProved clause.MovedBack = Unit {0}
 IsProved clause.CleanedEarly = Unit {0}
+IsProved clause.Unlisted = Unit {0}
 IsProved clause.GaveUp = Unit {0}
 IsProved c = ⊥
 
@@ -50,6 +52,7 @@ pub record Remembers (lines : ℕ → ℕ) (l : Log) (i : ℕ) (j : Judge) : Typ
   pub clock : j.known.clock ≡ (moment l i).now
   pub opens : AreOpen lines j.actor_names j.known.names l i j.listings
   pub mailed : TellsMail j.known.names l i j.watch.mail
+  pub timed : TellsTimes lines j.known.names l i j.watch.mail
   pub gathers : AreGathered lines j.actor_names j.known.names l i j.listings
   pub acting : AreActing lines j.actor_names j.known.names.uniques l i j.watch.actors j.listings
 

@@ -6,11 +6,11 @@ ghost use Rattle.md_judge.specs.Told.{ask_at, ask_between};
 ghost use Rattle.md_log.specs.declared.line.Deed.TheVariants as deed;
 ghost use Rattle.md_log.specs.declared.clause.Clause.TheVariants as clause;
 ghost use Rattle.md_judge.specs.Law.{turn, IsWrongReply, reply_by};
-ghost use Rattle.md_judge.specs.Found.{NotesOne, NotesFiles, KeepsAnswers};
+ghost use Rattle.md_judge.specs.Found.{Keeps, NotesOne, NotesFiles, KeepsAnswers};
 ghost use Rattle.md_judge.specs.Acts.{UnlinksPath};
 ghost use Rattle.md_judge.specs.Filed.{AreFiled, IsJudged, BrokenByFiles};
 ghost use Rattle.md_judge.specs.Logs.{Log};
-ghost use Rattle.md_judge.specs.Mailed.{TellsMail, NotesMessages};
+ghost use Rattle.md_judge.specs.Mailed.{KeepsPresent, TellsMail, NotesMessages};
 ghost use Rattle.md_judge.specs.Timed.{AreTimed};
 ghost use Rattle.md_log.specs.declared.line.Step.{Step};
 ghost use Rattle.md_judge.specs.Changes.{IsOlder, Leads};
@@ -91,6 +91,8 @@ impl Watch {
         ensures acts { self.old.now < 4294967296
             → OnOk result (NotesAct actor self.old.now (acted known.now.names act.now.spot call.now) self.old.actors self.new.actors) }
         ensures answers { OnOk result (KeepsAnswers self.old.found self.new.found) }
+        ensures unlisted { OnOk result (Keeps clause.Unlisted self.old.found self.new.found) }
+        ensures present { OnOk result (KeepsPresent self.old.mail self.new.mail) }
     {
         self.found
             .note(act.is_wrong, Clause::NotADirectory, act.wrong_before);

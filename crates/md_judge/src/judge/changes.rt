@@ -40,6 +40,7 @@ impl Watch {
         ensures overwrites { OnOk result (NotesOne clause.Overwritten (IsSome act.now.change.turned) self.old.found self.new.found) }
         ensures others { OnOk result (KeepsFiles self.old.found self.new.found) }
         ensures answers { OnOk result (KeepsAnswers self.old.found self.new.found) }
+        ensures unlisted { OnOk result (Keeps clause.Unlisted self.old.found self.new.found) }
         ensures files { OnOk result (self.new.files ≡ self.old.files) }
         ensures mailed { OnOk result (MakeStep known.now.names act.now.change self.old.mail self.new.mail) }
         ensures times { OnOk result (MakesTimes known.now.names self.old.now act.now.change self.old.mail self.new.mail) }

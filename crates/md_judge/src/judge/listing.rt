@@ -9,7 +9,7 @@ ghost use Rattle.md_judge.specs.Logs.{Log};
 ghost use Rattle.md_judge.specs.Law.{turn, NotADirectory, Unlisted};
 ghost use Rattle.md_log.specs.declared.clause.Clause.TheVariants as clause;
 ghost use Rattle.md_judge.specs.Actors.{NotesLook};
-ghost use Rattle.md_judge.specs.Found.{Notes, NotesOne, Keeps, KeepsPaths, KeepsFiles, KeepsMessages, KeepsAnswers};
+ghost use Rattle.md_judge.specs.Found.{Notes, NotesOne, Keeps, KeepsReplies, KeepsFiles, KeepsMessages, KeepsAnswers};
 ghost use Rattle.md_judge.specs.declared.judge.directories.Named.{Named};
 ghost use Rattle.md_judge.specs.Readings.{shown_wrongly, lacked, wrong_name, PartFinds, IsPartOf, BrokenByPart};
 ghost use Rattle.md_judge.specs.Open.{reading_of, first_in, shows_in, ShowsMore, IsOver, KeepsPart, IsToldPart};
@@ -399,7 +399,7 @@ impl Watch {
         reply: Reply,
         first: usize,
     ) -> Result<(), LineFault>
-        ensures paths { OnOk result (KeepsPaths self.old.found self.new.found) }
+        ensures paths { OnOk result (KeepsReplies self.old.found self.new.found) }
         ensures others { OnOk result (KeepsFiles self.old.found self.new.found) }
         ensures added { OnOk result (KeepsMessages self.old.found self.new.found) }
         ensures files { OnOk result (self.new.files ≡ self.old.files) }

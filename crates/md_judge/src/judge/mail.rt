@@ -7,7 +7,8 @@ ghost use Rattle.md_judge.specs.Listings.{is_of, times_of, was_in, was_through, 
 ghost use Rattle.md_judge.specs.declared.judge.mail.Message.{Message};
 ghost use Rattle.md_judge.specs.declared.judge.mail.Presence.{Presence};
 ghost use Rattle.md_judge.specs.Copies.{copies_of};
-ghost use Rattle.md_judge.specs.Timed.{TimedBy, ArePresent};
+ghost use Rattle.md_judge.specs.Timed.{TimedBy};
+ghost use Rattle.md_judge.specs.Present.{KeepsSets, AddsFolder};
 ghost use Rattle.md_judge.specs.Mailed.{count_of, count_after, IsBy, Moves, MovesOne, MakesOne, Prepares, KeepsOthers, is_free, is_first, fresh, begun, Recounts, one_more, one_fewer};
 
 use super::befores::{Moment, line_before, moment_of};
@@ -263,6 +264,7 @@ pub(super) struct Mail {
 impl Mail {
     pub(super) fn new(alloc: Global) -> Self
         ensures messages { (folder u : ℕ) → message_of result folder u ≡ None }
+        ensures present { result.present.items ≡ [] }
         ensures copies { (n u : ℕ) → copies_of result.copied n u ≡ 0 }
     {
         Mail {
@@ -276,7 +278,8 @@ impl Mail {
     }
 
     pub(super) fn add_folder(&mut self) -> Result<(), LineFault>
-        ensures { self.new ≡ record self.old { present = self.new.present } }
+        ensures rest { self.new ≡ record self.old { present = self.new.present } }
+        ensures present { OnOk result (AddsFolder self.old self.new) }
     {
         self.present.push(BTreeSet::new(self.alloc))?;
         Ok(())
@@ -305,6 +308,7 @@ impl Mail {
     /// Where the message comes, there is one that may have no path yet.
     fn prepare(&mut self, key: Key, step: Move) -> Result<(), LineFault>
         ensures prepares { OnOk result (Prepares step key.0 key.1 self.old self.new) }
+        ensures present { OnOk result (self.new.present ≡ self.old.present) }
         ensures copied { OnOk result (self.new.copied ≡ self.old.copied) }
     {
         match step {
@@ -316,6 +320,7 @@ impl Mail {
 
     fn make_message(&mut self, key: Key, step: Move) -> Result<(), LineFault>
         ensures moves { OnOk result (MakesOne key.0 key.1 step self.old self.new) }
+        ensures present { OnOk result (self.new.present ≡ self.old.present) }
         ensures copied { OnOk result (self.new.copied ≡ self.old.copied) }
         ensures times { OnOk result (IsSome (message_of self.old key.0 key.1)
             → TimedBy step (message_of self.old key.0 key.1) (message_of self.new key.0 key.1)) }
@@ -333,7 +338,8 @@ impl Mail {
 
     /// Keeps whether the folder has the message.
     fn keep_present(&mut self, key: Key, step: Move) -> Result<(), LineFault>
-        ensures { OnOk result (self.new ≡ record self.old { present = self.new.present }) }
+        ensures rest { OnOk result (self.new ≡ record self.old { present = self.new.present }) }
+        ensures present { OnOk result (KeepsSets key.0 key.1 step (count_of (message_of self.old key.0 key.1)) self.old self.new) }
     {
         let count = self.count(key);
         let Some(present) = self.present.get_mut(key.0 as usize) else {
@@ -343,10 +349,11 @@ impl Mail {
             Move::Comes { .. } => {
                 present.insert(key.1)?;
             }
+            Move::Turns { .. } => {}
             Move::Goes { .. } if count == 0 => {
                 present.remove(&key.1);
             }
-            _ => {}
+            Move::Goes { .. } => {}
         }
         Ok(())
     }
@@ -372,6 +379,7 @@ impl Mail {
     fn begin(&mut self, since: Moment, key: Key, file: u32) -> Result<(), LineFault>
         ensures message { OnOk result (message_of self.new key.0 key.1 ≡ Some (begun (fresh key.0 since file) (message_of self.old key.0 key.1))) }
         ensures others { OnOk result (KeepsOthers key.0 key.1 self.old self.new) }
+        ensures present { OnOk result (self.new.present ≡ self.old.present) }
         ensures copied { OnOk result (self.new.copied ≡ self.old.copied) }
     {
         if self.has(key) {
@@ -384,6 +392,7 @@ impl Mail {
     /// The unique name has a place for the folder where it comes first.
     fn make_room(&mut self, unique: u32) -> Result<(), LineFault>
         ensures messages { OnOk result ((f v : ℕ) → message_of self.new f v ≡ message_of self.old f v) }
+        ensures present { OnOk result (self.new.present ≡ self.old.present) }
         ensures copied { OnOk result (self.new.copied ≡ self.old.copied) }
     {
         for _ in self.first.len()..=unique as usize {
@@ -397,6 +406,7 @@ impl Mail {
         ensures message { message_of self.old key.0 key.1 ≡ None → message.folder ≡ key.0
             → OnOk result (message_of self.new key.0 key.1 ≡ Some message) }
         ensures others { message_of self.old key.0 key.1 ≡ None → message.folder ≡ key.0 → OnOk result (KeepsOthers key.0 key.1 self.old self.new) }
+        ensures present { OnOk result (self.new.present ≡ self.old.present) }
         ensures copied { OnOk result (self.new.copied ≡ self.old.copied) }
     {
         if self.is_free(key) {

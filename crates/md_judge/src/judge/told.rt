@@ -31,6 +31,7 @@ impl Watch {
     )
         ensures wrong { Keeps clause.NotADirectory self.old.found self.new.found }
         ensures overwrites { Keeps clause.Overwritten self.old.found self.new.found }
+        ensures unlisted { Keeps clause.Unlisted self.old.found self.new.found }
         ensures others { KeepsFiles self.old.found self.new.found }
         ensures added { KeepsMessages self.old.found self.new.found }
         ensures files { self.new.files ≡ self.old.files }

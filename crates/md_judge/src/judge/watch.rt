@@ -1,5 +1,5 @@
 //! What is kept of files, messages and actors, and the clauses that a step breaks.
-ghost use Rattle.std.specs.Prelude.{◌≡◌, ◌<◌, ℕ, [], Some, None, OnOk, unwrap_or};
+ghost use Rattle.std.specs.Prelude.{◌≡◌, ◌+◌, ◌<◌, ℕ, [], Some, None, OnOk, unwrap_or};
 ghost use Rattle.md_log.specs.declared.clause.Clause.{Clause};
 ghost use Rattle.md_judge.specs.Actors.{begun_by, done_by, no_about};
 ghost use Rattle.md_judge.specs.Copies.{copies_of};
@@ -7,6 +7,9 @@ ghost use Rattle.md_judge.specs.Files.{named, unique_in, Changes};
 ghost use Rattle.md_judge.specs.Found.{Has};
 ghost use Rattle.md_judge.specs.Listings.{message_of};
 ghost use Rattle.md_judge.specs.Mailed.{AddAt};
+ghost use Rattle.md_judge.specs.Moments.{kept_moment};
+ghost use Rattle.md_judge.specs.Present.{AddsFolder};
+ghost use Rattle.md_judge.specs.Timed.{CameAt};
 
 use super::about::Actors;
 use super::directories::Spot;
@@ -37,6 +40,7 @@ impl Watch {
         ensures copies { (n u : ℕ) → copies_of result.mail.copied n u ≡ 0 }
         ensures begun { (a : ℕ) (k : ℕ × ℕ) → begun_by result.actors a k ≡ None }
         ensures done { (a : ℕ) (k : ℕ × ℕ) → done_by result.actors a k ≡ no_about }
+        ensures present { result.mail.present.items ≡ [] }
     {
         Watch {
             alloc,
@@ -53,6 +57,7 @@ impl Watch {
         ensures files { self.new.files ≡ self.old.files }
         ensures mail { self.new.mail ≡ record self.old.mail { present = self.new.mail.present } }
         ensures actors { self.new.actors ≡ self.old.actors }
+        ensures present { OnOk result (AddsFolder self.old.mail self.new.mail) }
     {
         self.mail.add_folder()
     }
@@ -93,6 +98,8 @@ impl Watch {
         ensures files { OnOk result (Changes file (named known.now.names spot) self.old.files.all.items self.new.files.all.items) }
         ensures mailed { OnOk result (AddAt (unique_in known.now.names spot) spot file self.old.mail self.new.mail) }
         ensures actors { OnOk result (self.new.actors ≡ self.old.actors) }
+        ensures times { OnOk result ((folder u : ℕ) → CameAt known.now.names (kept_moment (line + 1)) (Some (spot, file)) folder u
+            (message_of self.old.mail folder u) (message_of self.new.mail folder u)) }
     {
         self.files.name(known, line, spot, file)?;
         self.add_path(known, line.saturating_add(1), spot, file)

@@ -7,6 +7,7 @@ use Rattle.md_judge.proofs.Posted.{tells-grows}
 use Rattle.md_judge.proofs.Uniqued.{grows-on}
 use Rattle.md_judge.proofs.Regathered.{listings-grow}
 use Rattle.md_judge.proofs.Reopened.{numbers-next, open-grows}
+use Rattle.md_judge.proofs.Timekept.{times-grow}
 use Rattle.md_judge.proofs.judge.Judge.numbers.Goals as goal
 
 pub loop-name-preserved : goal.loop-name-preserved
@@ -20,6 +21,8 @@ loop-name-preserved c = record {
         opens = open-grows lines c.loop-name.self.actor_names c.loop-name.self.known.names c.number.new.self l i c.loop-name.self.listings
             c.number.ensures.keeps before.opens;
         mailed = tells-grows c.loop-name.self.known.names c.number.new.self c.in_ok-number.ensures.uniques l i c.loop-name.self.watch.mail before.mailed;
+        timed = times-grow lines c.loop-name.self.known.names c.number.new.self l i c.loop-name.self.watch.mail c.in_ok-number.ensures.uniques before.mailed.0
+            before.timed;
         gathers = listings-grow lines c.loop-name.self.actor_names c.loop-name.self.known.names c.number.new.self l i c.loop-name.self.listings
             c.number.ensures.keeps before.gathers;
         acting = more-messages lines c.loop-name.self.actor_names c.loop-name.self.known.names.uniques c.number.new.self.uniques l i

@@ -1,4 +1,4 @@
-use Rattle.std.proofs.Common.{◌≡◌, max, length, cond, Some, refl, sym, ap, ◌∙◌}
+use Rattle.std.proofs.Common.{ℕ, ◌+◌, ◌≡◌, max, length, cond, Some, refl, sym, ap, ◌∙◌}
 use Rattle.std.specs.FinMap.{get-insert}
 use Rattle.std.specs.Ordering.{eq_by_cmp}
 use Rattle.md_dirs.specs.Path.{path_cmp}
@@ -6,7 +6,10 @@ use Rattle.md_dirs.specs.State.{State, file_at}
 use Rattle.md_dirs.proofs.PathOrder.{path_total}
 use Rattle.md_judge.specs.Filed.{name_at}
 use Rattle.md_judge.specs.Files.{named, unique_in, Changes}
-use Rattle.md_judge.specs.Mailed.{AddAt}
+use Rattle.md_judge.specs.Mailed.{AddAt, TellsMail}
+use Rattle.md_judge.specs.Listings.{message_of}
+use Rattle.md_judge.specs.Moments.{kept_moment}
+use Rattle.md_judge.specs.Timed.{CameAt}
 use Rattle.md_judge.proofs.Actors.{acting-first, more-messages}
 use Rattle.md_judge.proofs.Mailbegun.{tells-put}
 use Rattle.md_judge.proofs.Opened.{filed-file, file-log}
@@ -14,8 +17,9 @@ use Rattle.md_judge.proofs.Posted.{tells-grows}
 use Rattle.md_judge.proofs.ReadLonger.{open-first}
 use Rattle.md_judge.proofs.Regathered.{listings-first, listings-grow}
 use Rattle.md_judge.proofs.Reopened.{open-grows}
-use Rattle.md_judge.proofs.Sparing.{ok-three}
+use Rattle.md_judge.proofs.Sparing.{ok-three, ok-both}
 use Rattle.md_judge.proofs.Stepping.{on-ok}
+use Rattle.md_judge.proofs.Timekept.{times-grow, times-put}
 use Rattle.md_judge.proofs.judge.Judge.put_file.Goals as goal
 
 pub returns : goal.returns
@@ -27,9 +31,17 @@ returns c = record {
       let first = c.args.self.now.known.names in
       let known = c.put_file.new.self.names in
       let spot = c.in_ok-spot.spot in
+      let first-mail = c.args.self.now.watch.mail in
+      let last = c.put.new.self.mail in
+      let before = tells-grows first known c.in_ok-spot.ensures.uniques l 0 first-mail keeps.mailed in
+      let added = AddAt (unique_in known spot) spot c.in_ok-spot.file first-mail last in
+      let came : Type 0 = (folder u : ℕ) → CameAt known (kept_moment (c.args.line + 1)) (Some (spot, c.in_ok-spot.file)) folder u (message_of first-mail folder u)
+      (message_of last folder u) in
+      let then : added → TellsMail known l' 0 last = λ adds. tells-put l l' known c.args.path.now spot c.in_ok-spot.file puts.0 log.0
+      (λ q. ap (λ (s : State). file_at s q) log.1 ∙ get-insert path_total l.opening.names c.args.path.now (length l.opening.files) q
+      ∙ ap (λ n. cond (eq_by_cmp path_cmp q c.args.path.now) (Some n) (file_at l.opening q)) (sym puts.1)) first-mail last adds before in
       ok-three c.put.result (Changes c.in_ok-spot.file (named known spot) c.make.new.self.all.items c.put.new.self.files.all.items)
-      (AddAt (unique_in known spot) spot c.in_ok-spot.file c.args.self.now.watch.mail c.put.new.self.mail)
-      (c.put.new.self.actors ≡ c.args.self.now.watch.actors) _
+      (added × came) (c.put.new.self.actors ≡ c.args.self.now.watch.actors) _
       (λ changes adds actors. record {
         told = c.in_ok-spot.ensures.told lines l l' keeps.told is short there;
         filed = filed-file (name_at names) (length names) l l' c.put_file.new.self.names c.args.path.now c.in_ok-spot.spot c.in_ok-spot.file puts.0
@@ -38,16 +50,15 @@ returns c = record {
         clock = c.in_ok-spot.ensures.clock ∙ ap (λ n. max n c.args.stamp) keeps.clock ∙ sym log.2;
         opens = open-first lines lines names c.put_file.new.self.names l l' c.args.self.now.listings
             (open-grows lines names c.args.self.now.known.names c.put_file.new.self.names l 0 c.args.self.now.listings c.put_file.ensures.keeps keeps.opens);
-        mailed = tells-put l l' known c.args.path.now spot c.in_ok-spot.file puts.0 log.0
-            (λ q. ap (λ (s : State). file_at s q) log.1 ∙ get-insert path_total l.opening.names c.args.path.now (length l.opening.files) q
-            ∙ ap (λ n. cond (eq_by_cmp path_cmp q c.args.path.now) (Some n) (file_at l.opening q)) (sym puts.1)) c.args.self.now.watch.mail c.put.new.self.mail
-            adds (tells-grows first known c.in_ok-spot.ensures.uniques l 0 c.args.self.now.watch.mail keeps.mailed);
+        mailed = then adds.0;
+        timed = times-put lines known l l' spot c.in_ok-spot.file c.args.line first-mail last short before.0 (then adds.0).0 (ap (λ (s : State). s.folders) log.1)
+            adds.0 adds.1 (times-grow lines first known l 0 first-mail c.in_ok-spot.ensures.uniques keeps.mailed.0 keeps.timed);
         gathers = listings-first lines lines names c.put_file.new.self.names l l' c.args.self.now.listings
             (listings-grow lines names c.args.self.now.known.names c.put_file.new.self.names l 0 c.args.self.now.listings c.put_file.ensures.keeps keeps.gathers);
         acting = acting-first lines names c.put_file.new.self.names.uniques l l' c.args.self.now.watch.actors c.put.new.self.actors c.args.self.now.listings actors
             (more-messages lines names c.args.self.now.known.names.uniques c.put_file.new.self.names.uniques l 0 c.args.self.now.watch.actors
             c.args.self.now.listings (λ n w of. c.in_ok-spot.ensures.uniques.keeps w n of) c.in_ok-spot.ensures.numbered.uniques keeps.acting);
-      }) c.put.ensures.files c.put.ensures.mailed c.put.ensures.actors;
+      }) c.put.ensures.files (ok-both c.put.result added came c.put.ensures.mailed c.put.ensures.times) c.put.ensures.actors;
   allowed = on-ok c.put.result refl;
   opens = record { actors = refl; readings = refl; names = c.put_file.ensures.keeps };
 }

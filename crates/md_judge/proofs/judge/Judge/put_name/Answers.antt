@@ -1,11 +1,14 @@
-use Rattle.std.proofs.Common.{◌≡◌, length, refl, sym, ap, ◌∙◌}
+use Rattle.std.proofs.Common.{ℕ, ◌+◌, ◌≡◌, length, refl, sym, ap, ◌∙◌, Some}
 use Rattle.std.specs.FinMap.{get-insert}
 use Rattle.md_dirs.specs.State.{State, file_at}
 use Rattle.md_dirs.proofs.PathOrder.{path_total}
 use Rattle.md_dirs.specs.Calls.{with_path}
 use Rattle.md_judge.specs.Filed.{name_at}
 use Rattle.md_judge.specs.Files.{named, unique_in, Changes}
-use Rattle.md_judge.specs.Mailed.{AddAt}
+use Rattle.md_judge.specs.Mailed.{AddAt, TellsMail}
+use Rattle.md_judge.specs.Listings.{message_of}
+use Rattle.md_judge.specs.Moments.{kept_moment}
+use Rattle.md_judge.specs.Timed.{CameAt}
 use Rattle.md_judge.proofs.Actors.{acting-first, more-messages}
 use Rattle.md_judge.proofs.Mailbegun.{tells-put}
 use Rattle.md_judge.proofs.Opened.{filed-name, also-log}
@@ -13,8 +16,9 @@ use Rattle.md_judge.proofs.Posted.{tells-grows}
 use Rattle.md_judge.proofs.ReadLonger.{open-first}
 use Rattle.md_judge.proofs.Regathered.{listings-first, listings-grow}
 use Rattle.md_judge.proofs.Reopened.{open-grows}
-use Rattle.md_judge.proofs.Sparing.{ok-three}
+use Rattle.md_judge.proofs.Sparing.{ok-three, ok-both}
 use Rattle.md_judge.proofs.Stepping.{on-ok}
+use Rattle.md_judge.proofs.Timekept.{times-grow, times-put}
 use Rattle.md_judge.proofs.judge.Judge.put_name.Goals as goal
 
 pub returns : goal.returns
@@ -28,9 +32,17 @@ returns c = record {
       let known = c.put_name.new.self.names in
       let spot = c.in_ok-spot.spot in
       let file = c.in_ok-spot.file in
+      let first-mail = c.args.self.now.watch.mail in
+      let last = c.put.new.self.mail in
+      let before = tells-grows first known c.in_ok-spot.ensures.uniques l 0 first-mail keeps.mailed in
+      let added = AddAt (unique_in known spot) spot file first-mail last in
+      let came : Type 0 = (folder u : ℕ) → CameAt known (kept_moment (c.args.line + 1)) (Some (spot, file)) folder u (message_of first-mail folder u)
+      (message_of last folder u) in
+      let then : added → TellsMail known l' 0 last = λ adds. tells-put l l' known p spot file puts.0 log.0
+      (λ q. ap (λ (s : State). file_at s q) (log.1 ∙ ap (with_path p l.opening) puts.1) ∙ get-insert path_total l.opening.names p file q)
+      first-mail last adds before in
       ok-three c.put.result (Changes file (named known spot) c.args.self.now.watch.files.all.items c.put.new.self.files.all.items)
-      (AddAt (unique_in known spot) spot file c.args.self.now.watch.mail c.put.new.self.mail)
-      (c.put.new.self.actors ≡ c.args.self.now.watch.actors) _
+      (added × came) (c.put.new.self.actors ≡ c.args.self.now.watch.actors) _
       (λ changes adds actors. record {
         told = c.in_ok-spot.ensures.told lines l l' keeps.told is short there;
         filed = filed-name (name_at names) (length names) l l' c.put_name.new.self.names p c.in_ok-spot.spot c.in_ok-spot.file puts.0
@@ -39,16 +51,15 @@ returns c = record {
         clock = c.in_ok-spot.ensures.clock ∙ keeps.clock ∙ sym log.2;
         opens = open-first lines lines names c.put_name.new.self.names l l' c.args.self.now.listings
             (open-grows lines names c.args.self.now.known.names c.put_name.new.self.names l 0 c.args.self.now.listings c.put_name.ensures.keeps keeps.opens);
-        mailed = tells-put l l' known p spot file puts.0 log.0
-            (λ q. ap (λ (s : State). file_at s q) (log.1 ∙ ap (with_path p l.opening) puts.1) ∙ get-insert path_total l.opening.names p file q)
-            c.args.self.now.watch.mail c.put.new.self.mail
-            adds (tells-grows first known c.in_ok-spot.ensures.uniques l 0 c.args.self.now.watch.mail keeps.mailed);
+        mailed = then adds.0;
+        timed = times-put lines known l l' spot file c.args.line first-mail last short before.0 (then adds.0).0 (ap (λ (s : State). s.folders) (log.1 ∙ ap (with_path p l.opening) puts.1))
+            adds.0 adds.1 (times-grow lines first known l 0 first-mail c.in_ok-spot.ensures.uniques keeps.mailed.0 keeps.timed);
         gathers = listings-first lines lines names c.put_name.new.self.names l l' c.args.self.now.listings
             (listings-grow lines names c.args.self.now.known.names c.put_name.new.self.names l 0 c.args.self.now.listings c.put_name.ensures.keeps keeps.gathers);
         acting = acting-first lines names c.put_name.new.self.names.uniques l l' c.args.self.now.watch.actors c.put.new.self.actors c.args.self.now.listings actors
             (more-messages lines names c.args.self.now.known.names.uniques c.put_name.new.self.names.uniques l 0 c.args.self.now.watch.actors
             c.args.self.now.listings (λ n w of. c.in_ok-spot.ensures.uniques.keeps w n of) c.in_ok-spot.ensures.numbered.uniques keeps.acting);
-      }) c.put.ensures.files c.put.ensures.mailed c.put.ensures.actors;
+      }) c.put.ensures.files (ok-both c.put.result added came c.put.ensures.mailed c.put.ensures.times) c.put.ensures.actors;
   allowed = on-ok c.put.result refl;
   opens = record { actors = refl; readings = refl; names = c.put_name.ensures.keeps };
 }

@@ -20,19 +20,20 @@ use Rattle.md_judge.specs.Logs.{Log}
 use Rattle.md_judge.specs.Actors.{AreActing, NotesAct, NotesLook, MayStand, acted, begun_by, done_by}
 use Rattle.md_judge.specs.Acts.{ReadsNone}
 use Rattle.md_judge.specs.Filed.{AreFiled, IsJudged, BrokenByFiles, name_at}
-use Rattle.md_judge.specs.Found.{Has, NotesOne, KeepsMessages, KeepsFiles, KeepsAnswers, NotesFiles}
-use Rattle.md_judge.specs.Gathered.{KeepsGathered, AreGathered}
-use Rattle.md_judge.specs.Mailed.{TellsMail, NotesMessages, count_of}
+use Rattle.md_judge.specs.Found.{Has, Keeps, NotesOne, KeepsMessages, KeepsFiles, KeepsAnswers, NotesFiles}
+use Rattle.md_judge.specs.Gathered.{KeepsGathered, AreGathered, IsMailTold}
+use Rattle.md_judge.specs.Mailed.{KeepsPresent, TellsMail, NotesMessages, count_of}
 use Rattle.md_judge.specs.Open.{Listings, first_in, shows_in, KeepsPart, AreNames, AreOpen, IsToldPart}
 use Rattle.md_judge.specs.Recalled.{IsToldAt, HasFolders}
 use Rattle.md_judge.specs.Words.{AreApart, KeepWords}
 use Rattle.md_judge.specs.declared.judge.found.Found.{Found}
 use Rattle.md_judge.specs.declared.judge.known.Known.{Known}
 use Rattle.md_judge.specs.declared.judge.watch.Watch.{Watch}
-use Rattle.md_judge.specs.Law.{turn, Breaks, IsWrongCall, NotADirectory, Overwritten, GaveUp}
+use Rattle.md_judge.specs.Law.{turn, Breaks, IsWrongCall, NotADirectory, Overwritten, Unlisted, GaveUp}
 use Rattle.md_judge.specs.Logs.{Numbered}
 use Rattle.md_judge.specs.Told.{moment, at, after_step, after_call, IsThere, IsStep, ActsOn, Looks}
-use Rattle.md_judge.specs.Verdict.{IsProved}
+use Rattle.md_judge.specs.Timed.{AreTimed, TellsTimes}
+use Rattle.md_judge.specs.Verdict.{IsProved, Remembers}
 use Rattle.md_judge.proofs.Acted.{acts-on, on-acts}
 use Rattle.md_judge.proofs.Actors.{acting-before, acting-called, acting-read, acting-answered, no-looks, stood}
 use Rattle.md_judge.proofs.Spanning.{span-of, acts-in}
@@ -44,6 +45,10 @@ use Rattle.md_judge.proofs.Posted.{tells-grows}
 use Rattle.md_judge.proofs.Present.{are-present}
 use Rattle.md_judge.proofs.Proved.{IsJudgedAlone, kept-proved, noted-proved}
 use Rattle.md_judge.proofs.Regathered.{gathered-before, gathered-rests, listings-next}
+use Rattle.md_judge.proofs.Housed.{folders-stay}
+use Rattle.md_judge.proofs.MailTold.{mail-told}
+use Rattle.md_judge.proofs.Timekept.{ok-later, times-grow, times-still, times-made}
+use Rattle.md_judge.proofs.Unlisting.{rests-none}
 use Rattle.md_judge.proofs.Uniqued.{grows-on}
 use Rattle.md_judge.proofs.Reopened.{IsNoPart, open-before, open-rests, open-next, answer-no-part, reads-none}
 use Rattle.md_judge.proofs.Sparing.{found-none, found-one, ok-then, ok-two, ok-three, ok-both}
@@ -124,8 +129,15 @@ returns-in-List-clause-opens c = λ lines l i is-open is here now.
     (λ keeps. open-next lines judge.actor_names names l i judge.listings c.list.new.listings before x (c.args.line, is) apart number folder place
     c.in-List.reply c.in-List.shown c.deref.result.now judge.watch.now named c.in-List.is here' are keeps) c.list.ensures.part
 
-pub returns-in-List-clause-read : goal.returns-in-List-clause-read
-returns-in-List-clause-read c = λ lines l i told is-open is here short there now rises.
+-- a part of a reading, and what is kept of it, are what the log tells
+told-part : (c : goal.Joined-step-6) (lines : ℕ → ℕ) (l : Log) (i : ℕ) → IsToldAt lines l i c.args.self.now.known
+    → AreOpen lines c.args.self.now.actor_names c.args.self.now.known.names l i c.args.self.now.listings
+    → slice_get l.steps i ≡ Some (record { number = c.args.line; step = c.args.step }) → lines i ≡ c.args.line → HasFolders (at l i) c.args.step.call
+    → c.args.self.now.watch.now ≡ c.args.line → ((a b : ℕ) → a < b → lines a < lines b)
+    → IsToldPart lines l i c.args.step c.in-List.folder c.in-List.place c.in-List.reply c.in-List.shown c.numbers.new.self.known c.deref.result.now
+    c.numbers.new.self.watch.now (first_in c.numbers.new.self.listings c.in_ok-actor.actor c.in-List.folder c.in-List.place)
+    (shows_in c.numbers.new.self.listings c.in_ok-actor.actor c.in-List.folder c.in-List.place)
+told-part c lines l i told is-open is here there now rises =
     let first = c.args.self.now in
     let judge = c.numbers.new.self in
     let names = judge.known.names in
@@ -133,7 +145,6 @@ returns-in-List-clause-read c = λ lines l i told is-open is here short there no
     let folder = c.in-List.folder in
     let place = c.in-List.place in
     let x = c.args.step in
-    let wrong = NotADirectory (turn l i x) in
     let before = open-before lines first.actor_names c.number.new.self judge.actor_names c.in_ok-actor.field-0-1 c.as_slice.result.now
     first.known.names c.step.new.self.names names l i first.listings judge.listings c.in_ok-actor.ensures.grows c.are_apart.ensures.apart
     c.step.ensures.keeps c.numbers.ensures.keeps c.numbers.ensures.rest.2 c.numbers.ensures.rest.1 is-open in
@@ -142,8 +153,7 @@ returns-in-List-clause-read c = λ lines l i told is-open is here short there no
     let still = c.step.ensures.lists (λ on. absurd (subst ReadsNone c.in-List.is on)) in
     let told' : IsToldAt lines l i c.step.new.self =
     subst (λ (k : Known). IsToldAt lines l i k) (sym still) (clocked lines l i first.known c.step.new.self.clock told) in
-    let part : IsToldPart lines l i x folder place c.in-List.reply c.in-List.shown judge.known c.deref.result.now judge.watch.now
-    (first_in judge.listings number folder place) (shows_in judge.listings number folder place) = record {
+    record {
       told = c.in_ok-names-in-List.ensures.known lines l i told';
       numbered = c.in_ok-names-in-List.ensures.numbered;
       step = (c.args.line, is);
@@ -154,12 +164,18 @@ returns-in-List-clause-read c = λ lines l i told is-open is here short there no
       named = subst (λ (ns : List ℕ). AreNames names c.in-List.shown ns) (sym c.deref.ensures.value)
           (subst (λ (ws : List (List ℕ)). AreNames names ws c.in_ok-names-in-List.names.items) c.as_slice-in-List.ensures c.in_ok-names-in-List.ensures.numbers);
       recalls = before.open_at number x.actor folder place named;
-    } in
+    }
+
+pub returns-in-List-clause-read : goal.returns-in-List-clause-read
+returns-in-List-clause-read c = λ lines l i told is-open is here short there now rises.
+    let judge = c.numbers.new.self in
+    let wrong = NotADirectory (turn l i c.args.step) in
     ok-then c.list.result (NotesOne clause.NotADirectory wrong judge.watch.found c.list.new.self.found)
     (Has c.list.new.self.found.broken clause.NotADirectory ↔ wrong)
     (λ notes. found-one clause.NotADirectory wrong wrong judge.watch.found c.list.new.self.found
     (subst (λ (f : Found). Has f.broken clause.NotADirectory → ⊥) (sym c.in_ok-names-in-List.ensures.found) (c.begin.ensures.nothing clause.NotADirectory))
-    notes (λ h. h, λ h. h)) (c.list.ensures.wrong lines l i x c.in-List.shown part)
+    notes (λ h. h, λ h. h)) (c.list.ensures.wrong lines l i c.args.step c.in-List.shown
+    (told-part c lines l i told is-open is here there now rises))
 
 pub returns-in-Answer-clause-opens : goal.returns-in-Answer-clause-opens
 returns-in-Answer-clause-opens c = λ lines l i is-open is here now.
@@ -384,6 +400,36 @@ returns-clause-gave_up c = λ lines l i keeps is here short now rises counted.
     (λ answers. found-none clause.GaveUp (GaveUp t) old c.call.new.self.found (c.begin.ensures.nothing clause.GaveUp) answers.gave_up none)
     c.call.ensures.answers
 
+-- ---- messages that listings lack
+
+returns-in-List-unlisted : (c : goal.Joined-step-6) (lines : ℕ → ℕ) (l : Log) (i : ℕ) → Remembers lines l i c.args.self.now
+    → slice_get l.steps i ≡ Some (record { number = c.args.line; step = c.args.step }) → lines i ≡ c.args.line
+    → c.args.self.now.watch.now ≡ c.args.line → ((a b : ℕ) → a < b → lines a < lines b) → HasFolders (at l i) c.args.step.call
+    → OnOk c.list.result (Has c.list.new.self.found.broken clause.Unlisted ↔ Unlisted (turn l i c.args.step))
+returns-in-List-unlisted c lines l i keeps is here now rises there =
+    let x = c.args.step in
+    let first = c.args.self.now in
+    let judge = c.numbers.new.self in
+    let names = judge.known.names in
+    let folder = c.in-List.folder in
+    let broken = Unlisted (turn l i x) in
+    let before = gathered-before lines first.actor_names c.number.new.self judge.actor_names c.in_ok-actor.field-0-1 c.as_slice.result.now
+    first.known.names c.step.new.self.names names l i first.listings judge.listings c.in_ok-actor.ensures.grows c.are_apart.ensures.apart
+    c.step.ensures.keeps c.numbers.ensures.keeps c.numbers.ensures.rest.2 c.numbers.ensures.rest.1 keeps.gathers in
+    let named = subst (λ (ws : List (List ℕ)). slice_get ws c.in_ok-actor.actor ≡ Some x.actor) (sym c.numbers.ensures.rest.2)
+    (c.in_ok-actor.ensures.found ∙ ap Some c.as_slice.ensures) in
+    let more = grows-on first.known.names c.step.new.self.names names c.in_ok-self.ensures.uniques c.in_ok-names-in-List.ensures.uniques in
+    let times = times-grow lines first.known.names names l i first.watch.mail more keeps.mailed.0 keeps.timed in
+    let told : IsMailTold lines names l i folder first.watch.mail = mail-told lines names l i folder first.watch.mail
+    (tells-grows first.known.names names more l i first.watch.mail keeps.mailed).0 (times.timed rises) times.present
+    (times.folders ∙ sym (folders-stay l i)) (ltb-true folder (at l i).folders (subst (HasFolders (at l i)) c.in-List.is there)) in
+    let mail = subst (λ (m : Mail). IsMailTold lines names l i folder m) (sym (ap (λ (w : Watch). w.mail) c.numbers.ensures.rest.0 ∙ c.begin.ensures.mail)) told in
+    ok-then c.list.result (NotesOne clause.Unlisted broken judge.watch.found c.list.new.self.found) (Has c.list.new.self.found.broken clause.Unlisted ↔ broken)
+    (λ notes. found-one clause.Unlisted broken broken judge.watch.found c.list.new.self.found
+    (subst (λ (f : Found). Has f.broken clause.Unlisted → ⊥) (sym c.in_ok-names-in-List.ensures.found) (c.begin.ensures.nothing clause.Unlisted))
+    notes (λ h. h, λ h. h)) (c.list.ensures.unlisted lines l i x c.in-List.shown
+    (told-part c lines l i keeps.told keeps.opens is here there now rises) (before.gathered_at c.in_ok-actor.actor x.actor folder named) mail)
+
 -- ---- what is kept, and what is found
 
 pub returns-in-List-clause-told : goal.returns-in-List-clause-told
@@ -411,6 +457,9 @@ returns-in-List-clause-told c = λ lines l i keeps is here short now there.
     let kept-listings = AreGathered lines judge.actor_names judge.known.names l (suc i) c.list.new.listings in
     let same-mail = c.list.new.self.mail ≡ judge.watch.mail in
     let kept-actors = AreActing lines judge.actor_names judge.known.names.uniques l (suc i) c.list.new.self.actors c.list.new.listings in
+    let times = times-still lines judge.known.names l i first.watch.mail
+    (tells-grows first.known.names judge.known.names grows l i first.watch.mail keeps.mailed).0 mail.0
+    (times-grow lines first.known.names judge.known.names l i first.watch.mail grows keeps.mailed.0 keeps.timed) in
     ok-three c.list.result (c.list.new.self.files ≡ judge.watch.files) (kept-open × kept-listings) (same-mail × kept-actors) _
     (λ same read rest. record {
       told = told;
@@ -421,6 +470,8 @@ returns-in-List-clause-told c = λ lines l i keeps is here short now there.
       gathers = read.1;
       mailed = subst (λ (m : Mail). TellsMail judge.known.names l (suc i) m)
           (sym (rest.0 ∙ ap (λ (w : Watch). w.mail) c.numbers.ensures.rest.0 ∙ c.begin.ensures.mail)) mail;
+      timed = subst (λ (m : Mail). TellsTimes lines judge.known.names l (suc i) m)
+          (sym (rest.0 ∙ ap (λ (w : Watch). w.mail) c.numbers.ensures.rest.0 ∙ c.begin.ensures.mail)) times;
       acting = rest.1;
     }) c.list.ensures.files
     (ok-both c.list.result kept-open kept-listings (returns-in-List-clause-opens c lines l i keeps.opens is here now)
@@ -446,15 +497,18 @@ returns-in-List-clause-broken c = λ lines l i keeps is here short now rises cou
     let wrong = Has new.broken clause.NotADirectory ↔ NotADirectory t in
     let overwritten = Has new.broken clause.Overwritten ↔ Overwritten t in
     let gave = Has new.broken clause.GaveUp ↔ GaveUp t in
+    let unlisted = Has new.broken clause.Unlisted ↔ Unlisted t in
     ok-three c.list.result (IsJudgedAlone new.broken t) (KeepsFiles shown new) (KeepsMessages shown new)
     ((k : Clause) → IsProved k → Has new.broken k ↔ Breaks k t)
     (λ alone kept added. kept-proved t c.begin.new.self.found shown new c.begin.ensures.nothing c.in_ok-names-in-List.ensures.found alone kept
     (still-lawful who (length names) l i x step-is actor acts c.args.self.now.watch.files.all.items are c.step.new.self.names still apart)
     added (still-two l i still x) (still-again l i still x) (still-gone l i still x))
-    (ok-three c.list.result wrong overwritten gave (IsJudgedAlone new.broken t) (λ w o g. record { wrong = w; overwritten = o; gave_up = g })
+    (ok-three c.list.result wrong overwritten (gave × unlisted) (IsJudgedAlone new.broken t)
+    (λ w o rest. record { wrong = w; overwritten = o; gave_up = rest.0; unlisted = rest.1 })
     (returns-in-List-clause-read c lines l i keeps.told keeps.opens is here short there now rises)
     (returns-in-List-clause-overwritten c lines l i keeps.told is here short there)
-    (returns-in-List-clause-gave_up c lines l i keeps is here short now rises counted)) c.list.ensures.others c.list.ensures.added
+    (ok-both c.list.result gave unlisted (returns-in-List-clause-gave_up c lines l i keeps is here short now rises counted)
+    (returns-in-List-unlisted c lines l i keeps is here now rises there))) c.list.ensures.others c.list.ensures.added
 
 pub returns-in-Answer-clause-told : goal.returns-in-Answer-clause-told
 returns-in-Answer-clause-told c = λ lines l i keeps is here short now there.
@@ -470,6 +524,9 @@ returns-in-Answer-clause-told c = λ lines l i keeps is here short now there.
     let y : Numbered = record { number = c.args.line; step = x } in
     let still : at l (suc i) ≡ at l i = at-next l i y is ∙ ap (λ v. after_call v (after_step (moment l i) y).now (at l i)) c.in-Answer.is in
     let apart : (d : Deed) (p : Path) (r : Reply) → x.call ≡ call.At d p r → ⊥ = λ d p r e. let no = c.in-Answer.is in cc in
+    let more = grows-on first.known.names c.step.new.self.names c.unique.new.self c.in_ok-self.ensures.uniques
+    c.in_ok-unique-in-Answer.ensures.uniques in
+    let told = tells-grows first.known.names c.unique.new.self more l i first.watch.mail keeps.mailed in
     record {
       told = grows lines l (suc i) c.step.new.self _ (c.in_ok-self.ensures.told lines l i keeps.told is here short there)
           c.unique.ensures.keeps c.in_ok-unique-in-Answer.ensures.numbered refl refl;
@@ -479,9 +536,10 @@ returns-in-Answer-clause-told c = λ lines l i keeps is here short now there.
       opens = returns-in-Answer-clause-opens c lines l i keeps.opens is here now;
       gathers = returns-in-Answer-clause-gathers c lines l i keeps.opens keeps.gathers is here now;
       mailed = subst (λ (m : Mail). TellsMail c.unique.new.self l (suc i) m) (sym (c.answer.ensures.mail ∙ c.begin.ensures.mail))
-          (tells-still l i still c.unique.new.self first.watch.mail (tells-grows first.known.names c.unique.new.self
-          (grows-on first.known.names c.step.new.self.names c.unique.new.self c.in_ok-self.ensures.uniques c.in_ok-unique-in-Answer.ensures.uniques)
-          l i first.watch.mail keeps.mailed));
+          (tells-still l i still c.unique.new.self first.watch.mail told);
+      timed = subst (λ (m : Mail). TellsTimes lines c.unique.new.self l (suc i) m) (sym (c.answer.ensures.mail ∙ c.begin.ensures.mail))
+          (times-still lines c.unique.new.self l i first.watch.mail told.0 (tells-still l i still c.unique.new.self first.watch.mail told).0
+          (times-grow lines first.known.names c.unique.new.self l i first.watch.mail more keeps.mailed.0 keeps.timed));
       acting = returns-in-Answer-acting c lines l i keeps.acting is here short now;
     }
 
@@ -503,6 +561,8 @@ returns-in-Answer-clause-broken c = λ lines l i keeps is here short now rises c
       wrong = returns-in-Answer-clause-read c lines l i keeps.told keeps.opens is here short there now rises;
       overwritten = returns-in-Answer-clause-overwritten c lines l i keeps.told is here short there;
       gave_up = returns-in-Answer-clause-gave_up c lines l i keeps is here short now rises counted;
+      unlisted = found-none clause.Unlisted (Unlisted (turn l i x)) found c.answer.new.self.found (c.begin.ensures.nothing clause.Unlisted)
+          c.answer.ensures.unlisted (rests-none l i x step-is (subst IsNoPart (sym c.in-Answer.is) (answer-no-part _ _ _)));
     }) c.answer.ensures.others
     (still-lawful who (length names) l i x step-is actor acts c.args.self.now.watch.files.all.items are c.step.new.self.names still apart)
     c.answer.ensures.added (still-two l i still x) (still-again l i still x) (still-gone l i still x)
@@ -529,20 +589,34 @@ returns-clause-told c = λ lines l i keeps is here short now there.
     let kept-open = AreOpen lines names c.step.new.self.names l (suc i) c.args.self.now.listings in
     let kept-listings = AreGathered lines names c.step.new.self.names l (suc i) c.args.self.now.listings in
     let kept-mail = TellsMail c.step.new.self.names l (suc i) c.call.new.self.mail in
+    let times = subst (λ (m : Mail). TellsTimes lines c.step.new.self.names l i m) (sym c.begin.ensures.mail)
+    (times-grow lines first.known.names c.step.new.self.names l i first.watch.mail c.in_ok-self.ensures.uniques keeps.mailed.0 keeps.timed) in
+    let same-now = c.begin.ensures.now in
+    let short-now : c.begin.new.self.now < 4294967295 = omega (arith, same-now, now, short) in
+    let Rises : Type 0 = (a b : ℕ) → a < b → lines a < lines b in
+    let timed = AreTimed lines c.step.new.self.names l (suc i) c.call.new.self.mail in
+    let kept-times = TellsTimes lines c.step.new.self.names l (suc i) c.call.new.self.mail in
+    let goes-times = ok-two c.call.result (KeepsPresent c.begin.new.self.mail c.call.new.self.mail) (Rises → timed) kept-times
+    (λ present timed'. times-made lines c.step.new.self.names l i c.begin.new.self.mail c.call.new.self.mail present timed' times) c.call.ensures.present
+    (ok-later c.call.result Rises timed (λ rises. c.call.ensures.timed done.0 who (length names) i l x lines mail judged (times.timed rises) rises
+    (same-now ∙ now ∙ sym here) short-now)) in
     let kept-actors = AreActing lines names c.step.new.self.names.uniques l (suc i) c.call.new.self.actors c.args.self.now.listings in
-    ok-three c.call.result (AreFiled who (length names) l (suc i) c.call.new.self.files.all.items) (kept-open × kept-listings) (kept-mail × kept-actors) _
+    ok-three c.call.result (AreFiled who (length names) l (suc i) c.call.new.self.files.all.items) (kept-open × kept-listings)
+    ((kept-mail × kept-times) × kept-actors) _
     (λ filed read rest. record {
       told = c.in_ok-self.ensures.told lines l i keeps.told is here short there;
       filed = filed;
       clock = clock;
       opens = read.0;
       gathers = read.1;
-      mailed = rest.0;
+      mailed = rest.0.0;
+      timed = rest.0.1;
       acting = rest.1;
     }) (c.call.ensures.filed done.0 who (length names) i l x kept judged)
     (ok-both c.call.result kept-open kept-listings (returns-clause-opens c lines l i keeps.opens is here now)
     (returns-clause-gathers c lines l i keeps.opens keeps.gathers is here now))
-    (ok-both c.call.result kept-mail kept-actors (c.call.ensures.mailed done.0 who (length names) i l x mail judged)
+    (ok-both c.call.result (kept-mail × kept-times) kept-actors
+    (ok-both c.call.result kept-mail kept-times (c.call.ensures.mailed done.0 who (length names) i l x mail judged) goes-times)
     (returns-acting c lines l i keeps.acting is here short now))
 
 pub returns-clause-broken : goal.returns-clause-broken
@@ -567,13 +641,18 @@ returns-clause-broken c = λ lines l i keeps is here short now rises counted the
     let wrong = Has new.broken clause.NotADirectory ↔ NotADirectory t in
     let overwritten = Has new.broken clause.Overwritten ↔ Overwritten t in
     let gave = Has new.broken clause.GaveUp ↔ GaveUp t in
+    let unlisted = Has new.broken clause.Unlisted ↔ Unlisted t in
     let first = c.args.self.now in
     let mail = subst (λ (m : Mail). TellsMail c.step.new.self.names l i m) (sym c.begin.ensures.mail)
     (tells-grows first.known.names c.step.new.self.names c.in_ok-self.ensures.uniques l i first.watch.mail keeps.mailed) in
     ok-three c.call.result (IsJudgedAlone new.broken t) (NotesFiles (BrokenByFiles t) begun new) (NotesMessages t begun new)
     ((k : Clause) → IsProved k → Has new.broken k ↔ Breaks k t) (noted-proved t begun begun new c.begin.ensures.nothing refl)
-    (ok-three c.call.result wrong overwritten gave (IsJudgedAlone new.broken t) (λ w o g. record { wrong = w; overwritten = o; gave_up = g })
+    (ok-three c.call.result wrong overwritten (gave × unlisted) (IsJudgedAlone new.broken t)
+    (λ w o rest. record { wrong = w; overwritten = o; gave_up = rest.0; unlisted = rest.1 })
     (returns-clause-read c lines l i keeps.told keeps.opens is here short there now rises)
     (returns-clause-overwritten c lines l i keeps.told is here short there)
-    (returns-clause-gave_up c lines l i keeps is here short now rises counted))
+    (ok-both c.call.result gave unlisted (returns-clause-gave_up c lines l i keeps is here short now rises counted)
+    (ok-then c.call.result (Keeps clause.Unlisted begun new) unlisted
+    (λ kept. found-none clause.Unlisted (Unlisted t) begun new (c.begin.ensures.nothing clause.Unlisted) kept
+    (rests-none l i x step-is (λ folder place r shown same. c.in_default.not-List folder place r shown same))) c.call.ensures.unlisted)))
     (c.call.ensures.finds done.0 who (length names) i l x kept judged) (c.call.ensures.added done.0 who (length names) i l x mail judged)

@@ -10,5 +10,6 @@ loop-preserved c = record {
   messages = λ f v.
       ap (λ xs. first_or (slice_get xs v) f (get message_cmp c.loop.self.others (f, v))) c.in_ok-push.ensures.items
       ∙ room-same c.loop.self.first.items _ f v _ (ap (λ (m : Message). m.folder) c.new.ensures) ∙ c.loop.invariant.messages f v;
+  present = c.loop.invariant.present;
   copied = c.loop.invariant.copied;
 }

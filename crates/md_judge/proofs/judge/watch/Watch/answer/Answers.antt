@@ -14,6 +14,9 @@ returns-clause-wrong c = one-kept clause.NotADirectory c.args.self.now.found c.c
 pub returns-clause-overwrites : goal.returns-clause-overwrites
 returns-clause-overwrites c = one-kept clause.Overwritten c.args.self.now.found c.check_claim.new.found (c.check_claim.ensures.finds clause.Overwritten)
 
+pub returns-clause-unlisted : goal.returns-clause-unlisted
+returns-clause-unlisted c = one-kept clause.Unlisted c.args.self.now.found c.check_claim.new.found (c.check_claim.ensures.finds clause.Unlisted)
+
 pub returns-clause-others : goal.returns-clause-others
 returns-clause-others c =
     let finds = c.check_claim.ensures.finds in

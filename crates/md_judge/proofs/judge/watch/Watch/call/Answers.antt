@@ -6,10 +6,11 @@ use Rattle.md_judge.specs.Filed.{AreFiled, BrokenByFiles}
 use Rattle.md_judge.specs.Law.{turn}
 use Rattle.md_judge.specs.declared.judge.mail.Mail.{Mail}
 use Rattle.md_judge.specs.Actors.{KeepsActs, NotesAct, acted as acted-of}
-use Rattle.md_judge.specs.Mailed.{MakeStep, TellsMail, NotesMessages}
-use Rattle.md_judge.specs.Timed.{MakesTimes, AreTimed}
+use Rattle.md_judge.specs.Mailed.{KeepsPresent, MakeStep, TellsMail, NotesMessages}
 use Rattle.md_judge.proofs.Lined.{notes-then}
 use Rattle.md_judge.proofs.Posted.{tells-step}
+use Rattle.md_judge.specs.Timed.{MakesTimes, AreTimed}
+use Rattle.md_judge.proofs.Presence.{makes-present}
 use Rattle.md_judge.proofs.Retimed.{times-made}
 use Rattle.md_judge.proofs.Sparing.{answers-on, unnoted-answers, keeps-same, keeps-one, keeps-on, noted, unnoted, notes-one, one-notes, ok-then, ok-two, same-files, files-on, notes-files, unnoted-files, unnoted-added, added-same, added-on, messages-notes}
 use Rattle.md_judge.proofs.judge.watch.Watch.call.Goals as goal
@@ -51,6 +52,13 @@ returns c =
           ok-then c.change.result (KeepsFiles acted new) (NotesFiles broken old new)
           (λ last. notes-files broken old noting filed new first (c.in_ok-call.ensures.finds path who many i l x are judged) (files-on filed acted new then last))
           c.change.ensures.others;
+      unlisted = ok-then c.change.result (Keeps clause.Unlisted acted new) (Keeps clause.Unlisted old new)
+          (keeps-one clause.Unlisted old acted new (keeps-one clause.Unlisted old noting acted
+          (unnoted wrong clause.NotADirectory clause.Unlisted (λ e. cc) old noting c.note.ensures) keeps.unlisted)) c.change.ensures.unlisted;
+      present = ok-then c.change.result (MakeStep names c.args.act.now.change c.note_call.new.self.mail c.change.new.self.mail)
+          (KeepsPresent c.args.self.now.mail c.change.new.self.mail)
+          (λ makes. makes-present names c.args.act.now.change c.args.self.now.mail c.change.new.self.mail
+          (subst (λ (m : Mail). MakeStep names c.args.act.now.change m c.change.new.self.mail) mail makes)) c.change.ensures.mailed;
       mailed = λ path who many i l x tells judged.
           let change = c.args.act.now.change in
           let last = c.change.new.self.mail in

@@ -4,11 +4,11 @@ use Rattle.md_judge.specs.declared.judge.about.Actors.{Actors}
 use Rattle.md_judge.specs.declared.judge.mail.Mail.{Mail}
 use Rattle.md_judge.specs.declared.judge.watch.Watch.{Watch}
 use Rattle.md_judge.specs.Actors.{KeepsActs}
-use Rattle.md_judge.specs.Found.{KeepsFiles, KeepsAnswers}
+use Rattle.md_judge.specs.Found.{Keeps, KeepsFiles, KeepsAnswers}
 use Rattle.md_judge.specs.Law.{turn, TwoNames, Gone, UsedAgain}
 use Rattle.md_judge.specs.Mailed.{MakeStep}
 use Rattle.md_judge.specs.Timed.{MakesTimes}
-use Rattle.md_judge.proofs.Sparing.{keeps-one, notes-one, one-notes, turned-found, same-files, files-on, unnoted-files, unnoted-added, added-same, answers-same, answers-on, unnoted-answers}
+use Rattle.md_judge.proofs.Sparing.{keeps-one, keeps-same, unnoted, notes-one, one-notes, turned-found, same-files, files-on, unnoted-files, unnoted-added, added-same, answers-same, answers-on, unnoted-answers}
 use Rattle.md_judge.proofs.Posted.{tells-step}
 use Rattle.md_judge.proofs.judge.watch.Watch.change.Goals as goal
 
@@ -28,11 +28,15 @@ returns c =
     let answers : KeepsAnswers old made = answers-on old noting made
     (unnoted-answers c.is_some.result clause.Overwritten (λ e. cc) (λ e. cc) old noting c.note.ensures)
     (answers-on noting joined made c.check_coming.ensures.paths.answers (answers-same joined made c.in_ok-make.ensures.found)) in
+    let unlisted : Keeps clause.Unlisted old made = keeps-one clause.Unlisted old noting made
+    (unnoted c.is_some.result clause.Overwritten clause.Unlisted (λ e. cc) old noting c.note.ensures)
+    (keeps-one clause.Unlisted noting joined made c.check_coming.ensures.paths.unlisted (keeps-same joined made c.in_ok-make.ensures.found).unlisted) in
     record {
       wrong = keeps-one clause.NotADirectory old made new turns.0 c.check_going.ensures.paths.wrong;
       overwrites = notes-one clause.Overwritten (IsSome change.turned) old made new turns.1 c.check_going.ensures.paths.overwrites;
       others = files-on old made new others c.check_going.ensures.others;
       answers = answers-on old made new answers c.check_going.ensures.paths.answers;
+      unlisted = keeps-one clause.Unlisted old made new unlisted c.check_going.ensures.paths.unlisted;
       files = ap (λ (w : Watch). w.files) c.check_going.ensures.rest ∙ c.in_ok-make.ensures.files ∙ ap (λ (w : Watch). w.files) c.check_coming.ensures.rest;
       mailed = subst (λ (m : Mail). MakeStep c.args.known.now.names change m c.check_going.new.self.mail) (ap (λ (w : Watch). w.mail) c.check_coming.ensures.rest)
           (subst (λ (m : Mail). MakeStep c.args.known.now.names change c.check_coming.new.self.mail m) (sym (ap (λ (w : Watch). w.mail) c.check_going.ensures.rest))

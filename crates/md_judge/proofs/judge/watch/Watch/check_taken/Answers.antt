@@ -1,5 +1,5 @@
 use Rattle.md_log.specs.declared.clause.Clause.TheVariants as clause
-use Rattle.md_judge.proofs.Sparing.{paths-kept, files-kept, one-kept}
+use Rattle.md_judge.proofs.Sparing.{replies-kept, paths-kept, files-kept, one-kept}
 use Rattle.std.proofs.Common.{ℕ, ◌≡◌, ◌∙◌, Option, Some, None, refl, sym, ap}
 use Rattle.std.specs.Option.{option_map}
 use Rattle.md_judge.specs.declared.judge.mail.Message.{Message}
@@ -20,8 +20,8 @@ uncounted (Some m) is = cc
 pub returns-clause-paths : goal.returns-clause-paths
 returns-clause-paths c =
     let finds = c.check_taken.ensures.finds in
-    paths-kept c.args.self.now.found c.check_taken.new.found (finds clause.NotADirectory) (finds clause.Overwritten)
-    (finds clause.GaveUp) (finds clause.AnsweredFalsely)
+    paths-kept c.args.self.now.found c.check_taken.new.found (replies-kept c.args.self.now.found c.check_taken.new.found (finds clause.NotADirectory)
+    (finds clause.Overwritten) (finds clause.GaveUp) (finds clause.AnsweredFalsely)) (finds clause.Unlisted)
 
 pub returns-clause-others : goal.returns-clause-others
 returns-clause-others c =

@@ -11,8 +11,8 @@ use Rattle.md_judge.specs.Open.{reading_of}
 use Rattle.md_judge.proofs.Unlisting.{text_of, is-completed, goes-on-still, part-none, reads-one}
 use Rattle.md_log.specs.declared.clause.Clause.TheVariants as clause
 use Rattle.md_judge.specs.declared.judge.watch.Watch.{Watch}
-use Rattle.md_judge.specs.Found.{NotesOne, KeepsPaths, KeepsFiles, KeepsMessages}
-use Rattle.md_judge.proofs.Sparing.{keeps-notes, paths-kept, keeps-same, files-kept, same-files, added-kept, added-same}
+use Rattle.md_judge.specs.Found.{NotesOne, KeepsReplies, KeepsFiles, KeepsMessages}
+use Rattle.md_judge.proofs.Sparing.{keeps-notes, replies-kept, replies-same, files-kept, same-files, added-kept, added-same}
 use Rattle.md_judge.proofs.judge.watch.Watch.end_reading.Goals.{then-is_complete, else-is_complete}
 use Rattle.md_judge.proofs.judge.watch.Watch.end_reading.Goals as goal
 
@@ -22,10 +22,10 @@ returns-clause-paths c =
     elim c.if-is_complete.branch [
       | then-is_complete w ↦
           let finds = w.check_listing.ensures.finds in
-          subst (λ (s : Watch). KeepsPaths found s.found) (sym w.self-is)
-          (paths-kept found w.check_listing.new.found (finds clause.NotADirectory) (finds clause.Overwritten)
+          subst (λ (s : Watch). KeepsReplies found s.found) (sym w.self-is)
+          (replies-kept found w.check_listing.new.found (finds clause.NotADirectory) (finds clause.Overwritten)
           (finds clause.GaveUp) (finds clause.AnsweredFalsely))
-      | else-is_complete w ↦ keeps-same found c.if-is_complete.self.found (ap (λ (s : Watch). s.found) w.self-is)
+      | else-is_complete w ↦ replies-same found c.if-is_complete.self.found (ap (λ (s : Watch). s.found) w.self-is)
     ]
 
 pub returns-clause-others : goal.returns-clause-others

@@ -22,8 +22,8 @@ use Rattle.md_judge.specs.Told.{Shows}
 use Rattle.md_judge.specs.declared.judge.listing.Reading.{Reading}
 use Rattle.md_log.specs.declared.clause.Clause.TheVariants as clause
 use Rattle.md_judge.specs.declared.judge.watch.Watch.{Watch}
-use Rattle.md_judge.proofs.Sparing.{answers-same, answers-on, keeps-notes, one-notes, one-kept, keeps-one, keeps-same, notes-one, files-kept, same-files, files-on, added-kept, added-same, added-on}
-use Rattle.md_judge.specs.Found.{Keeps, NotesOne, KeepsPaths, KeepsFiles, KeepsMessages, KeepsAnswers}
+use Rattle.md_judge.proofs.Sparing.{answers-same, answers-on, keeps-notes, one-notes, one-kept, keeps-one, keeps-same, replies-same, notes-one, files-kept, same-files, files-on, added-kept, added-same, added-on}
+use Rattle.md_judge.specs.Found.{Keeps, NotesOne, KeepsReplies, KeepsFiles, KeepsMessages, KeepsAnswers}
 use Rattle.md_judge.proofs.judge.watch.Watch.list.Goals.{in-Some, in-None, in-Some-directory, in_default, in-More, in_default-reply+in_ok-end_reading-in_default-reply}
 use Rattle.md_judge.proofs.judge.watch.Watch.list.Goals as goal
 
@@ -38,9 +38,9 @@ returns-clause-overwrites c =
           (one-kept clause.Overwritten old w.check_part.new.found (w.check_part.ensures.finds clause.Overwritten))
       | in_default w ↦ (keeps-same old part (ap (λ (s : Watch). s.found) w.self-is)).overwrites
     ] in
-    let then : KeepsPaths part new = elim c.match-reply.branch [
-      | in_default-reply+in_ok-end_reading-in_default-reply w ↦ subst (λ (s : Watch). KeepsPaths part s.found) (sym w.self-is) w.in_ok-end_reading-in_default-reply.ensures.paths
-      | in-More w ↦ keeps-same part new (ap (λ (s : Watch). s.found) w.self-is)
+    let then : KeepsReplies part new = elim c.match-reply.branch [
+      | in_default-reply+in_ok-end_reading-in_default-reply w ↦ subst (λ (s : Watch). KeepsReplies part s.found) (sym w.self-is) w.in_ok-end_reading-in_default-reply.ensures.paths
+      | in-More w ↦ replies-same part new (ap (λ (s : Watch). s.found) w.self-is)
     ] in
     keeps-one clause.Overwritten old part new first then.overwrites
 
@@ -167,10 +167,10 @@ returns-clause-wrong c = λ lines l i x shown told.
           let there = directory-there lines l i x folder place r shown known numbers now (first_of o place) (shows_of o place) told in
           absurd (within-some known.directories.all.items _ there (sym c.directory.ensures ∙ ap option_copied w.in_default.is))
     ] in
-    let then : KeepsPaths part new = elim c.match-reply.branch [
+    let then : KeepsReplies part new = elim c.match-reply.branch [
       | in_default-reply+in_ok-end_reading-in_default-reply w ↦
-          subst (λ (s : Watch). KeepsPaths part s.found) (sym w.self-is) w.in_ok-end_reading-in_default-reply.ensures.paths
-      | in-More w ↦ keeps-same part new (ap (λ (s : Watch). s.found) w.self-is)
+          subst (λ (s : Watch). KeepsReplies part s.found) (sym w.self-is) w.in_ok-end_reading-in_default-reply.ensures.paths
+      | in-More w ↦ replies-same part new (ap (λ (s : Watch). s.found) w.self-is)
     ] in
     notes-one clause.NotADirectory wrong old part new first then.wrong
 

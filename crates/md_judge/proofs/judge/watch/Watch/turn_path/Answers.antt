@@ -28,6 +28,7 @@ returns-clause-mailed c =
       moves-same spot.folder u (λ count. count) (λ o n. IsSome o × (n ≡ c.args.new)) first made last
           (ap (λ (m : Mail). m.first) c.copy.ensures.messages ∙ ap (λ (m : Mail). m.first) c.uncopy.ensures.messages)
           (ap (λ (m : Mail). m.others) c.copy.ensures.messages ∙ ap (λ (m : Mail). m.others) c.uncopy.ensures.messages)
+          (ap (λ (m : Mail). m.present) c.copy.ensures.messages ∙ ap (λ (m : Mail). m.present) c.uncopy.ensures.messages)
           c.in_ok-make.ensures.moves,
       (less.copied, fewer, more),
     )) c.copy.ensures.copied
