@@ -17,20 +17,28 @@ use Rattle.md_view.specs.declared.entry.Entry.{Entry}
 use Rattle.md_view.specs.declared.names.tree.Leaf.{Leaf}
 use Rattle.md_view.specs.Readings.{with_unique, IsInOrder}
 use Rattle.md_view.specs.Held.{entry_with, renamed, DiffersAt}
-use Rattle.md_view.specs.Trees.{entry_at, entries_in, renamed_leaf}
-use Rattle.std.specs.Prelude.{nat_eq}
+use Rattle.md_view.specs.Trees.{name_of, named, entry_at, entries_in, kept_name, renamed_leaf}
+use Rattle.std.specs.Prelude.{nat_eq, unwrap_or}
+use Rattle.std.proofs.lemmas.Slice.Eq.{bytes_eq-Decides}
 use Rattle.std.specs.Option.{option_map}
 use Rattle.std.specs.Cmp.Lexicographic.{pointwise}
 use Rattle.md_view.proofs.Keyed.{first, second, less, in-order, ordered, tie-same, values-keyed}
 
--- an entry of a unique name
-abbrev pub named : List ℕ → Leaf → Entry
-named u leaf = record { unique = u; place = leaf.place; name = leaf.name; size = leaf.size }
+-- by what is kept of a whole name it is found again
+pub name-kept : (u name : List ℕ) → unwrap_or (kept_name u name) u ≡ name
+name-kept u name =
+    elim (pointwise nat_eq name u) as (λ b. pointwise nat_eq name u ≡ b → unwrap_or (cond b None (Some name)) u ≡ name) [
+      | true ↦ λ is. sym ((bytes_eq-Decides name u).0 is)
+      | false ↦ λ is. refl
+    ] refl
 
-renamed-named : (u name to_name : List ℕ) (leaf : Leaf) → renamed name to_name (named u leaf) ≡ named u (renamed_leaf name to_name leaf)
+renamed-named : (u name to_name : List ℕ) (leaf : Leaf) → renamed name to_name (named u leaf) ≡ named u (renamed_leaf u name to_name leaf)
 renamed-named u name to_name leaf =
-    elim (pointwise nat_eq leaf.name name)
-    as (λ b. cond b (record (named u leaf) { name = to_name }) (named u leaf) ≡ named u (cond b (record leaf { name = to_name }) leaf)) [ true ↦ refl | false ↦ refl ]
+    elim (pointwise nat_eq (name_of u leaf) name)
+    as (λ b. cond b (record (named u leaf) { name = to_name }) (named u leaf) ≡ named u (cond b (record leaf { name = kept_name u to_name }) leaf)) [
+      | true ↦ λ i. record (named u leaf) { name = sym (name-kept u to_name) i }
+      | false ↦ refl
+    ]
 
 -- entries of which none has the name all stay when it goes
 all-stay : (u : List ℕ) (es : List (List ℕ × Entry)) → T (below_all name_cmp u es) → where_key name_cmp (λ x. not (eq_by_cmp name_cmp u x)) es ≡ es
@@ -230,12 +238,12 @@ module _ {A : Type 0} where
 
   -- an entry that is there gets another name
   pub renames : (u name to_name : List ℕ) (leaf : Leaf) (old new : List (Vec ℕ A × Leaf)) → IsInOrder (entries_in old)
-      → lookup (is_key u) old ≡ Some leaf → new ≡ set_value (is_key u) old (renamed_leaf name to_name leaf)
+      → lookup (is_key u) old ≡ Some leaf → new ≡ set_value (is_key u) old (renamed_leaf u name to_name leaf)
       → DiffersAt u (option_map (renamed name to_name) (entry_with u (entries_in old))) (entries_in old) (entries_in new)
   renames u name to_name leaf old new sorted is made =
       subst (λ (what : Option Entry). DiffersAt u what (entries_in old) (entries_in new))
       (sym (ap (option_map (renamed name to_name)) (found-named u leaf old is) ∙ ap Some (renamed-named u name to_name leaf)))
-      (set u (renamed_leaf name to_name leaf) old new sorted (subst IsSome (sym is) refl) made)
+      (set u (renamed_leaf u name to_name leaf) old new sorted (subst IsSome (sym is) refl) made)
 
   -- none is there
   pub renames-none : (u name to_name : List ℕ) (old : List (Vec ℕ A × Leaf)) → IsInOrder (entries_in old) → lookup (is_key u) old ≡ None

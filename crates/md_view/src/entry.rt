@@ -135,7 +135,7 @@ impl<'a> EntryRef<'a> {
     }
 
     /// A copy that owns its names. It is refused only when out of memory.
-    fn copied(&self, alloc: Global) -> Result<Entry, AllocError>
+    pub(crate) fn copied(&self, alloc: Global) -> Result<Entry, AllocError>
         ensures { IfOk result (λ entry. entry ≡ self.now) }
     {
         Ok(Entry {

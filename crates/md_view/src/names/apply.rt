@@ -1,17 +1,17 @@
 // What a change makes of the names.
-ghost use Rattle.std.specs.Prelude.{◌≡◌, ◌≢◌, ◌↔◌, true, IsTrue, IsSome, IfSome, IfOk, OnOk, OnErr};
+ghost use Rattle.std.specs.Prelude.{◌≡◌, ◌≢◌, ◌↔◌, true, IsTrue, IsSome, IfSome, OnOk, OnErr};
 ghost use Rattle.md_name.specs.Names.{unique_of, is_message_name};
 ghost use Rattle.md_core.specs.declared.jobs.effect.Change.TheVariants.{Add, Rename, Remove};
 ghost use Rattle.md_view.specs.Named.{after_change, fits as fits_names};
 ghost use Rattle.md_view.specs.Held.{entry_with, listed_in, held_names, AreHeld, HoldNames};
 
-use crate::entry::Entry;
+use crate::entry::EntryRef;
 use crate::names::entry_list::EntryList;
 use crate::names::fits::{fits_add, fits_remove, fits_rename};
 use crate::names::folder::FolderNames;
 use md_core::Change;
 use md_dirs::Place;
-use md_name::{Bytes, split};
+use md_name::split;
 use std::alloc::{AllocError, Global};
 
 /// Makes a change where it fits, and otherwise none.
@@ -72,16 +72,11 @@ fn unique_part(name: &[u8]) -> &[u8]
 }
 
 // The entry of a message.
-fn entry_of(alloc: Global, place: Place, name: &[u8], size: u64) -> Result<Entry, AllocError>
+fn entry_of(place: Place, name: &[u8], size: u64) -> EntryRef<'_>
     requires { is_message_name name.now ≡ true }
-    ensures { IfOk result (λ entry. entry ≡ record { unique = unique_of name.now; place = place; name = name.now; size = size }) }
+    ensures { result ≡ record { unique = unique_of name.now; place = place; name = name.now; size = size } }
 {
-    Ok(Entry {
-        unique: Bytes::copied(alloc, unique_part(name))?,
-        place,
-        name: Bytes::copied(alloc, name)?,
-        size,
-    })
+    EntryRef::new(unique_part(name), place, name, size)
 }
 
 // Adds a message, where that fits.
@@ -100,9 +95,8 @@ fn add<L: EntryList>(
     if !fits_add(folders, folder, place, name) {
         return Ok(());
     }
-    let entry = entry_of(alloc, place, name, size)?;
     let lists = &mut folders[folder as usize];
-    lists.put(place, entry)
+    lists.put(alloc, place, entry_of(place, name, size))
 }
 
 // Takes a message away, where that fits. It takes no memory.
@@ -193,9 +187,8 @@ fn rename_away<L: EntryList>(
 {
     let unique = unique_part(name);
     let size = size_of(folders, folder, place, unique);
-    let entry = entry_of(alloc, to_place, to_name, size)?;
     let to_lists = &mut folders[to_folder as usize];
-    to_lists.put(to_place, entry)?;
+    to_lists.put(alloc, to_place, entry_of(to_place, to_name, size))?;
     let lists = &mut folders[folder as usize];
     lists.take(place, unique);
     Ok(())

@@ -5,7 +5,7 @@ ghost use Rattle.md_view.specs.Readings.{IsInOrder};
 ghost use Rattle.md_view.specs.Held.{entry_with, renamed, DiffersAt};
 ghost use Rattle.md_view.specs.declared.entry.Entry.{Entry};
 
-use crate::entry::{Entry, EntryRef};
+use crate::entry::EntryRef;
 use std::alloc::{AllocError, Global};
 
 /// Entries in order of unique name, none twice.
@@ -13,12 +13,12 @@ pub trait EntryList: Drop {
     /// The entries in their order.
     ghost shown: { Self → List Entry };
 
-    /// The list of entries that are in order.
-    fn of(alloc: Global, all: Vec<Entry>) -> Result<Self, AllocError>
+    /// The list of entries that are in order, with copies of their names.
+    fn of(alloc: Global, all: Vec<EntryRef<'_>>) -> Result<Self, AllocError>
     where
         Self: Sized,
         requires { IsInOrder all.items }
-        ensures { IfOk result (λ list. shown list ≡ all.items) };
+        ensures { IfOk result (λ list. shown list ≡ all.entry.items) };
 
     /// The entries in their order, lent one by one.
     fn lent(&self, alloc: Global) -> Result<Vec<EntryRef<'_>>, AllocError>
@@ -29,10 +29,10 @@ pub trait EntryList: Drop {
         requires { IsInOrder (shown self.now) }
         ensures { result ≡ entry_with unique.now (shown self.now) };
 
-    /// Puts an entry in its place, or in that of the entry of its unique name, if there is one.
-    fn put(&mut self, entry: Entry) -> Result<(), AllocError>
+    /// Puts a copy of an entry in its place, or in that of the entry of its unique name, if there is one.
+    fn put(&mut self, alloc: Global, entry: EntryRef<'_>) -> Result<(), AllocError>
         requires { IsInOrder (shown self.old) }
-        ensures ok { OnOk result (DiffersAt entry.unique (Some entry) (shown self.old) (shown self.new)) }
+        ensures ok { OnOk result (DiffersAt entry.entry.unique (Some entry.entry) (shown self.old) (shown self.new)) }
         ensures err { OnErr result (shown self.new ≡ shown self.old) };
 
     /// Gives the entry of a unique name another name, if it has the old one. No entry moves.

@@ -10,10 +10,10 @@ ghost use Rattle.md_view.specs.Readings.{reading_of, reading_refusal, IsInOrder}
 ghost use Rattle.md_dirs.specs.declared.paths.Place.TheVariants.{New, Cur};
 ghost use Rattle.md_view.specs.declared.error.ViewError.TheVariants.{NoMemory};
 
-use crate::entry::{Entry, EntryRef, copied};
+use crate::entry::{Entry, EntryRef};
 use crate::error::ViewError;
 use crate::names::entry_list::EntryList;
-use crate::read::reading;
+use crate::read::lent_reading;
 use md_core::World;
 use md_dirs::{Dirs, Place};
 use std::alloc::{AllocError, Global};
@@ -62,8 +62,8 @@ impl<L: EntryList> FolderNames<L> {
         ensures cur { IfOk result (λ lists. lists.in_cur ≡ reading_of (names_of (mailbox_of (dirs_of world.now))) folder Cur) }
         ensures refusal { IfErr result (λ error. error ≡ reading_refusal (dirs_of world.now) folder) }
     {
-        let in_new = reading(alloc, world, folder, Place::New)?;
-        let in_cur = reading(alloc, world, folder, Place::Cur)?;
+        let in_new = lent_reading(alloc, world, folder, Place::New)?;
+        let in_cur = lent_reading(alloc, world, folder, Place::Cur)?;
         Ok(FolderNames {
             in_new: L::of(alloc, in_new)?,
             in_cur: L::of(alloc, in_cur)?,
@@ -109,16 +109,21 @@ impl<L: EntryList> FolderNames<L> {
         }
     }
 
-    /// Puts an entry into a directory, in place of that of its unique name, if there is one.
-    pub fn put(&mut self, place: Place, entry: Entry) -> Result<(), AllocError>
+    /// Puts a copy of an entry into a directory, in place of that of its unique name, if there is one.
+    pub fn put(
+        &mut self,
+        alloc: Global,
+        place: Place,
+        entry: EntryRef<'_>,
+    ) -> Result<(), AllocError>
         requires { is_tmp place ≡ false }
-        ensures ok { OnOk result (DiffersIn place entry.unique (Some entry) self.old self.new) }
+        ensures ok { OnOk result (DiffersIn place entry.entry.unique (Some entry.entry) self.old self.new) }
         ensures err { OnErr result (self.new ≡ self.old) }
     {
         match place {
             Place::Tmp => Ok(()),
-            Place::New => self.in_new.put(entry),
-            Place::Cur => self.in_cur.put(entry),
+            Place::New => self.in_new.put(alloc, entry),
+            Place::Cur => self.in_cur.put(alloc, entry),
         }
     }
 
@@ -159,7 +164,7 @@ fn list_again<L: EntryList>(alloc: Global, list: &L) -> Result<L, AllocError>
     ensures { IfOk result (λ copy. L.shown copy ≡ L.shown list.now) }
 {
     let all = list.lent(alloc)?;
-    L::of(alloc, copied(alloc, &all)?)
+    L::of(alloc, all)
 }
 
 /// The messages of all folders of a world now.

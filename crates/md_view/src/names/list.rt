@@ -4,7 +4,7 @@ ghost use Rattle.std.specs.Option.{option_map};
 ghost use Rattle.md_view.specs.Readings.{IsInOrder};
 ghost use Rattle.md_view.specs.Held.{entry_with, place_for, renamed, HasAt, DiffersAt};
 
-use crate::entry::{Entry, EntryRef, lend};
+use crate::entry::{Entry, EntryRef, copied, lend};
 use crate::names::entry_list::EntryList;
 use md_name::Bytes;
 use std::alloc::{AllocError, Global};
@@ -101,8 +101,8 @@ fn take_entry(entries: &mut Vec<Entry>, unique: &[u8])
 impl EntryList for Vec<Entry> {
     ghost shown = { λ v. v.items };
 
-    fn of(_alloc: Global, all: Vec<Entry>) -> Result<Self, AllocError> {
-        Ok(all)
+    fn of(alloc: Global, all: Vec<EntryRef<'_>>) -> Result<Self, AllocError> {
+        copied(alloc, &all)
     }
 
     fn lent(&self, alloc: Global) -> Result<Vec<EntryRef<'_>>, AllocError> {
@@ -116,8 +116,8 @@ impl EntryList for Vec<Entry> {
         }
     }
 
-    fn put(&mut self, entry: Entry) -> Result<(), AllocError> {
-        put_entry(self, entry)
+    fn put(&mut self, alloc: Global, entry: EntryRef<'_>) -> Result<(), AllocError> {
+        put_entry(self, entry.copied(alloc)?)
     }
 
     fn rename(

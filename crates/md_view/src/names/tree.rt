@@ -1,9 +1,9 @@
 // Entries in order of unique name in a tree.
-ghost use Rattle.std.specs.Prelude.{◌≡◌, [], None, IsTrue, OnOk, OnErr};
+ghost use Rattle.std.specs.Prelude.{◌≡◌, [], None, IsTrue, IfOk, OnOk, OnErr};
 ghost use Rattle.md_view.specs.Held.{entry_with};
-ghost use Rattle.md_view.specs.Trees.{renamed_leaf};
+ghost use Rattle.md_view.specs.Trees.{named, name_of, kept_name, renamed_leaf};
 
-use crate::entry::{Entry, EntryRef};
+use crate::entry::EntryRef;
 use crate::names::entry_list::EntryList;
 use md_dirs::Place;
 use md_name::Bytes;
@@ -15,21 +15,64 @@ use std::marker::Model;
 #[derive(Drop)]
 pub struct Leaf {
     place: Place,
-    name: Bytes,
+    /// The whole name, where it is not the unique name, as that of most messages in new is.
+    name: Option<Bytes>,
     size: u64,
 }
 
 impl Leaf {
-    /// Gets another name, if it has the old one.
-    fn rename(&mut self, alloc: Global, name: &[u8], to_name: &[u8]) -> Result<(), AllocError>
-        ensures ok { OnOk result (self.new ≡ renamed_leaf name.now to_name.now self.old) }
+    fn of(alloc: Global, entry: &EntryRef<'_>) -> Result<Leaf, AllocError>
+        ensures { IfOk result (λ leaf. named entry.now.unique leaf ≡ entry.now) }
+    {
+        Ok(Leaf {
+            place: entry.place(),
+            name: kept_name(alloc, entry.unique(), entry.name())?,
+            size: entry.size(),
+        })
+    }
+
+    /// The whole name of the entry of a unique name.
+    fn name<'a>(&'a self, unique: &'a [u8]) -> &'a [u8]
+        ensures { result.now ≡ name_of unique.now self.now }
+    {
+        match &self.name {
+            None => unique,
+            Some(name) => name.as_slice(),
+        }
+    }
+
+    fn lent<'a>(&'a self, unique: &'a [u8]) -> EntryRef<'a>
+        ensures { result ≡ named unique.now self.now }
+    {
+        EntryRef::new(unique, self.place, self.name(unique), self.size)
+    }
+
+    /// The entry of a unique name gets another name, if it has the old one.
+    fn rename(
+        &mut self,
+        alloc: Global,
+        unique: &[u8],
+        name: &[u8],
+        to_name: &[u8],
+    ) -> Result<(), AllocError>
+        ensures ok { OnOk result (self.new ≡ renamed_leaf unique.now name.now to_name.now self.old) }
         ensures err { OnErr result (self.new ≡ self.old) }
     {
-        if self.name.as_slice() == name {
-            self.name = Bytes::copied(alloc, to_name)?;
+        if self.name(unique) == name {
+            self.name = kept_name(alloc, unique, to_name)?;
         }
         Ok(())
     }
+}
+
+// A copy of a whole name, where it is not the unique name.
+fn kept_name(alloc: Global, unique: &[u8], name: &[u8]) -> Result<Option<Bytes>, AllocError>
+    ensures { IfOk result (λ kept. kept ≡ kept_name unique.now name.now) }
+{
+    if name == unique {
+        return Ok(None);
+    }
+    Ok(Some(Bytes::copied(alloc, name)?))
 }
 
 /// Entries in a tree by their unique names. Contracts see the entries in their order.
@@ -71,10 +114,10 @@ impl EntryTree {
 impl EntryList for EntryTree {
     ghost shown = { λ t. t };
 
-    fn of(alloc: Global, mut all: Vec<Entry>) -> Result<Self, AllocError> {
+    fn of(alloc: Global, mut all: Vec<EntryRef<'_>>) -> Result<Self, AllocError> {
         let mut tree = EntryTree::new(alloc);
         while let Some(entry) = all.pop() {
-            tree.put(entry)?;
+            tree.put(alloc, entry)?;
         }
         Ok(tree)
     }
@@ -82,12 +125,7 @@ impl EntryList for EntryTree {
     fn lent(&self, alloc: Global) -> Result<Vec<EntryRef<'_>>, AllocError> {
         let mut all = Vec::with_capacity(alloc, self.leaves.len())?;
         for (unique, leaf) in self.leaves.iter() {
-            all.push(EntryRef::new(
-                unique.as_slice(),
-                leaf.place,
-                leaf.name.as_slice(),
-                leaf.size,
-            ))?;
+            all.push(leaf.lent(unique.as_slice()))?;
         }
         Ok(all)
     }
@@ -97,22 +135,12 @@ impl EntryList for EntryTree {
             return None;
         }
         let (unique, leaf) = self.leaves.get_key_value(unique)?;
-        Some(EntryRef::new(
-            unique.as_slice(),
-            leaf.place,
-            leaf.name.as_slice(),
-            leaf.size,
-        ))
+        Some(leaf.lent(unique.as_slice()))
     }
 
-    fn put(&mut self, entry: Entry) -> Result<(), AllocError> {
-        let Entry {
-            unique,
-            place,
-            name,
-            size,
-        } = entry;
-        let leaf = Leaf { place, name, size };
+    fn put(&mut self, alloc: Global, entry: EntryRef<'_>) -> Result<(), AllocError> {
+        let leaf = Leaf::of(alloc, &entry)?;
+        let unique = Bytes::copied(alloc, entry.unique())?;
         self.leaves.insert(unique.into_vec(), leaf)?;
         Ok(())
     }
@@ -126,7 +154,7 @@ impl EntryList for EntryTree {
     ) -> Result<(), AllocError> {
         match self.leaves.get_mut(unique) {
             None => Ok(()),
-            Some(leaf) => leaf.rename(alloc, name, to_name),
+            Some(leaf) => leaf.rename(alloc, unique, name, to_name),
         }
     }
 

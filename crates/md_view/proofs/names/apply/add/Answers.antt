@@ -19,10 +19,10 @@ returns-clause-ok g c =
     let at = slice_get_read fs _ c.args.folder c.index_mut-lists.result.now refl within c.index_mut-lists.ensures.value in
     let f = c.index_mut-lists.result.now in
     let f' = c.put.new.self in
-    let entry = c.in_ok-entry.entry in
+    let entry = c.entry_of.result in
     elim c.put.result as (λ r. OnOk r (DiffersIn c.args.place entry.unique (Some entry) f f')
     → OnOk r (AreHeld (after_change n (Add c.args.folder c.args.place c.args.name.now c.args.size)) (slice_set fs c.args.folder f'))) [
       | Ok _ ↦ λ shows. add-held n fs c.requires c.args.folder c.args.place c.args.name.now c.args.size fit f f' at
-          (subst (λ (e : Entry). DiffersIn c.args.place e.unique (Some e) f f') c.in_ok-entry.ensures shows)
+          (subst (λ (e : Entry). DiffersIn c.args.place e.unique (Some e) f f') c.entry_of.ensures shows)
       | Err _ ↦ λ _. tt
     ] c.put.ensures.ok

@@ -38,7 +38,7 @@ returns-clause-ok g c =
     rename-moved n fs c.requires.names folder place name to_folder to_place to_name c.requires.fits f f' at
     (rename-put n fs c.requires.names folder place name to_folder to_place to_name c.requires.fits
     unique c.deref.result.now c.deref.ensures.value c.unique_part-unique.ensures c.size_of-size.result c.size_of-size.ensures
-    c.in_ok-entry.entry c.in_ok-entry.ensures f f' c.in_ok-put.ensures.ok)
+    c.entry_of.result c.entry_of.ensures f f' c.in_ok-put.ensures.ok)
     h h' there
     (subst (λ (u : List ℕ). DiffersIn place u None h h') c.unique_part-unique.ensures c.take.ensures)
     c.requires.away

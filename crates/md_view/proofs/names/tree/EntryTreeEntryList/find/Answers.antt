@@ -1,6 +1,6 @@
 use Rattle.std.proofs.Common.{◌≡◌, Some, sym, ap, ◌∙◌}
 use Rattle.md_view.specs.Held.{entry_with}
-use Rattle.md_view.specs.Trees.{entry_at}
+use Rattle.md_view.specs.Trees.{named, entry_at}
 use Rattle.md_view.proofs.Trees.{found, found-none}
 use Rattle.md_view.proofs.names.tree.EntryTreeEntryList.find.Goals as goal
 
@@ -18,6 +18,6 @@ returns c =
     let u = c.args.unique.now in
     let leaf = c.in_ok-unique.leaf.now in
     let is = found u c.in_ok-unique.unique.now leaf c.self.inside.leaves.entries (sym c.in_ok-unique.ensures.key) (sym c.in_ok-unique.ensures.value) in
-    let shown : c.new.result ≡ entry_at (c.in_ok-unique.unique.now, leaf) =
-    c.new.ensures ∙ (λ i. record { unique = c.as_slice.ensures.value i; place = leaf.place; name = c.as_slice-2.ensures i; size = leaf.size }) in
+    let shown : c.lent.result ≡ entry_at (c.in_ok-unique.unique.now, leaf) =
+    c.lent.ensures ∙ ap (λ u. named u leaf) c.as_slice.ensures.value in
     ap Some shown ∙ sym (ap (entry_with u) (sym c.self.view_is) ∙ is)
