@@ -1,6 +1,6 @@
 -- Lists to which a change was made hold the names after it, and how a change that fits is known by the lists.
-use Rattle.std.proofs.Common.{ℕ, ◌≡◌, ◌≢◌, ◌≤◌, ◌<◌, ◌^◌, List, Option, Some, None, IsSome, IfSome, Bool, true, false, cond, ◌&&◌, not, is_some, length, slice_get, slice_set, refl, sym, ap, subst, ◌∙◌, arith, eqb-true, ltb-true}
-use Rattle.std.specs.Prelude.{nat_eq}
+use Rattle.std.proofs.Common.{ℕ, ◌≡◌, ◌≢◌, ◌≤◌, ◌<◌, ◌^◌, List, [], Option, Some, None, IsSome, IfSome, Bool, true, false, cond, ◌&&◌, not, is_some, length, slice_get, slice_set, refl, sym, ap, subst, ◌∙◌, arith, eqb-true, ltb-true}
+use Rattle.std.specs.Prelude.{nat_eq, unwrap_or}
 use Rattle.std.specs.List.{list_any}
 use Rattle.std.specs.Option.{option_and_then, option_map_or}
 use Rattle.std.specs.Cmp.Lexicographic.{pointwise}
@@ -15,16 +15,16 @@ use Rattle.md_dirs.specs.Path.{place_index}
 use Rattle.md_dirs.specs.declared.paths.Place.{Place}
 use Rattle.lists.proofs.Maps.{by_key, at_put, beside_put, at_drop, beside_drop}
 use Rattle.md_core.specs.Mailbox.{is_tmp}
-use Rattle.md_core.specs.History.{Listed, Names, IsThere, size_in}
+use Rattle.md_core.specs.History.{Listed, Names, IsThere, size_in, names_after_change}
 use Rattle.md_core.specs.declared.jobs.effect.Change.TheVariants as change
 use Rattle.md_view.specs.declared.entry.Entry.{Entry}
 use Rattle.md_view.specs.Readings.{as_entry, is_at}
 use Rattle.md_view.specs.Named.{Named, IsMessage, AreMessages, is_listed, has_name, is_there, is_free, fits, after_change}
-use Rattle.md_view.specs.Held.{FolderLists, list_of, listed_in, AreHeld, entry_with, has_unique, DiffersIn}
+use Rattle.md_view.specs.Held.{FolderLists, list_of, listed_in, AreHeld, entry_with, has_unique, DiffersIn, IsTakenBeside}
 use Rattle.md_view.proofs.Readings.{entry_at}
-use Rattle.md_view.proofs.Rows.{same_place, and-first, and-second, if-some, not-true}
+use Rattle.md_view.proofs.Rows.{same_place, and-both, and-first, and-second, if-some, not-true}
 use Rattle.md_view.proofs.Holding.{shown_at, AreLists, held-lists, lists-held, taken, found-in}
-use Rattle.md_view.proofs.Changing.{is_spot, but, set-lists, added, removed, renamed, replaced}
+use Rattle.md_view.proofs.Changing.{is_spot, but, but-same, set-lists, added, removed, renamed, replaced}
 
 no-some : (o : Option Listed) → is_some o ≡ false → o ≡ None
 no-some None is = refl
@@ -177,6 +177,90 @@ module _ (n : Named) (fs : List FolderLists) (held : AreHeld n fs) where
         (set-lists fs (shown_at n.names) (held-lists n fs held) folder place (unique_of name) (Some (as_entry (unique_of name, listed_new))) f f' at
         (within-listed folder place where_to) shows)
         (added n.names (unique_of name) listed_new free.1))
+
+  -- a message is listed in its directory
+  message-listed : (u : List ℕ) (m : Listed) → get n.names u ≡ Some m → entry_with u (listed_in fs m.folder m.place) ≡ Some (as_entry (u, m))
+  message-listed u m is =
+      (held-lists n fs held).at m.folder m.place u ∙ ap (option_and_then (entry_at m.folder m.place u)) is
+      ∙ (λ i. cond (nat_eq_equiv.refl m.folder i && nat_eq_equiv.refl (place_index m.place) i) (Some (as_entry (u, m))) None)
+
+  -- no message is listed of a unique name that names have not
+  unlisted : (u : List ℕ) → get n.names u ≡ None → (k : ℕ) (p : Place) → IsSome (entry_with u (listed_in fs k p)) → ⊥
+  unlisted u none k p some =
+      no-entry _ ((held-lists n fs held).at k p u ∙ ap (option_and_then (entry_at k p u)) none) some
+    where
+      no-entry : (o : Option Entry) → o ≡ None → IsSome o → ⊥
+      no-entry None is some = cc
+      no-entry (Some e) is some = cc
+
+  -- names have no message of a unique name that is listed neither in a directory nor beside it
+  not-listed : (u : List ℕ) (folder : ℕ) (place : Place) → (IsTakenBeside u folder place fs → ⊥)
+      → entry_with u (listed_in fs folder place) ≡ None → get n.names u ≡ None
+  not-listed u folder place beside none = by (get n.names u) refl
+    where
+      by : (o : Option Listed) → get n.names u ≡ o → o ≡ None
+      by None is = refl
+      by (Some m) is = absurd (beside (
+        m.folder,
+        m.place,
+        (λ in_folder in_place.
+            let never : None ≡ Some (as_entry (u, m)) = sym none ∙ (λ i. entry_with u (listed_in fs (sym in_folder i) (sym in_place i))) ∙ message-listed u m is in
+            cc),
+        subst IsSome (sym (message-listed u m is)) refl,
+      ))
+
+  module _ (folder : ℕ) (place : Place) (name : List ℕ) (size : ℕ) where
+    not-added : (fits n (change.Add folder place name size) ≡ true → ⊥) → after_change n (change.Add folder place name size) ≡ n
+    not-added not =
+        ap (λ b. cond b (new_names n.folders (names_after_change n.names (change.Add folder place name size))) n) (is-false _ not)
+
+    -- an addition that does not fit: the name is no message's, the directory is not there, or another has a message of the unique name
+    pub add-other : is_message_name name ≡ false → after_change n (change.Add folder place name size) ≡ n
+    add-other other = not-added (λ fit.
+        let message = (free-facts n n.names name (and-second _ _ fit)).0 in
+        let never : true ≡ false = sym message ∙ other in
+        cc)
+
+    pub add-beside : ((is_listed n folder place ≡ true) × (IsTakenBeside (unique_of name) folder place fs → ⊥) → ⊥)
+        → after_change n (change.Add folder place name size) ≡ n
+    add-beside not = not-added (λ fit. not (
+      and-first _ _ fit,
+      λ beside. unlisted (unique_of name) (free-facts n n.names name (and-second _ _ fit)).1 beside.0 beside.1 beside.3,
+    ))
+
+    -- An entry comes to a directory that may take it, where it has none of the unique name.
+    module _ (message : is_message_name name ≡ true) (listed : is_listed n folder place ≡ true)
+        (beside : IsTakenBeside (unique_of name) folder place fs → ⊥) (f f' : FolderLists) (at : slice_get fs folder ≡ Some f) where
+      abbrev here : Option Entry
+      here = entry_with (unique_of name) (list_of place f)
+
+      abbrev entry : Entry
+      entry = as_entry (unique_of name, record { folder = folder; place = place; name = name; size = size })
+
+      pub add-new : DiffersIn place (unique_of name) (Some (unwrap_or here entry)) f f'
+          → AreHeld (after_change n (change.Add folder place name size)) (slice_set fs folder f')
+      add-new shows = by here refl
+        where
+          by : (o : Option Entry) → here ≡ o → AreHeld (after_change n (change.Add folder place name size)) (slice_set fs folder f')
+          by None none =
+              let free = not-listed (unique_of name) folder place beside
+              (ap (λ (o : Option FolderLists). entry_with (unique_of name) (option_map_or (list_of place) o [])) at ∙ none) in
+              let fit = and-both _ _ listed (and-both _ _ message (ap (λ (o : Option Listed). not (is_some o)) free)) in
+              add-held folder place name size fit f f' at
+              (subst (λ (o : Option Entry). DiffersIn place (unique_of name) (Some (unwrap_or o entry)) f f') none shows)
+          by (Some old) some =
+              let known : Some old ≡ shown_at n.names folder place (unique_of name) =
+              sym some ∙ found-in n fs held folder f at place (unique_of name) in
+              let same = not-added (λ fit.
+              let none = (free-facts n n.names name (and-second _ _ fit)).1 in
+              let never : Some old ≡ None = known ∙ ap (option_and_then (entry_at folder place (unique_of name))) none in
+              cc) in
+              subst (λ (m : Named). AreHeld m (slice_set fs folder f')) (sym same)
+              (held-after n.names (slice_set fs folder f') (length-set fs folder f') held.messages
+              (but folder place (unique_of name) (Some old) (shown_at n.names))
+              (set-lists fs (shown_at n.names) (held-lists n fs held) folder place (unique_of name) (Some old) f f' at (within-listed folder place listed)
+              (subst (λ (o : Option Entry). DiffersIn place (unique_of name) (Some (unwrap_or o entry)) f f') some shows))
+              (but-same folder place (unique_of name) (Some old) (shown_at n.names) known))
 
   module _ (folder : ℕ) (place : Place) (name : List ℕ) (fit : fits n (change.Remove folder place name) ≡ true)
       (f f' : FolderLists) (at : slice_get fs folder ≡ Some f) where

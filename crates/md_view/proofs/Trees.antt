@@ -22,7 +22,7 @@ use Rattle.std.specs.Prelude.{nat_eq, unwrap_or}
 use Rattle.std.proofs.lemmas.Slice.Eq.{bytes_eq-Decides}
 use Rattle.std.specs.Option.{option_map}
 use Rattle.std.specs.Cmp.Lexicographic.{pointwise}
-use Rattle.md_view.proofs.Keyed.{first, second, less, in-order, ordered, tie-same, values-keyed}
+use Rattle.md_view.proofs.Keyed.{first, second, less, in-order, ordered, tie-itself, tie-same, values-keyed}
 
 -- by what is kept of a whole name it is found again
 pub name-kept : (u name : List ℕ) → unwrap_or (kept_name u name) u ≡ name
@@ -51,6 +51,14 @@ all-stay u (e ∷ es) below =
 shadowed : {X : Type 0} (b : Bool) (x y z : X) → cond b x z ≡ cond b x (cond b y z)
 shadowed true x y z = refl
 shadowed false x y z = refl
+
+-- entries that show of a unique name what they did
+pub differs-not : (u : List ℕ) (what : Option Entry) (es : List Entry) → IsInOrder es → what ≡ entry_with u es → DiffersAt u what es es
+differs-not u what es sorted is = record { order = sorted; at = λ v. stays v (eq_by_cmp name_cmp v u) refl }
+  where
+    stays : (v : List ℕ) (b : Bool) → eq_by_cmp name_cmp v u ≡ b → entry_with v es ≡ cond b what (entry_with v es)
+    stays v true same = ap (λ (w : List ℕ). entry_with w es) (tie-same v u same) ∙ sym is
+    stays v false other = refl
 
 module _ {A : Type 0} where
   -- the order of keys, and whether a unique name is a key
@@ -250,12 +258,42 @@ module _ {A : Type 0} where
       → DiffersAt u (option_map (renamed name to_name) (entry_with u (entries_in old))) (entries_in old) (entries_in old)
   renames-none u name to_name old sorted none =
       let absent = found-none u old none in
-      subst (λ (what : Option Entry). DiffersAt u what (entries_in old) (entries_in old)) (sym (ap (option_map (renamed name to_name)) absent))
-      (record { order = sorted; at = λ v. stays v (eq_by_cmp name_cmp v u) refl })
-    where
-      stays : (v : List ℕ) (b : Bool) → eq_by_cmp name_cmp v u ≡ b → entry_with v (entries_in old) ≡ cond b None (entry_with v (entries_in old))
-      stays v true is = ap (λ (w : List ℕ). entry_with w (entries_in old)) (tie-same v u is) ∙ found-none u old none
-      stays v false is = refl
+      differs-not u (option_map (renamed name to_name) (entry_with u (entries_in old))) (entries_in old) sorted
+      (ap (option_map (renamed name to_name)) absent ∙ sym absent)
+
+  -- an entry comes where there is none of its unique name
+  pub inserted-new : (k : Vec ℕ A) (leaf : Leaf) (old new : List (Vec ℕ A × Leaf)) → IsInOrder (entries_in old)
+      → lookup (is_key k.items) old ≡ None → new ≡ insert_entry key_cmp old k leaf
+      → DiffersAt k.items (Some (unwrap_or (entry_with k.items (entries_in old)) (named k.items leaf))) (entries_in old) (entries_in new)
+  inserted-new k leaf old new sorted none is =
+      subst (λ (o : Option Entry). DiffersAt k.items (Some (unwrap_or o (named k.items leaf))) (entries_in old) (entries_in new))
+      (sym (found-none k.items old none)) (inserted k leaf old new sorted is)
+
+  -- where there is one, that one is put back
+  pub put-back : (k : Vec ℕ A) (leaf there : Leaf) (old mid new : List (Vec ℕ A × Leaf)) → IsInOrder (entries_in old)
+      → lookup (is_key k.items) old ≡ Some there → mid ≡ insert_entry key_cmp old k leaf → IsSome (lookup (is_key k.items) mid)
+      → new ≡ set_value (is_key k.items) mid there
+      → DiffersAt k.items (Some (unwrap_or (entry_with k.items (entries_in old)) (named k.items leaf))) (entries_in old) (entries_in new)
+  put-back k leaf there old mid new sorted was is some made =
+      let came = inserted k leaf old mid sorted is in
+      let back = set k.items there mid new came.order some made in
+      subst (λ (o : Option Entry). DiffersAt k.items (Some (unwrap_or o (named k.items leaf))) (entries_in old) (entries_in new))
+      (sym (found-named k.items there old was))
+      (record {
+        order = back.order;
+        at = λ v. back.at v ∙ ap (cond (eq_by_cmp name_cmp v k.items) (Some (named k.items there))) (came.at v)
+            ∙ sym (shadowed (eq_by_cmp name_cmp v k.items) (Some (named k.items there)) (Some (named k.items leaf)) (entry_with v (entries_in old)));
+      })
+
+  -- what came is there
+  pub inserted-there : (k : Vec ℕ A) (leaf : Leaf) (old new : List (Vec ℕ A × Leaf)) → IsInOrder (entries_in old)
+      → new ≡ insert_entry key_cmp old k leaf → lookup (is_key k.items) new ≡ None → ⊥
+  inserted-there k leaf old new sorted is none =
+      let came = (inserted k leaf old new sorted is).at k.items in
+      let here : entry_with k.items (entries_in new) ≡ Some (named k.items leaf) =
+      came ∙ ap (λ b. cond b (Some (named k.items leaf)) (entry_with k.items (entries_in old))) (tie-itself k.items) in
+      let never : None ≡ Some (named k.items leaf) = sym (found-none k.items new none) ∙ here in
+      cc
 
 -- entries in order in which the same is found are the same
 pub same-found : (es fs : List Entry) → IsInOrder es → IsInOrder fs → ((v : List ℕ) → entry_with v es ≡ entry_with v fs) → es ≡ fs

@@ -1,5 +1,5 @@
 -- Bookkeeping: how the names of a store are held, folder by folder.
-use Rattle.std.specs.Prelude.{ℕ, suc, ◌≡◌, ◌<◌, ◌^◌, ◌==◌, ◌||◌, List, [], ◌∷◌, ◌++◌, Option, Some, Bool, false, is_some, map, nat_eq, length, slice_get, if◌then◌else◌}
+use Rattle.std.specs.Prelude.{ℕ, suc, ◌≡◌, ◌<◌, ◌^◌, ◌==◌, ◌||◌, List, [], ◌∷◌, ◌++◌, Option, Some, IsSome, Bool, false, is_some, map, nat_eq, length, slice_get, if◌then◌else◌}
 use Rattle.std.specs.Option.{option_map_or}
 use Rattle.std.specs.Ordering.{eq_by_cmp, is_lt}
 use Rattle.std.specs.Cmp.Lexicographic.{pointwise}
@@ -59,6 +59,10 @@ entry_with u es = finmap.find name_cmp u (map with_unique es)
 -- whether a folder has a message of a unique name
 abbrev pub has_unique : List ℕ → FolderLists → Bool
 has_unique u f = is_some (entry_with u f.in_new) || is_some (entry_with u f.in_cur)
+
+-- another directory than this has a message of a unique name
+abbrev pub IsTakenBeside : List ℕ → ℕ → Place → List FolderLists → Type 0
+IsTakenBeside u folder place fs = (k : ℕ) × (p : Place) × (k ≡ folder → p ≡ place → ⊥) × IsSome (entry_with u (listed_in fs k p))
 
 -- how many entries in front are below a unique name
 abbrev pub place_for : List ℕ → List Entry → ℕ

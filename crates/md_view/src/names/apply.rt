@@ -7,7 +7,7 @@ ghost use Rattle.md_view.specs.Held.{entry_with, listed_in, held_names, AreHeld,
 
 use crate::entry::EntryRef;
 use crate::names::entry_list::EntryList;
-use crate::names::fits::{fits_add, fits_remove, fits_rename};
+use crate::names::fits::{fits_remove, fits_rename, may_take};
 use crate::names::folder::FolderNames;
 use md_core::Change;
 use md_dirs::Place;
@@ -92,11 +92,14 @@ fn add<L: EntryList>(
     ensures ok { OnOk result (AreHeld (after_change (held_names folders.old.items) (Add folder place name.now size)) folders.new.items) }
     ensures err { OnErr result (folders.new.items ≡ folders.old.items) }
 {
-    if !fits_add(folders, folder, place, name) {
+    let Some((unique, _)) = split(name) else {
+        return Ok(());
+    };
+    if !may_take(folders, folder, place, unique) {
         return Ok(());
     }
     let lists = &mut folders[folder as usize];
-    lists.put(alloc, place, entry_of(place, name, size))
+    lists.put_new(alloc, place, EntryRef::new(unique, place, name, size))
 }
 
 // Takes a message away, where that fits. It takes no memory.

@@ -1,5 +1,5 @@
 // What keeps the messages of a directory in order.
-ghost use Rattle.std.specs.Prelude.{◌≡◌, List, None, Some, IfOk, OnOk, OnErr};
+ghost use Rattle.std.specs.Prelude.{◌≡◌, List, None, Some, IfOk, OnOk, OnErr, unwrap_or};
 ghost use Rattle.std.specs.Option.{option_map};
 ghost use Rattle.md_view.specs.Readings.{IsInOrder};
 ghost use Rattle.md_view.specs.Held.{entry_with, renamed, DiffersAt};
@@ -34,6 +34,19 @@ pub trait EntryList: Drop {
         requires { IsInOrder (shown self.old) }
         ensures ok { OnOk result (DiffersAt entry.entry.unique (Some entry.entry) (shown self.old) (shown self.new)) }
         ensures err { OnErr result (shown self.new ≡ shown self.old) };
+
+    /// Puts a copy of an entry in its place, where there is none of its unique name.
+    fn put_new(&mut self, alloc: Global, entry: EntryRef<'_>) -> Result<(), AllocError>
+        requires { IsInOrder (shown self.old) }
+        ensures ok { let kept = unwrap_or (entry_with entry.entry.unique (shown self.old)) entry.entry in
+            OnOk result (DiffersAt entry.entry.unique (Some kept) (shown self.old) (shown self.new)) }
+        ensures err { OnErr result (shown self.new ≡ shown self.old) }
+    {
+        if self.find(entry.unique()).is_some() {
+            return Ok(());
+        }
+        self.put(alloc, entry)
+    }
 
     /// Gives the entry of a unique name another name, if it has the old one. No entry moves.
     fn rename(

@@ -1,29 +1,59 @@
 // Whether a change fits the names.
-ghost use Rattle.std.specs.Prelude.{◌≡◌, ◌&&◌, true};
+ghost use Rattle.std.specs.Prelude.{◌≡◌, ◌≢◌, ◌↔◌, Some, IsTrue, true};
+ghost use Rattle.md_dirs.specs.declared.paths.Place.{Place};
 ghost use Rattle.std.specs.List.{list_any};
 ghost use Rattle.std.specs.FinMap as finmap;
 ghost use Rattle.md_name.specs.Names.{unique_of, is_message_name};
 ghost use Rattle.md_core.specs.declared.jobs.effect.Change.TheVariants.{Rename, Remove};
 ghost use Rattle.md_view.specs.Named.{fits as fits_names, is_listed as is_listed_in, is_free as is_free_name, is_there as is_name_there};
-ghost use Rattle.md_view.specs.Held.{has_unique, held_names, HoldNames};
+ghost use Rattle.md_view.specs.Held.{has_unique, held_names, HoldNames, IsTakenBeside};
 
 use crate::names::entry_list::EntryList;
 use crate::names::folder::FolderNames;
 use md_dirs::Place;
 use md_name::split;
 
-/// Whether an addition fits: its directory is new or cur of a folder that is there, and the name is a message's whose unique name no other
-/// message has.
-pub fn fits_add<L: EntryList>(
+/// Whether a directory may take one more message of a unique name, as far as others go: it is new or cur of a folder that is there, and no
+/// other has such a message.
+pub fn may_take<L: EntryList>(
     folders: &[FolderNames<L>],
     folder: u32,
     place: Place,
-    name: &[u8],
+    unique: &[u8],
 ) -> bool
     requires { HoldNames folders.now }
-    ensures { result ≡ (is_listed_in (held_names folders.now) folder place && is_free_name (held_names folders.now).names name.now) }
+    ensures { IsTrue result
+        ↔ ((is_listed_in (held_names folders.now) folder place ≡ true) × (IsTakenBeside unique.now folder place folders.now → ⊥)) }
 {
-    is_listed(folders, folder, place) && is_free(folders, name)
+    is_listed(folders, folder, place) && !is_taken_beside(folders, folder, place, unique)
+}
+
+// Whether another directory than this has a message of a unique name.
+fn is_taken_beside<L: EntryList>(
+    folders: &[FolderNames<L>],
+    folder: u32,
+    place: Place,
+    unique: &[u8],
+) -> bool
+    ensures { IsTrue result ↔ IsTakenBeside unique.now folder place folders.now }
+{
+    for (at, lists) in folders.iter().enumerate() {
+        if lists.has_beside(own_place(at, folder, place), unique) {
+            return true;
+        }
+    }
+    false
+}
+
+// The place, where a folder is its own.
+fn own_place(at: usize, folder: u32, place: Place) -> Option<Place>
+    ensures { (p : Place) → (result ≢ Some p) ↔ (at ≡ folder → p ≡ place → ⊥) }
+{
+    if at == folder as usize {
+        Some(place)
+    } else {
+        None
+    }
 }
 
 /// Whether a rename fits: its directories are new or cur of folders that are there, the old name is there, and the new name is a message's
@@ -100,18 +130,7 @@ fn is_taken<L: EntryList>(folders: &[FolderNames<L>], unique: &[u8]) -> bool
     false
 }
 
-// Whether a message may get this name: no other has its unique name.
-fn is_free<L: EntryList>(folders: &[FolderNames<L>], name: &[u8]) -> bool
-    requires { HoldNames folders.now }
-    ensures { result ≡ is_free_name (held_names folders.now).names name.now }
-{
-    match split(name) {
-        Some((unique, _)) => !is_taken(folders, unique),
-        None => false,
-    }
-}
-
-// The same for a message that has an old name.
+// Whether a message that has an old name may get this name: no other has its unique name.
 fn is_free_beside<L: EntryList>(folders: &[FolderNames<L>], old: &[u8], name: &[u8]) -> bool
     requires names { HoldNames folders.now }
     requires message { is_message_name old.now ≡ true }

@@ -1,5 +1,5 @@
 // The messages of new and of cur of one folder, each list in order of unique name.
-ghost use Rattle.std.specs.Prelude.{◌≡◌, None, Some, false, IfOk, IfErr, OnOk, OnErr};
+ghost use Rattle.std.specs.Prelude.{◌≡◌, ◌≢◌, ◌↔◌, None, Some, false, IsTrue, IsSome, IfOk, IfErr, OnOk, OnErr, unwrap_or};
 ghost use Rattle.std.specs.Option.{option_map};
 ghost use Rattle.md_core.specs.History.{names_of};
 ghost use Rattle.md_core.specs.Mailbox.{mailbox_of, is_tmp};
@@ -7,6 +7,7 @@ ghost use Rattle.md_core.specs.Runs.{dirs_of};
 ghost use Rattle.md_view.specs.Named.{named_of};
 ghost use Rattle.md_view.specs.Held.{list_of, entry_with, has_unique, renamed, DiffersIn, AreHeld};
 ghost use Rattle.md_view.specs.Readings.{reading_of, reading_refusal, IsInOrder};
+ghost use Rattle.md_dirs.specs.declared.paths.Place.{Place};
 ghost use Rattle.md_dirs.specs.declared.paths.Place.TheVariants.{New, Cur};
 ghost use Rattle.md_view.specs.declared.error.ViewError.TheVariants.{NoMemory};
 
@@ -98,6 +99,14 @@ impl<L: EntryList> FolderNames<L> {
         self.in_new.find(unique).is_some() || self.in_cur.find(unique).is_some()
     }
 
+    /// Whether a message has a unique name, in another directory than one, if that is given.
+    pub fn has_beside(&self, own: Option<Place>, unique: &[u8]) -> bool
+        ensures { IsTrue result ↔ ((p : Place) × (own ≢ Some p) × IsSome (entry_with unique.now (list_of p self.now))) }
+    {
+        (own != Some(Place::New) && self.in_new.find(unique).is_some())
+            || (own != Some(Place::Cur) && self.in_cur.find(unique).is_some())
+    }
+
     /// The entry of a unique name in a directory.
     pub fn find(&self, place: Place, unique: &[u8]) -> Option<EntryRef<'_>>
         ensures { result ≡ entry_with unique.now (list_of place self.now) }
@@ -124,6 +133,25 @@ impl<L: EntryList> FolderNames<L> {
             Place::Tmp => Ok(()),
             Place::New => self.in_new.put(alloc, entry),
             Place::Cur => self.in_cur.put(alloc, entry),
+        }
+    }
+
+    /// Puts a copy of an entry into a directory, where it has none of its unique name.
+    pub fn put_new(
+        &mut self,
+        alloc: Global,
+        place: Place,
+        entry: EntryRef<'_>,
+    ) -> Result<(), AllocError>
+        requires { is_tmp place ≡ false }
+        ensures ok { let kept = unwrap_or (entry_with entry.entry.unique (list_of place self.old)) entry.entry in
+            OnOk result (DiffersIn place entry.entry.unique (Some kept) self.old self.new) }
+        ensures err { OnErr result (self.new ≡ self.old) }
+    {
+        match place {
+            Place::Tmp => Ok(()),
+            Place::New => self.in_new.put_new(alloc, entry),
+            Place::Cur => self.in_cur.put_new(alloc, entry),
         }
     }
 

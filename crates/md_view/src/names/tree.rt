@@ -145,6 +145,19 @@ impl EntryList for EntryTree {
         Ok(())
     }
 
+    fn put_new(&mut self, alloc: Global, entry: EntryRef<'_>) -> Result<(), AllocError> {
+        let leaf = Leaf::of(alloc, &entry)?;
+        let unique = Bytes::copied(alloc, entry.unique())?;
+        // Nearly all are new, so it is looked for once: one that was there is put back.
+        let Some(old) = self.leaves.insert(unique.into_vec(), leaf)? else {
+            return Ok(());
+        };
+        if let Some(kept) = self.leaves.get_mut(entry.unique()) {
+            *kept = old;
+        }
+        Ok(())
+    }
+
     fn rename(
         &mut self,
         alloc: Global,
