@@ -15,7 +15,8 @@ SECONDS_BETWEEN_SAMPLES = 1.0
 
 def keeps_work() -> bool:
     """Whether the gate of this kit keeps what earlier runs passed. Some kits prove all from nothing at each run, and take no `--anew`."""
-    told = subprocess.run(["rt", "help"], stdin=subprocess.DEVNULL, capture_output=True, text=True, errors="replace", check=False)
+    how = {"stdin": subprocess.DEVNULL, "stdout": subprocess.PIPE, "stderr": subprocess.STDOUT}
+    told = subprocess.run(["rt", "help"], text=True, errors="replace", check=False, **how)
     return "--anew" in told.stdout
 
 
