@@ -35,14 +35,14 @@ module _ (names : Names) where
   Says (Some u) (Some parts) = slice_get names.uniques u ≡ Some parts.0
 
   says : (name : List ℕ) (o : Option (List ℕ × Info)) (front ending : ℕ) → StandFor names name o front ending
-      → Says (facts_by names.flags.items front ending).unique o
+      → Says (facts_by front ending).unique o
   says name None front ending s =
-      subst (λ (b : Bool). Says (cond b no_facts (record { unique = Some front; flags = unwrap_or (slice_get names.flags.items ending) None })).unique None)
+      subst (λ (b : Bool). Says (cond b no_facts (record { unique = Some front })).unique None)
       (sym (eq-eqb ending 4294967295 s.0)) tt
   says name (Some parts) front ending s =
       let low = s.0 in
       let some : nat_eq ending 4294967295 ≡ false = grind (arith, nat_tests, low) in
-      subst (λ (b : Bool). Says (cond b no_facts (record { unique = Some front; flags = unwrap_or (slice_get names.flags.items ending) None })).unique (Some parts))
+      subst (λ (b : Bool). Says (cond b no_facts (record { unique = Some front })).unique (Some parts))
       (sym some) s.1
 
   -- a path of a message has the number of its unique name, and another has none
@@ -70,7 +70,7 @@ module _ (names : Names) where
 
   pub path-unique : (p : Path) (s : Spot) → IsSpotOf names p s → IsOfPath p (unique_in names s)
   path-unique p s of =
-      by-name p s.place (facts_by names.flags.items (s.name / 4294967296) (s.name % 4294967296)) of.place (is_message_name p.name) refl
+      by-name p s.place (facts_by (s.name / 4294967296) (s.name % 4294967296)) of.place (is_message_name p.name) refl
       (says p.name (split_of p.name) (s.name / 4294967296) (s.name % 4294967296) of.number)
 
   -- ---- calls

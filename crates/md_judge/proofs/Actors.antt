@@ -1,7 +1,7 @@
 -- What is kept of actors is what a log tells, step by step, as actors and messages get numbers.
 use Rattle.std.proofs.Common.{ℕ, suc, ◌≡◌, ◌↔◌, ◌<◌, ◌≤◌, ◌⊎◌, inl, inr, List, [], ◌++◌, ◌∷◌, Option, Some, None, Bool, true, false, slice_get, length, refl, sym, ap, subst, ◌∙◌, arith}
 use Rattle.std.specs.Prelude.{unwrap_or, if◌then◌else◌}
-use Rattle.std.proofs.lemmas.Bool.{cases_lt}
+use Rattle.std.proofs.lemmas.Bool.{cases_lt, false≢true}
 use Rattle.std.proofs.lemmas.Option.{slice_get_within, slice_get_cases}
 use Rattle.md_dirs.specs.declared.paths.Place.{Place}
 use Rattle.md_log.specs.declared.line.Call.{Call}
@@ -14,16 +14,22 @@ use Rattle.md_judge.specs.declared.judge.about.Actors.{Actors}
 use Rattle.std.specs.BTreeMap.{get, is_at, IsEmpty}
 use Rattle.std.specs.Map.{lookup}
 use Rattle.md_judge.specs.Listings.{message_cmp}
-use Rattle.md_judge.specs.Actors.{begun_by, done_by, no_about, looked_of, looked_by, IsOther, SameAct, Tells, NotesAct, NotesLook, IsUntold, HasTold, RecallsBegun, RecallsDone, LookedAt, MayStand, AreActing}
+use Rattle.md_judge.specs.Actors.{begun_by, done_by, moved_by, move_cmp, no_about, looked_of, looked_by, IsOther, SameAct, Tells, NotesAct, NotesLook, NotesMoves, HasTold, RecallsBegun, RecallsDone, LookedAt, MovedAt, MayStand, AreActing}
 use Rattle.md_judge.specs.Claims.{IsLastLine}
+use Rattle.md_judge.specs.Deeds.{IsUntold, HasUntold, UnlinksMessage, RecallsDeeds}
+use Rattle.md_judge.specs.Law.{AddsMessage, ChangesMessage}
 use Rattle.md_judge.specs.Logs.{Log, Numbered}
+use Rattle.md_judge.specs.Marks.{MarksDeeds}
 use Rattle.md_judge.specs.Open.{Listings}
-use Rattle.md_judge.specs.Told.{IsStep, IsAnswer, ActsOn, Looks}
+use Rattle.md_judge.specs.Told.{at, IsThere, IsStep, IsAnswer, ActsOn, Looks}
 use Rattle.md_judge.specs.Words.{AreApart, KeepWords}
 use Rattle.md_judge.proofs.Longer.{same-step}
+use Rattle.md_judge.proofs.Moving.{Goes, moves-here, moves-on, moves-same}
 use Rattle.md_judge.proofs.Opening.{one-step}
+use Rattle.md_judge.proofs.Prefixes.{same-at}
 use Rattle.md_judge.proofs.Reopened.{one-number, stays}
 use Rattle.md_judge.proofs.Spanning.{begun-on, begun-apart, begun-told, done-on, done-acts, done-told, looks-here, looks-on}
+use Rattle.md_judge.proofs.Untold.{AreDeeds, has-next, has-over, still-deeds, deeds-alike}
 
 -- ---- words that get numbers
 
@@ -90,7 +96,10 @@ pub more-messages : (line : ℕ → ℕ) (actors uniques uniques' : List (List �
 more-messages line actors uniques uniques' l i a m keeps apart are = record {
   begun = λ n actor folder u unique stands stands'. are.begun n actor folder u unique stands (stood uniques uniques' keeps apart u unique stands');
   done = λ n actor folder u unique stands stands'. are.done n actor folder u unique stands (stood uniques uniques' keeps apart u unique stands');
+  deeds = λ n actor folder u unique stands stands'. are.deeds n actor folder u unique stands (stood uniques uniques' keeps apart u unique stands');
   looks = are.looks;
+  moves = λ n actor folder u unique to stands stands'.
+      are.moves n actor folder u unique to stands (stood uniques uniques' keeps apart u unique stands');
 }
 
 -- and as actors do
@@ -99,7 +108,10 @@ pub more-actors : (line : ℕ → ℕ) (actors actors' uniques : List (List ℕ)
 more-actors line actors actors' uniques l i a m keeps apart are = record {
   begun = λ n actor folder u unique stands stands'. are.begun n actor folder u unique (stood actors actors' keeps apart n actor stands) stands';
   done = λ n actor folder u unique stands stands'. are.done n actor folder u unique (stood actors actors' keeps apart n actor stands) stands';
+  deeds = λ n actor folder u unique stands stands'. are.deeds n actor folder u unique (stood actors actors' keeps apart n actor stands) stands';
   looks = λ n actor folder stands. are.looks n actor folder (stood actors actors' keeps apart n actor stands);
+  moves = λ n actor folder u unique to stands stands'.
+      are.moves n actor folder u unique to (stood actors actors' keeps apart n actor stands) stands';
 }
 
 -- what is kept of actors stays as a step's actor and names get numbers
@@ -112,16 +124,17 @@ acting-before line old new is_new actor uniques uniques' l i a m grows apart kee
 
 -- ---- other logs
 
--- two logs have the same steps up to a moment
+-- two logs have the same steps up to a moment, and the same directories before and after each
 abbrev pub SameSteps : Log → Log → ℕ → Type 0
-SameSteps l l' i = (j : ℕ) → j < i → slice_get l'.steps j ≡ slice_get l.steps j
+SameSteps l l' i = (j : ℕ) → j < i
+    → (slice_get l'.steps j ≡ slice_get l.steps j) × (at l' j ≡ at l j) × (at l' (suc j) ≡ at l (suc j))
 
 module _ (line : ℕ → ℕ) (l l' : Log) (i : ℕ) (same : SameSteps l l' i) where
   step-on : (j : ℕ) (x : Step) → j < i → IsStep l j x → IsStep l' j x
-  step-on j x low is = (is.0, same j low ∙ is.1)
+  step-on j x low is = (is.0, (same j low).0 ∙ is.1)
 
   step-back : (j : ℕ) (x : Step) → j < i → IsStep l' j x → IsStep l j x
-  step-back j x low is = (is.0, sym (same j low) ∙ is.1)
+  step-back j x low is = (is.0, sym (same j low).0 ∙ is.1)
 
   module _ (actor : List ℕ) (folder : ℕ) (unique : List ℕ) where
     says-on : (k : ℕ) → k < i → IsAnswer l k actor folder unique → IsAnswer l' k actor folder unique
@@ -167,6 +180,10 @@ module _ (line : ℕ → ℕ) (l l' : Log) (i : ℕ) (same : SameSteps l l' i) w
           (last.0, untold-back j last.0 last.1, last.2, λ k y e from u acts. last.3 k y e from (untold-same k y u) acts);
     }
 
+    deeds-same : (a : About) → RecallsDeeds l i actor folder unique a → RecallsDeeds l' i actor folder unique a
+    deeds-same = deeds-alike l l' i actor folder unique (λ j low. let states = same j low in (states.1, states.2))
+        (λ j x. (untold-same j x, untold-back j x))
+
   module _ (actor : List ℕ) (folder : ℕ) where
     look-on : (j : ℕ) → LookedAt l i actor folder j → LookedAt l' i actor folder j
     look-on j look = (look.0, look.1, step-on j look.0 look.1 look.2, look.3, look.4)
@@ -178,28 +195,64 @@ module _ (line : ℕ → ℕ) (l l' : Log) (i : ℕ) (same : SameSteps l l' i) w
     looks-same None never = λ j look. never j (look-back j look)
     looks-same (Some n) last = (last.0, last.1, look-on last.0 last.2, λ k from look. last.3 k from (look-back k look))
 
+  module _ (actor : List ℕ) (folder : ℕ) (unique : List ℕ) (to : ℕ) where
+    move-on : (j : ℕ) → MovedAt l i actor folder unique to j → MovedAt l' i actor folder unique to j
+    move-on j move =
+        let both = same j move.1 in
+        let was = subst (λ s. IsThere s folder unique) (sym both.1) move.4.0 in
+        let gone = λ (there : IsThere (at l' (suc j)) folder unique). move.4.1 (subst (λ s. IsThere s folder unique) both.2 there) in
+        (move.0, move.1, step-on j move.0 move.1 move.2, move.3, (was, gone), subst (λ s. IsThere s to unique) (sym both.2) move.5)
+
+    move-back : (j : ℕ) → MovedAt l' i actor folder unique to j → MovedAt l i actor folder unique to j
+    move-back j move =
+        let both = same j move.1 in
+        let was = subst (λ s. IsThere s folder unique) both.1 move.4.0 in
+        let gone = λ (there : IsThere (at l (suc j)) folder unique). move.4.1 (subst (λ s. IsThere s folder unique) (sym both.2) there) in
+        (move.0, move.1, step-back j move.0 move.1 move.2, move.3, (was, gone), subst (λ s. IsThere s to unique) both.2 move.5)
+
   -- what is kept of actors is nothing of what comes after
   pub acting-alike : (actors uniques : List (List ℕ)) (a : Actors) (m : Listings) → AreActing line actors uniques l i a m
       → AreActing line actors uniques l' i a m
   acting-alike actors uniques a m are = record {
+    moves = λ n actor folder u unique to stands stands'.
+        moves-same line l l' i actor folder unique to (move-on actor folder unique to) (move-back actor folder unique to)
+        (moved_by a n (folder, u) to) (are.moves n actor folder u unique to stands stands');
     begun = λ n actor folder u unique stands stands'.
         begun-same actor folder unique (begun_by a n (folder, u)) (are.begun n actor folder u unique stands stands');
     done = λ n actor folder u unique stands stands'.
         done-same actor folder unique (done_by a n (folder, u)) (are.done n actor folder u unique stands stands');
+    deeds = λ n actor folder u unique stands stands'.
+        deeds-same actor folder unique (done_by a n (folder, u)) (are.deeds n actor folder u unique stands stands');
     looks = λ n actor folder stands. looks-same actor folder (looked_by m n folder) (are.looks n actor folder stands);
   }
+
+-- where nothing is kept of what was done, the actor did nothing since it last answered
+none-done : (b : About) (l : Log) (i : ℕ) (actor : List ℕ) (folder : ℕ) (unique : List ℕ) → b ≡ no_about
+    → ((P : ℕ → Step → Type 0) → HasUntold l i actor folder unique P → ⊥) → RecallsDeeds l i actor folder unique b
+none-done b l i actor folder unique is none = record {
+  added = by (λ b. b.is_added) refl (λ j x. AddsMessage l j folder unique);
+  changed = by (λ b. b.is_changed) refl (λ j x. ChangesMessage l j folder unique);
+  unlinked = by (λ b. b.is_unlinked) refl (UnlinksMessage l folder unique);
+}
+  where
+    by : (mark : About → Bool) → mark no_about ≡ false → (P : ℕ → Step → Type 0) → (mark b ≡ true) ↔ HasUntold l i actor folder unique P
+    by mark unset P = (λ h. absurd (false≢true (sym unset ∙ ap mark (sym is) ∙ h)), λ h. absurd (none P h))
 
 -- nothing is told of actors before the first step
 pub acting-none : (line : ℕ → ℕ) (actors uniques : List (List ℕ)) (l : Log) (a : Actors) (m : Listings)
     → ((n : ℕ) (k : ℕ × ℕ) → begun_by a n k ≡ None) → ((n : ℕ) (k : ℕ × ℕ) → done_by a n k ≡ no_about)
-    → ((n folder : ℕ) → looked_by m n folder ≡ None) → AreActing line actors uniques l 0 a m
-acting-none line actors uniques l a m begun done looked = record {
+    → ((n : ℕ) (k : ℕ × ℕ) (to : ℕ) → moved_by a n k to ≡ None) → ((n folder : ℕ) → looked_by m n folder ≡ None) → AreActing line actors uniques l 0 a m
+acting-none line actors uniques l a m begun done moved looked = record {
+  moves = λ n actor folder u unique to _ _. subst (λ (o : Option ℕ). IsLastLine line (MovedAt l 0 actor folder unique to) o) (sym (moved n (folder, u) to))
+      (λ j move. let low = move.1 in omega (arith, low));
   begun = λ n actor folder u unique _ _. subst (λ (o : Option ℕ). RecallsBegun line l 0 actor folder unique o) (sym (begun n (folder, u)))
       (λ j x low is own. absurd (omega (arith, low)));
   done = λ n actor folder u unique _ _. subst (λ (b : About). RecallsDone line l 0 actor folder unique b) (sym (done n (folder, u))) (record {
     some = λ some. absurd (omega (arith, some));
     last = λ j r last. let low = last.1.0 in absurd (omega (arith, low));
   });
+  deeds = λ n actor folder u unique _ _. none-done (done_by a n (folder, u)) l 0 actor folder unique (done n (folder, u))
+      (λ P h. let low = h.2.0 in omega (arith, low));
   looks = λ n actor folder _. subst (λ (o : Option ℕ). IsLastLine line (LookedAt l 0 actor folder) o) (sym (looked n folder))
       (λ j look. let low = look.1 in omega (arith, low));
 }
@@ -220,7 +273,11 @@ acting-first line actors uniques l l' a a' m same are =
 pub acting-longer : (line : ℕ → ℕ) (actors uniques : List (List ℕ)) (l : Log) (n : Numbered) (i : ℕ) (a : Actors) (m : Listings) → i ≤ length l.steps
     → AreActing line actors uniques l i a m → AreActing line actors uniques (record l { steps = l.steps ++ n ∷ [] }) i a m
 acting-longer line actors uniques l n i a m low are =
-    acting-alike line l (record l { steps = l.steps ++ n ∷ [] }) i (λ j before. sym (same-step l.steps n j (omega (arith, before, low)))) actors uniques a m are
+    acting-alike line l (record l { steps = l.steps ++ n ∷ [] }) i (λ j before. (
+      sym (same-step l.steps n j (omega (arith, before, low))),
+      same-at l n j (omega (arith, before, low)),
+      same-at l n (suc j) (omega (arith, before, low)),
+    )) actors uniques a m are
 
 -- a call that reads no directory looks at no folder
 pub no-looks : (c : Call) → ((folder : ℕ) (place : Place) (r : Reply) (shown : List (List ℕ)) → c ≡ call.List folder place r shown → ⊥) → (folder : ℕ)
@@ -241,7 +298,7 @@ module _ (line : ℕ → ℕ) (actors uniques : List (List ℕ)) (l : Log) (i : 
     (m m' : Listings) (are : AreActing line actors uniques l i old m)
     (begins : (k : ℕ × ℕ) → begun_by begun me k ≡ Some (unwrap_or (begun_by old me k) now))
     (others : (a : ℕ) (k : ℕ × ℕ) → (a ≡ me → ⊥) → begun_by begun a k ≡ begun_by old a k)
-    (done : (a : ℕ) (k : ℕ × ℕ) → done_by begun a k ≡ done_by old a k) where
+    (done : (a : ℕ) (k : ℕ × ℕ) → done_by begun a k ≡ done_by old a k) (moved : begun.moved ≡ old.moved) where
   -- the call is no answer
   abbrev NoAnswer : Type 0
   NoAnswer = (said : Said) (folder : ℕ) (unique : List ℕ) → x.call ≡ call.Answer said folder unique → ⊥
@@ -289,11 +346,95 @@ module _ (line : ℕ → ℕ) (actors uniques : List (List ℕ)) (l : Log) (i : 
       (done_by begun n (folder, u)) (done_by new n (folder, u)) same
       (subst (λ (b : About). RecallsDone line l i actor folder unique b) (sym (done n (folder, u))) (are.done n actor folder u unique stands stands'))
 
+  -- a mark of a message is set after the step where it was set before, or where this holds of the actor's step
+  abbrev SetsMark : (About → Bool) → ℕ → ℕ × ℕ → Type 0 → Type 0
+  SetsMark mark n k M = (mark (done_by new n k) ≡ true) ↔ ((mark (done_by begun n k) ≡ true) ⊎ ((n ≡ me) × M))
+
+  -- a mark that the step sets just where it does so is of what the log tells
+  mark-next : (mark : About → Bool) (P : ℕ → Step → Type 0) (M : Type 0) (n : ℕ) (actor : List ℕ) (folder u : ℕ) (unique : List ℕ)
+      → MayStand actors n actor → (IsAnswer l i actor folder unique → ⊥) → SetsMark mark n (folder, u) M → (M ↔ P i x)
+      → ((mark (done_by old n (folder, u)) ≡ true) ↔ HasUntold l i actor folder unique P)
+      → ((mark (done_by new n (folder, u)) ≡ true) ↔ HasUntold l (suc i) actor folder unique P)
+  mark-next mark P M n actor folder u unique stands none sets does was =
+      let next = has-next l i x is actor folder unique P none in
+      let same = ap mark (done n (folder, u)) in (
+        λ h. next.1 (elim (sets.0 h) [
+          | inl before ↦ inl (was.0 (sym same ∙ before))
+          | inr now ↦ elim (of-others n actor stands) [ inl own ↦ inr (own.1, does.0 now.1) | inr away ↦ absurd (away.0 now.0) ]
+        ]),
+        λ h. sets.1 (elim (next.0 h) [
+          | inl before ↦ inl (same ∙ was.1 before)
+          | inr now ↦ elim (of-others n actor stands) [ inl own ↦ inr (own.0, does.1 now.1) | inr away ↦ absurd (away.1 now.0) ]
+        ]),
+      )
+
+  -- a step that does not answer about the message
+  deeds-next : (A C U : Type 0) (n : ℕ) (actor : List ℕ) (folder u : ℕ) (unique : List ℕ) → MayStand actors n actor → MayStand uniques u unique
+      → (IsAnswer l i actor folder unique → ⊥) → SetsMark (λ b. b.is_added) n (folder, u) A → SetsMark (λ b. b.is_changed) n (folder, u) C
+      → SetsMark (λ b. b.is_unlinked) n (folder, u) U → AreDeeds l i x folder unique A C U
+      → RecallsDeeds l (suc i) actor folder unique (done_by new n (folder, u))
+  deeds-next A C U n actor folder u unique stands stands' none added changed unlinked does =
+      let was = are.deeds n actor folder u unique stands stands' in record {
+        added = mark-next (λ b. b.is_added) (λ j y. AddsMessage l j folder unique) A n actor folder u unique stands none added does.adds
+            was.added;
+        changed = mark-next (λ b. b.is_changed) (λ j y. ChangesMessage l j folder unique) C n actor folder u unique stands none changed does.changes
+            was.changed;
+        unlinked = mark-next (λ b. b.is_unlinked) (UnlinksMessage l folder unique) U n actor folder u unique stands none unlinked does.unlinks
+            was.unlinked;
+      }
+
+  -- one that leaves directories as they were
+  deeds-still : at l (suc i) ≡ at l i → (n : ℕ) (actor : List ℕ) (folder u : ℕ) (unique : List ℕ) → MayStand actors n actor → MayStand uniques u unique
+      → (IsAnswer l i actor folder unique → ⊥) → done_by new n (folder, u) ≡ done_by begun n (folder, u)
+      → RecallsDeeds l (suc i) actor folder unique (done_by new n (folder, u))
+  deeds-still rests n actor folder u unique stands stands' none same =
+      deeds-next ⊥ ⊥ ⊥ n actor folder u unique stands stands' none (sets (λ b. b.is_added)) (sets (λ b. b.is_changed)) (sets (λ b. b.is_unlinked))
+      (still-deeds l i x rests folder unique)
+    where
+      sets : (mark : About → Bool) → SetsMark mark n (folder, u) ⊥
+      sets mark = (λ h. inl (sym (ap mark same) ∙ h), λ h. elim h [ inl before ↦ ap mark same ∙ before | inr now ↦ absurd now.1 ])
+
   look-next : (m' ≡ m) → ((folder : ℕ) → Looks x.call folder → ⊥) → (n : ℕ) (actor : List ℕ) (folder : ℕ) → MayStand actors n actor
       → IsLastLine line (LookedAt l (suc i) actor folder) (looked_by m' n folder)
   look-next same none n actor folder stands =
       looks-on line l i x is actor folder [] (λ _ looks. none folder looks) (looked_by m' n folder)
       (subst (λ (ls : Listings). IsLastLine line (LookedAt l i actor folder) (looked_by ls n folder)) (sym same) (are.looks n actor folder stands))
+
+  -- ---- moves
+
+  -- a step by which the message does not go while the other folder has it, or which is not the actor's
+  move-rests : (n : ℕ) (actor : List ℕ) (folder u : ℕ) (unique : List ℕ) (to : ℕ) → MayStand actors n actor → MayStand uniques u unique
+      → (x.actor ≡ actor → Goes l i folder unique to → ⊥) → moved_by new n (folder, u) to ≡ moved_by begun n (folder, u) to
+      → IsLastLine line (MovedAt l (suc i) actor folder unique to) (moved_by new n (folder, u) to)
+  move-rests n actor folder u unique to stands stands' none same =
+      subst (λ (o : Option ℕ). IsLastLine line (MovedAt l (suc i) actor folder unique to) o)
+      (sym (same ∙ ap (λ m. get move_cmp m ((n, (folder, u)), to)) moved))
+      (moves-on line l i x is actor folder unique to none (moved_by old n (folder, u) to) (are.moves n actor folder u unique to stands stands'))
+
+  -- a step that changes no path
+  move-still : at l (suc i) ≡ at l i → new.moved ≡ begun.moved → (n : ℕ) (actor : List ℕ) (folder u : ℕ) (unique : List ℕ) (to : ℕ)
+      → MayStand actors n actor → MayStand uniques u unique → IsLastLine line (MovedAt l (suc i) actor folder unique to) (moved_by new n (folder, u) to)
+  move-still still same n actor folder u unique to stands stands' =
+      move-rests n actor folder u unique to stands stands' (λ _ goes. goes.0.1 (subst (λ s. IsThere s folder unique) (sym still) goes.0.0))
+      (ap (λ m. get move_cmp m ((n, (folder, u)), to)) same)
+
+  -- a step by which messages go
+  move-next : (goes : ℕ × ℕ → ℕ → Type 0) → ((k : ℕ × ℕ) (to : ℕ) → goes k to ⊎ (goes k to → ⊥)) → NotesMoves me now goes begun new
+      → ((folder u : ℕ) (unique : List ℕ) → MayStand uniques u unique → (to : ℕ) → goes (folder, u) to ↔ Goes l i folder unique to)
+      → (n : ℕ) (actor : List ℕ) (folder u : ℕ) (unique : List ℕ) (to : ℕ) → MayStand actors n actor → MayStand uniques u unique
+      → IsLastLine line (MovedAt l (suc i) actor folder unique to) (moved_by new n (folder, u) to)
+  move-next goes decided notes same n actor folder u unique to stands stands' = elim (of-others n actor stands) [
+    | inr away ↦ move-rests n actor folder u unique to stands stands' (λ own _. away.1 own) (notes.others n (folder, u) to (λ own _. away.0 own))
+    | inl own ↦ elim (decided (folder, u) to) [
+      | inl is-gone ↦
+          subst (λ (o : Option ℕ). IsLastLine line (MovedAt l (suc i) actor folder unique to) o)
+          (sym (ap (λ (a : ℕ). moved_by new a (folder, u) to) own.0 ∙ notes.here (folder, u) to is-gone ∙ ap Some here))
+          (moves-here line l i x is actor folder unique to own.1 ((same folder u unique stands' to).0 is-gone))
+      | inr stays-there ↦
+          move-rests n actor folder u unique to stands stands' (λ _ goes'. stays-there ((same folder u unique stands' to).1 goes'))
+          (notes.others n (folder, u) to (λ _. stays-there))
+    ]
+  ]
 
   -- ---- a call on paths
 
@@ -301,7 +442,10 @@ module _ (line : ℕ → ℕ) (actors uniques : List (List ℕ)) (l : Log) (i : 
       -- the call acts on this message, or on none
       (acts : (k : ℕ × ℕ) (r : Reply) → on ≡ Some (k, r) → (unique : List ℕ) × (slice_get uniques k.1 ≡ Some unique) × ActsOn x.call k.0 unique r)
       (all : (folder : ℕ) (unique : List ℕ) (e : Reply) → ActsOn x.call folder unique e → (u : ℕ) × (slice_get uniques u ≡ Some unique) × (on ≡ Some ((folder, u), e)))
-      (unread : (folder : ℕ) → Looks x.call folder → ⊥) (apart' : AreApart uniques) (notes : NotesAct me now on begun new) where
+      (unread : (folder : ℕ) → Looks x.call folder → ⊥) (apart' : AreApart uniques) (notes : NotesAct me now on begun new)
+      -- with it these messages go
+      (goes : ℕ × ℕ → ℕ → Type 0) (decided : (k : ℕ × ℕ) (to : ℕ) → goes k to ⊎ (goes k to → ⊥)) (moves : NotesMoves me now goes begun new)
+      (goes-as : (folder u : ℕ) (unique : List ℕ) → MayStand uniques u unique → (to : ℕ) → goes (folder, u) to ↔ Goes l i folder unique to) where
     acted-on : (n : ℕ) (actor : List ℕ) (folder u : ℕ) (unique : List ℕ) → MayStand actors n actor → MayStand uniques u unique
         → RecallsDone line l (suc i) actor folder unique (done_by new n (folder, u))
     acted-on n actor folder u unique stands stands' = elim (of-others n actor stands) [
@@ -349,24 +493,33 @@ module _ (line : ℕ → ℕ) (actors uniques : List (List ℕ)) (l : Log) (i : 
           ]
         ]
 
-    pub acting-called : m' ≡ m → AreActing line actors uniques l (suc i) new m'
-    acting-called same = record {
+    pub acting-called : m' ≡ m → (A C U : ℕ × ℕ → Type 0) → MarksDeeds me A C U begun new
+        → ((folder u : ℕ) (unique : List ℕ) → MayStand uniques u unique → AreDeeds l i x folder unique (A (folder, u)) (C (folder, u)) (U (folder, u)))
+        → AreActing line actors uniques l (suc i) new m'
+    acting-called same A C U marks does = record {
       begun = begun-next none notes.begun;
       done = acted-on;
+      deeds = λ n actor folder u unique stands stands'. deeds-next (A (folder, u)) (C (folder, u)) (U (folder, u)) n actor folder u unique stands stands'
+          (no-answer none actor folder unique) (marks.added n (folder, u)) (marks.changed n (folder, u)) (marks.unlinked n (folder, u))
+          (does folder u unique stands');
       looks = look-next same unread;
+      moves = move-next goes decided moves goes-as;
     }
 
   -- ---- a reading
 
-  pub acting-read : NoAnswer → ((folder : ℕ) (unique : List ℕ) (e : Reply) → ActsOn x.call folder unique e → ⊥) → new ≡ begun → (read : ℕ)
-      → ((folder : ℕ) → Looks x.call folder ↔ (read ≡ folder)) → NotesLook me read now m m' → AreActing line actors uniques l (suc i) new m'
-  acting-read none still same read reads notes = record {
+  pub acting-read : NoAnswer → at l (suc i) ≡ at l i → ((folder : ℕ) (unique : List ℕ) (e : Reply) → ActsOn x.call folder unique e → ⊥)
+      → new ≡ begun → (read : ℕ) → ((folder : ℕ) → Looks x.call folder ↔ (read ≡ folder)) → NotesLook me read now m m' → AreActing line actors uniques l (suc i) new m'
+  acting-read none rests still same read reads notes = record {
+    moves = move-still rests (ap (λ (w : Actors). w.moved) same);
     begun = begun-next none (λ a k. ap (λ (w : Actors). begun_by w a k) same);
     done = λ n actor folder u unique stands stands'. done-next n actor folder u unique stands stands' (no-answer none actor folder unique)
         (λ _ e. still folder unique e) (
           ap (λ (w : Actors). (done_by w n (folder, u)).act) same,
           ap (λ (w : Actors). (done_by w n (folder, u)).was_refused) same,
         );
+    deeds = λ n actor folder u unique stands stands'. deeds-still rests n actor folder u unique stands stands' (no-answer none actor folder unique)
+        (ap (λ (w : Actors). done_by w n (folder, u)) same);
     looks = λ n actor folder stands. elim (of-others n actor stands) [
       | inr away ↦ unseen n actor folder stands (λ own _. away.1 own) (λ same _. away.0 same)
       | inl own ↦ elim (one-number read folder) [
@@ -410,6 +563,11 @@ module _ (line : ℕ → ℕ) (actors uniques : List (List ℕ)) (l : Log) (i : 
       ]
     ]
 
+    -- an own answer about this message is one about it
+    says-this : (actor : List ℕ) (f v : ℕ) (w : List ℕ) → x.actor ≡ actor → (f ≡ folder) × (v ≡ u) × (unique ≡ w) → IsAnswer l i actor f w
+    says-this actor f v w own this = subst (λ (g : ℕ). IsAnswer l i actor g w) (sym this.0)
+        (subst (λ (t : List ℕ). IsAnswer l i actor folder t) this.2 (answers actor own))
+
     begun-answered : (n : ℕ) (actor : List ℕ) (f v : ℕ) (w : List ℕ) → MayStand actors n actor → MayStand uniques v w
         → RecallsBegun line l (suc i) actor f w (begun_by new n (f, v))
     begun-answered n actor f v w stands stands' = elim (of-others n actor stands) [
@@ -420,9 +578,8 @@ module _ (line : ℕ → ℕ) (actors uniques : List (List ℕ)) (l : Log) (i : 
         | inl this ↦
             let o-is : begun_by new n (f, v) ≡ None = ap (λ (a : ℕ). begun_by new a (f, v)) own.0
             ∙ ap (λ (g : ℕ). begun_by new me (g, v)) this.0 ∙ ap (λ (b : ℕ). begun_by new me (folder, b)) this.1 ∙ tells.begun in
-            let answer : IsAnswer l i actor f w = subst (λ (g : ℕ). IsAnswer l i actor g w) (sym this.0)
-            (subst (λ (t : List ℕ). IsAnswer l i actor folder t) this.2 (answers actor own.1)) in
-            subst (λ (o : Option ℕ). RecallsBegun line l (suc i) actor f w o) (sym o-is) (begun-told line l i x is actor f w answer)
+            subst (λ (o : Option ℕ). RecallsBegun line l (suc i) actor f w o) (sym o-is)
+            (begun-told line l i x is actor f w (says-this actor f v w own.1 this))
         | inr away ↦
             let before = begun-mine n actor f v w stands stands' own.0 own.1 (λ says'. away.1 (about actor f w says')) in
             let some : Some (unwrap_or (begun_by old me (f, v)) now) ≡ begun_by begun n (f, v) =
@@ -433,24 +590,26 @@ module _ (line : ℕ → ℕ) (actors uniques : List (List ℕ)) (l : Log) (i : 
       ]
     ]
 
+    -- after it nothing is kept of what was done
+    over : (n f v : ℕ) (w : List ℕ) → n ≡ me → (f ≡ folder) × (v ≡ u) × (unique ≡ w) → done_by new n (f, v) ≡ no_about
+    over n f v w same this = ap (λ (a : ℕ). done_by new a (f, v)) same ∙ ap (λ (g : ℕ). done_by new me (g, v)) this.0
+        ∙ ap (λ (b : ℕ). done_by new me (folder, b)) this.1 ∙ tells.done
+
+    own-says : (actor : List ℕ) (f : ℕ) (w : List ℕ) → IsAnswer l i actor f w → x.actor ≡ actor
+    own-says actor f w says' = ap (λ (s : Step). s.actor) (sym (one-step l i says'.0 x says'.2 is)) ∙ says'.3
+
     done-answered : (n : ℕ) (actor : List ℕ) (f v : ℕ) (w : List ℕ) → MayStand actors n actor → MayStand uniques v w
         → RecallsDone line l (suc i) actor f w (done_by new n (f, v))
     done-answered n actor f v w stands stands' = elim (of-others n actor stands) [
-      | inr away ↦ rests (λ same _ _. away.0 same) (λ says'. away.1 (own-says says'))
+      | inr away ↦ rests (λ same _ _. away.0 same) (λ says'. away.1 (own-says actor f w says'))
       | inl own ↦ elim (about-this f v w stands') [
         | inl this ↦
-            let b-is : done_by new n (f, v) ≡ no_about = ap (λ (a : ℕ). done_by new a (f, v)) own.0
-            ∙ ap (λ (g : ℕ). done_by new me (g, v)) this.0 ∙ ap (λ (b : ℕ). done_by new me (folder, b)) this.1 ∙ tells.done in
-            let answer : IsAnswer l i actor f w = subst (λ (g : ℕ). IsAnswer l i actor g w) (sym this.0)
-            (subst (λ (t : List ℕ). IsAnswer l i actor folder t) this.2 (answers actor own.1)) in
-            done-told line l i x is actor f w answer (done_by new n (f, v)) (ap (λ (b : About). b.act) b-is)
+            done-told line l i x is actor f w (says-this actor f v w own.1 this) (done_by new n (f, v))
+            (ap (λ (b : About). b.act) (over n f v w own.0 this))
         | inr away ↦ rests (λ _ g b. away.0 g b) (λ says'. away.1 (about actor f w says'))
       ]
     ]
       where
-        own-says : IsAnswer l i actor f w → x.actor ≡ actor
-        own-says says' = ap (λ (s : Step). s.actor) (sym (one-step l i says'.0 x says'.2 is)) ∙ says'.3
-
         still : (e : Reply) → ActsOn x.call f w e → ⊥
         still e acts = subst (λ (c : Call). ActsOn c f w e) says acts
 
@@ -459,9 +618,25 @@ module _ (line : ℕ → ℕ) (actors uniques : List (List ℕ)) (l : Log) (i : 
             let same = tells.stays n (f, v) other in
             done-next n actor f v w stands stands' none (λ _ e. still e) (ap (λ (b : About). b.act) same, ap (λ (b : About). b.was_refused) same)
 
-    pub acting-answered : m' ≡ m → AreActing line actors uniques l (suc i) new m'
-    acting-answered same = record {
+    deeds-answered : at l (suc i) ≡ at l i → (n : ℕ) (actor : List ℕ) (f v : ℕ) (w : List ℕ) → MayStand actors n actor → MayStand uniques v w
+        → RecallsDeeds l (suc i) actor f w (done_by new n (f, v))
+    deeds-answered still n actor f v w stands stands' = elim (of-others n actor stands) [
+      | inr away ↦ rests (λ same _ _. away.0 same) (λ says'. away.1 (own-says actor f w says'))
+      | inl own ↦ elim (about-this f v w stands') [
+        | inl this ↦ none-done (done_by new n (f, v)) l (suc i) actor f w (over n f v w own.0 this)
+            (λ P. has-over l i x is actor f w P (says-this actor f v w own.1 this))
+        | inr away ↦ rests (λ _ g b. away.0 g b) (λ says'. away.1 (about actor f w says'))
+      ]
+    ]
+      where
+        rests : IsOther n (f, v) me (folder, u) → (IsAnswer l i actor f w → ⊥) → RecallsDeeds l (suc i) actor f w (done_by new n (f, v))
+        rests other none = deeds-still still n actor f v w stands stands' none (tells.stays n (f, v) other)
+
+    pub acting-answered : at l (suc i) ≡ at l i → new.moved ≡ begun.moved → m' ≡ m → AreActing line actors uniques l (suc i) new m'
+    acting-answered still stays' same = record {
+      moves = move-still still stays';
       begun = begun-answered;
       done = done-answered;
+      deeds = deeds-answered still;
       looks = look-next same (λ f looks. subst (λ (c : Call). Looks c f) says looks);
     }

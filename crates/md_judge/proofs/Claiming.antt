@@ -9,7 +9,7 @@ use Rattle.md_log.specs.declared.line.Said.TheVariants as said
 use Rattle.md_log.specs.declared.line.Call.TheVariants as call
 use Rattle.md_log.specs.declared.line.Step.{Step}
 use Rattle.md_judge.specs.declared.judge.claims.Claim.{Claim}
-use Rattle.md_judge.specs.declared.judge.mail.Held.{Held}
+use Rattle.md_judge.specs.declared.judge.held.Held.{Held}
 use Rattle.md_judge.specs.declared.judge.mail.Presence.{Presence}
 use Rattle.md_judge.specs.Logs.{Log}
 use Rattle.md_judge.specs.Told.{at, IsThere, IsSpan}
@@ -110,7 +110,7 @@ module _ (line : ℕ → ℕ) (rises : (a b : ℕ) → a < b → line a < line b
     absent-at (Some m) recalls found = elim (cases_lt 0 m.count) [
       | inl some ↦ elim found [
         | inl gone ↦ absurd (omega (arith, some, gone))
-        | inr low ↦ came m.since low (recalls.1 some)
+        | inr low ↦ (recalls.1 some first ordered).0 low
       ]
       | inr gone ↦ (i, ordered, omega arith, λ there. let some = recalls.0.1 there in omega (arith, some, gone))
     ]
@@ -131,7 +131,7 @@ module _ (line : ℕ → ℕ) (rises : (a b : ℕ) → a < b → line a < line b
     at-absent : (m : Option Presence) → RecallsPresence line P i m → Missing → WasAbsent (line first) m
     at-absent None recalls missing = tt
     at-absent (Some m) recalls missing = elim (cases_lt 0 m.count) [
-      | inl some ↦ inr (after m.since (recalls.1 some) missing)
+      | inl some ↦ inr ((recalls.1 some first ordered).1 missing)
       | inr gone ↦ inl (omega (arith, gone))
     ]
 

@@ -98,15 +98,15 @@ read-goes-on Cur r new both =
 -- the number of a name has that of its unique part, where the name is a message's
 module _ (names : Names) (name : List ℕ) where
   facts-some : (front ending : ℕ) (parts : List ℕ × Info) → StandFor names name (Some parts) front ending
-      → (facts_by names.flags.items front ending).unique ≡ Some front
+      → (facts_by front ending).unique ≡ Some front
   facts-some front ending parts s =
       let low = s.0 in
-      ap (λ b. (cond b no_facts (said names front ending)).unique)
+      ap (λ b. (cond b no_facts (said front)).unique)
       (ne_eqb ending 4294967295 (λ same. omega (arith, low, same)))
 
-  facts-none : (front ending : ℕ) → StandFor names name None front ending → (facts_by names.flags.items front ending).unique ≡ None
+  facts-none : (front ending : ℕ) → StandFor names name None front ending → (facts_by front ending).unique ≡ None
   facts-none front ending s =
-      ap (λ b. (cond b no_facts (said names front ending)).unique)
+      ap (λ b. (cond b no_facts (said front)).unique)
       (eq-eqb ending 4294967295 s.0)
 
   unique-some : (b : Bool) (n : ℕ) → is_message_name name ≡ b → b ≡ true → IsNumber names name n → (name_facts names n).unique ≡ Some (n / 4294967296)

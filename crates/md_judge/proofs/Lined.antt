@@ -35,7 +35,7 @@ about-other k m other = by (is_about (Some k) m) refl
     by false is = refl
 
 -- whether two actors and messages are one
-one-key : (a : ℕ) (k : ℕ × ℕ) (b : ℕ) (m : ℕ × ℕ) → ((a ≡ b) × (k ≡ m)) ⊎ IsOther a k b m
+pub one-key : (a : ℕ) (k : ℕ × ℕ) (b : ℕ) (m : ℕ × ℕ) → ((a ≡ b) × (k ≡ m)) ⊎ IsOther a k b m
 one-key a k b m = elim (one-number a b) [
   | inr away ↦ inr (λ same _ _. away same)
   | inl same ↦ elim (one-number k.0 m.0) [

@@ -1,9 +1,18 @@
--- What is kept of the ends of names: whether a message's name shows the flag T.
-use Rattle.std.proofs.Common.{ℕ, zero, suc, ◌≡◌, ◌↔◌, ◌<◌, ◌+◌, ◌/◌, ◌%◌, ◌++◌, ◌||◌, not, inl, inr, Bool, true, false, cond, List, [], ◌∷◌, Option, Some, None, is_some, IsTrue, unwrap_or, slice_get, length, take, drop, refl, sym, ap, subst, ◌∙◌, arith}
+-- What is kept of the ends of names: whether a message's name shows the flag T, and which ends show the same flags.
+use Rattle.std.proofs.Common.{ℕ, zero, suc, ◌≡◌, ◌↔◌, ◌<◌, ◌+◌, ◌/◌, ◌%◌, ◌++◌, ◌||◌, ◌⊎◌, Global, not, inl, inr, Bool, true, false, cond, List, [], ◌∷◌, Option, Some, None, is_some, nat_eq, IsTrue, unwrap_or, slice_get, length, take, drop, refl, sym, ap, subst, ◌∙◌, arith}
 use Rattle.std.specs.Prelude.{if◌then◌else◌}
 use Rattle.std.specs.List.{list_any, prefix_len, position_or_len, after_first}
+use Rattle.std.specs.BTreeMap.{BTreeMap, get}
+use Rattle.std.specs.Cmp.{unsigned_tied}
 use Rattle.std.specs.FinSet as set
+use Rattle.std.specs.Option.{option_map}
+use Rattle.std.specs.Ordering.{nat_cmp, eq_by_cmp}
+use Rattle.std.specs.declared.vec.Vec.{Vec}
+use Rattle.std.proofs.lemmas.Bool.{eq-eqb, eqb-true, ne_eqb, false≢true}
+use Rattle.std.proofs.lemmas.List.{length_push}
 use Rattle.std.proofs.lemmas.List.Folds.{length-prefix_len}
+use Rattle.std.proofs.lemmas.Option.{slice_get_within}
+use Rattle.md_dirs.proofs.Sound.{by_number}
 use Rattle.md_name.specs.Letters.{Set}
 use Rattle.md_name.specs.declared.info.Info.{Info}
 use Rattle.md_name.specs.Names.{is_colon, unique_of, info_text, info_by, info_of, flags_of, split_of, is_message_name}
@@ -11,9 +20,13 @@ use Rattle.md_dirs.specs.declared.paths.Path.{Path}
 use Rattle.md_judge.specs.declared.judge.directories.Spot.{Spot}
 use Rattle.md_judge.specs.declared.judge.tables.Names.{Names}
 use Rattle.md_judge.specs.Files.{is_trashed_in}
+use Rattle.md_judge.specs.Flags.{bits_of}
 use Rattle.md_judge.specs.Law.{IsTrashed}
-use Rattle.md_judge.specs.Names.{StandFor, has_trashed, AreMarked}
+use Rattle.md_judge.specs.Listings.{IsIn}
+use Rattle.md_judge.specs.Names.{StandFor, has_trashed, alike_in, AddsAlike, NotesAlike, AreMarked}
 use Rattle.md_judge.specs.Recalled.{IsSpotOf}
+use Rattle.md_judge.proofs.Alike.{get-push}
+use Rattle.md_judge.proofs.Cuts.{pushed}
 use Rattle.md_judge.proofs.Numbers.{split_is}
 
 -- ---- the end of a name says what the name says
@@ -85,3 +98,150 @@ trashed-is names p q of marked shown =
         let rest : info_of (drop (length parts.0) p.name) ≡ info_of p.name =
         ap (λ (u : List ℕ). info_of (drop (length u) p.name)) (split_is p.name parts is) ∙ info-rest p.name in
         ap (λ o. unwrap_or o false) (marked.each (q.name % 4294967296) (drop (length parts.0) p.name) s.2) ∙ ap (λ i. has_trashed (flags_of i)) rest
+
+-- ---- one more end
+
+-- the last value of a list
+last-there : {X : Type 0} (xs : List X) (x : X) → slice_get (xs ++ x ∷ []) (length xs) ≡ Some x
+last-there [] x = refl
+last-there (y ∷ xs) x = last-there xs x
+
+-- a list that may get one number more has that number, or has what it had
+more-in : (b : Bool) (xs : List ℕ) (n k : ℕ) → IsIn (cond b (xs ++ n ∷ []) xs) k ↔ (IsIn xs k ⊎ ((b ≡ true) × (k ≡ n)))
+more-in false xs n k = (λ some. inl some, λ either. elim either [ inl some ↦ some | inr more ↦ absurd (false≢true more.0) ])
+more-in true xs n k = (
+  λ some. elim (pushed xs n some.0 k some.1) [ inl before ↦ inl (some.0, before) | inr last ↦ inr (refl, sym last.1) ],
+  λ either. elim either [
+    | inl before ↦ (before.0, get-push xs n before.0 (slice_get_within xs before.0 k before.1) ∙ before.1)
+    | inr last ↦ (length xs, last-there xs n ∙ ap Some (sym last.1))
+  ],
+)
+
+-- what is kept under a number that was taken away is what is put there then
+pub put-again : (old mid new : BTreeMap ℕ (Vec ℕ Global)) (bits : ℕ) (put : Vec ℕ Global)
+    → ((q : ℕ) → get nat_cmp mid q ≡ cond (eq_by_cmp nat_cmp bits q) None (get nat_cmp old q))
+    → ((q : ℕ) → get nat_cmp new q ≡ cond (eq_by_cmp nat_cmp bits q) (Some put) (get nat_cmp mid q))
+    → (q : ℕ) → get nat_cmp new q ≡ cond (eq_by_cmp nat_cmp bits q) (Some put) (get nat_cmp old q)
+put-again old mid new bits put gone come q = come q ∙ by (eq_by_cmp nat_cmp bits q) (gone q)
+  where
+    by : (b : Bool) → get nat_cmp mid q ≡ cond b None (get nat_cmp old q) → cond b (Some put) (get nat_cmp mid q) ≡ cond b (Some put) (get nat_cmp old q)
+    by true e = refl
+    by false e = e
+
+-- the ends that show the flags, where there are some, and else none
+pub taken-items : (o : Option (Vec ℕ Global)) (none : Vec ℕ Global) → none.items ≡ []
+    → (unwrap_or o none).items ≡ unwrap_or (option_map (λ (endings : Vec ℕ Global). endings.items) o) []
+taken-items None none empty = empty
+taken-items (Some endings) none empty = refl
+
+alike-same : (old new : Names) → new.alike ≡ old.alike → (bits : ℕ) → alike_in new bits ≡ alike_in old bits
+alike-same old new same bits = λ i. unwrap_or (option_map (λ (endings : Vec ℕ Global). endings.items) (get nat_cmp (same i) bits)) []
+
+pub notes-from : (o : Option Set) (number : ℕ) (old mid new : Names) → mid.alike ≡ old.alike → NotesAlike o number mid new → NotesAlike o number old new
+notes-from None number old mid new same noted = λ b. noted b ∙ alike-same old mid same b
+notes-from (Some flags) number old mid new same noted = λ b.
+    noted b ∙ ap (λ (xs : List ℕ). cond (nat_eq b (bits_of flags)) (xs ++ number ∷ []) xs) (alike-same old mid same b)
+
+-- an end that is put with those that show the flags is one more of them
+module _ (old new : Names) (bits number : ℕ) (put : Vec ℕ Global)
+    (updates : (q : ℕ) → get nat_cmp new.alike q ≡ cond (eq_by_cmp nat_cmp bits q) (Some put) (get nat_cmp old.alike q))
+    (is : put.items ≡ alike_in old bits ++ number ∷ []) where
+  items : Option (Vec ℕ Global) → List ℕ
+  items o = unwrap_or (option_map (λ (endings : Vec ℕ Global). endings.items) o) []
+
+  pub alike-put : AddsAlike bits number old new
+  unfolding items
+  alike-put b = by_number b bits
+      (λ same.
+      ap items (updates b) ∙ ap (λ t. items (cond t (Some put) (get nat_cmp old.alike b))) (unsigned_tied bits b ∙ eq-eqb bits b (sym same)) ∙ is
+      ∙ ap (λ n. alike_in old n ++ number ∷ []) (sym same)
+      ∙ sym (ap (λ t. cond t (alike_in old b ++ number ∷ []) (alike_in old b)) (eq-eqb b bits same)))
+      (λ far.
+      ap items (updates b) ∙ ap (λ t. items (cond t (Some put) (get nat_cmp old.alike b))) (unsigned_tied bits b ∙ ne_eqb bits b (λ same. far (sym same)))
+      ∙ sym (ap (λ t. cond t (alike_in old b ++ number ∷ []) (alike_in old b)) (ne_eqb b bits far)))
+
+-- what is kept of ends goes on to be what they say with one end more
+module _ (old new : Names) (ending : List ℕ) (marked : AreMarked old) (ends : new.endings ≡ old.endings ++ ending ∷ [])
+    (trashed : new.trashed.items ≡ old.trashed.items ++ has_trashed (flags_of (info_of ending)) ∷ [])
+    (noted : NotesAlike (flags_of (info_of ending)) (length old.endings) old new) where
+  there : (k : ℕ) (e : List ℕ) → slice_get old.endings k ≡ Some e → slice_get new.endings k ≡ Some e
+  there k e is = ap (λ es. slice_get es k) ends ∙ get-push old.endings ending k (slice_get_within old.endings k e is) ∙ is
+
+  last : slice_get new.endings (length old.endings) ≡ Some ending
+  last = ap (λ es. slice_get es (length old.endings)) ends ∙ last-there old.endings ending
+
+  from : (k : ℕ) (e : List ℕ) → slice_get new.endings k ≡ Some e → (slice_get old.endings k ≡ Some e) ⊎ ((k ≡ length old.endings) × (ending ≡ e))
+  from k e is = pushed old.endings ending k e (sym (ap (λ es. slice_get es k) ends) ∙ is)
+
+  marked-each : (k : ℕ) (e : List ℕ) → slice_get new.endings k ≡ Some e → slice_get new.trashed.items k ≡ Some (has_trashed (flags_of (info_of e)))
+  marked-each k e is =
+      let mark = has_trashed (flags_of (info_of ending)) in
+      elim (from k e is) [
+        | inl before ↦
+            let low = slice_get_within old.endings k e before in
+            let long = marked.long in
+            ap (λ ts. slice_get ts k) trashed ∙ get-push old.trashed.items mark k (omega (arith, low, long)) ∙ marked.each k e before
+        | inr now ↦
+            ap (λ ts. slice_get ts k) trashed ∙ ap (slice_get (old.trashed.items ++ mark ∷ [])) (now.0 ∙ sym marked.long)
+            ∙ last-there old.trashed.items mark ∙ ap (λ (v : List ℕ). Some (has_trashed (flags_of (info_of v)))) now.1
+      ]
+
+  abbrev Showing : Names → ℕ → ℕ → Type 0
+  Showing names bits k = (e : List ℕ) × (flags : Set) × (slice_get names.endings k ≡ Some e) × (flags_of (info_of e) ≡ Some flags) × (bits_of flags ≡ bits)
+
+  alike-by : (o : Option Set) → flags_of (info_of ending) ≡ o → NotesAlike o (length old.endings) old new → (bits k : ℕ)
+      → IsIn (alike_in new bits) k ↔ Showing new bits k
+  alike-by None none same bits k = (
+    λ some.
+        let was = (marked.alike bits k).0 (subst (λ xs. IsIn xs k) (same bits) some) in
+        (was.0, was.1, there k was.0 was.2, was.3, was.4),
+    λ shows. elim (from k shows.0 shows.2) [
+      | inl before ↦ subst (λ xs. IsIn xs k) (sym (same bits)) ((marked.alike bits k).1 (shows.0, shows.1, before, shows.3, shows.4))
+      | inr now ↦ absurd (let both : None ≡ Some shows.1 = sym none ∙ ap (λ (v : List ℕ). flags_of (info_of v)) now.1 ∙ shows.3 in cc both)
+    ],
+  )
+  alike-by (Some flags) is more bits k = (
+    λ some. elim ((more-in (nat_eq bits (bits_of flags)) (alike_in old bits) (length old.endings) k).0 (subst (λ xs. IsIn xs k) (more bits) some)) [
+      | inl before ↦
+          let was = (marked.alike bits k).0 before in
+          (was.0, was.1, there k was.0 was.2, was.3, was.4)
+      | inr now ↦ (
+        ending,
+        flags,
+        ap (slice_get new.endings) now.1 ∙ last,
+        is,
+        sym (eqb-true bits (bits_of flags) now.0),
+      )
+    ],
+    λ shows. subst (λ xs. IsIn xs k) (sym (more bits))
+        ((more-in (nat_eq bits (bits_of flags)) (alike_in old bits) (length old.endings) k).1 (elim (from k shows.0 shows.2) [
+          | inl before ↦ inl ((marked.alike bits k).1 (shows.0, shows.1, before, shows.3, shows.4))
+          | inr now ↦
+              let both : Some flags ≡ Some shows.1 = sym is ∙ ap (λ (v : List ℕ). flags_of (info_of v)) now.1 ∙ shows.3 in
+              let one : flags ≡ shows.1 = cc both in
+              inr (eq-eqb bits (bits_of flags) (sym (ap bits_of one ∙ shows.4)), now.0)
+        ])),
+  )
+
+  pub marked-more : AreMarked new
+  marked-more = record {
+    long = ap length trashed ∙ length_push old.trashed.items (has_trashed (flags_of (info_of ending))) ∙ ap (λ n. n + 1) marked.long
+        ∙ sym (ap length ends ∙ length_push old.endings ending);
+    each = marked-each;
+    alike = alike-by (flags_of (info_of ending)) refl noted;
+  }
+
+-- and so it does without one
+pub marked-same : (old new : Names) → new.endings ≡ old.endings → new.trashed ≡ old.trashed → new.alike ≡ old.alike → AreMarked old → AreMarked new
+marked-same old new ends trashed alike marked = record {
+  long = (λ i. length (trashed i).items) ∙ marked.long ∙ sym (ap length ends);
+  each = λ k e is. (λ i. slice_get (trashed i).items k) ∙ marked.each k e (sym (ap (λ es. slice_get es k) ends) ∙ is);
+  alike = λ bits k.
+      let same = alike-same old new alike bits in (
+        λ some.
+            let was = (marked.alike bits k).0 (subst (λ xs. IsIn xs k) same some) in
+            (was.0, was.1, ap (λ es. slice_get es k) ends ∙ was.2, was.3, was.4),
+        λ shows. subst (λ xs. IsIn xs k) (sym same)
+            ((marked.alike bits k).1 (shows.0, shows.1, sym (ap (λ es. slice_get es k) ends) ∙ shows.2, shows.3, shows.4)),
+      );
+}

@@ -14,9 +14,9 @@ use Rattle.md_judge.specs.Names.{StandFor, AreNumbered}
 abbrev pub ArePartsApart : Names → Type 0
 ArePartsApart names = AreApart names.uniques × AreApart names.endings × AreApart names.others
 
--- and those that come first in a name are few
+-- and they are few
 abbrev pub AreFewParts : Names → Type 0
-AreFewParts names = (length names.uniques ≤ 4000000000) × (length names.others ≤ 4000000000)
+AreFewParts names = (length names.uniques ≤ 4000000000) × (length names.others ≤ 4000000000) × (length names.endings ≤ 4000000000)
 
 -- a number by its two parts
 pub two_parts : (m n : ℕ) → m / 4294967296 ≡ n / 4294967296 → m % 4294967296 ≡ n % 4294967296 → m ≡ n
@@ -67,4 +67,5 @@ module _ (names : Names) where
     one = λ a m n sm sn. one_number a (split_of a) m n apart sm sn;
     few = λ a n s. few_numbers few a (split_of a) n s;
     uniques = apart.0;
+    words = (few.0, few.2);
   }

@@ -91,7 +91,7 @@ opening-told lines l l' known same told = told-alike lines l l' 0 beginning know
 -- ---- what is found
 
 -- the last step is the one more
-step-last : {A : Type 0} (xs : List A) (y : A) → slice_get (xs ++ y ∷ []) (length xs) ≡ Some y
+pub step-last : {A : Type 0} (xs : List A) (y : A) → slice_get (xs ++ y ∷ []) (length xs) ≡ Some y
 step-last [] y = refl
 step-last (x ∷ xs) y = step-last xs y
 

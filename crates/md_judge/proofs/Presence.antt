@@ -172,7 +172,3 @@ module _ (names : Names) where
   makes-present c old new makes = present-on old makes.first new (add-present c.added old makes.first makes.adds)
       (present-on makes.first makes.second new (turn-present c.turned makes.first makes.second makes.turns)
       (take-present c.taken makes.second new makes.takes))
-
--- since when paths show flags says nothing of messages
-pub held-same : (made noted mid : Mail) → noted ≡ record made { held = noted.held } → mid ≡ noted → mid ≡ record made { held = mid.held }
-held-same made noted mid rest same = same ∙ rest ∙ (λ k. record made { held = (sym same k).held })

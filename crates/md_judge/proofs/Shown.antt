@@ -1,8 +1,8 @@
 -- What a change of paths does to what is kept of a file: by how many paths readers see it, and whether it was a message in cur.
-use Rattle.std.proofs.Common.{ℕ, ◌≡◌, ◌≢◌, ◌↔◌, ◌+◌, ◌-◌, ◌/◌, ◌%◌, ◌&&◌, ◌||◌, not, ◌⊎◌, inl, inr, Bool, true, false, cond, List, Option, Some, None, is_some, nat_eq, slice_get, length, refl, sym, ap, subst, ◌∙◌, arith}
+use Rattle.std.proofs.Common.{ℕ, ◌≡◌, ◌≢◌, ◌↔◌, ◌+◌, ◌-◌, ◌/◌, ◌%◌, ◌&&◌, ◌||◌, not, ◌⊎◌, inl, inr, Bool, true, false, cond, List, Option, Some, None, is_some, nat_eq, length, refl, sym, ap, subst, ◌∙◌, arith}
 use Rattle.std.proofs.lemmas.Bool.{eq-eqb}
 use Rattle.std.proofs.lemmas.Bool.Decides.{nat_tests}
-use Rattle.std.specs.Option.{option_map, unwrap_or}
+use Rattle.std.specs.Option.{option_map}
 use Rattle.md_name.specs.declared.info.Info.{Info}
 use Rattle.md_name.specs.Names.{split_of, unique_of, info_of, is_message_name}
 use Rattle.md_dirs.specs.State.{State, file_at}
@@ -29,15 +29,15 @@ use Rattle.md_judge.proofs.Named.{now-names, names-now, now-leaves, leaves-now}
 -- ---- whether a spot's path names a message
 
 -- what the two parts of a message's name say
-abbrev pub said : Names → ℕ → ℕ → NameFacts
-said names front ending = record { unique = Some front; flags = unwrap_or (slice_get names.flags.items ending) None }
+abbrev pub said : ℕ → NameFacts
+said front = record { unique = Some front }
 
 -- where a name's number has an end it is a message's
 by-parts : (names : Names) (place : Place) (name : List ℕ) (o : Option (List ℕ × Info)) (front ending : ℕ) → StandFor names name o front ending
-    → is_some (unique_by place (facts_by names.flags.items front ending)) ≡ (not (is_tmp place) && is_some o)
+    → is_some (unique_by place (facts_by front ending)) ≡ (not (is_tmp place) && is_some o)
 by-parts names place name None front ending s =
     let none : nat_eq ending 4294967295 ≡ true = eq-eqb ending 4294967295 s.0 in
-    ap (λ b. is_some (unique_by place (cond b no_facts (said names front ending)))) none ∙ by place
+    ap (λ b. is_some (unique_by place (cond b no_facts (said front)))) none ∙ by place
   where
     by : (q : Place) → is_some (unique_by q no_facts) ≡ (not (is_tmp q) && false)
     by Tmp = refl
@@ -46,9 +46,9 @@ by-parts names place name None front ending s =
 by-parts names place name (Some parts) front ending s =
     let low = s.0 in
     let some : nat_eq ending 4294967295 ≡ false = grind (arith, nat_tests, low) in
-    ap (λ b. is_some (unique_by place (cond b no_facts (said names front ending)))) some ∙ by place
+    ap (λ b. is_some (unique_by place (cond b no_facts (said front)))) some ∙ by place
   where
-    by : (q : Place) → is_some (unique_by q (said names front ending)) ≡ (not (is_tmp q) && true)
+    by : (q : Place) → is_some (unique_by q (said front)) ≡ (not (is_tmp q) && true)
     by Tmp = refl
     by New = refl
     by Cur = refl

@@ -6,8 +6,9 @@ use Rattle.md_log.specs.declared.line.Reply.{Reply}
 use Rattle.md_log.specs.declared.line.Reply.TheVariants as reply
 use Rattle.md_log.specs.declared.line.Step.{Step}
 use Rattle.md_judge.specs.declared.judge.about.About.{About}
-use Rattle.md_judge.specs.Actors.{SameAct, IsUntold, HasBegun, RecallsBegun, IsLatest, RecallsDone, LookedAt}
+use Rattle.md_judge.specs.Actors.{SameAct, HasBegun, RecallsBegun, IsLatest, RecallsDone, LookedAt}
 use Rattle.md_judge.specs.Claims.{IsLastAct, RecallsActs, IsLastLine}
+use Rattle.md_judge.specs.Deeds.{IsUntold}
 use Rattle.md_judge.specs.Law.{turn}
 use Rattle.md_judge.specs.Logs.{Log}
 use Rattle.md_judge.specs.Told.{IsStep, IsAnswer, IsSpan, IsOwn, ActsOn, Looks}
@@ -15,17 +16,33 @@ use Rattle.md_judge.proofs.Opening.{one-step}
 
 -- ---- spans
 
+-- the steps of a span that are the actor's own are those since its last answer
+module _ (l : Log) (i : ℕ) (x : Step) (actor : List ℕ) (folder : ℕ) (unique : List ℕ) (first : ℕ) (mine : x.actor ≡ actor)
+    (span : IsSpan l first i actor folder unique) where
+  pub own-untold : (j : ℕ) (y : Step) → IsOwn l first i x.actor j y → IsUntold l i actor folder unique j y
+  own-untold j y own = (own.1, own.2, own.3 ∙ mine, λ k from low. let start = own.0 in span.goes_on k (omega (arith, from, start)) low)
+
+  pub untold-own : (j : ℕ) (y : Step) → IsUntold l i actor folder unique j y → IsOwn l first i x.actor j y
+  untold-own j y u = elim (cases_lt j first) [
+    | inl lt ↦
+        let told = span.begins j y lt u.1 u.2 in
+        let up = told.2 in
+        let end = span.ordered in
+        absurd (u.3 told.0 told.1 (omega (arith, up, end)) told.3)
+    | inr from ↦ (from, u.0, u.1, u.2 ∙ sym mine)
+  ]
+
 module _ (line : ℕ → ℕ) (l : Log) (i : ℕ) (x : Step) (is : IsStep l i x) (actor : List ℕ) (folder : ℕ) (unique : List ℕ) where
   abbrev Answers : ℕ → Type 0
   Answers k = IsAnswer l k actor folder unique
 
-  before : (j : ℕ) → j < suc i → (j < i) ⊎ (j ≡ i)
+  pub before : (j : ℕ) → j < suc i → (j < i) ⊎ (j ≡ i)
   before j low = elim (cases_lt j i) [ inl lt ↦ inl lt | inr high ↦ inr (omega (arith, high, low)) ]
 
-  own-here : (j : ℕ) (y : Step) → j ≡ i → IsStep l j y → y ≡ x
+  pub own-here : (j : ℕ) (y : Step) → j ≡ i → IsStep l j y → y ≡ x
   own-here j y same at = one-step l i y x (subst (λ k. IsStep l k y) same at) is
 
-  goes-on : (first : ℕ) → (Answers i → ⊥) → ((k : ℕ) → first ≤ k → k < i → Answers k → ⊥) → (k : ℕ) → first ≤ k → k < suc i → Answers k → ⊥
+  pub goes-on : (first : ℕ) → (Answers i → ⊥) → ((k : ℕ) → first ≤ k → k < i → Answers k → ⊥) → (k : ℕ) → first ≤ k → k < suc i → Answers k → ⊥
   goes-on first none on k from low says = elim (before k low) [
     | inl lt ↦ on k from lt says
     | inr same ↦ none (subst Answers same says)
@@ -98,10 +115,10 @@ module _ (line : ℕ → ℕ) (l : Log) (i : ℕ) (x : Step) (is : IsStep l i x)
 
   -- ---- calls on messages
 
-  untold-on : (Answers i → ⊥) → (j : ℕ) (y : Step) → IsUntold l i actor folder unique j y → IsUntold l (suc i) actor folder unique j y
+  pub untold-on : (Answers i → ⊥) → (j : ℕ) (y : Step) → IsUntold l i actor folder unique j y → IsUntold l (suc i) actor folder unique j y
   untold-on none j y u = let low = u.0 in ((let up : j < suc i = omega (arith, low) in up), u.1, u.2, goes-on j none u.3)
 
-  untold-back : (j : ℕ) (y : Step) → j < i → IsUntold l (suc i) actor folder unique j y → IsUntold l i actor folder unique j y
+  pub untold-back : (j : ℕ) (y : Step) → j < i → IsUntold l (suc i) actor folder unique j y → IsUntold l i actor folder unique j y
   untold-back j y low u = (low, u.1, u.2, λ k from lt. u.3 k from (let up : k < suc i = omega (arith, lt) in up))
 
   -- no step of the actor's own acts on the message here
@@ -173,24 +190,21 @@ module _ (line : ℕ → ℕ) (l : Log) (i : ℕ) (x : Step) (is : IsStep l i x)
     last = λ j r last. done.last j r (back j r last);
   }
     where
-      fresh : (j : ℕ) (y : Step) → IsOwn l first i x.actor j y → IsUntold l i actor folder unique j y
-      fresh j y own = (own.1, own.2, own.3 ∙ mine, λ k from low. let start = own.0 in span.goes_on k (omega (arith, from, start)) low)
-
-      inside : (j : ℕ) (y : Step) → IsUntold l i actor folder unique j y → IsOwn l first i x.actor j y
-      inside j y u = elim (cases_lt j first) [
-        | inl lt ↦
-            let told = span.begins j y lt u.1 u.2 in
-            let up = told.2 in
-            let end = span.ordered in
-            absurd (u.3 told.0 told.1 (omega (arith, up, end)) told.3)
-        | inr from ↦ (from, u.0, u.1, u.2 ∙ sym mine)
-      ]
-
       out : (j : ℕ) (r : Reply) → IsLatest l i actor folder unique j r → IsLastAct (turn l i x) first folder unique j r
-      out j r last = (last.0, inside j last.0 last.1, last.2, λ k y e from own acts. last.3 k y e from (fresh k y own) acts)
+      out j r last = (
+        last.0,
+        untold-own l i x actor folder unique first mine span j last.0 last.1,
+        last.2,
+        λ k y e from own acts. last.3 k y e from (own-untold l i x actor folder unique first mine span k y own) acts,
+      )
 
       back : (j : ℕ) (r : Reply) → IsLastAct (turn l i x) first folder unique j r → IsLatest l i actor folder unique j r
-      back j r last = (last.0, fresh j last.0 last.1, last.2, λ k y e from u acts. last.3 k y e from (inside k y u) acts)
+      back j r last = (
+        last.0,
+        own-untold l i x actor folder unique first mine span j last.0 last.1,
+        last.2,
+        λ k y e from u acts. last.3 k y e from (untold-own l i x actor folder unique first mine span k y u) acts,
+      )
 
   -- ---- readings
 

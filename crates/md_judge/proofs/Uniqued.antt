@@ -21,10 +21,10 @@ use Rattle.md_judge.proofs.Shown.{said, message-of}
 
 -- the unique name that the parts of a name's number have is that of the name
 by-parts : (names : Names) (place : Place) (name : List ℕ) (o : Option (List ℕ × Info)) (front ending u : ℕ) → split_of name ≡ o
-    → StandFor names name o front ending → unique_by place (facts_by names.flags.items front ending) ≡ Some u → slice_get names.uniques u ≡ Some (unique_of name)
+    → StandFor names name o front ending → unique_by place (facts_by front ending) ≡ Some u → slice_get names.uniques u ≡ Some (unique_of name)
 by-parts names place name None front ending u split s is =
     let none : nat_eq ending 4294967295 ≡ true = eq-eqb ending 4294967295 s.0 in
-    by place (sym (ap (λ b. unique_by place (cond b no_facts (said names front ending))) none) ∙ is)
+    by place (sym (ap (λ b. unique_by place (cond b no_facts (said front))) none) ∙ is)
   where
     by : (q : Place) → unique_by q no_facts ≡ Some u → slice_get names.uniques u ≡ Some (unique_of name)
     by Tmp e = cc
@@ -33,12 +33,12 @@ by-parts names place name None front ending u split s is =
 by-parts names place name (Some parts) front ending u split s is =
     let low = s.0 in
     let some : nat_eq ending 4294967295 ≡ false = grind (arith, nat_tests, low) in
-    by place (sym (ap (λ b. unique_by place (cond b no_facts (said names front ending))) some) ∙ is)
+    by place (sym (ap (λ b. unique_by place (cond b no_facts (said front))) some) ∙ is)
   where
     here : front ≡ u → slice_get names.uniques u ≡ Some (unique_of name)
     here same = subst (λ k. slice_get names.uniques k ≡ Some (unique_of name)) same (s.1 ∙ ap Some (split_is name parts split))
 
-    by : (q : Place) → unique_by q (said names front ending) ≡ Some u → slice_get names.uniques u ≡ Some (unique_of name)
+    by : (q : Place) → unique_by q (said front) ≡ Some u → slice_get names.uniques u ≡ Some (unique_of name)
     by Tmp e = cc
     by New e = here (cc)
     by Cur e = here (cc)

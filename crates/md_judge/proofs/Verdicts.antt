@@ -32,7 +32,7 @@ use Rattle.md_judge.specs.Law.{turn, Breaks, IsAllowed, IsFinding}
 use Rattle.md_judge.specs.Logs.{Log, Numbered, is_passed_over, has_begun, with_line, with_text, with_folder_line, with_file_line, with_also_line}
 use Rattle.md_judge.specs.Recalled.{HasFolders}
 use Rattle.md_judge.specs.Told.{Moment, at}
-use Rattle.md_judge.specs.Verdict.{IsProved, HasNoTicks, Remembers, IsAmong, AreLinesOf, HasRead, IsHeadOf, IsBroken, AddsFinding, KeepsHead}
+use Rattle.md_judge.specs.Verdict.{HasNoTicks, Remembers, IsAmong, AreLinesOf, HasRead, IsHeadOf, IsBroken, AddsFinding, KeepsHead}
 use Rattle.md_judge.proofs.Mailbegun.{tells-longer, tells-opening}
 use Rattle.md_judge.proofs.Actors.{acting-first, acting-longer}
 use Rattle.md_judge.proofs.Opened.{filed-opening, filed-longer}
@@ -280,18 +280,18 @@ module _ (number : ℕ) (l : Log) (x : Step) (s t : Session) (read : HasRead num
   here : (lines : ℕ → ℕ) → AreLinesOf (suc number) longer lines → lines (length l.steps) ≡ number
   here lines are = are.steps (length l.steps) one (last-is l.steps one)
 
-  found-longer : (c : Clause) (proved : IsProved c) (m : ℕ)
+  found-longer : (c : Clause) (m : ℕ)
       → (IsAmong t.findings.items m c
       ↔ (IsAmong s.findings.items m c ⊎ ((number ≡ m) × (Breaks c (turn longer (length l.steps) x) × (Has s.judge.allowed c → ⊥)))))
       → IsAmong t.findings.items m c ↔ IsFinding longer m c
-  found-longer c proved m adds = (
+  found-longer c m adds = (
     λ now. elim (adds.0 now) [
-      | inl was ↦ (finding-longer c l one m).1 (inl ((read.found m c proved).0 was))
-      | inr new ↦ (finding-longer c l one m).1 (inr (new.0, (λ is. new.1.1 ((read.allowed c proved).1 is)), new.1.0))
+      | inl was ↦ (finding-longer c l one m).1 (inl ((read.found m c).0 was))
+      | inr new ↦ (finding-longer c l one m).1 (inr (new.0, (λ is. new.1.1 ((read.allowed c).1 is)), new.1.0))
     ],
     λ is. elim ((finding-longer c l one m).0 is) [
-      | inl was ↦ adds.1 (inl ((read.found m c proved).1 was))
-      | inr new ↦ adds.1 (inr (new.0, (new.2, λ has. new.1 ((read.allowed c proved).0 has))))
+      | inl was ↦ adds.1 (inl ((read.found m c).1 was))
+      | inr new ↦ adds.1 (inr (new.0, (new.2, λ has. new.1 ((read.allowed c).0 has))))
     ],
   )
 
@@ -301,13 +301,13 @@ module _ (number : ℕ) (l : Log) (x : Step) (s t : Session) (read : HasRead num
       → lines i ≡ number → number < 4294967295 → HasFolders (at m i) x.call → Remembers lines m (suc i) t.judge)
       → ((lines : ℕ → ℕ) (m : Log) (i : ℕ) → Remembers lines m i s.judge → slice_get m.steps i ≡ Some (record { number = number; step = x })
       → lines i ≡ number → number < 4294967295 → ((a b : ℕ) → a < b → lines a < lines b) → ((a : ℕ) → 0 < lines a) → HasFolders (at m i) x.call
-      → (c : Clause) → IsProved c → AddsFinding c number (Breaks c (turn m i x) × (Has s.judge.allowed c → ⊥)) s t)
+      → (c : Clause) → AddsFinding c number (Breaks c (turn m i x) × (Has s.judge.allowed c → ⊥)) s t)
       → number < 4294967295 → HasFolders (at l (length l.steps)) x.call → HasRead (suc number) longer t
   step-read keeps told found short there =
       let i : ℕ = length l.steps in
       let same : at l i ≡ at longer i = sym (ap (λ (m : Moment). m.state) (same-moment l one i (omega arith))) in
       let there' : HasFolders (at longer i) x.call = subst (λ (st : State). HasFolders st x.call) same there in
-      let adds : (c : Clause) → IsProved c → AddsFinding c number (Breaks c (turn longer i x) × (Has s.judge.allowed c → ⊥)) s t =
+      let adds : (c : Clause) → AddsFinding c number (Breaks c (turn longer i x) × (Has s.judge.allowed c → ⊥)) s t =
       found own longer i (told-before own own-lines) (last-is l.steps one) (here own own-lines) short
       (lines-rise (suc number) longer rises-longer below-longer) (lines-above (suc number) longer (omega arith) above-longer) there' in
       let long : suc i ≡ length longer.steps = (let more = length_push l.steps one in omega (arith, more)) in
@@ -323,11 +323,11 @@ module _ (number : ℕ) (l : Log) (x : Step) (s t : Session) (read : HasRead num
         below = below-longer;
         waits = ap (λ (w : Stretch). w.steps.items) keeps.stretch ∙ read.waits;
         moved = ap (λ (w : Stretch). w.moved.entries) keeps.stretch ∙ read.moved;
-        allowed = λ c proved. (
-          λ is. (read.allowed c proved).0 (subst (λ (a : Clauses). Has a c) keeps.allowed is),
-          λ is. subst (λ (a : Clauses). Has a c) (sym keeps.allowed) ((read.allowed c proved).1 is),
+        allowed = λ c. (
+          λ is. (read.allowed c).0 (subst (λ (a : Clauses). Has a c) keeps.allowed is),
+          λ is. subst (λ (a : Clauses). Has a c) (sym keeps.allowed) ((read.allowed c).1 is),
         );
-        found = λ m c proved. found-longer c proved m (adds c proved m);
+        found = λ m c. found-longer c m (adds c m);
       }
 
   -- also where the session is one that has begun just now, and where the judging may be refused
@@ -336,15 +336,15 @@ module _ (number : ℕ) (l : Log) (x : Step) (s t : Session) (read : HasRead num
       → lines i ≡ number → number < 4294967295 → HasFolders (at m i) x.call → OnOk r (Remembers lines m (suc i) t.judge))
       → ((lines : ℕ → ℕ) (m : Log) (i : ℕ) → Remembers lines m i now.judge → slice_get m.steps i ≡ Some (record { number = number; step = x })
       → lines i ≡ number → number < 4294967295 → ((a b : ℕ) → a < b → lines a < lines b) → ((a : ℕ) → 0 < lines a) → HasFolders (at m i) x.call
-      → OnOk r ((c : Clause) → IsProved c → AddsFinding c number (Breaks c (turn m i x) × (Has now.judge.allowed c → ⊥)) now t))
+      → OnOk r ((c : Clause) → AddsFinding c number (Breaks c (turn m i x) × (Has now.judge.allowed c → ⊥)) now t))
       → number < 4294967295 → HasFolders (at l (length l.steps)) x.call → OnOk r (HasRead (suc number) longer t)
   step-read-on now same r keeps told found short there = on-ok-by r (HasRead (suc number) longer t) (λ holds.
       step-read (subst (λ (v : Session). KeepsHead v t) same (holds (KeepsHead now t) keeps))
       (λ lines m i was is at-line low in-folder. holds (Remembers lines m (suc i) t.judge)
       (told lines m i (subst (λ (v : Session). Remembers lines m i v.judge) (sym same) was) is at-line low in-folder))
       (λ lines m i was is at-line low rises above in-folder.
-      subst (λ (v : Session). (c : Clause) → IsProved c → AddsFinding c number (Breaks c (turn m i x) × (Has v.judge.allowed c → ⊥)) v t) same
-      (holds ((c : Clause) → IsProved c → AddsFinding c number (Breaks c (turn m i x) × (Has now.judge.allowed c → ⊥)) now t)
+      subst (λ (v : Session). (c : Clause) → AddsFinding c number (Breaks c (turn m i x) × (Has v.judge.allowed c → ⊥)) v t) same
+      (holds ((c : Clause) → AddsFinding c number (Breaks c (turn m i x) × (Has now.judge.allowed c → ⊥)) now t)
       (found lines m i (subst (λ (v : Session). Remembers lines m i v.judge) (sym same) was) is at-line low rises above in-folder)))
       short there)
 
@@ -358,7 +358,7 @@ module _ (number : ℕ) (l l' : Log) (s t : Session) (read : HasRead number l s)
   pub head-read : t.folders ≡ l'.folders → t.has_begun ≡ s.has_begun → t.stretch ≡ s.stretch → t.findings.items ≡ s.findings.items
       → l'.opening.folders ≡ length l'.folders
       → ((lines : ℕ → ℕ) → number < lines 0 → Remembers lines l 0 s.judge → Remembers lines l' 0 t.judge)
-      → ((c : Clause) → IsProved c → Has t.judge.allowed c ↔ IsAllowed l' c) → HasRead (suc number) l' t
+      → ((c : Clause) → Has t.judge.allowed c ↔ IsAllowed l' c) → HasRead (suc number) l' t
   head-read folders begun stretch findings housed told allowed = record {
     folders = folders;
     begun = begun ∙ read.begun ∙ ap (λ (xs : List Numbered). nat_lt 0 (length xs)) (none ∙ sym still);
@@ -376,8 +376,8 @@ module _ (number : ℕ) (l l' : Log) (s t : Session) (read : HasRead number l s)
     waits = ap (λ (w : Stretch). w.steps.items) stretch ∙ read.waits;
     moved = ap (λ (w : Stretch). w.moved.entries) stretch ∙ read.moved;
     allowed = allowed;
-    found = λ m c proved. (
-      λ among. absurd (finding-none l m c none ((read.found m c proved).0 (subst (λ (fs : List Finding). IsAmong fs m c) findings among))),
+    found = λ m c. (
+      λ among. absurd (finding-none l m c none ((read.found m c).0 (subst (λ (fs : List Finding). IsAmong fs m c) findings among))),
       λ is. absurd (finding-none l' m c still is),
     );
   }
@@ -459,13 +459,13 @@ allow-read number l l' s t c read none same folders begun stretch findings keeps
     let new : Log = record l { allowed = c ∷ l.allowed } in
     subst (λ (m : Log). HasRead (suc number) m t) same
     (head-read number l new s t read none none (folders ∙ read.folders) begun stretch findings read.housed
-    (λ lines low told. keeps lines new 0 (remembers-opening lines l new s.judge refl refl told)) (λ o proved. (
+    (λ lines low told. keeps lines new 0 (remembers-opening lines l new s.judge refl refl told)) (λ o. (
       λ has. elim ((adds o).0 has) [
-        | inl was ↦ let before = (read.allowed o proved).0 was in (suc before.0, before.1)
+        | inl was ↦ let before = (read.allowed o).0 was in (suc before.0, before.1)
         | inr is ↦ (0, ap Some (sym is))
       ],
       λ is. elim (one-allowed l.allowed c o is.0 is.1) [
-        | inl was ↦ (adds o).1 (inl ((read.allowed o proved).1 was))
+        | inl was ↦ (adds o).1 (inl ((read.allowed o).1 was))
         | inr now ↦ (adds o).1 (inr now)
       ],
     )))
@@ -474,12 +474,12 @@ module _ (number : ℕ) (l l' : Log) (s t : Session) (read : HasRead number l s)
     (stretch : t.stretch ≡ s.stretch) (findings : t.findings.items ≡ s.findings.items) (j : Judge)
     (goes : (lines : ℕ → ℕ) (m : Log) (i : ℕ) → Remembers lines m i s.judge → Remembers lines m i j) (alike : j.allowed ≡ s.judge.allowed)
     (r : Result (Unit {0}) LineFault) (keeps : OnOk r (t.judge.allowed ≡ j.allowed)) where
-  still-allowed : l'.allowed ≡ l.allowed → t.judge.allowed ≡ j.allowed → (c : Clause) → IsProved c → Has t.judge.allowed c ↔ IsAllowed l' c
-  still-allowed rest now c proved = (
-    λ has. let was = (read.allowed c proved).0 (subst (λ (x : Clauses). Has x c) (now ∙ alike) has) in
+  still-allowed : l'.allowed ≡ l.allowed → t.judge.allowed ≡ j.allowed → (c : Clause) → Has t.judge.allowed c ↔ IsAllowed l' c
+  still-allowed rest now c = (
+    λ has. let was = (read.allowed c).0 (subst (λ (x : Clauses). Has x c) (now ∙ alike) has) in
         (was.0, ap (λ (cs : List Clause). slice_get cs was.0) rest ∙ was.1),
     λ is. subst (λ (x : Clauses). Has x c) (sym (now ∙ alike))
-        ((read.allowed c proved).1 (is.0, ap (λ (cs : List Clause). slice_get cs is.0) (sym rest) ∙ is.1)),
+        ((read.allowed c).1 (is.0, ap (λ (cs : List Clause). slice_get cs is.0) (sym rest) ∙ is.1)),
   )
 
   -- a folder is added

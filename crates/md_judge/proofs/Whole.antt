@@ -16,7 +16,7 @@ use Rattle.md_judge.specs.declared.log.Finding.{Finding}
 use Rattle.md_judge.specs.declared.session.Session.{Session}
 use Rattle.md_judge.specs.Law.{IsAllowed, IsFinding}
 use Rattle.md_judge.specs.Logs.{Log, Numbered, empty_log, is_passed_over, has_begun, with_line, with_text, with_folder_line, with_lines, at_line, and_then, log_by, log_of}
-use Rattle.md_judge.specs.Verdict.{IsProved, HasNoTicks, IsAmong, HasRead, HasTaken}
+use Rattle.md_judge.specs.Verdict.{HasNoTicks, IsAmong, HasRead, HasTaken}
 use Rattle.md_judge.proofs.Verdicts.{first-are, file-rest, also-rest}
 
 -- ---- a log of which no line was read
@@ -134,11 +134,11 @@ read-all text left line s end read l is none =
 -- once all are read, what was found are the findings
 pub found-all : (text : List ℕ) (left : List (List ℕ)) (line : ℕ) (s t : Session) → left ≡ [] → HasReadTo text line left s
     → (s.stretch.steps.items ≡ [] → s.stretch.moved.entries ≡ [] → t ≡ s)
-    → (l : Log) → log_of text ≡ Ok l → HasNoTicks l → (n : ℕ) (c : Clause) → IsProved c → IsAmong t.findings.items n c ↔ IsFinding l n c
-found-all text left line s t end read same l is none n c proved =
+    → (l : Log) → log_of text ≡ Ok l → HasNoTicks l → (n : ℕ) (c : Clause) → IsAmong t.findings.items n c ↔ IsFinding l n c
+found-all text left line s t end read same l is none n c =
     let all = read-all text left line s end read l is none in
     let now : t.findings.items ≡ s.findings.items = λ i. (same all.waits all.moved i).findings.items in
-    subst (λ (fs : List Finding). IsAmong fs n c ↔ IsFinding l n c) (sym now) (all.found n c proved)
+    subst (λ (fs : List Finding). IsAmong fs n c ↔ IsFinding l n c) (sym now) (all.found n c)
 
 -- ---- lines that are taken in one by one
 

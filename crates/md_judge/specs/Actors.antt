@@ -1,5 +1,5 @@
 -- What the judge keeps of actors is what a log tells of them: when their spans began, what they did in them, and when they looked.
-use Rattle.std.specs.Prelude.{ℕ, ◌≡◌, ◌≢◌, ◌↔◌, ◌<◌, ◌≤◌, ◌⊎◌, ◌&&◌, not, List, Option, Some, None, Bool, true, false, slice_get, length, unwrap_or, ◌==◌, if◌then◌else◌, IsSome}
+use Rattle.std.specs.Prelude.{ℕ, suc, ◌≡◌, ◌≢◌, ◌↔◌, ◌<◌, ◌≤◌, ◌⊎◌, ◌&&◌, not, List, Option, Some, None, Bool, true, false, slice_get, length, unwrap_or, ◌==◌, if◌then◌else◌, IsSome}
 use Rattle.std.specs.Option.{option_or, option_map}
 use Rattle.std.specs.declared.cmp.Ordering.{Ordering}
 use Rattle.std.specs.Ordering.{nat_cmp, ordering_then}
@@ -16,15 +16,17 @@ use Rattle.md_judge.specs.declared.judge.about.Actors.{Actors}
 use Rattle.md_judge.specs.declared.judge.about.Lines.{Lines}
 use Rattle.md_judge.specs.declared.judge.directories.Spot.{Spot}
 use Rattle.md_judge.specs.declared.judge.listing.Listing.{Listing}
+use Rattle.md_judge.specs.declared.judge.mail.Mail.{Mail}
 use Rattle.md_judge.specs.declared.judge.pairs.Column.{Column}
 use Rattle.md_judge.specs.declared.judge.pairs.Pairs.{Pairs}
 use Rattle.md_judge.specs.declared.judge.pairs.Slot.{Slot}
 use Rattle.md_judge.specs.declared.judge.tables.Names.{Names}
 use Rattle.md_judge.specs.declared.judge.watch.Watch.{Watch}
 use Rattle.md_judge.specs.Claims.{RecallsActs, IsLastLine, IsLook}
+use Rattle.md_judge.specs.Deeds.{IsUntold, RecallsDeeds}
 use Rattle.md_judge.specs.Files.{unique_in}
-use Rattle.md_judge.specs.Law.{turn}
-use Rattle.md_judge.specs.Listings.{message_cmp, message_of}
+use Rattle.md_judge.specs.Law.{turn, TakesMessage}
+use Rattle.md_judge.specs.Listings.{message_cmp, message_of, present_in, IsIn}
 use Rattle.md_judge.specs.Logs.{Log}
 use Rattle.md_judge.specs.Mailed.{count_of}
 use Rattle.md_judge.specs.Open.{Listings}
@@ -103,6 +105,14 @@ abbrev pub begun_by : Actors → ℕ → ℕ × ℕ → Option ℕ
 begun_by a actor key =
     if is_about (lines_of a actor).answered key then None else option_or (kept a.begun actor key) (lines_of a actor).first
 
+-- the order of actors, messages and folders
+abbrev pub move_cmp : (ℕ × (ℕ × ℕ)) × ℕ → (ℕ × (ℕ × ℕ)) × ℕ → Ordering
+move_cmp a b = ordering_then (actor_cmp a.0 b.0) (nat_cmp a.1 b.1)
+
+-- the line at which an actor last took a message from its folder while a folder had it
+abbrev pub moved_by : Actors → ℕ → ℕ × ℕ → ℕ → Option ℕ
+moved_by a actor key to = get move_cmp a.moved ((actor, key), to)
+
 -- the line at which an actor last read a folder
 abbrev pub looked_of : Option Listing → Option ℕ
 looked_of None = None
@@ -156,17 +166,27 @@ pub record KeepsActs (old new : Actors) : Type 0 where
   pub begun : (a : ℕ) (k : ℕ × ℕ) → begun_by new a k ≡ begun_by old a k
   pub acts : (a : ℕ) (k : ℕ × ℕ) → SameAct (done_by old a k) (done_by new a k)
 
+-- An actor takes messages from their folders at a line, while folders have them, and no other line changes.
+pub record NotesMoves (actor line : ℕ) (moves : ℕ × ℕ → ℕ → Type 0) (old new : Actors) : Type 0 where
+  pub here : (k : ℕ × ℕ) (to : ℕ) → moves k to → moved_by new actor k to ≡ Some line
+  pub others : (a : ℕ) (k : ℕ × ℕ) (to : ℕ) → (a ≡ actor → moves k to → ⊥) → moved_by new a k to ≡ moved_by old a k to
+
+-- with a path at a spot a message went, of which nothing is left in its folder, and a folder has it
+abbrev pub GoesBy : Names → Spot → Mail → ℕ × ℕ → ℕ → Type 0
+GoesBy names s mail k to = (s.folder ≡ k.0) × (unique_in names s ≡ Some k.1) × (count_of (message_of mail k.0 k.1) ≡ 0)
+    × IsIn (present_in mail to) k.1
+
+-- with the path that a change took, where it took one
+abbrev pub GoesWith : Names → Option (Spot × ℕ) → Mail → ℕ × ℕ → ℕ → Type 0
+GoesWith names None mail k to = ⊥
+GoesWith names (Some taken) mail k to = GoesBy names taken.0 mail k to
+
 -- An actor reads a folder at a line.
 pub record NotesLook (actor folder line : ℕ) (old new : Listings) : Type 0 where
   pub here : looked_by new actor folder ≡ Some line
   pub others : (a f : ℕ) → (a ≡ actor → f ≡ folder → ⊥) → looked_by new a f ≡ looked_by old a f
 
 -- ---- what a log tells
-
--- the step is the actor's own, and it has not answered about the message since
-abbrev pub IsUntold : Log → ℕ → List ℕ → ℕ → List ℕ → ℕ → Step → Type 0
-IsUntold l i actor folder unique j x = (j < i) × IsStep l j x × (x.actor ≡ actor)
-    × ((k : ℕ) → j ≤ k → k < i → IsAnswer l k actor folder unique → ⊥)
 
 -- since each step of the actor it has answered about the message
 abbrev pub HasTold : Log → ℕ → List ℕ → ℕ → List ℕ → Type 0
@@ -199,6 +219,11 @@ pub record RecallsDone (line : ℕ → ℕ) (l : Log) (i : ℕ) (actor : List �
 abbrev pub LookedAt : Log → ℕ → List ℕ → ℕ → ℕ → Type 0
 LookedAt l i actor folder j = (x : Step) × (j < i) × IsStep l j x × (x.actor ≡ actor) × Looks x.call folder
 
+-- by a step before the actor takes the message from the folder, after which another folder has it
+abbrev pub MovedAt : Log → ℕ → List ℕ → ℕ → List ℕ → ℕ → ℕ → Type 0
+MovedAt l i actor folder unique to j = (x : Step) × (j < i) × IsStep l j x × (x.actor ≡ actor) × TakesMessage l j folder unique
+    × IsThere (at l (suc j)) to unique
+
 -- A step answers so about a message, its span begins with this step, the lines of steps rise, and what is kept of the actor and of whether
 -- the message is there is what the log tells.
 pub record IsAnswering (line : ℕ → ℕ) (first i actor : ℕ) (said : Said) (key : ℕ × ℕ) (unique : List ℕ) (l : Log) (x : Step) (w : Watch)
@@ -222,5 +247,9 @@ pub record AreActing (line : ℕ → ℕ) (actors uniques : List (List ℕ)) (l 
       → RecallsBegun line l i actor folder unique (begun_by a n (folder, u))
   pub done : (n : ℕ) (actor : List ℕ) (folder u : ℕ) (unique : List ℕ) → MayStand actors n actor → MayStand uniques u unique
       → RecallsDone line l i actor folder unique (done_by a n (folder, u))
+  pub deeds : (n : ℕ) (actor : List ℕ) (folder u : ℕ) (unique : List ℕ) → MayStand actors n actor → MayStand uniques u unique
+      → RecallsDeeds l i actor folder unique (done_by a n (folder, u))
   pub looks : (n : ℕ) (actor : List ℕ) (folder : ℕ) → MayStand actors n actor
       → IsLastLine line (LookedAt l i actor folder) (looked_by m n folder)
+  pub moves : (n : ℕ) (actor : List ℕ) (folder u : ℕ) (unique : List ℕ) (to : ℕ) → MayStand actors n actor → MayStand uniques u unique
+      → IsLastLine line (MovedAt l i actor folder unique to) (moved_by a n (folder, u) to)

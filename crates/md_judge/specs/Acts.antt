@@ -23,6 +23,11 @@ ReadsNone (call.Between n old new r) = Unit {0}
 ReadsNone (call.List folder place r shown) = ⊥
 ReadsNone (call.Answer a folder unique) = Unit {0}
 
+-- the call is an answer about a message
+abbrev pub IsAnswerCall : Call → Type 0
+IsAnswerCall (call.Answer a folder unique) = Unit {0}
+IsAnswerCall c = ⊥
+
 -- the call is one on paths, and is answered as the directories never answer it
 abbrev pub IsWrongAsk : Turn → Call → Type 0
 IsWrongAsk t (call.At d p r) = IsWrongCall t (call.At d p r)

@@ -15,7 +15,7 @@ use Rattle.md_log.specs.declared.line.Call.TheVariants as call
 use Rattle.md_log.specs.declared.line.Step.{Step}
 use Rattle.md_judge.specs.declared.judge.about.About.{About}
 use Rattle.md_judge.specs.declared.judge.claims.Claim.{Claim}
-use Rattle.md_judge.specs.declared.judge.mail.Held.{Held}
+use Rattle.md_judge.specs.declared.judge.held.Held.{Held}
 use Rattle.md_judge.specs.declared.judge.mail.Presence.{Presence}
 use Rattle.md_judge.specs.Logs.{Log}
 use Rattle.md_judge.specs.Told.{at, IsStep, IsMessageAt, IsThere, IsSpan, IsOwn, ActsOn, Looks}
@@ -117,10 +117,14 @@ abbrev pub IsSince : (ℕ → ℕ) → (ℕ → Type 0) → ℕ → ℕ → Type
 IsSince line P i since = ((since ≤ line 0) × ((k : ℕ) → k ≤ i → P k))
     ⊎ ((j : ℕ) × (since ≡ line j + 1) × (j ≤ i) × (P j → ⊥) × ((k : ℕ) → j < k → k ≤ i → P k))
 
--- whether this holds now, and since when
+-- the number is past the line of a step just where this did not hold at a moment from that step on
+abbrev pub TellsAbsence : (ℕ → ℕ) → (ℕ → Type 0) → ℕ → ℕ → Type 0
+TellsAbsence line P i since = (first : ℕ) → first ≤ i → (line first < since) ↔ ((j : ℕ) × (first ≤ j) × (j ≤ i) × (P j → ⊥))
+
+-- whether this holds now, and from which steps on it has
 abbrev pub RecallsPresence : (ℕ → ℕ) → (ℕ → Type 0) → ℕ → Option Presence → Type 0
 RecallsPresence line P i None = (j : ℕ) → j ≤ i → P j → ⊥
-RecallsPresence line P i (Some m) = ((0 < m.count) ↔ P i) × (0 < m.count → IsSince line P i m.since)
+RecallsPresence line P i (Some m) = ((0 < m.count) ↔ P i) × (0 < m.count → TellsAbsence line P i m.since)
 
 -- what is kept of what an answer says is what the log tells
 abbrev pub RecallsSo : (ℕ → ℕ) → Turn → ℕ → ℕ → List ℕ → Said → Claim → Type 0

@@ -22,16 +22,15 @@ use Rattle.md_judge.specs.declared.judge.tables.Names.{Names}
 
 -- what a name of no message says, and one that is not known
 abbrev pub no_facts : NameFacts
-no_facts = record { unique = None; flags = None }
+no_facts = record { unique = None }
 
 -- what the two parts of a name say; the last number stands for the end of a name that is no message's
-abbrev pub facts_by : List (Option ℕ) → ℕ → ℕ → NameFacts
-facts_by flags front ending =
-    if ending == 4294967295 then no_facts else record { unique = Some front; flags = unwrap_or (slice_get flags ending) None }
+abbrev pub facts_by : ℕ → ℕ → NameFacts
+facts_by front ending = if ending == 4294967295 then no_facts else record { unique = Some front }
 
 -- what the name of a number says
 abbrev pub name_facts : Names → ℕ → NameFacts
-name_facts names name = facts_by names.flags.items (name / 4294967296) (name % 4294967296)
+name_facts names name = facts_by (name / 4294967296) (name % 4294967296)
 
 -- by what is kept of its end a name shows the flag T
 abbrev pub is_trashed_in : Names → ℕ → Bool

@@ -2,6 +2,7 @@ pub mod Logs
 pub mod Told
 pub mod Law
 pub mod Words
+pub mod Flags
 pub mod Names
 pub mod Mixed
 pub mod Changes
@@ -17,11 +18,15 @@ pub mod Open
 pub mod Gathered
 pub mod Moments
 pub mod Recalled
+pub mod Held
 pub mod Acts
 pub mod Filed
 pub mod Copies
 pub mod Mailed
 pub mod Present
 pub mod Timed
+pub mod Deeds
 pub mod Actors
+pub mod Said
+pub mod Marks
 pub mod Verdict

@@ -20,22 +20,6 @@ use Rattle.md_judge.specs.Recalled.{IsToldAt}
 use Rattle.md_judge.specs.Timed.{TellsTimes}
 use Rattle.md_judge.specs.Told.{moment}
 
--- the clauses of which what is found of a whole log is proved to be what the law has
-abbrev pub IsProved : Clause → Type 0
-IsProved clause.NotADirectory = Unit {0}
-IsProved clause.Overwritten = Unit {0}
-IsProved clause.SeenBeforeWhole = Unit {0}
-IsProved clause.Mixed = Unit {0}
-IsProved clause.NotFlushed = Unit {0}
-IsProved clause.TwoNames = Unit {0}
-IsProved clause.Gone = Unit {0}
-IsProved clause.UsedAgain = Unit {0}
-IsProved clause.MovedBack = Unit {0}
-IsProved clause.CleanedEarly = Unit {0}
-IsProved clause.Unlisted = Unit {0}
-IsProved clause.GaveUp = Unit {0}
-IsProved c = ⊥
-
 -- no step of the log has ticks
 abbrev pub HasNoTicks : Log → Type 0
 HasNoTicks l = (k : ℕ) (x : Numbered) → slice_get l.steps k ≡ Some x → x.step.ticks ≡ None
@@ -74,8 +58,8 @@ pub record HasRead (number : ℕ) (l : Log) (s : Session) : Type 0 where
   pub first : 0 < number
   pub waits : s.stretch.steps.items ≡ []
   pub moved : s.stretch.moved.entries ≡ []
-  pub allowed : (c : Clause) → IsProved c → Has s.judge.allowed c ↔ IsAllowed l c
-  pub found : (n : ℕ) (c : Clause) → IsProved c → IsAmong s.findings.items n c ↔ IsFinding l n c
+  pub allowed : (c : Clause) → Has s.judge.allowed c ↔ IsAllowed l c
+  pub found : (n : ℕ) (c : Clause) → IsAmong s.findings.items n c ↔ IsFinding l n c
 
 -- A session has taken in these lines, of which the first is the head: where they are a log in which no step has ticks, it has read that log.
 pub record HasTaken (texts : List (List ℕ)) (s : Session) : Type 0 where

@@ -6,13 +6,11 @@ ghost use Rattle.std.specs.Prelude.{◌≡◌, ◌<◌, ℕ, suc, Some, Ok, true
 ghost use Rattle.md_dirs.specs.State.{has_folder};
 ghost use Rattle.md_judge.specs.Logs.{Log, empty_log, with_file_line, with_also_line};
 ghost use Rattle.md_log.specs.declared.clause.Clause.{Clause};
-ghost use Rattle.md_log.specs.declared.clause.Clause.TheVariants as clause;
-ghost use Rattle.md_judge.specs.Acts.{ReadsNone};
 ghost use Rattle.md_judge.specs.Found.{Has};
-ghost use Rattle.md_judge.specs.Law.{turn, Breaks, NotADirectory, Overwritten, GaveUp};
+ghost use Rattle.md_judge.specs.Law.{turn, Breaks};
 ghost use Rattle.md_judge.specs.Told.{at};
 ghost use Rattle.md_judge.specs.Recalled.{IsToldAt, HasFolders};
-ghost use Rattle.md_judge.specs.Verdict.{IsProved, Remembers};
+ghost use Rattle.md_judge.specs.Verdict.{Remembers};
 ghost use Rattle.md_judge.specs.Names.{AreNumbered, KeepNumbers, GrowsUniques};
 ghost use Rattle.md_judge.specs.Open.{AreNames, AreOpen, KeepsOpen};
 ghost use Rattle.md_judge.specs.Gathered.{AreGathered};
@@ -32,6 +30,7 @@ mod filing;
 mod flags;
 mod found;
 mod goings;
+mod held;
 mod known;
 mod listing;
 mod mail;
@@ -149,14 +148,7 @@ impl Judge {
         ensures broken { (lines : ℕ → ℕ) (l : Log) (i : ℕ) → Remembers lines l i self.old
             → slice_get l.steps i ≡ Some (record { number = line; step = step }) → lines i ≡ line → line < 4294967295
             → self.old.watch.now ≡ line → ((a b : ℕ) → a < b → lines a < lines b) → ((a : ℕ) → 0 < lines a) → HasFolders (at l i) step.call
-            → OnOk result ((c : Clause) → IsProved c → Has self.new.watch.found.broken c ↔ Breaks c (turn l i step)) }
-        ensures overwritten { (lines : ℕ → ℕ) (l : Log) (i : ℕ) → IsToldAt lines l i self.old.known
-            → slice_get l.steps i ≡ Some (record { number = line; step = step }) → lines i ≡ line → line < 4294967295
-            → HasFolders (at l i) step.call → OnOk result (Has self.new.watch.found.broken clause.Overwritten ↔ Overwritten (turn l i step)) }
-        ensures wrong { (lines : ℕ → ℕ) (l : Log) (i : ℕ) → IsToldAt lines l i self.old.known
-            → slice_get l.steps i ≡ Some (record { number = line; step = step }) → lines i ≡ line → line < 4294967295
-            → HasFolders (at l i) step.call → ReadsNone step.call
-            → OnOk result (Has self.new.watch.found.broken clause.NotADirectory ↔ NotADirectory (turn l i step)) }
+            → OnOk result ((c : Clause) → Has self.new.watch.found.broken c ↔ Breaks c (turn l i step)) }
         ensures opens { (lines : ℕ → ℕ) (l : Log) (i : ℕ)
             → AreOpen lines self.old.actor_names self.old.known.names l i self.old.listings
             → slice_get l.steps i ≡ Some (record { number = line; step = step }) → lines i ≡ line → self.old.watch.now ≡ line
@@ -166,15 +158,6 @@ impl Judge {
             → AreGathered lines self.old.actor_names self.old.known.names l i self.old.listings
             → slice_get l.steps i ≡ Some (record { number = line; step = step }) → lines i ≡ line → self.old.watch.now ≡ line
             → OnOk result (AreGathered lines self.new.actor_names self.new.known.names l (suc i) self.new.listings) }
-        ensures read { (lines : ℕ → ℕ) (l : Log) (i : ℕ) → IsToldAt lines l i self.old.known
-            → AreOpen lines self.old.actor_names self.old.known.names l i self.old.listings
-            → slice_get l.steps i ≡ Some (record { number = line; step = step }) → lines i ≡ line → line < 4294967295
-            → HasFolders (at l i) step.call → self.old.watch.now ≡ line → ((a b : ℕ) → a < b → lines a < lines b)
-            → OnOk result (Has self.new.watch.found.broken clause.NotADirectory ↔ NotADirectory (turn l i step)) }
-        ensures gave_up { (lines : ℕ → ℕ) (l : Log) (i : ℕ) → Remembers lines l i self.old
-            → slice_get l.steps i ≡ Some (record { number = line; step = step }) → lines i ≡ line → line < 4294967295
-            → self.old.watch.now ≡ line → ((a b : ℕ) → a < b → lines a < lines b) → ((a : ℕ) → 0 < lines a)
-            → OnOk result (Has self.new.watch.found.broken clause.GaveUp ↔ GaveUp (turn l i step)) }
         ensures allowed { OnOk result (self.new.allowed ≡ self.old.allowed) }
     {
         let (actor, _) = self.actor_names.number(step.actor.as_slice())?;

@@ -3,7 +3,7 @@ ghost use Rattle.std.specs.Prelude.{ℕ, ◌≡◌, ◌+◌, ◌↔◌, Ok, IfOk
 ghost use Rattle.md_log.specs.declared.clause.Clause.{Clause};
 ghost use Rattle.md_judge.specs.Law.{IsFinding};
 ghost use Rattle.md_judge.specs.Logs.{Log, log_of};
-ghost use Rattle.md_judge.specs.Verdict.{IsProved, HasNoTicks, IsAmong};
+ghost use Rattle.md_judge.specs.Verdict.{HasNoTicks, IsAmong};
 
 use crate::session::Session;
 use md_head::cut_line;
@@ -25,7 +25,7 @@ pub struct Finding {
 /// which memory was refused. It takes one pass, in n log n.
 pub fn judge_log(alloc: Global, log: &[u8]) -> Result<Vec<Finding>, LogFault>
     ensures found { IfOk result (λ found. (l : Log) → log_of log.now ≡ Ok l → HasNoTicks l
-        → (number : ℕ) (c : Clause) → IsProved c → IsAmong found.items number c ↔ IsFinding l number c) }
+        → (number : ℕ) (c : Clause) → IsAmong found.items number c ↔ IsFinding l number c) }
 {
     let mut left = match cut_line(log) {
         Some((HEAD, others)) => others,

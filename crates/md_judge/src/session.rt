@@ -6,7 +6,7 @@ ghost use Rattle.md_judge.specs.Law.{Breaks, IsFinding, turn};
 ghost use Rattle.md_judge.specs.Logs.{Log, is_passed_over, log_by, with_line, with_text};
 ghost use Rattle.md_judge.specs.Recalled.{HasFolders};
 ghost use Rattle.md_judge.specs.Told.{at};
-ghost use Rattle.md_judge.specs.Verdict.{IsProved, HasNoTicks, Remembers, IsAmong, HasRead, HasTaken, IsHeadOf, IsBroken, AddsFinding, KeepsHead};
+ghost use Rattle.md_judge.specs.Verdict.{HasNoTicks, Remembers, IsAmong, HasRead, HasTaken, IsHeadOf, IsBroken, AddsFinding, KeepsHead};
 
 use crate::judge::Judge;
 use crate::log::{Finding, HEAD};
@@ -116,7 +116,7 @@ impl Session {
     /// What was found, in the order of the lines, and at one line in the order of the law.
     pub fn findings(&self) -> &[Finding]
         ensures found { (texts : List (List ℕ)) (l : Log) → HasTaken texts self.now → log_by texts ≡ Ok l → HasNoTicks l
-            → (number : ℕ) (c : Clause) → IsProved c → IsAmong result.now number c ↔ IsFinding l number c }
+            → (number : ℕ) (c : Clause) → IsAmong result.now number c ↔ IsFinding l number c }
     {
         self.findings.as_slice()
     }
@@ -246,7 +246,7 @@ impl Session {
         ensures found { (lines : ℕ → ℕ) (l : Log) (i : ℕ) → Remembers lines l i self.old.judge
             → slice_get l.steps i ≡ Some (record { number = moment; step = step }) → lines i ≡ moment → moment < 4294967295
             → ((a b : ℕ) → a < b → lines a < lines b) → ((a : ℕ) → 0 < lines a) → HasFolders (at l i) step.call
-            → OnOk result ((c : Clause) → IsProved c
+            → OnOk result ((c : Clause)
             → AddsFinding c line (Breaks c (turn l i step) × (Has self.old.judge.allowed c → ⊥)) self.old self.new) }
     {
         self.judge.go_to(moment);

@@ -1,7 +1,7 @@
 //! What actors did about messages since they last answered.
 ghost use Rattle.std.specs.Prelude.{if◌then◌else◌, ◌⊎◌, ◌≡◌, ◌↔◌, ◌<◌, ℕ, Some, None, IsTrue, OnOk, true, length, slice_get, unwrap_or};
 ghost use Rattle.md_judge.specs.Claims.{IsRefused};
-ghost use Rattle.md_judge.specs.Actors.{kept, done_by, begun_by, lines_of, is_about, no_about, IsAnswered, PutsAbout, Tells};
+ghost use Rattle.md_judge.specs.Actors.{kept, done_by, begun_by, moved_by, lines_of, is_about, no_about, IsAnswered, NotesMoves, PutsAbout, Tells};
 
 use super::befores::{Mark, Moment, NO_MARK, line_at, mark_of, moment_of};
 use super::mail::Key;
@@ -92,6 +92,7 @@ impl Actors {
     pub(super) fn new(alloc: Global) -> Self
         ensures begun { (a : ℕ) (k : ℕ × ℕ) → begun_by result a k ≡ None }
         ensures done { (a : ℕ) (k : ℕ × ℕ) → done_by result a k ≡ no_about }
+        ensures moved { (a : ℕ) (k : ℕ × ℕ) (to : ℕ) → moved_by result a k to ≡ None }
     {
         Actors {
             about: Pairs::new(alloc),
@@ -107,6 +108,7 @@ impl Actors {
             → OnOk result ((k : ℕ × ℕ) → begun_by self.new actor k ≡ Some (unwrap_or (begun_by self.old actor k) at)) }
         ensures others { OnOk result ((a : ℕ) (k : ℕ × ℕ) → (a ≡ actor → ⊥) → begun_by self.new a k ≡ begun_by self.old a k) }
         ensures done { OnOk result (self.new.about ≡ self.old.about) }
+        ensures moved { self.new.moved ≡ self.old.moved }
     {
         let lines = self.lines(actor);
         self.begin_span(actor, lines.answered, at)?;
@@ -124,6 +126,7 @@ impl Actors {
         ensures others { OnOk result ((a : ℕ) (k : ℕ × ℕ) → (a ≡ actor → ⊥) → kept self.new.begun a k ≡ kept self.old.begun a k) }
         ensures lines { self.new.lines ≡ self.old.lines }
         ensures about { self.new.about ≡ self.old.about }
+        ensures moved { self.new.moved ≡ self.old.moved }
     {
         match answered {
             None => Ok(()),
@@ -143,6 +146,7 @@ impl Actors {
         ensures others { OnOk result ((a : ℕ) → (a ≡ actor → ⊥) → lines_of self.new a ≡ lines_of self.old a) }
         ensures begun { self.new.begun ≡ self.old.begun }
         ensures about { self.new.about ≡ self.old.about }
+        ensures moved { self.new.moved ≡ self.old.moved }
     {
         while self.lines.len() <= actor as usize {
             self.lines.push(NO_LINES)?;
@@ -155,7 +159,8 @@ impl Actors {
 
     /// Keeps what the actor did about the message since its last answer.
     pub(super) fn keep(&mut self, actor: u32, key: Key, about: About) -> Result<(), LineFault>
-        ensures { OnOk result (PutsAbout actor key about self.old self.new) }
+        ensures puts { OnOk result (PutsAbout actor key about self.old self.new) }
+        ensures moved { self.new.moved ≡ self.old.moved }
     {
         self.about.insert(actor, key, about)
     }
@@ -171,13 +176,16 @@ impl Actors {
         ensures about { OnOk result (self.new.about ≡ self.old.about) }
         ensures begun { OnOk result (self.new.begun ≡ self.old.begun) }
         ensures lines { OnOk result (self.new.lines ≡ self.old.lines) }
+        ensures moves { OnOk result (NotesMoves actor line (λ k f. (k.0 ≡ key.0) × (k.1 ≡ key.1) × (f ≡ to)) self.old self.new) }
     {
         self.moved.insert(((actor, key), to), line)?;
         Ok(())
     }
 
     /// The line at which the actor last took the message from its folder while a folder had it.
-    pub(super) fn moved_at(&self, actor: u32, key: Key, to: u32) -> Option<usize> {
+    pub(super) fn moved_at(&self, actor: u32, key: Key, to: u32) -> Option<usize>
+        ensures { result ≡ moved_by self.now actor key to }
+    {
         self.moved.get(&((actor, key), to)).copied()
     }
 
@@ -190,7 +198,8 @@ impl Actors {
 
     /// The actor answers about the message, so that nothing was done since.
     pub(super) fn told(&mut self, actor: u32, key: Key)
-        ensures { Tells actor key self.old self.new }
+        ensures tells { Tells actor key self.old self.new }
+        ensures moved { self.new.moved ≡ self.old.moved }
     {
         self.about.remove(actor, key);
         self.begun.remove(actor, key);
@@ -203,6 +212,7 @@ impl Actors {
         ensures others { (a : ℕ) → (a ≡ actor → ⊥) → lines_of self.new a ≡ lines_of self.old a }
         ensures begun { self.new.begun ≡ self.old.begun }
         ensures about { self.new.about ≡ self.old.about }
+        ensures moved { self.new.moved ≡ self.old.moved }
     {
         if let Some(lines) = self.lines.get_mut(actor as usize) {
             lines.answered = Some(key);

@@ -11,12 +11,13 @@ ghost use Rattle.md_judge.specs.Acts.{UnlinksPath};
 ghost use Rattle.md_judge.specs.Filed.{AreFiled, IsJudged, BrokenByFiles};
 ghost use Rattle.md_judge.specs.Logs.{Log};
 ghost use Rattle.md_judge.specs.Mailed.{KeepsPresent, TellsMail, NotesMessages};
+ghost use Rattle.md_judge.specs.Marks.{KeepsDeeds, MarksChange};
 ghost use Rattle.md_judge.specs.Timed.{AreTimed};
 ghost use Rattle.md_log.specs.declared.line.Step.{Step};
 ghost use Rattle.md_judge.specs.Changes.{IsOlder, Leads};
 ghost use Rattle.md_judge.specs.Files.{named_by, turned_by};
 ghost use Rattle.md_judge.specs.Known.{EachSpot, IsBelow};
-ghost use Rattle.md_judge.specs.Actors.{NotesAct, acted, acted_at, reply_to_name};
+ghost use Rattle.md_judge.specs.Actors.{NotesAct, NotesMoves, GoesWith, acted, acted_at, reply_to_name};
 ghost use Rattle.md_judge.specs.declared.judge.directories.Spot.{Spot};
 
 use super::directories::Spot;
@@ -90,9 +91,13 @@ impl Watch {
             → IsJudged path who many l i x actor call.now known.now act.now → OnOk result (NotesMessages (turn l i x) self.old.found self.new.found) }
         ensures acts { self.old.now < 4294967296
             → OnOk result (NotesAct actor self.old.now (acted known.now.names act.now.spot call.now) self.old.actors self.new.actors) }
+        ensures moves { OnOk result (NotesMoves actor self.old.now (GoesWith known.now.names act.now.change.taken self.new.mail) self.old.actors
+            self.new.actors) }
         ensures answers { OnOk result (KeepsAnswers self.old.found self.new.found) }
         ensures unlisted { OnOk result (Keeps clause.Unlisted self.old.found self.new.found) }
         ensures present { OnOk result (KeepsPresent self.old.mail self.new.mail) }
+        ensures deeds { OnOk result
+            (MarksChange known.now.names actor act.now.change self.old.mail self.new.mail self.old.actors self.new.actors) }
     {
         self.found
             .note(act.is_wrong, Clause::NotADirectory, act.wrong_before);
@@ -119,6 +124,8 @@ impl Watch {
         ensures mail { OnOk result (self.new.mail ≡ self.old.mail) }
         ensures acts { self.old.now < 4294967296
             → OnOk result (NotesAct actor self.old.now (acted known.now.names act.now.spot call.now) self.old.actors self.new.actors) }
+        ensures moved { OnOk result (self.new.actors.moved ≡ self.old.actors.moved) }
+        ensures deeds { OnOk result (KeepsDeeds self.old.actors self.new.actors) }
     {
         let Some(spot) = act.spot else {
             return Ok(());
@@ -143,6 +150,8 @@ impl Watch {
         ensures mail { OnOk result (self.new.mail ≡ self.old.mail) }
         ensures acts { self.old.now < 4294967296
             → OnOk result (NotesAct actor self.old.now (acted_at known.now.names spot (Some reply)) self.old.actors self.new.actors) }
+        ensures moved { OnOk result (self.new.actors.moved ≡ self.old.actors.moved) }
+        ensures deeds { OnOk result (KeepsDeeds self.old.actors self.new.actors) }
     {
         if let Some(unique) = known.unique_at(spot) {
             let key = (spot.folder, unique);

@@ -8,7 +8,7 @@ ghost use Rattle.md_log.specs.declared.line.Reply.TheVariants as reply;
 ghost use Rattle.md_log.specs.declared.line.Step.{Step};
 ghost use Rattle.md_judge.specs.declared.judge.acts.Change.{Change};
 ghost use Rattle.md_judge.specs.declared.judge.directories.Spot.{Spot};
-ghost use Rattle.md_judge.specs.Actors.{KeepsActs};
+ghost use Rattle.md_judge.specs.Actors.{GoesBy, GoesWith, KeepsActs, NotesMoves};
 ghost use Rattle.md_judge.specs.Acts.{IsDone};
 ghost use Rattle.md_judge.specs.Changes.{Leads};
 ghost use Rattle.md_judge.specs.Files.{unique_in};
@@ -17,6 +17,7 @@ ghost use Rattle.md_judge.specs.Known.{EachSpot};
 ghost use Rattle.md_judge.specs.Law.{turn, Gone};
 ghost use Rattle.md_judge.specs.Logs.{Log};
 ghost use Rattle.md_judge.specs.Listings.{message_of};
+ghost use Rattle.md_judge.specs.Marks.{IsOfMessage, IsOfMissing, OnPath, OnTurned, Unlinks, MarksDeeds, MarksChange, nothing};
 ghost use Rattle.md_judge.specs.Moments.{kept_moment};
 ghost use Rattle.md_judge.specs.Timed.{CameAt, TurnedAt, WentAt, MakesTimes};
 ghost use Rattle.md_judge.specs.Mailed.{AddAt, AddStep, TurnAt, TurnStep, TakeAt, TakeStep, MakeStep, TellsMail, NotesAdded, NotesMessages};
@@ -47,6 +48,10 @@ impl Watch {
         ensures added { (path : Spot → Path) (l : Log) (i : ℕ) (x : Step) → IsDone path known.now.names (turn l i x) act.now
             → TellsMail known.now.names l i self.old.mail → OnOk result (NotesMessages (turn l i x) self.old.found self.new.found) }
         ensures acts { OnOk result (KeepsActs self.old.actors self.new.actors) }
+        ensures moves { OnOk result (NotesMoves actor self.old.now (GoesWith known.now.names act.now.change.taken self.new.mail) self.old.actors
+            self.new.actors) }
+        ensures deeds { OnOk result
+            (MarksChange known.now.names actor act.now.change self.old.mail self.new.mail self.old.actors self.new.actors) }
     {
         let change = act.change;
         self.found.note(
@@ -134,7 +139,10 @@ impl Watch {
         ensures files { OnOk result (self.new.files ≡ self.old.files) }
         ensures mailed { OnOk result (MakeStep known.now.names change self.old.mail self.new.mail) }
         ensures acts { OnOk result (KeepsActs self.old.actors self.new.actors) }
+        ensures moves { OnOk result (NotesMoves actor self.old.now (GoesWith known.now.names change.taken self.new.mail) self.old.actors
+            self.new.actors) }
         ensures times { OnOk result (MakesTimes known.now.names self.old.now change self.old.mail self.new.mail) }
+        ensures deeds { OnOk result (MarksChange known.now.names actor change self.old.mail self.new.mail self.old.actors self.new.actors) }
     {
         self.add(known, actor, change.added)?;
         self.turn(known, actor, change.turned)?;
@@ -151,9 +159,12 @@ impl Watch {
         ensures files { OnOk result (self.new.files ≡ self.old.files) }
         ensures mailed { OnOk result (AddStep known.now.names added self.old.mail self.new.mail) }
         ensures acts { OnOk result (KeepsActs self.old.actors self.new.actors) }
+        ensures moved { OnOk result (self.new.actors.moved ≡ self.old.actors.moved) }
         ensures times { OnOk result ((folder u : ℕ) → CameAt known.now.names (kept_moment (self.old.now + 1)) added folder u
             (message_of self.old.mail folder u) (message_of self.new.mail folder u)) }
         ensures now { OnOk result (self.new.now ≡ self.old.now) }
+        ensures deeds { OnOk result (MarksDeeds actor (OnPath (IsOfMissing known.now.names self.old.mail) added)
+            (OnPath (IsOfMessage known.now.names) added) nothing self.old.actors self.new.actors) }
     {
         let Some((spot, file)) = added else {
             return Ok(());
@@ -172,9 +183,12 @@ impl Watch {
         ensures files { OnOk result (self.new.files ≡ self.old.files) }
         ensures mailed { OnOk result (TurnStep known.now.names turned self.old.mail self.new.mail) }
         ensures acts { OnOk result (KeepsActs self.old.actors self.new.actors) }
+        ensures moved { OnOk result (self.new.actors.moved ≡ self.old.actors.moved) }
         ensures times { OnOk result ((folder u : ℕ) → TurnedAt known.now.names turned folder u
             (message_of self.old.mail folder u) (message_of self.new.mail folder u)) }
         ensures now { OnOk result (self.new.now ≡ self.old.now) }
+        ensures deeds { OnOk result
+            (MarksDeeds actor nothing (OnTurned (IsOfMessage known.now.names) turned) nothing self.old.actors self.new.actors) }
     {
         let Some((spot, old, new)) = turned else {
             return Ok(());
@@ -193,8 +207,12 @@ impl Watch {
         ensures files { OnOk result (self.new.files ≡ self.old.files) }
         ensures mailed { OnOk result (TakeStep known.now.names taken self.old.mail self.new.mail) }
         ensures acts { OnOk result (KeepsActs self.old.actors self.new.actors) }
+        ensures moves { OnOk result (NotesMoves actor self.old.now (GoesWith known.now.names taken self.new.mail) self.old.actors
+            self.new.actors) }
         ensures times { OnOk result ((folder u : ℕ) → WentAt known.now.names self.old.now taken folder u
             (message_of self.old.mail folder u) (message_of self.new.mail folder u)) }
+        ensures deeds { OnOk result (MarksDeeds actor nothing (OnPath (IsOfMessage known.now.names) taken)
+            (Unlinks known.now.names self.new.mail taken is_unlink) self.old.actors self.new.actors) }
     {
         let Some((spot, file)) = taken else {
             return Ok(());
@@ -209,6 +227,9 @@ impl Watch {
         ensures now { OnOk result (self.new.now ≡ self.old.now) }
         ensures mail { OnOk result (self.new.mail ≡ self.old.mail) }
         ensures acts { OnOk result (KeepsActs self.old.actors self.new.actors) }
+        ensures moved { OnOk result (self.new.actors.moved ≡ self.old.actors.moved) }
+        ensures deeds { OnOk result (MarksDeeds actor (IsOfMissing known.now.names self.old.mail spot) (IsOfMessage known.now.names spot)
+            nothing self.old.actors self.new.actors) }
     {
         if let Some(unique) = known.unique_at(spot) {
             let key = (spot.folder, unique);
@@ -232,6 +253,9 @@ impl Watch {
         ensures files { OnOk result (self.new.files ≡ self.old.files) }
         ensures mail { OnOk result (self.new.mail ≡ self.old.mail) }
         ensures acts { OnOk result (KeepsActs self.old.actors self.new.actors) }
+        ensures moves { OnOk result (NotesMoves actor self.old.now (GoesBy known.now.names spot self.old.mail) self.old.actors self.new.actors) }
+        ensures deeds { OnOk result (MarksDeeds actor nothing (IsOfMessage known.now.names spot)
+            (λ k. IsOfMissing known.now.names self.old.mail spot k × (is_unlink ≡ true)) self.old.actors self.new.actors) }
     {
         let Some(unique) = known.unique_at(spot) else {
             return Ok(());
@@ -274,9 +298,6 @@ impl Watch {
         let key = (spot.folder, unique);
         let since = moment_of(at);
         self.mail.make(key, Move::Comes { since, file })?;
-        if let Some(flags) = known.other_flags(spot) {
-            self.mail.hold(at, key, flags)?;
-        }
         self.mail.copy(file, unique)
     }
 
@@ -294,8 +315,10 @@ impl Watch {
         ensures now { OnOk result (self.new.now ≡ self.old.now) }
         ensures mailed { OnOk result (TurnAt (unique_in known.now.names spot) spot old new self.old.mail self.new.mail) }
         ensures acts { OnOk result (KeepsActs self.old.actors self.new.actors) }
+        ensures moved { OnOk result (self.new.actors.moved ≡ self.old.actors.moved) }
         ensures times { OnOk result ((folder u : ℕ) → TurnedAt known.now.names (Some (spot, old, new)) folder u
             (message_of self.old.mail folder u) (message_of self.new.mail folder u)) }
+        ensures deeds { OnOk result (MarksDeeds actor nothing (IsOfMessage known.now.names spot) nothing self.old.actors self.new.actors) }
     {
         let Some(unique) = known.unique_at(spot) else {
             return Ok(());
@@ -313,6 +336,7 @@ impl Watch {
     fn take_path(&mut self, known: &Known, spot: Spot, file: u32) -> Result<(), LineFault>
         ensures found { OnOk result (self.new.found ≡ self.old.found) }
         ensures files { OnOk result (self.new.files ≡ self.old.files) }
+        ensures now { OnOk result (self.new.now ≡ self.old.now) }
         ensures mailed { OnOk result (TakeAt (unique_in known.now.names spot) spot file self.old.mail self.new.mail) }
         ensures actors { OnOk result (self.new.actors ≡ self.old.actors) }
         ensures times { OnOk result ((folder u : ℕ) → WentAt known.now.names self.old.now (Some (spot, file)) folder u
@@ -324,9 +348,6 @@ impl Watch {
         };
         let key = (spot.folder, unique);
         self.mail.make(key, Move::Goes { last: at })?;
-        if let Some(flags) = known.other_flags(spot) {
-            self.mail.unhold(at, key, flags);
-        }
         self.mail.uncopy(file, unique);
         Ok(())
     }

@@ -10,7 +10,8 @@ ghost use Rattle.md_judge.specs.Claims.{count_of, HasLooked, GivesUp, WasHeld, H
 use super::about::About;
 use super::befores::{line_at, line_before};
 use super::found::Found;
-use super::mail::{Held, Presence};
+use super::held::Held;
+use super::mail::Presence;
 use md_log::{Clause, Said};
 
 /// What an actor answers about a message, and what is kept of that.

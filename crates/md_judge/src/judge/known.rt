@@ -9,7 +9,7 @@ ghost use Rattle.md_judge.specs.Told.{at, ask_at, ask_between, after_ask, after_
 ghost use Rattle.md_log.specs.declared.line.Step.{Step};
 ghost use Rattle.md_log.specs.declared.line.Call.TheVariants as call;
 ghost use Rattle.md_judge.specs.Law.{turn};
-ghost use Rattle.md_judge.specs.Acts.{IsActOf, Does, NamesFirst, ReadsNone, UnlinksPath};
+ghost use Rattle.md_judge.specs.Acts.{IsActOf, Does, NamesFirst, ReadsNone, IsAnswerCall, UnlinksPath};
 ghost use Rattle.md_judge.specs.Changes.{IsOlder, Leads};
 ghost use Rattle.md_judge.specs.Files.{unique_in, is_message_in};
 ghost use Rattle.md_judge.specs.Known.{EachSpot, IsBelow, files_after, Stands, Holds, Leaves};
@@ -22,7 +22,7 @@ use super::acts::{
 };
 use super::directories::{Directories, Spot};
 use super::files::MOST_FILES;
-use super::tables::{NameFacts, Names};
+use super::tables::Names;
 use md_dirs::{Path, Place};
 use md_log::{Call, Deed, LineFault, Naming, Reply, Step};
 use std::alloc::Global;
@@ -109,16 +109,6 @@ impl Known {
         self.unique_at(spot).is_some()
     }
 
-    /// The flags of a message's path in cur, where another name showed the same flags before.
-    pub(super) fn other_flags(&self, spot: Spot) -> Option<u64> {
-        let NameFacts { unique, flags } = self.names.facts(spot.name);
-        let flags = flags?;
-        if spot.place != Place::Cur || self.names.chief(unique?, flags) == Some(spot.name) {
-            return None;
-        }
-        Some(flags)
-    }
-
     /// A file that is there at the beginning.
     pub(super) fn put_file(
         &mut self,
@@ -195,6 +185,7 @@ impl Known {
         ensures uniques { OnOk result (GrowsUniques self.old.names self.new.names) }
         ensures first { IfOk result (λ act. NamesFirst self.new.names step.now.call act) }
         ensures lists { (ReadsNone step.now.call → ⊥) → self.new ≡ record self.old { clock = self.new.clock } }
+        ensures answers { IsAnswerCall step.now.call → self.new ≡ record self.old { clock = self.new.clock } }
     {
         self.clock = self.clock.max(step.moment);
         self.call(line, &step.call)
@@ -215,6 +206,7 @@ impl Known {
         ensures uniques { OnOk result (GrowsUniques self.old.names self.new.names) }
         ensures first { IfOk result (λ act. NamesFirst self.new.names call.now act) }
         ensures lists { (ReadsNone call.now → ⊥) → self.new ≡ self.old }
+        ensures answers { IsAnswerCall call.now → self.new ≡ self.old }
     {
         match call {
             Call::At { deed, path, reply } => {

@@ -1,12 +1,10 @@
 //! The messages of folders.
-ghost use Rattle.std.specs.Prelude.{◌≡◌, ◌↔◌, ◌⊎◌, ◌+◌, ◌-◌, ◌<◌, ◌++◌, ◌∷◌, ℕ, List, [], Some, None, IsTrue, IsSome, OnOk, is_some, slice_get, slice_set};
-ghost use Rattle.std.specs.Option.{option_copied, option_map};
-ghost use Rattle.md_judge.specs.Claims.{count_of as count_there};
+ghost use Rattle.std.specs.Prelude.{◌≡◌, ◌↔◌, ◌⊎◌, ◌+◌, ◌-◌, ◌<◌, ◌++◌, ◌∷◌, ℕ, List, [], Some, None, IsTrue, IsSome, OnOk, IfOk, is_some, slice_get, slice_set};
+ghost use Rattle.std.specs.Option.{option_copied};
 ghost use Rattle.md_judge.specs.Messages.{WasFile};
-ghost use Rattle.md_judge.specs.Listings.{is_of, times_of, was_in, was_through, message_of};
-ghost use Rattle.md_judge.specs.declared.judge.mail.Message.{Message};
-ghost use Rattle.md_judge.specs.declared.judge.mail.Presence.{Presence};
+ghost use Rattle.md_judge.specs.Listings.{is_of, times_of, was_in, was_through, message_of, present_in, IsIn};
 ghost use Rattle.md_judge.specs.Copies.{copies_of};
+ghost use Rattle.md_judge.specs.Said.{presence_by};
 ghost use Rattle.md_judge.specs.Timed.{TimedBy};
 ghost use Rattle.md_judge.specs.Present.{KeepsSets, AddsFolder};
 ghost use Rattle.md_judge.specs.Mailed.{count_of, count_after, IsBy, Moves, MovesOne, MakesOne, Prepares, KeepsOthers, is_free, is_first, fresh, begun, Recounts, one_more, one_fewer};
@@ -219,26 +217,6 @@ fn was_through(times: &[(usize, usize)], first: usize, last: usize) -> bool
     false
 }
 
-/// Since when a message in cur shows flags: in how many paths now, and the last moment when it did.
-#[derive(Clone, Copy)]
-pub(super) struct Held {
-    pub(super) count: u32,
-    pub(super) last: usize,
-}
-
-impl Held {
-    /// The same of some paths and of others.
-    pub(super) fn and(self, others: Option<Held>) -> Held {
-        match others {
-            None => self,
-            Some(others) => Held {
-                count: self.count.saturating_add(others.count),
-                last: self.last.max(others.last),
-            },
-        }
-    }
-}
-
 /// How many paths a message has, and the first moment since which it has one.
 #[derive(Clone, Copy)]
 pub(super) struct Presence {
@@ -257,8 +235,6 @@ pub(super) struct Mail {
     /// The unique names that are in each folder.
     present: Vec<BTreeSet<u32>>,
     copied: Copied,
-    /// Of paths whose names are not the first that showed these flags.
-    held: BTreeMap<(u32, (u32, u64)), Held>,
 }
 
 impl Mail {
@@ -273,7 +249,6 @@ impl Mail {
             others: BTreeMap::new(alloc),
             present: Vec::new(alloc),
             copied: Copied::new(alloc),
-            held: BTreeMap::new(alloc),
         }
     }
 
@@ -448,8 +423,7 @@ impl Mail {
 
     /// The message, where it ever was in its folder.
     pub(super) fn presence(&self, key: Key) -> Option<Presence>
-        ensures count { count_there result ≡ count_of (message_of self.now key.0 key.1) }
-        ensures same { option_map (λ (p : Presence). p.count) result ≡ option_map (λ (m : Message). m.count) (message_of self.now key.0 key.1) }
+        ensures { result ≡ presence_by self.now key }
     {
         let message = self.message(key)?;
         Some(Presence {
@@ -477,21 +451,30 @@ impl Mail {
         self.copied.has(file, unique)
     }
 
-    pub(super) fn held(&self, key: Key, flags: u64) -> Option<Held> {
-        self.held.get(&(key.0, (key.1, flags))).copied()
-    }
-
     /// The folders that have a message of the unique name.
-    pub(super) fn folders_with(&self, unique: u32) -> Result<Vec<u32>, LineFault> {
+    pub(super) fn folders_with(&self, unique: u32) -> Result<Vec<u32>, LineFault>
+        ensures { IfOk result (λ folders. (f : ℕ) → IsIn folders.items f ↔ IsIn (present_in self.now f) unique) }
+    {
+        let Ok(many) = u32::try_from(self.present.len()) else {
+            return Err(LineFault::NoMemory);
+        };
         let mut folders = Vec::new(self.alloc);
-        for (at, present) in self.present.iter().enumerate() {
-            if present.contains(&unique)
-                && let Ok(folder) = u32::try_from(at)
-            {
+        for folder in 0..many {
+            if self.is_present((folder, unique)) {
                 folders.push(folder)?;
             }
         }
         Ok(folders)
+    }
+
+    /// Whether the folder has the message.
+    fn is_present(&self, key: Key) -> bool
+        ensures { IsTrue result ↔ IsIn (present_in self.now key.0) key.1 }
+    {
+        match self.present(key.0) {
+            None => false,
+            Some(present) => present.contains(&key.1),
+        }
     }
 
     /// One more path of the file is a message of the unique name.
@@ -507,27 +490,5 @@ impl Mail {
         ensures messages { self.new ≡ record self.old { copied = self.new.copied } }
     {
         self.copied.remove(file, unique);
-    }
-
-    /// One more path in cur shows these flags, from the moment `at` on.
-    pub(super) fn hold(&mut self, at: usize, key: Key, flags: u64) -> Result<(), LineFault>
-        ensures { OnOk result (self.new ≡ record self.old { held = self.new.held }) }
-    {
-        let held = self
-            .held
-            .entry((key.0, (key.1, flags)))?
-            .or_insert(Held { count: 0, last: at });
-        held.count = held.count.saturating_add(1);
-        Ok(())
-    }
-
-    /// A path in cur showed these flags for the last time at the moment `at`.
-    pub(super) fn unhold(&mut self, at: usize, key: Key, flags: u64)
-        ensures { self.new ≡ record self.old { held = self.new.held } }
-    {
-        if let Some(held) = self.held.get_mut(&(key.0, (key.1, flags))) {
-            held.count = held.count.saturating_sub(1);
-            held.last = at;
-        }
     }
 }

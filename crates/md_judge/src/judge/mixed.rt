@@ -26,5 +26,5 @@ pub(super) fn mixed_name(name: Name) -> Name
     ensures value { result ≡ mixed_name name }
     ensures apart { (other : ℕ) → other < 2 ^ 64 → mixed_name other ≡ result → other ≡ name }
 {
-    name_of(mixed((name / ENDINGS) as u32), name % ENDINGS)
+    name_of(mixed((name / ENDINGS) as u32), (name % ENDINGS) as u32)
 }

@@ -5,12 +5,12 @@ ghost use Rattle.md_name.specs.Names.{split_of, info_of, flags_of};
 ghost use Rattle.md_log.specs.declared.error.LineFault.TheVariants.{NoMemory};
 ghost use Rattle.md_judge.specs.Files.{name_facts, is_trashed_in};
 ghost use Rattle.md_judge.specs.Words.{hash_of, AreApart, Finds};
-ghost use Rattle.md_judge.specs.Names.{StandFor, IsNumber, AreNumbered, KeepNumbers, GrowsUniques, AreMarked, has_trashed, IsUnique};
+ghost use Rattle.md_judge.specs.Names.{StandFor, IsNumber, AreNumbered, KeepNumbers, GrowsUniques, AreMarked, has_trashed, alike_in, AddsAlike, NotesAlike, IsUnique};
 
 use super::flags::bits_of;
 use super::texts::Words;
 use md_log::LineFault;
-use md_name::{Flags, Info, split};
+use md_name::{Info, split};
 use std::alloc::Global;
 use std::collections::BTreeMap;
 use std::hash::{FoldHasher, Hasher};
@@ -177,17 +177,12 @@ impl Table {
 pub(super) struct NameFacts {
     /// The number of its unique part, where the name is a message's.
     pub(super) unique: Option<u32>,
-    /// Its flags, a bit for each letter, where it has no other info.
-    pub(super) flags: Option<u64>,
 }
 
-const NO_FACTS: NameFacts = NameFacts {
-    unique: None,
-    flags: None,
-};
+const NO_FACTS: NameFacts = NameFacts { unique: None };
 
 /// The number that stands for the end of a name that is no message's.
-const NO_ENDING: u64 = 4_294_967_295;
+const NO_ENDING: u32 = 4_294_967_295;
 
 /// How many numbers there are for the ends of names.
 pub(super) const ENDINGS: u64 = 4_294_967_296;
@@ -198,14 +193,13 @@ pub(super) type Name = u64;
 /// Names, with what they say. Of a message's name the unique part is kept once, and so is what comes after it.
 #[derive(Drop)]
 pub(super) struct Names {
+    alloc: Global,
     uniques: Table,
     endings: Table,
-    /// The flags of each ending.
-    flags: Vec<Option<u64>>,
     /// Whether each ending shows the flag T.
     trashed: Vec<bool>,
-    /// The ending that came first with these flags, but for the empty one: names in cur mostly have an info.
-    chiefs: BTreeMap<u64, u64>,
+    /// The endings that show these flags.
+    alike: BTreeMap<u64, Vec<u32>>,
     /// Names that are no message's.
     others: Table,
 }
@@ -216,11 +210,11 @@ impl Names {
         ensures marked { AreMarked result }
     {
         Names {
+            alloc,
             uniques: Table::new(alloc),
             endings: Table::new(alloc),
-            flags: Vec::new(alloc),
             trashed: Vec::new(alloc),
-            chiefs: BTreeMap::new(alloc),
+            alike: BTreeMap::new(alloc),
             others: Table::new(alloc),
         }
     }
@@ -288,7 +282,7 @@ impl Names {
     }
 
     /// The number of what comes after a unique part, and says this.
-    fn ending(&mut self, ending: &[u8], info: Info) -> Result<u64, LineFault>
+    fn ending(&mut self, ending: &[u8], info: Info) -> Result<u32, LineFault>
         ensures number { IfOk result (λ n. slice_get self.new.endings n ≡ Some ending.now) }
         ensures few { IfOk result (λ n. n < 4294967295) }
         ensures keeps { KeepNumbers self.old self.new }
@@ -297,28 +291,41 @@ impl Names {
         ensures fault { IfErr result (λ e. e ≡ NoMemory) }
     {
         let (number, is_new) = self.endings.number(ending)?;
-        let number = number as u64;
         if is_new {
-            self.note_flags(number, ending, info)?;
+            self.note_flags(number, info)?;
         }
         Ok(number)
     }
 
     /// Keeps what a new ending says.
-    fn note_flags(&mut self, number: u64, ending: &[u8], info: Info) -> Result<(), LineFault>
+    fn note_flags(&mut self, number: u32, info: Info) -> Result<(), LineFault>
         ensures words { (self.new.uniques ≡ self.old.uniques) × (self.new.endings ≡ self.old.endings) × (self.new.others ≡ self.old.others) }
         ensures trashed { OnOk result (self.new.trashed.items ≡ self.old.trashed.items ++ has_trashed (flags_of info) ∷ []) }
+        ensures alike { OnOk result (NotesAlike (flags_of info) number self.old self.new) }
         ensures fault { IfErr result (λ e. e ≡ NoMemory) }
     {
-        let flags = info.flags();
-        self.trashed.push(has_trashed(flags))?;
-        let flags = flags.map(bits_of);
-        self.flags.push(flags)?;
-        if let Some(flags) = flags
-            && !ending.is_empty()
-        {
-            let _chief = self.chiefs.entry(flags)?.or_insert(number);
+        match info.flags() {
+            None => {
+                self.trashed.push(false)?;
+                Ok(())
+            }
+            Some(flags) => {
+                self.trashed.push(flags.has(b'T'))?;
+                self.note_alike(number, bits_of(flags))
+            }
         }
+    }
+
+    /// One more ending shows these flags.
+    fn note_alike(&mut self, number: u32, flags: u64) -> Result<(), LineFault>
+        ensures rest { self.new ≡ record self.old { alike = self.new.alike } }
+        ensures alike { OnOk result (AddsAlike flags number self.old self.new) }
+        ensures fault { IfErr result (λ e. e ≡ NoMemory) }
+    {
+        let none = Vec::new(self.alloc);
+        let mut endings = self.alike.remove(&flags).unwrap_or(none);
+        endings.push(number)?;
+        self.alike.insert(flags, endings)?;
         Ok(())
     }
 
@@ -332,10 +339,14 @@ impl Names {
         self.others.are_apart();
     }
 
-    /// The name of a message that shows these flags, and that comes to be kept by its path alone.
-    pub(super) fn chief(&self, unique: u32, flags: u64) -> Option<Name> {
-        let ending = self.chiefs.get(&flags)?;
-        Some(name_of(unique, *ending))
+    /// The endings that show these flags.
+    pub(super) fn alike(&self, flags: u64) -> &[u32]
+        ensures { result.now ≡ alike_in self.now flags }
+    {
+        match self.alike.get(&flags) {
+            None => &[],
+            Some(endings) => endings.as_slice(),
+        }
     }
 
     /// Whether the name of a message shows the flag T.
@@ -349,32 +360,19 @@ impl Names {
     pub(super) fn facts(&self, name: Name) -> NameFacts
         ensures { result ≡ name_facts self.now name }
     {
-        let ending = name % ENDINGS;
+        let ending = (name % ENDINGS) as u32;
         if ending == NO_ENDING {
             return NO_FACTS;
         }
         NameFacts {
             unique: Some((name / ENDINGS) as u32),
-            flags: self.flags.get(ending as usize).copied().unwrap_or(None),
         }
     }
 }
 
-/// Whether flags, where there are some, have T.
-fn has_trashed(flags: Option<Flags>) -> bool
-    ensures { result ≡ has_trashed flags }
-{
-    match flags {
-        None => false,
-        Some(flags) => flags.has(b'T'),
-    }
-}
-
 /// A name by the numbers of its two parts.
-pub(super) fn name_of(front: u32, ending: u64) -> Name
-    ensures { ending < 4294967296 → result ≡ front * 4294967296 + ending }
+pub(super) fn name_of(front: u32, ending: u32) -> Name
+    ensures { result ≡ front * 4294967296 + ending }
 {
-    (front as u64)
-        .saturating_mul(ENDINGS)
-        .saturating_add(ending)
+    front as u64 * ENDINGS + ending as u64
 }

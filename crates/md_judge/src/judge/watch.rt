@@ -1,7 +1,7 @@
 //! What is kept of files, messages and actors, and the clauses that a step breaks.
 ghost use Rattle.std.specs.Prelude.{◌≡◌, ◌+◌, ◌<◌, ℕ, [], Some, None, OnOk, unwrap_or};
 ghost use Rattle.md_log.specs.declared.clause.Clause.{Clause};
-ghost use Rattle.md_judge.specs.Actors.{begun_by, done_by, no_about};
+ghost use Rattle.md_judge.specs.Actors.{begun_by, done_by, moved_by, no_about};
 ghost use Rattle.md_judge.specs.Copies.{copies_of};
 ghost use Rattle.md_judge.specs.Files.{named, unique_in, Changes};
 ghost use Rattle.md_judge.specs.Found.{Has};
@@ -40,6 +40,7 @@ impl Watch {
         ensures copies { (n u : ℕ) → copies_of result.mail.copied n u ≡ 0 }
         ensures begun { (a : ℕ) (k : ℕ × ℕ) → begun_by result.actors a k ≡ None }
         ensures done { (a : ℕ) (k : ℕ × ℕ) → done_by result.actors a k ≡ no_about }
+        ensures moved { (a : ℕ) (k : ℕ × ℕ) (to : ℕ) → moved_by result.actors a k to ≡ None }
         ensures present { result.mail.present.items ≡ [] }
     {
         Watch {
@@ -82,6 +83,7 @@ impl Watch {
             → begun_by self.new.actors actor k ≡ Some (unwrap_or (begun_by self.old.actors actor k) self.old.now)) }
         ensures others { OnOk result ((a : ℕ) (k : ℕ × ℕ) → (a ≡ actor → ⊥) → begun_by self.new.actors a k ≡ begun_by self.old.actors a k) }
         ensures done { OnOk result ((a : ℕ) (k : ℕ × ℕ) → done_by self.new.actors a k ≡ done_by self.old.actors a k) }
+        ensures moved { self.new.actors.moved ≡ self.old.actors.moved }
     {
         self.found = Found::nothing();
         self.actors.note_line(actor, self.now)

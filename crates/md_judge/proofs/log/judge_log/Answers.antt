@@ -28,9 +28,9 @@ loop-text-preserved c =
 
 pub returns : goal.returns
 returns c = record {
-  found = λ l is none n o proved.
+  found = λ l is none n o.
       let all = found-all c.args.log.now (lines_of c.loop-text.left.now) c.loop-text.line c.loop-text.session c.finish.new.self
-      c.in_default-cut_line.ensures.lines c.loop-text.invariant c.in_ok-finish.ensures.still l is none n o proved in
+      c.in_default-cut_line.ensures.lines c.loop-text.invariant c.in_ok-finish.ensures.still l is none n o in
       subst (λ (fs : List Finding). IsAmong fs n o ↔ IsFinding l n o)
       (λ i. (sym c.into_findings.ensures i).items) all;
 }

@@ -20,7 +20,7 @@ returns-clause-told c = λ lines. record {
   timed = times-none lines _ c.new-3.result.mail c.new-2.ensures.uniques c.new-3.ensures.present;
   gathers = listings-none lines _ _ empty_log _ c.new.ensures c.new-4.ensures.empty;
   acting = acting-none lines c.new.result c.new-2.result.names.uniques empty_log c.new-3.result.actors c.new-4.result c.new-3.ensures.begun
-      c.new-3.ensures.done (looked-none c.new-4.result c.new-4.ensures.empty);
+      c.new-3.ensures.done c.new-3.ensures.moved (looked-none c.new-4.result c.new-4.ensures.empty);
 }
 
 pub returns-clause-opens : goal.returns-clause-opens

@@ -1,6 +1,6 @@
 use Rattle.md_judge.proofs.Growing.{grows}
 use Rattle.md_judge.proofs.Stepping.{on-ok}
-use Rattle.std.proofs.Common.{ℕ, suc, ◌≡◌, ◌↔◌, inl, List, ◌<◌, OnOk, Some, slice_get, length, refl, sym, ap, subst, ◌∙◌, arith}
+use Rattle.std.proofs.Common.{ℕ, suc, ◌≡◌, ◌↔◌, inl, List, ◌<◌, OnOk, Option, Some, slice_get, length, refl, sym, ap, subst, ◌∙◌, arith}
 use Rattle.std.proofs.lemmas.Bool.{ltb-true}
 use Rattle.md_dirs.specs.declared.paths.Path.{Path}
 use Rattle.md_log.specs.declared.clause.Clause.{Clause}
@@ -12,38 +12,47 @@ use Rattle.md_log.specs.declared.line.Call.TheVariants as call
 use Rattle.std.specs.Prelude.{unwrap_or}
 use Rattle.md_judge.specs.declared.judge.about.About.{About}
 use Rattle.md_judge.specs.declared.judge.mail.Mail.{Mail}
-use Rattle.md_judge.specs.Claims.{RecallsActs}
+use Rattle.md_judge.specs.Claims.{RecallsActs, RecallsSo, IsLastLine}
+use Rattle.md_judge.specs.Deeds.{RecallsDeeds}
 use Rattle.md_judge.specs.Listings.{message_of}
 use Rattle.md_judge.specs.declared.judge.files.Files.{Files}
 use Rattle.md_log.specs.declared.line.Said.{Said}
 use Rattle.md_judge.specs.Logs.{Log}
-use Rattle.md_judge.specs.Actors.{AreActing, NotesAct, NotesLook, MayStand, acted, begun_by, done_by}
-use Rattle.md_judge.specs.Acts.{ReadsNone}
+use Rattle.std.specs.BTreeMap.{get}
+use Rattle.md_judge.specs.declared.judge.directories.Spot.{Spot}
+use Rattle.md_judge.specs.Actors.{AreActing, GoesWith, IsAnswering, MovedAt, NotesAct, NotesLook, NotesMoves, MayStand, acted, begun_by, done_by, move_cmp, moved_by}
+use Rattle.md_judge.specs.Acts.{IsAnswerCall, ReadsNone}
 use Rattle.md_judge.specs.Filed.{AreFiled, IsJudged, BrokenByFiles, name_at}
 use Rattle.md_judge.specs.Found.{Has, Keeps, NotesOne, KeepsMessages, KeepsFiles, KeepsAnswers, NotesFiles}
 use Rattle.md_judge.specs.Gathered.{KeepsGathered, AreGathered, IsMailTold}
-use Rattle.md_judge.specs.Mailed.{KeepsPresent, TellsMail, NotesMessages, count_of}
+use Rattle.md_judge.specs.Mailed.{AreMailed, ArePresent, KeepsPresent, TellsMail, NotesMessages, count_of}
+use Rattle.md_judge.specs.Marks.{IsOfMissing, OnPath, ChangesPaths, Unlinks, MarksChange}
 use Rattle.md_judge.specs.Open.{Listings, first_in, shows_in, KeepsPart, AreNames, AreOpen, IsToldPart}
 use Rattle.md_judge.specs.Recalled.{IsToldAt, HasFolders}
 use Rattle.md_judge.specs.Words.{AreApart, KeepWords}
 use Rattle.md_judge.specs.declared.judge.found.Found.{Found}
 use Rattle.md_judge.specs.declared.judge.known.Known.{Known}
 use Rattle.md_judge.specs.declared.judge.watch.Watch.{Watch}
-use Rattle.md_judge.specs.Law.{turn, Breaks, IsWrongCall, NotADirectory, Overwritten, Unlisted, GaveUp}
+use Rattle.md_judge.specs.Law.{turn, Breaks, IsWrongCall, NotADirectory, Overwritten, Unlisted, GaveUp, AnsweredFalsely}
 use Rattle.md_judge.specs.Logs.{Numbered}
-use Rattle.md_judge.specs.Told.{moment, at, after_step, after_call, IsThere, IsStep, ActsOn, Looks}
+use Rattle.md_judge.specs.Said.{claim_by}
+use Rattle.md_judge.specs.Told.{moment, at, after_step, after_call, IsThere, IsStep, IsSpan, ActsOn, Looks}
 use Rattle.md_judge.specs.Timed.{AreTimed, TellsTimes}
-use Rattle.md_judge.specs.Verdict.{IsProved, Remembers}
+use Rattle.md_judge.specs.Verdict.{Remembers}
 use Rattle.md_judge.proofs.Acted.{acts-on, on-acts}
 use Rattle.md_judge.proofs.Actors.{acting-before, acting-called, acting-read, acting-answered, no-looks, stood}
+use Rattle.md_judge.proofs.Departing.{goes-with, in-folders}
+use Rattle.md_judge.proofs.Moving.{goes-or-not}
+use Rattle.md_judge.proofs.Saying.{so-said}
 use Rattle.md_judge.proofs.Spanning.{span-of, acts-in}
 use Rattle.md_judge.proofs.Acting.{none-overwritten, found-overwritten, found-wrong, found-still}
 use Rattle.md_judge.proofs.Alike.{acts-by, filed-grows}
+use Rattle.md_judge.proofs.Deeds.{change-deeds}
 use Rattle.md_judge.proofs.Judged.{still-filed, still-lawful}
 use Rattle.md_judge.proofs.Mailbegun.{tells-still, still-two, still-again, still-gone}
 use Rattle.md_judge.proofs.Posted.{tells-grows}
 use Rattle.md_judge.proofs.Present.{are-present}
-use Rattle.md_judge.proofs.Proved.{IsJudgedAlone, kept-proved, noted-proved}
+use Rattle.md_judge.proofs.Proved.{IsJudgedAlone, kept-found, noted-found}
 use Rattle.md_judge.proofs.Regathered.{gathered-before, gathered-rests, listings-next}
 use Rattle.md_judge.proofs.Housed.{folders-stay}
 use Rattle.md_judge.proofs.MailTold.{mail-told}
@@ -52,54 +61,16 @@ use Rattle.md_judge.proofs.Unlisting.{rests-none}
 use Rattle.md_judge.proofs.Uniqued.{grows-on}
 use Rattle.md_judge.proofs.Reopened.{IsNoPart, open-before, open-rests, open-next, answer-no-part, reads-none}
 use Rattle.md_judge.proofs.Sparing.{found-none, found-one, ok-then, ok-two, ok-three, ok-both}
-use Rattle.md_judge.proofs.Stepping.{at-next, clocked}
+use Rattle.md_judge.proofs.Stepping.{at-next, clocked, rests}
 use Rattle.md_judge.proofs.judge.Judge.step.Goals as goal
 
--- ---- a reading
-
-pub returns-in-List-clause-overwritten : goal.returns-in-List-clause-overwritten
-returns-in-List-clause-overwritten c = λ lines l i told is here short there.
-    let x : Numbered = record { number = c.args.line; step = c.args.step } in
-    let still : at l (suc i) ≡ at l i =
-    at-next l i x is ∙ ap (λ v. after_call v (after_step (moment l i) x).now (at l i)) c.in-List.is in
-    found-still c.list.result (turn l i c.args.step) c.begin.new.self.found c.numbers.new.self.watch.found c.list.new.self.found c.begin.ensures.nothing
-    c.in_ok-names-in-List.ensures.found (none-overwritten (at l i) (at l (suc i)) still) c.list.ensures.overwrites
-
-pub returns-in-List-clause-wrong : goal.returns-in-List-clause-wrong
-returns-in-List-clause-wrong c = λ lines l i told is here short there on. absurd (subst ReadsNone c.in-List.is on)
+-- ---- what is not judged
 
 pub returns-in-List-clause-allowed : goal.returns-in-List-clause-allowed
 returns-in-List-clause-allowed c = on-ok c.list.result c.in_ok-names-in-List.ensures.allowed
 
--- ---- an answer
-
-pub returns-in-Answer-clause-overwritten : goal.returns-in-Answer-clause-overwritten
-returns-in-Answer-clause-overwritten c = λ lines l i told is here short there.
-    let x : Numbered = record { number = c.args.line; step = c.args.step } in
-    let still : at l (suc i) ≡ at l i =
-    at-next l i x is ∙ ap (λ v. after_call v (after_step (moment l i) x).now (at l i)) c.in-Answer.is in
-    found-none clause.Overwritten (Overwritten (turn l i c.args.step)) c.begin.new.self.found c.answer.new.self.found
-    (c.begin.ensures.nothing clause.Overwritten) c.answer.ensures.overwrites (none-overwritten (at l i) (at l (suc i)) still)
-
-pub returns-in-Answer-clause-wrong : goal.returns-in-Answer-clause-wrong
-returns-in-Answer-clause-wrong c = λ lines l i told is here short there on.
-    found-none clause.NotADirectory (NotADirectory (turn l i c.args.step)) c.begin.new.self.found c.answer.new.self.found
-    (c.begin.ensures.nothing clause.NotADirectory) c.answer.ensures.wrong (subst (IsWrongCall (turn l i c.args.step)) c.in-Answer.is)
-
 pub returns-in-Answer-clause-allowed : goal.returns-in-Answer-clause-allowed
 returns-in-Answer-clause-allowed c = refl
-
--- ---- a call on paths
-
-pub returns-clause-overwritten : goal.returns-clause-overwritten
-returns-clause-overwritten c = λ lines l i told is here short there.
-    found-overwritten c.call.result (turn l i c.args.step) _ (c.in_ok-self.ensures.acts lines l i told is here short there)
-    c.begin.new.self.found c.call.new.self.found c.begin.ensures.nothing c.call.ensures.overwrites
-
-pub returns-clause-wrong : goal.returns-clause-wrong
-returns-clause-wrong c = λ lines l i told is here short there on.
-    found-wrong c.call.result (turn l i c.args.step) _ (c.in_ok-self.ensures.acts lines l i told is here short there)
-    c.begin.new.self.found c.call.new.self.found c.begin.ensures.nothing on c.call.ensures.wrong
 
 pub returns-clause-allowed : goal.returns-clause-allowed
 returns-clause-allowed c = on-ok c.call.result refl
@@ -166,17 +137,6 @@ told-part c lines l i told is-open is here there now rises =
       recalls = before.open_at number x.actor folder place named;
     }
 
-pub returns-in-List-clause-read : goal.returns-in-List-clause-read
-returns-in-List-clause-read c = λ lines l i told is-open is here short there now rises.
-    let judge = c.numbers.new.self in
-    let wrong = NotADirectory (turn l i c.args.step) in
-    ok-then c.list.result (NotesOne clause.NotADirectory wrong judge.watch.found c.list.new.self.found)
-    (Has c.list.new.self.found.broken clause.NotADirectory ↔ wrong)
-    (λ notes. found-one clause.NotADirectory wrong wrong judge.watch.found c.list.new.self.found
-    (subst (λ (f : Found). Has f.broken clause.NotADirectory → ⊥) (sym c.in_ok-names-in-List.ensures.found) (c.begin.ensures.nothing clause.NotADirectory))
-    notes (λ h. h, λ h. h)) (c.list.ensures.wrong lines l i c.args.step c.in-List.shown
-    (told-part c lines l i told is-open is here there now rises))
-
 pub returns-in-Answer-clause-opens : goal.returns-in-Answer-clause-opens
 returns-in-Answer-clause-opens c = λ lines l i is-open is here now.
     let first = c.args.self.now in
@@ -186,10 +146,6 @@ returns-in-Answer-clause-opens c = λ lines l i is-open is here now.
     open-rests lines c.number.new.self c.unique.new.self l i first.listings first.listings before c.args.step (c.args.line, is)
     (subst IsNoPart (sym c.in-Answer.is) (answer-no-part _ _ _))
 
-pub returns-in-Answer-clause-read : goal.returns-in-Answer-clause-read
-returns-in-Answer-clause-read c = λ lines l i told is-open is here short there now rises.
-    returns-in-Answer-clause-wrong c lines l i told is here short there (subst ReadsNone (sym c.in-Answer.is) tt)
-
 pub returns-clause-opens : goal.returns-clause-opens
 returns-clause-opens c = λ lines l i is-open is here now.
     let first = c.args.self.now in
@@ -198,11 +154,6 @@ returns-clause-opens c = λ lines l i is-open is here now.
     c.step.ensures.keeps (λ name n of. of) refl refl is-open in
     on-ok c.call.result (open-rests lines c.number.new.self c.step.new.self.names l i first.listings first.listings before c.args.step (c.args.line, is)
     (λ folder place r shown same. c.in_default.not-List folder place r shown same))
-
-pub returns-clause-read : goal.returns-clause-read
-returns-clause-read c = λ lines l i told is-open is here short there now rises.
-    returns-clause-wrong c lines l i told is here short there
-    (reads-none c.args.step.call (λ folder place r shown same. c.in_default.not-List folder place r shown same))
 
 -- ---- listings that go on
 
@@ -267,6 +218,8 @@ returns-in-List-acting c lines l i acting is here short now =
     let uniques = judge.known.names.uniques in
     let numbered = c.in_ok-names-in-List.ensures.numbered in
     let read = c.in-List.folder in
+    let y : Numbered = record { number = c.args.line; step = x } in
+    let unmoved : at l (suc i) ≡ at l i = at-next l i y is ∙ ap (λ v. after_call v (after_step (moment l i) y).now (at l i)) c.in-List.is in
     let before = acting-before lines first.actor_names names c.in_ok-actor.field-0-1 c.as_slice.result.now first.known.names.uniques uniques l i
     first.watch.actors first.listings c.in_ok-actor.ensures.grows c.are_apart.ensures.apart
     (λ n w of. c.in_ok-names-in-List.ensures.uniques.keeps w n (c.in_ok-self.ensures.uniques.keeps w n of)) numbered.uniques acting in
@@ -279,8 +232,8 @@ returns-in-List-acting c lines l i acting is here short now =
     (λ notes still. subst (λ (ws : List (List ℕ)). AreActing lines ws uniques l (suc i) c.list.new.self.actors c.list.new.listings) (sym c.numbers.ensures.rest.2)
     (acting-read lines names uniques l i x (c.args.line, is) me named c.are_apart.ensures.apart first.watch.actors c.begin.new.self.actors
     c.list.new.self.actors first.watch.now (now ∙ sym here) first.listings c.list.new.listings before
-    (c.in_ok-begin.ensures.begun few) c.in_ok-begin.ensures.others c.in_ok-begin.ensures.done
-    no-answer (λ f w e on. subst (λ (v : Call). ActsOn v f w e) c.in-List.is on)
+    (c.in_ok-begin.ensures.begun few) c.in_ok-begin.ensures.others c.in_ok-begin.ensures.done c.begin.ensures.moved
+    no-answer unmoved (λ f w e on. subst (λ (v : Call). ActsOn v f w e) c.in-List.is on)
     (still ∙ ap (λ (w : Watch). w.actors) c.numbers.ensures.rest.0) read
     (λ f. subst (λ (v : Call). Looks v f ↔ (read ≡ f)) (sym c.in-List.is) (λ h. h, λ h. h))
     (subst (λ (n : ℕ). NotesLook me read n first.listings c.list.new.listings) same-now
@@ -304,56 +257,91 @@ returns-in-Answer-acting c lines l i acting is here short now =
     (λ n w of. c.in_ok-unique-in-Answer.ensures.uniques.keeps w n (c.in_ok-self.ensures.uniques.keeps w n of)) numbered.uniques acting in
     let few : first.watch.now < 4294967296 = omega (arith, now, short) in
     let named = c.in_ok-actor.ensures.found ∙ ap Some c.as_slice.ensures in
+    let y : Numbered = record { number = c.args.line; step = x } in
+    let unmoved : at l (suc i) ≡ at l i = at-next l i y is ∙ ap (λ v. after_call v (after_step (moment l i) y).now (at l i)) c.in-Answer.is in
     acting-answered lines names uniques l i x (c.args.line, is) me named c.are_apart.ensures.apart first.watch.actors c.begin.new.self.actors
     c.answer.new.self.actors first.watch.now (now ∙ sym here) first.listings first.listings before
-    (c.in_ok-begin.ensures.begun few) c.in_ok-begin.ensures.others c.in_ok-begin.ensures.done
+    (c.in_ok-begin.ensures.begun few) c.in_ok-begin.ensures.others c.in_ok-begin.ensures.done c.begin.ensures.moved
     c.in-Answer.said c.in-Answer.folder c.in_ok-unique-in-Answer.unique c.in-Answer.unique c.in-Answer.is
-    (c.in_ok-unique-in-Answer.ensures.number ∙ ap Some c.as_slice-in-Answer.ensures) numbered.uniques c.answer.ensures.tells refl
+    (c.in_ok-unique-in-Answer.ensures.number ∙ ap Some c.as_slice-in-Answer.ensures) numbered.uniques c.answer.ensures.tells unmoved c.answer.ensures.moved refl
 
-returns-acting : (c : goal.Joined-step-9) (lines : ℕ → ℕ) (l : Log) (i : ℕ)
-    → AreActing lines c.args.self.now.actor_names c.args.self.now.known.names.uniques l i c.args.self.now.watch.actors c.args.self.now.listings
+-- what the call did is what its act says
+judged-in : (c : goal.Joined-step-9) (lines : ℕ → ℕ) (l : Log) (i : ℕ) → Remembers lines l i c.args.self.now
     → slice_get l.steps i ≡ Some (record { number = c.args.line; step = c.args.step }) → lines i ≡ c.args.line → c.args.line < 4294967295
-    → c.args.self.now.watch.now ≡ c.args.line
+    → HasFolders (at l i) c.args.step.call
+    → (path : Spot → Path) × IsJudged path (name_at c.number.new.self) (length c.number.new.self) l i c.args.step c.in_ok-actor.actor c.args.step.call
+    c.step.new.self c.in_ok-self.field-0
+judged-in c lines l i keeps is here short there =
+    let acts = acts-by c.number.new.self c.in_ok-actor.actor c.args.step c.are_apart.ensures.apart (c.in_ok-actor.ensures.found ∙ ap Some c.as_slice.ensures) in
+    let done = c.in_ok-self.ensures.done lines l i keeps.told is here short there in
+    (done.0, record { step = (c.args.line, is); call = refl; acts = acts; clock = c.step.ensures.clock l i keeps.clock is; done = done.1 })
+
+returns-acting : (c : goal.Joined-step-9) (lines : ℕ → ℕ) (l : Log) (i : ℕ) → Remembers lines l i c.args.self.now
+    → slice_get l.steps i ≡ Some (record { number = c.args.line; step = c.args.step }) → lines i ≡ c.args.line → c.args.line < 4294967295
+    → c.args.self.now.watch.now ≡ c.args.line → HasFolders (at l i) c.args.step.call
     → OnOk c.call.result (AreActing lines c.number.new.self c.step.new.self.names.uniques l (suc i) c.call.new.self.actors c.args.self.now.listings)
-returns-acting c lines l i acting is here short now =
+returns-acting c lines l i keeps is here short now there =
     let x = c.args.step in
     let names = c.number.new.self in
     let first = c.args.self.now in
-    let uniques = c.step.new.self.names.uniques in
+    let known = c.step.new.self in
+    let uniques = known.names.uniques in
     let numbered = c.are_numbered.ensures in
     let before = acting-before lines first.actor_names names c.in_ok-actor.field-0-1 c.as_slice.result.now first.known.names.uniques uniques l i first.watch.actors
-    first.listings c.in_ok-actor.ensures.grows c.are_apart.ensures.apart (λ n w of. c.in_ok-self.ensures.uniques.keeps w n of) numbered.uniques acting in
+    first.listings c.in_ok-actor.ensures.grows c.are_apart.ensures.apart (λ n w of. c.in_ok-self.ensures.uniques.keeps w n of) numbered.uniques keeps.acting in
     let few : first.watch.now < 4294967296 = omega (arith, now, short) in
     let few' : c.begin.new.self.now < 4294967296 = (let same = c.begin.ensures.now in omega (arith, few, same)) in
     let named = c.in_ok-actor.ensures.found ∙ ap Some c.as_slice.ensures in
+    let me = c.in_ok-actor.actor in
     let act = c.in_ok-self.field-0 in
-    let on = acted c.step.new.self.names act.spot x.call in
+    let change = act.change in
+    let on = acted known.names act.spot x.call in
     let no-answer : (said : Said) (folder : ℕ) (unique : List ℕ) → x.call ≡ call.Answer said folder unique → ⊥ =
     λ said folder unique e. c.in_default.not-Answer said folder unique e in
     let no-list : (folder : ℕ) → Looks x.call folder → ⊥ = no-looks x.call (λ folder place r shown e. c.in_default.not-List folder place r shown e) in
-    ok-then c.call.result (NotesAct c.in_ok-actor.actor c.begin.new.self.now on c.begin.new.self.actors c.call.new.self.actors) _
-    (λ notes. acting-called lines names uniques l i x (c.args.line, is) c.in_ok-actor.actor named c.are_apart.ensures.apart first.watch.actors
-    c.begin.new.self.actors c.call.new.self.actors first.watch.now (now ∙ sym here) first.listings first.listings before
-    (c.in_ok-begin.ensures.begun few) c.in_ok-begin.ensures.others c.in_ok-begin.ensures.done
-    no-answer on (acts-on c.step.new.self.names act.spot act refl x.call c.in_ok-self.ensures.first)
-    (on-acts c.step.new.self.names act.spot act refl x.call c.in_ok-self.ensures.first) no-list numbered.uniques
-    (subst (λ (n : ℕ). NotesAct c.in_ok-actor.actor n on c.begin.new.self.actors c.call.new.self.actors) c.begin.ensures.now notes) refl)
-    (c.call.ensures.acts few')
+    let judged = judged-in c lines l i keeps is here short there in
+    let begun = c.begin.new.self in
+    let last = c.call.new.self in
+    let mail = subst (λ (m : Mail). TellsMail known.names l i m) (sym c.begin.ensures.mail)
+    (tells-grows first.known.names known.names c.in_ok-self.ensures.uniques l i first.watch.mail keeps.mailed) in
+    let present : ArePresent begun.mail = subst (λ (m : Mail). ArePresent m) (sym c.begin.ensures.mail) keeps.timed.present in
+    let folders : length begun.mail.present.items ≡ l.opening.folders =
+    subst (λ (m : Mail). length m.present.items ≡ l.opening.folders) (sym c.begin.ensures.mail) keeps.timed.folders in
+    let told = c.in_ok-self.ensures.told lines l i keeps.told is here short there in
+    let goes = GoesWith known.names change.taken last.mail in
+    let moved = NotesMoves me begun.now goes begun.actors last.actors in
+    let marked = MarksChange known.names me change begun.mail last.mail begun.actors last.actors in
+    let kept-mail = TellsMail known.names l (suc i) last.mail in
+    let kept-present = KeepsPresent begun.mail last.mail in
+    ok-three c.call.result (NotesAct me begun.now on begun.actors last.actors) (moved × marked) (kept-mail × kept-present) _
+    (λ notes done rest.
+    let within = in-folders lines l (suc i) known last.mail told (rest.1.many ∙ folders) in
+    acting-called lines names uniques l i x (c.args.line, is) me named c.are_apart.ensures.apart first.watch.actors
+    begun.actors last.actors first.watch.now (now ∙ sym here) first.listings first.listings before
+    (c.in_ok-begin.ensures.begun few) c.in_ok-begin.ensures.others c.in_ok-begin.ensures.done c.begin.ensures.moved
+    no-answer on (acts-on known.names act.spot act refl x.call c.in_ok-self.ensures.first)
+    (on-acts known.names act.spot act refl x.call c.in_ok-self.ensures.first) no-list numbered.uniques
+    (subst (λ (n : ℕ). NotesAct me n on begun.actors last.actors) c.begin.ensures.now notes)
+    goes (goes-or-not known.names change.taken last.mail) (subst (λ (n : ℕ). NotesMoves me n goes begun.actors last.actors) c.begin.ensures.now done.0)
+    (λ folder u unique stands to. goes-with judged.0 known.names l i change judged.1.done.leads judged.1.done.spots last.mail rest.0.0
+    (rest.1.present present) within folder u unique stands to) refl
+    (OnPath (IsOfMissing known.names begun.mail) change.added) (ChangesPaths known.names change) (Unlinks known.names last.mail change.taken change.is_unlink)
+    done.1
+    (λ folder u unique stands. change-deeds judged.0 known.names numbered.uniques folder u unique stands l i x (c.args.line, is) act judged.1.done
+    begun.mail last.mail mail.0 rest.0.0))
+    (c.call.ensures.acts few') (ok-both c.call.result moved marked c.call.ensures.moves c.call.ensures.deeds)
+    (ok-both c.call.result kept-mail kept-present
+    (c.call.ensures.mailed judged.0 (name_at names) (length names) i l x mail judged.1) c.call.ensures.present)
 
--- ---- answers that give up
+-- ---- answers
 
-pub returns-in-List-clause-gave_up : goal.returns-in-List-clause-gave_up
-returns-in-List-clause-gave_up c = λ lines l i keeps is here short now rises counted.
-    let t = turn l i c.args.step in
-    let old = c.numbers.new.self.watch.found in
-    let none : GaveUp t → ⊥ = λ gave. let answers = gave.4 in let no = c.in-List.is in cc in
-    ok-then c.list.result (KeepsAnswers old c.list.new.self.found) (Has c.list.new.self.found.broken clause.GaveUp ↔ GaveUp t)
-    (λ answers. found-none clause.GaveUp (GaveUp t) old c.list.new.self.found
-    (subst (λ (f : Found). Has f.broken clause.GaveUp → ⊥) (sym c.in_ok-names-in-List.ensures.found) (c.begin.ensures.nothing clause.GaveUp))
-    answers.gave_up none) c.list.ensures.answers
-
-pub returns-in-Answer-clause-gave_up : goal.returns-in-Answer-clause-gave_up
-returns-in-Answer-clause-gave_up c = λ lines l i keeps is here short now rises counted.
+-- an answer's span, and what is kept of what it says
+answering : (c : goal.Joined-step-8) (lines : ℕ → ℕ) (l : Log) (i : ℕ) → Remembers lines l i c.args.self.now
+    → slice_get l.steps i ≡ Some (record { number = c.args.line; step = c.args.step }) → lines i ≡ c.args.line → c.args.line < 4294967295
+    → c.args.self.now.watch.now ≡ c.args.line → ((a b : ℕ) → a < b → lines a < lines b) → ((a : ℕ) → 0 < lines a)
+    → (first : ℕ) × IsAnswering lines first i c.in_ok-actor.actor c.in-Answer.said (c.in-Answer.folder, c.in_ok-unique-in-Answer.unique) c.in-Answer.unique l
+    c.args.step c.begin.new.self c.args.self.now.listings
+answering c lines l i keeps is here short now rises counted =
     let x = c.args.step in
     let step-is : IsStep l i x = (c.args.line, is) in
     let first = c.args.self.now in
@@ -374,31 +362,65 @@ returns-in-Answer-clause-gave_up c = λ lines l i keeps is here short now rises 
     let o = begun_by first.watch.actors me key in
     let span = span-of lines l i x step-is x.actor folder unique refl o (before.begun me x.actor folder u unique named of) in
     let t = turn l i x in
-    let done : About = done_by first.watch.actors me key in
-    let notes = c.answer.ensures.gave_up lines span.0 i unique l x (record {
-      call = c.in-Answer.is;
-      span = span.2;
-      rises = rises;
-      counted = counted;
-      begins = c.in_ok-begin.ensures.begun few key ∙ ap (λ (n : ℕ). Some (unwrap_or o n)) (now ∙ sym here) ∙ ap Some span.1;
-      acts = subst (λ (a : About). RecallsActs lines t span.0 folder unique a) (sym (c.in_ok-begin.ensures.done me key))
-          (acts-in lines l i x step-is x.actor folder unique span.0 refl span.2 done (before.done me x.actor folder u unique named of));
-      looks = before.looks me x.actor folder named;
-      there = subst (λ (m : Mail). (0 < count_of (message_of m folder u)) ↔ IsThere (at l i) folder unique) (sym c.begin.ensures.mail)
-          (are-present first.known.names l i first.watch.mail keeps.mailed.0 folder u unique
-          (stood first.known.names.uniques uniques keeps-words numbered.uniques u unique of));
-    }) in
-    found-one clause.GaveUp (GaveUp t) (GaveUp t) c.begin.new.self.found c.answer.new.self.found (c.begin.ensures.nothing clause.GaveUp) notes
-    (λ h. h, λ h. h)
+    let done : About = done_by first.watch.actors me key in (
+      span.0,
+      record {
+        call = c.in-Answer.is;
+        span = span.2;
+        rises = rises;
+        counted = counted;
+        begins = c.in_ok-begin.ensures.begun few key ∙ ap (λ (n : ℕ). Some (unwrap_or o n)) (now ∙ sym here) ∙ ap Some span.1;
+        acts = subst (λ (a : About). RecallsActs lines t span.0 folder unique a) (sym (c.in_ok-begin.ensures.done me key))
+            (acts-in lines l i x step-is x.actor folder unique span.0 refl span.2 done (before.done me x.actor folder u unique named of));
+        looks = before.looks me x.actor folder named;
+        there = subst (λ (m : Mail). (0 < count_of (message_of m folder u)) ↔ IsThere (at l i) folder unique) (sym c.begin.ensures.mail)
+            (are-present first.known.names l i first.watch.mail keeps.mailed.0 folder u unique
+            (stood first.known.names.uniques uniques keeps-words numbered.uniques u unique of));
+      },
+    )
 
-pub returns-clause-gave_up : goal.returns-clause-gave_up
-returns-clause-gave_up c = λ lines l i keeps is here short now rises counted.
-    let t = turn l i c.args.step in
-    let old = c.begin.new.self.found in
-    let none : GaveUp t → ⊥ = λ gave. c.in_default.not-Answer gave.1 gave.2 gave.3 gave.4 in
-    ok-then c.call.result (KeepsAnswers old c.call.new.self.found) (Has c.call.new.self.found.broken clause.GaveUp ↔ GaveUp t)
-    (λ answers. found-none clause.GaveUp (GaveUp t) old c.call.new.self.found (c.begin.ensures.nothing clause.GaveUp) answers.gave_up none)
-    c.call.ensures.answers
+-- what was told before an answer is told when it is judged
+told-answer : (c : goal.Joined-step-8) (lines : ℕ → ℕ) (l : Log) (i : ℕ) → IsToldAt lines l i c.args.self.now.known
+    → IsToldAt lines l i (record c.step.new.self { names = c.unique.new.self })
+told-answer c lines l i told =
+    let first = c.args.self.now.known in
+    let known = c.step.new.self in
+    grows lines l i known _ (subst (λ (k : Known). IsToldAt lines l i k) (sym (c.step.ensures.answers (subst IsAnswerCall (sym c.in-Answer.is) tt)))
+    (clocked lines l i first known.clock told)) c.unique.ensures.keeps c.in_ok-unique-in-Answer.ensures.numbered refl refl
+
+-- what is kept of what an answer says is what the log tells
+answer-so : (c : goal.Joined-step-8) (lines : ℕ → ℕ) (l : Log) (i : ℕ) → Remembers lines l i c.args.self.now
+    → slice_get l.steps i ≡ Some (record { number = c.args.line; step = c.args.step }) → lines i ≡ c.args.line
+    → ((a b : ℕ) → a < b → lines a < lines b) → (first : ℕ) → IsSpan l first i c.args.step.actor c.in-Answer.folder c.in-Answer.unique
+    → RecallsSo lines (turn l i c.args.step) first c.in-Answer.folder c.in-Answer.unique c.in-Answer.said
+    (claim_by (record c.step.new.self { names = c.unique.new.self }) c.begin.new.self c.args.self.now.listings c.in_ok-actor.actor c.in-Answer.said
+    (c.in-Answer.folder, c.in_ok-unique-in-Answer.unique) (lines first))
+answer-so c lines l i keeps is here rises begins span =
+    let x = c.args.step in
+    let first = c.args.self.now in
+    let folder = c.in-Answer.folder in
+    let u = c.in_ok-unique-in-Answer.unique in
+    let unique = c.in-Answer.unique in
+    let me = c.in_ok-actor.actor in
+    let begun = c.begin.new.self in
+    let names = c.unique.new.self in
+    let more = grows-on first.known.names c.step.new.self.names names c.in_ok-self.ensures.uniques c.in_ok-unique-in-Answer.ensures.uniques in
+    let of = c.in_ok-unique-in-Answer.ensures.number ∙ ap Some c.as_slice-in-Answer.ensures in
+    let before = acting-before lines first.actor_names c.number.new.self c.in_ok-actor.field-0-1 c.as_slice.result.now first.known.names.uniques
+    names.uniques l i first.watch.actors first.listings c.in_ok-actor.ensures.grows c.are_apart.ensures.apart (λ n w is. more.keeps w n is)
+    c.in_ok-unique-in-Answer.ensures.numbered.uniques keeps.acting in
+    let named : MayStand c.number.new.self me x.actor = inl (c.in_ok-actor.ensures.found ∙ ap Some c.as_slice.ensures) in
+    let mailed = subst (λ (m : Mail). AreMailed names l i m) (sym c.begin.ensures.mail)
+    (tells-grows first.known.names names more l i first.watch.mail keeps.mailed).0 in
+    let timed = subst (λ (m : Mail). AreTimed lines names l i m) (sym c.begin.ensures.mail)
+    ((times-grow lines first.known.names names l i first.watch.mail more keeps.mailed.0 keeps.timed).timed rises) in
+    let moves : (to : ℕ) → IsLastLine lines (MovedAt l i x.actor folder unique to) (moved_by begun.actors me (folder, u) to) = λ to.
+    subst (λ (o : Option ℕ). IsLastLine lines (MovedAt l i x.actor folder unique to) o)
+    (ap (λ m. get move_cmp m ((me, (folder, u)), to)) (sym c.begin.ensures.moved)) (before.moves me x.actor folder u unique to named (inl of)) in
+    let deeds = subst (λ (a : About). RecallsDeeds l i x.actor folder unique a) (sym (c.in_ok-begin.ensures.done me (folder, u)))
+    (before.deeds me x.actor folder u unique named (inl of)) in
+    so-said lines rises (record c.step.new.self { names = names }) l i folder u unique of (told-answer c lines l i keeps.told)
+    c.in_ok-unique-in-Answer.ensures.numbered x begun first.listings me begins span mailed timed moves deeds c.in-Answer.said c.answer.ensures.letters
 
 -- ---- messages that listings lack
 
@@ -429,6 +451,99 @@ returns-in-List-unlisted c lines l i keeps is here now rises there =
     (subst (λ (f : Found). Has f.broken clause.Unlisted → ⊥) (sym c.in_ok-names-in-List.ensures.found) (c.begin.ensures.nothing clause.Unlisted))
     notes (λ h. h, λ h. h)) (c.list.ensures.unlisted lines l i x c.in-List.shown
     (told-part c lines l i keeps.told keeps.opens is here there now rises) (before.gathered_at c.in_ok-actor.actor x.actor folder named) mail)
+
+-- ---- clauses that are judged one by one
+
+alone-in-List : (c : goal.Joined-step-6) (lines : ℕ → ℕ) (l : Log) (i : ℕ) → Remembers lines l i c.args.self.now
+    → slice_get l.steps i ≡ Some (record { number = c.args.line; step = c.args.step }) → lines i ≡ c.args.line
+    → c.args.self.now.watch.now ≡ c.args.line → ((a b : ℕ) → a < b → lines a < lines b) → HasFolders (at l i) c.args.step.call
+    → OnOk c.list.result (IsJudgedAlone c.list.new.self.found.broken (turn l i c.args.step))
+alone-in-List c lines l i keeps is here now rises there =
+    let x = c.args.step in
+    let t = turn l i x in
+    let begun = c.begin.new.self.found in
+    let shown = c.numbers.new.self.watch.found in
+    let new = c.list.new.self.found in
+    let nothing : (k : Clause) → Has shown.broken k → ⊥ = λ k.
+    subst (λ (f : Found). Has f.broken k → ⊥) (sym c.in_ok-names-in-List.ensures.found) (c.begin.ensures.nothing k) in
+    let y : Numbered = record { number = c.args.line; step = x } in
+    let still : at l (suc i) ≡ at l i = at-next l i y is ∙ ap (λ v. after_call v (after_step (moment l i) y).now (at l i)) c.in-List.is in
+    let no-success : GaveUp t → ⊥ = λ gave. let answers = gave.4 in let no = c.in-List.is in cc in
+    let no-answer : AnsweredFalsely t → ⊥ = λ false. let answers = false.4 in let no = c.in-List.is in cc in
+    let wrong = NotADirectory t in
+    let is-wrong = Has new.broken clause.NotADirectory ↔ wrong in
+    let is-overwritten = Has new.broken clause.Overwritten ↔ Overwritten t in
+    ok-three c.list.result (is-wrong × is-overwritten) (KeepsAnswers shown new) (Has new.broken clause.Unlisted ↔ Unlisted t) (IsJudgedAlone new.broken t)
+    (λ two answers unlisted. record {
+      wrong = two.0;
+      overwritten = two.1;
+      gave_up = found-none clause.GaveUp (GaveUp t) shown new (nothing clause.GaveUp) answers.gave_up no-success;
+      falsely = found-none clause.AnsweredFalsely (AnsweredFalsely t) shown new (nothing clause.AnsweredFalsely) answers.falsely no-answer;
+      unlisted = unlisted;
+    })
+    (ok-both c.list.result is-wrong is-overwritten
+    (ok-then c.list.result (NotesOne clause.NotADirectory wrong shown new) is-wrong
+    (λ notes. found-one clause.NotADirectory wrong wrong shown new (nothing clause.NotADirectory) notes (λ h. h, λ h. h))
+    (c.list.ensures.wrong lines l i x c.in-List.shown (told-part c lines l i keeps.told keeps.opens is here there now rises)))
+    (found-still c.list.result t begun shown new c.begin.ensures.nothing c.in_ok-names-in-List.ensures.found
+    (none-overwritten (at l i) (at l (suc i)) still) c.list.ensures.overwrites)) c.list.ensures.answers
+    (returns-in-List-unlisted c lines l i keeps is here now rises there)
+
+alone-in-Answer : (c : goal.Joined-step-8) (lines : ℕ → ℕ) (l : Log) (i : ℕ) → Remembers lines l i c.args.self.now
+    → slice_get l.steps i ≡ Some (record { number = c.args.line; step = c.args.step }) → lines i ≡ c.args.line → c.args.line < 4294967295
+    → c.args.self.now.watch.now ≡ c.args.line → ((a b : ℕ) → a < b → lines a < lines b) → ((a : ℕ) → 0 < lines a)
+    → IsJudgedAlone c.answer.new.self.found.broken (turn l i c.args.step)
+alone-in-Answer c lines l i keeps is here short now rises counted =
+    let x = c.args.step in
+    let t = turn l i x in
+    let begun = c.begin.new.self.found in
+    let new = c.answer.new.self.found in
+    let nothing = c.begin.ensures.nothing in
+    let y : Numbered = record { number = c.args.line; step = x } in
+    let still : at l (suc i) ≡ at l i = at-next l i y is ∙ ap (λ v. after_call v (after_step (moment l i) y).now (at l i)) c.in-Answer.is in
+    let unique = c.in-Answer.unique in
+    let it = answering c lines l i keeps is here short now rises counted in
+    let so = answer-so c lines l i keeps is here rises it.0 it.1.span in
+    record {
+      wrong = found-none clause.NotADirectory (NotADirectory t) begun new (nothing clause.NotADirectory) c.answer.ensures.wrong
+          (subst (IsWrongCall t) c.in-Answer.is);
+      overwritten = found-none clause.Overwritten (Overwritten t) begun new (nothing clause.Overwritten) c.answer.ensures.overwrites
+          (none-overwritten (at l i) (at l (suc i)) still);
+      gave_up = found-one clause.GaveUp (GaveUp t) (GaveUp t) begun new (nothing clause.GaveUp)
+          (c.answer.ensures.gave_up lines it.0 i unique l x it.1) (λ h. h, λ h. h);
+      falsely = found-one clause.AnsweredFalsely (AnsweredFalsely t) (AnsweredFalsely t) begun new (nothing clause.AnsweredFalsely)
+          (c.answer.ensures.falsely lines it.0 i unique l x it.1 so) (λ h. h, λ h. h);
+      unlisted = found-none clause.Unlisted (Unlisted t) begun new (nothing clause.Unlisted) c.answer.ensures.unlisted
+          (rests-none l i x (c.args.line, is) (subst IsNoPart (sym c.in-Answer.is) (answer-no-part _ _ _)));
+    }
+
+alone-by-call : (c : goal.Joined-step-9) (lines : ℕ → ℕ) (l : Log) (i : ℕ) → Remembers lines l i c.args.self.now
+    → slice_get l.steps i ≡ Some (record { number = c.args.line; step = c.args.step }) → lines i ≡ c.args.line → c.args.line < 4294967295
+    → HasFolders (at l i) c.args.step.call → OnOk c.call.result (IsJudgedAlone c.call.new.self.found.broken (turn l i c.args.step))
+alone-by-call c lines l i keeps is here short there =
+    let x = c.args.step in
+    let t = turn l i x in
+    let begun = c.begin.new.self.found in
+    let new = c.call.new.self.found in
+    let nothing = c.begin.ensures.nothing in
+    let acts = c.in_ok-self.ensures.acts lines l i keeps.told is here short there in
+    let no-success : GaveUp t → ⊥ = λ gave. c.in_default.not-Answer gave.1 gave.2 gave.3 gave.4 in
+    let no-answer : AnsweredFalsely t → ⊥ = λ false. c.in_default.not-Answer false.1 false.2 false.3 false.4 in
+    let is-wrong = Has new.broken clause.NotADirectory ↔ NotADirectory t in
+    let is-overwritten = Has new.broken clause.Overwritten ↔ Overwritten t in
+    ok-three c.call.result (is-wrong × is-overwritten) (KeepsAnswers begun new) (Keeps clause.Unlisted begun new) (IsJudgedAlone new.broken t)
+    (λ two answers kept. record {
+      wrong = two.0;
+      overwritten = two.1;
+      gave_up = found-none clause.GaveUp (GaveUp t) begun new (nothing clause.GaveUp) answers.gave_up no-success;
+      falsely = found-none clause.AnsweredFalsely (AnsweredFalsely t) begun new (nothing clause.AnsweredFalsely) answers.falsely no-answer;
+      unlisted = found-none clause.Unlisted (Unlisted t) begun new (nothing clause.Unlisted) kept
+          (rests-none l i x (c.args.line, is) (λ folder place r shown same. c.in_default.not-List folder place r shown same));
+    })
+    (ok-both c.call.result is-wrong is-overwritten
+    (found-wrong c.call.result t _ acts begun new nothing
+    (reads-none x.call (λ folder place r shown same. c.in_default.not-List folder place r shown same)) c.call.ensures.wrong)
+    (found-overwritten c.call.result t _ acts begun new nothing c.call.ensures.overwrites)) c.call.ensures.answers c.call.ensures.unlisted
 
 -- ---- what is kept, and what is found
 
@@ -494,21 +609,12 @@ returns-in-List-clause-broken c = λ lines l i keeps is here short now rises cou
     let t = turn l i x in
     let shown = c.numbers.new.self.watch.found in
     let new = c.list.new.self.found in
-    let wrong = Has new.broken clause.NotADirectory ↔ NotADirectory t in
-    let overwritten = Has new.broken clause.Overwritten ↔ Overwritten t in
-    let gave = Has new.broken clause.GaveUp ↔ GaveUp t in
-    let unlisted = Has new.broken clause.Unlisted ↔ Unlisted t in
     ok-three c.list.result (IsJudgedAlone new.broken t) (KeepsFiles shown new) (KeepsMessages shown new)
-    ((k : Clause) → IsProved k → Has new.broken k ↔ Breaks k t)
-    (λ alone kept added. kept-proved t c.begin.new.self.found shown new c.begin.ensures.nothing c.in_ok-names-in-List.ensures.found alone kept
+    ((k : Clause) → Has new.broken k ↔ Breaks k t)
+    (λ one-by-one kept added. kept-found t c.begin.new.self.found shown new c.begin.ensures.nothing c.in_ok-names-in-List.ensures.found one-by-one kept
     (still-lawful who (length names) l i x step-is actor acts c.args.self.now.watch.files.all.items are c.step.new.self.names still apart)
     added (still-two l i still x) (still-again l i still x) (still-gone l i still x))
-    (ok-three c.list.result wrong overwritten (gave × unlisted) (IsJudgedAlone new.broken t)
-    (λ w o rest. record { wrong = w; overwritten = o; gave_up = rest.0; unlisted = rest.1 })
-    (returns-in-List-clause-read c lines l i keeps.told keeps.opens is here short there now rises)
-    (returns-in-List-clause-overwritten c lines l i keeps.told is here short there)
-    (ok-both c.list.result gave unlisted (returns-in-List-clause-gave_up c lines l i keeps is here short now rises counted)
-    (returns-in-List-unlisted c lines l i keeps is here now rises there))) c.list.ensures.others c.list.ensures.added
+    (alone-in-List c lines l i keeps is here now rises there) c.list.ensures.others c.list.ensures.added
 
 pub returns-in-Answer-clause-told : goal.returns-in-Answer-clause-told
 returns-in-Answer-clause-told c = λ lines l i keeps is here short now there.
@@ -528,8 +634,7 @@ returns-in-Answer-clause-told c = λ lines l i keeps is here short now there.
     c.in_ok-unique-in-Answer.ensures.uniques in
     let told = tells-grows first.known.names c.unique.new.self more l i first.watch.mail keeps.mailed in
     record {
-      told = grows lines l (suc i) c.step.new.self _ (c.in_ok-self.ensures.told lines l i keeps.told is here short there)
-          c.unique.ensures.keeps c.in_ok-unique-in-Answer.ensures.numbered refl refl;
+      told = rests lines l i (record c.step.new.self { names = c.unique.new.self }) (told-answer c lines l i keeps.told) still;
       filed = subst (λ (f : Files). AreFiled who (length names) l (suc i) f.all.items) (sym (c.answer.ensures.files ∙ c.begin.ensures.files))
           (still-filed who (length names) l i x step-is actor acts c.args.self.now.watch.files.all.items are c.step.new.self.names still apart);
       clock = c.step.ensures.clock l i keeps.clock is;
@@ -557,13 +662,8 @@ returns-in-Answer-clause-broken c = λ lines l i keeps is here short now rises c
     let still : at l (suc i) ≡ at l i = at-next l i y is ∙ ap (λ v. after_call v (after_step (moment l i) y).now (at l i)) c.in-Answer.is in
     let apart : (d : Deed) (p : Path) (r : Reply) → x.call ≡ call.At d p r → ⊥ = λ d p r e. let no = c.in-Answer.is in cc in
     let found = c.begin.new.self.found in
-    kept-proved (turn l i x) found found c.answer.new.self.found c.begin.ensures.nothing refl (record {
-      wrong = returns-in-Answer-clause-read c lines l i keeps.told keeps.opens is here short there now rises;
-      overwritten = returns-in-Answer-clause-overwritten c lines l i keeps.told is here short there;
-      gave_up = returns-in-Answer-clause-gave_up c lines l i keeps is here short now rises counted;
-      unlisted = found-none clause.Unlisted (Unlisted (turn l i x)) found c.answer.new.self.found (c.begin.ensures.nothing clause.Unlisted)
-          c.answer.ensures.unlisted (rests-none l i x step-is (subst IsNoPart (sym c.in-Answer.is) (answer-no-part _ _ _)));
-    }) c.answer.ensures.others
+    kept-found (turn l i x) found found c.answer.new.self.found c.begin.ensures.nothing refl
+    (alone-in-Answer c lines l i keeps is here short now rises counted) c.answer.ensures.others
     (still-lawful who (length names) l i x step-is actor acts c.args.self.now.watch.files.all.items are c.step.new.self.names still apart)
     c.answer.ensures.added (still-two l i still x) (still-again l i still x) (still-gone l i still x)
 
@@ -617,7 +717,7 @@ returns-clause-told c = λ lines l i keeps is here short now there.
     (returns-clause-gathers c lines l i keeps.opens keeps.gathers is here now))
     (ok-both c.call.result (kept-mail × kept-times) kept-actors
     (ok-both c.call.result kept-mail kept-times (c.call.ensures.mailed done.0 who (length names) i l x mail judged) goes-times)
-    (returns-acting c lines l i keeps.acting is here short now))
+    (returns-acting c lines l i keeps is here short now there))
 
 pub returns-clause-broken : goal.returns-clause-broken
 returns-clause-broken c = λ lines l i keeps is here short now rises counted there.
@@ -638,21 +738,10 @@ returns-clause-broken c = λ lines l i keeps is here short now rises counted the
     let t = turn l i x in
     let begun = c.begin.new.self.found in
     let new = c.call.new.self.found in
-    let wrong = Has new.broken clause.NotADirectory ↔ NotADirectory t in
-    let overwritten = Has new.broken clause.Overwritten ↔ Overwritten t in
-    let gave = Has new.broken clause.GaveUp ↔ GaveUp t in
-    let unlisted = Has new.broken clause.Unlisted ↔ Unlisted t in
     let first = c.args.self.now in
     let mail = subst (λ (m : Mail). TellsMail c.step.new.self.names l i m) (sym c.begin.ensures.mail)
     (tells-grows first.known.names c.step.new.self.names c.in_ok-self.ensures.uniques l i first.watch.mail keeps.mailed) in
     ok-three c.call.result (IsJudgedAlone new.broken t) (NotesFiles (BrokenByFiles t) begun new) (NotesMessages t begun new)
-    ((k : Clause) → IsProved k → Has new.broken k ↔ Breaks k t) (noted-proved t begun begun new c.begin.ensures.nothing refl)
-    (ok-three c.call.result wrong overwritten (gave × unlisted) (IsJudgedAlone new.broken t)
-    (λ w o rest. record { wrong = w; overwritten = o; gave_up = rest.0; unlisted = rest.1 })
-    (returns-clause-read c lines l i keeps.told keeps.opens is here short there now rises)
-    (returns-clause-overwritten c lines l i keeps.told is here short there)
-    (ok-both c.call.result gave unlisted (returns-clause-gave_up c lines l i keeps is here short now rises counted)
-    (ok-then c.call.result (Keeps clause.Unlisted begun new) unlisted
-    (λ kept. found-none clause.Unlisted (Unlisted t) begun new (c.begin.ensures.nothing clause.Unlisted) kept
-    (rests-none l i x step-is (λ folder place r shown same. c.in_default.not-List folder place r shown same))) c.call.ensures.unlisted)))
+    ((k : Clause) → Has new.broken k ↔ Breaks k t) (noted-found t begun begun new c.begin.ensures.nothing refl)
+    (alone-by-call c lines l i keeps is here short there)
     (c.call.ensures.finds done.0 who (length names) i l x kept judged) (c.call.ensures.added done.0 who (length names) i l x mail judged)

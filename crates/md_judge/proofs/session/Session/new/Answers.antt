@@ -20,8 +20,8 @@ returns c = record {
       below = λ k x is. absurd (no-step empty_log.steps refl k x is);
       waits = c.new-5.ensures.waits;
       moved = c.new-5.ensures.moved;
-      allowed = λ o proved. (λ is. absurd (c.new-2.ensures.allowed o is), λ is. absurd (none-allowed o is));
-      found = λ n o proved. (
+      allowed = λ o. (λ is. absurd (c.new-2.ensures.allowed o is), λ is. absurd (none-allowed o is));
+      found = λ n o. (
         λ among. absurd (none-among c.new-3.result.items n o c.new-3.ensures.items among),
         λ is. absurd (finding-none empty_log n o refl is),
       );

@@ -8,6 +8,7 @@ invariant-loop-self l = record {
   same : (a : ℕ) → lines_of l.self a ≡ lines_of l.fn.self a;
   begun : l.self.begun ≡ l.fn.self.begun;
   about : l.self.about ≡ l.fn.self.about;
+  moved : l.self.moved ≡ l.fn.self.moved;
 }
 
 abbrev pub decreases-loop-self : goal.decreases-loop-self

@@ -3,8 +3,8 @@ use Rattle.md_judge.specs.Actors.{kept, Puts}
 use Rattle.md_judge.proofs.Lined.{tells}
 use Rattle.md_judge.proofs.judge.about.Actors.told.Goals as goal
 
-pub returns : goal.returns
-returns c =
+pub returns-clause-tells : goal.returns-clause-tells
+returns-clause-tells c =
     let a = c.args.actor in
     let k = c.args.key in
     let old = c.args.self.now in

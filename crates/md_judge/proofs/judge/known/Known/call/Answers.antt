@@ -3,7 +3,7 @@ use Rattle.md_dirs.specs.State.{has_folder}
 use Rattle.md_log.specs.declared.line.Call.{Call}
 use Rattle.md_judge.specs.declared.judge.known.Act.{Act}
 use Rattle.md_judge.specs.declared.judge.tables.Names.{Names}
-use Rattle.md_judge.specs.Acts.{IsWrongAsk, IsActOf, NamesFirst}
+use Rattle.md_judge.specs.Acts.{IsAnswerCall, IsWrongAsk, IsActOf, NamesFirst}
 use Rattle.md_judge.specs.Law.{turn}
 use Rattle.md_judge.specs.Told.{at, ask_at, ask_between, after_ask, after_call}
 use Rattle.md_judge.specs.Moments.{GoesOn}
@@ -76,6 +76,7 @@ returns-in_ok-spot-in-At c = record {
       (λ act is. subst (λ (v : Call). NamesFirst names v act) (sym c.in-At.is)
       (s, is, subst (λ (t : Names). IsSpotOf t c.in-At.path s) (sym c.at.ensures.names) c.in_ok-spot-in-At.ensures.spot)) c.at.ensures.spot;
   lists = λ reads. absurd (reads (subst ReadsNone (sym c.in-At.is) tt));
+  answers = λ is. absurd (subst IsAnswerCall c.in-At.is is);
   uniques = on-ok c.at.result (grows-on c.args.self.now.names c.spot.new.self.names c.at.new.self.names c.in_ok-spot-in-At.ensures.uniques
       (grows-none c.spot.new.self.names c.at.new.self.names c.at.ensures.names));
 }
@@ -147,6 +148,7 @@ returns-in_ok-new-in-Between c = record {
       (s, is, subst (λ (t : Names). IsSpotOf t old s) (sym c.between.ensures.names) (record { folder = of.folder; place = of.place; number = number })))
       c.between.ensures.spot;
   lists = λ reads. absurd (reads (subst ReadsNone (sym c.in-Between.is) tt));
+  answers = λ is. absurd (subst IsAnswerCall c.in-Between.is is);
   uniques =
       let first = c.args.self.now.names in
       let second = c.spot-in-Between.new.self.names in
@@ -188,6 +190,7 @@ returns-in-List c = record {
     | inr of ↦ subst (λ (v : Call). NamesFirst c.args.self.now.names v no-act) (sym of.3) tt
   ];
   lists = λ reads. refl;
+  answers = λ is. refl;
   uniques = grows-none c.args.self.now.names c.args.self.now.names refl;
 }
 
@@ -222,5 +225,6 @@ returns-in-List-2 c = record {
     | inr of ↦ subst (λ (v : Call). NamesFirst c.args.self.now.names v no-act) (sym of.3) tt
   ];
   lists = λ reads. refl;
+  answers = λ is. refl;
   uniques = grows-none c.args.self.now.names c.args.self.now.names refl;
 }

@@ -27,4 +27,5 @@ returns c = record {
   uniques = c.call.ensures.uniques;
   first = c.call.ensures.first;
   lists = λ reads. clocked-same c.args.self.now _ c.call.new.self (c.call.ensures.lists reads);
+  answers = λ is. clocked-same c.args.self.now _ c.call.new.self (c.call.ensures.answers is);
 }

@@ -1,18 +1,15 @@
-use Rattle.std.proofs.Common.{ℕ, ◌≡◌, ◌∙◌, Option, Some, refl, sym, ap, subst}
+use Rattle.std.proofs.Common.{ℕ, ◌≡◌, ◌∙◌, Option, Some, sym, ap, subst}
 use Rattle.md_judge.specs.declared.judge.copied.Copied.{Copied}
 use Rattle.md_judge.specs.declared.judge.mail.Mail.{Mail}
-use Rattle.md_judge.specs.declared.judge.watch.Watch.{Watch}
 use Rattle.md_judge.specs.Files.{unique_in}
 use Rattle.md_judge.specs.Listings.{message_of}
 use Rattle.md_judge.specs.Mailed.{Recounts, one_more, AddAt}
 use Rattle.md_judge.specs.Moments.{kept_moment}
 use Rattle.md_judge.specs.Timed.{TimesCome}
-use Rattle.md_judge.proofs.Presence.{held-same}
 use Rattle.md_judge.proofs.Sparing.{ok-then}
 use Rattle.md_judge.proofs.Stepping.{on-ok}
 use Rattle.md_judge.proofs.Timely.{timed-spot}
 use Rattle.md_judge.proofs.Writing.{moves-same}
-use Rattle.md_judge.proofs.judge.watch.Watch.add_path.Goals.{in-Some-other_flags+in_ok-hold, in_default-other_flags}
 use Rattle.md_judge.proofs.judge.watch.Watch.add_path.Goals as goal
 
 pub returns-clause-times : goal.returns-clause-times
@@ -24,15 +21,9 @@ returns-clause-times c =
     let some : unique_in c.args.known.now.names spot ≡ Some unique = sym c.unique_at.ensures ∙ c.in-Some.is in
     let comes = subst (λ k. TimesCome k (message_of old spot.folder unique) (message_of made spot.folder unique)) c.moment_of-since.ensures
     c.in_ok-make.ensures.times in
-    let same : c.match-other_flags.self.mail ≡ record made { held = c.match-other_flags.self.mail.held } = elim c.match-other_flags.branch [
-      | in-Some-other_flags+in_ok-hold w ↦ held-same made w.hold.new.self c.match-other_flags.self.mail w.in_ok-hold.ensures (ap (λ (s : Watch). s.mail) w.self-is)
-      | in_default-other_flags w ↦ held-same made made c.match-other_flags.self.mail refl (ap (λ (s : Watch). s.mail) w.self-is)
-    ] in
-    let first = ap (λ (m : Mail). m.first) same in
-    let others = ap (λ (m : Mail). m.others) same in
     on-ok c.copy.result (timed-spot c.args.known.now.names spot unique (TimesCome (kept_moment c.args.at)) old made c.copy.new.self some comes
-    c.in_ok-make.ensures.moves.others (ap (λ (m : Mail). m.first) c.copy.ensures.messages ∙ first)
-    (ap (λ (m : Mail). m.others) c.copy.ensures.messages ∙ others))
+    c.in_ok-make.ensures.moves.others (ap (λ (m : Mail). m.first) c.copy.ensures.messages)
+    (ap (λ (m : Mail). m.others) c.copy.ensures.messages))
 
 pub returns-clause-mailed : goal.returns-clause-mailed
 returns-clause-mailed c =
@@ -41,19 +32,13 @@ returns-clause-mailed c =
     let file = c.args.file in
     let old = c.args.self.now.mail in
     let made = c.make.new.self in
-    let mid = c.match-other_flags.self.mail in
     let last = c.copy.new.self in
     let u = c.in-Some.unique in
     let some : unique_in names spot ≡ Some u = sym c.unique_at.ensures ∙ c.in-Some.is in
-    let same : mid ≡ record made { held = mid.held } = elim c.match-other_flags.branch [
-      | in-Some-other_flags+in_ok-hold w ↦ held-same made w.hold.new.self mid w.in_ok-hold.ensures (ap (λ (s : Watch). s.mail) w.self-is)
-      | in_default-other_flags w ↦ held-same made made mid refl (ap (λ (s : Watch). s.mail) w.self-is)
-    ] in
-    ok-then c.copy.result (Recounts file u one_more mid.copied last.copied) (AddAt (unique_in names spot) spot file old last)
+    ok-then c.copy.result (Recounts file u one_more made.copied last.copied) (AddAt (unique_in names spot) spot file old last)
     (λ more. subst (λ (o : Option ℕ). AddAt o spot file old last) (sym some) (
       moves-same spot.folder u one_more (λ o n. n ≡ file) old made last
-          (ap (λ (m : Mail). m.first) c.copy.ensures.messages ∙ ap (λ (m : Mail). m.first) same)
-          (ap (λ (m : Mail). m.others) c.copy.ensures.messages ∙ ap (λ (m : Mail). m.others) same)
-          (ap (λ (m : Mail). m.present) c.copy.ensures.messages ∙ ap (λ (m : Mail). m.present) same) c.in_ok-make.ensures.moves,
-      subst (λ (k : Copied). Recounts file u one_more k last.copied) (ap (λ (m : Mail). m.copied) same ∙ c.in_ok-make.ensures.copied) more,
+          (ap (λ (m : Mail). m.first) c.copy.ensures.messages) (ap (λ (m : Mail). m.others) c.copy.ensures.messages)
+          (ap (λ (m : Mail). m.present) c.copy.ensures.messages) c.in_ok-make.ensures.moves,
+      subst (λ (k : Copied). Recounts file u one_more k last.copied) c.in_ok-make.ensures.copied more,
     )) c.copy.ensures.copied

@@ -1,13 +1,16 @@
-use Rattle.std.proofs.Common.{suc, ◌≡◌, IsTrue, IsSome, sym, subst, ◌∙◌}
+use Rattle.std.proofs.Common.{ℕ, suc, ◌≡◌, IsTrue, IsSome, sym, subst, ◌∙◌}
 use Rattle.md_log.specs.declared.clause.Clause.TheVariants as clause
 use Rattle.md_judge.specs.Found.{Keeps, NotesOne, KeepsPaths, KeepsMessages, KeepsFiles, KeepsAnswers, NotesFiles}
 use Rattle.md_judge.specs.declared.judge.files.Files.{Files}
 use Rattle.md_judge.specs.Filed.{AreFiled, BrokenByFiles}
 use Rattle.md_judge.specs.Law.{turn}
 use Rattle.md_judge.specs.declared.judge.mail.Mail.{Mail}
-use Rattle.md_judge.specs.Actors.{KeepsActs, NotesAct, acted as acted-of}
+use Rattle.md_judge.specs.Actors.{GoesWith, KeepsActs, NotesAct, NotesMoves, acted as acted-of}
 use Rattle.md_judge.specs.Mailed.{KeepsPresent, MakeStep, TellsMail, NotesMessages}
+use Rattle.md_judge.specs.Marks.{IsOfMissing, OnPath, ChangesPaths, Unlinks, MarksChange}
 use Rattle.md_judge.proofs.Lined.{notes-then}
+use Rattle.md_judge.proofs.Moving.{moves-then}
+use Rattle.md_judge.proofs.Marking.{marks-after}
 use Rattle.md_judge.proofs.Posted.{tells-step}
 use Rattle.md_judge.specs.Timed.{MakesTimes, AreTimed}
 use Rattle.md_judge.proofs.Presence.{makes-present}
@@ -93,4 +96,23 @@ returns c =
           let on = acted-of c.args.known.now.names c.args.act.now.spot c.args.call.now in
           ok-then c.change.result (KeepsActs mid last) (NotesAct c.args.actor c.args.self.now.now on c.args.self.now.actors last)
           (notes-then c.args.self.now.actors mid last c.args.actor c.args.self.now.now on (c.in_ok-note_call.ensures.acts few)) c.change.ensures.acts;
+      moves =
+          let actor = c.args.actor in
+          let first = c.args.self.now in
+          let mid = c.note_call.new.self in
+          let last = c.change.new.self in
+          let goes = GoesWith names c.args.act.now.change.taken last.mail in
+          ok-then c.change.result (NotesMoves actor mid.now goes mid.actors last.actors) (NotesMoves actor first.now goes first.actors last.actors)
+          (λ notes. subst (λ (n : ℕ). NotesMoves actor n goes first.actors last.actors) c.in_ok-note_call.ensures.now
+          (moves-then actor mid.now goes first.actors mid.actors last.actors c.in_ok-note_call.ensures.moved notes)) c.change.ensures.moves;
+      deeds =
+          let change = c.args.act.now.change in
+          let first = c.args.self.now.actors in
+          let mid = c.note_call.new.self.actors in
+          let last = c.change.new.self in
+          ok-then c.change.result (MarksChange names c.args.actor change c.note_call.new.self.mail last.mail mid last.actors)
+          (MarksChange names c.args.actor change c.args.self.now.mail last.mail first last.actors)
+          (λ marks. marks-after c.args.actor (OnPath (IsOfMissing names c.args.self.now.mail) change.added) (ChangesPaths names change)
+          (Unlinks names last.mail change.taken change.is_unlink) first mid last.actors c.in_ok-note_call.ensures.deeds
+          (subst (λ (m : Mail). MarksChange names c.args.actor change m last.mail mid last.actors) mail marks)) c.change.ensures.deeds;
     }

@@ -3,10 +3,11 @@ use Rattle.md_log.specs.declared.clause.Clause.TheVariants as clause
 use Rattle.md_judge.specs.declared.judge.about.Actors.{Actors}
 use Rattle.md_judge.specs.declared.judge.mail.Mail.{Mail}
 use Rattle.md_judge.specs.declared.judge.watch.Watch.{Watch}
-use Rattle.md_judge.specs.Actors.{KeepsActs}
+use Rattle.md_judge.specs.Actors.{GoesWith, KeepsActs, NotesMoves}
 use Rattle.md_judge.specs.Found.{Keeps, KeepsFiles, KeepsAnswers}
 use Rattle.md_judge.specs.Law.{turn, TwoNames, Gone, UsedAgain}
 use Rattle.md_judge.specs.Mailed.{MakeStep}
+use Rattle.md_judge.specs.Marks.{MarksChange}
 use Rattle.md_judge.specs.Timed.{MakesTimes}
 use Rattle.md_judge.proofs.Sparing.{keeps-one, keeps-same, unnoted, notes-one, one-notes, turned-found, same-files, files-on, unnoted-files, unnoted-added, added-same, answers-same, answers-on, unnoted-answers}
 use Rattle.md_judge.proofs.Posted.{tells-step}
@@ -72,4 +73,21 @@ returns c =
       acts = subst (λ (a : Actors). KeepsActs a c.check_going.new.self.actors) (ap (λ (w : Watch). w.actors) c.check_coming.ensures.rest)
           (subst (λ (a : Actors). KeepsActs c.check_coming.new.self.actors a) (sym (ap (λ (w : Watch). w.actors) c.check_going.ensures.rest))
           c.in_ok-make.ensures.acts);
+      moves =
+          let names = c.args.known.now.names in
+          let actor = c.args.actor in
+          let first = c.args.self.now in
+          let coming = c.check_coming.ensures.rest in
+          let going = c.check_going.ensures.rest in
+          let made = c.make.new.self in
+          subst (λ (m : Mail). NotesMoves actor first.now (GoesWith names change.taken m) first.actors c.check_going.new.self.actors)
+          (sym (ap (λ (w : Watch). w.mail) going))
+          (subst (λ (a : Actors). NotesMoves actor first.now (GoesWith names change.taken made.mail) first.actors a) (sym (ap (λ (w : Watch). w.actors) going))
+          (subst (λ (n : ℕ). NotesMoves actor n (GoesWith names change.taken made.mail) first.actors made.actors) (ap (λ (w : Watch). w.now) coming)
+          (subst (λ (a : Actors). NotesMoves actor c.check_coming.new.self.now (GoesWith names change.taken made.mail) a made.actors)
+          (ap (λ (w : Watch). w.actors) coming) c.in_ok-make.ensures.moves)));
+      deeds =
+          let Goes : Watch → Watch → Type 0 = λ a b. MarksChange c.args.known.now.names c.args.actor change a.mail b.mail a.actors b.actors in
+          subst (λ (w : Watch). Goes w c.check_going.new.self) c.check_coming.ensures.rest
+          (subst (Goes c.check_coming.new.self) (sym c.check_going.ensures.rest) c.in_ok-make.ensures.deeds);
     }

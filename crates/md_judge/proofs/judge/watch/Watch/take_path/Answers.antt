@@ -1,14 +1,11 @@
-use Rattle.std.proofs.Common.{ℕ, ◌≡◌, ◌<◌, ◌∙◌, Option, Some, refl, sym, ap, subst}
+use Rattle.std.proofs.Common.{ℕ, ◌≡◌, ◌<◌, ◌∙◌, Option, Some, sym, ap, subst}
 use Rattle.md_judge.specs.declared.judge.copied.Copied.{Copied}
 use Rattle.md_judge.specs.declared.judge.mail.Mail.{Mail}
-use Rattle.md_judge.specs.declared.judge.watch.Watch.{Watch}
 use Rattle.md_judge.specs.Files.{unique_in}
 use Rattle.md_judge.specs.Mailed.{count_of, Recounts, one_fewer, TakeAt}
 use Rattle.md_judge.specs.Timed.{TimesGo}
-use Rattle.md_judge.proofs.Presence.{held-same}
 use Rattle.md_judge.proofs.Timely.{timed-spot}
 use Rattle.md_judge.proofs.Writing.{moves-same}
-use Rattle.md_judge.proofs.judge.watch.Watch.take_path.Goals.{in-Some-other_flags, in_default-other_flags}
 use Rattle.md_judge.proofs.judge.watch.Watch.take_path.Goals as goal
 
 pub returns-clause-times : goal.returns-clause-times
@@ -18,15 +15,9 @@ returns-clause-times c =
     let spot = c.args.spot in
     let unique = c.in-Some.unique in
     let some : unique_in c.args.known.now.names spot ≡ Some unique = sym c.unique_at.ensures ∙ c.in-Some.is in
-    let same : c.match-other_flags.self.mail ≡ record made { held = c.match-other_flags.self.mail.held } = elim c.match-other_flags.branch [
-      | in-Some-other_flags w ↦ held-same made w.unhold.new.self c.match-other_flags.self.mail w.unhold.ensures (ap (λ (s : Watch). s.mail) w.self-is)
-      | in_default-other_flags w ↦ held-same made made c.match-other_flags.self.mail refl (ap (λ (s : Watch). s.mail) w.self-is)
-    ] in
-    let first = ap (λ (m : Mail). m.first) same in
-    let others = ap (λ (m : Mail). m.others) same in
     timed-spot c.args.known.now.names spot unique (λ o n. 0 < count_of o → TimesGo c.args.self.now.now o n) old made c.uncopy.new.self some
-    c.in_ok-make.ensures.times c.in_ok-make.ensures.moves.others (ap (λ (m : Mail). m.first) c.uncopy.ensures.messages ∙ first)
-    (ap (λ (m : Mail). m.others) c.uncopy.ensures.messages ∙ others)
+    c.in_ok-make.ensures.times c.in_ok-make.ensures.moves.others (ap (λ (m : Mail). m.first) c.uncopy.ensures.messages)
+    (ap (λ (m : Mail). m.others) c.uncopy.ensures.messages)
 
 pub returns-clause-mailed : goal.returns-clause-mailed
 returns-clause-mailed c =
@@ -35,18 +26,12 @@ returns-clause-mailed c =
     let file = c.args.file in
     let old = c.args.self.now.mail in
     let made = c.make.new.self in
-    let mid = c.match-other_flags.self.mail in
     let last = c.uncopy.new.self in
     let u = c.in-Some.unique in
     let some : unique_in names spot ≡ Some u = sym c.unique_at.ensures ∙ c.in-Some.is in
-    let same : mid ≡ record made { held = mid.held } = elim c.match-other_flags.branch [
-      | in-Some-other_flags w ↦ held-same made w.unhold.new.self mid w.unhold.ensures (ap (λ (s : Watch). s.mail) w.self-is)
-      | in_default-other_flags w ↦ held-same made made mid refl (ap (λ (s : Watch). s.mail) w.self-is)
-    ] in
     subst (λ (o : Option ℕ). TakeAt o spot file old last) (sym some) (
       moves-same spot.folder u one_fewer (λ o n. ⊥) old made last
-          (ap (λ (m : Mail). m.first) c.uncopy.ensures.messages ∙ ap (λ (m : Mail). m.first) same)
-          (ap (λ (m : Mail). m.others) c.uncopy.ensures.messages ∙ ap (λ (m : Mail). m.others) same)
-          (ap (λ (m : Mail). m.present) c.uncopy.ensures.messages ∙ ap (λ (m : Mail). m.present) same) c.in_ok-make.ensures.moves,
-      subst (λ (k : Copied). Recounts file u one_fewer k last.copied) (ap (λ (m : Mail). m.copied) same ∙ c.in_ok-make.ensures.copied) c.uncopy.ensures.copied,
+          (ap (λ (m : Mail). m.first) c.uncopy.ensures.messages) (ap (λ (m : Mail). m.others) c.uncopy.ensures.messages)
+          (ap (λ (m : Mail). m.present) c.uncopy.ensures.messages) c.in_ok-make.ensures.moves,
+      subst (λ (k : Copied). Recounts file u one_fewer k last.copied) c.in_ok-make.ensures.copied c.uncopy.ensures.copied,
     )

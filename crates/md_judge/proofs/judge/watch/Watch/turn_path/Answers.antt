@@ -1,11 +1,13 @@
-use Rattle.std.proofs.Common.{ℕ, ◌≡◌, ◌∙◌, Some, IsSome, refl, sym, ap, subst}
+use Rattle.std.proofs.Common.{ℕ, ◌≡◌, ◌∙◌, Some, IsSome, true, refl, sym, ap, subst}
 use Rattle.md_judge.specs.declared.judge.copied.Copied.{Copied}
 use Rattle.md_judge.specs.declared.judge.mail.Mail.{Mail}
+use Rattle.md_judge.specs.declared.judge.about.About.{About}
 use Rattle.md_judge.specs.Actors.{done_by}
 use Rattle.md_judge.specs.Files.{unique_in}
 use Rattle.md_judge.specs.Mailed.{Recounts, one_more, one_fewer, TurnAt}
 use Rattle.md_judge.specs.Timed.{TimesStay}
 use Rattle.md_judge.proofs.Lined.{acts-kept, changed-same}
+use Rattle.md_judge.proofs.Marking.{turned-marks}
 use Rattle.md_judge.proofs.Sparing.{ok-then}
 use Rattle.md_judge.proofs.Stepping.{on-ok}
 use Rattle.md_judge.proofs.Timely.{timed-spot}
@@ -38,7 +40,7 @@ returns-clause-acts c =
     let old = c.args.self.now.actors in
     let key : ℕ × ℕ = (c.args.spot.folder, c.in-Some.unique) in
     let noted = c.note_change.new.self in
-    on-ok c.copy.result (acts-kept old c.keep.new.self c.args.actor key noted c.in_ok-keep.ensures
+    on-ok c.copy.result (acts-kept old c.keep.new.self c.args.actor key noted c.in_ok-keep.ensures.puts
     (changed-same (done_by old c.args.actor key) c.done-about.result noted noted c.done-about.ensures c.note_change.ensures refl refl))
 
 pub returns-clause-times : goal.returns-clause-times
@@ -52,3 +54,16 @@ returns-clause-times c =
     c.in_ok-make.ensures.moves.others
     (ap (λ (m : Mail). m.first) c.copy.ensures.messages ∙ ap (λ (m : Mail). m.first) c.uncopy.ensures.messages)
     (ap (λ (m : Mail). m.others) c.copy.ensures.messages ∙ ap (λ (m : Mail). m.others) c.uncopy.ensures.messages))
+
+pub returns-clause-deeds : goal.returns-clause-deeds
+returns-clause-deeds c =
+    let old = c.args.self.now.actors in
+    let spot = c.args.spot in
+    let u = c.in-Some.unique in
+    let some : unique_in c.args.known.now.names spot ≡ Some u = sym c.unique_at.ensures ∙ c.in-Some.is in
+    let noted = c.note_change.new.self in
+    let done : About = done_by old c.args.actor (spot.folder, u) in
+    let noted-is : noted ≡ record done { is_changed = true; changed_at = noted.changed_at } =
+    c.note_change.ensures ∙ ap (λ (a : About). record a { is_changed = true; changed_at = noted.changed_at }) c.done-about.ensures in
+    on-ok c.copy.result (turned-marks c.args.known.now.names spot u some c.args.actor old c.keep.new.self noted c.in_ok-keep.ensures.puts
+    (ap (λ (a : About). a.is_changed) noted-is) (ap (λ (a : About). a.is_added) noted-is) (ap (λ (a : About). a.is_unlinked) noted-is))
