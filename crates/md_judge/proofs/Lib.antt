@@ -32,6 +32,7 @@ pub mod Prefixes
 pub mod Housed
 pub mod Verdicts
 pub mod Whole
+pub mod Taken
 pub mod Counting
 pub mod Lasting
 pub mod Stored

@@ -331,7 +331,7 @@ module _ (number : ℕ) (l : Log) (x : Step) (s t : Session) (read : HasRead num
       }
 
   -- also where the session is one that has begun just now, and where the judging may be refused
-  pub step-read-on : (now : Session) → now ≡ record s { has_begun = true } → (r : Result (Unit {0}) LineFault) → OnOk r (KeepsHead now t)
+  pub step-read-on : {E : Type 0} (now : Session) → now ≡ record s { has_begun = true } → (r : Result (Unit {0}) E) → OnOk r (KeepsHead now t)
       → ((lines : ℕ → ℕ) (m : Log) (i : ℕ) → Remembers lines m i now.judge → slice_get m.steps i ≡ Some (record { number = number; step = x })
       → lines i ≡ number → number < 4294967295 → HasFolders (at m i) x.call → OnOk r (Remembers lines m (suc i) t.judge))
       → ((lines : ℕ → ℕ) (m : Log) (i : ℕ) → Remembers lines m i now.judge → slice_get m.steps i ≡ Some (record { number = number; step = x })
@@ -473,7 +473,7 @@ allow-read number l l' s t c read none same folders begun stretch findings keeps
 module _ (number : ℕ) (l l' : Log) (s t : Session) (read : HasRead number l s) (none : l.steps ≡ []) (begun : t.has_begun ≡ s.has_begun)
     (stretch : t.stretch ≡ s.stretch) (findings : t.findings.items ≡ s.findings.items) (j : Judge)
     (goes : (lines : ℕ → ℕ) (m : Log) (i : ℕ) → Remembers lines m i s.judge → Remembers lines m i j) (alike : j.allowed ≡ s.judge.allowed)
-    (r : Result (Unit {0}) LineFault) (keeps : OnOk r (t.judge.allowed ≡ j.allowed)) where
+    {E : Type 0} (r : Result (Unit {0}) E) (keeps : OnOk r (t.judge.allowed ≡ j.allowed)) where
   still-allowed : l'.allowed ≡ l.allowed → t.judge.allowed ≡ j.allowed → (c : Clause) → Has t.judge.allowed c ↔ IsAllowed l' c
   still-allowed rest now c = (
     λ has. let was = (read.allowed c).0 (subst (λ (x : Clauses). Has x c) (now ∙ alike) has) in

@@ -1,9 +1,8 @@
 -- What is read of a whole log, line by line.
-use Rattle.std.proofs.Common.{ℕ, suc, ◌≡◌, ◌<◌, ◌≤◌, ◌+◌, ◌↔◌, length, List, [], ◌∷◌, ◌++◌, Some, Result, Ok, Err, slice_get, refl, sym, ap, subst, ◌∙◌, true, false, Bool, arith}
+use Rattle.std.proofs.Common.{ℕ, suc, ◌≡◌, ◌<◌, ◌≤◌, ◌+◌, length, List, [], ◌∷◌, ◌++◌, Some, Result, Ok, Err, IsOk, slice_get, refl, sym, ap, subst, ◌∙◌, true, false, Bool, arith}
 use Rattle.std.proofs.lemmas.List.{length_push}
 use Rattle.std.specs.Prelude.{if◌then◌else◌, codes}
 use Rattle.std.specs.Str.{bytes_eq}
-use Rattle.md_head.specs.Header.{lines_of}
 use Rattle.md_log.specs.Bind.{◌>>=◌}
 use Rattle.md_log.specs.Lines.{line_of}
 use Rattle.md_log.specs.Folders.{with_folder}
@@ -14,9 +13,10 @@ use Rattle.md_log.specs.declared.line.Line.{Line}
 use Rattle.md_log.specs.declared.line.Line.TheVariants as line
 use Rattle.md_judge.specs.declared.log.Finding.{Finding}
 use Rattle.md_judge.specs.declared.session.Session.{Session}
-use Rattle.md_judge.specs.Law.{IsAllowed, IsFinding}
-use Rattle.md_judge.specs.Logs.{Log, Numbered, empty_log, is_passed_over, has_begun, with_line, with_text, with_folder_line, with_lines, at_line, and_then, log_by, log_of}
-use Rattle.md_judge.specs.Verdict.{HasNoTicks, IsAmong, HasRead, HasTaken}
+use Rattle.md_judge.specs.Law.{IsAllowed}
+use Rattle.md_judge.specs.Logs.{Log, Numbered, empty_log, is_passed_over, has_begun, with_line, with_text, with_folder_line, with_lines, at_line, and_then, log_by}
+use Rattle.md_judge.specs.Taken.{IsWithoutTicks, HasTaken}
+use Rattle.md_judge.specs.Verdict.{HasNoTicks, IsAmong, HasRead}
 use Rattle.md_judge.proofs.Verdicts.{first-are, file-rest, also-rest}
 
 -- ---- a log of which no line was read
@@ -84,62 +84,6 @@ pub lines-end : (m l : Log) (n : ℕ) → with_lines m n [] ≡ Ok l → m ≡ l
 unfolding with_lines
 lines-end m l n is = let now : Ok m ≡ Ok l = is in cc now
 
-lines-before : (texts : List (List ℕ)) (m l : Log) (n : ℕ) → with_lines m n texts ≡ Ok l → IsBefore m l
-lines-before [] m l n is = same-before m l (ap (λ (o : Log). o.steps) (sym (lines-end m l n is)))
-lines-before (text ∷ texts) m l n is =
-    let cut = lines-cut m l n text texts is in
-    λ k x has. lines-before texts cut.0 l (suc n) cut.2 k x (text-before m cut.0 n text cut.1 k x has)
-
--- no step has ticks before the last of the lines where none has after it
-pub ticks-before : (texts : List (List ℕ)) (m l : Log) (n : ℕ) → with_lines m n texts ≡ Ok l → HasNoTicks l → HasNoTicks m
-ticks-before texts m l n is none k x has = none k x (lines-before texts m l n is k x has)
-
--- after the first line come the others
-log-cut : (text head : List ℕ) (texts : List (List ℕ)) (l : Log) → lines_of text ≡ head ∷ texts → log_of text ≡ Ok l → with_lines empty_log 2 texts ≡ Ok l
-unfolding log_of
-log-cut text head texts l cut is = by (bytes_eq head (codes "maildir_log 1")) (subst (λ (ls : List (List ℕ)). log_by ls ≡ Ok l) cut is)
-  where
-    by : (b : Bool) → (if b then with_lines empty_log 2 texts else Err (record { line = 1; fault = NoLog })) ≡ Ok l → with_lines empty_log 2 texts ≡ Ok l
-    by true is = is
-    by false is = absurd (cc is)
-
--- ---- what a session has read of a whole log
-
--- A session has read the lines of this text up to one of this number, and these are left.
-abbrev pub HasReadTo : List ℕ → ℕ → List (List ℕ) → Session → Type 0
-HasReadTo text line left s = (l : Log) → log_of text ≡ Ok l → HasNoTicks l
-    → (m : Log) × (with_lines m (suc line) left ≡ Ok l) × HasRead (suc line) m s
-
--- the first line was read
-pub read-first : (text head : List ℕ) (texts : List (List ℕ)) (s : Session) → lines_of text ≡ head ∷ texts → HasRead 2 empty_log s → HasReadTo text 1 texts s
-read-first text head texts s cut read l is none = (empty_log, log-cut text head texts l cut is, read)
-
--- one more is
-pub read-next : (text one : List ℕ) (left texts : List (List ℕ)) (line : ℕ) (s t : Session) → left ≡ one ∷ texts → HasReadTo text line left s
-    → ((m o : Log) → HasRead (suc line) m s → with_text m (suc line) one ≡ Ok o → HasNoTicks o → HasRead (suc (suc line)) o t)
-    → HasReadTo text (suc line) texts t
-read-next text one left texts line s t cut read takes l is none =
-    let now = read l is none in
-    let next = lines-cut now.0 l (suc line) one texts (subst (λ (ls : List (List ℕ)). with_lines now.0 (suc line) ls ≡ Ok l) cut now.1) in
-    (next.0, next.2, takes now.0 next.0 now.2 next.1 (ticks-before texts next.0 l (suc (suc line)) next.2 none))
-
--- all are
-pub read-all : (text : List ℕ) (left : List (List ℕ)) (line : ℕ) (s : Session) → left ≡ [] → HasReadTo text line left s
-    → (l : Log) → log_of text ≡ Ok l → HasNoTicks l → HasRead (suc line) l s
-read-all text left line s end read l is none =
-    let now = read l is none in
-    let same : now.0 ≡ l = lines-end now.0 l (suc line) (subst (λ (ls : List (List ℕ)). with_lines now.0 (suc line) ls ≡ Ok l) end now.1) in
-    subst (λ (m : Log). HasRead (suc line) m s) same now.2
-
--- once all are read, what was found are the findings
-pub found-all : (text : List ℕ) (left : List (List ℕ)) (line : ℕ) (s t : Session) → left ≡ [] → HasReadTo text line left s
-    → (s.stretch.steps.items ≡ [] → s.stretch.moved.entries ≡ [] → t ≡ s)
-    → (l : Log) → log_of text ≡ Ok l → HasNoTicks l → (n : ℕ) (c : Clause) → IsAmong t.findings.items n c ↔ IsFinding l n c
-found-all text left line s t end read same l is none n c =
-    let all = read-all text left line s end read l is none in
-    let now : t.findings.items ≡ s.findings.items = λ i. (same all.waits all.moved i).findings.items in
-    subst (λ (fs : List Finding). IsAmong fs n c ↔ IsFinding l n c) (sym now) (all.found n c)
-
 -- ---- lines that are taken in one by one
 
 -- the last of the lines is read after the others
@@ -201,21 +145,23 @@ none-of-some (one ∷ texts) text none = cc none
 pub takes-line : (texts : List (List ℕ)) (text : List ℕ) (s t : Session) (number : ℕ) → HasTaken texts s → number ≡ suc (length texts)
     → (number ≤ 1 → t ≡ s)
     → (1 < number → (l l' : Log) → HasRead number l s → with_text l number text ≡ Ok l' → HasNoTicks l' → HasRead (suc number) l' t)
-    → HasTaken (texts ++ text ∷ []) (record t { lines = number })
-takes-line [] text s t number taken is first later =
+    → (IsWithoutTicks (texts ++ text ∷ []) → IsOk (log_by (texts ++ text ∷ []))) → HasTaken (texts ++ text ∷ []) (record t { lines = number })
+takes-line [] text s t number taken is first later log =
     let one : number ≡ 1 = is in
     let start : HasRead 2 empty_log t = subst (λ (v : Session). HasRead 2 empty_log v) (sym (first (omega (arith, one)))) (taken.none refl) in
     record {
       lines = one;
       none = λ none. absurd (none-of-some [] text none);
+      log = λ none some. log none;
       read = λ l has ticks. subst (λ (m : Log). HasRead 2 m (record t { lines = number })) (log-one text l has) (counted 2 empty_log t number start);
     }
-takes-line (head ∷ texts) text s t number taken is first later =
+takes-line (head ∷ texts) text s t number taken is first later log =
     let long : length (texts ++ text ∷ []) ≡ length texts + 1 = length_push texts text in
     let is' : number ≡ suc (suc (length texts)) = is in
     record {
       lines = let same : number ≡ suc (length (texts ++ text ∷ [])) = omega (arith, long, is') in same;
       none = λ none. absurd (none-of-some (head ∷ texts) text none);
+      log = λ none some. log none;
       read = λ l has ticks.
           let more = log-more head texts l text has in
           let here : 2 + length texts ≡ number = omega (arith, is') in

@@ -30,3 +30,4 @@ pub mod Actors
 pub mod Said
 pub mod Marks
 pub mod Verdict
+pub mod Taken

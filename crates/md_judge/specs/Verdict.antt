@@ -1,5 +1,5 @@
 -- What is found of a whole log, and what a session holds that has read one so far.
-use Rattle.std.specs.Prelude.{ℕ, suc, ◌≡◌, ◌<◌, ◌≤◌, ◌↔◌, ◌⊎◌, List, [], Some, None, Ok, length, slice_get, true}
+use Rattle.std.specs.Prelude.{ℕ, ◌≡◌, ◌<◌, ◌≤◌, ◌↔◌, ◌⊎◌, List, [], Some, None, length, slice_get, true}
 use Rattle.md_dirs.specs.State.{State, has_folder}
 use Rattle.md_log.specs.declared.clause.Clause.{Clause}
 use Rattle.md_log.specs.declared.clause.Clause.TheVariants as clause
@@ -13,7 +13,7 @@ use Rattle.md_judge.specs.Filed.{AreFiled, name_at}
 use Rattle.md_judge.specs.Found.{Has}
 use Rattle.md_judge.specs.Gathered.{AreGathered}
 use Rattle.md_judge.specs.Law.{IsAllowed, IsFinding}
-use Rattle.md_judge.specs.Logs.{Log, Numbered, empty_log, has_begun, log_by}
+use Rattle.md_judge.specs.Logs.{Log, Numbered, has_begun}
 use Rattle.md_judge.specs.Mailed.{TellsMail}
 use Rattle.md_judge.specs.Open.{AreOpen}
 use Rattle.md_judge.specs.Recalled.{IsToldAt}
@@ -60,12 +60,6 @@ pub record HasRead (number : ℕ) (l : Log) (s : Session) : Type 0 where
   pub moved : s.stretch.moved.entries ≡ []
   pub allowed : (c : Clause) → Has s.judge.allowed c ↔ IsAllowed l c
   pub found : (n : ℕ) (c : Clause) → IsAmong s.findings.items n c ↔ IsFinding l n c
-
--- A session has taken in these lines, of which the first is the head: where they are a log in which no step has ticks, it has read that log.
-pub record HasTaken (texts : List (List ℕ)) (s : Session) : Type 0 where
-  pub lines : s.lines ≡ length texts
-  pub none : texts ≡ [] → HasRead 2 empty_log s
-  pub read : (l : Log) → log_by texts ≡ Ok l → HasNoTicks l → HasRead (suc (length texts)) l s
 
 -- a line of the beginning, whose path is in a folder that is there
 abbrev pub IsHeadOf : State → Line → Type 0

@@ -9,7 +9,7 @@ ghost use Rattle.md_log.specs.declared.clause.Clause.{Clause};
 ghost use Rattle.md_judge.specs.Found.{Has};
 ghost use Rattle.md_judge.specs.Law.{turn, Breaks};
 ghost use Rattle.md_judge.specs.Told.{at};
-ghost use Rattle.md_judge.specs.Recalled.{IsToldAt, HasFolders};
+ghost use Rattle.md_judge.specs.Recalled.{IsToldAt, HasFolders, Agrees};
 ghost use Rattle.md_judge.specs.Verdict.{Remembers};
 ghost use Rattle.md_judge.specs.Names.{AreNumbered, KeepNumbers, GrowsUniques};
 ghost use Rattle.md_judge.specs.Open.{AreNames, AreOpen, KeepsOpen};
@@ -50,7 +50,7 @@ use known::{Act, Known, NO_ACT};
 use listing::Listings;
 use md_dirs::{Bytes, Path};
 use md_log::{Call, Clause, LineFault, Step};
-use std::alloc::Global;
+use std::alloc::{AllocError, Global};
 use tables::{Name, Table};
 use watch::Watch;
 
@@ -86,7 +86,7 @@ impl Judge {
     }
 
     /// One more folder, after the others.
-    pub(crate) fn add_folder(&mut self) -> Result<(), LineFault>
+    pub(crate) fn add_folder(&mut self) -> Result<(), AllocError>
         ensures told { (lines : ℕ → ℕ) (l l' : Log) → Remembers lines l 0 self.old
             → l'.opening ≡ record l.opening { folders = suc l.opening.folders } → l'.clock ≡ l.clock → OnOk result (Remembers lines l' 0 self.new) }
         ensures allowed { OnOk result (self.new.allowed ≡ self.old.allowed) }
@@ -121,27 +121,31 @@ impl Judge {
     pub(crate) fn put_file(&mut self, line: usize, path: &Path, stamp: u64) -> Result<(), LineFault>
         ensures told { (lines : ℕ → ℕ) (l l' : Log) → Remembers lines l 0 self.old → with_file_line l path.now stamp ≡ Ok l' → line < lines 0
             → has_folder l.opening path.now ≡ true → OnOk result (Remembers lines l' 0 self.new) }
+        ensures agrees { (lines : ℕ → ℕ) (l : Log) → Remembers lines l 0 self.old → Agrees result (with_file_line l path.now stamp) }
         ensures allowed { OnOk result (self.new.allowed ≡ self.old.allowed) }
         ensures opens { KeepsOpen self.old self.new }
     {
         let (spot, file) = self.known.put_file(line, path, stamp)?;
         self.watch.files.make(mark_of(line), None, stamp)?;
-        self.watch.put(&self.known, line, spot, file)
+        self.watch.put(&self.known, line, spot, file)?;
+        Ok(())
     }
 
     /// A further name of a file that is there at the beginning.
     pub(crate) fn put_name(&mut self, line: usize, path: &Path, old: &Path) -> Result<(), LineFault>
         ensures told { (lines : ℕ → ℕ) (l l' : Log) → Remembers lines l 0 self.old → with_also_line l path.now old.now ≡ Ok l' → line < lines 0
             → has_folder l.opening path.now ≡ true → OnOk result (Remembers lines l' 0 self.new) }
+        ensures agrees { (lines : ℕ → ℕ) (l : Log) → Remembers lines l 0 self.old → Agrees result (with_also_line l path.now old.now) }
         ensures allowed { OnOk result (self.new.allowed ≡ self.old.allowed) }
         ensures opens { KeepsOpen self.old self.new }
     {
         let (spot, file) = self.known.put_name(line, path, old)?;
-        self.watch.put(&self.known, line, spot, file)
+        self.watch.put(&self.known, line, spot, file)?;
+        Ok(())
     }
 
     /// Judges the next step.
-    pub(crate) fn step(&mut self, line: usize, step: Step) -> Result<(), LineFault>
+    pub(crate) fn step(&mut self, line: usize, step: Step) -> Result<(), AllocError>
         ensures told { (lines : ℕ → ℕ) (l : Log) (i : ℕ) → Remembers lines l i self.old
             → slice_get l.steps i ≡ Some (record { number = line; step = step }) → lines i ≡ line → line < 4294967295
             → self.old.watch.now ≡ line → HasFolders (at l i) step.call → OnOk result (Remembers lines l (suc i) self.new) }
@@ -209,7 +213,7 @@ impl Judge {
     }
 
     /// The numbers of names.
-    fn numbers(&mut self, names: &[Bytes]) -> Result<Vec<Name>, LineFault>
+    fn numbers(&mut self, names: &[Bytes]) -> Result<Vec<Name>, AllocError>
         ensures told { (lines : ℕ → ℕ) (l : Log) (i : ℕ) → Remembers lines l i self.old → OnOk result (Remembers lines l i self.new) }
         ensures found { OnOk result (self.new.watch.found ≡ self.old.watch.found) }
         ensures allowed { OnOk result (self.new.allowed ≡ self.old.allowed) }

@@ -1,19 +1,24 @@
 //! A log whose lines come one by one.
-ghost use Rattle.std.specs.Prelude.{ℕ, suc, ◌≡◌, ◌<◌, ◌↔◌, List, ◌++◌, ◌∷◌, [], Some, None, Ok, OnOk, length, slice_get};
+ghost use Rattle.std.specs.Prelude.{ℕ, suc, ◌≡◌, ◌+◌, ◌<◌, ◌↔◌, List, ◌++◌, ◌∷◌, [], Some, None, Ok, is_ok, OnOk, IfOk, IfErr, length, slice_get};
 ghost use Rattle.md_log.specs.declared.clause.Clause.{Clause};
 ghost use Rattle.md_judge.specs.Found.{Has};
 ghost use Rattle.md_judge.specs.Law.{Breaks, IsFinding, turn};
-ghost use Rattle.md_judge.specs.Logs.{Log, is_passed_over, log_by, with_line, with_text};
-ghost use Rattle.md_judge.specs.Recalled.{HasFolders};
+ghost use Rattle.md_log.specs.declared.error.LineFault.TheVariants.{NoMemory};
+ghost use Rattle.md_judge.specs.Logs.{Log, is_passed_over, log_by, at_line, with_line, with_text};
+ghost use Rattle.md_judge.specs.Recalled.{HasFolders, Agrees};
+ghost use Rattle.md_judge.specs.Taken.{IsWithoutTicks, Answers, HasTaken};
 ghost use Rattle.md_judge.specs.Told.{at};
-ghost use Rattle.md_judge.specs.Verdict.{HasNoTicks, Remembers, IsAmong, HasRead, HasTaken, IsHeadOf, IsBroken, AddsFinding, KeepsHead};
+ghost use Rattle.md_judge.specs.Verdict.{HasNoTicks, Remembers, IsAmong, HasRead, IsHeadOf, IsBroken, AddsFinding, KeepsHead};
 
 use crate::judge::Judge;
-use crate::log::{Finding, HEAD};
+use crate::log::Finding;
 use crate::stretch::{Placed, Stretch};
 use crate::words::Passages;
 use md_log::{CLAUSES, Clause, Folders, Line, LineFault, LogFault, Step, read_line};
-use std::alloc::Global;
+use std::alloc::{AllocError, Global};
+
+/// The first line of a log.
+const HEAD: &[u8] = b"maildir_log 1";
 
 /// The byte that a line begins with that is passed over.
 const COMMENT: u8 = b'#';
@@ -60,10 +65,11 @@ impl Session {
 
     /// Takes in the next line, without its end. The first is the head. After a refusal the log is not to be judged.
     pub fn line(&mut self, text: &[u8]) -> Result<(), LogFault>
-        ensures taken { (texts : List (List ℕ)) → HasTaken texts self.old → length texts < 18446744073709551615
-            → OnOk result (HasTaken (texts ++ text.now ∷ []) self.new) }
+        ensures taken { (texts : List (List ℕ)) → HasTaken texts self.old → OnOk result (HasTaken (texts ++ text.now ∷ []) self.new) }
+        ensures answers { (texts : List (List ℕ)) → HasTaken texts self.old → IsWithoutTicks texts
+            → Answers result (log_by (texts ++ text.now ∷ [])) }
     {
-        let line = self.lines.saturating_add(1);
+        let line = next_line(self.lines)?;
         if line > 1 {
             self.take(line, text)?;
         } else if text != HEAD {
@@ -77,6 +83,7 @@ impl Session {
     pub fn end(&mut self) -> Result<(), LogFault>
         ensures still { (texts : List (List ℕ)) (l : Log) → HasTaken texts self.old → log_by texts ≡ Ok l → HasNoTicks l
             → OnOk result (self.new ≡ self.old) }
+        ensures answers { (texts : List (List ℕ)) → HasTaken texts self.old → IsWithoutTicks texts → Answers result (log_by texts) }
     {
         if self.lines == 0 {
             return Err(fault_at(1, LineFault::NoLog));
@@ -85,18 +92,18 @@ impl Session {
     }
 
     /// Judges what waits, and puts the findings in the order of their lines.
-    pub(crate) fn finish(&mut self) -> Result<(), LogFault>
-        ensures still { self.old.stretch.steps.items ≡ [] → self.old.stretch.moved.entries ≡ [] → OnOk result (self.new ≡ self.old) }
+    fn finish(&mut self) -> Result<(), LogFault>
+        ensures still { self.old.stretch.steps.items ≡ [] → self.old.stretch.moved.entries ≡ [] → (result ≡ Ok tt) × (self.new ≡ self.old) }
     {
         self.judge_stretch()?;
         let line = self.lines;
         if self.stretch.is_in_order() {
             return Ok(());
         }
-        self.sort().map_err(|fault| fault_at(line, fault))
+        done_at(line, self.sort())
     }
 
-    fn sort(&mut self) -> Result<(), LineFault> {
+    fn sort(&mut self) -> Result<(), AllocError> {
         let mut order = Vec::new(self.alloc);
         for (at, finding) in self.findings.iter().enumerate() {
             order.push((finding.line, at))?;
@@ -143,9 +150,10 @@ impl Session {
     }
 
     /// Takes a line in, unless it is passed over.
-    pub(crate) fn take(&mut self, number: u64, text: &[u8]) -> Result<(), LogFault>
+    fn take(&mut self, number: u64, text: &[u8]) -> Result<(), LogFault>
         ensures read { (l l' : Log) → HasRead number l self.old → with_text l number text.now ≡ Ok l' → HasNoTicks l'
             → OnOk result (HasRead (suc number) l' self.new) }
+        ensures answers { (l : Log) → HasRead number l self.old → Answers result (at_line number (with_text l number text.now)) }
     {
         if is_passed_over(text) {
             return Ok(());
@@ -159,22 +167,24 @@ impl Session {
         };
         match line {
             Line::Step(step) => self.take_step(number, step, text),
-            head => {
-                let taken = self.take_head(number, head);
-                taken.map_err(|fault| fault_at(number, fault))
-            }
+            head => match self.take_head(number, head) {
+                Ok(()) => Ok(()),
+                Err(fault) => Err(fault_at(number, fault)),
+            },
         }
     }
 
     fn take_head(&mut self, number: u64, line: Line) -> Result<(), LineFault>
         ensures read { (l l' : Log) → HasRead number l self.old → l.steps ≡ [] → IsHeadOf l.opening line → with_line l number line ≡ Ok l'
             → OnOk result (HasRead (suc number) l' self.new) }
+        ensures agrees { (l : Log) → HasRead number l self.old → l.steps ≡ [] → Agrees result (with_line l number line) }
     {
         self.judge.go_to(number as usize);
         match line {
             Line::Folder { name } => {
                 self.folders.add(name)?;
-                self.judge.add_folder()
+                self.judge.add_folder()?;
+                Ok(())
             }
             Line::Allow { clause } => {
                 self.judge.allow(clause);
@@ -191,15 +201,16 @@ impl Session {
         ensures read { (l : Log) → HasRead number l self.old → step.ticks ≡ None → number < 4294967295
             → HasFolders (at l (length l.steps)) step.call
             → OnOk result (HasRead (suc number) (record l { steps = l.steps ++ record { number = number; step = step } ∷ [] }) self.new) }
+        ensures refused { self.old.stretch.steps.items ≡ [] → IfErr result (λ e. e.fault ≡ NoMemory) }
     {
         self.has_begun = true;
         if step.ticks.is_some() {
             let waits = self.stretch.add(self.alloc, number as usize, step, text);
-            return waits.map_err(|fault| fault_at(number, fault));
+            return done_at(number, waits);
         }
         self.judge_stretch()?;
         let judged = self.judge_step(number as usize, number, step, text);
-        judged.map_err(|fault| fault_at(number, fault))
+        done_at(number, judged)
     }
 
     /// Judges the steps that wait, in an order that their ticks and replies allow.
@@ -216,7 +227,7 @@ impl Session {
         let first = self.stretch.line(0);
         let placed = match self.stretch.place(self.alloc, &order) {
             Ok(placed) => placed,
-            Err(fault) => return Err(fault_at(first, fault)),
+            Err(AllocError) => return Err(fault_at(first, LineFault::NoMemory)),
         };
         for waiting in placed {
             let Placed {
@@ -226,7 +237,7 @@ impl Session {
                 text,
             } = waiting;
             let judged = self.judge_step(moment, line, step, &text);
-            judged.map_err(|fault| fault_at(line, fault))?;
+            done_at(line, judged)?;
         }
         Ok(())
     }
@@ -238,7 +249,7 @@ impl Session {
         line: u64,
         step: Step,
         text: &[u8],
-    ) -> Result<(), LineFault>
+    ) -> Result<(), AllocError>
         ensures keeps { OnOk result (KeepsHead self.old self.new) }
         ensures told { (lines : ℕ → ℕ) (l : Log) (i : ℕ) → Remembers lines l i self.old.judge
             → slice_get l.steps i ≡ Some (record { number = moment; step = step }) → lines i ≡ moment → moment < 4294967295
@@ -258,7 +269,7 @@ impl Session {
     }
 
     /// Keeps a clause, where the step that was judged last breaks it.
-    fn note(&mut self, line: u64, clause: Clause, text: &[u8]) -> Result<(), LineFault>
+    fn note(&mut self, line: u64, clause: Clause, text: &[u8]) -> Result<(), AllocError>
         ensures keeps { OnOk result (KeepsHead self.old self.new) }
         ensures judge { OnOk result (self.new.judge ≡ self.old.judge) }
         ensures found { OnOk result ((c : Clause) → AddsFinding c line ((clause ≡ c) × IsBroken self.old.judge c) self.old self.new) }
@@ -287,6 +298,30 @@ fn is_passed_over(text: &[u8]) -> bool
     }
 }
 
-fn fault_at(line: u64, fault: LineFault) -> LogFault {
+/// The number of the next line. There is no memory for a line past 18,446,744,073,709,551,615.
+fn next_line(line: u64) -> Result<u64, LogFault>
+    ensures next { IfOk result (λ next. next ≡ line + 1) }
+    ensures fault { IfErr result (λ e. e.fault ≡ NoMemory) }
+{
+    match line.checked_add(1) {
+        Some(next) => Ok(next),
+        None => Err(fault_at(line, LineFault::NoMemory)),
+    }
+}
+
+/// What was done at a line, where memory may be refused.
+fn done_at(line: u64, done: Result<(), AllocError>) -> Result<(), LogFault>
+    ensures variant { is_ok result ≡ is_ok done }
+    ensures fault { IfErr result (λ e. e.fault ≡ NoMemory) }
+{
+    match done {
+        Ok(()) => Ok(()),
+        Err(AllocError) => Err(fault_at(line, LineFault::NoMemory)),
+    }
+}
+
+fn fault_at(line: u64, fault: LineFault) -> LogFault
+    ensures { result ≡ record { line = line; fault = fault } }
+{
     LogFault { line, fault }
 }

@@ -1,8 +1,8 @@
 //! Steps with ticks that follow one another in a log, and wait for an order.
 ghost use Rattle.std.specs.Prelude.{◌≡◌, ◌↔◌, [], IsTrue};
 
-use md_log::{LineFault, Step};
-use std::alloc::Global;
+use md_log::Step;
+use std::alloc::{AllocError, Global};
 use std::collections::BTreeMap;
 
 /// A step in its place: the moment at which it is placed, its line, and the line's text.
@@ -77,7 +77,7 @@ impl Stretch {
         line: usize,
         step: Step,
         text: &[u8],
-    ) -> Result<(), LineFault> {
+    ) -> Result<(), AllocError> {
         self.steps.push(step)?;
         self.texts.push(Vec::from_slice(alloc, text)?)?;
         self.lines.push(line)?;
@@ -89,7 +89,7 @@ impl Stretch {
         &mut self,
         alloc: Global,
         order: &[usize],
-    ) -> Result<Vec<Placed>, LineFault> {
+    ) -> Result<Vec<Placed>, AllocError> {
         let mut places = Vec::from_elem(alloc, 0usize, order.len())?;
         for (place, at) in order.iter().enumerate() {
             if let Some(place_of) = places.get_mut(*at) {

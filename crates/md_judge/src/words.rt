@@ -1,6 +1,5 @@
 //! The words of the lines that findings are at.
-use md_log::LineFault;
-use std::alloc::Global;
+use std::alloc::{AllocError, Global};
 
 const SPACE: u8 = b' ';
 
@@ -28,7 +27,7 @@ impl Passages {
     }
 
     /// Keeps the words of a step's line: MOMENT ACTOR CALL..
-    pub(crate) fn add(&mut self, line: &[u8]) -> Result<(), LineFault> {
+    pub(crate) fn add(&mut self, line: &[u8]) -> Result<(), AllocError> {
         let (_, rest) = first_word(line);
         let (actor, rest) = first_word(rest);
         let call = without_names(rest);
@@ -44,7 +43,7 @@ impl Passages {
     }
 
     /// Puts the passages in an order of their numbers.
-    pub(crate) fn sort(&mut self, order: &[(u64, usize)]) -> Result<(), LineFault> {
+    pub(crate) fn sort(&mut self, order: &[(u64, usize)]) -> Result<(), AllocError> {
         let mut all = Vec::with_capacity(*self.all.allocator(), order.len())?;
         for (_, at) in order {
             if let Some(passage) = self.all.get(*at) {

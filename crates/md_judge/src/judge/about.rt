@@ -6,8 +6,7 @@ ghost use Rattle.md_judge.specs.Actors.{kept, done_by, begun_by, moved_by, lines
 use super::befores::{Mark, Moment, NO_MARK, line_at, mark_of, moment_of};
 use super::mail::Key;
 use super::pairs::Pairs;
-use md_log::LineFault;
-use std::alloc::Global;
+use std::alloc::{AllocError, Global};
 use std::collections::BTreeMap;
 
 /// What an actor did about a message since its last answer about it.
@@ -103,7 +102,7 @@ impl Actors {
     }
 
     /// A line of an actor, which may be its first.
-    pub(super) fn note_line(&mut self, actor: u32, at: usize) -> Result<(), LineFault>
+    pub(super) fn note_line(&mut self, actor: u32, at: usize) -> Result<(), AllocError>
         ensures begun { at < 4294967296
             → OnOk result ((k : ℕ × ℕ) → begun_by self.new actor k ≡ Some (unwrap_or (begun_by self.old actor k) at)) }
         ensures others { OnOk result ((a : ℕ) (k : ℕ × ℕ) → (a ≡ actor → ⊥) → begun_by self.new a k ≡ begun_by self.old a k) }
@@ -120,7 +119,7 @@ impl Actors {
     }
 
     /// A span about the message begins that the actor's last line was an answer about, where it was one.
-    fn begin_span(&mut self, actor: u32, answered: Option<Key>, at: usize) -> Result<(), LineFault>
+    fn begin_span(&mut self, actor: u32, answered: Option<Key>, at: usize) -> Result<(), AllocError>
         ensures here { at < 4294967296 → OnOk result ((k : ℕ × ℕ)
             → kept self.new.begun actor k ≡ (if is_about answered k then Some at else kept self.old.begun actor k)) }
         ensures others { OnOk result ((a : ℕ) (k : ℕ × ℕ) → (a ≡ actor → ⊥) → kept self.new.begun a k ≡ kept self.old.begun a k) }
@@ -141,7 +140,7 @@ impl Actors {
     }
 
     /// Keeps the lines of an actor, which may have a number before it has a line.
-    fn keep_lines(&mut self, actor: u32, lines: Lines) -> Result<(), LineFault>
+    fn keep_lines(&mut self, actor: u32, lines: Lines) -> Result<(), AllocError>
         ensures here { OnOk result (lines_of self.new actor ≡ lines) }
         ensures others { OnOk result ((a : ℕ) → (a ≡ actor → ⊥) → lines_of self.new a ≡ lines_of self.old a) }
         ensures begun { self.new.begun ≡ self.old.begun }
@@ -158,7 +157,7 @@ impl Actors {
     }
 
     /// Keeps what the actor did about the message since its last answer.
-    pub(super) fn keep(&mut self, actor: u32, key: Key, about: About) -> Result<(), LineFault>
+    pub(super) fn keep(&mut self, actor: u32, key: Key, about: About) -> Result<(), AllocError>
         ensures puts { OnOk result (PutsAbout actor key about self.old self.new) }
         ensures moved { self.new.moved ≡ self.old.moved }
     {
@@ -172,7 +171,7 @@ impl Actors {
         key: Key,
         to: u32,
         line: usize,
-    ) -> Result<(), LineFault>
+    ) -> Result<(), AllocError>
         ensures about { OnOk result (self.new.about ≡ self.old.about) }
         ensures begun { OnOk result (self.new.begun ≡ self.old.begun) }
         ensures lines { OnOk result (self.new.lines ≡ self.old.lines) }

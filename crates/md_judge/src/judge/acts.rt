@@ -24,7 +24,8 @@ use super::directories::Spot;
 use super::filing::Caller;
 use super::known::{Act, Known};
 use super::watch::Watch;
-use md_log::{Call, Clause, Deed, LineFault, Naming, Reply};
+use md_log::{Call, Clause, Deed, Naming, Reply};
+use std::alloc::AllocError;
 
 /// What a step does to paths.
 #[derive(Clone, Copy)]
@@ -73,7 +74,7 @@ impl Watch {
         actor: u32,
         call: &Call,
         act: &Act,
-    ) -> Result<(), LineFault>
+    ) -> Result<(), AllocError>
         ensures wrong { OnOk result (NotesOne clause.NotADirectory (IsTrue act.now.is_wrong) self.old.found self.new.found) }
         ensures overwrites { OnOk result (NotesOne clause.Overwritten (IsSome act.now.change.turned) self.old.found self.new.found) }
         ensures filed { (path : Spot → Path) (who : ℕ → List ℕ) (many i : ℕ) (l : Log) (x : Step) → AreFiled who many l i self.old.files.all.items
@@ -117,7 +118,7 @@ impl Watch {
         actor: u32,
         call: &Call,
         act: &Act,
-    ) -> Result<(), LineFault>
+    ) -> Result<(), AllocError>
         ensures found { OnOk result (self.new.found ≡ self.old.found) }
         ensures files { OnOk result (self.new.files ≡ self.old.files) }
         ensures now { OnOk result (self.new.now ≡ self.old.now) }
@@ -143,7 +144,7 @@ impl Watch {
         actor: u32,
         spot: Spot,
         reply: Reply,
-    ) -> Result<(), LineFault>
+    ) -> Result<(), AllocError>
         ensures found { OnOk result (self.new.found ≡ self.old.found) }
         ensures files { OnOk result (self.new.files ≡ self.old.files) }
         ensures now { OnOk result (self.new.now ≡ self.old.now) }

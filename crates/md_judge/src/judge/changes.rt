@@ -32,11 +32,12 @@ use super::goings::{Going, check_taken};
 use super::known::{Act, Known};
 use super::mail::Move;
 use super::watch::Watch;
-use md_log::{Clause, LineFault};
+use md_log::Clause;
+use std::alloc::AllocError;
 
 impl Watch {
     /// Judges a change of paths that was made, and keeps what it does to messages.
-    pub(super) fn change(&mut self, known: &Known, actor: u32, act: &Act) -> Result<(), LineFault>
+    pub(super) fn change(&mut self, known: &Known, actor: u32, act: &Act) -> Result<(), AllocError>
         ensures wrong { OnOk result (Keeps clause.NotADirectory self.old.found self.new.found) }
         ensures overwrites { OnOk result (NotesOne clause.Overwritten (IsSome act.now.change.turned) self.old.found self.new.found) }
         ensures others { OnOk result (KeepsFiles self.old.found self.new.found) }
@@ -134,7 +135,7 @@ impl Watch {
     }
 
     /// Keeps what a change does to messages. The new name comes first, so that a message that is renamed in its folder is there all the while.
-    fn make(&mut self, known: &Known, actor: u32, change: Change) -> Result<(), LineFault>
+    fn make(&mut self, known: &Known, actor: u32, change: Change) -> Result<(), AllocError>
         ensures found { OnOk result (self.new.found ≡ self.old.found) }
         ensures files { OnOk result (self.new.files ≡ self.old.files) }
         ensures mailed { OnOk result (MakeStep known.now.names change self.old.mail self.new.mail) }
@@ -154,7 +155,7 @@ impl Watch {
         known: &Known,
         actor: u32,
         added: Option<(Spot, u32)>,
-    ) -> Result<(), LineFault>
+    ) -> Result<(), AllocError>
         ensures found { OnOk result (self.new.found ≡ self.old.found) }
         ensures files { OnOk result (self.new.files ≡ self.old.files) }
         ensures mailed { OnOk result (AddStep known.now.names added self.old.mail self.new.mail) }
@@ -178,7 +179,7 @@ impl Watch {
         known: &Known,
         actor: u32,
         turned: Option<(Spot, u32, u32)>,
-    ) -> Result<(), LineFault>
+    ) -> Result<(), AllocError>
         ensures found { OnOk result (self.new.found ≡ self.old.found) }
         ensures files { OnOk result (self.new.files ≡ self.old.files) }
         ensures mailed { OnOk result (TurnStep known.now.names turned self.old.mail self.new.mail) }
@@ -202,7 +203,7 @@ impl Watch {
         actor: u32,
         taken: Option<(Spot, u32)>,
         is_unlink: bool,
-    ) -> Result<(), LineFault>
+    ) -> Result<(), AllocError>
         ensures found { OnOk result (self.new.found ≡ self.old.found) }
         ensures files { OnOk result (self.new.files ≡ self.old.files) }
         ensures mailed { OnOk result (TakeStep known.now.names taken self.old.mail self.new.mail) }
@@ -221,7 +222,7 @@ impl Watch {
         self.note_taken(known, actor, spot, is_unlink)
     }
 
-    fn note_added(&mut self, known: &Known, actor: u32, spot: Spot) -> Result<(), LineFault>
+    fn note_added(&mut self, known: &Known, actor: u32, spot: Spot) -> Result<(), AllocError>
         ensures found { OnOk result (self.new.found ≡ self.old.found) }
         ensures files { OnOk result (self.new.files ≡ self.old.files) }
         ensures now { OnOk result (self.new.now ≡ self.old.now) }
@@ -248,7 +249,7 @@ impl Watch {
         actor: u32,
         spot: Spot,
         is_unlink: bool,
-    ) -> Result<(), LineFault>
+    ) -> Result<(), AllocError>
         ensures found { OnOk result (self.new.found ≡ self.old.found) }
         ensures files { OnOk result (self.new.files ≡ self.old.files) }
         ensures mail { OnOk result (self.new.mail ≡ self.old.mail) }
@@ -283,7 +284,7 @@ impl Watch {
         at: usize,
         spot: Spot,
         file: u32,
-    ) -> Result<(), LineFault>
+    ) -> Result<(), AllocError>
         ensures found { OnOk result (self.new.found ≡ self.old.found) }
         ensures files { OnOk result (self.new.files ≡ self.old.files) }
         ensures now { OnOk result (self.new.now ≡ self.old.now) }
@@ -309,7 +310,7 @@ impl Watch {
         spot: Spot,
         old: u32,
         new: u32,
-    ) -> Result<(), LineFault>
+    ) -> Result<(), AllocError>
         ensures found { OnOk result (self.new.found ≡ self.old.found) }
         ensures files { OnOk result (self.new.files ≡ self.old.files) }
         ensures now { OnOk result (self.new.now ≡ self.old.now) }
@@ -333,7 +334,7 @@ impl Watch {
     }
 
     /// A path is there for the last time before this step.
-    fn take_path(&mut self, known: &Known, spot: Spot, file: u32) -> Result<(), LineFault>
+    fn take_path(&mut self, known: &Known, spot: Spot, file: u32) -> Result<(), AllocError>
         ensures found { OnOk result (self.new.found ≡ self.old.found) }
         ensures files { OnOk result (self.new.files ≡ self.old.files) }
         ensures now { OnOk result (self.new.now ≡ self.old.now) }

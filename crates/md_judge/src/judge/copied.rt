@@ -3,8 +3,7 @@ ghost use Rattle.std.specs.Prelude.{◌≡◌, ◌↔◌, ◌<◌, ℕ, IsTrue, 
 ghost use Rattle.md_judge.specs.Copies.{copies_by, copies_of, is_place};
 ghost use Rattle.md_judge.specs.Mailed.{Recounts, one_more, one_fewer};
 
-use md_log::LineFault;
-use std::alloc::Global;
+use std::alloc::{AllocError, Global};
 use std::collections::BTreeMap;
 
 /// How many paths of messages of a unique name a file has.
@@ -60,7 +59,7 @@ impl Copied {
     }
 
     /// One path more. Where the place of the first unique name is free, any name takes it.
-    pub(super) fn add(&mut self, file: u32, unique: u32) -> Result<(), LineFault>
+    pub(super) fn add(&mut self, file: u32, unique: u32) -> Result<(), AllocError>
         ensures { OnOk result (Recounts file unique one_more self.old self.new) }
     {
         self.make_room(file)?;
@@ -83,7 +82,7 @@ impl Copied {
     }
 
     /// One path more in the first place, which is the unique name's or free.
-    fn add_first(&mut self, file: u32, unique: u32) -> Result<(), LineFault>
+    fn add_first(&mut self, file: u32, unique: u32) -> Result<(), AllocError>
         ensures { is_place (slice_get self.old.first.items file) unique ≡ true → OnOk result (Recounts file unique one_more self.old self.new) }
     {
         if let Some(first) = self.first.get_mut(file as usize) {
@@ -94,7 +93,7 @@ impl Copied {
     }
 
     /// The file has a place for the first unique name.
-    fn make_room(&mut self, file: u32) -> Result<(), LineFault>
+    fn make_room(&mut self, file: u32) -> Result<(), AllocError>
         ensures { OnOk result ((n u : ℕ) → copies_of self.new n u ≡ copies_of self.old n u) }
     {
         for _ in self.first.len()..=file as usize {
@@ -132,11 +131,11 @@ impl Copied {
 }
 
 /// A count with one more. More than 4,294,967,295 are not counted.
-fn one_more(count: u32) -> Result<u32, LineFault>
+fn one_more(count: u32) -> Result<u32, AllocError>
     ensures { IfOk result (λ more. more ≡ one_more count) }
 {
     match count {
-        u32::MAX => Err(LineFault::NoMemory),
+        u32::MAX => Err(AllocError),
         count => Ok(count + 1),
     }
 }

@@ -1,10 +1,9 @@
 //! The names that are in directories.
-ghost use Rattle.std.specs.Prelude.{◌≡◌, [], Some, None, IfErr, OnOk, slice_get, unwrap_or};
+ghost use Rattle.std.specs.Prelude.{◌≡◌, [], Some, None, OnOk, slice_get, unwrap_or};
 ghost use Rattle.std.specs.Option.{option_copied};
 ghost use Rattle.std.specs.Ordering.{nat_cmp};
 ghost use Rattle.std.specs.BTreeMap.{IsOrdered};
 ghost use Rattle.md_dirs.specs.Index.{directory_number};
-ghost use Rattle.md_log.specs.declared.error.LineFault.TheVariants.{NoMemory};
 ghost use Rattle.md_judge.specs.Known.{file_in, Puts, Makes};
 ghost use Rattle.md_judge.specs.Readings.{was_of};
 ghost use Rattle.md_judge.specs.Moments.{kept_moment, since_in, was_in, AddsEmpty, PutsMoments, MakesMoments};
@@ -14,8 +13,7 @@ use super::befores::{Moment, line_before, moment_of};
 use super::mixed::mixed_name;
 use super::tables::Name;
 use md_dirs::Place;
-use md_log::LineFault;
-use std::alloc::Global;
+use std::alloc::{AllocError, Global};
 use std::collections::BTreeMap;
 
 /// A path by numbers.
@@ -91,7 +89,7 @@ impl Directories {
         }
     }
 
-    pub(super) fn add_folder(&mut self) -> Result<(), LineFault>
+    pub(super) fn add_folder(&mut self) -> Result<(), AllocError>
         ensures { OnOk result (AddsEmpty 3 self.old.all.items self.new.all.items) }
     {
         for _ in 0..3u8 {
@@ -100,7 +98,7 @@ impl Directories {
         Ok(())
     }
 
-    fn add_directory(&mut self) -> Result<(), LineFault>
+    fn add_directory(&mut self) -> Result<(), AllocError>
         ensures { OnOk result (AddsEmpty 1 self.old.all.items self.new.all.items) }
     {
         self.all.push(Directory {
@@ -151,7 +149,7 @@ impl Directories {
     }
 
     /// Makes a path be as it was.
-    pub(super) fn put_back(&mut self, kept: Kept) -> Result<(), LineFault> {
+    pub(super) fn put_back(&mut self, kept: Kept) -> Result<(), AllocError> {
         let spot = kept.spot;
         let Some(directory) = self.all.get_mut(number_of(spot.folder, spot.place)) else {
             return Ok(());
@@ -176,20 +174,18 @@ impl Directories {
     }
 
     /// A path is there from the moment `at` on.
-    pub(super) fn add(&mut self, at: usize, spot: Spot, file: u32) -> Result<(), LineFault>
+    pub(super) fn add(&mut self, at: usize, spot: Spot, file: u32) -> Result<(), AllocError>
         ensures files { OnOk result (Puts spot (Some file) self.old.all.items self.new.all.items) }
         ensures moments { OnOk result (PutsMoments spot (Some (kept_moment at)) (was_in self.old.all.items spot) self.old.all.items self.new.all.items) }
-        ensures fault { IfErr result (λ e. e ≡ NoMemory) }
     {
         let since = moment_of(at);
         self.put(spot, Named { file, since })
     }
 
     /// A path is there.
-    fn put(&mut self, spot: Spot, named: Named) -> Result<(), LineFault>
+    fn put(&mut self, spot: Spot, named: Named) -> Result<(), AllocError>
         ensures files { OnOk result (Puts spot (Some named.file) self.old.all.items self.new.all.items) }
         ensures moments { OnOk result (PutsMoments spot (Some named.since) (was_in self.old.all.items spot) self.old.all.items self.new.all.items) }
-        ensures fault { IfErr result (λ e. e ≡ NoMemory) }
     {
         if let Some(directory) = self.all.get_mut(number_of(spot.folder, spot.place)) {
             directory.names.insert(spot.name, named)?;
@@ -198,7 +194,7 @@ impl Directories {
     }
 
     /// A path, which is there, names another file.
-    fn turn(&mut self, at: usize, spot: Spot, file: u32) -> Result<(), LineFault>
+    fn turn(&mut self, at: usize, spot: Spot, file: u32) -> Result<(), AllocError>
         ensures files { OnOk result (Puts spot (Some file) self.old.all.items self.new.all.items) }
         ensures moments { OnOk result (PutsMoments spot (Some (unwrap_or (since_in self.old.all.items spot) (kept_moment at))) (was_in self.old.all.items spot)
             self.old.all.items self.new.all.items) }
@@ -217,7 +213,7 @@ impl Directories {
     }
 
     /// A path was there for the last time at the moment `at`.
-    fn take(&mut self, at: usize, spot: Spot) -> Result<(), LineFault>
+    fn take(&mut self, at: usize, spot: Spot) -> Result<(), AllocError>
         ensures files { OnOk result (Puts spot None self.old.all.items self.new.all.items) }
         ensures moments { OnOk result (PutsMoments spot None (Some (kept_moment at)) self.old.all.items self.new.all.items) }
     {
@@ -230,7 +226,7 @@ impl Directories {
     }
 
     /// Makes the change of a line.
-    pub(super) fn make(&mut self, line: usize, change: Change) -> Result<(), LineFault>
+    pub(super) fn make(&mut self, line: usize, change: Change) -> Result<(), AllocError>
         ensures files { OnOk result (Makes change self.old.all.items self.new.all.items) }
         ensures moments { OnOk result (MakesMoments change line self.old.all.items self.new.all.items) }
     {

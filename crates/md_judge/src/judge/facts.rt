@@ -3,7 +3,8 @@ ghost use Rattle.std.specs.Prelude.{◌≡◌, ◌≢◌, ◌↔◌, ◌<◌, �
 ghost use Rattle.md_judge.specs.Files.{made, written, flushed, shown, hidden};
 
 use md_dirs::Place;
-use md_log::{LineFault, Reply};
+use md_log::Reply;
+use std::alloc::AllocError;
 
 /// 36 hours, after which a file of tmp may be removed.
 const CLEAN_AGE: u64 = 129_600;
@@ -64,11 +65,11 @@ impl FileFacts {
     }
 
     /// It has one more path of a message. More than 4,294,967,295 are not counted.
-    pub(super) fn show(&mut self, in_cur: bool) -> Result<(), LineFault>
+    pub(super) fn show(&mut self, in_cur: bool) -> Result<(), AllocError>
         ensures { OnOk result (self.new ≡ shown in_cur self.old) }
     {
         if self.seen == u32::MAX {
-            return Err(LineFault::NoMemory);
+            return Err(AllocError);
         }
         self.seen += 1;
         self.was_cur = self.was_cur || in_cur;

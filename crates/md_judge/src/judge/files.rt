@@ -6,8 +6,8 @@ ghost use Rattle.md_judge.specs.Files.{made, written, flushed, shown, hidden, fa
 
 use super::befores::{Mark, NO_MARK};
 use super::facts::FileFacts;
-use md_log::{LineFault, Reply};
-use std::alloc::Global;
+use md_log::Reply;
+use std::alloc::{AllocError, Global};
 
 /// The most files that a log has.
 pub(super) const MOST_FILES: u32 = 4_000_000_000;
@@ -77,11 +77,11 @@ impl Files {
         line: Mark,
         maker: Option<u32>,
         stamp: u64,
-    ) -> Result<(), LineFault>
+    ) -> Result<(), AllocError>
         ensures { OnOk result (Adds (made maker stamp) self.old.all.items self.new.all.items) }
     {
         if self.all.len() >= MOST_FILES as usize {
-            return Err(LineFault::NoMemory);
+            return Err(AllocError);
         }
         self.all.push(Filed {
             facts: FileFacts::made(maker, stamp),
@@ -116,7 +116,7 @@ impl Files {
     }
 
     /// A file has one more path of a message.
-    pub(super) fn show(&mut self, line: Mark, file: u32, in_cur: bool) -> Result<(), LineFault>
+    pub(super) fn show(&mut self, line: Mark, file: u32, in_cur: bool) -> Result<(), AllocError>
         ensures { OnOk result (Changes file (shown in_cur) self.old.all.items self.new.all.items) }
     {
         if let Some(filed) = self.all.get_mut(file as usize) {

@@ -17,7 +17,8 @@ use super::files::{Filed, Files};
 use super::found::Found;
 use super::known::{Act, Known};
 use md_dirs::Place;
-use md_log::{Call, Clause, Deed, LineFault, Reply};
+use md_log::{Call, Clause, Deed, Reply};
+use std::alloc::AllocError;
 
 /// Who makes a call, and at which line.
 #[derive(Clone, Copy)]
@@ -35,7 +36,7 @@ impl Files {
         by: Caller,
         call: &Call,
         act: &Act,
-    ) -> Result<(), LineFault>
+    ) -> Result<(), AllocError>
         ensures paths { OnOk result (KeepsPaths found.old found.new) }
         ensures added { OnOk result (KeepsMessages found.old found.new) }
         ensures filed { (path : Spot → Path) (who : ℕ → List ℕ) (many i : ℕ) (l : Log) (x : Step) → AreFiled who many l i self.old.all.items
@@ -56,7 +57,7 @@ impl Files {
         by: Caller,
         call: &Call,
         act: &Act,
-    ) -> Result<(), LineFault>
+    ) -> Result<(), AllocError>
         ensures step { OnOk result (CallStep call.now act.now.spot by.actor known.now.clock act.now.file self.old.all.items self.new.all.items) }
         ensures paths { OnOk result (KeepsPaths found.old found.new) }
         ensures added { OnOk result (KeepsMessages found.old found.new) }
@@ -85,7 +86,7 @@ impl Files {
         spot: Spot,
         reply: Reply,
         file: Option<u32>,
-    ) -> Result<(), LineFault>
+    ) -> Result<(), AllocError>
         ensures step { OnOk result (AtStep deed reply by.actor known.now.clock file self.old.all.items self.new.all.items) }
         ensures finds { OnOk result (Notes (AtFinds (is_message_in known.now.names spot) by.actor self.old.all.items deed reply file) found.old found.new) }
         ensures law { (who : ℕ → List ℕ) (many i : ℕ) (l : Log) (x : Step)
@@ -132,7 +133,7 @@ impl Files {
         known: &Known,
         by: Caller,
         change: &Change,
-    ) -> Result<(), LineFault>
+    ) -> Result<(), AllocError>
         ensures step { OnOk result (ChangeStep known.now.names change.now self.old.all.items self.new.all.items) }
         ensures finds { OnOk result (Notes (ChangeFinds known.now.names by.actor known.now.clock change.now self.old.all.items self.new.all.items) found.old found.new) }
         ensures law { (path : Spot → Path) (who : ℕ → List ℕ) (many i : ℕ) (l : Log) (x : Step)
@@ -174,7 +175,7 @@ impl Files {
         line: usize,
         spot: Spot,
         file: u32,
-    ) -> Result<(), LineFault>
+    ) -> Result<(), AllocError>
         ensures { OnOk result (Changes file (named known.now.names spot) self.old.all.items self.new.all.items) }
     {
         if known.is_message(spot) {

@@ -25,7 +25,7 @@ use super::files::MOST_FILES;
 use super::tables::Names;
 use md_dirs::{Path, Place};
 use md_log::{Call, Deed, LineFault, Naming, Reply, Step};
-use std::alloc::Global;
+use std::alloc::{AllocError, Global};
 
 /// What a call did to paths, and whether it was answered so.
 #[derive(Clone, Copy)]
@@ -76,14 +76,13 @@ impl Known {
     }
 
     /// A path by numbers.
-    pub(super) fn spot(&mut self, path: &Path) -> Result<Spot, LineFault>
+    pub(super) fn spot(&mut self, path: &Path) -> Result<Spot, AllocError>
         ensures spot { IfOk result (λ s. IsSpotOf self.new.names path.now s) }
         ensures keeps { KeepNumbers self.old.names self.new.names }
         ensures uniques { OnOk result (GrowsUniques self.old.names self.new.names) }
         ensures numbered { OnOk result (AreNumbered self.new.names) }
         ensures told { (lines : ℕ → ℕ) (l : Log) (i : ℕ) → IsToldAt lines l i self.old → OnOk result (IsToldAt lines l i self.new) }
         ensures clock { self.new.clock ≡ self.old.clock }
-        ensures fault { IfErr result (λ e. e ≡ NoMemory) }
     {
         Ok(Spot {
             folder: path.folder,
@@ -169,7 +168,7 @@ impl Known {
     }
 
     /// Goes on by a step of this line.
-    pub(super) fn step(&mut self, line: usize, step: &Step) -> Result<Act, LineFault>
+    pub(super) fn step(&mut self, line: usize, step: &Step) -> Result<Act, AllocError>
         ensures told { (lines : ℕ → ℕ) (l : Log) (i : ℕ) → IsToldAt lines l i self.old
             → slice_get l.steps i ≡ Some (record { number = line; step = step.now }) → lines i ≡ line → line < 4294967295
             → HasFolders (at l i) step.now.call → OnOk result (IsToldAt lines l (suc i) self.new) }
@@ -192,7 +191,7 @@ impl Known {
     }
 
     /// Does to paths what a call of this line did that was made.
-    fn call(&mut self, line: usize, call: &Call) -> Result<Act, LineFault>
+    fn call(&mut self, line: usize, call: &Call) -> Result<Act, AllocError>
         ensures told { (now : ℕ) (lines : ℕ → ℕ) (l : Log) (i : ℕ) → IsToldAt lines l i self.old
             → GoesOn lines l i line (after_call call.now now) → HasFolders (at l i) call.now → OnOk result (IsToldAt lines l (suc i) self.new) }
         ensures acts { (now : ℕ) (lines : ℕ → ℕ) (l : Log) (i : ℕ) (x : Step) → IsToldAt lines l i self.old
@@ -227,7 +226,7 @@ impl Known {
         }
     }
 
-    fn at(&mut self, line: usize, deed: Deed, spot: Spot, reply: Reply) -> Result<Act, LineFault>
+    fn at(&mut self, line: usize, deed: Deed, spot: Spot, reply: Reply) -> Result<Act, AllocError>
         ensures act { (path : Spot → Path) (many now : ℕ) (s : State) → Stands path many → Holds path many s self.old → spot.name < many
             → has_folder s (path spot) ≡ true
             → IfOk result (λ act. Leaves path many reply (ask_at deed (path spot) now) s self.new act) }
@@ -267,7 +266,7 @@ impl Known {
         old: Spot,
         new: Spot,
         reply: Reply,
-    ) -> Result<Act, LineFault>
+    ) -> Result<Act, AllocError>
         ensures act { (path : Spot → Path) (many : ℕ) (s : State) → Stands path many → Holds path many s self.old
             → old.name < many → new.name < many → has_folder s (path old) ≡ true → has_folder s (path new) ≡ true
             → IfOk result (λ act. Leaves path many reply (ask_between naming (path old) (path new)) s self.new act) }
@@ -307,13 +306,12 @@ impl Known {
 }
 
 /// How many files there are after a call on one path: a create that was made makes one.
-fn counted(files: u32, deed: Deed, reply: Reply) -> Result<u32, LineFault>
+fn counted(files: u32, deed: Deed, reply: Reply) -> Result<u32, AllocError>
     ensures count { IfOk result (λ count. count ≡ files_after deed reply files) }
-    ensures fault { IfErr result (λ e. e ≡ NoMemory) }
 {
     match (deed, reply) {
         (Deed::Create, Reply::Ok) if files < MOST_FILES => Ok(files + 1),
-        (Deed::Create, Reply::Ok) => Err(LineFault::NoMemory),
+        (Deed::Create, Reply::Ok) => Err(AllocError),
         _ => Ok(files),
     }
 }

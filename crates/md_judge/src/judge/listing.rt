@@ -25,8 +25,8 @@ use super::tables::{Name, Names};
 use super::trial::Open;
 use super::watch::Watch;
 use md_dirs::Place;
-use md_log::{Clause, LineFault, Reply};
-use std::alloc::Global;
+use md_log::{Clause, Reply};
+use std::alloc::{AllocError, Global};
 use std::collections::{BTreeMap, BTreeSet};
 
 /// A reading of one directory: the moment of its first part, and the names that it showed.
@@ -47,7 +47,7 @@ impl Reading {
     }
 
     /// A part of the reading shows names at the moment `at`. It gives the moment of the first part.
-    fn show(&mut self, at: usize, names: &[Name]) -> Result<usize, LineFault>
+    fn show(&mut self, at: usize, names: &[Name]) -> Result<usize, AllocError>
         ensures first { IfOk result (λ first. first ≡ unwrap_or self.old.first at) }
         ensures goes { OnOk result (ShowsMore at names.now self.old.first (λ n. ordered.contains nat_cmp self.old.shown n)
             self.new.first (λ n. ordered.contains nat_cmp self.new.shown n)) }
@@ -98,7 +98,7 @@ impl Listing {
     }
 
     /// The reading of a place, where it goes on.
-    pub(super) fn open(&self, alloc: Global, place: Place) -> Result<Option<Open>, LineFault> {
+    pub(super) fn open(&self, alloc: Global, place: Place) -> Result<Option<Open>, AllocError> {
         let reading = self.reading(place);
         let Some(first) = reading.first else {
             return Ok(None);
@@ -121,7 +121,7 @@ impl Listing {
     }
 
     /// A part of the reading of a place shows names at the moment `at`. It gives the moment of the first part.
-    fn show(&mut self, place: Place, at: usize, names: &[Name]) -> Result<usize, LineFault>
+    fn show(&mut self, place: Place, at: usize, names: &[Name]) -> Result<usize, AllocError>
         ensures first { IfOk result (λ first. first ≡ unwrap_or (reading_of self.entry.now place).first at) }
         ensures goes { OnOk result (ShowsMore at names.now (reading_of self.entry.now place).first
             (λ n. ordered.contains nat_cmp (reading_of self.entry.now place).shown n)
@@ -161,7 +161,7 @@ impl Listing {
         place: Place,
         span: (usize, usize),
         shown: &BTreeSet<Name>,
-    ) -> Result<(), LineFault>
+    ) -> Result<(), AllocError>
         ensures readings { (p : Place) → reading_of self.exit.now p ≡ reading_of self.entry.now p }
         ensures gathers { OnOk result (Gathers names.now place span (λ n. ordered.contains nat_cmp shown.now n) (gathered_of self.entry.now)
             (gathered_of self.exit.now)) }
@@ -347,7 +347,7 @@ impl Watch {
         place: Place,
         reply: Reply,
         names: &[Name],
-    ) -> Result<(), LineFault>
+    ) -> Result<(), AllocError>
         ensures overwrites { OnOk result (Keeps clause.Overwritten self.old.found self.new.found) }
         ensures others { OnOk result (KeepsFiles self.old.found self.new.found) }
         ensures added { OnOk result (KeepsMessages self.old.found self.new.found) }
@@ -398,7 +398,7 @@ impl Watch {
         place: Place,
         reply: Reply,
         first: usize,
-    ) -> Result<(), LineFault>
+    ) -> Result<(), AllocError>
         ensures paths { OnOk result (KeepsReplies self.old.found self.new.found) }
         ensures others { OnOk result (KeepsFiles self.old.found self.new.found) }
         ensures added { OnOk result (KeepsMessages self.old.found self.new.found) }

@@ -11,8 +11,7 @@ ghost use Rattle.md_judge.specs.Mailed.{count_of, count_after, IsBy, Moves, Move
 
 use super::befores::{Moment, line_before, moment_of};
 use super::copied::Copied;
-use md_log::LineFault;
-use std::alloc::Global;
+use std::alloc::{AllocError, Global};
 use std::collections::{BTreeMap, BTreeSet};
 
 /// A message: its folder, and the number of its unique name.
@@ -75,7 +74,7 @@ impl Message {
     }
 
     /// It has a past from now on, where it had none.
-    fn begin_past(&mut self, alloc: Global) -> Result<(), LineFault>
+    fn begin_past(&mut self, alloc: Global) -> Result<(), AllocError>
         ensures more { OnOk result (self.new ≡ record self.old { more = self.new.more }) }
         ensures files { OnOk result ((n : ℕ) → WasFile self.new n ↔ WasFile self.old n) }
         ensures some { OnOk result (IsSome self.new.more) }
@@ -133,7 +132,7 @@ impl Message {
     }
 
     /// It makes a move.
-    fn make(&mut self, alloc: Global, step: Move) -> Result<(), LineFault>
+    fn make(&mut self, alloc: Global, step: Move) -> Result<(), AllocError>
         ensures moves { OnOk result (Moves (count_after step) (IsBy step) (Some self.old) (Some self.new)) }
         ensures folder { OnOk result (self.new.folder ≡ self.old.folder) }
         ensures times { OnOk result (TimedBy step (Some self.old) (Some self.new)) }
@@ -149,13 +148,13 @@ impl Message {
     }
 
     /// It has one more path, from a moment on. More than 4,294,967,295 are not counted.
-    fn come(&mut self, since: Moment) -> Result<(), LineFault>
+    fn come(&mut self, since: Moment) -> Result<(), AllocError>
         ensures rest { OnOk result (self.new ≡ record self.old { count = self.old.count + 1; since = self.new.since }) }
         ensures begins { OnOk result (self.old.count ≡ 0 → self.new.since ≡ since) }
         ensures goes_on { OnOk result (0 < self.old.count → self.new.since ≡ self.old.since) }
     {
         if self.count == u32::MAX {
-            return Err(LineFault::NoMemory);
+            return Err(AllocError);
         }
         if self.count == 0 {
             self.since = since;
@@ -165,7 +164,7 @@ impl Message {
     }
 
     /// It is a file.
-    fn be(&mut self, alloc: Global, file: u32) -> Result<(), LineFault>
+    fn be(&mut self, alloc: Global, file: u32) -> Result<(), AllocError>
         ensures more { OnOk result (self.new ≡ record self.old { more = self.new.more }) }
         ensures files { OnOk result ((n : ℕ) → WasFile self.new n ↔ (WasFile self.old n ⊎ (n ≡ file))) }
         ensures times { OnOk result (times_of self.new ≡ times_of self.old) }
@@ -181,7 +180,7 @@ impl Message {
     }
 
     /// It has one path fewer: where it has none, the moment was its last.
-    fn go(&mut self, alloc: Global, last: usize) -> Result<(), LineFault>
+    fn go(&mut self, alloc: Global, last: usize) -> Result<(), AllocError>
         ensures count { OnOk result (self.new.count ≡ self.old.count - 1) }
         ensures folder { OnOk result (self.new.folder ≡ self.old.folder) }
         ensures files { OnOk result ((n : ℕ) → WasFile self.new n ↔ WasFile self.old n) }
@@ -252,7 +251,7 @@ impl Mail {
         }
     }
 
-    pub(super) fn add_folder(&mut self) -> Result<(), LineFault>
+    pub(super) fn add_folder(&mut self) -> Result<(), AllocError>
         ensures rest { self.new ≡ record self.old { present = self.new.present } }
         ensures present { OnOk result (AddsFolder self.old self.new) }
     {
@@ -270,7 +269,7 @@ impl Mail {
     }
 
     /// A step does this to a message.
-    pub(super) fn make(&mut self, key: Key, step: Move) -> Result<(), LineFault>
+    pub(super) fn make(&mut self, key: Key, step: Move) -> Result<(), AllocError>
         ensures moves { OnOk result (MovesOne key.0 key.1 (count_after step) (IsBy step) self.old self.new) }
         ensures copied { OnOk result (self.new.copied ≡ self.old.copied) }
         ensures times { OnOk result (TimedBy step (message_of self.old key.0 key.1) (message_of self.new key.0 key.1)) }
@@ -281,7 +280,7 @@ impl Mail {
     }
 
     /// Where the message comes, there is one that may have no path yet.
-    fn prepare(&mut self, key: Key, step: Move) -> Result<(), LineFault>
+    fn prepare(&mut self, key: Key, step: Move) -> Result<(), AllocError>
         ensures prepares { OnOk result (Prepares step key.0 key.1 self.old self.new) }
         ensures present { OnOk result (self.new.present ≡ self.old.present) }
         ensures copied { OnOk result (self.new.copied ≡ self.old.copied) }
@@ -293,7 +292,7 @@ impl Mail {
         }
     }
 
-    fn make_message(&mut self, key: Key, step: Move) -> Result<(), LineFault>
+    fn make_message(&mut self, key: Key, step: Move) -> Result<(), AllocError>
         ensures moves { OnOk result (MakesOne key.0 key.1 step self.old self.new) }
         ensures present { OnOk result (self.new.present ≡ self.old.present) }
         ensures copied { OnOk result (self.new.copied ≡ self.old.copied) }
@@ -312,7 +311,7 @@ impl Mail {
     }
 
     /// Keeps whether the folder has the message.
-    fn keep_present(&mut self, key: Key, step: Move) -> Result<(), LineFault>
+    fn keep_present(&mut self, key: Key, step: Move) -> Result<(), AllocError>
         ensures rest { OnOk result (self.new ≡ record self.old { present = self.new.present }) }
         ensures present { OnOk result (KeepsSets key.0 key.1 step (count_of (message_of self.old key.0 key.1)) self.old self.new) }
     {
@@ -351,7 +350,7 @@ impl Mail {
     }
 
     /// Where the message never was in its folder, there comes one that has no path yet.
-    fn begin(&mut self, since: Moment, key: Key, file: u32) -> Result<(), LineFault>
+    fn begin(&mut self, since: Moment, key: Key, file: u32) -> Result<(), AllocError>
         ensures message { OnOk result (message_of self.new key.0 key.1 ≡ Some (begun (fresh key.0 since file) (message_of self.old key.0 key.1))) }
         ensures others { OnOk result (KeepsOthers key.0 key.1 self.old self.new) }
         ensures present { OnOk result (self.new.present ≡ self.old.present) }
@@ -365,7 +364,7 @@ impl Mail {
     }
 
     /// The unique name has a place for the folder where it comes first.
-    fn make_room(&mut self, unique: u32) -> Result<(), LineFault>
+    fn make_room(&mut self, unique: u32) -> Result<(), AllocError>
         ensures messages { OnOk result ((f v : ℕ) → message_of self.new f v ≡ message_of self.old f v) }
         ensures present { OnOk result (self.new.present ≡ self.old.present) }
         ensures copied { OnOk result (self.new.copied ≡ self.old.copied) }
@@ -377,7 +376,7 @@ impl Mail {
     }
 
     /// Puts a message that is not there: first of its unique name, where the place is free.
-    fn put(&mut self, key: Key, message: Message) -> Result<(), LineFault>
+    fn put(&mut self, key: Key, message: Message) -> Result<(), AllocError>
         ensures message { message_of self.old key.0 key.1 ≡ None → message.folder ≡ key.0
             → OnOk result (message_of self.new key.0 key.1 ≡ Some message) }
         ensures others { message_of self.old key.0 key.1 ≡ None → message.folder ≡ key.0 → OnOk result (KeepsOthers key.0 key.1 self.old self.new) }
@@ -452,11 +451,11 @@ impl Mail {
     }
 
     /// The folders that have a message of the unique name.
-    pub(super) fn folders_with(&self, unique: u32) -> Result<Vec<u32>, LineFault>
+    pub(super) fn folders_with(&self, unique: u32) -> Result<Vec<u32>, AllocError>
         ensures { IfOk result (λ folders. (f : ℕ) → IsIn folders.items f ↔ IsIn (present_in self.now f) unique) }
     {
         let Ok(many) = u32::try_from(self.present.len()) else {
-            return Err(LineFault::NoMemory);
+            return Err(AllocError);
         };
         let mut folders = Vec::new(self.alloc);
         for folder in 0..many {
@@ -478,7 +477,7 @@ impl Mail {
     }
 
     /// One more path of the file is a message of the unique name.
-    pub(super) fn copy(&mut self, file: u32, unique: u32) -> Result<(), LineFault>
+    pub(super) fn copy(&mut self, file: u32, unique: u32) -> Result<(), AllocError>
         ensures copied { OnOk result (Recounts file unique one_more self.old.copied self.new.copied) }
         ensures messages { self.new ≡ record self.old { copied = self.new.copied } }
     {

@@ -8,7 +8,7 @@ use super::Judge;
 use super::directories::Directories;
 use super::trial::{Asked, Open, Reader, Trial, Undo};
 use md_log::{Call, LineFault, Step, Ticks};
-use std::alloc::Global;
+use std::alloc::{AllocError, Global};
 use std::collections::BTreeSet;
 
 /// As many tries there are for any steps, and as many more for each step.
@@ -322,14 +322,14 @@ impl Judge {
         &self,
         reader: Reader,
         place: md_dirs::Place,
-    ) -> Result<Option<Open>, LineFault> {
+    ) -> Result<Option<Open>, AllocError> {
         match self.listings.get(&(reader.0, reader.1.0)) {
             None => Ok(None),
             Some(listing) => listing.open(self.alloc, place),
         }
     }
 
-    fn asked(&mut self, step: &Step) -> Result<Asked, LineFault> {
+    fn asked(&mut self, step: &Step) -> Result<Asked, AllocError> {
         match &step.call {
             Call::At { deed, path, reply } => Ok(Asked::At {
                 deed: *deed,

@@ -3,8 +3,7 @@ ghost use Rattle.std.specs.Prelude.{IfSome, ◌≡◌, ◌<◌, ℕ, Some, None,
 ghost use Rattle.md_judge.specs.Actors.{in_column, kept, IsFree, HasRoom, MayPut, Puts};
 
 use super::mail::Key;
-use md_log::LineFault;
-use std::alloc::Global;
+use std::alloc::{AllocError, Global};
 use std::collections::BTreeMap;
 
 /// The value of an actor and a message, beside the number of the message's unique name.
@@ -73,7 +72,7 @@ impl<V: Copy + Drop> Column<V> {
     }
 
     /// Puts a value, whose slot is its own or has room for it.
-    fn put(&mut self, actor: u32, key: Key, value: V) -> Result<(), LineFault>
+    fn put(&mut self, actor: u32, key: Key, value: V) -> Result<(), AllocError>
         ensures { MayPut self.old actor key → OnOk result (Puts actor key (Some value) (in_column self.old) (in_column self.new)) }
     {
         self.reserve(key.1 as usize, value)?;
@@ -88,7 +87,7 @@ impl<V: Copy + Drop> Column<V> {
     }
 
     /// Slots up to this one are there, of which those that come are free.
-    fn reserve(&mut self, last: usize, value: V) -> Result<(), LineFault>
+    fn reserve(&mut self, last: usize, value: V) -> Result<(), AllocError>
         ensures there { OnOk result (last < length self.new.slots.items) }
         ensures same { OnOk result ((a : ℕ) (k : ℕ × ℕ) → in_column self.new a k ≡ in_column self.old a k) }
         ensures free { OnOk result ((n : ℕ) → IsFree (slice_get self.old.slots.items n) → IsFree (slice_get self.new.slots.items n)) }
@@ -155,7 +154,7 @@ impl<V: Copy + Drop> Pairs<V> {
         self.others.get(&(actor, key)).copied()
     }
 
-    pub(super) fn insert(&mut self, actor: u32, key: Key, value: V) -> Result<(), LineFault>
+    pub(super) fn insert(&mut self, actor: u32, key: Key, value: V) -> Result<(), AllocError>
         ensures { OnOk result (Puts actor key (Some value) (kept self.old) (kept self.new)) }
     {
         match self.place(actor, key) {

@@ -1,17 +1,15 @@
 //! Words by numbers.
-ghost use Rattle.std.specs.Prelude.{◌≡◌, ◌≢◌, ◌<◌, ◌≤◌, ◌+◌, ◌*◌, ◌/◌, ◌%◌, ◌++◌, ◌∷◌, [], ℕ, List, Some, None, length, slice_get, if◌then◌else◌, IsTrue, IfOk, IfErr, IfSome, IfNone, OnOk, OnErr};
+ghost use Rattle.std.specs.Prelude.{◌≡◌, ◌≢◌, ◌<◌, ◌≤◌, ◌+◌, ◌*◌, ◌/◌, ◌%◌, ◌++◌, ◌∷◌, [], ℕ, List, Some, None, length, slice_get, if◌then◌else◌, IsTrue, IfOk, IfSome, IfNone, OnOk, OnErr};
 ghost use Rattle.std.specs.Option.{option_copied};
 ghost use Rattle.md_name.specs.Names.{split_of, info_of, flags_of};
-ghost use Rattle.md_log.specs.declared.error.LineFault.TheVariants.{NoMemory};
 ghost use Rattle.md_judge.specs.Files.{name_facts, is_trashed_in};
 ghost use Rattle.md_judge.specs.Words.{hash_of, AreApart, Finds};
 ghost use Rattle.md_judge.specs.Names.{StandFor, IsNumber, AreNumbered, KeepNumbers, GrowsUniques, AreMarked, has_trashed, alike_in, AddsAlike, NotesAlike, IsUnique};
 
 use super::flags::bits_of;
 use super::texts::Words;
-use md_log::LineFault;
 use md_name::{Info, split};
-use std::alloc::Global;
+use std::alloc::{AllocError, Global};
 use std::collections::BTreeMap;
 use std::hash::{FoldHasher, Hasher};
 use std::marker::Model;
@@ -48,11 +46,10 @@ impl Index {
     }
 
     /// Puts a number for a word that has this hash. Other words keep theirs, also where memory is refused.
-    fn put(&mut self, hash: u32, word: &[u8], number: u32) -> Result<(), LineFault>
+    fn put(&mut self, hash: u32, word: &[u8], number: u32) -> Result<(), AllocError>
         requires { hash ≡ hash_of word.now }
         ensures keeps { (other : List ℕ) (n : ℕ) → other ≢ word.now → Finds self.old other n → Finds self.new other n }
         ensures put { OnOk result (Finds self.new word.now number) }
-        ensures fault { IfErr result (λ e. e ≡ NoMemory) }
     {
         if !self.by_hash.contains_key(&hash) {
             self.by_hash.insert(hash, number)?;
@@ -116,13 +113,12 @@ impl Table {
     }
 
     /// The number of a word, and whether it is new. It takes about log n in the words. Where memory is refused, the words are as they were.
-    pub(super) fn number(&mut self, word: &[u8]) -> Result<(u32, bool), LineFault>
+    pub(super) fn number(&mut self, word: &[u8]) -> Result<(u32, bool), AllocError>
         ensures found { IfOk result (λ r. slice_get self.new r.0 ≡ Some word.now) }
         ensures grows { IfOk result (λ r. self.new ≡ (if r.1 then self.old ++ word.now ∷ [] else self.old)) }
         ensures is_new { IfOk result (λ r. IsTrue r.1 → r.0 ≡ length self.old) }
         ensures few { IfOk result (λ r. r.0 < 4000000000) }
         ensures refused { OnErr result (self.new ≡ self.old) }
-        ensures fault { IfErr result (λ e. e ≡ NoMemory) }
     {
         let hash = hash_of(word);
         if let Some(number) = self.find(hash, word) {
@@ -151,18 +147,17 @@ impl Table {
     }
 
     /// Numbers a word that has this hash and no number.
-    fn add(&mut self, hash: u32, word: &[u8]) -> Result<u32, LineFault>
+    fn add(&mut self, hash: u32, word: &[u8]) -> Result<u32, AllocError>
         requires hashed { hash ≡ hash_of word.now }
         requires is_new { (n : ℕ) → slice_get self.old n ≡ Some word.now → ⊥ }
         ensures ok { OnOk result (self.new ≡ self.old ++ word.now ∷ []) }
         ensures number { IfOk result (λ n. n ≡ length self.old) }
         ensures few { IfOk result (λ n. n < 4000000000) }
         ensures err { OnErr result (self.new ≡ self.old) }
-        ensures fault { IfErr result (λ e. e ≡ NoMemory) }
     {
         let count = self.words.len();
         if count >= MOST_WORDS {
-            return Err(LineFault::NoMemory);
+            return Err(AllocError);
         }
         let number = count as u32;
         // Where memory is refused after this, the number is put for a word that is not there.
@@ -220,13 +215,12 @@ impl Names {
     }
 
     /// The number of a unique name. Where memory is refused, no number stands for another name than before.
-    pub(super) fn unique(&mut self, unique: &[u8]) -> Result<u32, LineFault>
+    pub(super) fn unique(&mut self, unique: &[u8]) -> Result<u32, AllocError>
         ensures number { IfOk result (λ u. slice_get self.new.uniques u ≡ Some unique.now) }
         ensures endings { self.new.endings ≡ self.old.endings }
         ensures keeps { KeepNumbers self.old self.new }
         ensures uniques { OnOk result (GrowsUniques self.old self.new) }
         ensures numbered { OnOk result (AreNumbered self.new) }
-        ensures fault { IfErr result (λ e. e ≡ NoMemory) }
     {
         let (number, _) = self.uniques.number(unique)?;
         self.are_numbered();
@@ -234,24 +228,22 @@ impl Names {
     }
 
     /// The number of a name, for ever: two names have two, and a name has one. Where memory is refused, no number stands for another name than before.
-    pub(super) fn number(&mut self, name: &[u8]) -> Result<Name, LineFault>
+    pub(super) fn number(&mut self, name: &[u8]) -> Result<Name, AllocError>
         ensures number { IfOk result (λ n. IsNumber self.new name.now n) }
         ensures keeps { KeepNumbers self.old self.new }
         ensures uniques { OnOk result (GrowsUniques self.old self.new) }
         ensures facts { IfOk result (λ n. IsUnique self.new (split_of name.now) (name_facts self.new n).unique) }
         ensures numbered { OnOk result (AreNumbered self.new) }
-        ensures fault { IfErr result (λ e. e ≡ NoMemory) }
     {
         let number = self.number_of(name)?;
         self.are_numbered();
         Ok(number)
     }
 
-    fn number_of(&mut self, name: &[u8]) -> Result<Name, LineFault>
+    fn number_of(&mut self, name: &[u8]) -> Result<Name, AllocError>
         ensures number { IfOk result (λ n. IsNumber self.new name.now n) }
         ensures keeps { KeepNumbers self.old self.new }
         ensures uniques { OnOk result (GrowsUniques self.old self.new) }
-        ensures fault { IfErr result (λ e. e ≡ NoMemory) }
     {
         match split(name) {
             None => self.other(name),
@@ -260,35 +252,32 @@ impl Names {
     }
 
     /// The number of a name that is no message's.
-    fn other(&mut self, name: &[u8]) -> Result<Name, LineFault>
+    fn other(&mut self, name: &[u8]) -> Result<Name, AllocError>
         ensures number { IfOk result (λ n. StandFor self.new name.now None (n / 4294967296) (n % 4294967296)) }
         ensures keeps { KeepNumbers self.old self.new }
         ensures rest { self.new ≡ record self.old { others = self.new.others } }
-        ensures fault { IfErr result (λ e. e ≡ NoMemory) }
     {
         let (number, _) = self.others.number(name)?;
         Ok(name_of(number, NO_ENDING))
     }
 
     /// The number of a message's name that has this unique part.
-    fn message(&mut self, name: &[u8], unique: &[u8], info: Info) -> Result<Name, LineFault>
+    fn message(&mut self, name: &[u8], unique: &[u8], info: Info) -> Result<Name, AllocError>
         ensures number { IfOk result (λ n. StandFor self.new name.now (Some (unique.now, info)) (n / 4294967296) (n % 4294967296)) }
         ensures keeps { KeepNumbers self.old self.new }
         ensures uniques { split_of name.now ≡ Some (unique.now, info) → OnOk result (GrowsUniques self.old self.new) }
-        ensures fault { IfErr result (λ e. e ≡ NoMemory) }
     {
         let ending = self.ending(name.get(unique.len()..).unwrap_or(&[]), info)?;
         Ok(name_of(self.unique(unique)?, ending))
     }
 
     /// The number of what comes after a unique part, and says this.
-    fn ending(&mut self, ending: &[u8], info: Info) -> Result<u32, LineFault>
+    fn ending(&mut self, ending: &[u8], info: Info) -> Result<u32, AllocError>
         ensures number { IfOk result (λ n. slice_get self.new.endings n ≡ Some ending.now) }
         ensures few { IfOk result (λ n. n < 4294967295) }
         ensures keeps { KeepNumbers self.old self.new }
         ensures uniques { self.new.uniques ≡ self.old.uniques }
         ensures marked { info ≡ info_of ending.now → AreMarked self.old → OnOk result (AreMarked self.new) }
-        ensures fault { IfErr result (λ e. e ≡ NoMemory) }
     {
         let (number, is_new) = self.endings.number(ending)?;
         if is_new {
@@ -298,11 +287,10 @@ impl Names {
     }
 
     /// Keeps what a new ending says.
-    fn note_flags(&mut self, number: u32, info: Info) -> Result<(), LineFault>
+    fn note_flags(&mut self, number: u32, info: Info) -> Result<(), AllocError>
         ensures words { (self.new.uniques ≡ self.old.uniques) × (self.new.endings ≡ self.old.endings) × (self.new.others ≡ self.old.others) }
         ensures trashed { OnOk result (self.new.trashed.items ≡ self.old.trashed.items ++ has_trashed (flags_of info) ∷ []) }
         ensures alike { OnOk result (NotesAlike (flags_of info) number self.old self.new) }
-        ensures fault { IfErr result (λ e. e ≡ NoMemory) }
     {
         match info.flags() {
             None => {
@@ -317,10 +305,9 @@ impl Names {
     }
 
     /// One more ending shows these flags.
-    fn note_alike(&mut self, number: u32, flags: u64) -> Result<(), LineFault>
+    fn note_alike(&mut self, number: u32, flags: u64) -> Result<(), AllocError>
         ensures rest { self.new ≡ record self.old { alike = self.new.alike } }
         ensures alike { OnOk result (AddsAlike flags number self.old self.new) }
-        ensures fault { IfErr result (λ e. e ≡ NoMemory) }
     {
         let none = Vec::new(self.alloc);
         let mut endings = self.alike.remove(&flags).unwrap_or(none);

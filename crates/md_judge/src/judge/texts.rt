@@ -1,11 +1,9 @@
 //! Words in one text.
-ghost use Rattle.std.specs.Prelude.{◌≡◌, ◌↔◌, ◌<◌, ◌++◌, ◌∷◌, [], Some, length, slice_get, IsTrue, IfErr, OnOk, OnErr};
+ghost use Rattle.std.specs.Prelude.{◌≡◌, ◌↔◌, ◌<◌, ◌++◌, ◌∷◌, [], Some, length, slice_get, IsTrue, OnOk, OnErr};
 ghost use Rattle.std.specs.Option.{option_copied};
-ghost use Rattle.md_log.specs.declared.error.LineFault.TheVariants.{NoMemory};
 ghost use Rattle.md_judge.specs.Words.{begin_of};
 
-use md_log::LineFault;
-use std::alloc::Global;
+use std::alloc::{AllocError, Global};
 use std::marker::Model;
 
 /// Words in the order in which they came, one after another in one text of at most 4,294,967,295 bytes.
@@ -62,13 +60,12 @@ impl Words {
     }
 
     /// One more word. Where memory is refused, the words are as they were.
-    pub(super) fn push(&mut self, word: &[u8]) -> Result<(), LineFault>
+    pub(super) fn push(&mut self, word: &[u8]) -> Result<(), AllocError>
         ensures ok { OnOk result (self.new ≡ self.old ++ word.now ∷ []) }
         ensures err { OnErr result (self.new ≡ self.old) }
-        ensures fault { IfErr result (λ e. e ≡ NoMemory) }
     {
         let Ok(end) = u32::try_from(self.text.len().saturating_add(word.len())) else {
-            return Err(LineFault::NoMemory);
+            return Err(AllocError);
         };
         self.ends.reserve(1)?;
         self.text.extend_from_slice(word)?;

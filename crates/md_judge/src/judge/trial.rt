@@ -4,8 +4,8 @@ use super::directories::{Directories, Directory, Kept, Spot};
 use super::since::was_there_since;
 use super::tables::Name;
 use md_dirs::Place;
-use md_log::{Deed, LineFault, Naming, Reply};
-use std::alloc::Global;
+use md_log::{Deed, Naming, Reply};
+use std::alloc::{AllocError, Global};
 use std::collections::{BTreeMap, BTreeSet};
 
 /// An actor, a folder and a place: whose reading of what.
@@ -180,7 +180,7 @@ impl Trial {
         directories: &mut Directories,
         asked: &Asked,
         now: usize,
-    ) -> Result<Undo, LineFault> {
+    ) -> Result<Undo, AllocError> {
         let change = self.change_of(directories, asked);
         let added = match (change.added, change.turned) {
             (Some((spot, _)), _) | (None, Some((spot, _, _))) => Some(directories.keep(spot)),
@@ -228,7 +228,7 @@ impl Trial {
     }
 
     /// Goes on with a reading, or ends it.
-    fn read(&mut self, asked: &Asked, now: usize) -> Result<Undone, LineFault> {
+    fn read(&mut self, asked: &Asked, now: usize) -> Result<Undone, AllocError> {
         let Asked::List {
             reader,
             place: _,
@@ -271,7 +271,7 @@ impl Trial {
         &mut self,
         directories: &mut Directories,
         undo: Undo,
-    ) -> Result<(), LineFault> {
+    ) -> Result<(), AllocError> {
         let Undo {
             added,
             taken,

@@ -17,8 +17,7 @@ use super::files::Files;
 use super::found::Found;
 use super::known::Known;
 use super::mail::Mail;
-use md_log::LineFault;
-use std::alloc::Global;
+use std::alloc::{AllocError, Global};
 
 /// What steps did to files and messages so far.
 #[derive(Drop)]
@@ -54,7 +53,7 @@ impl Watch {
     }
 
     /// One more folder, after the others.
-    pub(super) fn add_folder(&mut self) -> Result<(), LineFault>
+    pub(super) fn add_folder(&mut self) -> Result<(), AllocError>
         ensures files { self.new.files ≡ self.old.files }
         ensures mail { self.new.mail ≡ record self.old.mail { present = self.new.mail.present } }
         ensures actors { self.new.actors ≡ self.old.actors }
@@ -74,7 +73,7 @@ impl Watch {
     }
 
     /// A step of an actor begins: it breaks nothing so far.
-    pub(super) fn begin(&mut self, actor: u32) -> Result<(), LineFault>
+    pub(super) fn begin(&mut self, actor: u32) -> Result<(), AllocError>
         ensures nothing { (c : Clause) → Has self.new.found.broken c → ⊥ }
         ensures files { self.new.files ≡ self.old.files }
         ensures mail { self.new.mail ≡ self.old.mail }
@@ -96,7 +95,7 @@ impl Watch {
         line: usize,
         spot: Spot,
         file: u32,
-    ) -> Result<(), LineFault>
+    ) -> Result<(), AllocError>
         ensures files { OnOk result (Changes file (named known.now.names spot) self.old.files.all.items self.new.files.all.items) }
         ensures mailed { OnOk result (AddAt (unique_in known.now.names spot) spot file self.old.mail self.new.mail) }
         ensures actors { OnOk result (self.new.actors ≡ self.old.actors) }

@@ -1,10 +1,10 @@
 use Rattle.std.proofs.Common.{length}
 use Rattle.md_head.specs.Header.{lines_of}
-use Rattle.md_judge.proofs.Whole.{HasReadTo}
+use Rattle.md_judge.proofs.Taken.{HasTakenTo}
 use Rattle.md_judge.proofs.log.judge_log.Given as goal
 
 abbrev pub invariant-loop-text : goal.invariant-loop-text
-invariant-loop-text l = HasReadTo l.fn.log l.line (lines_of l.left) l.session
+invariant-loop-text l = HasTakenTo l.log (lines_of l.left) l.session
 
 abbrev pub decreases-loop-text : goal.decreases-loop-text
 decreases-loop-text l = length l.left

@@ -1,8 +1,10 @@
-use Rattle.std.proofs.Common.{ℕ, ◌+◌, ◌≡◌, length, refl, sym, ap, ◌∙◌, Some}
+use Rattle.std.proofs.Common.{ℕ, ◌+◌, ◌≡◌, length, Result, Ok, refl, sym, ap, ◌∙◌, Some}
+use Rattle.std.proofs.lemmas.Result.{err_from_is_err_and}
 use Rattle.std.specs.FinMap.{get-insert}
 use Rattle.md_dirs.specs.State.{State, file_at}
 use Rattle.md_dirs.proofs.PathOrder.{path_total}
 use Rattle.md_dirs.specs.Calls.{with_path}
+use Rattle.md_log.specs.declared.error.LineFault.{LineFault}
 use Rattle.md_judge.specs.Filed.{name_at}
 use Rattle.md_judge.specs.Files.{named, unique_in, Changes}
 use Rattle.md_judge.specs.Mailed.{AddAt, TellsMail}
@@ -17,13 +19,18 @@ use Rattle.md_judge.proofs.ReadLonger.{open-first}
 use Rattle.md_judge.proofs.Regathered.{listings-first, listings-grow}
 use Rattle.md_judge.proofs.Reopened.{open-grows}
 use Rattle.md_judge.proofs.Sparing.{ok-three, ok-both}
-use Rattle.md_judge.proofs.Stepping.{on-ok}
 use Rattle.md_judge.proofs.Timekept.{times-grow, times-put}
 use Rattle.md_judge.proofs.judge.Judge.put_name.Goals as goal
+
+pub returns-in_err-spot-clause-agrees : goal.returns-in_err-spot-clause-agrees
+returns-in_err-spot-clause-agrees c =
+    let p = err_from_is_err_and c.from_residual.result c.from_residual.ensures.1 in
+    λ lines l keeps. rw (p.1, p.2) (c.in_err-spot.ensures.agrees lines l keeps.told)
 
 pub returns : goal.returns
 returns c = record {
   told = λ lines l l' keeps is short there.
+      let done : Result (Unit {0}) LineFault = Ok tt in
       let names = c.args.self.now.actor_names in
       let p = c.args.path.now in
       let log = also-log l l' p c.args.old.now is in
@@ -41,7 +48,7 @@ returns c = record {
       let then : added → TellsMail known l' 0 last = λ adds. tells-put l l' known p spot file puts.0 log.0
       (λ q. ap (λ (s : State). file_at s q) (log.1 ∙ ap (with_path p l.opening) puts.1) ∙ get-insert path_total l.opening.names p file q)
       first-mail last adds before in
-      ok-three c.put.result (Changes file (named known spot) c.args.self.now.watch.files.all.items c.put.new.self.files.all.items)
+      ok-three done (Changes file (named known spot) c.args.self.now.watch.files.all.items c.put.new.self.files.all.items)
       (added × came) (c.put.new.self.actors ≡ c.args.self.now.watch.actors) _
       (λ changes adds actors. record {
         told = c.in_ok-spot.ensures.told lines l l' keeps.told is short there;
@@ -59,7 +66,8 @@ returns c = record {
         acting = acting-first lines names c.put_name.new.self.names.uniques l l' c.args.self.now.watch.actors c.put.new.self.actors c.args.self.now.listings actors
             (more-messages lines names c.args.self.now.known.names.uniques c.put_name.new.self.names.uniques l 0 c.args.self.now.watch.actors
             c.args.self.now.listings (λ n w of. c.in_ok-spot.ensures.uniques.keeps w n of) c.in_ok-spot.ensures.numbered.uniques keeps.acting);
-      }) c.put.ensures.files (ok-both c.put.result added came c.put.ensures.mailed c.put.ensures.times) c.put.ensures.actors;
-  allowed = on-ok c.put.result refl;
+      }) c.in_ok-put.ensures.files (ok-both done added came c.in_ok-put.ensures.mailed c.in_ok-put.ensures.times) c.in_ok-put.ensures.actors;
+  agrees = λ lines l keeps. c.in_ok-spot.ensures.agrees lines l keeps.told;
+  allowed = refl;
   opens = record { actors = refl; readings = refl; names = c.put_name.ensures.keeps };
 }

@@ -26,6 +26,7 @@ returns c = record {
         λ is. absurd (finding-none empty_log n o refl is),
       );
     };
+    log = λ none some. absurd (some refl);
     read = λ l is ticks. absurd (cc is);
   };
 }

@@ -1,0 +1,24 @@
+-- What is answered of the lines of a log, and what a session holds that has taken them in.
+use Rattle.std.specs.Prelude.{ℕ, suc, ◌≡◌, ◌≢◌, List, [], take, length, Result, Ok, Err, IsOk}
+use Rattle.md_log.specs.declared.error.LineFault.TheVariants.{NoMemory}
+use Rattle.md_log.specs.declared.error.LogFault.{LogFault}
+use Rattle.md_judge.specs.declared.session.Session.{Session}
+use Rattle.md_judge.specs.Logs.{Log, empty_log, log_by}
+use Rattle.md_judge.specs.Verdict.{HasNoTicks, HasRead}
+
+-- no beginning of the lines is a log in which a step has ticks
+abbrev pub IsWithoutTicks : List (List ℕ) → Type 0
+IsWithoutTicks texts = (n : ℕ) (l : Log) → log_by (take n texts) ≡ Ok l → HasNoTicks l
+
+-- What is answered of lines is what they are: a log, or none by this first wrong line. But memory may be refused.
+abbrev pub Answers : {A : Type 0} → Result A LogFault → Result Log LogFault → Type 0
+Answers (Ok x) log = IsOk log
+Answers (Err e) log = e.fault ≢ NoMemory → log ≡ Err e
+
+-- A session has taken in these lines, of which the first is the head. Where no beginning of them has ticks, they are a log, and it has read
+-- that log.
+pub record HasTaken (texts : List (List ℕ)) (s : Session) : Type 0 where
+  pub lines : s.lines ≡ length texts
+  pub none : texts ≡ [] → HasRead 2 empty_log s
+  pub log : IsWithoutTicks texts → texts ≢ [] → IsOk (log_by texts)
+  pub read : (l : Log) → log_by texts ≡ Ok l → HasNoTicks l → HasRead (suc (length texts)) l s
