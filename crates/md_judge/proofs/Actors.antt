@@ -96,7 +96,8 @@ pub more-messages : (line : ℕ → ℕ) (actors uniques uniques' : List (List �
 more-messages line actors uniques uniques' l i a m keeps apart are = record {
   begun = λ n actor folder u unique stands stands'. are.begun n actor folder u unique stands (stood uniques uniques' keeps apart u unique stands');
   done = λ n actor folder u unique stands stands'. are.done n actor folder u unique stands (stood uniques uniques' keeps apart u unique stands');
-  deeds = λ n actor folder u unique stands stands'. are.deeds n actor folder u unique stands (stood uniques uniques' keeps apart u unique stands');
+  deeds = λ n actor folder u unique stands stands'. are.deeds n actor folder u unique stands
+      (stood uniques uniques' keeps apart u unique stands');
   looks = are.looks;
   moves = λ n actor folder u unique to stands stands'.
       are.moves n actor folder u unique to stands (stood uniques uniques' keeps apart u unique stands');
@@ -108,7 +109,8 @@ pub more-actors : (line : ℕ → ℕ) (actors actors' uniques : List (List ℕ)
 more-actors line actors actors' uniques l i a m keeps apart are = record {
   begun = λ n actor folder u unique stands stands'. are.begun n actor folder u unique (stood actors actors' keeps apart n actor stands) stands';
   done = λ n actor folder u unique stands stands'. are.done n actor folder u unique (stood actors actors' keeps apart n actor stands) stands';
-  deeds = λ n actor folder u unique stands stands'. are.deeds n actor folder u unique (stood actors actors' keeps apart n actor stands) stands';
+  deeds = λ n actor folder u unique stands stands'. are.deeds n actor folder u unique (stood actors actors' keeps apart n actor stands)
+      stands';
   looks = λ n actor folder stands. are.looks n actor folder (stood actors actors' keeps apart n actor stands);
   moves = λ n actor folder u unique to stands stands'.
       are.moves n actor folder u unique to (stood actors actors' keeps apart n actor stands) stands';
@@ -241,10 +243,11 @@ none-done b l i actor folder unique is none = record {
 -- nothing is told of actors before the first step
 pub acting-none : (line : ℕ → ℕ) (actors uniques : List (List ℕ)) (l : Log) (a : Actors) (m : Listings)
     → ((n : ℕ) (k : ℕ × ℕ) → begun_by a n k ≡ None) → ((n : ℕ) (k : ℕ × ℕ) → done_by a n k ≡ no_about)
-    → ((n : ℕ) (k : ℕ × ℕ) (to : ℕ) → moved_by a n k to ≡ None) → ((n folder : ℕ) → looked_by m n folder ≡ None) → AreActing line actors uniques l 0 a m
+    → ((n : ℕ) (k : ℕ × ℕ) (to : ℕ) → moved_by a n k to ≡ None) → ((n folder : ℕ) → looked_by m n folder ≡ None)
+    → AreActing line actors uniques l 0 a m
 acting-none line actors uniques l a m begun done moved looked = record {
-  moves = λ n actor folder u unique to _ _. subst (λ (o : Option ℕ). IsLastLine line (MovedAt l 0 actor folder unique to) o) (sym (moved n (folder, u) to))
-      (λ j move. let low = move.1 in omega (arith, low));
+  moves = λ n actor folder u unique to _ _. subst (λ (o : Option ℕ). IsLastLine line (MovedAt l 0 actor folder unique to) o)
+      (sym (moved n (folder, u) to)) (λ j move. let low = move.1 in omega (arith, low));
   begun = λ n actor folder u unique _ _. subst (λ (o : Option ℕ). RecallsBegun line l 0 actor folder unique o) (sym (begun n (folder, u)))
       (λ j x low is own. absurd (omega (arith, low)));
   done = λ n actor folder u unique _ _. subst (λ (b : About). RecallsDone line l 0 actor folder unique b) (sym (done n (folder, u))) (record {
@@ -369,7 +372,8 @@ module _ (line : ℕ → ℕ) (actors uniques : List (List ℕ)) (l : Log) (i : 
       )
 
   -- a step that does not answer about the message
-  deeds-next : (A C U : Type 0) (n : ℕ) (actor : List ℕ) (folder u : ℕ) (unique : List ℕ) → MayStand actors n actor → MayStand uniques u unique
+  deeds-next : (A C U : Type 0) (n : ℕ) (actor : List ℕ) (folder u : ℕ) (unique : List ℕ) → MayStand actors n actor
+      → MayStand uniques u unique
       → (IsAnswer l i actor folder unique → ⊥) → SetsMark (λ b. b.is_added) n (folder, u) A → SetsMark (λ b. b.is_changed) n (folder, u) C
       → SetsMark (λ b. b.is_unlinked) n (folder, u) U → AreDeeds l i x folder unique A C U
       → RecallsDeeds l (suc i) actor folder unique (done_by new n (folder, u))
@@ -377,19 +381,20 @@ module _ (line : ℕ → ℕ) (actors uniques : List (List ℕ)) (l : Log) (i : 
       let was = are.deeds n actor folder u unique stands stands' in record {
         added = mark-next (λ b. b.is_added) (λ j y. AddsMessage l j folder unique) A n actor folder u unique stands none added does.adds
             was.added;
-        changed = mark-next (λ b. b.is_changed) (λ j y. ChangesMessage l j folder unique) C n actor folder u unique stands none changed does.changes
-            was.changed;
-        unlinked = mark-next (λ b. b.is_unlinked) (UnlinksMessage l folder unique) U n actor folder u unique stands none unlinked does.unlinks
-            was.unlinked;
+        changed = mark-next (λ b. b.is_changed) (λ j y. ChangesMessage l j folder unique) C n actor folder u unique stands none changed
+            does.changes was.changed;
+        unlinked = mark-next (λ b. b.is_unlinked) (UnlinksMessage l folder unique) U n actor folder u unique stands none unlinked
+            does.unlinks was.unlinked;
       }
 
   -- one that leaves directories as they were
-  deeds-still : at l (suc i) ≡ at l i → (n : ℕ) (actor : List ℕ) (folder u : ℕ) (unique : List ℕ) → MayStand actors n actor → MayStand uniques u unique
+  deeds-still : at l (suc i) ≡ at l i → (n : ℕ) (actor : List ℕ) (folder u : ℕ) (unique : List ℕ) → MayStand actors n actor
+      → MayStand uniques u unique
       → (IsAnswer l i actor folder unique → ⊥) → done_by new n (folder, u) ≡ done_by begun n (folder, u)
       → RecallsDeeds l (suc i) actor folder unique (done_by new n (folder, u))
   deeds-still rests n actor folder u unique stands stands' none same =
-      deeds-next ⊥ ⊥ ⊥ n actor folder u unique stands stands' none (sets (λ b. b.is_added)) (sets (λ b. b.is_changed)) (sets (λ b. b.is_unlinked))
-      (still-deeds l i x rests folder unique)
+      deeds-next ⊥ ⊥ ⊥ n actor folder u unique stands stands' none (sets (λ b. b.is_added)) (sets (λ b. b.is_changed))
+      (sets (λ b. b.is_unlinked)) (still-deeds l i x rests folder unique)
     where
       sets : (mark : About → Bool) → SetsMark mark n (folder, u) ⊥
       sets mark = (λ h. inl (sym (ap mark same) ∙ h), λ h. elim h [ inl before ↦ ap mark same ∙ before | inr now ↦ absurd now.1 ])
@@ -409,11 +414,13 @@ module _ (line : ℕ → ℕ) (actors uniques : List (List ℕ)) (l : Log) (i : 
   move-rests n actor folder u unique to stands stands' none same =
       subst (λ (o : Option ℕ). IsLastLine line (MovedAt l (suc i) actor folder unique to) o)
       (sym (same ∙ ap (λ m. get move_cmp m ((n, (folder, u)), to)) moved))
-      (moves-on line l i x is actor folder unique to none (moved_by old n (folder, u) to) (are.moves n actor folder u unique to stands stands'))
+      (moves-on line l i x is actor folder unique to none (moved_by old n (folder, u) to)
+      (are.moves n actor folder u unique to stands stands'))
 
   -- a step that changes no path
   move-still : at l (suc i) ≡ at l i → new.moved ≡ begun.moved → (n : ℕ) (actor : List ℕ) (folder u : ℕ) (unique : List ℕ) (to : ℕ)
-      → MayStand actors n actor → MayStand uniques u unique → IsLastLine line (MovedAt l (suc i) actor folder unique to) (moved_by new n (folder, u) to)
+      → MayStand actors n actor → MayStand uniques u unique
+      → IsLastLine line (MovedAt l (suc i) actor folder unique to) (moved_by new n (folder, u) to)
   move-still still same n actor folder u unique to stands stands' =
       move-rests n actor folder u unique to stands stands' (λ _ goes. goes.0.1 (subst (λ s. IsThere s folder unique) (sym still) goes.0.0))
       (ap (λ m. get move_cmp m ((n, (folder, u)), to)) same)
@@ -424,7 +431,8 @@ module _ (line : ℕ → ℕ) (actors uniques : List (List ℕ)) (l : Log) (i : 
       → (n : ℕ) (actor : List ℕ) (folder u : ℕ) (unique : List ℕ) (to : ℕ) → MayStand actors n actor → MayStand uniques u unique
       → IsLastLine line (MovedAt l (suc i) actor folder unique to) (moved_by new n (folder, u) to)
   move-next goes decided notes same n actor folder u unique to stands stands' = elim (of-others n actor stands) [
-    | inr away ↦ move-rests n actor folder u unique to stands stands' (λ own _. away.1 own) (notes.others n (folder, u) to (λ own _. away.0 own))
+    | inr away ↦ move-rests n actor folder u unique to stands stands' (λ own _. away.1 own)
+        (notes.others n (folder, u) to (λ own _. away.0 own))
     | inl own ↦ elim (decided (folder, u) to) [
       | inl is-gone ↦
           subst (λ (o : Option ℕ). IsLastLine line (MovedAt l (suc i) actor folder unique to) o)
@@ -445,7 +453,8 @@ module _ (line : ℕ → ℕ) (actors uniques : List (List ℕ)) (l : Log) (i : 
       (unread : (folder : ℕ) → Looks x.call folder → ⊥) (apart' : AreApart uniques) (notes : NotesAct me now on begun new)
       -- with it these messages go
       (goes : ℕ × ℕ → ℕ → Type 0) (decided : (k : ℕ × ℕ) (to : ℕ) → goes k to ⊎ (goes k to → ⊥)) (moves : NotesMoves me now goes begun new)
-      (goes-as : (folder u : ℕ) (unique : List ℕ) → MayStand uniques u unique → (to : ℕ) → goes (folder, u) to ↔ Goes l i folder unique to) where
+      (goes-as : (folder u : ℕ) (unique : List ℕ) → MayStand uniques u unique → (to : ℕ)
+      → goes (folder, u) to ↔ Goes l i folder unique to) where
     acted-on : (n : ℕ) (actor : List ℕ) (folder u : ℕ) (unique : List ℕ) → MayStand actors n actor → MayStand uniques u unique
         → RecallsDone line l (suc i) actor folder unique (done_by new n (folder, u))
     acted-on n actor folder u unique stands stands' = elim (of-others n actor stands) [
@@ -494,12 +503,14 @@ module _ (line : ℕ → ℕ) (actors uniques : List (List ℕ)) (l : Log) (i : 
         ]
 
     pub acting-called : m' ≡ m → (A C U : ℕ × ℕ → Type 0) → MarksDeeds me A C U begun new
-        → ((folder u : ℕ) (unique : List ℕ) → MayStand uniques u unique → AreDeeds l i x folder unique (A (folder, u)) (C (folder, u)) (U (folder, u)))
+        → ((folder u : ℕ) (unique : List ℕ) → MayStand uniques u unique
+        → AreDeeds l i x folder unique (A (folder, u)) (C (folder, u)) (U (folder, u)))
         → AreActing line actors uniques l (suc i) new m'
     acting-called same A C U marks does = record {
       begun = begun-next none notes.begun;
       done = acted-on;
-      deeds = λ n actor folder u unique stands stands'. deeds-next (A (folder, u)) (C (folder, u)) (U (folder, u)) n actor folder u unique stands stands'
+      deeds = λ n actor folder u unique stands stands'. deeds-next (A (folder, u)) (C (folder, u)) (U (folder, u)) n actor folder u unique
+          stands stands'
           (no-answer none actor folder unique) (marks.added n (folder, u)) (marks.changed n (folder, u)) (marks.unlinked n (folder, u))
           (does folder u unique stands');
       looks = look-next same unread;
@@ -509,7 +520,8 @@ module _ (line : ℕ → ℕ) (actors uniques : List (List ℕ)) (l : Log) (i : 
   -- ---- a reading
 
   pub acting-read : NoAnswer → at l (suc i) ≡ at l i → ((folder : ℕ) (unique : List ℕ) (e : Reply) → ActsOn x.call folder unique e → ⊥)
-      → new ≡ begun → (read : ℕ) → ((folder : ℕ) → Looks x.call folder ↔ (read ≡ folder)) → NotesLook me read now m m' → AreActing line actors uniques l (suc i) new m'
+      → new ≡ begun → (read : ℕ) → ((folder : ℕ) → Looks x.call folder ↔ (read ≡ folder)) → NotesLook me read now m m'
+      → AreActing line actors uniques l (suc i) new m'
   acting-read none rests still same read reads notes = record {
     moves = move-still rests (ap (λ (w : Actors). w.moved) same);
     begun = begun-next none (λ a k. ap (λ (w : Actors). begun_by w a k) same);
@@ -518,8 +530,8 @@ module _ (line : ℕ → ℕ) (actors uniques : List (List ℕ)) (l : Log) (i : 
           ap (λ (w : Actors). (done_by w n (folder, u)).act) same,
           ap (λ (w : Actors). (done_by w n (folder, u)).was_refused) same,
         );
-    deeds = λ n actor folder u unique stands stands'. deeds-still rests n actor folder u unique stands stands' (no-answer none actor folder unique)
-        (ap (λ (w : Actors). done_by w n (folder, u)) same);
+    deeds = λ n actor folder u unique stands stands'. deeds-still rests n actor folder u unique stands stands'
+        (no-answer none actor folder unique) (ap (λ (w : Actors). done_by w n (folder, u)) same);
     looks = λ n actor folder stands. elim (of-others n actor stands) [
       | inr away ↦ unseen n actor folder stands (λ own _. away.1 own) (λ same _. away.0 same)
       | inl own ↦ elim (one-number read folder) [
@@ -618,7 +630,8 @@ module _ (line : ℕ → ℕ) (actors uniques : List (List ℕ)) (l : Log) (i : 
             let same = tells.stays n (f, v) other in
             done-next n actor f v w stands stands' none (λ _ e. still e) (ap (λ (b : About). b.act) same, ap (λ (b : About). b.was_refused) same)
 
-    deeds-answered : at l (suc i) ≡ at l i → (n : ℕ) (actor : List ℕ) (f v : ℕ) (w : List ℕ) → MayStand actors n actor → MayStand uniques v w
+    deeds-answered : at l (suc i) ≡ at l i → (n : ℕ) (actor : List ℕ) (f v : ℕ) (w : List ℕ) → MayStand actors n actor
+        → MayStand uniques v w
         → RecallsDeeds l (suc i) actor f w (done_by new n (f, v))
     deeds-answered still n actor f v w stands stands' = elim (of-others n actor stands) [
       | inr away ↦ rests (λ same _ _. away.0 same) (λ says'. away.1 (own-says actor f w says'))

@@ -44,7 +44,8 @@ use Rattle.md_judge.proofs.Untold.{AreDeeds}
 -- ---- an unlink takes its own path alone
 
 module _ (l : Log) (i : ℕ) (x : Step) (is : IsStep l i x) (p : Path) where
-  gone-is : (s : State) (q : Path) (n : ℕ) → file_at s q ≡ Some n → (b : Bool) → eq_by_cmp path_cmp q p ≡ b → cond b None (file_at s q) ≡ None
+  gone-is : (s : State) (q : Path) (n : ℕ) → file_at s q ≡ Some n → (b : Bool) → eq_by_cmp path_cmp q p ≡ b
+      → cond b None (file_at s q) ≡ None
       → q ≡ p
   gone-is s q n was true same gone = path_exact q p ((Equal-is _).0 same)
   gone-is s q n was false other gone = absurd (let no : None ≡ Some n = sym gone ∙ was in cc no)
@@ -71,7 +72,8 @@ module _ (l : Log) (i : ℕ) (x : Step) (is : IsStep l i x) (p : Path) where
       still none = absurd (let no : None ≡ Some n = sym none ∙ was in cc no)
 
       by : (e : Reply) → After e q None → (q ≡ p) × (e ≡ reply.Ok)
-      by reply.Ok none = (gone-is (at l i) q n was (eq_by_cmp path_cmp q p) refl (sym (get-remove path_total (at l i).names p q) ∙ none), refl)
+      by reply.Ok none =
+          (gone-is (at l i) q n was (eq_by_cmp path_cmp q p) refl (sym (get-remove path_total (at l i).names p q) ∙ none), refl)
       by reply.More none = still none
       by reply.Exists none = still none
       by reply.NotFound none = still none

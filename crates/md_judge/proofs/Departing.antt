@@ -27,7 +27,8 @@ use Rattle.md_judge.proofs.Timekept.{beyond}
 use Rattle.md_judge.proofs.Uniqued.{unique-some, unique-none}
 
 module _ (path : Spot → Path) (names : Names) (l : Log) (i : ℕ) (c : Change) (leads : Leads path c (at l i) (at l (suc i)))
-    (spots : EachSpot (λ q. IsSpotOf names (path q) q) c) (mail : Mail) (mailed : AreMailed names l (suc i) mail) (present : ArePresent mail)
+    (spots : EachSpot (λ q. IsSpotOf names (path q) q) c) (mail : Mail) (mailed : AreMailed names l (suc i) mail)
+    (present : ArePresent mail)
     (within : (folder : ℕ) (unique : List ℕ) → IsThere (at l (suc i)) folder unique → folder < length mail.present.items)
     (folder u : ℕ) (unique : List ℕ) (stands : MayStand names.uniques u unique) (to : ℕ) where
   abbrev Stands : Spot → Type 0
@@ -56,7 +57,8 @@ module _ (path : Spot → Path) (names : Names) (l : Log) (i : ℕ) (c : Change)
     goes-away : GoesBy names spot mail (folder, u) to → Goes l i folder unique to
     goes-away goes =
         let some = unique-some names (path spot) spot of-spot u goes.1 in
-        let same : unique_of (path spot).name ≡ unique = elim (one-word names.uniques mailed.apart u (unique_of (path spot).name) some.1 u unique stands) [
+        let same : unique_of (path spot).name ≡ unique = elim
+        (one-word names.uniques mailed.apart u (unique_of (path spot).name) some.1 u unique stands) [
           | inl one ↦ one.1
           | inr away ↦ absurd (away.0 refl)
         ] in
@@ -91,8 +93,8 @@ module _ (path : Spot → Path) (names : Names) (l : Log) (i : ℕ) (c : Change)
   pub goes-with : GoesWith names c.taken mail (folder, u) to ↔ Goes l i folder unique to
   goes-with = by c.taken refl
     where
-      path-taken : Goes l i folder unique to → (p : Path) × (n : ℕ) × IsPathOf path c.taken p n × (is_message p ≡ true) × (p.folder ≡ folder)
-          × (unique_of p.name ≡ unique)
+      path-taken : Goes l i folder unique to → (p : Path) × (n : ℕ) × IsPathOf path c.taken p n × (is_message p ≡ true)
+          × (p.folder ≡ folder) × (unique_of p.name ≡ unique)
       path-taken goes =
           let p = goes.0.0.0 in
           let n = goes.0.0.1 in
@@ -120,11 +122,13 @@ module _ (path : Spot → Path) (names : Names) (l : Log) (i : ℕ) (c : Change)
       )
 
 -- a message is in a folder that has a set
-pub in-folders : (line : ℕ → ℕ) (l : Log) (i : ℕ) (known : Known) (mail : Mail) → IsToldAt line l i known → length mail.present.items ≡ l.opening.folders
+pub in-folders : (line : ℕ → ℕ) (l : Log) (i : ℕ) (known : Known) (mail : Mail) → IsToldAt line l i known
+    → length mail.present.items ≡ l.opening.folders
     → (folder : ℕ) (unique : List ℕ) → IsThere (at l i) folder unique → folder < length mail.present.items
 in-folders line l i known mail told many folder unique there = elim (cases_lt folder (length mail.present.items)) [
   | inl low ↦ low
   | inr high ↦
       let same = folders-stay l i in
-      absurd (beyond line l i known told folder unique (let past : (at l i).folders ≤ folder = omega (arith, high, many, same) in past) there)
+      absurd (beyond line l i known told folder unique
+      (let past : (at l i).folders ≤ folder = omega (arith, high, many, same) in past) there)
 ]

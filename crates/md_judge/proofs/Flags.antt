@@ -49,7 +49,8 @@ module _ (flags : Set) where
         let low : bits_by (drop at letters) flags < 2 ^ 52 = few-bits (drop at letters) 52 (omega (arith, length-drop at letters, many)) in
         by b low (sym has) last ∙ sym one-more
       where
-        by : (b : Bool) → bits_by (drop at letters) flags < 2 ^ 52 → set.contains flags (get_or letters (at - 1) 0) ≡ b → now ≡ cond b (min (twice + 1) 18446744073709551615) twice
+        by : (b : Bool) → bits_by (drop at letters) flags < 2 ^ 52 → set.contains flags (get_or letters (at - 1) 0) ≡ b
+            → now ≡ cond b (min (twice + 1) 18446744073709551615) twice
             → now ≡ cond (set.contains flags (get_or letters (at - 1) 0)) 1 0 + 2 * bits_by (drop at letters) flags
         by true low e n =
             let one : cond {A = ℕ} (set.contains flags (get_or letters (at - 1) 0)) 1 0 ≡ 1 = ap (λ x. cond {A = ℕ} x 1 0) e in
@@ -71,7 +72,8 @@ module _ (flags : Set) where
 -- ---- two sets
 
 module _ (s t : Set) where
-  same-letter : (cs : List ℕ) (c : ℕ) → bits_by cs s ≡ bits_by cs t → list_any (λ x. nat_eq x c) cs ≡ true → set.contains s c ≡ set.contains t c
+  same-letter : (cs : List ℕ) (c : ℕ) → bits_by cs s ≡ bits_by cs t → list_any (λ x. nat_eq x c) cs ≡ true
+      → set.contains s c ≡ set.contains t c
   same-letter [] c same any = cc
   same-letter (x ∷ cs) c same any =
       let both = heads (set.contains s x) (set.contains t x) same in
@@ -106,9 +108,11 @@ pub info-letters : (name : List ℕ) (flags : Set) → flags_of (info_of name) �
 unfolding info_by
 info-letters name flags is = by (info_text name) is
   where
-    parsed : (text : List ℕ) (b c : Bool) → list_all is_letter (drop 2 text) ≡ c → flags_of (cond (b && c) (Two (set.from_list (drop 2 text))) Opaque) ≡ Some flags
+    parsed : (text : List ℕ) (b c : Bool) → list_all is_letter (drop 2 text) ≡ c
+        → flags_of (cond (b && c) (Two (set.from_list (drop 2 text))) Opaque) ≡ Some flags
         → IsOfLetters flags
-    parsed text true true all is = let same : set.from_list (drop 2 text) ≡ flags = cc in subst IsOfLetters same (IsOfLetters-from_list (drop 2 text) all)
+    parsed text true true all is = let same : set.from_list (drop 2 text) ≡ flags = cc in
+        subst IsOfLetters same (IsOfLetters-from_list (drop 2 text) all)
     parsed text true false all is = cc
     parsed text false c all is = cc
 

@@ -18,7 +18,8 @@ module _ (mail : Mail) where
   keys_of o = unwrap_or (option_map (λ p. ordered.keys p) o) []
 
   -- a folder has a message that its set has
-  pub in-folder : (folder u : ℕ) (s : BTreeSet ℕ) → slice_get mail.present.items folder ≡ Some s → (b : Bool) → b ≡ ordered.contains nat_cmp s u
+  pub in-folder : (folder u : ℕ) (s : BTreeSet ℕ) → slice_get mail.present.items folder ≡ Some s → (b : Bool)
+      → b ≡ ordered.contains nat_cmp s u
       → IsTrue b ↔ IsIn (present_in mail folder) u
   in-folder folder u s was b is =
       let same : present_in mail folder ≡ ordered.keys s = λ k. unwrap_or (option_map (λ p. ordered.keys p) (was k)) [] in (
@@ -46,7 +47,10 @@ module _ (mail : Mail) where
     folder-comes folders n has those f = (
       λ is. elim (one-more folders n is.0 f is.1) [
         | inl was ↦ let had = (those f).0 (is.0, was) in let low = had.0 in ((let up : f < n + 1 = omega (arith, low) in up), had.1)
-        | inr last ↦ let same = last.1 in ((let up : f < n + 1 = omega (arith, same) in up), subst (λ g. IsIn (present_in mail g) u) same has)
+        | inr last ↦ let same = last.1 in (
+          (let up : f < n + 1 = omega (arith, same) in up),
+          subst (λ g. IsIn (present_in mail g) u) same has,
+        )
       ],
       λ both. elim (cases_lt f n) [
         | inl low ↦ let was = (those f).1 (low, both.1) in (was.0, stays folders n was.0 f was.1)

@@ -48,7 +48,8 @@ module _ (line : ℕ → ℕ) (i : ℕ) where
   )
 
   module _ (rises : (a b : ℕ) → a < b → line a < line b) where
-    later : (P Q : ℕ → Type 0) (m n : ℕ) → IsLastMoment line P i m → IsLastMoment line Q i n → IsLastMoment line (λ j. P j ⊎ Q j) i (max m n)
+    later : (P Q : ℕ → Type 0) (m n : ℕ) → IsLastMoment line P i m → IsLastMoment line Q i n
+        → IsLastMoment line (λ j. P j ⊎ Q j) i (max m n)
     later P Q m n p q = elim (cases_lt p.0 q.0) [
       | inl lt ↦
           let lines = rises p.0 q.0 lt in
@@ -116,7 +117,8 @@ module _ (line : ℕ → ℕ) (i : ℕ) where
       held-some (e ∷ es) P h each recalls =
           let one = held-or (Q e) P (of e) h (each e (0, refl)) recalls in
           let rest = held-some es (λ j. Q e j ⊎ P j) (held_both (of e) h) (λ d there. each d (suc there.0, there.1)) one in
-          held-alike (λ j. (Q e j ⊎ P j) ⊎ OfSome es j) (λ j. P j ⊎ OfSome (e ∷ es) j) (fold (λ held d. held_both (of d) held) (held_both (of e) h) es)
+          held-alike (λ j. (Q e j ⊎ P j) ⊎ OfSome es j) (λ j. P j ⊎ OfSome (e ∷ es) j)
+          (fold (λ held d. held_both (of d) held) (held_both (of e) h) es)
           (λ j low. (
             λ either. elim either [
               | inl two ↦ elim two [ inl q ↦ inr (e, (0, refl), q) | inr p ↦ inl p ]
@@ -139,7 +141,8 @@ module _ (line : ℕ → ℕ) (l : Log) (i : ℕ) where
       → RecallsHeld line (IsHere l (path q)) i (held_in known.directories.all.items q)
   path-held path many known is q low = by (file_in known.directories.all.items q) refl
     where
-      by : (o : Option ℕ) → file_in known.directories.all.items q ≡ o → RecallsHeld line (IsHere l (path q)) i (held_at o (was_in known.directories.all.items q))
+      by : (o : Option ℕ) → file_in known.directories.all.items q ≡ o
+          → RecallsHeld line (IsHere l (path q)) i (held_at o (was_in known.directories.all.items q))
       by None none =
           let gone : IsHere l (path q) i → ⊥ = λ there. there (sym (is.holds.spots q low) ∙ none) in
           was-held (path q) (was_in known.directories.all.items q) gone (is.recounts.was q low gone)
@@ -197,8 +200,10 @@ module _ (line : ℕ → ℕ) (l : Log) (i : ℕ) (known : Known) (told : IsTold
   unfolding path_by
   named j low e here = by (has-name names (u * 4294967296 + e)) refl
     where
-      by : (d : Either (Named names (u * 4294967296 + e))) → has-name names (u * 4294967296 + e) ≡ d → IsNumber names (name_by names (u * 4294967296 + e) (has-name names (u * 4294967296 + e))) (u * 4294967296 + e)
-      by (inl of) is = subst (λ w. IsNumber names w (u * 4294967296 + e)) (sym (name-is names numbered of.0 (u * 4294967296 + e) of.1 (has-name names (u * 4294967296 + e)))) of.1
+      by : (d : Either (Named names (u * 4294967296 + e))) → has-name names (u * 4294967296 + e) ≡ d
+          → IsNumber names (name_by names (u * 4294967296 + e) (has-name names (u * 4294967296 + e))) (u * 4294967296 + e)
+      by (inl of) is = subst (λ w. IsNumber names w (u * 4294967296 + e))
+          (sym (name-is names numbered of.0 (u * 4294967296 + e) of.1 (has-name names (u * 4294967296 + e)))) of.1
       by (inr none) is =
           let number = told.numbered (path e) j low here in
           absurd (nameless names (spot_by folder u e) (λ name of. none (name, of)) number.0 number.1)
@@ -212,9 +217,11 @@ module _ (line : ℕ → ℕ) (l : Log) (i : ℕ) (known : Known) (told : IsTold
       stands =
           let front : (u * 4294967296 + e) / 4294967296 ≡ u = omega (arith, low) in
           let end : (u * 4294967296 + e) % 4294967296 ≡ e = omega (arith, low) in
-          subst (λ m. StandFor names p.name (split_of p.name) m e) front (subst (λ m. StandFor names p.name (split_of p.name) ((u * 4294967296 + e) / 4294967296) m) end number)
+          subst (λ m. StandFor names p.name (split_of p.name) m e) front
+          (subst (λ m. StandFor names p.name (split_of p.name) ((u * 4294967296 + e) / 4294967296) m) end number)
 
-      split-some : (b : Bool) (parts : List ℕ × Info) → cond {A = Option (List ℕ × Info)} b (Some (unique_of p.name, info_of p.name)) None ≡ Some parts → b ≡ true
+      split-some : (b : Bool) (parts : List ℕ × Info)
+          → cond {A = Option (List ℕ × Info)} b (Some (unique_of p.name, info_of p.name)) None ≡ Some parts → b ≡ true
       split-some true parts e = refl
       split-some false parts e = cc
 
@@ -253,14 +260,15 @@ module _ (line : ℕ → ℕ) (l : Log) (i : ℕ) (known : Known) (told : IsTold
 
   -- what is kept of the names that show the flags is what the log tells of the message
   pub held-told : ((a b : ℕ) → a < b → line a < line b)
-      → RecallsHeld line (λ j. HasFlags (at l j) folder unique flags) i (held_by known.directories.all.items folder u (alike_in names (bits_of flags)))
+      → RecallsHeld line (λ j. HasFlags (at l j) folder unique flags) i
+      (held_by known.directories.all.items folder u (alike_in names (bits_of flags)))
   held-told rises =
       let all = known.directories.all.items in
       let ends = alike_in names (bits_of flags) in
       let each : (e : ℕ) → IsIn ends e → RecallsHeld line (Shows e) i (held_in all (spot_by folder u e)) = λ e there.
       path-held line l i (path_by names) (2 ^ 64) known (known-by line l i known told numbered) (spot_by folder u e) (small e there) in
-      held-alike line i (λ j. ⊥ ⊎ OfSome line i rises Shows (λ e. held_in all (spot_by folder u e)) ends j) (λ j. HasFlags (at l j) folder unique flags)
-      (held_by all folder u ends)
+      held-alike line i (λ j. ⊥ ⊎ OfSome line i rises Shows (λ e. held_in all (spot_by folder u e)) ends j)
+      (λ j. HasFlags (at l j) folder unique flags) (held_by all folder u ends)
       (λ j low. (λ either. elim either [ inl never ↦ absurd never | inr some ↦ back j low some ], λ has. inr (forth j low has)))
       (held-some line i rises Shows (λ e. held_in all (spot_by folder u e)) ends (λ j. ⊥) None each (λ j low never. never))
     where
@@ -274,6 +282,8 @@ module _ (line : ℕ → ℕ) (l : Log) (i : ℕ) (known : Known) (told : IsTold
           omega (arith, within, few, low, many)
 
   -- so an answer that names the flags goes by what the log tells
-  pub flags-so : ((a b : ℕ) → a < b → line a < line b) → (x : Step) (first : ℕ) (k : Claim) → k.held ≡ held_said known (folder, u) (said.Flags flags)
+  pub flags-so : ((a b : ℕ) → a < b → line a < line b) → (x : Step) (first : ℕ) (k : Claim)
+      → k.held ≡ held_said known (folder, u) (said.Flags flags)
       → RecallsSo line (turn l i x) first folder unique (said.Flags flags) k
-  flags-so rises x first k same = subst (λ (h : Option Held). RecallsHeld line (λ j. HasFlags (at l j) folder unique flags) i h) (sym same) (held-told rises)
+  flags-so rises x first k same = subst (λ (h : Option Held). RecallsHeld line (λ j. HasFlags (at l j) folder unique flags) i h) (sym same)
+      (held-told rises)

@@ -1,7 +1,7 @@
 -- What is kept of the ends of names: whether a message's name shows the flag T, and which ends show the same flags.
-use Rattle.std.proofs.Common.{ℕ, zero, suc, ◌≡◌, ◌↔◌, ◌<◌, ◌+◌, ◌/◌, ◌%◌, ◌++◌, ◌||◌, ◌⊎◌, Global, not, inl, inr, Bool, true, false, cond, List, [], ◌∷◌, Option, Some, None, is_some, nat_eq, IsTrue, unwrap_or, slice_get, length, take, drop, refl, sym, ap, subst, ◌∙◌, arith}
+use Rattle.std.proofs.Common.{ℕ, suc, ◌≡◌, ◌↔◌, ◌<◌, ◌+◌, ◌/◌, ◌%◌, ◌++◌, ◌||◌, ◌⊎◌, Global, not, inl, inr, Bool, true, false, cond, List, [], ◌∷◌, Option, Some, None, nat_eq, IsTrue, unwrap_or, slice_get, length, drop, refl, sym, ap, subst, ◌∙◌, arith}
 use Rattle.std.specs.Prelude.{if◌then◌else◌}
-use Rattle.std.specs.List.{list_any, prefix_len, position_or_len, after_first}
+use Rattle.std.specs.List.{list_any, position_or_len, after_first}
 use Rattle.std.specs.BTreeMap.{BTreeMap, get}
 use Rattle.std.specs.Cmp.{unsigned_tied}
 use Rattle.std.specs.FinSet as set
@@ -124,7 +124,8 @@ pub put-again : (old mid new : BTreeMap ℕ (Vec ℕ Global)) (bits : ℕ) (put 
     → (q : ℕ) → get nat_cmp new q ≡ cond (eq_by_cmp nat_cmp bits q) (Some put) (get nat_cmp old q)
 put-again old mid new bits put gone come q = come q ∙ by (eq_by_cmp nat_cmp bits q) (gone q)
   where
-    by : (b : Bool) → get nat_cmp mid q ≡ cond b None (get nat_cmp old q) → cond b (Some put) (get nat_cmp mid q) ≡ cond b (Some put) (get nat_cmp old q)
+    by : (b : Bool) → get nat_cmp mid q ≡ cond b None (get nat_cmp old q)
+        → cond b (Some put) (get nat_cmp mid q) ≡ cond b (Some put) (get nat_cmp old q)
     by true e = refl
     by false e = e
 
@@ -137,7 +138,8 @@ taken-items (Some endings) none empty = refl
 alike-same : (old new : Names) → new.alike ≡ old.alike → (bits : ℕ) → alike_in new bits ≡ alike_in old bits
 alike-same old new same bits = λ i. unwrap_or (option_map (λ (endings : Vec ℕ Global). endings.items) (get nat_cmp (same i) bits)) []
 
-pub notes-from : (o : Option Set) (number : ℕ) (old mid new : Names) → mid.alike ≡ old.alike → NotesAlike o number mid new → NotesAlike o number old new
+pub notes-from : (o : Option Set) (number : ℕ) (old mid new : Names) → mid.alike ≡ old.alike → NotesAlike o number mid new
+    → NotesAlike o number old new
 notes-from None number old mid new same noted = λ b. noted b ∙ alike-same old mid same b
 notes-from (Some flags) number old mid new same noted = λ b.
     noted b ∙ ap (λ (xs : List ℕ). cond (nat_eq b (bits_of flags)) (xs ++ number ∷ []) xs) (alike-same old mid same b)
@@ -153,11 +155,12 @@ module _ (old new : Names) (bits number : ℕ) (put : Vec ℕ Global)
   unfolding items
   alike-put b = by_number b bits
       (λ same.
-      ap items (updates b) ∙ ap (λ t. items (cond t (Some put) (get nat_cmp old.alike b))) (unsigned_tied bits b ∙ eq-eqb bits b (sym same)) ∙ is
-      ∙ ap (λ n. alike_in old n ++ number ∷ []) (sym same)
+      ap items (updates b) ∙ ap (λ t. items (cond t (Some put) (get nat_cmp old.alike b))) (unsigned_tied bits b ∙ eq-eqb bits b (sym same))
+      ∙ is ∙ ap (λ n. alike_in old n ++ number ∷ []) (sym same)
       ∙ sym (ap (λ t. cond t (alike_in old b ++ number ∷ []) (alike_in old b)) (eq-eqb b bits same)))
       (λ far.
-      ap items (updates b) ∙ ap (λ t. items (cond t (Some put) (get nat_cmp old.alike b))) (unsigned_tied bits b ∙ ne_eqb bits b (λ same. far (sym same)))
+      ap items (updates b) ∙ ap (λ t. items (cond t (Some put) (get nat_cmp old.alike b)))
+      (unsigned_tied bits b ∙ ne_eqb bits b (λ same. far (sym same)))
       ∙ sym (ap (λ t. cond t (alike_in old b ++ number ∷ []) (alike_in old b)) (ne_eqb b bits far)))
 
 -- what is kept of ends goes on to be what they say with one end more
@@ -170,10 +173,12 @@ module _ (old new : Names) (ending : List ℕ) (marked : AreMarked old) (ends : 
   last : slice_get new.endings (length old.endings) ≡ Some ending
   last = ap (λ es. slice_get es (length old.endings)) ends ∙ last-there old.endings ending
 
-  from : (k : ℕ) (e : List ℕ) → slice_get new.endings k ≡ Some e → (slice_get old.endings k ≡ Some e) ⊎ ((k ≡ length old.endings) × (ending ≡ e))
+  from : (k : ℕ) (e : List ℕ) → slice_get new.endings k ≡ Some e
+      → (slice_get old.endings k ≡ Some e) ⊎ ((k ≡ length old.endings) × (ending ≡ e))
   from k e is = pushed old.endings ending k e (sym (ap (λ es. slice_get es k) ends) ∙ is)
 
-  marked-each : (k : ℕ) (e : List ℕ) → slice_get new.endings k ≡ Some e → slice_get new.trashed.items k ≡ Some (has_trashed (flags_of (info_of e)))
+  marked-each : (k : ℕ) (e : List ℕ) → slice_get new.endings k ≡ Some e
+      → slice_get new.trashed.items k ≡ Some (has_trashed (flags_of (info_of e)))
   marked-each k e is =
       let mark = has_trashed (flags_of (info_of ending)) in
       elim (from k e is) [
@@ -187,7 +192,8 @@ module _ (old new : Names) (ending : List ℕ) (marked : AreMarked old) (ends : 
       ]
 
   abbrev Showing : Names → ℕ → ℕ → Type 0
-  Showing names bits k = (e : List ℕ) × (flags : Set) × (slice_get names.endings k ≡ Some e) × (flags_of (info_of e) ≡ Some flags) × (bits_of flags ≡ bits)
+  Showing names bits k = (e : List ℕ) × (flags : Set) × (slice_get names.endings k ≡ Some e) × (flags_of (info_of e) ≡ Some flags)
+      × (bits_of flags ≡ bits)
 
   alike-by : (o : Option Set) → flags_of (info_of ending) ≡ o → NotesAlike o (length old.endings) old new → (bits k : ℕ)
       → IsIn (alike_in new bits) k ↔ Showing new bits k
@@ -201,18 +207,19 @@ module _ (old new : Names) (ending : List ℕ) (marked : AreMarked old) (ends : 
     ],
   )
   alike-by (Some flags) is more bits k = (
-    λ some. elim ((more-in (nat_eq bits (bits_of flags)) (alike_in old bits) (length old.endings) k).0 (subst (λ xs. IsIn xs k) (more bits) some)) [
-      | inl before ↦
-          let was = (marked.alike bits k).0 before in
-          (was.0, was.1, there k was.0 was.2, was.3, was.4)
-      | inr now ↦ (
-        ending,
-        flags,
-        ap (slice_get new.endings) now.1 ∙ last,
-        is,
-        sym (eqb-true bits (bits_of flags) now.0),
-      )
-    ],
+    λ some. elim ((more-in (nat_eq bits (bits_of flags)) (alike_in old bits) (length old.endings) k).0
+        (subst (λ xs. IsIn xs k) (more bits) some)) [
+          | inl before ↦
+              let was = (marked.alike bits k).0 before in
+              (was.0, was.1, there k was.0 was.2, was.3, was.4)
+          | inr now ↦ (
+            ending,
+            flags,
+            ap (slice_get new.endings) now.1 ∙ last,
+            is,
+            sym (eqb-true bits (bits_of flags) now.0),
+          )
+        ],
     λ shows. subst (λ xs. IsIn xs k) (sym (more bits))
         ((more-in (nat_eq bits (bits_of flags)) (alike_in old bits) (length old.endings) k).1 (elim (from k shows.0 shows.2) [
           | inl before ↦ inl ((marked.alike bits k).1 (shows.0, shows.1, before, shows.3, shows.4))
@@ -232,7 +239,8 @@ module _ (old new : Names) (ending : List ℕ) (marked : AreMarked old) (ends : 
   }
 
 -- and so it does without one
-pub marked-same : (old new : Names) → new.endings ≡ old.endings → new.trashed ≡ old.trashed → new.alike ≡ old.alike → AreMarked old → AreMarked new
+pub marked-same : (old new : Names) → new.endings ≡ old.endings → new.trashed ≡ old.trashed → new.alike ≡ old.alike → AreMarked old
+    → AreMarked new
 marked-same old new ends trashed alike marked = record {
   long = (λ i. length (trashed i).items) ∙ marked.long ∙ sym (ap length ends);
   each = λ k e is. (λ i. slice_get (trashed i).items k) ∙ marked.each k e (sym (ap (λ es. slice_get es k) ends) ∙ is);

@@ -153,8 +153,8 @@ change-marks names actor c before after first one two last adds turns takes =
       λ h. elim h [ inl p ↦ inl (inl p) | inr rest ↦ elim rest [ inl q ↦ inl (inr q) | inr r ↦ inr r ] ],
       λ h. elim h [ inl rest ↦ elim rest [ inl p ↦ inl p | inr q ↦ inr (inl q) ] | inr r ↦ inr (inr r) ],
     )) (left-none U)
-    (then-marks actor A C nothing nothing C' nothing A both nothing first one two (right-none A) (λ k. (λ h. h, λ h. h)) (right-none nothing)
-    adds turns) takes
+    (then-marks actor A C nothing nothing C' nothing A both nothing first one two (right-none A) (λ k. (λ h. h, λ h. h))
+    (right-none nothing) adds turns) takes
 
 -- what an actor did to paths stays where what is kept of it of its message does
 pub put-deeds : (old new : Actors) (actor : ℕ) (key : ℕ × ℕ) (about : About) → PutsAbout actor key about old new

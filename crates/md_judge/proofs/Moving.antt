@@ -71,7 +71,8 @@ pub notes-moved : (old new : Actors) (actor : ℕ) (key : ℕ × ℕ) (to line :
 notes-moved old new actor key to line here others = record {
   here = λ k f is.
       let key-is : key ≡ k = λ i. (sym is.0 i, sym is.1 i) in
-      subst (λ (m : ℕ × ℕ). moved_by new actor m f ≡ Some line) key-is (subst (λ (g : ℕ). moved_by new actor key g ≡ Some line) (sym is.2) here);
+      subst (λ (m : ℕ × ℕ). moved_by new actor m f ≡ Some line) key-is
+      (subst (λ (g : ℕ). moved_by new actor key g ≡ Some line) (sym is.2) here);
   others = λ a k f apart. others ((a, k), f) (apart-moves actor key to a k f (λ p q r s. apart p (q, r, s)));
 }
 
@@ -93,7 +94,8 @@ module _ (actor line : ℕ) where
   }
 
   -- before them nothing moves
-  pub moves-then : (moves : ℕ × ℕ → ℕ → Type 0) (a b d : Actors) → b.moved ≡ a.moved → NotesMoves actor line moves b d → NotesMoves actor line moves a d
+  pub moves-then : (moves : ℕ × ℕ → ℕ → Type 0) (a b d : Actors) → b.moved ≡ a.moved → NotesMoves actor line moves b d
+      → NotesMoves actor line moves a d
   moves-then moves a b d same notes = record {
     here = notes.here;
     others = λ n k to apart. notes.others n k to apart ∙ ap (λ m. get move_cmp m ((n, k), to)) same;
@@ -149,14 +151,16 @@ moved-keeps a b about begun lines = record {
 }
 
 -- the folders that have the message are those to which it goes with its last path
-pub goes-by : (names : Names) (s : Spot) (mail : Mail) (unique : ℕ) → unique_in names s ≡ Some unique → count_of (message_of mail s.folder unique) ≡ 0
+pub goes-by : (names : Names) (s : Spot) (mail : Mail) (unique : ℕ) → unique_in names s ≡ Some unique
+    → count_of (message_of mail s.folder unique) ≡ 0
     → (folders : List ℕ) → ((f : ℕ) → IsIn folders f ↔ IsIn (present_in mail f) unique) → (n : ℕ) → length folders ≤ n
     → (k : ℕ × ℕ) (f : ℕ) → MovesTo (s.folder, unique) folders n k f ↔ GoesBy names s mail k f
 goes-by names s mail unique some none folders those n long k f = (
   λ moves. (
     sym moves.0,
     some ∙ ap Some (sym moves.1),
-    subst (λ g. count_of (message_of mail g k.1) ≡ 0) (sym moves.0) (subst (λ v. count_of (message_of mail s.folder v) ≡ 0) (sym moves.1) none),
+    subst (λ g. count_of (message_of mail g k.1) ≡ 0) (sym moves.0)
+        (subst (λ v. count_of (message_of mail s.folder v) ≡ 0) (sym moves.1) none),
     subst (λ v. IsIn (present_in mail f) v) (sym moves.1) ((those f).0 (moves.2.0, moves.2.2)),
   ),
   λ goes.
@@ -173,7 +177,8 @@ pub stays-by : (names : Names) (s : Spot) (mail : Mail) (unique : ℕ) → uniqu
 stays-by names s mail unique some left k f goes =
     let both : Some k.1 ≡ Some unique = sym goes.1 ∙ some in
     let same : k.1 ≡ unique = cc both in
-    left (subst (λ v. count_of (message_of mail s.folder v) ≡ 0) same (subst (λ g. count_of (message_of mail g k.1) ≡ 0) (sym goes.0) goes.2))
+    left (subst (λ v. count_of (message_of mail s.folder v) ≡ 0) same
+    (subst (λ g. count_of (message_of mail g k.1) ≡ 0) (sym goes.0) goes.2))
 
 -- a message goes with a path, or it does not
 goes-decided : (names : Names) (s : Spot) (mail : Mail) (k : ℕ × ℕ) (to : ℕ) → GoesBy names s mail k to ⊎ (GoesBy names s mail k to → ⊥)
@@ -185,7 +190,8 @@ goes-decided names s mail k to = elim (one-number s.folder k.0) [
   ]
 ]
   where
-    by : (o : Option ℕ) → unique_in names s ≡ o → (b : Bool) → list_any (λ n. is_eq (nat_cmp k.1 n)) (present_in mail to) ≡ b → s.folder ≡ k.0
+    by : (o : Option ℕ) → unique_in names s ≡ o → (b : Bool) → list_any (λ n. is_eq (nat_cmp k.1 n)) (present_in mail to) ≡ b
+        → s.folder ≡ k.0
         → count_of (message_of mail k.0 k.1) ≡ 0 → GoesBy names s mail k to ⊎ (GoesBy names s mail k to → ⊥)
     by o is false lacks folder none = inr (λ goes. false≢true (sym lacks ∙ (in-keys (present_in mail to) k.1).1 goes.3))
     by None is true has folder none = inr (λ goes. let no : None ≡ Some k.1 = sym is ∙ goes.1 in cc no)
@@ -231,7 +237,8 @@ module _ (line : ℕ → ℕ) (l : Log) (i : ℕ) (x : Step) (is : IsStep l i x)
             (subst (λ k. Goes l k folder unique to) same (move.4, move.5)))
       ]
 
-      by : (o : Option ℕ) → IsLastLine line (MovedAt l i actor folder unique to) o → IsLastLine line (MovedAt l (suc i) actor folder unique to) o
+      by : (o : Option ℕ) → IsLastLine line (MovedAt l i actor folder unique to) o
+          → IsLastLine line (MovedAt l (suc i) actor folder unique to) o
       by None never = λ j move. never j (back j move)
       by (Some n) last =
           let move = last.2 in
@@ -246,6 +253,7 @@ module _ (line : ℕ → ℕ) (l : Log) (i : ℕ) (x : Step) (is : IsStep l i x)
 module _ (line : ℕ → ℕ) (l l' : Log) (i : ℕ) (actor : List ℕ) (folder : ℕ) (unique : List ℕ) (to : ℕ)
     (on : (j : ℕ) → MovedAt l i actor folder unique to j → MovedAt l' i actor folder unique to j)
     (back : (j : ℕ) → MovedAt l' i actor folder unique to j → MovedAt l i actor folder unique to j) where
-  pub moves-same : (o : Option ℕ) → IsLastLine line (MovedAt l i actor folder unique to) o → IsLastLine line (MovedAt l' i actor folder unique to) o
+  pub moves-same : (o : Option ℕ) → IsLastLine line (MovedAt l i actor folder unique to) o
+      → IsLastLine line (MovedAt l' i actor folder unique to) o
   moves-same None never = λ j move. never j (back j move)
   moves-same (Some n) last = (last.0, last.1, on last.0 last.2, λ k from move. last.3 k from (back k move))

@@ -45,9 +45,11 @@ at-time [] n = inr (λ t is from to. let no = is.1 in cc no)
 at-time (t ∷ times) n = elim (at-time times n) [
   | inl later ↦ inl (later.0, (suc later.1.0, later.1.1), later.2, later.3)
   | inr none ↦ elim (cases_lt n t.0) [
-    | inl early ↦ inr (others none (λ s same from to. let low : s.0 ≡ t.0 = ap (λ (r : ℕ × ℕ). r.0) same in omega (arith, early, from, low)))
+    | inl early ↦ inr (others none (λ s same from to.
+        let low : s.0 ≡ t.0 = ap (λ (r : ℕ × ℕ). r.0) same in omega (arith, early, from, low)))
     | inr from ↦ elim (cases_lt t.1 n) [
-      | inl late ↦ inr (others none (λ s same begins to. let high : s.1 ≡ t.1 = ap (λ (r : ℕ × ℕ). r.1) same in omega (arith, late, to, high)))
+      | inl late ↦ inr (others none (λ s same begins to.
+          let high : s.1 ≡ t.1 = ap (λ (r : ℕ × ℕ). r.1) same in omega (arith, late, to, high)))
       | inr to ↦ inl (t, (zero, refl), from, to)
     ]
   ]
@@ -69,8 +71,12 @@ module _ (line : ℕ → ℕ) (rises : (a b : ℕ) → a < b → line a < line b
             let line-is = end.1 in
             let to = t.3 in
             let from = down line rises first end.0 (omega (arith, line-is, to)) in
-            let before = end.2 in
-            (suc end.0, (let after : first ≤ suc end.0 = omega (arith, from) in after), (let within : suc end.0 ≤ i = omega (arith, before) in within), end.3)
+            let before = end.2 in (
+              suc end.0,
+              (let after : first ≤ suc end.0 = omega (arith, from) in after),
+              (let within : suc end.0 ≤ i = omega (arith, before) in within),
+              end.3,
+            )
         | inr none ↦ (
           first,
           (let here : first ≤ first = omega arith in here),
@@ -85,11 +91,13 @@ module _ (line : ℕ → ℕ) (rises : (a b : ℕ) → a < b → line a < line b
         | inl past ↦ past
         | inr since ↦
             let lines = up line rises first missing.0 missing.1 in
-            absurd (missing.3 ((is.there missing.0 missing.2).1 (inl (some, (let began : m.since ≤ line missing.0 = omega (arith, since, lines) in began)))))
+            absurd (missing.3 ((is.there missing.0 missing.2).1
+            (inl (some, (let began : m.since ≤ line missing.0 = omega (arith, since, lines) in began)))))
       ],
     )
 
-    recalls-presence : (o : Option Message) → RecalledTimes line P i o → ((0 < count_of o) ↔ P i) → RecallsPresence line P i (option_map presence_of o)
+    recalls-presence : (o : Option Message) → RecalledTimes line P i o → ((0 < count_of o) ↔ P i)
+        → RecallsPresence line P i (option_map presence_of o)
     recalls-presence None never there = never
     recalls-presence (Some m) is there = (there, tells-absence m is)
 
@@ -123,7 +131,8 @@ module _ (line : ℕ → ℕ) (rises : (a b : ℕ) → a < b → line a < line b
         by : (s : Said) → ((set : Set) → s ≡ said.Flags set → IsOfLetters set) → RecallsSo line (turn l i x) first folder unique s (claim s)
         by said.Delivered letters = delivered-so l i x x.actor folder unique first refl span line done deeds (claim said.Delivered) refl
         by (said.Flags set) letters =
-            flags-so line l i known told mailed.marked numbered folder u unique of set (letters set refl) rises x first (claim (said.Flags set)) refl
+            flags-so line l i known told mailed.marked numbered folder u unique of set (letters set refl) rises x first
+            (claim (said.Flags set)) refl
         by (said.Moved to) letters = moves to
         by said.Expunged letters = expunged-so l i x x.actor folder unique first refl span line done deeds (claim said.Expunged) refl
         by said.Done letters = tt

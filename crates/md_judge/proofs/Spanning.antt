@@ -42,7 +42,8 @@ module _ (line : ℕ → ℕ) (l : Log) (i : ℕ) (x : Step) (is : IsStep l i x)
   pub own-here : (j : ℕ) (y : Step) → j ≡ i → IsStep l j y → y ≡ x
   own-here j y same at = one-step l i y x (subst (λ k. IsStep l k y) same at) is
 
-  pub goes-on : (first : ℕ) → (Answers i → ⊥) → ((k : ℕ) → first ≤ k → k < i → Answers k → ⊥) → (k : ℕ) → first ≤ k → k < suc i → Answers k → ⊥
+  pub goes-on : (first : ℕ) → (Answers i → ⊥) → ((k : ℕ) → first ≤ k → k < i → Answers k → ⊥)
+      → (k : ℕ) → first ≤ k → k < suc i → Answers k → ⊥
   goes-on first none on k from low says = elim (before k low) [
     | inl lt ↦ on k from lt says
     | inr same ↦ none (subst Answers same says)

@@ -109,7 +109,8 @@ times-none line names mail unnamed none = record {
 }
 
 -- no path is in a folder that is not there
-pub beyond : (line : ℕ → ℕ) (l : Log) (i : ℕ) (known : Known) → IsToldAt line l i known → (folder : ℕ) (unique : List ℕ) → (at l i).folders ≤ folder
+pub beyond : (line : ℕ → ℕ) (l : Log) (i : ℕ) (known : Known) → IsToldAt line l i known → (folder : ℕ) (unique : List ℕ)
+    → (at l i).folders ≤ folder
     → IsThere (at l i) folder unique → ⊥
 beyond line l i known told folder unique past there =
     let p = there.0 in

@@ -1,7 +1,6 @@
 -- What the number of a spot says of the unique name of its path, and how unique names keep their numbers.
-use Rattle.std.proofs.Common.{ℕ, ◌≡◌, ◌/◌, ◌%◌, ◌++◌, Bool, true, false, cond, List, [], ◌∷◌, Option, Some, None, is_some, nat_eq, slice_get, refl, sym, ap, subst, ◌∙◌, arith}
+use Rattle.std.proofs.Common.{ℕ, ◌≡◌, ◌/◌, ◌%◌, ◌++◌, true, false, cond, List, ◌∷◌, Option, Some, None, is_some, nat_eq, slice_get, refl, sym, ap, subst, ◌∙◌, arith}
 use Rattle.std.proofs.lemmas.Bool.{eq-eqb}
-use Rattle.std.proofs.lemmas.Option.{slice_get_within}
 use Rattle.std.proofs.lemmas.Bool.Decides.{nat_tests}
 use Rattle.md_name.specs.declared.info.Info.{Info}
 use Rattle.md_name.specs.Names.{split_of, unique_of}
@@ -15,13 +14,13 @@ use Rattle.md_judge.specs.Names.{StandFor, AreMarked, GrowsUniques}
 use Rattle.md_judge.specs.Recalled.{IsSpotOf}
 use Rattle.md_judge.specs.Told.{is_message}
 use Rattle.md_judge.specs.Words.{AreApart}
-use Rattle.md_judge.proofs.Alike.{get-push}
 use Rattle.md_judge.proofs.Numbers.{split_is}
 use Rattle.md_judge.proofs.Shown.{said, message-of}
 
 -- the unique name that the parts of a name's number have is that of the name
 by-parts : (names : Names) (place : Place) (name : List ℕ) (o : Option (List ℕ × Info)) (front ending u : ℕ) → split_of name ≡ o
-    → StandFor names name o front ending → unique_by place (facts_by front ending) ≡ Some u → slice_get names.uniques u ≡ Some (unique_of name)
+    → StandFor names name o front ending → unique_by place (facts_by front ending) ≡ Some u
+    → slice_get names.uniques u ≡ Some (unique_of name)
 by-parts names place name None front ending u split s is =
     let none : nat_eq ending 4294967295 ≡ true = eq-eqb ending 4294967295 s.0 in
     by place (sym (ap (λ b. unique_by place (cond b no_facts (said front))) none) ∙ is)

@@ -62,7 +62,8 @@ pub record AreMarked (names : Names) : Type 0 where
   pub each : (k : ℕ) (ending : List ℕ) → slice_get names.endings k ≡ Some ending
       → slice_get names.trashed.items k ≡ Some (has_trashed (flags_of (info_of ending)))
   pub alike : (bits k : ℕ) → IsIn (alike_in names bits) k
-      ↔ ((ending : List ℕ) × (flags : Set) × (slice_get names.endings k ≡ Some ending) × (flags_of (info_of ending) ≡ Some flags) × (bits_of flags ≡ bits))
+      ↔ ((ending : List ℕ) × (flags : Set) × (slice_get names.endings k ≡ Some ending) × (flags_of (info_of ending) ≡ Some flags)
+      × (bits_of flags ≡ bits))
 
 -- Unique names keep their numbers, and others may get some: still two of them have two. What is kept of ends of names stays so.
 pub record GrowsUniques (old new : Names) : Type 0 where

@@ -92,8 +92,8 @@ impl Watch {
             → IsJudged path who many l i x actor call.now known.now act.now → OnOk result (NotesMessages (turn l i x) self.old.found self.new.found) }
         ensures acts { self.old.now < 4294967296
             → OnOk result (NotesAct actor self.old.now (acted known.now.names act.now.spot call.now) self.old.actors self.new.actors) }
-        ensures moves { OnOk result (NotesMoves actor self.old.now (GoesWith known.now.names act.now.change.taken self.new.mail) self.old.actors
-            self.new.actors) }
+        ensures moves { OnOk result
+            (NotesMoves actor self.old.now (GoesWith known.now.names act.now.change.taken self.new.mail) self.old.actors self.new.actors) }
         ensures answers { OnOk result (KeepsAnswers self.old.found self.new.found) }
         ensures unlisted { OnOk result (Keeps clause.Unlisted self.old.found self.new.found) }
         ensures present { OnOk result (KeepsPresent self.old.mail self.new.mail) }

@@ -49,8 +49,8 @@ impl Watch {
         ensures added { (path : Spot → Path) (l : Log) (i : ℕ) (x : Step) → IsDone path known.now.names (turn l i x) act.now
             → TellsMail known.now.names l i self.old.mail → OnOk result (NotesMessages (turn l i x) self.old.found self.new.found) }
         ensures acts { OnOk result (KeepsActs self.old.actors self.new.actors) }
-        ensures moves { OnOk result (NotesMoves actor self.old.now (GoesWith known.now.names act.now.change.taken self.new.mail) self.old.actors
-            self.new.actors) }
+        ensures moves { OnOk result
+            (NotesMoves actor self.old.now (GoesWith known.now.names act.now.change.taken self.new.mail) self.old.actors self.new.actors) }
         ensures deeds { OnOk result
             (MarksChange known.now.names actor act.now.change self.old.mail self.new.mail self.old.actors self.new.actors) }
     {
@@ -140,8 +140,7 @@ impl Watch {
         ensures files { OnOk result (self.new.files ≡ self.old.files) }
         ensures mailed { OnOk result (MakeStep known.now.names change self.old.mail self.new.mail) }
         ensures acts { OnOk result (KeepsActs self.old.actors self.new.actors) }
-        ensures moves { OnOk result (NotesMoves actor self.old.now (GoesWith known.now.names change.taken self.new.mail) self.old.actors
-            self.new.actors) }
+        ensures moves { OnOk result (NotesMoves actor self.old.now (GoesWith known.now.names change.taken self.new.mail) self.old.actors self.new.actors) }
         ensures times { OnOk result (MakesTimes known.now.names self.old.now change self.old.mail self.new.mail) }
         ensures deeds { OnOk result (MarksChange known.now.names actor change self.old.mail self.new.mail self.old.actors self.new.actors) }
     {
@@ -208,8 +207,7 @@ impl Watch {
         ensures files { OnOk result (self.new.files ≡ self.old.files) }
         ensures mailed { OnOk result (TakeStep known.now.names taken self.old.mail self.new.mail) }
         ensures acts { OnOk result (KeepsActs self.old.actors self.new.actors) }
-        ensures moves { OnOk result (NotesMoves actor self.old.now (GoesWith known.now.names taken self.new.mail) self.old.actors
-            self.new.actors) }
+        ensures moves { OnOk result (NotesMoves actor self.old.now (GoesWith known.now.names taken self.new.mail) self.old.actors self.new.actors) }
         ensures times { OnOk result ((folder u : ℕ) → WentAt known.now.names self.old.now taken folder u
             (message_of self.old.mail folder u) (message_of self.new.mail folder u)) }
         ensures deeds { OnOk result (MarksDeeds actor nothing (OnPath (IsOfMessage known.now.names) taken)
@@ -254,7 +252,8 @@ impl Watch {
         ensures files { OnOk result (self.new.files ≡ self.old.files) }
         ensures mail { OnOk result (self.new.mail ≡ self.old.mail) }
         ensures acts { OnOk result (KeepsActs self.old.actors self.new.actors) }
-        ensures moves { OnOk result (NotesMoves actor self.old.now (GoesBy known.now.names spot self.old.mail) self.old.actors self.new.actors) }
+        ensures moves { OnOk result
+            (NotesMoves actor self.old.now (GoesBy known.now.names spot self.old.mail) self.old.actors self.new.actors) }
         ensures deeds { OnOk result (MarksDeeds actor nothing (IsOfMessage known.now.names spot)
             (λ k. IsOfMissing known.now.names self.old.mail spot k × (is_unlink ≡ true)) self.old.actors self.new.actors) }
     {

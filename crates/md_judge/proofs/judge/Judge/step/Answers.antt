@@ -258,21 +258,24 @@ returns-in-Answer-acting c lines l i acting is here short now =
     let few : first.watch.now < 4294967296 = omega (arith, now, short) in
     let named = c.in_ok-actor.ensures.found ∙ ap Some c.as_slice.ensures in
     let y : Numbered = record { number = c.args.line; step = x } in
-    let unmoved : at l (suc i) ≡ at l i = at-next l i y is ∙ ap (λ v. after_call v (after_step (moment l i) y).now (at l i)) c.in-Answer.is in
+    let unmoved : at l (suc i) ≡ at l i = at-next l i y is ∙ ap (λ v. after_call v (after_step (moment l i) y).now (at l i))
+    c.in-Answer.is in
     acting-answered lines names uniques l i x (c.args.line, is) me named c.are_apart.ensures.apart first.watch.actors c.begin.new.self.actors
     c.answer.new.self.actors first.watch.now (now ∙ sym here) first.listings first.listings before
     (c.in_ok-begin.ensures.begun few) c.in_ok-begin.ensures.others c.in_ok-begin.ensures.done c.begin.ensures.moved
     c.in-Answer.said c.in-Answer.folder c.in_ok-unique-in-Answer.unique c.in-Answer.unique c.in-Answer.is
-    (c.in_ok-unique-in-Answer.ensures.number ∙ ap Some c.as_slice-in-Answer.ensures) numbered.uniques c.answer.ensures.tells unmoved c.answer.ensures.moved refl
+    (c.in_ok-unique-in-Answer.ensures.number ∙ ap Some c.as_slice-in-Answer.ensures) numbered.uniques c.answer.ensures.tells unmoved
+    c.answer.ensures.moved refl
 
 -- what the call did is what its act says
 judged-in : (c : goal.Joined-step-9) (lines : ℕ → ℕ) (l : Log) (i : ℕ) → Remembers lines l i c.args.self.now
     → slice_get l.steps i ≡ Some (record { number = c.args.line; step = c.args.step }) → lines i ≡ c.args.line → c.args.line < 4294967295
     → HasFolders (at l i) c.args.step.call
-    → (path : Spot → Path) × IsJudged path (name_at c.number.new.self) (length c.number.new.self) l i c.args.step c.in_ok-actor.actor c.args.step.call
-    c.step.new.self c.in_ok-self.field-0
+    → (path : Spot → Path) × IsJudged path (name_at c.number.new.self) (length c.number.new.self) l i c.args.step c.in_ok-actor.actor
+    c.args.step.call c.step.new.self c.in_ok-self.field-0
 judged-in c lines l i keeps is here short there =
-    let acts = acts-by c.number.new.self c.in_ok-actor.actor c.args.step c.are_apart.ensures.apart (c.in_ok-actor.ensures.found ∙ ap Some c.as_slice.ensures) in
+    let acts = acts-by c.number.new.self c.in_ok-actor.actor c.args.step c.are_apart.ensures.apart
+    (c.in_ok-actor.ensures.found ∙ ap Some c.as_slice.ensures) in
     let done = c.in_ok-self.ensures.done lines l i keeps.told is here short there in
     (done.0, record { step = (c.args.line, is); call = refl; acts = acts; clock = c.step.ensures.clock l i keeps.clock is; done = done.1 })
 
@@ -288,7 +291,8 @@ returns-acting c lines l i keeps is here short now there =
     let uniques = known.names.uniques in
     let numbered = c.are_numbered.ensures in
     let before = acting-before lines first.actor_names names c.in_ok-actor.field-0-1 c.as_slice.result.now first.known.names.uniques uniques l i first.watch.actors
-    first.listings c.in_ok-actor.ensures.grows c.are_apart.ensures.apart (λ n w of. c.in_ok-self.ensures.uniques.keeps w n of) numbered.uniques keeps.acting in
+    first.listings c.in_ok-actor.ensures.grows c.are_apart.ensures.apart (λ n w of. c.in_ok-self.ensures.uniques.keeps w n of)
+    numbered.uniques keeps.acting in
     let few : first.watch.now < 4294967296 = omega (arith, now, short) in
     let few' : c.begin.new.self.now < 4294967296 = (let same = c.begin.ensures.now in omega (arith, few, same)) in
     let named = c.in_ok-actor.ensures.found ∙ ap Some c.as_slice.ensures in
@@ -322,13 +326,15 @@ returns-acting c lines l i keeps is here short now there =
     no-answer on (acts-on known.names act.spot act refl x.call c.in_ok-self.ensures.first)
     (on-acts known.names act.spot act refl x.call c.in_ok-self.ensures.first) no-list numbered.uniques
     (subst (λ (n : ℕ). NotesAct me n on begun.actors last.actors) c.begin.ensures.now notes)
-    goes (goes-or-not known.names change.taken last.mail) (subst (λ (n : ℕ). NotesMoves me n goes begun.actors last.actors) c.begin.ensures.now done.0)
+    goes (goes-or-not known.names change.taken last.mail)
+    (subst (λ (n : ℕ). NotesMoves me n goes begun.actors last.actors) c.begin.ensures.now done.0)
     (λ folder u unique stands to. goes-with judged.0 known.names l i change judged.1.done.leads judged.1.done.spots last.mail rest.0.0
     (rest.1.present present) within folder u unique stands to) refl
-    (OnPath (IsOfMissing known.names begun.mail) change.added) (ChangesPaths known.names change) (Unlinks known.names last.mail change.taken change.is_unlink)
+    (OnPath (IsOfMissing known.names begun.mail) change.added) (ChangesPaths known.names change)
+    (Unlinks known.names last.mail change.taken change.is_unlink)
     done.1
-    (λ folder u unique stands. change-deeds judged.0 known.names numbered.uniques folder u unique stands l i x (c.args.line, is) act judged.1.done
-    begun.mail last.mail mail.0 rest.0.0))
+    (λ folder u unique stands. change-deeds judged.0 known.names numbered.uniques folder u unique stands l i x (c.args.line, is) act
+    judged.1.done begun.mail last.mail mail.0 rest.0.0))
     (c.call.ensures.acts few') (ok-both c.call.result moved marked c.call.ensures.moves c.call.ensures.deeds)
     (ok-both c.call.result kept-mail kept-present
     (c.call.ensures.mailed judged.0 (name_at names) (length names) i l x mail judged.1) c.call.ensures.present)
@@ -339,8 +345,8 @@ returns-acting c lines l i keeps is here short now there =
 answering : (c : goal.Joined-step-8) (lines : ℕ → ℕ) (l : Log) (i : ℕ) → Remembers lines l i c.args.self.now
     → slice_get l.steps i ≡ Some (record { number = c.args.line; step = c.args.step }) → lines i ≡ c.args.line → c.args.line < 4294967295
     → c.args.self.now.watch.now ≡ c.args.line → ((a b : ℕ) → a < b → lines a < lines b) → ((a : ℕ) → 0 < lines a)
-    → (first : ℕ) × IsAnswering lines first i c.in_ok-actor.actor c.in-Answer.said (c.in-Answer.folder, c.in_ok-unique-in-Answer.unique) c.in-Answer.unique l
-    c.args.step c.begin.new.self c.args.self.now.listings
+    → (first : ℕ) × IsAnswering lines first i c.in_ok-actor.actor c.in-Answer.said (c.in-Answer.folder, c.in_ok-unique-in-Answer.unique)
+    c.in-Answer.unique l c.args.step c.begin.new.self c.args.self.now.listings
 answering c lines l i keeps is here short now rises counted =
     let x = c.args.step in
     let step-is : IsStep l i x = (c.args.line, is) in
@@ -385,7 +391,8 @@ told-answer : (c : goal.Joined-step-8) (lines : ℕ → ℕ) (l : Log) (i : ℕ)
 told-answer c lines l i told =
     let first = c.args.self.now.known in
     let known = c.step.new.self in
-    grows lines l i known _ (subst (λ (k : Known). IsToldAt lines l i k) (sym (c.step.ensures.answers (subst IsAnswerCall (sym c.in-Answer.is) tt)))
+    grows lines l i known _ (subst (λ (k : Known). IsToldAt lines l i k)
+    (sym (c.step.ensures.answers (subst IsAnswerCall (sym c.in-Answer.is) tt)))
     (clocked lines l i first known.clock told)) c.unique.ensures.keeps c.in_ok-unique-in-Answer.ensures.numbered refl refl
 
 -- what is kept of what an answer says is what the log tells
@@ -393,8 +400,8 @@ answer-so : (c : goal.Joined-step-8) (lines : ℕ → ℕ) (l : Log) (i : ℕ) �
     → slice_get l.steps i ≡ Some (record { number = c.args.line; step = c.args.step }) → lines i ≡ c.args.line
     → ((a b : ℕ) → a < b → lines a < lines b) → (first : ℕ) → IsSpan l first i c.args.step.actor c.in-Answer.folder c.in-Answer.unique
     → RecallsSo lines (turn l i c.args.step) first c.in-Answer.folder c.in-Answer.unique c.in-Answer.said
-    (claim_by (record c.step.new.self { names = c.unique.new.self }) c.begin.new.self c.args.self.now.listings c.in_ok-actor.actor c.in-Answer.said
-    (c.in-Answer.folder, c.in_ok-unique-in-Answer.unique) (lines first))
+    (claim_by (record c.step.new.self { names = c.unique.new.self }) c.begin.new.self c.args.self.now.listings c.in_ok-actor.actor
+    c.in-Answer.said (c.in-Answer.folder, c.in_ok-unique-in-Answer.unique) (lines first))
 answer-so c lines l i keeps is here rises begins span =
     let x = c.args.step in
     let first = c.args.self.now in
@@ -404,9 +411,11 @@ answer-so c lines l i keeps is here rises begins span =
     let me = c.in_ok-actor.actor in
     let begun = c.begin.new.self in
     let names = c.unique.new.self in
-    let more = grows-on first.known.names c.step.new.self.names names c.in_ok-self.ensures.uniques c.in_ok-unique-in-Answer.ensures.uniques in
+    let more = grows-on first.known.names c.step.new.self.names names c.in_ok-self.ensures.uniques
+    c.in_ok-unique-in-Answer.ensures.uniques in
     let of = c.in_ok-unique-in-Answer.ensures.number ∙ ap Some c.as_slice-in-Answer.ensures in
-    let before = acting-before lines first.actor_names c.number.new.self c.in_ok-actor.field-0-1 c.as_slice.result.now first.known.names.uniques
+    let before = acting-before lines first.actor_names c.number.new.self c.in_ok-actor.field-0-1 c.as_slice.result.now
+    first.known.names.uniques
     names.uniques l i first.watch.actors first.listings c.in_ok-actor.ensures.grows c.are_apart.ensures.apart (λ n w is. more.keeps w n is)
     c.in_ok-unique-in-Answer.ensures.numbered.uniques keeps.acting in
     let named : MayStand c.number.new.self me x.actor = inl (c.in_ok-actor.ensures.found ∙ ap Some c.as_slice.ensures) in
@@ -416,11 +425,13 @@ answer-so c lines l i keeps is here rises begins span =
     ((times-grow lines first.known.names names l i first.watch.mail more keeps.mailed.0 keeps.timed).timed rises) in
     let moves : (to : ℕ) → IsLastLine lines (MovedAt l i x.actor folder unique to) (moved_by begun.actors me (folder, u) to) = λ to.
     subst (λ (o : Option ℕ). IsLastLine lines (MovedAt l i x.actor folder unique to) o)
-    (ap (λ m. get move_cmp m ((me, (folder, u)), to)) (sym c.begin.ensures.moved)) (before.moves me x.actor folder u unique to named (inl of)) in
+    (ap (λ m. get move_cmp m ((me, (folder, u)), to)) (sym c.begin.ensures.moved))
+    (before.moves me x.actor folder u unique to named (inl of)) in
     let deeds = subst (λ (a : About). RecallsDeeds l i x.actor folder unique a) (sym (c.in_ok-begin.ensures.done me (folder, u)))
     (before.deeds me x.actor folder u unique named (inl of)) in
     so-said lines rises (record c.step.new.self { names = names }) l i folder u unique of (told-answer c lines l i keeps.told)
-    c.in_ok-unique-in-Answer.ensures.numbered x begun first.listings me begins span mailed timed moves deeds c.in-Answer.said c.answer.ensures.letters
+    c.in_ok-unique-in-Answer.ensures.numbered x begun first.listings me begins span mailed timed moves deeds c.in-Answer.said
+    c.answer.ensures.letters
 
 -- ---- messages that listings lack
 
@@ -473,8 +484,8 @@ alone-in-List c lines l i keeps is here now rises there =
     let wrong = NotADirectory t in
     let is-wrong = Has new.broken clause.NotADirectory ↔ wrong in
     let is-overwritten = Has new.broken clause.Overwritten ↔ Overwritten t in
-    ok-three c.list.result (is-wrong × is-overwritten) (KeepsAnswers shown new) (Has new.broken clause.Unlisted ↔ Unlisted t) (IsJudgedAlone new.broken t)
-    (λ two answers unlisted. record {
+    ok-three c.list.result (is-wrong × is-overwritten) (KeepsAnswers shown new) (Has new.broken clause.Unlisted ↔ Unlisted t)
+    (IsJudgedAlone new.broken t) (λ two answers unlisted. record {
       wrong = two.0;
       overwritten = two.1;
       gave_up = found-none clause.GaveUp (GaveUp t) shown new (nothing clause.GaveUp) answers.gave_up no-success;
@@ -531,8 +542,8 @@ alone-by-call c lines l i keeps is here short there =
     let no-answer : AnsweredFalsely t → ⊥ = λ false. c.in_default.not-Answer false.1 false.2 false.3 false.4 in
     let is-wrong = Has new.broken clause.NotADirectory ↔ NotADirectory t in
     let is-overwritten = Has new.broken clause.Overwritten ↔ Overwritten t in
-    ok-three c.call.result (is-wrong × is-overwritten) (KeepsAnswers begun new) (Keeps clause.Unlisted begun new) (IsJudgedAlone new.broken t)
-    (λ two answers kept. record {
+    ok-three c.call.result (is-wrong × is-overwritten) (KeepsAnswers begun new) (Keeps clause.Unlisted begun new)
+    (IsJudgedAlone new.broken t) (λ two answers kept. record {
       wrong = two.0;
       overwritten = two.1;
       gave_up = found-none clause.GaveUp (GaveUp t) begun new (nothing clause.GaveUp) answers.gave_up no-success;
@@ -611,7 +622,8 @@ returns-in-List-clause-broken c = λ lines l i keeps is here short now rises cou
     let new = c.list.new.self.found in
     ok-three c.list.result (IsJudgedAlone new.broken t) (KeepsFiles shown new) (KeepsMessages shown new)
     ((k : Clause) → Has new.broken k ↔ Breaks k t)
-    (λ one-by-one kept added. kept-found t c.begin.new.self.found shown new c.begin.ensures.nothing c.in_ok-names-in-List.ensures.found one-by-one kept
+    (λ one-by-one kept added. kept-found t c.begin.new.self.found shown new c.begin.ensures.nothing c.in_ok-names-in-List.ensures.found
+    one-by-one kept
     (still-lawful who (length names) l i x step-is actor acts c.args.self.now.watch.files.all.items are c.step.new.self.names still apart)
     added (still-two l i still x) (still-again l i still x) (still-gone l i still x))
     (alone-in-List c lines l i keeps is here now rises there) c.list.ensures.others c.list.ensures.added

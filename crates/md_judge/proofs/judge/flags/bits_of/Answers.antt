@@ -9,14 +9,14 @@ loop-at-init c = no-letter c.args.flags
 pub loop-at-preserved-then-has : goal.loop-at-preserved-then-has
 unfolding letters
 loop-at-preserved-then-has c =
-    with-letter c.args.flags c.loop-at.at c.loop-at-test.true c.loop-at.auto.at true c.loop-at.bits c.saturating_mul-bits.result c.saturating_add-bits.result
-    c.loop-at.invariant c.saturating_mul-bits.ensures c.if-has.ensures c.saturating_add-bits.ensures
+    with-letter c.args.flags c.loop-at.at c.loop-at-test.true c.loop-at.auto.at true c.loop-at.bits c.saturating_mul-bits.result
+    c.saturating_add-bits.result c.loop-at.invariant c.saturating_mul-bits.ensures c.if-has.ensures c.saturating_add-bits.ensures
 
 pub loop-at-preserved : goal.loop-at-preserved
 unfolding letters
 loop-at-preserved c =
-    with-letter c.args.flags c.loop-at.at c.loop-at-test.true c.loop-at.auto.at false c.loop-at.bits c.saturating_mul-bits.result c.saturating_mul-bits.result
-    c.loop-at.invariant c.saturating_mul-bits.ensures c.if-has.ensures (λ i. c.saturating_mul-bits.result)
+    with-letter c.args.flags c.loop-at.at c.loop-at-test.true c.loop-at.auto.at false c.loop-at.bits c.saturating_mul-bits.result
+    c.saturating_mul-bits.result c.loop-at.invariant c.saturating_mul-bits.ensures c.if-has.ensures (λ i. c.saturating_mul-bits.result)
 
 pub returns-clause-bits : goal.returns-clause-bits
 returns-clause-bits c = all-letters c.args.flags c.loop-at.at c.loop-at.bits c.loop-at-test.false c.loop-at.invariant

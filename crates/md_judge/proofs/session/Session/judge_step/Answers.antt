@@ -33,4 +33,5 @@ returns-clause-found c = λ lines l i told is here short rises above there o.
     adds-all o c.args.line c.loop-clause.clause-index c.step.new.self c.args.self.now.judge.allowed (Breaks o (turn l i c.args.step))
     (record c.args.self.now { judge = c.step.new.self }) c.loop-clause.self c.loop-clause-test.false
     (c.in_ok-step.ensures.allowed ∙ c.go_to.ensures.allowed)
-    (c.in_ok-step.ensures.broken lines l i (c.go_to.ensures.told lines l i told) is here short c.go_to.ensures.now rises above there o) (c.loop-clause.invariant.found o)
+    (c.in_ok-step.ensures.broken lines l i (c.go_to.ensures.told lines l i told) is here short c.go_to.ensures.now rises above there o)
+    (c.loop-clause.invariant.found o)

@@ -13,7 +13,8 @@ returns c =
     let folder = c.args.key.0 in
     let u = c.args.key.1 in
     let kept = c.held_by.ensures
-    ∙ ap (λ (ends : List ℕ). held_by known.directories.all.items folder u ends) (c.alike.ensures ∙ ap (λ (bits : ℕ). alike_in known.names bits) c.bits_of.ensures.bits) in
+    ∙ ap (λ (ends : List ℕ). held_by known.directories.all.items folder u ends)
+    (c.alike.ensures ∙ ap (λ (bits : ℕ). alike_in known.names bits) c.bits_of.ensures.bits) in
     record {
       held = kept;
       letters = c.bits_of.ensures.letters;

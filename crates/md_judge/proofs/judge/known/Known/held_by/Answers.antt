@@ -13,11 +13,13 @@ loop-ending-preserved c =
     let folder = c.args.key.0 in
     let u = c.args.key.1 in
     c.both-held.ensures
-    ∙ (λ i. held_both ((c.held-one.ensures ∙ ap (λ (n : ℕ). held_in all (spot_of folder Cur n)) c.name_of-name.ensures) i) (c.loop-ending.invariant i))
+    ∙ (λ i. held_both ((c.held-one.ensures ∙ ap (λ (n : ℕ). held_in all (spot_of folder Cur n)) c.name_of-name.ensures) i)
+    (c.loop-ending.invariant i))
     ∙ sym (fold_more (λ (held : Option Held) (ending : ℕ). held_both (held_in all (spot_by folder u ending)) held) None c.args.endings.now
     c.loop-ending.ending-index 0 c.loop-ending-test.true)
 
 pub returns : goal.returns
 returns c =
     c.loop-ending.invariant
-    ∙ ap (held_by c.args.self.now.directories.all.items c.args.key.0 c.args.key.1) (take_all c.loop-ending.ending-index c.args.endings.now c.loop-ending-test.false)
+    ∙ ap (held_by c.args.self.now.directories.all.items c.args.key.0 c.args.key.1)
+    (take_all c.loop-ending.ending-index c.args.endings.now c.loop-ending-test.false)

@@ -15,7 +15,8 @@ loop-folder-preserved c =
           (folder-comes mail u before n (c.is_present.ensures.0 w.if-is_present.true) c.loop-folder.invariant)
       | else-is_present w ↦
           subst (λ (fs : List ℕ). AreThose mail u fs (n + 1)) (sym (ap (λ v. v.items) w.folders-is))
-          (folder-lacks mail u before n (λ has. let no = c.is_present.ensures.1 has in let not = w.if-is_present.false in cc) c.loop-folder.invariant)
+          (folder-lacks mail u before n (λ has. let no = c.is_present.ensures.1 has in let not = w.if-is_present.false in cc)
+          c.loop-folder.invariant)
     ]
 
 pub returns : goal.returns

@@ -35,8 +35,9 @@ returns-clause-deeds c =
     let new = c.add_path.new.self.actors in
     let adds = IsOfMissing names c.args.self.now.mail in
     let marks : MarksDeeds c.args.actor (OnPath adds c.args.added) (OnPath (IsOfMessage names) c.args.added) nothing old mid =
-    subst (λ (o : Option (Spot × ℕ)). MarksDeeds c.args.actor (OnPath adds o) (OnPath (IsOfMessage names) o) nothing old mid) (sym c.in-Some.is)
-    c.in_ok-note_added.ensures.deeds in
-    ok-then c.add_path.result (new ≡ mid) (MarksDeeds c.args.actor (OnPath adds c.args.added) (OnPath (IsOfMessage names) c.args.added) nothing old new)
-    (λ same. subst (MarksDeeds c.args.actor (OnPath adds c.args.added) (OnPath (IsOfMessage names) c.args.added) nothing old) (sym same) marks)
-    c.add_path.ensures.actors
+    subst (λ (o : Option (Spot × ℕ)). MarksDeeds c.args.actor (OnPath adds o) (OnPath (IsOfMessage names) o) nothing old mid)
+    (sym c.in-Some.is) c.in_ok-note_added.ensures.deeds in
+    ok-then c.add_path.result (new ≡ mid) (MarksDeeds c.args.actor (OnPath adds c.args.added) (OnPath (IsOfMessage names) c.args.added)
+    nothing old new)
+    (λ same. subst (MarksDeeds c.args.actor (OnPath adds c.args.added) (OnPath (IsOfMessage names) c.args.added) nothing old) (sym same)
+    marks) c.add_path.ensures.actors

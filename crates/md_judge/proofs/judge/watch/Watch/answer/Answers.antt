@@ -45,7 +45,8 @@ answer-of c lines first i unique l x is =
       begins = refl;
       acts = is.acts;
       looks = is.looks;
-      there = subst (λ (n : ℕ). (0 < n) ↔ IsThere (at l i) key.0 unique) (sym (count-kept (message_of c.args.self.now.mail key.0 key.1))) is.there;
+      there = subst (λ (n : ℕ). (0 < n) ↔ IsThere (at l i) key.0 unique)
+          (sym (count-kept (message_of c.args.self.now.mail key.0 key.1))) is.there;
     })
 
 pub returns-clause-gave_up : goal.returns-clause-gave_up
@@ -56,6 +57,7 @@ pub returns-clause-falsely : goal.returns-clause-falsely
 returns-clause-falsely c = λ lines first i unique l x is so.
     c.check_claim.ensures.law lines first i c.args.key.0 unique l x (record {
       answer = answer-of c lines first i unique l x is;
-      so = subst (λ (k : Claim). RecallsSo lines (turn l i x) first c.args.key.0 unique k.said k) (sym (c.claim-claim.ensures.whole (lines first) is.begins))
+      so = subst (λ (k : Claim). RecallsSo lines (turn l i x) first c.args.key.0 unique k.said k)
+          (sym (c.claim-claim.ensures.whole (lines first) is.begins))
           so;
     }) clause.AnsweredFalsely

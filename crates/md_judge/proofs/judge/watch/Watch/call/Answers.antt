@@ -102,7 +102,8 @@ returns c =
           let mid = c.note_call.new.self in
           let last = c.change.new.self in
           let goes = GoesWith names c.args.act.now.change.taken last.mail in
-          ok-then c.change.result (NotesMoves actor mid.now goes mid.actors last.actors) (NotesMoves actor first.now goes first.actors last.actors)
+          ok-then c.change.result (NotesMoves actor mid.now goes mid.actors last.actors)
+          (NotesMoves actor first.now goes first.actors last.actors)
           (λ notes. subst (λ (n : ℕ). NotesMoves actor n goes first.actors last.actors) c.in_ok-note_call.ensures.now
           (moves-then actor mid.now goes first.actors mid.actors last.actors c.in_ok-note_call.ensures.moved notes)) c.change.ensures.moves;
       deeds =

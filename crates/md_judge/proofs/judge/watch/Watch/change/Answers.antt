@@ -82,12 +82,15 @@ returns c =
           let made = c.make.new.self in
           subst (λ (m : Mail). NotesMoves actor first.now (GoesWith names change.taken m) first.actors c.check_going.new.self.actors)
           (sym (ap (λ (w : Watch). w.mail) going))
-          (subst (λ (a : Actors). NotesMoves actor first.now (GoesWith names change.taken made.mail) first.actors a) (sym (ap (λ (w : Watch). w.actors) going))
-          (subst (λ (n : ℕ). NotesMoves actor n (GoesWith names change.taken made.mail) first.actors made.actors) (ap (λ (w : Watch). w.now) coming)
+          (subst (λ (a : Actors). NotesMoves actor first.now (GoesWith names change.taken made.mail) first.actors a)
+          (sym (ap (λ (w : Watch). w.actors) going))
+          (subst (λ (n : ℕ). NotesMoves actor n (GoesWith names change.taken made.mail) first.actors made.actors)
+          (ap (λ (w : Watch). w.now) coming)
           (subst (λ (a : Actors). NotesMoves actor c.check_coming.new.self.now (GoesWith names change.taken made.mail) a made.actors)
           (ap (λ (w : Watch). w.actors) coming) c.in_ok-make.ensures.moves)));
       deeds =
-          let Goes : Watch → Watch → Type 0 = λ a b. MarksChange c.args.known.now.names c.args.actor change a.mail b.mail a.actors b.actors in
+          let Goes : Watch → Watch → Type 0 = λ a b.
+          MarksChange c.args.known.now.names c.args.actor change a.mail b.mail a.actors b.actors in
           subst (λ (w : Watch). Goes w c.check_going.new.self) c.check_coming.ensures.rest
           (subst (Goes c.check_coming.new.self) (sym c.check_going.ensures.rest) c.in_ok-make.ensures.deeds);
     }

@@ -49,7 +49,8 @@ returns-clause-moves c =
     let goes = GoesWith c.args.known.now.names c.args.change.taken last.mail in
     ok-then c.take.result (NotesMoves actor mid.now goes mid.actors last.actors) (NotesMoves actor first.now goes first.actors last.actors)
     (λ notes. subst (λ (n : ℕ). NotesMoves actor n goes first.actors last.actors) (c.in_ok-turn.ensures.now ∙ c.in_ok-add.ensures.now)
-    (moves-then actor mid.now goes first.actors mid.actors last.actors (c.in_ok-turn.ensures.moved ∙ c.in_ok-add.ensures.moved) notes)) c.take.ensures.moves
+    (moves-then actor mid.now goes first.actors mid.actors last.actors (c.in_ok-turn.ensures.moved ∙ c.in_ok-add.ensures.moved) notes))
+    c.take.ensures.moves
 
 pub returns-clause-deeds : goal.returns-clause-deeds
 returns-clause-deeds c =

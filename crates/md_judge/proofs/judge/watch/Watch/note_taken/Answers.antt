@@ -68,8 +68,8 @@ loop-folder-init c =
       files = refl;
       mail = refl;
       now = refl;
-      moves = moves-none c.args.actor c.args.self.now.now (MovesTo key c.deref-folder-items.result.now 0) old c.keep.new.self c.keep.ensures.moved
-          (λ k to moves. let low = moves.2.1 in omega (arith, low));
+      moves = moves-none c.args.actor c.args.self.now.now (MovesTo key c.deref-folder-items.result.now 0) old c.keep.new.self
+          c.keep.ensures.moved (λ k to moves. let low = moves.2.1 in omega (arith, low));
       acts = acts-kept old c.keep.new.self c.args.actor key last c.in_ok-keep.ensures.puts
           (changed-same (done_by old c.args.actor key) c.done-about.result noted last c.done-about.ensures c.note_change.ensures refl refl);
       deeds = marked (goal.at.loop-folder-init c).In_ok-keep;
@@ -85,7 +85,8 @@ pub returns-then-not-is_gone-clause-moves : goal.returns-then-not-is_gone-clause
 returns-then-not-is_gone-clause-moves c =
     let old = c.args.self.now in
     moves-none c.args.actor old.now (GoesBy c.args.known.now.names c.args.spot old.mail) old.actors c.keep.new.self c.keep.ensures.moved
-    (stays-by c.args.known.now.names c.args.spot old.mail c.in-Some.unique (sym c.unique_at.ensures ∙ c.in-Some.is) (λ none. c.if-not-is_gone.true (c.count-is_gone.ensures ∙ none)))
+    (stays-by c.args.known.now.names c.args.spot old.mail c.in-Some.unique (sym c.unique_at.ensures ∙ c.in-Some.is)
+    (λ none. c.if-not-is_gone.true (c.count-is_gone.ensures ∙ none)))
 
 pub loop-folder-preserved : goal.loop-folder-preserved
 loop-folder-preserved c =
@@ -102,10 +103,11 @@ loop-folder-preserved c =
       mail = was.mail;
       now = was.now;
       acts = acts-then old.actors mid.actors new was.acts (moved-keeps mid.actors new noted.about noted.begun noted.lines);
-      moves = moves-next c.args.actor old.now key c.deref-folder-items.result.now c.loop-folder.folder-index _ mid.now test was.now old.actors mid.actors new
-          was.moves noted.moves;
+      moves = moves-next c.args.actor old.now key c.deref-folder-items.result.now c.loop-folder.folder-index _ mid.now test was.now
+          old.actors mid.actors new was.moves noted.moves;
       deeds = marks-on c.args.actor nothing (IsOfMessage c.args.known.now.names c.args.spot)
-          (λ k. IsOfMissing c.args.known.now.names old.mail c.args.spot k × (c.args.is_unlink ≡ true)) old.actors mid.actors new was.deeds noted.about;
+          (λ k. IsOfMissing c.args.known.now.names old.mail c.args.spot k × (c.args.is_unlink ≡ true))
+          old.actors mid.actors new was.deeds noted.about;
     }
 
 pub returns-clause-moves : goal.returns-clause-moves
@@ -117,13 +119,15 @@ returns-clause-moves c =
     let items = c.deref-folder-items.result.now in
     let n = c.loop-folder.folder-index in
     let u = c.in-Some.unique in
-    let those = subst (λ (fs : List ℕ). (f : ℕ) → IsIn fs f ↔ IsIn (present_in old.mail f) u) (sym c.deref-folder-items.ensures.value) c.in_ok-folders.ensures in
+    let those = subst (λ (fs : List ℕ). (f : ℕ) → IsIn fs f ↔ IsIn (present_in old.mail f) u) (sym c.deref-folder-items.ensures.value)
+    c.in_ok-folders.ensures in
     let past = c.loop-folder-test.false in
     let end = c.loop-folder.auto.folder-index-end in
     let gone = c.if-not-is_gone.false in
     let count = c.count-is_gone.ensures in
     moves-as c.args.actor old.now (MovesTo key items n) (GoesBy names spot old.mail) old.actors c.loop-folder.self.actors
-    (goes-by names spot old.mail u (sym c.unique_at.ensures ∙ c.in-Some.is) (let none : count_of (message_of old.mail spot.folder u) ≡ 0 = omega (arith, gone, count) in none)
+    (goes-by names spot old.mail u (sym c.unique_at.ensures ∙ c.in-Some.is)
+    (let none : count_of (message_of old.mail spot.folder u) ≡ 0 = omega (arith, gone, count) in none)
     items those n (let long : length items ≤ n = omega (arith, past, end) in long)) c.loop-folder.invariant.moves
 
 pub returns-then-not-is_gone-clause-deeds : goal.returns-then-not-is_gone-clause-deeds
