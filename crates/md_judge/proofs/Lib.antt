@@ -30,6 +30,7 @@ pub mod Sparing
 pub mod Longer
 pub mod Prefixes
 pub mod Housed
+pub mod Ordered
 pub mod Verdicts
 pub mod Whole
 pub mod Taken

@@ -19,10 +19,11 @@ use Rattle.md_judge.specs.declared.log.Finding.{Finding}
 use Rattle.md_judge.specs.declared.session.Session.{Session}
 use Rattle.md_judge.specs.Law.{IsFinding}
 use Rattle.md_judge.specs.Logs.{Log, Numbered, empty_log, is_passed_over, has_begun, with_line, with_folder_line, with_text, with_lines, at_line, and_then, log_by, log_of}
-use Rattle.md_judge.specs.Taken.{IsWithoutTicks, Answers, HasTaken}
+use Rattle.md_judge.specs.Ordered.{AreInOrder}
+use Rattle.md_judge.specs.Taken.{IsWithoutTicks, Answers, HasTaken, with_given}
 use Rattle.md_judge.specs.Verdict.{IsAmong, HasNoTicks, HasRead, Remembers, AreLinesOf}
 use Rattle.md_judge.proofs.Verdicts.{no-step}
-use Rattle.md_judge.proofs.Whole.{lines-cut, lines-end}
+use Rattle.md_judge.proofs.Whole.{on-log, given-text, none-given, lines-cut, lines-end}
 
 -- where there is a value, it is this
 pub ok-of : {A E : Type 0} (r : Result A E) → IsOk r → (x : A) × (r ≡ Ok x)
@@ -73,20 +74,30 @@ log-then head texts l text is = by (bytes_eq head (codes "maildir_log 1")) is
     by true is = lines-then texts empty_log l 2 text is
     by false is = absurd (cc is)
 
+-- what is answered of a line is answered of it whatever clauses are not judged
+answers-given : {A : Type 0} (r : Result A LogFault) (given : List Clause) (number : ℕ) (o : Result Log LineFault)
+    → Answers r (at_line number (on-log (with_given given) o)) → Answers r (at_line number o)
+answers-given (Ok x) given number (Ok l) answers = refl
+answers-given (Ok x) given number (Err fault) answers = answers
+answers-given (Err e) given number (Ok l) answers = λ known. absurd (cc (answers known))
+answers-given (Err e) given number (Err fault) answers = answers
+
 -- what is answered of one more line is answered of the lines with it
-pub answers-line : {A : Type 0} (r : Result A LogFault) (texts : List (List ℕ)) (text : List ℕ) (s : Session) (number : ℕ)
-    → HasTaken texts s → number ≡ suc (length texts) → (number ≤ 1 → Answers r (log_by (text ∷ [])))
+pub answers-line : {A : Type 0} (r : Result A LogFault) (given : List Clause) (texts : List (List ℕ)) (text : List ℕ) (s : Session)
+    (number : ℕ) → HasTaken given texts s → number ≡ suc (length texts) → (number ≤ 1 → Answers r (log_by (text ∷ [])))
     → (1 < number → (l : Log) → HasRead number l s → Answers r (at_line number (with_text l number text)))
     → IsWithoutTicks texts → Answers r (log_by (texts ++ text ∷ []))
-answers-line r [] text s number taken is first later none = let is' : number ≡ 1 = is in first (omega (arith, is'))
-answers-line r (head ∷ texts) text s number taken is first later none =
+answers-line r given [] text s number taken is first later none = let is' : number ≡ 1 = is in first (omega (arith, is'))
+answers-line r given (head ∷ texts) text s number taken is first later none =
     let has = ok-of (log_by (head ∷ texts)) (taken.log none (λ same. cc same)) in
     let is' : number ≡ suc (suc (length texts)) = is in
     let here : 2 + length texts ≡ number = omega (arith, is') in
     let read = taken.read has.0 has.1 (without-all (head ∷ texts) has.0 none has.1) in
     subst (λ (o : Result Log LogFault). Answers r o) (sym (log-then head texts has.0 text has.1))
     (subst (λ k. Answers r (at_line k (with_text has.0 k text))) (sym here)
-    (later (omega (arith, is')) has.0 (subst (λ k. HasRead k has.0 s) (sym is') read)))
+    (answers-given r given number (with_text has.0 number text)
+    (subst (λ (o : Result Log LineFault). Answers r (at_line number o)) (given-text given has.0 number text)
+    (later (omega (arith, is')) (with_given given has.0) (subst (λ k. HasRead k (with_given given has.0) s) (sym is') read)))))
 
 -- ---- the text of a line
 
@@ -224,18 +235,18 @@ wrong-stays (head ∷ texts) text more e is =
 
 -- A session has taken in the lines of a text up to these, which are left.
 abbrev pub HasTakenTo : List ℕ → List (List ℕ) → Session → Type 0
-HasTakenTo text left s = (texts : List (List ℕ)) × (lines_of text ≡ texts ++ left) × HasTaken texts s
+HasTakenTo text left s = (texts : List (List ℕ)) × (lines_of text ≡ texts ++ left) × HasTaken [] texts s
 
 -- and one more
 pub takes-next : (text one : List ℕ) (left others : List (List ℕ)) (s t : Session) → left ≡ one ∷ others → HasTakenTo text left s
-    → ((texts : List (List ℕ)) → HasTaken texts s → HasTaken (texts ++ one ∷ []) t) → HasTakenTo text others t
+    → ((texts : List (List ℕ)) → HasTaken [] texts s → HasTaken [] (texts ++ one ∷ []) t) → HasTakenTo text others t
 takes-next text one left others s t cut taken takes =
     (taken.0 ++ one ∷ [], taken.1 ∙ ap (λ ls. taken.0 ++ ls) cut ∙ sym (append_assoc taken.0 (one ∷ []) others), takes taken.0 taken.2)
 
 -- a line that is wrong where those before it are taken in is the first wrong line of the text
 pub text-stays : (text one : List ℕ) (left others : List (List ℕ)) (s : Session) (e : LogFault) → left ≡ one ∷ others
     → HasTakenTo text left s
-    → ((texts : List (List ℕ)) → HasTaken texts s → IsWithoutTicks texts → e.fault ≢ NoMemory → log_by (texts ++ one ∷ []) ≡ Err e)
+    → ((texts : List (List ℕ)) → HasTaken [] texts s → IsWithoutTicks texts → e.fault ≢ NoMemory → log_by (texts ++ one ∷ []) ≡ Err e)
     → IsWithoutTicks (lines_of text) → e.fault ≢ NoMemory → log_of text ≡ Err e
 unfolding log_of
 text-stays text one left others s e cut taken answers none known =
@@ -244,20 +255,29 @@ text-stays text one left others s e cut taken answers none known =
     ap log_by all ∙ wrong-stays taken.0 one others e (answers taken.0 taken.2 before known)
 
 -- all are taken in
-pub taken-all : (text : List ℕ) (left : List (List ℕ)) (s : Session) → left ≡ [] → HasTakenTo text left s → HasTaken (lines_of text) s
+pub taken-all : (text : List ℕ) (left : List (List ℕ)) (s : Session) → left ≡ [] → HasTakenTo text left s → HasTaken [] (lines_of text) s
 taken-all text left s end taken =
-    subst (λ (ls : List (List ℕ)). HasTaken ls s) (sym (taken.1 ∙ ap (λ ls. taken.0 ++ ls) end ∙ append-nil taken.0)) taken.2
+    subst (λ (ls : List (List ℕ)). HasTaken [] ls s) (sym (taken.1 ∙ ap (λ ls. taken.0 ++ ls) end ∙ append-nil taken.0)) taken.2
 
 -- a text is what its lines are
 pub log-is : (text : List ℕ) → log_of text ≡ log_by (lines_of text)
 unfolding log_of
 log-is text = refl
 
+-- what was found is in order
+pub ordered-all : (text : List ℕ) (s t : Session) → HasTaken [] (lines_of text) s
+    → ((l : Log) → HasTaken [] (lines_of text) s → log_by (lines_of text) ≡ Ok l → HasNoTicks l → t ≡ s)
+    → (l : Log) → log_of text ≡ Ok l → HasNoTicks l → AreInOrder t.findings.items
+unfolding log_of
+ordered-all text s t taken same l is none =
+    subst (λ (v : Session). AreInOrder v.findings.items) (sym (same l taken is none)) (taken.read l is none).ordered
+
 -- and what was found are the findings
-pub found-all : (text : List ℕ) (s t : Session) → HasTaken (lines_of text) s
-    → ((l : Log) → HasTaken (lines_of text) s → log_by (lines_of text) ≡ Ok l → HasNoTicks l → t ≡ s)
+pub found-all : (text : List ℕ) (s t : Session) → HasTaken [] (lines_of text) s
+    → ((l : Log) → HasTaken [] (lines_of text) s → log_by (lines_of text) ≡ Ok l → HasNoTicks l → t ≡ s)
     → (l : Log) → log_of text ≡ Ok l → HasNoTicks l → (n : ℕ) (c : Clause) → IsAmong t.findings.items n c ↔ IsFinding l n c
 unfolding log_of
 found-all text s t taken same l is none n c =
     let now : t.findings.items ≡ s.findings.items = λ i. (same l taken is none i).findings.items in
-    subst (λ (fs : List Finding). IsAmong fs n c ↔ IsFinding l n c) (sym now) ((taken.read l is none).found n c)
+    subst (λ (fs : List Finding). IsAmong fs n c ↔ IsFinding l n c) (sym now)
+    (subst (λ (m : Log). IsAmong s.findings.items n c ↔ IsFinding m n c) (none-given l) ((taken.read l is none).found n c))

@@ -29,10 +29,13 @@ use Rattle.md_judge.specs.declared.stretch.Stretch.{Stretch}
 use Rattle.md_judge.specs.Filed.{name_at}
 use Rattle.md_judge.specs.Found.{Has, clause_index}
 use Rattle.md_judge.specs.Law.{turn, Breaks, IsAllowed, IsFinding}
-use Rattle.md_judge.specs.Logs.{Log, Numbered, is_passed_over, has_begun, with_line, with_text, with_folder_line, with_file_line, with_also_line}
+use Rattle.md_judge.specs.Logs.{Log, Numbered, empty_log, is_passed_over, has_begun, with_line, with_text, with_folder_line, with_file_line, with_also_line}
+use Rattle.md_judge.specs.Ordered.{AreEarlier, AreInOrder}
 use Rattle.md_judge.specs.Recalled.{HasFolders}
+use Rattle.md_judge.specs.Taken.{with_given}
 use Rattle.md_judge.specs.Told.{Moment, at}
 use Rattle.md_judge.specs.Verdict.{HasNoTicks, Remembers, IsAmong, AreLinesOf, HasRead, IsHeadOf, IsBroken, AddsFinding, KeepsHead}
+use Rattle.md_judge.proofs.Ordered.{HaveNumbersFrom}
 use Rattle.md_judge.proofs.Mailbegun.{tells-longer, tells-opening}
 use Rattle.md_judge.proofs.Actors.{acting-first, acting-longer}
 use Rattle.md_judge.proofs.Opened.{filed-opening, filed-longer}
@@ -119,6 +122,11 @@ abbrev pub clauses : List Clause
 clauses =
     clause.NotADirectory ∷ clause.Overwritten ∷ clause.SeenBeforeWhole ∷ clause.Mixed ∷ clause.NotFlushed ∷ clause.TwoNames ∷ clause.Gone
     ∷ clause.UsedAgain ∷ clause.MovedBack ∷ clause.CleanedEarly ∷ clause.Unlisted ∷ clause.GaveUp ∷ clause.AnsweredFalsely ∷ []
+
+-- they have their numbers
+pub clauses-numbered : HaveNumbersFrom 0 clauses
+clauses-numbered =
+    (refl, (refl, (refl, (refl, (refl, (refl, (refl, (refl, (refl, (refl, (refl, (refl, (refl, tt)))))))))))))
 
 -- each clause has its place
 pub listed : (c : Clause) → slice_get clauses (clause_index c) ≡ Some c
@@ -295,6 +303,12 @@ module _ (number : ℕ) (l : Log) (x : Step) (s t : Session) (read : HasRead num
     ],
   )
 
+  -- what was found is of earlier lines
+  all-before : AreEarlier s.findings.items number 0
+  all-before k f is =
+      let finding : IsFinding l f.line f.clause = (read.found f.line f.clause).0 (k, f, is, refl, refl) in
+      inl (read.below finding.1.0 (record { number = f.line; step = finding.1.1 }) finding.1.2)
+
   -- a session that judges a step has read the log with it
   pub step-read : KeepsHead (record s { has_begun = true }) t
       → ((lines : ℕ → ℕ) (m : Log) (i : ℕ) → Remembers lines m i s.judge → slice_get m.steps i ≡ Some (record { number = number; step = x })
@@ -302,8 +316,9 @@ module _ (number : ℕ) (l : Log) (x : Step) (s t : Session) (read : HasRead num
       → ((lines : ℕ → ℕ) (m : Log) (i : ℕ) → Remembers lines m i s.judge → slice_get m.steps i ≡ Some (record { number = number; step = x })
       → lines i ≡ number → number < 4294967295 → ((a b : ℕ) → a < b → lines a < lines b) → ((a : ℕ) → 0 < lines a) → HasFolders (at m i) x.call
       → (c : Clause) → AddsFinding c number (Breaks c (turn m i x) × (Has s.judge.allowed c → ⊥)) s t)
+      → (AreInOrder s.findings.items → AreEarlier s.findings.items number 0 → AreInOrder t.findings.items)
       → number < 4294967295 → HasFolders (at l (length l.steps)) x.call → HasRead (suc number) longer t
-  step-read keeps told found short there =
+  step-read keeps told found ordered short there =
       let i : ℕ = length l.steps in
       let same : at l i ≡ at longer i = sym (ap (λ (m : Moment). m.state) (same-moment l one i (omega arith))) in
       let there' : HasFolders (at longer i) x.call = subst (λ (st : State). HasFolders st x.call) same there in
@@ -328,6 +343,7 @@ module _ (number : ℕ) (l : Log) (x : Step) (s t : Session) (read : HasRead num
           λ is. subst (λ (a : Clauses). Has a c) (sym keeps.allowed) ((read.allowed c).1 is),
         );
         found = λ m c. found-longer c m (adds c m);
+        ordered = ordered read.ordered all-before;
       }
 
   -- also where the session is one that has begun just now, and where the judging may be refused
@@ -337,8 +353,9 @@ module _ (number : ℕ) (l : Log) (x : Step) (s t : Session) (read : HasRead num
       → ((lines : ℕ → ℕ) (m : Log) (i : ℕ) → Remembers lines m i now.judge → slice_get m.steps i ≡ Some (record { number = number; step = x })
       → lines i ≡ number → number < 4294967295 → ((a b : ℕ) → a < b → lines a < lines b) → ((a : ℕ) → 0 < lines a) → HasFolders (at m i) x.call
       → OnOk r ((c : Clause) → AddsFinding c number (Breaks c (turn m i x) × (Has now.judge.allowed c → ⊥)) now t))
+      → (AreInOrder now.findings.items → AreEarlier now.findings.items number 0 → OnOk r (AreInOrder t.findings.items))
       → number < 4294967295 → HasFolders (at l (length l.steps)) x.call → OnOk r (HasRead (suc number) longer t)
-  step-read-on now same r keeps told found short there = on-ok-by r (HasRead (suc number) longer t) (λ holds.
+  step-read-on now same r keeps told found ordered short there = on-ok-by r (HasRead (suc number) longer t) (λ holds.
       step-read (subst (λ (v : Session). KeepsHead v t) same (holds (KeepsHead now t) keeps))
       (λ lines m i was is at-line low in-folder. holds (Remembers lines m (suc i) t.judge)
       (told lines m i (subst (λ (v : Session). Remembers lines m i v.judge) (sym same) was) is at-line low in-folder))
@@ -346,6 +363,9 @@ module _ (number : ℕ) (l : Log) (x : Step) (s t : Session) (read : HasRead num
       subst (λ (v : Session). (c : Clause) → AddsFinding c number (Breaks c (turn m i x) × (Has v.judge.allowed c → ⊥)) v t) same
       (holds ((c : Clause) → AddsFinding c number (Breaks c (turn m i x) × (Has now.judge.allowed c → ⊥)) now t)
       (found lines m i (subst (λ (v : Session). Remembers lines m i v.judge) (sym same) was) is at-line low rises above in-folder)))
+      (λ order earlier. holds (AreInOrder t.findings.items)
+      (ordered (subst (λ (v : Session). AreInOrder v.findings.items) (sym same) order)
+      (subst (λ (v : Session). AreEarlier v.findings.items number 0) (sym same) earlier)))
       short there)
 
 -- ---- one more line of the beginning
@@ -380,6 +400,7 @@ module _ (number : ℕ) (l l' : Log) (s t : Session) (read : HasRead number l s)
       λ among. absurd (finding-none l m c none ((read.found m c).0 (subst (λ (fs : List Finding). IsAmong fs m c) findings among))),
       λ is. absurd (finding-none l' m c still is),
     );
+    ordered = subst (λ (fs : List Finding). AreInOrder fs) (sym findings) read.ordered;
   }
 
 -- a session that passes over a line has read the same log
@@ -397,6 +418,7 @@ over-read number l s read = record {
   moved = read.moved;
   allowed = read.allowed;
   found = read.found;
+  ordered = read.ordered;
 }
 
 -- what a log keeps by a line of a file or of a further name
@@ -450,7 +472,21 @@ one-allowed : (cs : List Clause) (c o : Clause) (k : ℕ) → slice_get (c ∷ c
 one-allowed cs c o zero is = inr (cc is)
 one-allowed cs c o (suc k) is = inl (k, is)
 
--- a clause is allowed
+-- one more clause is allowed
+more-allowed : (l : Log) (a b : Clauses) (c : Clause) → ((o : Clause) → Has a o ↔ IsAllowed l o)
+    → ((o : Clause) → Has b o ↔ (Has a o ⊎ (o ≡ c))) → (o : Clause) → Has b o ↔ IsAllowed (record l { allowed = c ∷ l.allowed }) o
+more-allowed l a b c allowed adds o = (
+  λ has. elim ((adds o).0 has) [
+    | inl was ↦ let before = (allowed o).0 was in (suc before.0, before.1)
+    | inr is ↦ (0, ap Some (sym is))
+  ],
+  λ is. elim (one-allowed l.allowed c o is.0 is.1) [
+    | inl was ↦ (adds o).1 (inl ((allowed o).1 was))
+    | inr now ↦ (adds o).1 (inr now)
+  ],
+)
+
+-- a clause is allowed by a line
 pub allow-read : (number : ℕ) (l l' : Log) (s t : Session) (c : Clause) → HasRead number l s → l.steps ≡ [] → record l { allowed = c ∷ l.allowed } ≡ l'
     → t.folders ≡ s.folders → t.has_begun ≡ s.has_begun → t.stretch ≡ s.stretch → t.findings.items ≡ s.findings.items
     → ((lines : ℕ → ℕ) (m : Log) (i : ℕ) → Remembers lines m i s.judge → Remembers lines m i t.judge)
@@ -459,16 +495,37 @@ allow-read number l l' s t c read none same folders begun stretch findings keeps
     let new : Log = record l { allowed = c ∷ l.allowed } in
     subst (λ (m : Log). HasRead (suc number) m t) same
     (head-read number l new s t read none none (folders ∙ read.folders) begun stretch findings read.housed
-    (λ lines low told. keeps lines new 0 (remembers-opening lines l new s.judge refl refl told)) (λ o. (
-      λ has. elim ((adds o).0 has) [
-        | inl was ↦ let before = (read.allowed o).0 was in (suc before.0, before.1)
-        | inr is ↦ (0, ap Some (sym is))
-      ],
-      λ is. elim (one-allowed l.allowed c o is.0 is.1) [
-        | inl was ↦ (adds o).1 (inl ((read.allowed o).1 was))
-        | inr now ↦ (adds o).1 (inr now)
-      ],
-    )))
+    (λ lines low told. keeps lines new 0 (remembers-opening lines l new s.judge refl refl told))
+    (more-allowed l s.judge.allowed t.judge.allowed c read.allowed adds))
+
+-- a clause is allowed before the first line
+pub given-read : (number : ℕ) (given : List Clause) (s : Session) (j : Judge) (c : Clause) → HasRead number (with_given given empty_log) s
+    → ((lines : ℕ → ℕ) (m : Log) (i : ℕ) → Remembers lines m i s.judge → Remembers lines m i j)
+    → ((o : Clause) → Has j.allowed o ↔ (Has s.judge.allowed o ⊎ (o ≡ c)))
+    → HasRead number (with_given (c ∷ given) empty_log) (record s { judge = j })
+given-read number given s j c read keeps adds =
+    let old : Log = with_given given empty_log in
+    let new : Log = with_given (c ∷ given) empty_log in
+    record {
+      folders = read.folders;
+      begun = read.begun;
+      housed = read.housed;
+      told = λ lines are.
+          let before : AreLinesOf number old lines = record { steps = are.steps; opening = are.opening } in
+          keeps lines new 0 (remembers-opening lines old new s.judge refl refl (read.told lines before));
+      rises = read.rises;
+      above = read.above;
+      below = read.below;
+      first = read.first;
+      waits = read.waits;
+      moved = read.moved;
+      allowed = more-allowed old s.judge.allowed j.allowed c read.allowed adds;
+      found = λ n o. (
+        λ among. absurd (finding-none old n o refl ((read.found n o).0 among)),
+        λ is. absurd (finding-none new n o refl is),
+      );
+      ordered = read.ordered;
+    }
 
 module _ (number : ℕ) (l l' : Log) (s t : Session) (read : HasRead number l s) (none : l.steps ≡ []) (begun : t.has_begun ≡ s.has_begun)
     (stretch : t.stretch ≡ s.stretch) (findings : t.findings.items ≡ s.findings.items) (j : Judge)

@@ -29,5 +29,6 @@ pub mod Deeds
 pub mod Actors
 pub mod Said
 pub mod Marks
+pub mod Ordered
 pub mod Verdict
 pub mod Taken

@@ -1,5 +1,6 @@
 -- What is answered of the lines of a log, and what a session holds that has taken them in.
-use Rattle.std.specs.Prelude.{ℕ, suc, ◌≡◌, ◌≢◌, List, [], take, length, Result, Ok, Err, IsOk}
+use Rattle.std.specs.Prelude.{ℕ, suc, ◌≡◌, ◌≢◌, List, [], ◌++◌, take, length, Result, Ok, Err, IsOk}
+use Rattle.md_log.specs.declared.clause.Clause.{Clause}
 use Rattle.md_log.specs.declared.error.LineFault.TheVariants.{NoMemory}
 use Rattle.md_log.specs.declared.error.LogFault.{LogFault}
 use Rattle.md_judge.specs.declared.session.Session.{Session}
@@ -15,10 +16,14 @@ abbrev pub Answers : {A : Type 0} → Result A LogFault → Result Log LogFault 
 Answers (Ok x) log = IsOk log
 Answers (Err e) log = e.fault ≢ NoMemory → log ≡ Err e
 
--- A session has taken in these lines, of which the first is the head. Where no beginning of them has ticks, they are a log, and it has read
--- that log.
-pub record HasTaken (texts : List (List ℕ)) (s : Session) : Type 0 where
+-- a log of which these clauses are not judged either
+abbrev pub with_given : List Clause → Log → Log
+with_given given l = record l { allowed = l.allowed ++ given }
+
+-- A session was told not to judge these clauses, and has taken in these lines, of which the first is the head. Where no beginning of them
+-- has ticks, they are a log, and it has read that log, of which those clauses are not judged either.
+pub record HasTaken (given : List Clause) (texts : List (List ℕ)) (s : Session) : Type 0 where
   pub lines : s.lines ≡ length texts
-  pub none : texts ≡ [] → HasRead 2 empty_log s
+  pub none : texts ≡ [] → HasRead 2 (with_given given empty_log) s
   pub log : IsWithoutTicks texts → texts ≢ [] → IsOk (log_by texts)
-  pub read : (l : Log) → log_by texts ≡ Ok l → HasNoTicks l → HasRead (suc (length texts)) l s
+  pub read : (l : Log) → log_by texts ≡ Ok l → HasNoTicks l → HasRead (suc (length texts)) (with_given given l) s

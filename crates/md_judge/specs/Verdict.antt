@@ -15,6 +15,7 @@ use Rattle.md_judge.specs.Law.{IsAllowed, IsFinding}
 use Rattle.md_judge.specs.Logs.{Log, Numbered, has_begun}
 use Rattle.md_judge.specs.Mailed.{TellsMail}
 use Rattle.md_judge.specs.Open.{AreOpen}
+use Rattle.md_judge.specs.Ordered.{AreInOrder}
 use Rattle.md_judge.specs.Recalled.{IsToldAt}
 use Rattle.md_judge.specs.Timed.{TellsTimes}
 use Rattle.md_judge.specs.Told.{moment}
@@ -59,6 +60,7 @@ pub record HasRead (number : ℕ) (l : Log) (s : Session) : Type 0 where
   pub moved : s.stretch.moved.entries ≡ []
   pub allowed : (c : Clause) → Has s.judge.allowed c ↔ IsAllowed l c
   pub found : (n : ℕ) (c : Clause) → IsAmong s.findings.items n c ↔ IsFinding l n c
+  pub ordered : AreInOrder s.findings.items
 
 -- a line of the beginning, whose path is in a folder that is there
 abbrev pub IsHeadOf : State → Line → Type 0

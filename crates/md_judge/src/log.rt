@@ -4,6 +4,7 @@ ghost use Rattle.md_head.specs.Header.{lines_of};
 ghost use Rattle.md_log.specs.declared.clause.Clause.{Clause};
 ghost use Rattle.md_judge.specs.Law.{IsFinding};
 ghost use Rattle.md_judge.specs.Logs.{Log, log_of};
+ghost use Rattle.md_judge.specs.Ordered.{AreInOrder};
 ghost use Rattle.md_judge.specs.Taken.{IsWithoutTicks, Answers};
 ghost use Rattle.md_judge.specs.Verdict.{HasNoTicks, IsAmong};
 
@@ -21,10 +22,12 @@ pub struct Finding {
 }
 
 /// The findings of a log, in the order of its lines, and at one line in the order of the law; or its first wrong line, or the line at
-/// which memory was refused. It takes one pass, in n log n.
+/// which memory was refused. It takes one pass, in n log n, but that an answer that names flags looks once for each spelling of them in the
+/// log, mostly one or two.
 pub fn judge_log(alloc: Global, log: &[u8]) -> Result<Vec<Finding>, LogFault>
     ensures found { IfOk result (λ found. (l : Log) → log_of log.now ≡ Ok l → HasNoTicks l
         → (number : ℕ) (c : Clause) → IsAmong found.items number c ↔ IsFinding l number c) }
+    ensures ordered { IfOk result (λ found. (l : Log) → log_of log.now ≡ Ok l → HasNoTicks l → AreInOrder found.items) }
     ensures answers { IsWithoutTicks (lines_of log.now) → Answers result (log_of log.now) }
 {
     let mut session = Session::new(alloc);

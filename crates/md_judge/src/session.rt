@@ -1,12 +1,14 @@
 //! A log whose lines come one by one.
-ghost use Rattle.std.specs.Prelude.{ℕ, suc, ◌≡◌, ◌+◌, ◌<◌, ◌↔◌, List, ◌++◌, ◌∷◌, [], Some, None, Ok, is_ok, OnOk, IfOk, IfErr, length, slice_get};
+ghost use Rattle.std.specs.Prelude.{ℕ, suc, ◌≡◌, ◌≢◌, ◌+◌, ◌<◌, ◌↔◌, List, ◌++◌, ◌∷◌, [], Some, None, Ok, is_ok, OnOk, IfOk, IfErr, length, slice_get};
 ghost use Rattle.md_log.specs.declared.clause.Clause.{Clause};
-ghost use Rattle.md_judge.specs.Found.{Has};
+ghost use Rattle.md_log.specs.declared.clause.Clause.TheVariants.{NotADirectory};
+ghost use Rattle.md_judge.specs.Found.{Has, clause_index};
 ghost use Rattle.md_judge.specs.Law.{Breaks, IsFinding, turn};
 ghost use Rattle.md_log.specs.declared.error.LineFault.TheVariants.{NoMemory};
 ghost use Rattle.md_judge.specs.Logs.{Log, is_passed_over, log_by, at_line, with_line, with_text};
+ghost use Rattle.md_judge.specs.Ordered.{AreEarlier, AreInOrder};
 ghost use Rattle.md_judge.specs.Recalled.{HasFolders, Agrees};
-ghost use Rattle.md_judge.specs.Taken.{IsWithoutTicks, Answers, HasTaken};
+ghost use Rattle.md_judge.specs.Taken.{IsWithoutTicks, Answers, HasTaken, with_given};
 ghost use Rattle.md_judge.specs.Told.{at};
 ghost use Rattle.md_judge.specs.Verdict.{HasNoTicks, Remembers, IsAmong, HasRead, IsHeadOf, IsBroken, AddsFinding, KeepsHead};
 
@@ -42,7 +44,7 @@ pub struct Session {
 impl Session {
     /// A log of which no line was read.
     pub fn new(alloc: Global) -> Self
-        ensures taken { HasTaken [] result }
+        ensures taken { HasTaken [] [] result }
     {
         Session {
             alloc,
@@ -57,7 +59,11 @@ impl Session {
     }
 
     /// This clause is not judged, as by a line `allow`. `NotADirectory` is judged all the same.
-    pub fn allow(&mut self, clause: Clause) {
+    pub fn allow(&mut self, clause: Clause)
+        ensures taken { clause ≢ NotADirectory → (given : List Clause) → HasTaken given [] self.old
+            → HasTaken (clause ∷ given) [] self.new }
+        ensures still { clause ≡ NotADirectory → self.new ≡ self.old }
+    {
         if clause != Clause::NotADirectory {
             self.judge.allow(clause);
         }
@@ -65,8 +71,9 @@ impl Session {
 
     /// Takes in the next line, without its end. The first is the head. After a refusal the log is not to be judged.
     pub fn line(&mut self, text: &[u8]) -> Result<(), LogFault>
-        ensures taken { (texts : List (List ℕ)) → HasTaken texts self.old → OnOk result (HasTaken (texts ++ text.now ∷ []) self.new) }
-        ensures answers { (texts : List (List ℕ)) → HasTaken texts self.old → IsWithoutTicks texts
+        ensures taken { (given : List Clause) (texts : List (List ℕ)) → HasTaken given texts self.old
+            → OnOk result (HasTaken given (texts ++ text.now ∷ []) self.new) }
+        ensures answers { (given : List Clause) (texts : List (List ℕ)) → HasTaken given texts self.old → IsWithoutTicks texts
             → Answers result (log_by (texts ++ text.now ∷ [])) }
     {
         let line = next_line(self.lines)?;
@@ -81,9 +88,10 @@ impl Session {
 
     /// The log is over. A log without a line is none.
     pub fn end(&mut self) -> Result<(), LogFault>
-        ensures still { (texts : List (List ℕ)) (l : Log) → HasTaken texts self.old → log_by texts ≡ Ok l → HasNoTicks l
-            → OnOk result (self.new ≡ self.old) }
-        ensures answers { (texts : List (List ℕ)) → HasTaken texts self.old → IsWithoutTicks texts → Answers result (log_by texts) }
+        ensures still { (given : List Clause) (texts : List (List ℕ)) (l : Log) → HasTaken given texts self.old → log_by texts ≡ Ok l
+            → HasNoTicks l → OnOk result (self.new ≡ self.old) }
+        ensures answers { (given : List Clause) (texts : List (List ℕ)) → HasTaken given texts self.old → IsWithoutTicks texts
+            → Answers result (log_by texts) }
     {
         if self.lines == 0 {
             return Err(fault_at(1, LineFault::NoLog));
@@ -122,8 +130,10 @@ impl Session {
 
     /// What was found, in the order of the lines, and at one line in the order of the law.
     pub fn findings(&self) -> &[Finding]
-        ensures found { (texts : List (List ℕ)) (l : Log) → HasTaken texts self.now → log_by texts ≡ Ok l → HasNoTicks l
-            → (number : ℕ) (c : Clause) → IsAmong result.now number c ↔ IsFinding l number c }
+        ensures found { (given : List Clause) (texts : List (List ℕ)) (l : Log) → HasTaken given texts self.now → log_by texts ≡ Ok l
+            → HasNoTicks l → (number : ℕ) (c : Clause) → IsAmong result.now number c ↔ IsFinding (with_given given l) number c }
+        ensures ordered { (given : List Clause) (texts : List (List ℕ)) (l : Log) → HasTaken given texts self.now → log_by texts ≡ Ok l
+            → HasNoTicks l → AreInOrder result.now }
     {
         self.findings.as_slice()
     }
@@ -259,6 +269,8 @@ impl Session {
             → ((a b : ℕ) → a < b → lines a < lines b) → ((a : ℕ) → 0 < lines a) → HasFolders (at l i) step.call
             → OnOk result ((c : Clause)
             → AddsFinding c line (Breaks c (turn l i step) × (Has self.old.judge.allowed c → ⊥)) self.old self.new) }
+        ensures ordered { AreInOrder self.old.findings.items → AreEarlier self.old.findings.items line 0
+            → OnOk result (AreInOrder self.new.findings.items) }
     {
         self.judge.go_to(moment);
         self.judge.step(moment, step)?;
@@ -273,6 +285,8 @@ impl Session {
         ensures keeps { OnOk result (KeepsHead self.old self.new) }
         ensures judge { OnOk result (self.new.judge ≡ self.old.judge) }
         ensures found { OnOk result ((c : Clause) → AddsFinding c line ((clause ≡ c) × IsBroken self.old.judge c) self.old self.new) }
+        ensures ordered { OnOk result (AreInOrder self.old.findings.items → AreEarlier self.old.findings.items line (clause_index clause)
+            → AreInOrder self.new.findings.items × AreEarlier self.new.findings.items line (suc (clause_index clause))) }
     {
         if self.judge.is_broken(clause) {
             let before = self.judge.before(clause);

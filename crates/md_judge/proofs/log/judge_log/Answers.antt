@@ -3,8 +3,9 @@ use Rattle.std.proofs.lemmas.Result.{err_from_is_err_and}
 use Rattle.md_head.specs.Header.{lines_of}
 use Rattle.md_judge.specs.declared.log.Finding.{Finding}
 use Rattle.md_judge.specs.Law.{IsFinding}
+use Rattle.md_judge.specs.Ordered.{AreInOrder}
 use Rattle.md_judge.specs.Verdict.{IsAmong}
-use Rattle.md_judge.proofs.Taken.{takes-next, taken-all, text-stays, log-is, found-all}
+use Rattle.md_judge.proofs.Taken.{takes-next, taken-all, text-stays, log-is, found-all, ordered-all}
 use Rattle.md_judge.proofs.log.judge_log.Goals as goal
 
 pub loop-text-init : goal.loop-text-init
@@ -13,20 +14,20 @@ loop-text-init c = ([], refl, c.new-session.ensures.taken)
 pub loop-text-preserved : goal.loop-text-preserved
 loop-text-preserved c =
     takes-next c.args.log.now c.in-Some.text.now (lines_of c.loop-text.left.now) (lines_of c.in-Some.others.now) c.loop-text.session c.line.new.self
-    c.in-Some.ensures.lines c.loop-text.invariant c.in_ok-line.ensures.taken
+    c.in-Some.ensures.lines c.loop-text.invariant (c.in_ok-line.ensures.taken [])
 
 pub returns-in_err-line-clause-answers : goal.returns-in_err-line-clause-answers
 returns-in_err-line-clause-answers c =
     let p = err_from_is_err_and c.from_residual.result c.from_residual.ensures.1 in
     λ none. rw (p.1, p.2)
     (text-stays c.args.log.now c.in-Some.text.now (lines_of c.loop-text.left.now) (lines_of c.in-Some.others.now) c.loop-text.session _
-    c.in-Some.ensures.lines c.loop-text.invariant c.in_err-line.ensures.answers none)
+    c.in-Some.ensures.lines c.loop-text.invariant (c.in_err-line.ensures.answers []) none)
 
 pub returns-in_err-end-clause-answers : goal.returns-in_err-end-clause-answers
 returns-in_err-end-clause-answers c =
     let p = err_from_is_err_and c.from_residual-in_err-end.result c.from_residual-in_err-end.ensures.1 in
     λ none. rw (p.1, p.2) (λ known.
-    log-is c.args.log.now ∙ c.in_err-end.ensures.answers (lines_of c.args.log.now)
+    log-is c.args.log.now ∙ c.in_err-end.ensures.answers [] (lines_of c.args.log.now)
     (taken-all c.args.log.now (lines_of c.loop-text.left.now) c.loop-text.session c.in_default.ensures.lines c.loop-text.invariant) none known)
 
 pub returns : goal.returns
@@ -34,7 +35,12 @@ returns c =
     let taken = taken-all c.args.log.now (lines_of c.loop-text.left.now) c.loop-text.session c.in_default.ensures.lines c.loop-text.invariant in
     record {
       found = λ l is none n o.
-          let all = found-all c.args.log.now c.loop-text.session c.end.new.self taken (c.in_ok-end.ensures.still (lines_of c.args.log.now)) l is none n o in
+          let still = c.in_ok-end.ensures.still [] (lines_of c.args.log.now) in
+          let all = found-all c.args.log.now c.loop-text.session c.end.new.self taken still l is none n o in
           subst (λ (fs : List Finding). IsAmong fs n o ↔ IsFinding l n o) (λ i. (sym c.into_findings.ensures i).items) all;
-      answers = λ none. ap is_ok (log-is c.args.log.now) ∙ c.in_ok-end.ensures.answers (lines_of c.args.log.now) taken none;
+      ordered = λ l is none.
+          let still = c.in_ok-end.ensures.still [] (lines_of c.args.log.now) in
+          subst (λ (fs : List Finding). AreInOrder fs) (λ i. (sym c.into_findings.ensures i).items)
+          (ordered-all c.args.log.now c.loop-text.session c.end.new.self taken still l is none);
+      answers = λ none. ap is_ok (log-is c.args.log.now) ∙ c.in_ok-end.ensures.answers [] (lines_of c.args.log.now) taken none;
     }

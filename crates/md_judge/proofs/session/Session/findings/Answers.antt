@@ -1,11 +1,16 @@
 use Rattle.std.proofs.Common.{List, ◌↔◌, sym, subst}
 use Rattle.md_judge.specs.declared.log.Finding.{Finding}
 use Rattle.md_judge.specs.Law.{IsFinding}
+use Rattle.md_judge.specs.Ordered.{AreInOrder}
+use Rattle.md_judge.specs.Taken.{with_given}
 use Rattle.md_judge.specs.Verdict.{IsAmong}
 use Rattle.md_judge.proofs.session.Session.findings.Goals as goal
 
 pub returns : goal.returns
 returns c = record {
-  found = λ texts l taken is ticks n o.
-      subst (λ (fs : List Finding). IsAmong fs n o ↔ IsFinding l n o) (sym c.as_slice.ensures.value) ((taken.read l is ticks).found n o);
+  found = λ given texts l taken is ticks n o.
+      subst (λ (fs : List Finding). IsAmong fs n o ↔ IsFinding (with_given given l) n o) (sym c.as_slice.ensures.value)
+      ((taken.read l is ticks).found n o);
+  ordered = λ given texts l taken is ticks.
+      subst (λ (fs : List Finding). AreInOrder fs) (sym c.as_slice.ensures.value) (taken.read l is ticks).ordered;
 }

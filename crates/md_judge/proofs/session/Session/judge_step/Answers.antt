@@ -3,7 +3,8 @@ use Rattle.md_judge.specs.declared.judge.Judge.{Judge}
 use Rattle.md_log.specs.declared.clause.Clause.TheVariants as clause
 use Rattle.md_judge.specs.Law.{turn, Breaks}
 use Rattle.md_judge.specs.Verdict.{Remembers}
-use Rattle.md_judge.proofs.Verdicts.{clauses, adds-next, adds-all}
+use Rattle.md_judge.proofs.Ordered.{ordered-next}
+use Rattle.md_judge.proofs.Verdicts.{clauses, clauses-numbered, adds-next, adds-all}
 use Rattle.md_judge.proofs.session.Session.judge_step.Goals as goal
 
 pub loop-clause-preserved : goal.loop-clause-preserved
@@ -21,12 +22,19 @@ loop-clause-preserved c =
       found = λ o. adds-next o c.args.line clauses c.loop-clause.clause-index clause.NotADirectory c.step.new.self
           (record c.args.self.now { judge = c.step.new.self }) c.loop-clause.self c.note.new.self c.loop-clause-test.true before.judge
           (before.found o) (after.found o);
+      ordered = λ order earlier.
+          let was = before.ordered order earlier in
+          ordered-next clauses c.args.line c.loop-clause.clause-index clause.NotADirectory c.loop-clause.self.findings.items
+          c.note.new.self.findings.items clauses-numbered c.loop-clause-test.true was.0 was.1 after.ordered;
     }
 
 pub returns-clause-told : goal.returns-clause-told
 returns-clause-told c = λ lines l i told is here short there.
     subst (λ (j : Judge). Remembers lines l (suc i) j) (sym c.loop-clause.invariant.judge)
     (c.in_ok-step.ensures.told lines l i (c.go_to.ensures.told lines l i told) is here short c.go_to.ensures.now there)
+
+pub returns-clause-ordered : goal.returns-clause-ordered
+returns-clause-ordered c = λ order earlier. (c.loop-clause.invariant.ordered order earlier).0
 
 pub returns-clause-found : goal.returns-clause-found
 returns-clause-found c = λ lines l i told is here short rises above there o.

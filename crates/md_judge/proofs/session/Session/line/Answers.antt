@@ -1,5 +1,6 @@
 use Rattle.std.proofs.Common.{suc, ◌≡◌, ◌∷◌, ◌++◌, ℕ, List, [], Ok, IsOk, Result, length, sym, subst, ◌∙◌, arith}
 use Rattle.std.proofs.lemmas.Result.{err_from_is_err_and}
+use Rattle.md_log.specs.declared.clause.Clause.{Clause}
 use Rattle.md_log.specs.declared.error.LogFault.{LogFault}
 use Rattle.md_judge.specs.declared.session.Session.{Session}
 use Rattle.md_judge.specs.Logs.{log_by}
@@ -13,23 +14,23 @@ use Rattle.md_judge.proofs.session.Session.line.Goals.{then-line-gt1+in_ok-take,
 pub returns-in_err-take-clause-answers : goal.returns-in_err-take-clause-answers
 returns-in_err-take-clause-answers c =
     let p = err_from_is_err_and c.from_residual-in_err-take.result c.from_residual-in_err-take.ensures.1 in
-    λ texts taken none.
+    λ given texts taken none.
     let next = c.in_ok-line.ensures.next in
     let has = taken.lines in
     let number = c.in_ok-line.line in
     let one : number ≡ suc (length texts) = omega (arith, next, has) in
-    answers-line c.from_residual-in_err-take.result texts c.args.text.now c.args.self.now number taken one
+    answers-line c.from_residual-in_err-take.result given texts c.args.text.now c.args.self.now number taken one
     (λ low. absurd (let high = c.if-line-gt1.true in omega (arith, low, high)))
     (λ high l read. rw (p.1, p.2) (c.in_err-take.ensures.answers l read)) none
 
 pub returns : goal.returns
 returns c = record {
-  taken = λ texts taken.
+  taken = λ given texts taken.
       let next = c.in_ok-line.ensures.next in
       let has = taken.lines in
       let number = c.in_ok-line.line in
       let one : number ≡ suc (length texts) = omega (arith, next, has) in
-      takes-line texts c.args.text.now c.args.self.now c.if-line-gt1.self number taken one
+      takes-line given texts c.args.text.now c.args.self.now c.if-line-gt1.self number taken one
       (λ low. elim c.if-line-gt1.branch [
         | then-line-gt1+in_ok-take w ↦ absurd (let high = w.if-line-gt1.true in omega (arith, low, high))
         | else-line-gt1+else-ne w ↦ w.self-is
@@ -39,19 +40,19 @@ returns c = record {
             subst (λ (v : Session). HasRead (suc number) l' v) (sym w.self-is) (w.in_ok-take.ensures.read l l' read is ticks)
         | else-line-gt1+else-ne w ↦ absurd (let low = w.if-line-gt1.false in omega (arith, low, high))
       ])
-      (λ none. answered texts taken (without-shorter texts (c.args.text.now ∷ []) none));
+      (λ none. answered given texts taken (without-shorter texts (c.args.text.now ∷ []) none));
   answers = answered;
 }
   where
-    answered : (texts : List (List ℕ)) → HasTaken texts c.args.self.now → IsWithoutTicks texts
+    answered : (given : List Clause) (texts : List (List ℕ)) → HasTaken given texts c.args.self.now → IsWithoutTicks texts
         → IsOk (log_by (texts ++ c.args.text.now ∷ []))
-    answered texts taken none =
+    answered given texts taken none =
         let next = c.in_ok-line.ensures.next in
         let has = taken.lines in
         let number = c.in_ok-line.line in
         let one : number ≡ suc (length texts) = omega (arith, next, has) in
         let done : Result (Unit {0}) LogFault = Ok tt in
-        answers-line done texts c.args.text.now c.args.self.now number taken one
+        answers-line done given texts c.args.text.now c.args.self.now number taken one
         (λ low. elim c.if-line-gt1.branch [
           | then-line-gt1+in_ok-take w ↦ absurd (let high = w.if-line-gt1.true in omega (arith, low, high))
           | else-line-gt1+else-ne w ↦ head-is c.args.text.now (sym w.ne.ensures ∙ w.if-ne.false)

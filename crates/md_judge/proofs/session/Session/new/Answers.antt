@@ -1,5 +1,6 @@
 use Rattle.std.proofs.Common.{refl, arith}
 use Rattle.md_judge.specs.Logs.{empty_log}
+use Rattle.md_judge.proofs.Ordered.{none-ordered}
 use Rattle.md_judge.proofs.Prefixes.{finding-none}
 use Rattle.md_judge.proofs.Verdicts.{no-step}
 use Rattle.md_judge.proofs.Whole.{none-among, none-allowed}
@@ -25,6 +26,7 @@ returns c = record {
         λ among. absurd (none-among c.new-3.result.items n o c.new-3.ensures.items among),
         λ is. absurd (finding-none empty_log n o refl is),
       );
+      ordered = none-ordered c.new-3.result.items c.new-3.ensures.items;
     };
     log = λ none some. absurd (some refl);
     read = λ l is ticks. absurd (cc is);

@@ -1,4 +1,5 @@
 use Rattle.std.proofs.Common.{refl}
+use Rattle.md_judge.proofs.Ordered.{one-ordered}
 use Rattle.md_judge.proofs.Verdicts.{adds-one}
 use Rattle.md_judge.proofs.session.Session.note.Goals as goal
 
@@ -6,3 +7,8 @@ pub returns-in_ok-add-clause-found : goal.returns-in_ok-add-clause-found
 returns-in_ok-add-clause-found c = λ o.
     adds-one c.args.clause o c.args.line _ c.args.self.now.findings.items c.push.new.self.items c.args.self.now.judge
     (c.if-is_broken.ensures.0 refl) c.in_ok-push.ensures.items
+
+pub returns-in_ok-add-clause-ordered : goal.returns-in_ok-add-clause-ordered
+returns-in_ok-add-clause-ordered c =
+    one-ordered c.args.self.now.findings.items c.push.new.self.items (record { line = c.args.line; clause = c.args.clause; before = _ })
+    c.in_ok-push.ensures.items

@@ -7,6 +7,7 @@ returns c = record {
       let idle = (c.in_ok-judge_stretch.ensures.idle read.waits).1 in
       on-ok-same _ c.judge_step-judged.result c.done_at-2.result c.done_at-2.ensures.variant
       (step-read-on c.args.number l c.args.step c.args.self.now c.judge_step-judged.new.self read c.judge_stretch.new.self idle
-      c.judge_step-judged.result c.judge_step-judged.ensures.keeps c.judge_step-judged.ensures.told c.judge_step-judged.ensures.found short there);
+      c.judge_step-judged.result c.judge_step-judged.ensures.keeps c.judge_step-judged.ensures.told c.judge_step-judged.ensures.found
+      c.judge_step-judged.ensures.ordered short there);
   refused = λ waits. c.done_at-2.ensures.fault;
 }
