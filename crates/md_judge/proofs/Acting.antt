@@ -10,13 +10,13 @@ use Rattle.md_log.specs.declared.line.Naming.{Naming}
 use Rattle.md_log.specs.declared.line.Call.{Call}
 use Rattle.md_log.specs.declared.line.Call.TheVariants as call
 use Rattle.md_log.specs.declared.line.Step.{Step}
-use Rattle.md_judge.specs.declared.judge.directories.Spot.{Spot}
-use Rattle.md_judge.specs.declared.judge.found.Found.{Found}
+use Rattle.md_clauses.specs.declared.changes.Spot.{Spot}
+use Rattle.md_clauses.specs.declared.found.Found.{Found}
 use Rattle.md_judge.specs.declared.judge.known.Known.{Known}
-use Rattle.md_judge.specs.declared.judge.acts.Change.{Change}
+use Rattle.md_clauses.specs.declared.changes.Change.{Change}
 use Rattle.md_judge.specs.declared.judge.known.Act.{Act}
 use Rattle.md_judge.specs.Acts.{ReadsNone, IsWrongAsk, IsActOf, Does}
-use Rattle.md_judge.specs.Found.{Has, Keeps, NotesOne}
+use Rattle.md_clauses.specs.Found.{Has, Keeps, NotesOne}
 use Rattle.md_judge.specs.Known.{EachSpot, Leaves}
 use Rattle.md_judge.specs.Law.{Turn, turn, IsWrongReply, IsWrongCall, NotADirectory, Overwrites, Overwritten}
 use Rattle.md_judge.specs.Changes.{Leads}

@@ -9,7 +9,7 @@ use Rattle.md_log.specs.declared.line.Call.TheVariants as call
 use Rattle.md_log.specs.declared.line.Reply.{Reply}
 use Rattle.md_log.specs.declared.line.Said.{Said}
 use Rattle.md_log.specs.declared.line.Step.{Step}
-use Rattle.md_judge.specs.declared.judge.about.About.{About}
+use Rattle.md_clauses.specs.declared.about.About.{About}
 use Rattle.md_judge.specs.declared.judge.about.Actors.{Actors}
 use Rattle.std.specs.BTreeMap.{get, is_at, IsEmpty}
 use Rattle.std.specs.Map.{lookup}

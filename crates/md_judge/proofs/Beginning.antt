@@ -20,7 +20,7 @@ use Rattle.md_log.specs.Bind.{◌>>=◌}
 use Rattle.md_log.specs.Words.{require}
 use Rattle.md_log.specs.declared.error.LineFault.TheVariants.{SamePath, NoSuchPath}
 use Rattle.md_judge.specs.declared.judge.directories.Directory.{Directory}
-use Rattle.md_judge.specs.declared.judge.directories.Spot.{Spot}
+use Rattle.md_clauses.specs.declared.changes.Spot.{Spot}
 use Rattle.md_judge.specs.declared.judge.directories.Named.{Named}
 use Rattle.md_judge.specs.declared.judge.known.Known.{Known}
 use Rattle.md_judge.specs.declared.judge.tables.Names.{Names}

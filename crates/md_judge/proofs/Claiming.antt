@@ -8,13 +8,14 @@ use Rattle.md_log.specs.declared.line.Said.{Said}
 use Rattle.md_log.specs.declared.line.Said.TheVariants as said
 use Rattle.md_log.specs.declared.line.Call.TheVariants as call
 use Rattle.md_log.specs.declared.line.Step.{Step}
-use Rattle.md_judge.specs.declared.judge.claims.Claim.{Claim}
-use Rattle.md_judge.specs.declared.judge.held.Held.{Held}
-use Rattle.md_judge.specs.declared.judge.mail.Presence.{Presence}
+use Rattle.md_clauses.specs.declared.claims.Claim.{Claim}
+use Rattle.md_clauses.specs.declared.claims.Held.{Held}
+use Rattle.md_clauses.specs.declared.claims.Presence.{Presence}
 use Rattle.md_judge.specs.Logs.{Log}
 use Rattle.md_judge.specs.Told.{at, IsThere, IsSpan}
 use Rattle.md_judge.specs.Law.{Turn, turn, IsSuccess, LostAndLeft, IsSo, GaveUp}
-use Rattle.md_judge.specs.Claims.{HasLooked, GivesUp, WasHeld, HasMoved, WasAbsent, IsUpheld, ClaimFinds, IsLook, IsMove, IsLastLine, HasFlags, IsLastMoment, RecallsHeld, IsSince, RecallsPresence, RecallsSo, IsAnswerOf, BrokenByClaim}
+use Rattle.md_clauses.specs.Claims.{HasLooked, GivesUp, WasHeld, HasMoved, WasAbsent, IsUpheld}
+use Rattle.md_judge.specs.Claims.{ClaimFinds, IsLook, IsMove, IsLastLine, HasFlags, IsLastMoment, RecallsHeld, IsSince, RecallsPresence, RecallsSo, IsAnswerOf, BrokenByClaim}
 
 -- ---- the span of an answer is one
 

@@ -5,15 +5,15 @@ use Rattle.md_name.specs.Names.{unique_of}
 use Rattle.md_dirs.specs.declared.paths.Path.{Path}
 use Rattle.md_log.specs.declared.line.Step.{Step}
 use Rattle.md_log.specs.declared.clause.Clause.TheVariants as clause
-use Rattle.md_judge.specs.declared.judge.acts.Change.{Change}
-use Rattle.md_judge.specs.declared.judge.directories.Spot.{Spot}
-use Rattle.md_judge.specs.declared.judge.found.Found.{Found}
+use Rattle.md_clauses.specs.declared.changes.Change.{Change}
+use Rattle.md_clauses.specs.declared.changes.Spot.{Spot}
+use Rattle.md_clauses.specs.declared.found.Found.{Found}
 use Rattle.md_judge.specs.declared.judge.mail.Mail.{Mail}
 use Rattle.md_judge.specs.declared.judge.mail.Message.{Message}
 use Rattle.md_judge.specs.declared.judge.tables.Names.{Names}
 use Rattle.md_judge.specs.Changes.{IsPathOf, Leads}
 use Rattle.md_judge.specs.Files.{unique_in}
-use Rattle.md_judge.specs.Found.{Notes}
+use Rattle.md_clauses.specs.Found.{Notes}
 use Rattle.md_judge.specs.Known.{EachPath, EachSpot}
 use Rattle.md_judge.specs.Law.{turn, TwoNames, UsedAgain}
 use Rattle.md_judge.specs.Listings.{message_of}

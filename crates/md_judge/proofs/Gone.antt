@@ -1,27 +1,25 @@
 -- What is found where a path was taken, or none was, is what the law has, where what is kept of messages is what the log tells.
-use Rattle.std.proofs.Common.{ℕ, suc, ◌≡◌, ◌↔◌, ◌<◌, ◌⊎◌, inl, inr, Bool, true, false, List, not, Option, Some, None, IsTrue, slice_get, refl, sym, ap, subst, ◌∙◌, ◌&&◌, arith}
-use Rattle.std.specs.Option.{option_map}
+use Rattle.std.proofs.Common.{ℕ, suc, ◌≡◌, ◌↔◌, ◌<◌, inl, inr, true, List, not, Option, Some, None, IsTrue, slice_get, refl, sym, ap, subst, ◌∙◌, arith}
 use Rattle.std.proofs.lemmas.Bool.{and_parts}
 use Rattle.md_name.specs.Names.{unique_of, is_message_name}
 use Rattle.md_dirs.specs.State.{file_at}
 use Rattle.md_dirs.specs.declared.paths.Path.{Path}
-use Rattle.md_dirs.specs.declared.paths.Place.{Place}
 use Rattle.md_log.specs.declared.line.Step.{Step}
 use Rattle.md_log.specs.declared.clause.Clause.TheVariants as clause
 use Rattle.md_log.specs.declared.line.Reply.TheVariants as reply
 use Rattle.md_log.specs.declared.line.Deed.TheVariants as deed
 use Rattle.md_log.specs.declared.line.Call.TheVariants as call
-use Rattle.md_judge.specs.declared.judge.acts.Change.{Change}
-use Rattle.md_judge.specs.declared.judge.directories.Spot.{Spot}
-use Rattle.md_judge.specs.declared.judge.found.Found.{Found}
-use Rattle.md_judge.specs.declared.judge.goings.Going.{Going}
+use Rattle.md_clauses.specs.declared.changes.Change.{Change}
+use Rattle.md_clauses.specs.declared.changes.Spot.{Spot}
+use Rattle.md_clauses.specs.declared.found.Found.{Found}
+use Rattle.md_clauses.specs.declared.messages.Going.{Going}
 use Rattle.md_judge.specs.declared.judge.mail.Mail.{Mail}
 use Rattle.md_judge.specs.declared.judge.mail.Message.{Message}
 use Rattle.md_judge.specs.declared.judge.tables.Names.{Names}
 use Rattle.md_judge.specs.Changes.{IsPathOf, Leads}
 use Rattle.md_judge.specs.Copies.{copies_of}
 use Rattle.md_judge.specs.Files.{unique_in, is_trashed_in}
-use Rattle.md_judge.specs.Found.{Has, Notes, NotesOne}
+use Rattle.md_clauses.specs.Found.{Notes, NotesOne}
 use Rattle.md_judge.specs.Known.{EachPath, EachSpot}
 use Rattle.md_judge.specs.Law.{turn, Gone}
 use Rattle.md_judge.specs.Listings.{message_of}

@@ -9,9 +9,9 @@ use Rattle.md_log.specs.declared.line.Step.{Step}
 use Rattle.md_name.specs.Letters.{Set, IsOfLetters}
 use Rattle.md_name.specs.Names.{unique_of, info_of, flags_of, split_of, is_message_name}
 use Rattle.md_name.specs.declared.info.Info.{Info}
-use Rattle.md_judge.specs.declared.judge.directories.Spot.{Spot}
-use Rattle.md_judge.specs.declared.judge.claims.Claim.{Claim}
-use Rattle.md_judge.specs.declared.judge.held.Held.{Held}
+use Rattle.md_clauses.specs.declared.changes.Spot.{Spot}
+use Rattle.md_clauses.specs.declared.claims.Claim.{Claim}
+use Rattle.md_clauses.specs.declared.claims.Held.{Held}
 use Rattle.md_judge.specs.declared.judge.known.Known.{Known}
 use Rattle.md_judge.specs.declared.judge.tables.Names.{Names}
 use Rattle.md_judge.specs.Claims.{HasFlags, IsLastMoment, RecallsHeld, RecallsSo}

@@ -13,19 +13,21 @@ use Rattle.md_log.specs.declared.line.Deed.TheVariants as deed
 use Rattle.md_log.specs.declared.line.Call.{Call}
 use Rattle.md_log.specs.declared.line.Call.TheVariants as call
 use Rattle.md_log.specs.declared.line.Step.{Step}
-use Rattle.md_judge.specs.declared.judge.acts.Change.{Change}
-use Rattle.md_judge.specs.declared.judge.directories.Spot.{Spot}
-use Rattle.md_judge.specs.declared.judge.facts.FileFacts.{FileFacts}
+use Rattle.md_clauses.specs.declared.changes.Change.{Change}
+use Rattle.md_clauses.specs.declared.changes.Spot.{Spot}
+use Rattle.md_clauses.specs.declared.facts.FileFacts.{FileFacts}
 use Rattle.md_judge.specs.declared.judge.files.Filed.{Filed}
-use Rattle.md_judge.specs.declared.judge.found.Found.{Found}
+use Rattle.md_clauses.specs.declared.found.Found.{Found}
 use Rattle.md_judge.specs.declared.judge.known.Act.{Act}
 use Rattle.md_judge.specs.declared.judge.known.Known.{Known}
 use Rattle.md_judge.specs.declared.judge.tables.Names.{Names}
 use Rattle.md_judge.specs.Acts.{Does}
 use Rattle.md_judge.specs.Changes.{IsPathOf, Leads}
 use Rattle.md_judge.specs.Filed.{IsSeenBy, IsSeenTimes, IsFiled, HasFiles, AreFiled, IsJudged, BrokenByFiles}
-use Rattle.md_judge.specs.Files.{made, facts_at, named_by, AtStep, CallStep, ChangeStep}
-use Rattle.md_judge.specs.Found.{Notes}
+use Rattle.md_clauses.specs.Facts.{made}
+use Rattle.md_clauses.specs.Changes.{named_by}
+use Rattle.md_judge.specs.Files.{facts_at, AtStep, CallStep, ChangeStep}
+use Rattle.md_clauses.specs.Found.{Notes}
 use Rattle.md_judge.specs.Known.{EachPath, EachSpot, files_after}
 use Rattle.md_judge.specs.Law.{Turn, turn}
 use Rattle.md_judge.specs.Logs.{Log}

@@ -12,16 +12,17 @@ use Rattle.md_log.specs.declared.line.Reply.TheVariants as reply
 use Rattle.md_log.specs.declared.line.Deed.{Deed}
 use Rattle.md_log.specs.declared.line.Deed.TheVariants as deed
 use Rattle.md_log.specs.declared.line.Step.{Step}
-use Rattle.md_judge.specs.declared.judge.directories.Spot.{Spot}
-use Rattle.md_judge.specs.declared.judge.acts.Change.{Change}
-use Rattle.md_judge.specs.declared.judge.facts.FileFacts.{FileFacts}
+use Rattle.md_clauses.specs.declared.changes.Spot.{Spot}
+use Rattle.md_clauses.specs.declared.changes.Change.{Change}
+use Rattle.md_clauses.specs.declared.facts.FileFacts.{FileFacts}
 use Rattle.md_judge.specs.declared.judge.files.Filed.{Filed}
 use Rattle.md_judge.specs.declared.judge.tables.Names.{Names}
 use Rattle.md_judge.specs.Logs.{Log}
 use Rattle.md_judge.specs.Told.{at, moment, is_message, IsSeen, IsMaker}
 use Rattle.md_judge.specs.Law.{turn, Writes, BeginsToBeSeen, Leaves}
 use Rattle.md_judge.specs.Changes.{IsPathOf}
-use Rattle.md_judge.specs.Files.{facts_at, is_message_in, named_by, turned_by, WriteFinds, AtFinds, NamedFinds, NameFinds, LeftFinds, LeaveFinds, ChangeFinds}
+use Rattle.md_clauses.specs.Changes.{named_by, turned_by}
+use Rattle.md_judge.specs.Files.{facts_at, is_message_in, WriteFinds, AtFinds, NamedFinds, NameFinds, LeftFinds, LeaveFinds, ChangeFinds}
 use Rattle.md_judge.specs.Recalls.{IsBy, Acts, IsMadeBy, Recalls, RecallsMaker, RecallsLeft, IsAt, IsChange, BrokenAt, BrokenByChange}
 use Rattle.md_judge.proofs.Named.{now-names, names-now, now-leaves, leaves-now}
 

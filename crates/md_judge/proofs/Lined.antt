@@ -11,7 +11,7 @@ use Rattle.md_judge.specs.Listings.{message_cmp}
 use Rattle.md_judge.specs.Open.{Listings}
 use Rattle.md_judge.proofs.Keeping.{tied}
 use Rattle.md_judge.proofs.Reopened.{one-number}
-use Rattle.md_judge.specs.declared.judge.about.About.{About}
+use Rattle.md_clauses.specs.declared.about.About.{About}
 use Rattle.md_judge.specs.declared.judge.about.Actors.{Actors}
 use Rattle.md_judge.specs.declared.judge.about.Lines.{Lines}
 use Rattle.md_judge.specs.Actors.{kept, Puts, IsOther, no_about, done_by, no_lines, lines_of, is_about, begun_by, looked_of, looked_by, IsAnswered, SameAct, KeepsActs, NotesAct, NotesLook, Tells, PutsAbout}

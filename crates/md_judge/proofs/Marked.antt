@@ -1,5 +1,5 @@
 -- What is kept of the ends of names: whether a message's name shows the flag T, and which ends show the same flags.
-use Rattle.std.proofs.Common.{ℕ, suc, ◌≡◌, ◌↔◌, ◌<◌, ◌+◌, ◌/◌, ◌%◌, ◌++◌, ◌||◌, ◌⊎◌, Global, not, inl, inr, Bool, true, false, cond, List, [], ◌∷◌, Option, Some, None, nat_eq, IsTrue, unwrap_or, slice_get, length, drop, refl, sym, ap, subst, ◌∙◌, arith}
+use Rattle.std.proofs.Common.{ℕ, suc, ◌≡◌, ◌↔◌, ◌+◌, ◌/◌, ◌%◌, ◌++◌, ◌||◌, ◌⊎◌, Global, not, inl, inr, Bool, true, false, cond, List, [], ◌∷◌, Option, Some, None, nat_eq, IsTrue, unwrap_or, slice_get, length, drop, refl, sym, ap, subst, ◌∙◌, arith}
 use Rattle.std.specs.Prelude.{if◌then◌else◌}
 use Rattle.std.specs.List.{list_any, position_or_len, after_first}
 use Rattle.std.specs.BTreeMap.{BTreeMap, get}
@@ -17,7 +17,7 @@ use Rattle.md_name.specs.Letters.{Set}
 use Rattle.md_name.specs.declared.info.Info.{Info}
 use Rattle.md_name.specs.Names.{is_colon, unique_of, info_text, info_by, info_of, flags_of, split_of, is_message_name}
 use Rattle.md_dirs.specs.declared.paths.Path.{Path}
-use Rattle.md_judge.specs.declared.judge.directories.Spot.{Spot}
+use Rattle.md_clauses.specs.declared.changes.Spot.{Spot}
 use Rattle.md_judge.specs.declared.judge.tables.Names.{Names}
 use Rattle.md_judge.specs.Files.{is_trashed_in}
 use Rattle.md_judge.specs.Flags.{bits_of}

@@ -1,10 +1,11 @@
 -- What a change makes of the moments of names: those of its parts, one after the other.
 use Rattle.std.proofs.Common.{ℕ, ◌≡◌, ◌<◌, ◌+◌, ◌^◌, true, false, cond, List, Option, Some, None, refl, ap, ◌∙◌, length, unwrap_or, arith}
-use Rattle.md_judge.specs.declared.judge.directories.Spot.{Spot}
+use Rattle.md_clauses.specs.declared.changes.Spot.{Spot}
 use Rattle.md_judge.specs.declared.judge.directories.Directory.{Directory}
-use Rattle.md_judge.specs.declared.judge.acts.Change.{Change}
+use Rattle.md_clauses.specs.declared.changes.Change.{Change}
 use Rattle.md_judge.specs.Known.{number_at, is_same_spot, after_put, after_spot_added, after_spot_taken, EachPath, EachTurned}
-use Rattle.md_judge.specs.Moments.{kept_moment, since_in, was_in, PutsMoments, since_turned, MakesMoments}
+use Rattle.md_clauses.specs.Moments.{kept_moment}
+use Rattle.md_judge.specs.Moments.{since_in, was_in, PutsMoments, since_turned, MakesMoments}
 use Rattle.md_judge.proofs.Following.{same-spot}
 use Rattle.std.specs.Option.{option_map}
 

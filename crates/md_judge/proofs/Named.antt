@@ -3,10 +3,10 @@ use Rattle.std.proofs.Common.{ℕ, ◌≡◌, ◌≢◌, ◌⊎◌, inl, inr, Op
 use Rattle.std.specs.Option.{option_map}
 use Rattle.md_dirs.specs.State.{State, file_at}
 use Rattle.md_dirs.specs.declared.paths.Path.{Path}
-use Rattle.md_judge.specs.declared.judge.directories.Spot.{Spot}
-use Rattle.md_judge.specs.declared.judge.acts.Change.{Change}
+use Rattle.md_clauses.specs.declared.changes.Spot.{Spot}
+use Rattle.md_clauses.specs.declared.changes.Change.{Change}
 use Rattle.md_judge.specs.Changes.{IsPathOf, IsTurnOf, Leads}
-use Rattle.md_judge.specs.Files.{named_of, named_by, turned_by}
+use Rattle.md_clauses.specs.Changes.{named_of, named_by, turned_by}
 
 module _ (path : Spot → Path) (c : Change) (s s' : State) (leads : Leads path c s s') (p : Path) (n : ℕ) where
   turned-names : (u : Option (Spot × ℕ × ℕ)) (m : ℕ) → IsTurnOf path u p m n → IsPathOf path (named_of u c.added) p n

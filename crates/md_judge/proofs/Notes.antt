@@ -1,8 +1,8 @@
 -- What is found by a note.
 use Rattle.std.proofs.Common.{◌↔◌, inl, inr}
 use Rattle.md_log.specs.declared.clause.Clause.{Clause}
-use Rattle.md_judge.specs.declared.judge.found.Found.{Found}
-use Rattle.md_judge.specs.Found.{Notes}
+use Rattle.md_clauses.specs.declared.found.Found.{Found}
+use Rattle.md_clauses.specs.Found.{Notes}
 
 -- what is noted of each clause alike is noted alike
 pub renoted : (P Q : Clause → Type 0) → ((c : Clause) → P c ↔ Q c) → (old new : Found) → Notes P old new → Notes Q old new

@@ -13,14 +13,15 @@ use Rattle.md_dirs.proofs.Sound.{file-within}
 use Rattle.md_log.specs.Bind.{◌>>=◌}
 use Rattle.md_log.specs.Words.{require}
 use Rattle.md_log.specs.declared.error.LineFault.TheVariants.{SamePath, NoSuchPath}
-use Rattle.md_judge.specs.declared.judge.acts.Change.{Change}
-use Rattle.md_judge.specs.declared.judge.directories.Spot.{Spot}
-use Rattle.md_judge.specs.declared.judge.facts.FileFacts.{FileFacts}
+use Rattle.md_clauses.specs.declared.changes.Change.{Change}
+use Rattle.md_clauses.specs.declared.changes.Spot.{Spot}
+use Rattle.md_clauses.specs.declared.facts.FileFacts.{FileFacts}
 use Rattle.md_judge.specs.declared.judge.files.Filed.{Filed}
 use Rattle.md_judge.specs.declared.judge.tables.Names.{Names}
 use Rattle.md_judge.specs.Changes.{Leads}
 use Rattle.md_judge.specs.Filed.{IsSeenBy, IsSeenTimes, IsFiled, HasFiles, AreFiled}
-use Rattle.md_judge.specs.Files.{made, named, facts_at, Changes, Adds, ChangeStep}
+use Rattle.md_clauses.specs.Facts.{made}
+use Rattle.md_judge.specs.Files.{named, facts_at, Changes, Adds, ChangeStep}
 use Rattle.md_judge.specs.Known.{EachSpot}
 use Rattle.md_judge.specs.Logs.{Log, Numbered, empty_log, with_file_line, with_also_line}
 use Rattle.md_judge.specs.Recalled.{IsSpotOf}

@@ -2,10 +2,10 @@
 use Rattle.std.proofs.Common.{◌≡◌, ◌↔◌, sym, subst}
 use Rattle.md_log.specs.declared.clause.Clause.{Clause}
 use Rattle.md_log.specs.declared.clause.Clause.TheVariants as clause
-use Rattle.md_judge.specs.declared.judge.clauses.Clauses.{Clauses}
-use Rattle.md_judge.specs.declared.judge.found.Found.{Found}
+use Rattle.md_clauses.specs.declared.clauses.Clauses.{Clauses}
+use Rattle.md_clauses.specs.declared.found.Found.{Found}
 use Rattle.md_judge.specs.Filed.{BrokenByFiles}
-use Rattle.md_judge.specs.Found.{Has, KeepsMessages, GoesByFiles, KeepsFiles, NotesFiles}
+use Rattle.md_clauses.specs.Found.{Has, KeepsMessages, GoesByFiles, KeepsFiles, NotesFiles}
 use Rattle.md_judge.specs.Law.{Turn, Breaks, NotADirectory, Overwritten, TwoNames, Gone, UsedAgain, Unlisted, GaveUp, AnsweredFalsely}
 use Rattle.md_judge.specs.Mailed.{NotesMessages}
 use Rattle.md_judge.proofs.Sparing.{found-none, found-one}

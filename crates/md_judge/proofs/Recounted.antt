@@ -5,10 +5,10 @@ use Rattle.std.specs.Ordering.{nat_cmp}
 use Rattle.std.specs.BTreeMap.{get}
 use Rattle.md_dirs.specs.State.{State, file_at}
 use Rattle.md_dirs.specs.declared.paths.Path.{Path}
-use Rattle.md_judge.specs.declared.judge.directories.Spot.{Spot}
+use Rattle.md_clauses.specs.declared.changes.Spot.{Spot}
 use Rattle.md_judge.specs.declared.judge.directories.Named.{Named}
 use Rattle.md_judge.specs.declared.judge.directories.Directory.{Directory}
-use Rattle.md_judge.specs.declared.judge.acts.Change.{Change}
+use Rattle.md_clauses.specs.declared.changes.Change.{Change}
 use Rattle.md_judge.specs.declared.judge.known.Known.{Known}
 use Rattle.md_judge.specs.Logs.{Log}
 use Rattle.md_judge.specs.Told.{at}
@@ -16,7 +16,8 @@ use Rattle.md_judge.specs.Claims.{IsSince}
 use Rattle.md_judge.specs.Changes.{Leads, IsPathOf}
 use Rattle.md_judge.specs.Known.{number_at, file_in, is_same_spot, after_put, after_spot_added, after_spot_taken, EachPath, EachSpot, IsHoused, Stands, Holds}
 use Rattle.md_judge.specs.Readings.{IsHere, RecallsWas}
-use Rattle.md_judge.specs.Moments.{kept_moment, since_in, was_in, since_turned, was_after, MakesMoments, Recounts, IsKnownAt, GoesOn}
+use Rattle.md_clauses.specs.Moments.{kept_moment}
+use Rattle.md_judge.specs.Moments.{since_in, was_in, since_turned, was_after, MakesMoments, Recounts, IsKnownAt, GoesOn}
 use Rattle.md_judge.proofs.Following.{same-spot, each-spot}
 use Rattle.md_judge.proofs.Reading.{here}
 use Rattle.std.proofs.lemmas.Bool.{cases_lt}

@@ -3,8 +3,8 @@ use Rattle.std.proofs.Common.{ℕ, suc, ◌≡◌, ◌<◌, ◌≤◌, ◌+◌, 
 use Rattle.std.proofs.lemmas.Bool.{cases_lt}
 use Rattle.std.proofs.lemmas.Option.{slice_get_within, slice_get-get_or}
 use Rattle.md_dirs.specs.declared.paths.Path.{Path}
-use Rattle.md_judge.specs.declared.judge.acts.Change.{Change}
-use Rattle.md_judge.specs.declared.judge.directories.Spot.{Spot}
+use Rattle.md_clauses.specs.declared.changes.Change.{Change}
+use Rattle.md_clauses.specs.declared.changes.Spot.{Spot}
 use Rattle.md_judge.specs.declared.judge.mail.Mail.{Mail}
 use Rattle.md_judge.specs.declared.judge.mail.Message.{Message}
 use Rattle.md_judge.specs.declared.judge.tables.Names.{Names}
@@ -13,7 +13,7 @@ use Rattle.md_judge.specs.Known.{EachPath, EachSpot}
 use Rattle.md_judge.specs.Listings.{message_of, IsIn, WasAtLine, RecalledTimes}
 use Rattle.md_judge.specs.Logs.{Log}
 use Rattle.md_judge.specs.Mailed.{count_of, AreMailed}
-use Rattle.md_judge.specs.Moments.{kept_moment}
+use Rattle.md_clauses.specs.Moments.{kept_moment}
 use Rattle.md_judge.specs.Names.{GrowsUniques}
 use Rattle.md_judge.specs.Recalled.{IsSpotOf}
 use Rattle.md_judge.specs.Timed.{times_by, since_by, TimesCome, TimesStay, TimesGo, CameAt, TurnedAt, WentAt, MakesTimes, AreTimed}

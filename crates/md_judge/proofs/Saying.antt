@@ -6,15 +6,16 @@ use Rattle.md_log.specs.declared.line.Said.{Said}
 use Rattle.md_log.specs.declared.line.Said.TheVariants as said
 use Rattle.md_log.specs.declared.line.Step.{Step}
 use Rattle.md_name.specs.Letters.{Set, IsOfLetters}
-use Rattle.md_judge.specs.declared.judge.about.About.{About}
-use Rattle.md_judge.specs.declared.judge.claims.Claim.{Claim}
+use Rattle.md_clauses.specs.declared.about.About.{About}
+use Rattle.md_clauses.specs.declared.claims.Claim.{Claim}
 use Rattle.md_judge.specs.declared.judge.known.Known.{Known}
 use Rattle.md_judge.specs.declared.judge.mail.Mail.{Mail}
 use Rattle.md_judge.specs.declared.judge.mail.Message.{Message}
 use Rattle.md_judge.specs.declared.judge.tables.Names.{Names}
 use Rattle.md_judge.specs.declared.judge.watch.Watch.{Watch}
 use Rattle.md_judge.specs.Actors.{done_by, moved_by, MovedAt}
-use Rattle.md_judge.specs.Claims.{count_of as count_there, IsLastLine, TellsAbsence, RecallsPresence, RecallsSo}
+use Rattle.md_clauses.specs.Claims.{count_of as count_there}
+use Rattle.md_judge.specs.Claims.{IsLastLine, TellsAbsence, RecallsPresence, RecallsSo}
 use Rattle.md_judge.specs.Deeds.{RecallsDeeds}
 use Rattle.md_judge.specs.Law.{turn}
 use Rattle.md_judge.specs.Listings.{times_of, message_of, IsIn, RecallsTimes, RecalledTimes}

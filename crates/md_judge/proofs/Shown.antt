@@ -10,15 +10,17 @@ use Rattle.md_dirs.specs.declared.paths.Path.{Path}
 use Rattle.md_dirs.specs.declared.paths.Place.{Place}
 use Rattle.md_dirs.specs.declared.paths.Place.TheVariants.{Tmp, New, Cur}
 use Rattle.md_dirs.proofs.Sound.{by_number}
-use Rattle.md_judge.specs.declared.judge.acts.Change.{Change}
-use Rattle.md_judge.specs.declared.judge.directories.Spot.{Spot}
-use Rattle.md_judge.specs.declared.judge.facts.FileFacts.{FileFacts}
+use Rattle.md_clauses.specs.declared.changes.Change.{Change}
+use Rattle.md_clauses.specs.declared.changes.Spot.{Spot}
+use Rattle.md_clauses.specs.declared.facts.FileFacts.{FileFacts}
 use Rattle.md_judge.specs.declared.judge.files.Filed.{Filed}
 use Rattle.md_judge.specs.declared.judge.tables.NameFacts.{NameFacts}
 use Rattle.md_judge.specs.declared.judge.tables.Names.{Names}
 use Rattle.md_judge.specs.Changes.{IsPathOf, IsTurnOf, Leads}
 use Rattle.md_judge.specs.Filed.{HoldsOf, IsSeenBy, IsSeenTimes}
-use Rattle.md_judge.specs.Files.{no_facts, facts_by, unique_by, is_message_in, is_cur, shown, hidden, named, left, facts_at, named_of, named_by, turned_by, Changes, Adds, NameStep, LeaveStep, ChangeStep}
+use Rattle.md_clauses.specs.Facts.{shown, hidden}
+use Rattle.md_clauses.specs.Changes.{named_of, named_by, turned_by}
+use Rattle.md_judge.specs.Files.{no_facts, facts_by, unique_by, is_message_in, is_cur, named, left, facts_at, Changes, Adds, NameStep, LeaveStep, ChangeStep}
 use Rattle.md_judge.specs.Known.{EachPath, EachTurned, EachSpot}
 use Rattle.md_judge.specs.Names.{StandFor}
 use Rattle.md_judge.specs.Recalled.{IsSpotOf}

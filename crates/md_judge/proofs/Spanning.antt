@@ -5,7 +5,7 @@ use Rattle.std.proofs.lemmas.Bool.{cases_lt}
 use Rattle.md_log.specs.declared.line.Reply.{Reply}
 use Rattle.md_log.specs.declared.line.Reply.TheVariants as reply
 use Rattle.md_log.specs.declared.line.Step.{Step}
-use Rattle.md_judge.specs.declared.judge.about.About.{About}
+use Rattle.md_clauses.specs.declared.about.About.{About}
 use Rattle.md_judge.specs.Actors.{SameAct, HasBegun, RecallsBegun, IsLatest, RecallsDone, LookedAt}
 use Rattle.md_judge.specs.Claims.{IsLastAct, RecallsActs, IsLastLine}
 use Rattle.md_judge.specs.Deeds.{IsUntold}

@@ -1,5 +1,6 @@
 -- What is noted of the clauses that go by files, messages, readings and answers is nothing of those that go by the paths of a step.
 use Rattle.std.proofs.Common.{ℕ, ◌≡◌, ◌↔◌, ◌⊎◌, inl, inr, List, Option, Some, None, IsTrue, IsSome, is_some, Bool, Result, Ok, Err, OnOk, refl, sym, subst, ◌∙◌}
+use Rattle.std.specs.Option.{option_map}
 use Rattle.md_dirs.specs.declared.paths.Place.{Place}
 use Rattle.md_dirs.specs.declared.paths.Place.TheVariants.{Tmp, New}
 use Rattle.md_log.specs.declared.clause.Clause.{Clause}
@@ -8,17 +9,18 @@ use Rattle.md_log.specs.declared.line.Reply.{Reply}
 use Rattle.md_log.specs.declared.line.Reply.TheVariants as reply
 use Rattle.md_log.specs.declared.line.Deed.{Deed}
 use Rattle.md_log.specs.declared.line.Deed.TheVariants as deed
-use Rattle.md_judge.specs.declared.judge.acts.Change.{Change}
-use Rattle.md_judge.specs.declared.judge.directories.Spot.{Spot}
-use Rattle.md_judge.specs.declared.judge.facts.FileFacts.{FileFacts}
+use Rattle.md_clauses.specs.declared.changes.Change.{Change}
+use Rattle.md_clauses.specs.declared.changes.Spot.{Spot}
+use Rattle.md_clauses.specs.declared.facts.FileFacts.{FileFacts}
 use Rattle.md_judge.specs.declared.judge.files.Filed.{Filed}
-use Rattle.md_judge.specs.declared.judge.found.Found.{Found}
+use Rattle.md_clauses.specs.declared.found.Found.{Found}
 use Rattle.md_judge.specs.declared.judge.mail.Message.{Message}
 use Rattle.md_judge.specs.declared.judge.tables.Names.{Names}
-use Rattle.md_judge.specs.Files.{facts_at, named_by, turned_by, WriteFinds, AtFinds, NamedFinds, NameFinds, LeftFinds, LeaveFinds, ChangeFinds}
+use Rattle.md_clauses.specs.Changes.{named_by, turned_by}
+use Rattle.md_judge.specs.Files.{facts_at, WriteFinds, AtFinds, NamedFinds, NameFinds, LeftFinds, LeaveFinds, ChangeFinds}
 use Rattle.md_judge.specs.Law.{Turn, TwoNames, Gone, UsedAgain}
 use Rattle.md_judge.specs.Mailed.{NotesMessages}
-use Rattle.md_judge.specs.Found.{Has, Notes, Keeps, NotesOne, KeepsReplies, KeepsPaths, KeepsMessages, KeepsAnswers, GoesByFiles, KeepsFiles, NotesFiles}
+use Rattle.md_clauses.specs.Found.{Has, Notes, Keeps, NotesOne, KeepsReplies, KeepsPaths, KeepsMessages, KeepsAnswers, GoesByFiles, KeepsFiles, NotesFiles}
 use Rattle.md_judge.specs.Messages.{AddFinds}
 
 -- the clause goes by more than the paths of a step, and not by answers
@@ -234,15 +236,21 @@ found-one c P Q old new nothing notes same = (
   λ q. notes.1 (inr (same.1 q)),
 )
 
+-- a change that turns a path turns it from some file
+turns : (t : Option (Spot × ℕ × ℕ)) → is_some {T = Spot × ℕ} (option_map (λ (s : Spot × ℕ × ℕ). (s.0, s.1)) t) ≡ is_some t
+turns None = refl
+turns (Some t) = refl
+
 -- A path is found turned, and what is found of other clauses is nothing of the paths of the step.
-pub turned-found : (b : Bool) (t : Option (Spot × ℕ × ℕ)) (old noting joined made : Found) → b ≡ is_some t
+pub turned-found : (b : Bool) (change : Change) (old noting joined made : Found) → b ≡ is_some (turned_by change)
     → Notes (λ c. IsTrue b × (c ≡ clause.Overwritten)) old noting → KeepsPaths noting joined → made ≡ joined
-    → Keeps clause.NotADirectory old made × NotesOne clause.Overwritten (IsSome t) old made
-turned-found b t old noting joined made is notes keeps same =
+    → Keeps clause.NotADirectory old made × NotesOne clause.Overwritten (IsSome change.turned) old made
+turned-found b change old noting joined made is notes keeps same =
     let then = keeps-on noting joined made keeps (keeps-same joined made same) in
-    let turned : IsTrue b ↔ IsSome t = (λ h. sym is ∙ h, λ h. is ∙ h) in (
+    let some = is ∙ turns change.turned in
+    let turned : IsTrue b ↔ IsSome change.turned = (λ h. sym some ∙ h, λ h. some ∙ h) in (
       keeps-one clause.NotADirectory old noting made (unnoted b clause.Overwritten clause.NotADirectory (λ e. cc) old noting notes) then.wrong,
-      notes-one clause.Overwritten (IsSome t) old noting made (noted b clause.Overwritten (IsSome t) turned old noting notes) then.overwrites,
+      notes-one clause.Overwritten (IsSome change.turned) old noting made (noted b clause.Overwritten (IsSome change.turned) turned old noting notes) then.overwrites,
     )
 
 -- what follows where a call gives a value

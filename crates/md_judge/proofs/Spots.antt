@@ -7,7 +7,7 @@ use Rattle.std.proofs.lemmas.Option.{slice_get_within}
 use Rattle.std.proofs.lemmas.Bool.{eqb-true, eq-eqb}
 use Rattle.std.proofs.lemmas.List.{length-set}
 use Rattle.md_dirs.proofs.Sound.{get-set_same, get-set_other}
-use Rattle.md_judge.specs.declared.judge.directories.Spot.{Spot}
+use Rattle.md_clauses.specs.declared.changes.Spot.{Spot}
 use Rattle.md_judge.specs.declared.judge.directories.Named.{Named}
 use Rattle.md_judge.specs.declared.judge.directories.Directory.{Directory}
 use Rattle.std.specs.Cmp.{unsigned_tied}

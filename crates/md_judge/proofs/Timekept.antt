@@ -8,7 +8,7 @@ use Rattle.md_dirs.specs.declared.paths.Path.{Path}
 use Rattle.md_dirs.specs.declared.paths.Place.{Place}
 use Rattle.md_dirs.specs.declared.paths.Place.TheVariants.{Tmp, New, Cur}
 use Rattle.md_judge.specs.declared.judge.directories.Directory.{Directory}
-use Rattle.md_judge.specs.declared.judge.directories.Spot.{Spot}
+use Rattle.md_clauses.specs.declared.changes.Spot.{Spot}
 use Rattle.md_judge.specs.declared.judge.known.Known.{Known}
 use Rattle.md_judge.specs.declared.judge.mail.Mail.{Mail}
 use Rattle.md_judge.specs.declared.judge.mail.Message.{Message}
@@ -17,7 +17,7 @@ use Rattle.md_judge.specs.Known.{number_at, file_of_name}
 use Rattle.md_judge.specs.Listings.{message_of, RecalledTimes}
 use Rattle.md_judge.specs.Logs.{Log, Numbered, empty_log}
 use Rattle.md_judge.specs.Mailed.{count_of, AreMailed, KeepsPresent, AddAt}
-use Rattle.md_judge.specs.Moments.{kept_moment}
+use Rattle.md_clauses.specs.Moments.{kept_moment}
 use Rattle.md_judge.specs.Names.{GrowsUniques}
 use Rattle.md_judge.specs.Present.{AddsFolder}
 use Rattle.md_judge.specs.Recalled.{IsToldAt, spot_of}

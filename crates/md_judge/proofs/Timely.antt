@@ -1,7 +1,7 @@
 -- What a move does to the times of its message, and to no other's.
 use Rattle.std.proofs.Common.{ℕ, ◌≡◌, inl, inr, Option, Some, None, IsSome, refl, sym, ap, subst, ◌∙◌, arith, slice_get}
 use Rattle.std.specs.BTreeMap.{get}
-use Rattle.md_judge.specs.declared.judge.directories.Spot.{Spot}
+use Rattle.md_clauses.specs.declared.changes.Spot.{Spot}
 use Rattle.md_judge.specs.declared.judge.mail.Mail.{Mail}
 use Rattle.md_judge.specs.declared.judge.mail.Message.{Message}
 use Rattle.md_judge.specs.declared.judge.mail.Move.{Move}

@@ -1,5 +1,5 @@
 -- What the number of a spot says of the unique name of its path, and how unique names keep their numbers.
-use Rattle.std.proofs.Common.{ℕ, ◌≡◌, ◌/◌, ◌%◌, ◌++◌, true, false, cond, List, ◌∷◌, Option, Some, None, is_some, nat_eq, slice_get, refl, sym, ap, subst, ◌∙◌, arith}
+use Rattle.std.proofs.Common.{ℕ, ◌≡◌, ◌/◌, ◌%◌, true, false, cond, List, Option, Some, None, is_some, nat_eq, slice_get, refl, sym, ap, subst, ◌∙◌, arith}
 use Rattle.std.proofs.lemmas.Bool.{eq-eqb}
 use Rattle.std.proofs.lemmas.Bool.Decides.{nat_tests}
 use Rattle.md_name.specs.declared.info.Info.{Info}
@@ -7,7 +7,7 @@ use Rattle.md_name.specs.Names.{split_of, unique_of}
 use Rattle.md_dirs.specs.declared.paths.Path.{Path}
 use Rattle.md_dirs.specs.declared.paths.Place.{Place}
 use Rattle.md_dirs.specs.declared.paths.Place.TheVariants.{Tmp, New, Cur}
-use Rattle.md_judge.specs.declared.judge.directories.Spot.{Spot}
+use Rattle.md_clauses.specs.declared.changes.Spot.{Spot}
 use Rattle.md_judge.specs.declared.judge.tables.Names.{Names}
 use Rattle.md_judge.specs.Files.{no_facts, facts_by, unique_by, unique_in}
 use Rattle.md_judge.specs.Names.{StandFor, AreMarked, GrowsUniques}

@@ -5,8 +5,8 @@ use Rattle.md_dirs.specs.declared.paths.Path.{Path}
 use Rattle.md_log.specs.declared.line.Said.{Said}
 use Rattle.md_log.specs.declared.line.Said.TheVariants as said
 use Rattle.md_log.specs.declared.line.Step.{Step}
-use Rattle.md_judge.specs.declared.judge.about.About.{About}
-use Rattle.md_judge.specs.declared.judge.claims.Claim.{Claim}
+use Rattle.md_clauses.specs.declared.about.About.{About}
+use Rattle.md_clauses.specs.declared.claims.Claim.{Claim}
 use Rattle.md_judge.specs.Claims.{RecallsSo}
 use Rattle.md_judge.specs.Deeds.{IsUntold, HasUntold, UnlinksMessage, RecallsDeeds}
 use Rattle.md_judge.specs.Law.{turn, AddsMessage, ChangesMessage}

@@ -22,12 +22,12 @@ use Rattle.md_log.specs.declared.clause.Clause.{Clause}
 use Rattle.md_log.specs.declared.clause.Clause.TheVariants as clause
 use Rattle.md_log.specs.declared.line.Step.{Step}
 use Rattle.md_judge.specs.declared.judge.Judge.{Judge}
-use Rattle.md_judge.specs.declared.judge.clauses.Clauses.{Clauses}
+use Rattle.md_clauses.specs.declared.clauses.Clauses.{Clauses}
 use Rattle.md_judge.specs.declared.log.Finding.{Finding}
 use Rattle.md_judge.specs.declared.session.Session.{Session}
 use Rattle.md_judge.specs.declared.stretch.Stretch.{Stretch}
 use Rattle.md_judge.specs.Filed.{name_at}
-use Rattle.md_judge.specs.Found.{Has, clause_index}
+use Rattle.md_clauses.specs.Found.{Has, clause_index}
 use Rattle.md_judge.specs.Law.{turn, Breaks, IsAllowed, IsFinding}
 use Rattle.md_judge.specs.Logs.{Log, Numbered, empty_log, is_passed_over, has_begun, with_line, with_text, with_folder_line, with_file_line, with_also_line}
 use Rattle.md_judge.specs.Ordered.{AreEarlier, AreInOrder}

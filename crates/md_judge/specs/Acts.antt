@@ -8,7 +8,7 @@ use Rattle.md_log.specs.declared.line.Deed.{Deed}
 use Rattle.md_log.specs.declared.line.Deed.TheVariants as deed
 use Rattle.md_log.specs.declared.line.Reply.{Reply}
 use Rattle.md_log.specs.declared.line.Reply.TheVariants as reply
-use Rattle.md_judge.specs.declared.judge.directories.Spot.{Spot}
+use Rattle.md_clauses.specs.declared.changes.Spot.{Spot}
 use Rattle.md_judge.specs.declared.judge.known.Act.{Act}
 use Rattle.md_judge.specs.declared.judge.tables.Names.{Names}
 use Rattle.md_judge.specs.Changes.{Leads}

@@ -4,8 +4,8 @@ use Rattle.std.specs.Ordering.{eq_by_cmp}
 use Rattle.md_dirs.specs.Path.{path_cmp}
 use Rattle.md_dirs.specs.State.{State, file_at}
 use Rattle.md_dirs.specs.declared.paths.Path.{Path}
-use Rattle.md_judge.specs.declared.judge.directories.Spot.{Spot}
-use Rattle.md_judge.specs.declared.judge.acts.Change.{Change}
+use Rattle.md_clauses.specs.declared.changes.Spot.{Spot}
+use Rattle.md_clauses.specs.declared.changes.Change.{Change}
 
 -- what paths name after one was added
 abbrev pub after_added : (Spot → Path) → Option (Spot × ℕ) → (Path → Option ℕ) → Path → Option ℕ

@@ -5,7 +5,7 @@ use Rattle.md_log.specs.declared.line.Call.TheVariants as call
 use Rattle.md_log.specs.declared.line.Deed.TheVariants as deed
 use Rattle.md_log.specs.declared.line.Reply.{Reply}
 use Rattle.md_log.specs.declared.line.Step.{Step}
-use Rattle.md_judge.specs.declared.judge.about.About.{About}
+use Rattle.md_clauses.specs.declared.about.About.{About}
 use Rattle.md_judge.specs.Law.{AddsMessage, TakesMessage, ChangesMessage}
 use Rattle.md_judge.specs.Logs.{Log}
 use Rattle.md_judge.specs.Told.{IsStep, IsAnswer}

@@ -1,5 +1,5 @@
 -- What the judge keeps of files: how a step changes it, and which clauses the judge finds by it.
-use Rattle.std.specs.Prelude.{ℕ, ◌≡◌, ◌≢◌, ◌<◌, ◌+◌, ◌-◌, ◌/◌, ◌%◌, ◌==◌, ◌||◌, ◌⊎◌, List, Option, Some, None, Bool, true, false, length, slice_get, is_some, unwrap_or, if◌then◌else◌}
+use Rattle.std.specs.Prelude.{ℕ, ◌≡◌, ◌≢◌, ◌<◌, ◌+◌, ◌-◌, ◌/◌, ◌%◌, ◌==◌, ◌⊎◌, List, Option, Some, None, Bool, true, false, length, slice_get, is_some, unwrap_or, if◌then◌else◌}
 use Rattle.std.specs.Option.{option_map}
 use Rattle.md_dirs.specs.declared.paths.Place.{Place}
 use Rattle.md_dirs.specs.declared.paths.Place.TheVariants.{Tmp, New, Cur}
@@ -11,9 +11,11 @@ use Rattle.md_log.specs.declared.line.Deed.{Deed}
 use Rattle.md_log.specs.declared.line.Deed.TheVariants as deed
 use Rattle.md_log.specs.declared.line.Call.{Call}
 use Rattle.md_log.specs.declared.line.Call.TheVariants as call
-use Rattle.md_judge.specs.declared.judge.acts.Change.{Change}
-use Rattle.md_judge.specs.declared.judge.directories.Spot.{Spot}
-use Rattle.md_judge.specs.declared.judge.facts.FileFacts.{FileFacts}
+use Rattle.md_clauses.specs.declared.changes.Change.{Change}
+use Rattle.md_clauses.specs.declared.changes.Spot.{Spot}
+use Rattle.md_clauses.specs.declared.facts.FileFacts.{FileFacts}
+use Rattle.md_clauses.specs.Changes.{named_by, turned_by}
+use Rattle.md_clauses.specs.Facts.{made, written, flushed, shown, hidden}
 use Rattle.md_judge.specs.declared.judge.files.Filed.{Filed}
 use Rattle.md_judge.specs.declared.judge.tables.NameFacts.{NameFacts}
 use Rattle.md_judge.specs.declared.judge.tables.Names.{Names}
@@ -50,34 +52,6 @@ abbrev pub is_message_in : Names → Spot → Bool
 is_message_in names s = is_some (unique_in names s)
 
 -- ---- what steps do to a file
-
--- a file that was just made
-abbrev pub made : Option ℕ → ℕ → FileFacts
-made maker stamp = record { maker = maker; stamp = stamp; is_unflushed = false; is_cut = false; was_cur = false; seen = 0 }
-
--- a file after a write that was answered so
-abbrev pub written : Reply → ℕ → FileFacts → FileFacts
-written reply.Ok now f = record f { stamp = now; is_unflushed = true; is_cut = false }
-written reply.Fault now f = record f { is_cut = true }
-written reply.More now f = f
-written reply.Exists now f = f
-written reply.NotFound now f = f
-
--- a file after a flush that was answered so
-abbrev pub flushed : Reply → FileFacts → FileFacts
-flushed reply.Ok f = record f { is_unflushed = false }
-flushed reply.Fault f = f
-flushed reply.More f = f
-flushed reply.Exists f = f
-flushed reply.NotFound f = f
-
--- a file with one more path of a message, which may be in cur
-abbrev pub shown : Bool → FileFacts → FileFacts
-shown in_cur f = record f { was_cur = f.was_cur || in_cur; seen = f.seen + 1 }
-
--- a file with one path of a message fewer
-abbrev pub hidden : FileFacts → FileFacts
-hidden f = record f { seen = f.seen - 1 }
 
 abbrev pub is_cur : Place → Bool
 is_cur Tmp = false
@@ -127,18 +101,6 @@ NameStep names (Some p) old new = Changes p.1 (named names p.0) old new
 abbrev pub LeaveStep : Names → Option (Spot × ℕ) → List Filed → List Filed → Type 0
 LeaveStep names None old new = new ≡ old
 LeaveStep names (Some p) old new = Changes p.1 (left names p.0) old new
-
--- the path that a change makes name a file, with the file
-abbrev pub named_of : Option (Spot × ℕ × ℕ) → Option (Spot × ℕ) → Option (Spot × ℕ)
-named_of None added = added
-named_of (Some turned) added = Some (turned.0, turned.2)
-
-abbrev pub named_by : Change → Option (Spot × ℕ)
-named_by c = named_of c.turned c.added
-
--- the path that a change turns to another file, with the file that it named
-abbrev pub turned_by : Change → Option (Spot × ℕ)
-turned_by c = option_map (λ (t : Spot × ℕ × ℕ). (t.0, t.1)) c.turned
 
 -- what a change of paths does to files
 abbrev pub ChangeStep : Names → Change → List Filed → List Filed → Type 0

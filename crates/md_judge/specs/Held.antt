@@ -6,8 +6,8 @@ use Rattle.md_log.specs.declared.line.Said.{Said}
 use Rattle.md_log.specs.declared.line.Said.TheVariants as said
 use Rattle.md_name.specs.Letters.{Set}
 use Rattle.md_judge.specs.declared.judge.directories.Directory.{Directory}
-use Rattle.md_judge.specs.declared.judge.directories.Spot.{Spot}
-use Rattle.md_judge.specs.declared.judge.held.Held.{Held}
+use Rattle.md_clauses.specs.declared.changes.Spot.{Spot}
+use Rattle.md_clauses.specs.declared.claims.Held.{Held}
 use Rattle.md_judge.specs.declared.judge.known.Known.{Known}
 use Rattle.md_judge.specs.Flags.{bits_of}
 use Rattle.md_judge.specs.Known.{file_in}

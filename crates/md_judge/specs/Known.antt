@@ -4,10 +4,10 @@ use Rattle.std.specs.Option.{option_map, option_and_then}
 use Rattle.std.specs.Ordering.{nat_cmp, eq_by_cmp}
 use Rattle.std.specs.BTreeMap.{get}
 use Rattle.md_dirs.specs.Index.{directory_number}
-use Rattle.md_judge.specs.declared.judge.directories.Spot.{Spot}
+use Rattle.md_clauses.specs.declared.changes.Spot.{Spot}
 use Rattle.md_judge.specs.declared.judge.directories.Named.{Named}
 use Rattle.md_judge.specs.declared.judge.directories.Directory.{Directory}
-use Rattle.md_judge.specs.declared.judge.acts.Change.{Change}
+use Rattle.md_clauses.specs.declared.changes.Change.{Change}
 use Rattle.md_judge.specs.declared.judge.known.Known.{Known}
 use Rattle.md_judge.specs.declared.judge.known.Act.{Act}
 use Rattle.md_dirs.specs.State.{State, file_at}

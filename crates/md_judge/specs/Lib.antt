@@ -7,7 +7,6 @@ pub mod Names
 pub mod Mixed
 pub mod Changes
 pub mod Known
-pub mod Found
 pub mod Files
 pub mod Recalls
 pub mod Messages

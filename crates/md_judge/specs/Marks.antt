@@ -1,9 +1,9 @@
 -- What steps do to what is kept of what actors did to messages' paths.
 use Rattle.std.specs.Prelude.{ℕ, ◌≡◌, ◌↔◌, ◌⊎◌, Option, Some, None, Bool, true}
-use Rattle.md_judge.specs.declared.judge.about.About.{About}
+use Rattle.md_clauses.specs.declared.about.About.{About}
 use Rattle.md_judge.specs.declared.judge.about.Actors.{Actors}
-use Rattle.md_judge.specs.declared.judge.acts.Change.{Change}
-use Rattle.md_judge.specs.declared.judge.directories.Spot.{Spot}
+use Rattle.md_clauses.specs.declared.changes.Change.{Change}
+use Rattle.md_clauses.specs.declared.changes.Spot.{Spot}
 use Rattle.md_judge.specs.declared.judge.mail.Mail.{Mail}
 use Rattle.md_judge.specs.declared.judge.tables.Names.{Names}
 use Rattle.md_judge.specs.Actors.{done_by}

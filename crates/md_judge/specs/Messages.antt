@@ -4,7 +4,6 @@ use Rattle.std.specs.Ordering.{nat_cmp}
 use Rattle.std.specs.BTreeSet as ordered
 use Rattle.md_dirs.specs.State.{State, file_at}
 use Rattle.md_dirs.specs.declared.paths.Path.{Path}
-use Rattle.md_dirs.specs.declared.paths.Place.TheVariants.{Cur}
 use Rattle.md_name.specs.Names.{unique_of}
 use Rattle.md_log.specs.declared.clause.Clause.{Clause}
 use Rattle.md_log.specs.declared.clause.Clause.TheVariants as clause
@@ -12,10 +11,11 @@ use Rattle.md_log.specs.declared.line.Reply.TheVariants as reply
 use Rattle.md_log.specs.declared.line.Deed.TheVariants as deed
 use Rattle.md_log.specs.declared.line.Call.TheVariants as call
 use Rattle.md_log.specs.declared.line.Step.{Step}
-use Rattle.md_judge.specs.declared.judge.directories.Spot.{Spot}
-use Rattle.md_judge.specs.declared.judge.acts.Change.{Change}
+use Rattle.md_clauses.specs.declared.changes.Spot.{Spot}
+use Rattle.md_clauses.specs.declared.changes.Change.{Change}
 use Rattle.md_judge.specs.declared.judge.mail.Message.{Message}
-use Rattle.md_judge.specs.declared.judge.goings.Going.{Going}
+use Rattle.md_clauses.specs.declared.messages.Going.{Going}
+use Rattle.md_clauses.specs.Goings.{IsLost}
 use Rattle.md_judge.specs.Logs.{Log}
 use Rattle.md_judge.specs.Told.{at, is_message, IsOf, IsMessageAt, IsThere}
 use Rattle.md_judge.specs.Law.{Turn, IsTrashed, TwoNames, Gone, UsedAgain}
@@ -76,13 +76,9 @@ BrokenByAdding t c = ⊥
 abbrev pub IsCopied : State → ℕ → List ℕ → Type 0
 IsCopied s file unique = (q : Path) × (file_at s q ≡ Some file) × (is_message q ≡ true) × (unique_of q.name ≡ unique)
 
--- the message may go: an unlink takes its path from cur, and the name shows T
-abbrev pub MayGo : Going → Type 0
-MayGo g = (g.is_unlink ≡ true) × (g.spot.place ≡ Cur) × (g.is_trashed ≡ true)
-
 -- Which clauses are found where a path of a message was taken.
 abbrev pub TakeFinds : Going → Clause → Type 0
-TakeFinds g clause.Gone = (g.left ≡ 0) × (MayGo g → ⊥) × (g.is_copied ≢ true)
+TakeFinds g clause.Gone = IsLost g
 TakeFinds g c = ⊥
 
 -- A step takes this path of a message, and what is kept of the message and of the path's name is what the log tells.

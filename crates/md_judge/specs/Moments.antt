@@ -1,12 +1,13 @@
 -- Since when the names of directories are there, and until when those were that are gone.
-use Rattle.std.specs.Prelude.{ℕ, suc, ◌≡◌, ◌<◌, ◌≤◌, ◌+◌, ◌^◌, List, Option, Some, None, slice_get, length, min, unwrap_or}
+use Rattle.std.specs.Prelude.{ℕ, suc, ◌≡◌, ◌<◌, ◌≤◌, ◌+◌, ◌^◌, List, Option, Some, None, slice_get, length, unwrap_or}
 use Rattle.std.specs.Option.{option_map, option_and_then}
 use Rattle.std.specs.Ordering.{nat_cmp}
 use Rattle.std.specs.BTreeMap.{get}
-use Rattle.md_judge.specs.declared.judge.directories.Spot.{Spot}
+use Rattle.md_clauses.specs.declared.changes.Spot.{Spot}
 use Rattle.md_judge.specs.declared.judge.directories.Named.{Named}
 use Rattle.md_judge.specs.declared.judge.directories.Directory.{Directory}
-use Rattle.md_judge.specs.declared.judge.acts.Change.{Change}
+use Rattle.md_clauses.specs.declared.changes.Change.{Change}
+use Rattle.md_clauses.specs.Moments.{kept_moment}
 use Rattle.md_judge.specs.Known.{number_at, file_in, after_put, after_spot_added, after_spot_taken, EachSpot, IsHoused, Stands, Holds}
 use Rattle.md_dirs.specs.declared.paths.Path.{Path}
 use Rattle.md_dirs.specs.State.{State}
@@ -15,10 +16,6 @@ use Rattle.md_judge.specs.Logs.{Log}
 use Rattle.md_judge.specs.Told.{at}
 use Rattle.md_judge.specs.Claims.{IsSince}
 use Rattle.md_judge.specs.Readings.{was_of, IsHere, RecallsWas}
-
--- a moment as tables keep it
-abbrev pub kept_moment : ℕ → ℕ
-kept_moment n = min n 4294967295
 
 -- since when a name is there
 abbrev pub since_of : Directory → ℕ → Option ℕ

@@ -1,7 +1,7 @@
 -- Findings in the order of the lines, and at one line in the order of the law.
 use Rattle.std.specs.Prelude.{ℕ, ◌≡◌, ◌<◌, ◌⊎◌, List, Some, slice_get}
 use Rattle.md_judge.specs.declared.log.Finding.{Finding}
-use Rattle.md_judge.specs.Found.{clause_index}
+use Rattle.md_clauses.specs.Found.{clause_index}
 
 -- a finding is of an earlier line, or of this line and of a clause that comes before the one of this number in the order of the law
 abbrev pub IsEarlier : Finding → ℕ → ℕ → Type 0

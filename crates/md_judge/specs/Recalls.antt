@@ -9,16 +9,17 @@ use Rattle.md_log.specs.declared.line.Reply.{Reply}
 use Rattle.md_log.specs.declared.line.Deed.{Deed}
 use Rattle.md_log.specs.declared.line.Call.TheVariants as call
 use Rattle.md_log.specs.declared.line.Step.{Step}
-use Rattle.md_judge.specs.declared.judge.directories.Spot.{Spot}
-use Rattle.md_judge.specs.declared.judge.acts.Change.{Change}
-use Rattle.md_judge.specs.declared.judge.facts.FileFacts.{FileFacts}
+use Rattle.md_clauses.specs.declared.changes.Spot.{Spot}
+use Rattle.md_clauses.specs.declared.changes.Change.{Change}
+use Rattle.md_clauses.specs.declared.facts.FileFacts.{FileFacts}
 use Rattle.md_judge.specs.declared.judge.files.Filed.{Filed}
 use Rattle.md_judge.specs.declared.judge.tables.Names.{Names}
 use Rattle.md_judge.specs.Logs.{Log}
 use Rattle.md_judge.specs.Told.{at, moment, is_message, IsSeen, IsUnflushed, IsCut, WasInCur, IsMaker}
 use Rattle.md_judge.specs.Law.{Turn, MakesMessage, WritesSeen, ShowsCut, Mixed, NotFlushed, MovedBack, CleanedEarly}
 use Rattle.md_judge.specs.Changes.{Leads}
-use Rattle.md_judge.specs.Files.{facts_at, is_message_in, named_by}
+use Rattle.md_clauses.specs.Changes.{named_by}
+use Rattle.md_judge.specs.Files.{facts_at, is_message_in}
 
 -- the actor of a number has this name
 abbrev pub IsBy : (ℕ → List ℕ) → Option ℕ → List ℕ → Type 0

@@ -4,11 +4,11 @@ use Rattle.std.specs.Option.{option_map}
 use Rattle.md_log.specs.declared.line.Said.{Said}
 use Rattle.md_log.specs.declared.line.Said.TheVariants as said
 use Rattle.md_judge.specs.declared.judge.about.Actors.{Actors}
-use Rattle.md_judge.specs.declared.judge.claims.Claim.{Claim}
+use Rattle.md_clauses.specs.declared.claims.Claim.{Claim}
 use Rattle.md_judge.specs.declared.judge.known.Known.{Known}
 use Rattle.md_judge.specs.declared.judge.mail.Mail.{Mail}
 use Rattle.md_judge.specs.declared.judge.mail.Message.{Message}
-use Rattle.md_judge.specs.declared.judge.mail.Presence.{Presence}
+use Rattle.md_clauses.specs.declared.claims.Presence.{Presence}
 use Rattle.md_judge.specs.declared.judge.watch.Watch.{Watch}
 use Rattle.md_judge.specs.Actors.{done_by, moved_by, looked_by}
 use Rattle.md_judge.specs.Held.{held_said}

@@ -5,10 +5,10 @@ use Rattle.md_judge.specs.declared.judge.mail.Message.{Message}
 use Rattle.md_judge.specs.declared.judge.mail.Move.{Move}
 use Rattle.md_judge.specs.declared.judge.mail.Move.TheVariants.{Comes, Turns, Goes}
 use Rattle.md_judge.specs.declared.judge.tables.Names.{Names}
-use Rattle.md_judge.specs.declared.judge.acts.Change.{Change}
-use Rattle.md_judge.specs.declared.judge.directories.Spot.{Spot}
+use Rattle.md_clauses.specs.declared.changes.Change.{Change}
+use Rattle.md_clauses.specs.declared.changes.Spot.{Spot}
 use Rattle.md_judge.specs.Files.{unique_in}
-use Rattle.md_judge.specs.Moments.{kept_moment}
+use Rattle.md_clauses.specs.Moments.{kept_moment}
 use Rattle.md_judge.specs.Listings.{times_of, message_of, RecalledTimes}
 use Rattle.md_judge.specs.Logs.{Log}
 use Rattle.md_judge.specs.Mailed.{count_of, ArePresent}

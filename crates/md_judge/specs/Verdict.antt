@@ -9,7 +9,7 @@ use Rattle.md_judge.specs.declared.session.Session.{Session}
 use Rattle.md_judge.specs.declared.judge.Judge.{Judge}
 use Rattle.md_judge.specs.Actors.{AreActing}
 use Rattle.md_judge.specs.Filed.{AreFiled, name_at}
-use Rattle.md_judge.specs.Found.{Has}
+use Rattle.md_clauses.specs.Found.{Has}
 use Rattle.md_judge.specs.Gathered.{AreGathered}
 use Rattle.md_judge.specs.Law.{IsAllowed, IsFinding}
 use Rattle.md_judge.specs.Logs.{Log, Numbered, has_begun}

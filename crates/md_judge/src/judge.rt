@@ -6,7 +6,7 @@ ghost use Rattle.std.specs.Prelude.{◌≡◌, ◌<◌, ℕ, suc, Some, Ok, true
 ghost use Rattle.md_dirs.specs.State.{has_folder};
 ghost use Rattle.md_judge.specs.Logs.{Log, empty_log, with_file_line, with_also_line};
 ghost use Rattle.md_log.specs.declared.clause.Clause.{Clause};
-ghost use Rattle.md_judge.specs.Found.{Has};
+ghost use Rattle.md_clauses.specs.Found.{Has};
 ghost use Rattle.md_judge.specs.Law.{turn, Breaks};
 ghost use Rattle.md_judge.specs.Told.{at};
 ghost use Rattle.md_judge.specs.Recalled.{IsToldAt, HasFolders, Agrees};
@@ -17,18 +17,14 @@ ghost use Rattle.md_judge.specs.Gathered.{AreGathered};
 
 mod about;
 mod acts;
-mod befores;
 mod changes;
 mod claims;
-mod clauses;
 mod comings;
 mod copied;
 mod directories;
-mod facts;
 mod files;
 mod filing;
 mod flags;
-mod found;
 mod goings;
 mod held;
 mod known;
@@ -44,14 +40,13 @@ mod told;
 mod trial;
 mod watch;
 
-use befores::mark_of;
-use clauses::Clauses;
 use known::{Act, Known, NO_ACT};
 use listing::Listings;
+use md_clauses::{Clauses, Name, mark_of};
 use md_dirs::{Bytes, Path};
 use md_log::{Call, Clause, LineFault, Step};
 use std::alloc::{AllocError, Global};
-use tables::{Name, Table};
+use tables::Table;
 use watch::Watch;
 
 /// What a log tells so far.

@@ -2,7 +2,7 @@
 ghost use Rattle.std.specs.Prelude.{ℕ, suc, ◌≡◌, ◌≢◌, ◌+◌, ◌<◌, ◌↔◌, List, ◌++◌, ◌∷◌, [], Some, None, Ok, is_ok, OnOk, IfOk, IfErr, length, slice_get};
 ghost use Rattle.md_log.specs.declared.clause.Clause.{Clause};
 ghost use Rattle.md_log.specs.declared.clause.Clause.TheVariants.{NotADirectory};
-ghost use Rattle.md_judge.specs.Found.{Has, clause_index};
+ghost use Rattle.md_clauses.specs.Found.{Has, clause_index};
 ghost use Rattle.md_judge.specs.Law.{Breaks, IsFinding, turn};
 ghost use Rattle.md_log.specs.declared.error.LineFault.TheVariants.{NoMemory};
 ghost use Rattle.md_judge.specs.Logs.{Log, is_passed_over, log_by, at_line, with_line, with_text};

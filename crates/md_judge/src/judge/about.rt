@@ -1,66 +1,12 @@
 //! What actors did about messages since they last answered.
-ghost use Rattle.std.specs.Prelude.{if◌then◌else◌, ◌⊎◌, ◌≡◌, ◌↔◌, ◌<◌, ℕ, Some, None, IsTrue, OnOk, true, length, slice_get, unwrap_or};
-ghost use Rattle.md_judge.specs.Claims.{IsRefused};
+ghost use Rattle.std.specs.Prelude.{if◌then◌else◌, ◌⊎◌, ◌≡◌, ◌<◌, ℕ, Some, None, OnOk, length, slice_get, unwrap_or};
 ghost use Rattle.md_judge.specs.Actors.{kept, done_by, begun_by, moved_by, lines_of, is_about, no_about, IsAnswered, NotesMoves, PutsAbout, Tells};
 
-use super::befores::{Mark, Moment, NO_MARK, line_at, mark_of, moment_of};
 use super::mail::Key;
 use super::pairs::Pairs;
+use md_clauses::{About, Moment, NO_ABOUT, moment_of};
 use std::alloc::{AllocError, Global};
 use std::collections::BTreeMap;
-
-/// What an actor did about a message since its last answer about it.
-#[derive(Clone, Copy)]
-pub(super) struct About {
-    /// The line of its last call on the message.
-    pub(super) act: Mark,
-    was_refused: bool,
-    pub(super) is_added: bool,
-    pub(super) is_changed: bool,
-    pub(super) is_unlinked: bool,
-    /// The line of its last step that changed the message's paths.
-    pub(super) changed_at: Mark,
-}
-
-const NOTHING: About = About {
-    act: NO_MARK,
-    was_refused: false,
-    is_added: false,
-    is_changed: false,
-    is_unlinked: false,
-    changed_at: NO_MARK,
-};
-
-impl About {
-    /// Notes a call on the message.
-    pub(super) fn note_act(&mut self, line: usize, was_refused: bool)
-        ensures act { line < 4294967296 → self.new.act ≡ line }
-        ensures rest { self.new ≡ record self.old { act = self.new.act; was_refused = was_refused } }
-    {
-        self.act = mark_of(line);
-        self.was_refused = was_refused;
-    }
-
-    /// Notes a step that changed the message's paths.
-    pub(super) fn note_change(&mut self, line: usize)
-        ensures { self.new ≡ record self.old { is_changed = true; changed_at = self.new.changed_at } }
-    {
-        self.changed_at = mark_of(line);
-        self.is_changed = true;
-    }
-
-    /// The line of the last call on it.
-    pub(super) fn act_line(&self) -> Option<usize> {
-        line_at(self.act)
-    }
-
-    /// Whether there was a call on it, and the last one was refused.
-    pub(super) fn is_refused(&self) -> bool
-        ensures { IsTrue result ↔ IsRefused self.now }
-    {
-        self.act > 0 && self.was_refused
-    }
-}
 
 /// The lines of an actor that matter.
 #[derive(Clone, Copy)]
@@ -192,7 +138,7 @@ impl Actors {
     pub(super) fn done(&self, actor: u32, key: Key) -> About
         ensures { result ≡ done_by self.now actor key }
     {
-        self.about.get(actor, key).unwrap_or(NOTHING)
+        self.about.get(actor, key).unwrap_or(NO_ABOUT)
     }
 
     /// The actor answers about the message, so that nothing was done since.

@@ -6,7 +6,7 @@ ghost use Rattle.md_judge.specs.Told.{ask_at, ask_between};
 ghost use Rattle.md_log.specs.declared.line.Deed.TheVariants as deed;
 ghost use Rattle.md_log.specs.declared.clause.Clause.TheVariants as clause;
 ghost use Rattle.md_judge.specs.Law.{turn, IsWrongReply, reply_by};
-ghost use Rattle.md_judge.specs.Found.{Keeps, NotesOne, NotesFiles, KeepsAnswers};
+ghost use Rattle.md_clauses.specs.Found.{Keeps, NotesOne, NotesFiles, KeepsAnswers};
 ghost use Rattle.md_judge.specs.Acts.{UnlinksPath};
 ghost use Rattle.md_judge.specs.Filed.{AreFiled, IsJudged, BrokenByFiles};
 ghost use Rattle.md_judge.specs.Logs.{Log};
@@ -15,56 +15,16 @@ ghost use Rattle.md_judge.specs.Marks.{KeepsDeeds, MarksChange};
 ghost use Rattle.md_judge.specs.Timed.{AreTimed};
 ghost use Rattle.md_log.specs.declared.line.Step.{Step};
 ghost use Rattle.md_judge.specs.Changes.{IsOlder, Leads};
-ghost use Rattle.md_judge.specs.Files.{named_by, turned_by};
 ghost use Rattle.md_judge.specs.Known.{EachSpot, IsBelow};
 ghost use Rattle.md_judge.specs.Actors.{NotesAct, NotesMoves, GoesWith, acted, acted_at, reply_to_name};
-ghost use Rattle.md_judge.specs.declared.judge.directories.Spot.{Spot};
+ghost use Rattle.md_clauses.specs.declared.changes.Spot.{Spot};
 
-use super::directories::Spot;
 use super::filing::Caller;
 use super::known::{Act, Known};
 use super::watch::Watch;
+use md_clauses::{Change, NO_CHANGE, Spot, is_wrong};
 use md_log::{Call, Clause, Deed, Naming, Reply};
 use std::alloc::AllocError;
-
-/// What a step does to paths.
-#[derive(Clone, Copy)]
-pub(super) struct Change {
-    pub(super) taken: Option<(Spot, u32)>,
-    pub(super) added: Option<(Spot, u32)>,
-    /// A path that named the first file and names the second.
-    pub(super) turned: Option<(Spot, u32, u32)>,
-    pub(super) is_unlink: bool,
-}
-
-pub(super) const NO_CHANGE: Change = Change {
-    taken: None,
-    added: None,
-    turned: None,
-    is_unlink: false,
-};
-
-impl Change {
-    /// The path that comes to name a file, and the file.
-    pub(super) fn named(&self) -> Option<(Spot, u32)>
-        ensures { result ≡ named_by self.now }
-    {
-        match self.turned {
-            None => self.added,
-            Some((spot, _, file)) => Some((spot, file)),
-        }
-    }
-
-    /// The path that names another file than before, and the file that it named.
-    pub(super) fn turned_from(&self) -> Option<(Spot, u32)>
-        ensures { result ≡ turned_by self.now }
-    {
-        match self.turned {
-            None => None,
-            Some((spot, file, _)) => Some((spot, file)),
-        }
-    }
-}
 
 impl Watch {
     /// Judges a call that was made as `act` says.
@@ -199,13 +159,6 @@ pub(super) fn is_wrong_between(naming: Naming, are_there: (bool, bool), reply: R
         → is_some (file_at s new) ≡ are_there.1 → IsTrue result ↔ IsWrongReply reply ((ask_between naming old new).refusal s) }
 {
     is_wrong(reply, defined_between(naming, are_there.0, are_there.1))
-}
-
-/// Whether a reply is not the defined one. Any call may fail.
-fn is_wrong(reply: Reply, defined: Reply) -> bool
-    ensures { IsTrue result ↔ ((reply ≢ Reply.Fault) × (reply ≢ defined)) }
-{
-    reply != Reply::Fault && reply != defined
 }
 
 /// What a call on one path is defined to answer.

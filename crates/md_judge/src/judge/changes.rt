@@ -6,32 +6,30 @@ ghost use Rattle.md_log.specs.declared.line.Call.TheVariants as call;
 ghost use Rattle.md_log.specs.declared.line.Deed.TheVariants as deed;
 ghost use Rattle.md_log.specs.declared.line.Reply.TheVariants as reply;
 ghost use Rattle.md_log.specs.declared.line.Step.{Step};
-ghost use Rattle.md_judge.specs.declared.judge.acts.Change.{Change};
-ghost use Rattle.md_judge.specs.declared.judge.directories.Spot.{Spot};
+ghost use Rattle.md_clauses.specs.declared.changes.Change.{Change};
+ghost use Rattle.md_clauses.specs.declared.changes.Spot.{Spot};
 ghost use Rattle.md_judge.specs.Actors.{GoesBy, GoesWith, KeepsActs, NotesMoves};
 ghost use Rattle.md_judge.specs.Acts.{IsDone};
 ghost use Rattle.md_judge.specs.Changes.{Leads};
 ghost use Rattle.md_judge.specs.Files.{unique_in};
-ghost use Rattle.md_judge.specs.Found.{Keeps, NotesOne, KeepsPaths, KeepsFiles, KeepsAnswers};
+ghost use Rattle.md_clauses.specs.Found.{Keeps, NotesOne, KeepsPaths, KeepsFiles, KeepsAnswers};
 ghost use Rattle.md_judge.specs.Known.{EachSpot};
 ghost use Rattle.md_judge.specs.Law.{turn, Gone};
 ghost use Rattle.md_judge.specs.Logs.{Log};
 ghost use Rattle.md_judge.specs.Listings.{message_of};
 ghost use Rattle.md_judge.specs.Marks.{IsOfMessage, IsOfMissing, OnPath, OnTurned, Unlinks, MarksDeeds, MarksChange, nothing};
-ghost use Rattle.md_judge.specs.Moments.{kept_moment};
+ghost use Rattle.md_clauses.specs.Moments.{kept_moment};
 ghost use Rattle.md_judge.specs.Timed.{CameAt, TurnedAt, WentAt, MakesTimes};
 ghost use Rattle.md_judge.specs.Mailed.{AddAt, AddStep, TurnAt, TurnStep, TakeAt, TakeStep, MakeStep, TellsMail, NotesAdded, NotesMessages};
 ghost use Rattle.md_judge.specs.Recalled.{IsSpotOf};
 ghost use Rattle.md_judge.specs.Told.{at};
 
-use super::acts::Change;
-use super::befores::{line_before, moment_of};
 use super::comings::{check_added, leaving};
-use super::directories::Spot;
-use super::goings::{Going, check_taken};
+use super::goings::check_taken;
 use super::known::{Act, Known};
 use super::mail::Move;
 use super::watch::Watch;
+use md_clauses::{Change, Going, Spot, line_before, moment_of};
 use md_log::Clause;
 use std::alloc::AllocError;
 
@@ -56,7 +54,7 @@ impl Watch {
     {
         let change = act.change;
         self.found.note(
-            change.turned.is_some(),
+            change.turned_from().is_some(),
             Clause::Overwritten,
             act.turned_before,
         );

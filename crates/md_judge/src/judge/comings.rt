@@ -3,19 +3,17 @@ ghost use Rattle.std.specs.Prelude.{◌≡◌, ℕ};
 ghost use Rattle.std.specs.Option.{option_copied};
 ghost use Rattle.md_dirs.specs.declared.paths.Path.{Path};
 ghost use Rattle.md_log.specs.declared.line.Step.{Step};
-ghost use Rattle.md_judge.specs.declared.judge.directories.Spot.{Spot};
-ghost use Rattle.md_judge.specs.declared.judge.acts.Change.{Change};
+ghost use Rattle.md_clauses.specs.declared.changes.Spot.{Spot};
+ghost use Rattle.md_clauses.specs.declared.changes.Change.{Change};
 ghost use Rattle.md_judge.specs.Logs.{Log};
 ghost use Rattle.md_judge.specs.Law.{turn};
-ghost use Rattle.md_judge.specs.Found.{Notes};
+ghost use Rattle.md_clauses.specs.Found.{Notes};
 ghost use Rattle.md_judge.specs.Messages.{AddFinds, IsAddition, BrokenByAdding};
 ghost use Rattle.md_judge.specs.Mailed.{leaving_of};
 
-use super::befores::line_before;
-use super::directories::Spot;
-use super::found::Found;
 use super::known::Known;
 use super::mail::Message;
+use md_clauses::{Coming, Found, Spot, line_before};
 use md_log::Clause;
 
 /// A path of a message is to be added that names a file, and `leaving` of its paths are to go: what the message has.
@@ -27,13 +25,14 @@ pub(super) fn check_added(found: &mut Found, message: Option<&Message>, file: u3
     let Some(message) = message else {
         return;
     };
+    let coming = Coming {
+        count: message.count,
+        leaving,
+        was_file: message.was_file(file),
+    };
+    found.note(coming.is_used_again(), Clause::UsedAgain, message.gone_at());
     found.note(
-        message.is_used_again(file),
-        Clause::UsedAgain,
-        message.gone_at(),
-    );
-    found.note(
-        message.count > leaving,
+        coming.has_another(),
         Clause::TwoNames,
         line_before(message.since as usize),
     );

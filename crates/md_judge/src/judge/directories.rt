@@ -6,23 +6,14 @@ ghost use Rattle.std.specs.BTreeMap.{IsOrdered};
 ghost use Rattle.md_dirs.specs.Index.{directory_number};
 ghost use Rattle.md_judge.specs.Known.{file_in, Puts, Makes};
 ghost use Rattle.md_judge.specs.Readings.{was_of};
-ghost use Rattle.md_judge.specs.Moments.{kept_moment, since_in, was_in, AddsEmpty, PutsMoments, MakesMoments};
+ghost use Rattle.md_clauses.specs.Moments.{kept_moment};
+ghost use Rattle.md_judge.specs.Moments.{since_in, was_in, AddsEmpty, PutsMoments, MakesMoments};
 
-use super::acts::Change;
-use super::befores::{Moment, line_before, moment_of};
 use super::mixed::mixed_name;
-use super::tables::Name;
+use md_clauses::{Change, Moment, Name, Spot, line_before, moment_of};
 use md_dirs::Place;
 use std::alloc::{AllocError, Global};
 use std::collections::BTreeMap;
-
-/// A path by numbers.
-#[derive(Clone, Copy, PartialEq, Eq)]
-pub(super) struct Spot {
-    pub(super) folder: u32,
-    pub(super) place: Place,
-    pub(super) name: Name,
-}
 
 /// A name that is there: its file, and the first moment at which it is there.
 #[derive(Clone, Copy)]

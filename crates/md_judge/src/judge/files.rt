@@ -2,10 +2,10 @@
 ghost use Rattle.std.specs.Prelude.{◌≡◌, [], OnOk};
 ghost use Rattle.std.specs.Option.{option_map};
 ghost use Rattle.md_judge.specs.declared.judge.files.Filed.{Filed};
-ghost use Rattle.md_judge.specs.Files.{made, written, flushed, shown, hidden, facts_at, Changes, Adds};
+ghost use Rattle.md_clauses.specs.Facts.{made, written, flushed, shown, hidden};
+ghost use Rattle.md_judge.specs.Files.{facts_at, Changes, Adds};
 
-use super::befores::{Mark, NO_MARK};
-use super::facts::FileFacts;
+use md_clauses::{FileFacts, Mark, NO_MARK};
 use md_log::Reply;
 use std::alloc::{AllocError, Global};
 

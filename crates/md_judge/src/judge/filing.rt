@@ -2,20 +2,17 @@
 ghost use Rattle.std.specs.Prelude.{◌≡◌, ℕ, suc, List, OnOk, true};
 ghost use Rattle.md_dirs.specs.declared.paths.Path.{Path};
 ghost use Rattle.md_log.specs.declared.line.Step.{Step};
-ghost use Rattle.md_judge.specs.declared.judge.directories.Spot.{Spot};
+ghost use Rattle.md_clauses.specs.declared.changes.Spot.{Spot};
 ghost use Rattle.md_judge.specs.Logs.{Log};
 ghost use Rattle.md_judge.specs.Law.{turn};
 ghost use Rattle.md_judge.specs.Recalls.{IsAt, IsChange, BrokenAt, BrokenByChange};
-ghost use Rattle.md_judge.specs.Found.{Notes, KeepsPaths, KeepsMessages};
+ghost use Rattle.md_clauses.specs.Found.{Notes, KeepsPaths, KeepsMessages};
 ghost use Rattle.md_judge.specs.Filed.{AreFiled, IsJudged, BrokenByFiles};
 ghost use Rattle.md_judge.specs.Files.{is_message_in, named, facts_at, Changes, AtStep, CallStep, LeaveStep, ChangeStep, WriteFinds, AtFinds, NamedFinds, LeaveFinds, ChangeFinds};
 
-use super::acts::Change;
-use super::befores::{line_at, mark_of};
-use super::directories::Spot;
 use super::files::{Filed, Files};
-use super::found::Found;
 use super::known::{Act, Known};
+use md_clauses::{Change, Found, Spot, line_at, mark_of};
 use md_dirs::Place;
 use md_log::{Call, Clause, Deed, Reply};
 use std::alloc::AllocError;
@@ -122,7 +119,11 @@ impl Files {
             return;
         }
         let is_mixed = facts.is_of_another(actor);
-        found.note(facts.seen > 0, Clause::SeenBeforeWhole, line_at(lines.seen));
+        found.note(
+            facts.is_seen(),
+            Clause::SeenBeforeWhole,
+            line_at(lines.seen),
+        );
         found.note(is_mixed, Clause::Mixed, line_at(lines.made));
     }
 

@@ -8,20 +8,14 @@ ghost use Rattle.md_judge.specs.Names.{AreMarked};
 ghost use Rattle.md_judge.specs.Recalled.{IsToldAt};
 ghost use Rattle.md_judge.specs.Told.{at};
 
-use super::directories::{Directories, Spot};
+use super::directories::Directories;
 use super::flags::bits_of;
 use super::known::Known;
 use super::mail::Key;
 use super::tables::name_of;
+use md_clauses::{Held, Spot};
 use md_dirs::Place;
 use md_name::Flags;
-
-/// Since when a message in cur shows flags: by how many of its names it does now, and the last moment when it did.
-#[derive(Clone, Copy)]
-pub(super) struct Held {
-    pub(super) count: u32,
-    pub(super) last: usize,
-}
 
 /// The same by some names and by others.
 fn both(some: Option<Held>, others: Option<Held>) -> Option<Held>

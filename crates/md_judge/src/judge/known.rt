@@ -3,7 +3,7 @@ ghost use Rattle.std.specs.Prelude.{◌≡◌, ◌+◌, ◌<◌, ◌⊎◌, [], 
 ghost use Rattle.md_dirs.specs.State.{State, file_at, has_folder};
 ghost use Rattle.md_dirs.specs.declared.paths.Path.{Path};
 ghost use Rattle.md_log.specs.declared.error.LineFault.TheVariants.{NoMemory, SamePath, NoSuchPath};
-ghost use Rattle.md_judge.specs.declared.judge.directories.Spot.{Spot};
+ghost use Rattle.md_clauses.specs.declared.changes.Spot.{Spot};
 ghost use Rattle.md_judge.specs.Logs.{Log, empty_log, with_file_line, with_also_line};
 ghost use Rattle.md_judge.specs.Told.{at, ask_at, ask_between, after_ask, after_call, moment};
 ghost use Rattle.md_log.specs.declared.line.Step.{Step};
@@ -17,12 +17,11 @@ ghost use Rattle.md_judge.specs.Moments.{IsKnownAt, GoesOn};
 ghost use Rattle.md_judge.specs.Names.{AreNumbered, KeepNumbers, GrowsUniques, AreMarked};
 ghost use Rattle.md_judge.specs.Recalled.{IsSpotOf, IsToldAt, HasFolders, Agrees};
 
-use super::acts::{
-    Change, NO_CHANGE, create_change, is_wrong_at, is_wrong_between, naming_change, unlink_change,
-};
-use super::directories::{Directories, Spot};
+use super::acts::{create_change, is_wrong_at, is_wrong_between, naming_change, unlink_change};
+use super::directories::Directories;
 use super::files::MOST_FILES;
 use super::tables::Names;
+use md_clauses::{Change, NO_CHANGE, Spot};
 use md_dirs::{Path, Place};
 use md_log::{Call, Deed, LineFault, Naming, Reply, Step};
 use std::alloc::{AllocError, Global};

@@ -9,7 +9,7 @@ ghost use Rattle.md_judge.specs.Logs.{Log};
 ghost use Rattle.md_judge.specs.Law.{turn, NotADirectory, Unlisted};
 ghost use Rattle.md_log.specs.declared.clause.Clause.TheVariants as clause;
 ghost use Rattle.md_judge.specs.Actors.{NotesLook};
-ghost use Rattle.md_judge.specs.Found.{Notes, NotesOne, Keeps, KeepsReplies, KeepsFiles, KeepsMessages, KeepsAnswers};
+ghost use Rattle.md_clauses.specs.Found.{Notes, NotesOne, Keeps, KeepsReplies, KeepsFiles, KeepsMessages, KeepsAnswers};
 ghost use Rattle.md_judge.specs.declared.judge.directories.Named.{Named};
 ghost use Rattle.md_judge.specs.Readings.{shown_wrongly, lacked, wrong_name, PartFinds, IsPartOf, BrokenByPart};
 ghost use Rattle.md_judge.specs.Open.{reading_of, first_in, shows_in, ShowsMore, IsOver, KeepsPart, IsToldPart};
@@ -17,13 +17,13 @@ ghost use Rattle.md_judge.specs.Gathered.{gathered_of, gathered_in, nothing_gath
 ghost use Rattle.md_judge.specs.Listings.{lacking, is_lacking, was_at_each, ListFinds, LeavesOut, IsCompleted, BrokenByListing};
 
 use super::directories::Directory;
-use super::found::Found;
 use super::known::Known;
 use super::mail::{Mail, Message};
 use super::since::{is_there_since, was_there_since};
-use super::tables::{Name, Names};
+use super::tables::Names;
 use super::trial::Open;
 use super::watch::Watch;
+use md_clauses::{Found, Listed, Name};
 use md_dirs::Place;
 use md_log::{Clause, Reply};
 use std::alloc::{AllocError, Global};
@@ -230,7 +230,11 @@ impl Listing {
     fn lacks(&self, mail: &Mail, folder: u32, unique: u32) -> bool
         ensures { result ≡ is_lacking self.now mail.now folder unique }
     {
-        !self.shown.contains(&unique) && self.was_there(mail.message((folder, unique)))
+        let listed = Listed {
+            is_shown: self.shown.contains(&unique),
+            was_there: self.was_there(mail.message((folder, unique))),
+        };
+        listed.is_left_out()
     }
 
     /// Whether a message was there at each reading.

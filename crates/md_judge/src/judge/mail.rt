@@ -9,8 +9,8 @@ ghost use Rattle.md_judge.specs.Timed.{TimedBy};
 ghost use Rattle.md_judge.specs.Present.{KeepsSets, AddsFolder};
 ghost use Rattle.md_judge.specs.Mailed.{count_of, count_after, IsBy, Moves, MovesOne, MakesOne, Prepares, KeepsOthers, is_free, is_first, fresh, begun, Recounts, one_more, one_fewer};
 
-use super::befores::{Moment, line_before, moment_of};
 use super::copied::Copied;
+use md_clauses::{Moment, Presence, line_before, moment_of};
 use std::alloc::{AllocError, Global};
 use std::collections::{BTreeMap, BTreeSet};
 
@@ -124,13 +124,6 @@ impl Message {
         }
     }
 
-    /// Whether it is gone, and a file that it never was is another message of its name.
-    pub(super) fn is_used_again(&self, file: u32) -> bool
-        ensures { IsTrue result ↔ ((self.now.count ≡ 0) × (WasFile self.now file → ⊥)) }
-    {
-        self.count == 0 && !self.was_file(file)
-    }
-
     /// It makes a move.
     fn make(&mut self, alloc: Global, step: Move) -> Result<(), AllocError>
         ensures moves { OnOk result (Moves (count_after step) (IsBy step) (Some self.old) (Some self.new)) }
@@ -214,13 +207,6 @@ fn was_through(times: &[(usize, usize)], first: usize, last: usize) -> bool
         }
     }
     false
-}
-
-/// How many paths a message has, and the first moment since which it has one.
-#[derive(Clone, Copy)]
-pub(super) struct Presence {
-    pub(super) count: u32,
-    pub(super) since: usize,
 }
 
 /// The messages of all folders.

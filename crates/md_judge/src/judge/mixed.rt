@@ -5,7 +5,8 @@
 ghost use Rattle.std.specs.Prelude.{◌≡◌, ◌<◌, ◌^◌, ℕ};
 ghost use Rattle.md_judge.specs.Mixed.{mixed, mixed_name};
 
-use super::tables::{ENDINGS, Name, name_of};
+use super::tables::{ENDINGS, name_of};
+use md_clauses::Name;
 
 /// A number that stands for another, so that rising numbers come in no order.
 #[tactic(auto, unfolding(crate::specs::Mixed::mixed))]

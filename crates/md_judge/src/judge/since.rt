@@ -8,7 +8,7 @@ ghost use Rattle.md_judge.specs.Law.{turn, IsNeverThere, IsAlwaysThere};
 ghost use Rattle.md_judge.specs.Readings.{was_since, IsNameOf, IsHereSince};
 
 use super::directories::{Directory, Named};
-use super::tables::Name;
+use md_clauses::Name;
 
 /// Whether a directory had a name at a moment since the first of a reading.
 pub(super) fn was_there_since(directory: &Directory, name: Name, first: usize) -> bool

@@ -8,6 +8,7 @@ ghost use Rattle.md_judge.specs.Names.{StandFor, IsNumber, AreNumbered, KeepNumb
 
 use super::flags::bits_of;
 use super::texts::Words;
+use md_clauses::Name;
 use md_name::{Info, split};
 use std::alloc::{AllocError, Global};
 use std::collections::BTreeMap;
@@ -182,9 +183,6 @@ const NO_ENDING: u32 = 4_294_967_295;
 /// How many numbers there are for the ends of names.
 pub(super) const ENDINGS: u64 = 4_294_967_296;
 
-/// A name by the numbers of its two parts: that of the unique part, or of a name that is no message's, times `ENDINGS`, and that of its end.
-pub(super) type Name = u64;
-
 /// Names, with what they say. Of a message's name the unique part is kept once, and so is what comes after it.
 #[derive(Drop)]
 pub(super) struct Names {
@@ -357,7 +355,7 @@ impl Names {
     }
 }
 
-/// A name by the numbers of its two parts.
+/// A name by the numbers of its two parts: that of the unique part, or of a name that is no message's, times `ENDINGS`, and that of its end.
 pub(super) fn name_of(front: u32, ending: u32) -> Name
     ensures { result ≡ front * 4294967296 + ending }
 {

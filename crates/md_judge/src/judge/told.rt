@@ -9,13 +9,14 @@ ghost use Rattle.md_judge.specs.Law.{turn, GaveUp, AnsweredFalsely};
 ghost use Rattle.md_judge.specs.Logs.{Log};
 ghost use Rattle.md_judge.specs.Actors.{Tells, begun_by, IsAnswering};
 ghost use Rattle.md_judge.specs.Said.{claim_by};
-ghost use Rattle.md_judge.specs.Found.{Keeps, NotesOne, KeepsFiles, KeepsMessages};
+ghost use Rattle.md_clauses.specs.Found.{Keeps, NotesOne, KeepsFiles, KeepsMessages};
 
-use super::claims::{Claim, check_claim};
+use super::claims::check_claim;
 use super::known::Known;
 use super::listing::Listings;
 use super::mail::Key;
 use super::watch::Watch;
+use md_clauses::Claim;
 use md_log::Said;
 
 impl Watch {

@@ -1,8 +1,8 @@
 //! Calls that are tried on the directories and taken back: whether directories give their replies here.
-use super::acts::{Change, NO_CHANGE, defined_at, defined_between, naming_change};
-use super::directories::{Directories, Directory, Kept, Spot};
+use super::acts::{defined_at, defined_between, naming_change};
+use super::directories::{Directories, Directory, Kept};
 use super::since::was_there_since;
-use super::tables::Name;
+use md_clauses::{Change, NO_CHANGE, Name, Spot};
 use md_dirs::Place;
 use md_log::{Deed, Naming, Reply};
 use std::alloc::{AllocError, Global};

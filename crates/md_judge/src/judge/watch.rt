@@ -4,19 +4,18 @@ ghost use Rattle.md_log.specs.declared.clause.Clause.{Clause};
 ghost use Rattle.md_judge.specs.Actors.{begun_by, done_by, moved_by, no_about};
 ghost use Rattle.md_judge.specs.Copies.{copies_of};
 ghost use Rattle.md_judge.specs.Files.{named, unique_in, Changes};
-ghost use Rattle.md_judge.specs.Found.{Has};
+ghost use Rattle.md_clauses.specs.Found.{Has};
 ghost use Rattle.md_judge.specs.Listings.{message_of};
 ghost use Rattle.md_judge.specs.Mailed.{AddAt};
-ghost use Rattle.md_judge.specs.Moments.{kept_moment};
+ghost use Rattle.md_clauses.specs.Moments.{kept_moment};
 ghost use Rattle.md_judge.specs.Present.{AddsFolder};
 ghost use Rattle.md_judge.specs.Timed.{CameAt};
 
 use super::about::Actors;
-use super::directories::Spot;
 use super::files::Files;
-use super::found::Found;
 use super::known::Known;
 use super::mail::Mail;
+use md_clauses::{Found, Spot};
 use std::alloc::{AllocError, Global};
 
 /// What steps did to files and messages so far.

@@ -10,7 +10,7 @@ use Rattle.md_judge.specs.Filed.{name_at}
 use Rattle.md_judge.specs.Files.{named, unique_in, Changes}
 use Rattle.md_judge.specs.Mailed.{AddAt, TellsMail}
 use Rattle.md_judge.specs.Listings.{message_of}
-use Rattle.md_judge.specs.Moments.{kept_moment}
+use Rattle.md_clauses.specs.Moments.{kept_moment}
 use Rattle.md_judge.specs.Timed.{CameAt}
 use Rattle.md_judge.proofs.Actors.{acting-first, more-messages}
 use Rattle.md_judge.proofs.Mailbegun.{tells-put}

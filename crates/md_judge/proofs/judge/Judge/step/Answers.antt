@@ -10,7 +10,7 @@ use Rattle.md_log.specs.declared.line.Reply.{Reply}
 use Rattle.md_log.specs.declared.line.Call.{Call}
 use Rattle.md_log.specs.declared.line.Call.TheVariants as call
 use Rattle.std.specs.Prelude.{unwrap_or}
-use Rattle.md_judge.specs.declared.judge.about.About.{About}
+use Rattle.md_clauses.specs.declared.about.About.{About}
 use Rattle.md_judge.specs.declared.judge.mail.Mail.{Mail}
 use Rattle.md_judge.specs.Claims.{RecallsActs, RecallsSo, IsLastLine}
 use Rattle.md_judge.specs.Deeds.{RecallsDeeds}
@@ -19,18 +19,18 @@ use Rattle.md_judge.specs.declared.judge.files.Files.{Files}
 use Rattle.md_log.specs.declared.line.Said.{Said}
 use Rattle.md_judge.specs.Logs.{Log}
 use Rattle.std.specs.BTreeMap.{get}
-use Rattle.md_judge.specs.declared.judge.directories.Spot.{Spot}
+use Rattle.md_clauses.specs.declared.changes.Spot.{Spot}
 use Rattle.md_judge.specs.Actors.{AreActing, GoesWith, IsAnswering, MovedAt, NotesAct, NotesLook, NotesMoves, MayStand, acted, begun_by, done_by, move_cmp, moved_by}
 use Rattle.md_judge.specs.Acts.{IsAnswerCall, ReadsNone}
 use Rattle.md_judge.specs.Filed.{AreFiled, IsJudged, BrokenByFiles, name_at}
-use Rattle.md_judge.specs.Found.{Has, Keeps, NotesOne, KeepsMessages, KeepsFiles, KeepsAnswers, NotesFiles}
+use Rattle.md_clauses.specs.Found.{Has, Keeps, NotesOne, KeepsMessages, KeepsFiles, KeepsAnswers, NotesFiles}
 use Rattle.md_judge.specs.Gathered.{KeepsGathered, AreGathered, IsMailTold}
 use Rattle.md_judge.specs.Mailed.{AreMailed, ArePresent, KeepsPresent, TellsMail, NotesMessages, count_of}
 use Rattle.md_judge.specs.Marks.{IsOfMissing, OnPath, ChangesPaths, Unlinks, MarksChange}
 use Rattle.md_judge.specs.Open.{Listings, first_in, shows_in, KeepsPart, AreNames, AreOpen, IsToldPart}
 use Rattle.md_judge.specs.Recalled.{IsToldAt, HasFolders}
 use Rattle.md_judge.specs.Words.{AreApart, KeepWords}
-use Rattle.md_judge.specs.declared.judge.found.Found.{Found}
+use Rattle.md_clauses.specs.declared.found.Found.{Found}
 use Rattle.md_judge.specs.declared.judge.known.Known.{Known}
 use Rattle.md_judge.specs.declared.judge.watch.Watch.{Watch}
 use Rattle.md_judge.specs.Law.{turn, Breaks, IsWrongCall, NotADirectory, Overwritten, Unlisted, GaveUp, AnsweredFalsely}

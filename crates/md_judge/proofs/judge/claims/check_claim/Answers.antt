@@ -2,8 +2,9 @@ use Rattle.std.proofs.Common.{rules, arith}
 use Rattle.std.proofs.lemmas.Grind.{common_steps}
 use Rattle.md_log.specs.declared.clause.Clause.TheVariants as clause
 use Rattle.md_judge.specs.Law.{turn, IsSuccess, GaveUp}
-use Rattle.md_judge.specs.Found.{Notes}
-use Rattle.md_judge.specs.Claims.{ClaimFinds, GivesUp, BrokenByClaim}
+use Rattle.md_clauses.specs.Found.{Notes}
+use Rattle.md_clauses.specs.Claims.{GivesUp}
+use Rattle.md_judge.specs.Claims.{ClaimFinds, BrokenByClaim}
 use Rattle.md_judge.proofs.Notes.{renoted}
 use Rattle.md_judge.proofs.Claiming.{claim-lawful, gave-up}
 use Rattle.md_judge.proofs.Sparing.{noted-as}

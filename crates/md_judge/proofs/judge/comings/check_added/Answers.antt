@@ -2,7 +2,7 @@ use Rattle.std.proofs.Common.{rules, arith}
 use Rattle.std.proofs.lemmas.Grind.{common_steps}
 use Rattle.std.specs.Option.{option_copied}
 use Rattle.md_judge.specs.Law.{turn}
-use Rattle.md_judge.specs.Found.{Notes}
+use Rattle.md_clauses.specs.Found.{Notes}
 use Rattle.md_judge.specs.Messages.{AddFinds, BrokenByAdding}
 use Rattle.md_judge.proofs.Notes.{renoted}
 use Rattle.md_judge.proofs.Comings.{add-lawful}

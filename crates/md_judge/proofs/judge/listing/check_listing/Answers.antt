@@ -1,7 +1,7 @@
 use Rattle.std.proofs.Common.{rules, arith}
 use Rattle.std.proofs.lemmas.Grind.{common_steps}
 use Rattle.md_judge.specs.Law.{turn}
-use Rattle.md_judge.specs.Found.{Notes}
+use Rattle.md_clauses.specs.Found.{Notes}
 use Rattle.md_judge.specs.Listings.{ListFinds, BrokenByListing}
 use Rattle.md_judge.proofs.Notes.{renoted}
 use Rattle.md_judge.proofs.Listed.{list-lawful}

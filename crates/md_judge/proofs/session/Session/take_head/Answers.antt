@@ -3,8 +3,8 @@ use Rattle.std.proofs.lemmas.Result.{err_from_is_err_and}
 use Rattle.md_log.specs.declared.error.LineFault.{LineFault}
 use Rattle.md_log.specs.declared.line.Line.{Line}
 use Rattle.md_log.specs.declared.clause.Clause.{Clause}
-use Rattle.md_judge.specs.declared.judge.clauses.Clauses.{Clauses}
-use Rattle.md_judge.specs.Found.{Has}
+use Rattle.md_clauses.specs.declared.clauses.Clauses.{Clauses}
+use Rattle.md_clauses.specs.Found.{Has}
 use Rattle.md_judge.specs.Logs.{with_line}
 use Rattle.md_judge.specs.Recalled.{Agrees}
 use Rattle.md_judge.specs.Verdict.{IsHeadOf}

@@ -2,7 +2,7 @@ use Rattle.std.proofs.Common.{ℕ, Option, sym, subst}
 use Rattle.md_log.specs.declared.line.Deed.{Deed}
 use Rattle.md_log.specs.declared.line.Deed.TheVariants as deed
 use Rattle.md_judge.specs.Law.{turn}
-use Rattle.md_judge.specs.Found.{Notes}
+use Rattle.md_clauses.specs.Found.{Notes}
 use Rattle.md_judge.specs.Files.{is_message_in, AtFinds}
 use Rattle.md_judge.specs.Recalls.{BrokenAt}
 use Rattle.md_judge.proofs.Notes.{renoted}

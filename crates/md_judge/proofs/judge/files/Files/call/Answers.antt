@@ -1,6 +1,6 @@
 use Rattle.md_judge.specs.Filed.{AreFiled, BrokenByFiles}
 use Rattle.md_judge.specs.Files.{ChangeFinds, ChangeStep}
-use Rattle.md_judge.specs.Found.{Notes, KeepsPaths, KeepsMessages}
+use Rattle.md_clauses.specs.Found.{Notes, KeepsPaths, KeepsMessages}
 use Rattle.md_judge.specs.Law.{turn}
 use Rattle.md_judge.specs.Recalls.{BrokenByChange}
 use Rattle.std.proofs.Common.{suc}

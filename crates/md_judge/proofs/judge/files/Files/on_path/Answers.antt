@@ -1,5 +1,5 @@
 use Rattle.std.proofs.Common.{◌≡◌, sym, ap, ◌∙◌}
-use Rattle.md_judge.specs.Found.{Notes, KeepsPaths, KeepsMessages}
+use Rattle.md_clauses.specs.Found.{Notes, KeepsPaths, KeepsMessages}
 use Rattle.md_judge.specs.Files.{is_message_in, AtFinds}
 use Rattle.md_judge.specs.Told.{is_message}
 use Rattle.md_judge.proofs.Judged.{is-at}

@@ -1,5 +1,5 @@
 use Rattle.std.proofs.Common.{ℕ, List, Option, ◌∙◌, sym, ap, subst}
-use Rattle.md_judge.specs.declared.judge.held.Held.{Held}
+use Rattle.md_clauses.specs.declared.claims.Held.{Held}
 use Rattle.md_judge.specs.Claims.{HasFlags, RecallsHeld}
 use Rattle.md_judge.specs.Held.{held_by}
 use Rattle.md_judge.specs.Names.{alike_in}

@@ -1,4 +1,4 @@
-use Rattle.std.proofs.Common.{◌≡◌, List, ℕ, length, drop, arith}
+use Rattle.std.proofs.Common.{◌≡◌, length, drop, arith}
 use Rattle.std.proofs.lemmas.Grind.{common_steps}
 use Rattle.md_judge.proofs.Marked.{rest-says}
 use Rattle.md_judge.proofs.Uniqued.{grows-same, grows-on}

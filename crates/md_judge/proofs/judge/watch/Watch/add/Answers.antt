@@ -1,9 +1,9 @@
 use Rattle.std.proofs.Common.{ℕ, ◌≡◌, ◌+◌, Option, Some, min, sym, subst, arith}
-use Rattle.md_judge.specs.declared.judge.directories.Spot.{Spot}
+use Rattle.md_clauses.specs.declared.changes.Spot.{Spot}
 use Rattle.md_judge.specs.declared.judge.mail.Mail.{Mail}
 use Rattle.md_judge.specs.Listings.{message_of}
 use Rattle.md_judge.specs.Marks.{IsOfMessage, IsOfMissing, OnPath, MarksDeeds, nothing}
-use Rattle.md_judge.specs.Moments.{kept_moment}
+use Rattle.md_clauses.specs.Moments.{kept_moment}
 use Rattle.md_judge.specs.Timed.{CameAt}
 use Rattle.md_judge.proofs.Sparing.{ok-then}
 use Rattle.md_judge.proofs.judge.watch.Watch.add.Goals as goal

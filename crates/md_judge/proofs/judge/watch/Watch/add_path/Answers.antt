@@ -4,7 +4,7 @@ use Rattle.md_judge.specs.declared.judge.mail.Mail.{Mail}
 use Rattle.md_judge.specs.Files.{unique_in}
 use Rattle.md_judge.specs.Listings.{message_of}
 use Rattle.md_judge.specs.Mailed.{Recounts, one_more, AddAt}
-use Rattle.md_judge.specs.Moments.{kept_moment}
+use Rattle.md_clauses.specs.Moments.{kept_moment}
 use Rattle.md_judge.specs.Timed.{TimesCome}
 use Rattle.md_judge.proofs.Sparing.{ok-then}
 use Rattle.md_judge.proofs.Stepping.{on-ok}

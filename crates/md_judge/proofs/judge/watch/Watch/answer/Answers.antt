@@ -1,5 +1,5 @@
 use Rattle.std.proofs.Common.{ℕ, ◌<◌, ◌↔◌, List, refl, sym, subst}
-use Rattle.md_judge.specs.declared.judge.claims.Claim.{Claim}
+use Rattle.md_clauses.specs.declared.claims.Claim.{Claim}
 use Rattle.md_log.specs.declared.line.Step.{Step}
 use Rattle.md_judge.specs.Actors.{IsAnswering}
 use Rattle.md_judge.specs.Claims.{RecallsSo, IsAnswerOf}

@@ -1,6 +1,6 @@
 use Rattle.std.proofs.Common.{ℕ, suc, ◌≡◌, IsTrue, IsSome, sym, subst, ◌∙◌}
 use Rattle.md_log.specs.declared.clause.Clause.TheVariants as clause
-use Rattle.md_judge.specs.Found.{Keeps, NotesOne, KeepsPaths, KeepsMessages, KeepsFiles, KeepsAnswers, NotesFiles}
+use Rattle.md_clauses.specs.Found.{Keeps, NotesOne, KeepsPaths, KeepsMessages, KeepsFiles, KeepsAnswers, NotesFiles}
 use Rattle.md_judge.specs.declared.judge.files.Files.{Files}
 use Rattle.md_judge.specs.Filed.{AreFiled, BrokenByFiles}
 use Rattle.md_judge.specs.Law.{turn}

@@ -1,10 +1,10 @@
-use Rattle.std.proofs.Common.{ℕ, IsSome, sym, subst, ap, ◌∙◌}
+use Rattle.std.proofs.Common.{ℕ, IsSome, is_some, sym, subst, ap, ◌∙◌}
 use Rattle.md_log.specs.declared.clause.Clause.TheVariants as clause
 use Rattle.md_judge.specs.declared.judge.about.Actors.{Actors}
 use Rattle.md_judge.specs.declared.judge.mail.Mail.{Mail}
 use Rattle.md_judge.specs.declared.judge.watch.Watch.{Watch}
 use Rattle.md_judge.specs.Actors.{GoesWith, KeepsActs, NotesMoves}
-use Rattle.md_judge.specs.Found.{Keeps, KeepsFiles, KeepsAnswers}
+use Rattle.md_clauses.specs.Found.{Keeps, KeepsFiles, KeepsAnswers}
 use Rattle.md_judge.specs.Law.{turn, TwoNames, Gone, UsedAgain}
 use Rattle.md_judge.specs.Mailed.{MakeStep}
 use Rattle.md_judge.specs.Marks.{MarksChange}
@@ -21,7 +21,7 @@ returns c =
     let made = c.make.new.self.found in
     let new = c.check_going.new.self.found in
     let change = c.args.act.now.change in
-    let turns = turned-found c.is_some.result change.turned old noting joined made c.is_some.ensures c.note.ensures c.check_coming.ensures.paths
+    let turns = turned-found c.is_some.result change old noting joined made (c.is_some.ensures ∙ ap is_some c.turned_from.ensures) c.note.ensures c.check_coming.ensures.paths
     c.in_ok-make.ensures.found in
     let others : KeepsFiles old made = files-on old noting made
     (unnoted-files c.is_some.result clause.Overwritten (λ h. h) old noting c.note.ensures)

@@ -3,7 +3,7 @@ use Rattle.md_judge.proofs.Sparing.{replies-kept, paths-kept, files-kept, one-ke
 use Rattle.std.proofs.Common.{◌≡◌, ◌∙◌, Option, Some, None, refl, sym, ap}
 use Rattle.std.specs.Option.{option_map}
 use Rattle.md_judge.specs.declared.judge.mail.Message.{Message}
-use Rattle.md_judge.specs.declared.judge.mail.Presence.{Presence}
+use Rattle.md_clauses.specs.declared.claims.Presence.{Presence}
 use Rattle.md_judge.specs.Listings.{message_of}
 use Rattle.md_judge.specs.Said.{presence_of}
 use Rattle.md_judge.proofs.Gone.{going-message, going-other, going-kept}

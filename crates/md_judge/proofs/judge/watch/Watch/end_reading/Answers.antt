@@ -11,7 +11,7 @@ use Rattle.md_judge.specs.Open.{reading_of}
 use Rattle.md_judge.proofs.Unlisting.{text_of, is-completed, goes-on-still, part-none, reads-one}
 use Rattle.md_log.specs.declared.clause.Clause.TheVariants as clause
 use Rattle.md_judge.specs.declared.judge.watch.Watch.{Watch}
-use Rattle.md_judge.specs.Found.{NotesOne, KeepsReplies, KeepsFiles, KeepsMessages}
+use Rattle.md_clauses.specs.Found.{NotesOne, KeepsReplies, KeepsFiles, KeepsMessages}
 use Rattle.md_judge.proofs.Sparing.{keeps-notes, replies-kept, replies-same, files-kept, same-files, added-kept, added-same}
 use Rattle.md_judge.proofs.judge.watch.Watch.end_reading.Goals.{then-is_complete, else-is_complete}
 use Rattle.md_judge.proofs.judge.watch.Watch.end_reading.Goals as goal

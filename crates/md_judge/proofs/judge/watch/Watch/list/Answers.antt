@@ -23,7 +23,7 @@ use Rattle.md_judge.specs.declared.judge.listing.Reading.{Reading}
 use Rattle.md_log.specs.declared.clause.Clause.TheVariants as clause
 use Rattle.md_judge.specs.declared.judge.watch.Watch.{Watch}
 use Rattle.md_judge.proofs.Sparing.{answers-same, answers-on, keeps-notes, one-notes, one-kept, keeps-one, keeps-same, replies-same, notes-one, files-kept, same-files, files-on, added-kept, added-same, added-on}
-use Rattle.md_judge.specs.Found.{Keeps, NotesOne, KeepsReplies, KeepsFiles, KeepsMessages, KeepsAnswers}
+use Rattle.md_clauses.specs.Found.{Keeps, NotesOne, KeepsReplies, KeepsFiles, KeepsMessages, KeepsAnswers}
 use Rattle.md_judge.proofs.judge.watch.Watch.list.Goals.{in-Some, in-None, in-Some-directory, in_default, in-More, in_default-reply+in_ok-end_reading-in_default-reply}
 use Rattle.md_judge.proofs.judge.watch.Watch.list.Goals as goal
 

@@ -2,7 +2,7 @@ use Rattle.std.proofs.Common.{ℕ, ◌≡◌, ◌≢◌, ◌↔◌, true, Option
 use Rattle.std.specs.Option.{option_map}
 use Rattle.md_log.specs.declared.line.Reply.{Reply}
 use Rattle.md_log.specs.declared.line.Reply.TheVariants as reply
-use Rattle.md_judge.specs.declared.judge.about.About.{About}
+use Rattle.md_clauses.specs.declared.about.About.{About}
 use Rattle.md_judge.specs.Actors.{NotesAct, done_by}
 use Rattle.md_judge.proofs.Lined.{notes-act}
 use Rattle.md_judge.proofs.Marking.{put-deeds}

@@ -1,6 +1,6 @@
 use Rattle.std.proofs.Common.{ℕ, ◌≡◌, ◌+◌, Some, min, subst, arith}
 use Rattle.md_judge.specs.Listings.{message_of}
-use Rattle.md_judge.specs.Moments.{kept_moment}
+use Rattle.md_clauses.specs.Moments.{kept_moment}
 use Rattle.md_judge.specs.Timed.{CameAt}
 use Rattle.md_judge.proofs.Sparing.{ok-then}
 use Rattle.md_judge.proofs.judge.watch.Watch.put.Goals as goal

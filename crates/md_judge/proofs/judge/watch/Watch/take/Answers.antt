@@ -1,6 +1,6 @@
 use Rattle.std.proofs.Common.{ℕ, ◌≡◌, Option, None, refl, sym, subst}
 use Rattle.md_judge.specs.declared.judge.about.Actors.{Actors}
-use Rattle.md_judge.specs.declared.judge.directories.Spot.{Spot}
+use Rattle.md_clauses.specs.declared.changes.Spot.{Spot}
 use Rattle.md_judge.specs.declared.judge.mail.Mail.{Mail}
 use Rattle.md_judge.specs.Actors.{GoesBy, GoesWith, NotesMoves}
 use Rattle.md_judge.proofs.Moving.{moves-none}

@@ -1,7 +1,7 @@
 use Rattle.std.proofs.Common.{ℕ, ◌≡◌, ◌∙◌, Some, IsSome, true, refl, sym, ap, subst}
 use Rattle.md_judge.specs.declared.judge.copied.Copied.{Copied}
 use Rattle.md_judge.specs.declared.judge.mail.Mail.{Mail}
-use Rattle.md_judge.specs.declared.judge.about.About.{About}
+use Rattle.md_clauses.specs.declared.about.About.{About}
 use Rattle.md_judge.specs.Actors.{done_by}
 use Rattle.md_judge.specs.Files.{unique_in}
 use Rattle.md_judge.specs.Mailed.{Recounts, one_more, one_fewer, TurnAt}

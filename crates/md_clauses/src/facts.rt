@@ -1,6 +1,6 @@
 //! What was done to a file.
 ghost use Rattle.std.specs.Prelude.{◌≡◌, ◌≢◌, ◌↔◌, ◌<◌, ◌-◌, Some, IsTrue, OnOk, true};
-ghost use Rattle.md_judge.specs.Files.{made, written, flushed, shown, hidden};
+ghost use Rattle.md_clauses.specs.Facts.{made, written, flushed, shown, hidden};
 
 use md_dirs::Place;
 use md_log::Reply;
@@ -11,23 +11,23 @@ const CLEAN_AGE: u64 = 129_600;
 
 /// What was done to a file.
 #[derive(Clone, Copy)]
-pub(super) struct FileFacts {
+pub struct FileFacts {
     /// The actor that made it, where it was not there at the beginning.
-    pub(super) maker: Option<u32>,
-    pub(super) stamp: u64,
+    pub maker: Option<u32>,
+    pub stamp: u64,
     /// It was written to since its last flush.
-    pub(super) is_unflushed: bool,
+    pub is_unflushed: bool,
     /// Its last write failed.
-    pub(super) is_cut: bool,
+    pub is_cut: bool,
     /// It once was a message in cur.
-    pub(super) was_cur: bool,
+    pub was_cur: bool,
     /// How many paths of messages it has.
-    pub(super) seen: u32,
+    pub seen: u32,
 }
 
 impl FileFacts {
     /// Of a file that was just made.
-    pub(super) fn made(maker: Option<u32>, stamp: u64) -> Self
+    pub fn made(maker: Option<u32>, stamp: u64) -> Self
         ensures { result ≡ made maker stamp }
     {
         FileFacts {
@@ -41,7 +41,7 @@ impl FileFacts {
     }
 
     /// It is written to at a moment, and the write answers so.
-    pub(super) fn write(&mut self, reply: Reply, now: u64)
+    pub fn write(&mut self, reply: Reply, now: u64)
         ensures { self.new ≡ written reply now self.old }
     {
         match reply {
@@ -56,7 +56,7 @@ impl FileFacts {
     }
 
     /// It is flushed, and the call answers so.
-    pub(super) fn flush(&mut self, reply: Reply)
+    pub fn flush(&mut self, reply: Reply)
         ensures { self.new ≡ flushed reply self.old }
     {
         if reply == Reply::Ok {
@@ -65,7 +65,7 @@ impl FileFacts {
     }
 
     /// It has one more path of a message. More than 4,294,967,295 are not counted.
-    pub(super) fn show(&mut self, in_cur: bool) -> Result<(), AllocError>
+    pub fn show(&mut self, in_cur: bool) -> Result<(), AllocError>
         ensures { OnOk result (self.new ≡ shown in_cur self.old) }
     {
         if self.seen == u32::MAX {
@@ -77,42 +77,49 @@ impl FileFacts {
     }
 
     /// It has one path of a message fewer.
-    pub(super) fn hide(&mut self)
+    pub fn hide(&mut self)
         ensures { self.new ≡ hidden self.old }
     {
         self.seen = self.seen.saturating_sub(1);
     }
 
+    /// Whether readers see it.
+    pub fn is_seen(&self) -> bool
+        ensures { IsTrue result ↔ (0 < self.now.seen) }
+    {
+        self.seen > 0
+    }
+
     /// Whether it was cut short and begins to be seen with its next path.
-    pub(super) fn shows_cut(&self) -> bool
+    pub fn shows_cut(&self) -> bool
         ensures { IsTrue result ↔ ((self.now.seen ≡ 0) × (self.now.is_cut ≡ true)) }
     {
         self.seen == 0 && self.is_cut
     }
 
     /// Whether it was not flushed and begins to be seen with its next path.
-    pub(super) fn shows_unflushed(&self) -> bool
+    pub fn shows_unflushed(&self) -> bool
         ensures { IsTrue result ↔ ((self.now.seen ≡ 0) × (self.now.is_unflushed ≡ true)) }
     {
         self.seen == 0 && self.is_unflushed
     }
 
     /// Whether a path of a message in this place moves it back from cur to new.
-    pub(super) fn is_back(&self, place: Place) -> bool
+    pub fn is_back(&self, place: Place) -> bool
         ensures { IsTrue result ↔ ((place ≡ Place.New) × (self.now.was_cur ≡ true)) }
     {
         place == Place::New && self.was_cur
     }
 
     /// Whether another actor made it, or none.
-    pub(super) fn is_of_another(&self, actor: u32) -> bool
+    pub fn is_of_another(&self, actor: u32) -> bool
         ensures { IsTrue result ↔ (self.now.maker ≢ Some actor) }
     {
         self.maker != Some(actor)
     }
 
     /// Whether an actor that takes a path in this place from it at a moment cleans early.
-    pub(super) fn is_early(&self, place: Place, actor: u32, now: u64) -> bool
+    pub fn is_early(&self, place: Place, actor: u32, now: u64) -> bool
         ensures { IsTrue result ↔ ((place ≡ Place.Tmp) × (self.now.seen ≡ 0) × (self.now.maker ≢ Some actor) × (now - self.now.stamp < 129600)) }
     {
         let is_young = now.saturating_sub(self.stamp) < CLEAN_AGE;

@@ -2,8 +2,8 @@
 use Rattle.std.specs.Prelude.{ℕ, ◌≡◌, ◌↔◌, ◌⊎◌, true, Some, slice_get}
 use Rattle.md_log.specs.declared.clause.Clause.{Clause}
 use Rattle.md_log.specs.declared.clause.Clause.TheVariants as clause
-use Rattle.md_judge.specs.declared.judge.clauses.Clauses.{Clauses}
-use Rattle.md_judge.specs.declared.judge.found.Found.{Found}
+use Rattle.md_clauses.specs.declared.clauses.Clauses.{Clauses}
+use Rattle.md_clauses.specs.declared.found.Found.{Found}
 
 -- the number of a clause in the order of the law
 abbrev pub clause_index : Clause → ℕ

@@ -1,34 +1,34 @@
 //! The earlier lines that broken clauses go back to.
 ghost use Rattle.std.specs.Prelude.{◌≡◌, ◌<◌};
-ghost use Rattle.md_judge.specs.Moments.{kept_moment};
+ghost use Rattle.md_clauses.specs.Moments.{kept_moment};
 
 use md_log::Clause;
 
 /// The number of a line that something was done at, or none where that isn't known.
-pub(super) type Mark = u32;
+pub type Mark = u32;
 
 /// A moment, as tables keep it: no log has more lines than 4,294,967,294.
-pub(super) type Moment = u32;
+pub type Moment = u32;
 
 /// A moment that comes to be kept.
-pub(super) fn moment_of(moment: usize) -> Moment
+pub fn moment_of(moment: usize) -> Moment
     ensures { result ≡ kept_moment moment }
 {
     u32::try_from(moment).unwrap_or(u32::MAX)
 }
 
 /// No line is known.
-pub(super) const NO_MARK: Mark = 0;
+pub const NO_MARK: Mark = 0;
 
 /// The mark of a line. A line past 4,294,967,295 has none.
-pub(super) fn mark_of(line: usize) -> Mark
+pub fn mark_of(line: usize) -> Mark
     ensures { line < 4294967296 → result ≡ line }
 {
     u32::try_from(line).unwrap_or(NO_MARK)
 }
 
 /// The line of a mark.
-pub(super) fn line_at(mark: Mark) -> Option<usize> {
+pub fn line_at(mark: Mark) -> Option<usize> {
     match mark {
         NO_MARK => None,
         line => Some(line as usize),
@@ -36,7 +36,7 @@ pub(super) fn line_at(mark: Mark) -> Option<usize> {
 }
 
 /// The line that made what is there since a moment.
-pub(super) fn line_before(since: usize) -> Option<usize> {
+pub fn line_before(since: usize) -> Option<usize> {
     match since {
         0 | 1 => None,
         since => Some(since - 1),
@@ -45,17 +45,17 @@ pub(super) fn line_before(since: usize) -> Option<usize> {
 
 /// For each clause that a step breaks, the earlier line that it goes back to.
 #[derive(Clone, Copy)]
-pub(super) struct Befores {
+pub struct Befores {
     lines: [Option<usize>; 13],
 }
 
 impl Befores {
-    pub(super) fn none() -> Self {
+    pub fn none() -> Self {
         Befores { lines: [None; 13] }
     }
 
     /// Notes the earlier line of a clause, unless one is noted.
-    pub(super) fn note(&mut self, clause: Clause, line: Option<usize>) {
+    pub fn note(&mut self, clause: Clause, line: Option<usize>) {
         if let Some(noted) = self.lines.get_mut(clause as usize)
             && noted.is_none()
         {
@@ -63,7 +63,7 @@ impl Befores {
         }
     }
 
-    pub(super) fn line(&self, clause: Clause) -> Option<usize> {
+    pub fn line(&self, clause: Clause) -> Option<usize> {
         self.lines.get(clause as usize).copied().unwrap_or(None)
     }
 }

@@ -1,30 +1,30 @@
 //! Sets of clauses.
 ghost use Rattle.std.specs.Prelude.{◌≡◌, ◌↔◌, ◌⊎◌, IsTrue};
 ghost use Rattle.md_log.specs.declared.clause.Clause.{Clause};
-ghost use Rattle.md_judge.specs.Found.{Has, clause_index};
+ghost use Rattle.md_clauses.specs.Found.{Has, clause_index};
 
 use md_log::Clause;
 
 /// A set of clauses.
 #[derive(Clone, Copy)]
-pub(crate) struct Clauses {
-    has: [bool; 13],
+pub struct Clauses {
+    pub has: [bool; 13],
 }
 
 impl Clauses {
-    pub(crate) fn none() -> Self
+    pub fn none() -> Self
         ensures { (c : Clause) → Has result c → ⊥ }
     {
         Clauses { has: [false; 13] }
     }
 
-    pub(crate) fn add(&mut self, clause: Clause)
+    pub fn add(&mut self, clause: Clause)
         ensures { (c : Clause) → Has self.new c ↔ (Has self.old c ⊎ (c ≡ clause)) }
     {
         self.has[number_of(clause)] = true;
     }
 
-    pub(crate) fn contains(&self, clause: Clause) -> bool
+    pub fn contains(&self, clause: Clause) -> bool
         ensures { IsTrue result ↔ Has self.now clause }
     {
         self.has[number_of(clause)]

@@ -1,7 +1,7 @@
 //! What is found at a step: the clauses that it breaks, and the earlier lines that they go back to.
 ghost use Rattle.std.specs.Prelude.{◌≡◌, ◌↔◌, IsTrue};
 ghost use Rattle.md_log.specs.declared.clause.Clause.{Clause};
-ghost use Rattle.md_judge.specs.Found.{Has, Notes};
+ghost use Rattle.md_clauses.specs.Found.{Has, Notes};
 
 use super::befores::Befores;
 use super::clauses::Clauses;
@@ -9,13 +9,13 @@ use md_log::Clause;
 
 /// The clauses that a step breaks, as far as it is judged.
 #[derive(Clone, Copy)]
-pub(super) struct Found {
-    broken: Clauses,
+pub struct Found {
+    pub broken: Clauses,
     befores: Befores,
 }
 
 impl Found {
-    pub(super) fn nothing() -> Self
+    pub fn nothing() -> Self
         ensures { (c : Clause) → Has result.broken c → ⊥ }
     {
         Found {
@@ -25,19 +25,19 @@ impl Found {
     }
 
     /// Whether the step breaks the clause.
-    pub(super) fn is_broken(&self, clause: Clause) -> bool
+    pub fn is_broken(&self, clause: Clause) -> bool
         ensures { IsTrue result ↔ Has self.now.broken clause }
     {
         self.broken.contains(clause)
     }
 
     /// The moment of the earlier line that the clause goes back to, where it is broken.
-    pub(super) fn before(&self, clause: Clause) -> Option<usize> {
+    pub fn before(&self, clause: Clause) -> Option<usize> {
         self.befores.line(clause)
     }
 
     /// Notes a clause that is broken, and the earlier line that it goes back to.
-    pub(super) fn note(&mut self, is_broken: bool, clause: Clause, before: Option<usize>)
+    pub fn note(&mut self, is_broken: bool, clause: Clause, before: Option<usize>)
         ensures { Notes (λ c. IsTrue is_broken × (c ≡ clause)) self.old self.new }
     {
         if is_broken {

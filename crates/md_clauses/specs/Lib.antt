@@ -1,0 +1,6 @@
+pub mod Found
+pub mod Moments
+pub mod Facts
+pub mod Changes
+pub mod Goings
+pub mod Claims
