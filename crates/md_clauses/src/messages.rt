@@ -67,7 +67,7 @@ impl Going {
 pub struct Listed {
     /// A reading of the listing shows it.
     pub is_shown: bool,
-    /// It was there at each reading.
+    /// It was there at each reading. Nobody needs to ask of one that is shown.
     pub was_there: bool,
 }
 

@@ -230,9 +230,10 @@ impl Listing {
     fn lacks(&self, mail: &Mail, folder: u32, unique: u32) -> bool
         ensures { result ≡ is_lacking self.now mail.now folder unique }
     {
+        let is_shown = self.shown.contains(&unique);
         let listed = Listed {
-            is_shown: self.shown.contains(&unique),
-            was_there: self.was_there(mail.message((folder, unique))),
+            is_shown,
+            was_there: !is_shown && self.was_there(mail.message((folder, unique))),
         };
         listed.is_left_out()
     }
