@@ -1,82 +1,38 @@
-//! Plays each script of the folder that it runs in, over hashed and over plain directories, and compares what it prints, and the refusal that
-//! it ends with, with the text beside it: `NAME.script` with `NAME.out`. Then it does the same with the rows of `NAME.rows`: a script, a
-//! line `>`, and what it prints. Between rows is a line `%`.
+//! Plays the example scripts of the folder that it runs in, and then runs the server of `uses`, by the words THREADS ROUNDS MESSAGES LISTING:
+//! in each of so many rounds, each of so many threads takes in so many messages, and lists after each so many of them. It prints what was
+//! counted, which is the same whatever the schedule.
 #![tactic(auto)]
 
-use md_dirs::{IndexDirs, PlainDirs};
-use md_script::{Storage, transcript_over};
-use std::{fs, io};
+mod scripts;
 
-fn main(rt: HostRuntime) -> io::Result<()> {
-    for name in &names_with(&rt, ".script")? {
-        let verdict = if is_as_expected(&rt, name.as_str())? {
-            "as expected"
-        } else {
-            "DIFFERS"
-        };
-        println!(rt; "{name}: {verdict}")?;
-    }
-    for name in &names_with(&rt, ".rows")? {
-        play_rows(&rt, name.as_str())?;
-    }
+use anyhow::{Context, Result};
+use std::env;
+use std::env::Args;
+use uses::server::{Plan, Unwatched, serve};
+
+// The next word, a number.
+fn number(words: &mut Args) -> Result<u64> {
+    let word = words.next().context("THREADS ROUNDS MESSAGES LISTING")?;
+    word.parse::<u64>().context("a number")
+}
+
+fn main(rt: HostRuntime) -> Result<()> {
+    scripts::play_all(&rt)?;
+    let mut words = env::args(&rt)?;
+    let _program = words.next();
+    let threads = number(&mut words)? as usize;
+    let rounds = number(&mut words)?;
+    let messages = number(&mut words)?;
+    let listing = number(&mut words)?;
+    let plan = Plan {
+        threads,
+        messages,
+        listing,
+    };
+    let (counts, kept) = serve(&rt, rt.alloc(), plan, rounds, &Unwatched)?;
+    println!(rt; "delivered {}", counts.delivered)?;
+    println!(rt; "seen {}", counts.seen)?;
+    println!(rt; "listed {}", counts.listed)?;
+    println!(rt; "kept {kept}")?;
     Ok(())
-}
-
-// The files with this ending, without it, in order.
-fn names_with(rt: &HostRuntime, ending: &str) -> io::Result<Vec<String>> {
-    let mut names = Vec::new(rt.alloc());
-    for entry in fs::read_dir(rt, ".")? {
-        let entry = entry?;
-        if let Some(name) = entry.file_name().strip_suffix(ending) {
-            names.push(String::from_str(rt.alloc(), name)?)?;
-        }
-    }
-    names.sort()?;
-    Ok(names)
-}
-
-fn is_as_expected(rt: &HostRuntime, name: &str) -> io::Result<bool> {
-    let script = format!(in rt.alloc(); "{name}.script")?;
-    let expected = format!(in rt.alloc(); "{name}.out")?;
-    let script = fs::read(rt, script.as_str())?;
-    let expected = fs::read(rt, expected.as_str())?;
-    prints(rt, &script, &expected)
-}
-
-fn play_rows(rt: &HostRuntime, name: &str) -> io::Result<()> {
-    let file = format!(in rt.alloc(); "{name}.rows")?;
-    let rows = fs::read_to_string(rt, file.as_str())?;
-    let mut count = 0u64;
-    for row in rows.as_str().split("%\n") {
-        if is_row_as_expected(rt, row)? {
-            count = count.saturating_add(1);
-        } else {
-            println!(rt; "{name}: DIFFERS\n{row}")?;
-        }
-    }
-    println!(rt; "{name}: {count} rows as expected")
-}
-
-fn is_row_as_expected(rt: &HostRuntime, row: &str) -> io::Result<bool> {
-    match row.split_once(">\n") {
-        Some((script, expected)) => prints(rt, script.as_bytes(), expected.as_bytes()),
-        None => Ok(false),
-    }
-}
-
-// Whether a script prints this over both kinds of directories.
-fn prints(rt: &HostRuntime, script: &[u8], expected: &[u8]) -> io::Result<bool> {
-    let is_hashed = prints_over::<IndexDirs>(rt, script, expected)?;
-    let is_plain = prints_over::<PlainDirs>(rt, script, expected)?;
-    Ok(is_hashed && is_plain)
-}
-
-fn prints_over<D: Storage>(rt: &HostRuntime, script: &[u8], expected: &[u8]) -> io::Result<bool> {
-    let printed = transcript_over::<D>(rt.alloc(), script)?;
-    let mut text = printed.text;
-    if let Some(refusal) = printed.refusal {
-        let line = format!(in rt.alloc(); "{refusal}\n")?;
-        text.extend_from_slice(line.as_bytes())?;
-    }
-    Ok(text.as_slice() == expected)
 }

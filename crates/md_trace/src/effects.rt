@@ -1,5 +1,5 @@
 //! Effects, as comments of a log.
-use crate::text::{push_number, push_path_of};
+use crate::text::{push_number, push_path_of, push_word};
 use md_core::{Change, Effect};
 use std::alloc::AllocError;
 
@@ -10,17 +10,21 @@ pub(crate) fn push_effect(
     effect: &Effect,
 ) -> Result<(), AllocError> {
     out.extend_from_slice(b"# effect ")?;
-    match &effect.change {
+    push_change(out, names, &effect.change)?;
+    Ok(out.push(b'\n')?)
+}
+
+fn push_change(out: &mut Vec<u8>, names: &[Vec<u8>], change: &Change) -> Result<(), AllocError> {
+    match change {
         Change::Add {
             folder,
             place,
             name,
             size,
         } => {
-            out.extend_from_slice(b"add")?;
-            push_path_of(out, names, *folder, *place, name.as_slice())?;
+            push_word(out, names, b"add", *folder, *place, name.as_slice())?;
             out.push(b' ')?;
-            push_number(out, *size)?;
+            push_number(out, *size)
         }
         Change::Rename {
             folder,
@@ -30,19 +34,14 @@ pub(crate) fn push_effect(
             to_place,
             to_name,
         } => {
-            out.extend_from_slice(b"rename")?;
-            push_path_of(out, names, *folder, *place, name.as_slice())?;
-            push_path_of(out, names, *to_folder, *to_place, to_name.as_slice())?;
+            push_word(out, names, b"rename", *folder, *place, name.as_slice())?;
+            push_path_of(out, names, *to_folder, *to_place, to_name.as_slice())
         }
         Change::Remove {
             folder,
             place,
             name,
-        } => {
-            out.extend_from_slice(b"remove")?;
-            push_path_of(out, names, *folder, *place, name.as_slice())?;
-        }
-        Change::Same => out.extend_from_slice(b"same")?,
+        } => push_word(out, names, b"remove", *folder, *place, name.as_slice()),
+        Change::Same => out.extend_from_slice(b"same"),
     }
-    Ok(out.push(b'\n')?)
 }

@@ -1,5 +1,5 @@
 // Directories that note the call that was made of them last.
-ghost use Rattle.std.specs.Prelude.{◌≡◌, None, IsErrOf, IfOk, OnErr, IfSome, option_map};
+ghost use Rattle.std.specs.Prelude.{◌≡◌, None, Ok, IsErrOf, IfOk, OnErr, IfSome, option_map};
 ghost use Rattle.md_dirs.specs.Calls.{Obeys, create, append, link, rename, unlink, list};
 ghost use Rattle.md_dirs.specs.Image.{image_state, image_refusal};
 ghost use Rattle.md_dirs.specs.Rows.{rows_of, row_named};
@@ -10,7 +10,7 @@ use md_script::Storage;
 use std::alloc::{AllocError, Global};
 
 /// A directory call, with its paths. A look for one message is a listing, of which one row is kept.
-#[derive(Debug, Drop)]
+#[derive(Drop)]
 pub enum Asked {
     Create(Path),
     Append(Path),
@@ -38,6 +38,14 @@ impl<D: Dirs> NotedDirs<D> {
     {
         self.noted.as_ref()
     }
+}
+
+// Keeps a note in the place of the last, or none where memory was refused to it. The last is let go here alone, since that is proved anew
+// in each function that does it.
+fn note(noted: &mut Option<Asked>, asked: Result<Asked, AllocError>)
+    ensures { IfSome noted.new (λ call. asked ≡ Ok call) }
+{
+    *noted = asked.ok();
 }
 
 // A note of a call of one path.
@@ -84,7 +92,7 @@ impl<D: Dirs> Dirs for NotedDirs<D> {
         ensures meets { Obeys (create path.now now) (D.device self.old.dirs) result (D.device self.new.dirs) }
         ensures noted { IfSome self.new.noted (λ call. call ≡ asked.Create path.now) }
     {
-        self.noted = create_of(self.alloc, path).ok();
+        note(&mut self.noted, create_of(self.alloc, path));
         self.dirs.create(path, now)
     }
 
@@ -92,7 +100,7 @@ impl<D: Dirs> Dirs for NotedDirs<D> {
         ensures meets { Obeys (append path.now bytes.now now) (D.device self.old.dirs) result (D.device self.new.dirs) }
         ensures noted { IfSome self.new.noted (λ call. call ≡ asked.Append path.now) }
     {
-        self.noted = append_of(self.alloc, path).ok();
+        note(&mut self.noted, append_of(self.alloc, path));
         self.dirs.append(path, bytes, now)
     }
 
@@ -101,7 +109,7 @@ impl<D: Dirs> Dirs for NotedDirs<D> {
         ensures body { OnErr result (body.new ≡ body.old) }
         ensures noted { IfSome self.new.noted (λ call. call ≡ asked.Append path.now) }
     {
-        self.noted = append_of(self.alloc, path).ok();
+        note(&mut self.noted, append_of(self.alloc, path));
         self.dirs.append_body(path, body, now)
     }
 
@@ -109,7 +117,7 @@ impl<D: Dirs> Dirs for NotedDirs<D> {
         ensures meets { Obeys (link old.now new.now) (D.device self.old.dirs) result (D.device self.new.dirs) }
         ensures noted { IfSome self.new.noted (λ call. call ≡ asked.Link old.now new.now) }
     {
-        self.noted = link_of(self.alloc, old, new).ok();
+        note(&mut self.noted, link_of(self.alloc, old, new));
         self.dirs.link(old, new)
     }
 
@@ -117,7 +125,7 @@ impl<D: Dirs> Dirs for NotedDirs<D> {
         ensures meets { Obeys (rename old.now new.now) (D.device self.old.dirs) result (D.device self.new.dirs) }
         ensures noted { IfSome self.new.noted (λ call. call ≡ asked.Rename old.now new.now) }
     {
-        self.noted = rename_of(self.alloc, old, new).ok();
+        note(&mut self.noted, rename_of(self.alloc, old, new));
         self.dirs.rename(old, new)
     }
 
@@ -126,7 +134,7 @@ impl<D: Dirs> Dirs for NotedDirs<D> {
         ensures no_memory { IsErrOf result DirError.NoMemory → ⊥ }
         ensures noted { IfSome self.new.noted (λ call. call ≡ asked.Unlink path.now) }
     {
-        self.noted = unlink_of(self.alloc, path).ok();
+        note(&mut self.noted, unlink_of(self.alloc, path));
         self.dirs.unlink(path)
     }
 
@@ -135,7 +143,7 @@ impl<D: Dirs> Dirs for NotedDirs<D> {
         ensures rows { IfOk result (λ rows. rows.items ≡ rows_of (D.device self.old.dirs).state folder place) }
         ensures noted { IfSome self.new.noted (λ call. call ≡ asked.List folder place) }
     {
-        self.noted = Some(Asked::List { folder, place });
+        note(&mut self.noted, Ok(Asked::List { folder, place }));
         self.dirs.list(folder, place)
     }
 
@@ -144,7 +152,7 @@ impl<D: Dirs> Dirs for NotedDirs<D> {
         ensures row { IfOk result (λ row. row ≡ row_named unique.now (rows_of (D.device self.old.dirs).state folder place)) }
         ensures noted { IfSome self.new.noted (λ call. call ≡ asked.List folder place) }
     {
-        self.noted = Some(Asked::List { folder, place });
+        note(&mut self.noted, Ok(Asked::List { folder, place }));
         self.dirs.find(folder, place, unique)
     }
 

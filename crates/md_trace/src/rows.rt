@@ -1,6 +1,6 @@
 //! The rows of directories, as the beginning of a log, a listing and a comment have them.
 use crate::text::{place_text, push_message, push_name, push_number, push_path_of, push_seconds};
-use md_dirs::{Dirs, Place};
+use md_dirs::{Dirs, Place, RowRef};
 use md_script::PlayKind;
 use std::alloc::AllocError;
 
@@ -16,15 +16,26 @@ pub(crate) fn push_files<D: Dirs>(
         for place in PLACES {
             for at in 0..dirs.count(folder, place) {
                 if let Some(row) = dirs.row_at(folder, place, at) {
-                    out.extend_from_slice(b"file")?;
-                    push_path_of(out, names, folder, place, row.name)?;
-                    out.push(b' ')?;
-                    push_seconds(out, row.stamp)?;
-                    out.push(b'\n')?;
+                    push_file(out, names, folder, place, row)?;
                 }
             }
         }
     }
+    Ok(())
+}
+
+fn push_file(
+    out: &mut Vec<u8>,
+    names: &[Vec<u8>],
+    folder: u32,
+    place: Place,
+    row: RowRef<'_>,
+) -> Result<(), PlayKind> {
+    out.extend_from_slice(b"file")?;
+    push_path_of(out, names, folder, place, row.name)?;
+    out.push(b' ')?;
+    push_seconds(out, row.stamp)?;
+    out.push(b'\n')?;
     Ok(())
 }
 
@@ -55,17 +66,28 @@ pub(crate) fn push_states<D: Dirs>(
         for place in PLACES {
             for at in 0..dirs.count(folder, place) {
                 if let Some(row) = dirs.row_at(folder, place, at) {
-                    out.extend_from_slice(b"# ")?;
-                    out.extend_from_slice(place_text(place))?;
-                    push_message(out, names, folder, row.name)?;
-                    out.push(b' ')?;
-                    push_number(out, row.stamp)?;
-                    out.push(b' ')?;
-                    push_number(out, row.size)?;
-                    out.push(b'\n')?;
+                    push_state(out, names, folder, place, row)?;
                 }
             }
         }
     }
+    Ok(())
+}
+
+fn push_state(
+    out: &mut Vec<u8>,
+    names: &[Vec<u8>],
+    folder: u32,
+    place: Place,
+    row: RowRef<'_>,
+) -> Result<(), AllocError> {
+    out.extend_from_slice(b"# ")?;
+    out.extend_from_slice(place_text(place))?;
+    push_message(out, names, folder, row.name)?;
+    out.push(b' ')?;
+    push_number(out, row.stamp)?;
+    out.push(b' ')?;
+    push_number(out, row.size)?;
+    out.push(b'\n')?;
     Ok(())
 }

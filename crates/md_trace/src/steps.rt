@@ -1,9 +1,9 @@
 //! Steps, as a log has them.
 use crate::noted::{Asked, NotedDirs};
 use crate::rows::push_names;
-use crate::text::{place_text, push_folder, push_number, push_path, push_seconds};
+use crate::text::{place_text, push_folder, push_number, push_path, push_seconds, push_word};
 use md_core::{DirReply, Event};
-use md_dirs::{Dirs, Place};
+use md_dirs::{Dirs, Path, Place};
 use md_script::PlayKind;
 use std::alloc::AllocError;
 
@@ -25,45 +25,56 @@ pub(crate) fn push_call<D: Dirs>(
     let Some(asked) = dirs.noted() else {
         return Err(PlayKind::NoMemory);
     };
-    match asked {
-        Asked::Create(path) => {
-            out.extend_from_slice(b" create")?;
-            push_path(out, names, path)?;
-        }
-        Asked::Append(path) => {
-            out.extend_from_slice(b" write")?;
-            push_path(out, names, path)?;
-        }
-        Asked::Link { old, new } => {
-            out.extend_from_slice(b" link")?;
-            push_path(out, names, old)?;
-            push_path(out, names, new)?;
-        }
-        Asked::Rename { old, new } => {
-            out.extend_from_slice(b" rename")?;
-            push_path(out, names, old)?;
-            push_path(out, names, new)?;
-        }
-        Asked::Unlink(path) => {
-            out.extend_from_slice(b" unlink")?;
-            push_path(out, names, path)?;
-        }
-        Asked::List { folder, place } => {
-            push_list(out, names, *folder, *place)?;
-            out.push(b' ')?;
-            out.extend_from_slice(reply_text(reply))?;
-            // A listing changes nothing, so that the names after it are those that it read.
-            if reply == DirReply::Ok {
-                push_names(out, dirs, *folder, *place)?;
-            }
-            out.push(b'\n')?;
-            return Ok(());
-        }
-    }
+    push_asked(out, names, asked)?;
     out.push(b' ')?;
     out.extend_from_slice(reply_text(reply))?;
+    // A listing changes nothing, so that the names after it are those that it read.
+    if reply == DirReply::Ok
+        && let Asked::List { folder, place } = asked
+    {
+        push_names(out, dirs, *folder, *place)?;
+    }
     out.push(b'\n')?;
     Ok(())
+}
+
+// A call and its paths. No way but the last leaves a branch, since each is proved with all that follows.
+fn push_asked(out: &mut Vec<u8>, names: &[Vec<u8>], asked: &Asked) -> Result<(), AllocError> {
+    match asked {
+        Asked::Create(path) => push_one(out, names, b" create", path),
+        Asked::Append(path) => push_one(out, names, b" write", path),
+        Asked::Link { old, new } => push_two(out, names, b" link", old, new),
+        Asked::Rename { old, new } => push_two(out, names, b" rename", old, new),
+        Asked::Unlink(path) => push_one(out, names, b" unlink", path),
+        Asked::List { folder, place } => push_list(out, names, *folder, *place),
+    }
+}
+
+fn push_one(
+    out: &mut Vec<u8>,
+    names: &[Vec<u8>],
+    word: &[u8],
+    path: &Path,
+) -> Result<(), AllocError> {
+    push_word(
+        out,
+        names,
+        word,
+        path.folder,
+        path.place,
+        path.name.as_slice(),
+    )
+}
+
+fn push_two(
+    out: &mut Vec<u8>,
+    names: &[Vec<u8>],
+    word: &[u8],
+    old: &Path,
+    new: &Path,
+) -> Result<(), AllocError> {
+    push_one(out, names, word, old)?;
+    push_path(out, names, new)
 }
 
 fn push_list(

@@ -86,6 +86,19 @@ pub(crate) fn push_path_of(
     push_name(out, name)
 }
 
+/// Appends a word, and the same after it.
+pub(crate) fn push_word(
+    out: &mut Vec<u8>,
+    names: &[Vec<u8>],
+    word: &[u8],
+    folder: u32,
+    place: Place,
+    name: &[u8],
+) -> Result<(), AllocError> {
+    out.extend_from_slice(word)?;
+    push_path_of(out, names, folder, place, name)
+}
+
 /// The name of a directory of a maildir.
 pub(crate) fn place_text(place: Place) -> &'static [u8] {
     match place {

@@ -1,5 +1,8 @@
 //! Calls that are made at once, and a world that goes on after its last call.
-use crate::error::UseError;
+ghost use Rattle.std.specs.Prelude.{◌≡◌, IfOk};
+ghost use Rattle.md_core.specs.Settling.{settled};
+
+use anyhow::Result;
 use md_core::{Answer, Call, World};
 use md_dirs::{Bytes, IndexDirs};
 
@@ -10,7 +13,7 @@ pub fn deliver_now(
     unique: Bytes,
     body: Bytes,
     now: u64,
-) -> Result<bool, UseError> {
+) -> Result<bool> {
     let call = Call::Deliver {
         folder,
         unique,
@@ -21,6 +24,11 @@ pub fn deliver_now(
 }
 
 /// The world as it is, with room for 10,000 calls again.
-pub fn go_on(world: World<IndexDirs>) -> Result<World<IndexDirs>, UseError> {
-    Ok(world.settle().map_err(|refused| refused.error)?)
+pub fn go_on(world: World<IndexDirs>) -> Result<World<IndexDirs>>
+    ensures { IfOk result (λ w. w ≡ settled world) }
+{
+    match world.settle() {
+        Ok(begun) => Ok(begun),
+        Err(refused) => Err(refused.error.into()),
+    }
 }

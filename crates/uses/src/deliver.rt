@@ -1,26 +1,50 @@
 //! One delivery, from the call to the listing.
-use crate::error::UseError;
+ghost use Rattle.std.specs.Prelude.{◌≡◌, [], IfOk};
+
+use anyhow::{Result, bail};
 use md_core::{Answer, Call, World};
 use md_dirs::{Bytes, IndexDirs};
 use md_view::{Entry, list};
-use std::alloc::Global;
+use std::alloc::{AllocError, Global};
 
-/// Delivers a message to the one folder of a new store, and lists the folder.
-pub fn deliver(alloc: Global, unique: &[u8], body: &[u8]) -> Result<Vec<Entry>, UseError> {
+/// A world of one folder, without a message.
+pub fn new_world(alloc: Global) -> Result<World<IndexDirs>>
+    ensures { IfOk result (λ w. w.events ≡ []) }
+{
     let dirs = IndexDirs::new(alloc, 1);
-    let mut world = World::load(alloc, dirs).map_err(|refused| refused.error)?;
-    let call = Call::Deliver {
+    match World::load(alloc, dirs) {
+        Ok(world) => Ok(world),
+        Err(refused) => Err(refused.error.into()),
+    }
+}
+
+/// The call that delivers a message to the first folder.
+pub fn delivery(alloc: Global, unique: &[u8], body: &[u8]) -> Result<Call, AllocError> {
+    Ok(Call::Deliver {
         folder: 0,
         unique: Bytes::copied(alloc, unique)?,
         body: Bytes::copied(alloc, body)?,
         chunk: 4096,
+    })
+}
+
+/// Delivers a message to the first folder of a world, and lists the folder.
+pub fn deliver(
+    alloc: Global,
+    world: &mut World<IndexDirs>,
+    unique: &[u8],
+    body: &[u8],
+) -> Result<Vec<Entry>> {
+    let call = delivery(alloc, unique, body)?;
+    let job = match world.submit(call) {
+        Ok(job) => job,
+        Err(refused) => return Err(refused.error.into()),
     };
-    let job = world.submit(call).map_err(|refused| refused.error)?;
     while world.answer(job).is_none() {
         world.step(job, 1000, None)?;
     }
     if world.answer(job) != Some(Answer::Delivered) {
-        return Err(UseError::NotDelivered);
+        bail!("not delivered");
     }
-    Ok(list(alloc, &world, 0)?)
+    Ok(list(alloc, world, 0)?)
 }

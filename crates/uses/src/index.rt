@@ -1,5 +1,5 @@
 //! The index of a folder.
-use crate::error::UseError;
+use anyhow::Result;
 use md_core::World;
 use md_dirs::IndexDirs;
 use md_index::{Indexed, Message, OpenGate, index};
@@ -14,7 +14,7 @@ pub fn index_folder<R: Threads + Wait + Sync>(
     alloc: Global,
     world: &World<IndexDirs>,
     folder: u32,
-) -> Result<Vec<Indexed>, UseError> {
+) -> Result<Vec<Indexed>> {
     let entries = list(alloc, world, folder)?;
     let mut messages = Vec::new(alloc);
     for entry in &entries {

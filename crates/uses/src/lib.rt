@@ -3,11 +3,8 @@
 
 pub mod call;
 pub mod deliver;
-mod error;
 pub mod head;
 pub mod index;
 pub mod locked;
 pub mod name;
 pub mod server;
-
-pub use error::UseError;

@@ -4,7 +4,8 @@ ghost use Rattle.std.specs.FinMap as finmap;
 ghost use Rattle.md_core.specs.Mailbox.{Entry, mailbox_of};
 ghost use Rattle.md_core.specs.Runs.{dirs_of};
 
-use crate::error::UseError;
+use crate::deliver::delivery;
+use anyhow::{Result, bail};
 use md_core::{Answer, Call};
 use md_dirs::{Bytes, IndexDirs};
 use md_store::{Locked, Naming, Pass, Store};
@@ -19,15 +20,10 @@ pub fn deliver_and_read<J: Naming, R: Wait>(
     pass: &mut Pass<J>,
     unique: &[u8],
     body: &[u8],
-) -> Result<Option<Bytes>, UseError> {
-    let delivery = Call::Deliver {
-        folder: 0,
-        unique: Bytes::copied(alloc, unique)?,
-        body: Bytes::copied(alloc, body)?,
-        chunk: 4096,
-    };
+) -> Result<Option<Bytes>> {
+    let call = delivery(alloc, unique, body)?;
     let mut locked = store.lock(rt);
-    let read = act(rt, alloc, &mut locked, pass, delivery, unique);
+    let read = act(rt, alloc, &mut locked, pass, call, unique);
     MutexGuard::unlock(locked);
     read
 }
@@ -40,16 +36,19 @@ fn act<J: Naming, R: Wait>(
     pass: &mut Pass<J>,
     delivery: Call,
     unique: &[u8],
-) -> Result<Option<Bytes>, UseError>
+) -> Result<Option<Bytes>>
     ensures { IfOk result (λ bytes. bytes ≡ option_map (λ (e : Entry). e.bytes) (finmap.get (mailbox_of (dirs_of locked.new.run)) unique.now)) }
 {
-    let job = locked.submit(delivery).map_err(|refused| refused.error)?;
+    let job = match locked.submit(delivery) {
+        Ok(job) => job,
+        Err(refused) => return Err(refused.error.into()),
+    };
     let mut answer = None;
     while answer.is_none() {
         answer = locked.step(rt, pass, job, 1000, None)?.out.answer;
     }
     if answer != Some(Answer::Delivered) {
-        return Err(UseError::NotDelivered);
+        bail!("not delivered");
     }
     Ok(locked.read(alloc, unique)?)
 }

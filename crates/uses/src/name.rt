@@ -1,10 +1,10 @@
 //! A name made and split.
-use crate::error::UseError;
+use anyhow::Result;
 use md_name::{Flags, UniqueParts, make_unique, split, with_flags};
 use std::alloc::Global;
 
 /// The file name of a seen message: the one that this process delivers after so many others, in this second.
-pub fn seen_name(alloc: Global, sec: u64, count: u64) -> Result<Vec<u8>, UseError> {
+pub fn seen_name(alloc: Global, sec: u64, count: u64) -> Result<Vec<u8>> {
     let parts = UniqueParts {
         sec,
         micro: 5,

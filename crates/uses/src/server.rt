@@ -4,8 +4,10 @@ ghost use Rattle.std.specs.Prelude.{◌≡◌};
 ghost use Rattle.md_view.specs.Named.{named_of};
 ghost use Rattle.md_store.specs.Locks.{IsFresh};
 
-use crate::error::UseError;
+use crate::call::go_on;
+use crate::deliver::{delivery, new_world};
 use crate::name::is_seen;
+use anyhow::Result;
 use md_core::{Answer, Call, World};
 use md_dirs::{Bytes, IndexDirs};
 use md_name::{Flags, UniqueParts, make_unique};
@@ -23,7 +25,7 @@ const MAIL: &[u8] = b"From: a@example.org\r\nSubject: hello\r\n\r\nHello.\r\n";
 const NOW: u64 = 1000;
 
 /// How many threads there are, how many messages each takes in, and after how many of them it lists.
-#[derive(Clone, Copy, Debug)]
+#[derive(Clone, Copy)]
 pub struct Plan {
     pub threads: usize,
     pub messages: u64,
@@ -31,7 +33,7 @@ pub struct Plan {
 }
 
 /// How many messages were delivered, how many were marked seen, and how many listings showed the message before them, seen.
-#[derive(Clone, Copy, Debug, PartialEq, Eq)]
+#[derive(Clone, Copy)]
 pub struct Counts {
     pub delivered: u64,
     pub seen: u64,
@@ -68,7 +70,7 @@ pub trait Watch {
 }
 
 /// Nothing is done.
-#[derive(Clone, Copy, Debug)]
+#[derive(Clone, Copy)]
 pub struct Unwatched;
 
 impl Watch for Unwatched {
@@ -93,7 +95,7 @@ impl<J: Naming> Session<J> {
         store: &Store<IndexDirs, J>,
         plan: Plan,
         round: u64,
-    ) -> Result<Counts, UseError> {
+    ) -> Result<Counts> {
         let mut counts = Counts::none();
         for count in 0..plan.messages {
             let unique = unique_name(alloc, round, self.number, count)?;
@@ -112,14 +114,9 @@ impl<J: Naming> Session<J> {
         alloc: Global,
         store: &Store<IndexDirs, J>,
         unique: &[u8],
-    ) -> Result<Counts, UseError> {
-        let delivery = Call::Deliver {
-            folder: 0,
-            unique: Bytes::copied(alloc, unique)?,
-            body: Bytes::copied(alloc, MAIL)?,
-            chunk: 4096,
-        };
-        let delivered = store.call(rt, &mut self.pass, delivery, NOW, None)?;
+    ) -> Result<Counts> {
+        let call = delivery(alloc, unique, MAIL)?;
+        let delivered = store.call(rt, &mut self.pass, call, NOW, None)?;
         let marking = Call::Seen {
             folder: 0,
             unique: Bytes::copied(alloc, unique)?,
@@ -140,7 +137,7 @@ impl<J: Naming> Session<J> {
         alloc: Global,
         store: &Store<IndexDirs, J>,
         unique: &[u8],
-    ) -> Result<Counts, UseError> {
+    ) -> Result<Counts> {
         let entries = store.list(alloc, &mut self.pass, 0)?;
         let listed = u64::from(shows_seen(&entries, unique));
         Ok(Counts {
@@ -153,11 +150,16 @@ impl<J: Naming> Session<J> {
 
 // Whether a listing shows a message of this unique name, marked seen.
 fn shows_seen(entries: &[Entry], unique: &[u8]) -> bool {
-    entries.iter().any(|entry| entry.unique.as_slice() == unique && is_seen(entry.name.as_slice()))
+    for entry in entries {
+        if entry.unique.as_slice() == unique {
+            return is_seen(entry.name.as_slice());
+        }
+    }
+    false
 }
 
 // The unique name of the message that a thread takes in after so many others of a round.
-fn unique_name(alloc: Global, round: u64, thread: u64, count: u64) -> Result<Vec<u8>, UseError> {
+fn unique_name(alloc: Global, round: u64, thread: u64, count: u64) -> Result<Vec<u8>> {
     let parts = UniqueParts {
         sec: NOW.saturating_add(round),
         micro: 5,
@@ -175,14 +177,13 @@ pub fn serve<W: Watch, R: Threads + Wait + Sync>(
     plan: Plan,
     rounds: u64,
     watch: &W,
-) -> Result<(Counts, usize), UseError> {
-    let dirs = IndexDirs::new(alloc, 1);
-    let mut world = World::load(alloc, dirs).map_err(|refused| refused.error)?;
+) -> Result<(Counts, usize)> {
+    let mut world = new_world(alloc)?;
     let mut counts = Counts::none();
     for number in 0..rounds {
         let (left, counted) = round(rt, alloc, world, plan, number, watch)?;
         counts = counts.and(counted);
-        world = left.settle().map_err(|refused| refused.error)?;
+        world = go_on(left)?;
     }
     let kept = list(alloc, &world, 0)?.len();
     Ok((counts, kept))
@@ -196,12 +197,12 @@ fn round<W: Watch, R: Threads + Wait + Sync>(
     plan: Plan,
     round: u64,
     watch: &W,
-) -> Result<(World<IndexDirs>, Counts), UseError>
+) -> Result<(World<IndexDirs>, Counts)>
     requires { IsFresh world }
 {
     match prepare(world, plan.threads) {
         Ok(prepared) => round_in::<Brand, W, R>(rt, alloc, prepared, plan, round, watch),
-        Err(refused) => Err(UseError::Open(refused.error)),
+        Err(refused) => Err(refused.error.into()),
     }
 }
 
@@ -212,13 +213,13 @@ fn round_in<J: Naming + Send + Sync, W: Watch, R: Threads + Wait + Sync>(
     plan: Plan,
     round: u64,
     watch: &W,
-) -> Result<(World<IndexDirs>, Counts), UseError>
+) -> Result<(World<IndexDirs>, Counts)>
     requires begun { prepared.run ≡ J.begun }
     requires named { (named_of prepared.run.image ≡ J.opening) × (prepared.book ≡ J.book) × (prepared.roll ≡ J.roll) }
 {
     let (store, passes) = match prepared.open::<J, R>(rt, alloc) {
         Ok(opened) => opened,
-        Err(refused) => return Err(UseError::Open(refused.error)),
+        Err(refused) => return Err(refused.error.into()),
     };
     watch.opened();
     let counts = by_threads(rt, alloc, &store, passes, plan, round);
@@ -235,7 +236,7 @@ fn by_threads<J: Naming + Send + Sync, R: Threads + Wait + Sync>(
     passes: Vec<Pass<J>>,
     plan: Plan,
     round: u64,
-) -> Result<Counts, UseError> {
+) -> Result<Counts> {
     let mut sessions = Vec::new(alloc);
     for (number, pass) in passes.into_iter().enumerate() {
         let number = number as u64;
