@@ -69,6 +69,26 @@ enum Call {
     Find(u32, Place, &'static [u8]),
 }
 
+// All of what is asked in one case is right, or memory was wanting. It says the case, and how much was right up to the first that was not.
+fn are_right(rt: &impl Abort, case: u32, right: Result<usize, DirError>, all: usize) {
+    let right = match right {
+        Ok(right) => right,
+        Err(DirError::NoMemory) => all,
+        Err(_) => 0,
+    };
+    assert!(rt; right == all, "{case}: {right} of {all}");
+}
+
+// The last four digits of a number, from the last to the first.
+fn digits(number: u32) -> [u8; 4] {
+    [
+        b'0' + (number % 10) as u8,
+        b'0' + (number / 10 % 10) as u8,
+        b'0' + (number / 100 % 10) as u8,
+        b'0' + (number / 1000 % 10) as u8,
+    ]
+}
+
 // The row that a directory finds, if any.
 fn found<D: Dirs>(
     alloc: Global,
@@ -138,9 +158,18 @@ fn is_same_row(a: &Row, b: &Row) -> bool {
     a.name.as_slice() == b.name.as_slice() && a.stamp == b.stamp && a.size == b.size
 }
 
+fn are_same_rows(a: &[Row], b: &[Row]) -> bool {
+    for (a, b) in a.iter().zip(b) {
+        if !is_same_row(a, b) {
+            return false;
+        }
+    }
+    a.len() == b.len()
+}
+
 fn is_same_answer(a: &Result<Vec<Row>, DirError>, b: &Result<Vec<Row>, DirError>) -> bool {
     match (a, b) {
-        (Ok(a), Ok(b)) => a.len() == b.len() && a.iter().zip(b).all(|(a, b)| is_same_row(a, b)),
+        (Ok(a), Ok(b)) => are_same_rows(a, b),
         (Err(a), Err(b)) => a == b,
         _ => false,
     }

@@ -1,8 +1,7 @@
 //! What no contract says: worked examples, among them those of RFC 5322, and each public function with ample memory.
-use md_head::{HeadError, Summary, cut_line, header_fields, summary};
+use md_head::{FieldBody, HeadError, Summary, cut_line, header_fields, summary};
 use md_name::Bytes;
 use std::alloc::{AllocError, Global};
-use std::test::Fail;
 
 /// The example of RFC 5322, A.1.1, and the date of its header.
 const HELLO: &[u8] =
@@ -85,57 +84,81 @@ fn shown(alloc: Global, summary: &Summary) -> Result<Vec<u8>, AllocError> {
     Ok(text)
 }
 
+fn is_shown(alloc: Global, summary: &Summary, wanted: &[u8]) -> bool {
+    match shown(alloc, summary) {
+        Ok(text) => text.as_slice() == wanted,
+        Err(_) => false,
+    }
+}
+
 /// Whether the summary of a message shows this.
-fn shows(alloc: Global, message: &[u8], wanted: &[u8]) -> Result<bool, Fail> {
-    let summary = summary(alloc, message)?;
-    Ok(shown(alloc, &summary)?.as_slice() == wanted)
+fn shows(alloc: Global, message: &[u8], wanted: &[u8]) -> bool {
+    match summary(alloc, message) {
+        Ok(summary) => is_shown(alloc, &summary, wanted),
+        Err(_) => false,
+    }
 }
 
 /// Whether a row is true.
-fn is_true(alloc: Global, row: &[u8]) -> Result<bool, Fail> {
+fn is_true(alloc: Global, row: &[u8]) -> bool {
     let mut parts = row.split(|byte| *byte == b'|');
     match (parts.next(), parts.next()) {
         (Some(message), Some(wanted)) => shows(alloc, message, wanted),
-        _ => Ok(false),
+        _ => false,
     }
 }
 
 #[test]
-fn shows_the_examples_of_the_standard(rt: HostRuntime) -> Result<(), Fail> {
-    assert!(rt; shows(rt.alloc(), HELLO, HELLO_SHOWS)?);
-    assert!(rt; shows(rt.alloc(), OBSOLETE, OBSOLETE_SHOWS)?);
-    Ok(())
+fn shows_the_examples_of_the_standard(rt: HostRuntime) {
+    assert!(rt; shows(rt.alloc(), HELLO, HELLO_SHOWS));
+    assert!(rt; shows(rt.alloc(), OBSOLETE, OBSOLETE_SHOWS));
 }
 
 #[test]
-fn shows_each_message(rt: HostRuntime) -> Result<(), Fail> {
+fn shows_each_message(rt: HostRuntime) {
     for row in ROWS.split(|byte| *byte == b'%') {
-        assert!(rt; is_true(rt.alloc(), row)?, "{row:?}");
+        assert!(rt; is_true(rt.alloc(), row), "{row:?}");
     }
-    Ok(())
+}
+
+fn reads_long(alloc: Global) -> bool {
+    match vec![in alloc; b'a'; 16_777_216] {
+        Ok(message) => shows(alloc, &message, b""),
+        Err(_) => false,
+    }
 }
 
 #[test]
-fn reads_a_long_line_without_a_colon(rt: HostRuntime) -> Result<(), Fail> {
-    let message = vec![in rt.alloc(); b'a'; 16_777_216]?;
-    assert!(rt; shows(rt.alloc(), &message, b"")?);
-    Ok(())
+fn reads_a_long_line_without_a_colon(rt: HostRuntime) {
+    assert!(rt; reads_long(rt.alloc()));
+}
+
+/// Whether a body is folded as it was written, and its value is not.
+fn is_lent(alloc: Global, body: FieldBody<'_>) -> bool {
+    match body.value(alloc) {
+        Ok(value) => {
+            body.folded == b" a\r\n b\r\n".as_slice() && value.as_slice() == b"a b".as_slice()
+        }
+        Err(_) => false,
+    }
 }
 
 #[test]
-fn borrows_from_the_message(rt: HostRuntime) -> Result<(), Fail> {
-    let fields = header_fields(b"Subject: a\r\n b\r\nFrom: c\r\n\r\n");
-    let body = fields.subject.ok_or("no subject")?;
-    assert!(rt; body.folded == b" a\r\n b\r\n".as_slice());
-    assert!(rt; body.value(rt.alloc())?.as_slice() == b"a b".as_slice());
-    Ok(())
+fn borrows_from_the_message(rt: HostRuntime) {
+    let is_lent = match header_fields(b"Subject: a\r\n b\r\nFrom: c\r\n\r\n").subject {
+        Some(body) => is_lent(rt.alloc(), body),
+        None => false,
+    };
+    assert!(rt; is_lent);
 }
 
 #[test]
-fn cuts_a_line(rt: HostRuntime) -> Result<(), Fail> {
-    let (line, rest) = cut_line(b" a\r\n b\r\n").ok_or("no line")?;
-    assert!(rt; line == b" a".as_slice() && rest == b" b\r\n".as_slice());
-    Ok(())
+fn cuts_a_line(rt: HostRuntime) {
+    let is_cut = match cut_line(b" a\r\n b\r\n") {
+        Some((line, rest)) => line == b" a".as_slice() && rest == b" b\r\n".as_slice(),
+        None => false,
+    };
+    assert!(rt; is_cut);
 }
 
 /// Whether a call wanted memory, or showed the subject.

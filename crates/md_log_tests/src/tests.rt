@@ -2,7 +2,7 @@
 use md_dirs::Bytes;
 use md_log::{Folders, LineFault, read_line};
 use std::alloc::Global;
-use std::test::Fail;
+use std::process::Abort;
 
 /// Lines of a log with the folder `i`, no step of which was read, and what is said of them.
 static ROWS: &[u8] = b"\
@@ -26,52 +26,77 @@ allow Gone|read%allow gone|bad clause%allow NotADirectory|bad clause%\
 @5..6 a list i new ok|bad line%1@5..6@7 a list i new ok|bad number%1@-5..6 a list i new ok|bad number%\
 9999999999999999999 a list i new ok|read%10000000000000000000 a list i new ok|bad number";
 
-fn folders(alloc: Global) -> Result<Folders, Fail> {
+fn folders(alloc: Global) -> Result<Folders, LineFault> {
     let mut folders = Folders::new(alloc);
     folders.add(Bytes::copied(alloc, b"i")?)?;
     Ok(folders)
 }
 
-fn said(alloc: Global, folders: &Folders, has_begun: bool, line: &[u8]) -> &'static str {
+fn is_said(alloc: Global, folders: &Folders, has_begun: bool, line: &[u8], wanted: &[u8]) -> bool {
     match read_line(alloc, folders, has_begun, line) {
-        Ok(_) => "read",
-        Err(fault) => fault.text(),
+        Ok(_) => wanted == b"read".as_slice(),
+        Err(fault) => wanted == fault.text().as_bytes(),
     }
 }
 
 /// Whether a row is true.
-fn is_true(alloc: Global, row: &[u8]) -> Result<bool, Fail> {
-    let folders = folders(alloc)?;
+fn is_true(alloc: Global, folders: &Folders, row: &[u8]) -> bool {
     let mut parts = row.split(|byte| *byte == b'|');
     match (parts.next(), parts.next()) {
-        (Some(line), Some(wanted)) => Ok(said(alloc, &folders, false, line).as_bytes() == wanted),
-        _ => Ok(false),
+        (Some(line), Some(wanted)) => is_said(alloc, folders, false, line, wanted),
+        _ => false,
     }
 }
 
-#[test]
-fn reads_each_row(rt: HostRuntime) -> Result<(), Fail> {
+fn read_rows(rt: &impl Abort, alloc: Global, folders: &Folders) -> bool {
     for row in ROWS.split(|byte| *byte == b'%') {
-        assert!(rt; is_true(rt.alloc(), row)?, "{row:?}");
+        assert!(rt; is_true(alloc, folders, row), "{row:?}");
     }
-    Ok(())
+    true
+}
+
+fn ends_the_beginning(alloc: Global, folders: &Folders) -> bool {
+    is_said(alloc, folders, true, b"folder  j", b"too late")
+        && is_said(alloc, folders, true, b"1 a list i new ok", b"read")
+}
+
+fn refuses_a_second(alloc: Global, folders: &mut Folders) -> bool {
+    match Bytes::copied(alloc, b"i") {
+        Ok(name) => matches!(folders.add(name), Err(LineFault::SameFolder)),
+        Err(_) => false,
+    }
+}
+
+/// What is done with the folder `i`.
+#[derive(Clone, Copy)]
+enum Scene {
+    Rows,
+    Begun,
+    Named,
+}
+
+fn is_played(rt: &impl Abort, alloc: Global, scene: Scene) -> bool {
+    match folders(alloc) {
+        Ok(mut folders) => match scene {
+            Scene::Rows => read_rows(rt, alloc, &folders),
+            Scene::Begun => ends_the_beginning(alloc, &folders),
+            Scene::Named => refuses_a_second(alloc, &mut folders),
+        },
+        Err(_) => false,
+    }
 }
 
 #[test]
-fn a_step_ends_the_beginning(rt: HostRuntime) -> Result<(), Fail> {
-    let folders = folders(rt.alloc())?;
-    assert_eq!(rt; said(rt.alloc(), &folders, true, b"folder  j"), "too late");
-    assert_eq!(rt;
-        said(rt.alloc(), &folders, true, b"1 a list i new ok"),
-        "read"
-    );
-    Ok(())
+fn reads_each_row(rt: HostRuntime) {
+    assert!(rt; is_played(&rt, rt.alloc(), Scene::Rows));
 }
 
 #[test]
-fn a_folder_is_named_once(rt: HostRuntime) -> Result<(), Fail> {
-    let mut folders = folders(rt.alloc())?;
-    let name = Bytes::copied(rt.alloc(), b"i")?;
-    assert!(rt; matches!(folders.add(name), Err(LineFault::SameFolder)));
-    Ok(())
+fn a_step_ends_the_beginning(rt: HostRuntime) {
+    assert!(rt; is_played(&rt, rt.alloc(), Scene::Begun));
+}
+
+#[test]
+fn a_folder_is_named_once(rt: HostRuntime) {
+    assert!(rt; is_played(&rt, rt.alloc(), Scene::Named));
 }

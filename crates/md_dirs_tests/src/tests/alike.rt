@@ -3,8 +3,8 @@ ghost use Rattle.std.specs.Prelude.{◌<◌};
 
 use super::thousand::CALLS;
 use super::{
-    At, Body, Call, Name, PLACES, are_alike, is_same_answer, is_same_look, make_again, make_call,
-    perform,
+    At, Body, Call, Name, PLACES, are_alike, are_right, is_same_answer, is_same_look, make_again,
+    make_call, perform,
 };
 use Call::{Append, Create, Find, Link, List, Rename, Unlink};
 use md_dirs::{DirError, Dirs, FailAt, IndexDirs, PlainDirs};
@@ -95,21 +95,15 @@ impl Three {
         }
     }
 
-    // Makes a call on each, and looks at a row and a name.
-    fn step(&mut self, rt: &impl Abort, call: Call, at: At, position: usize, now: u64) {
+    // Makes a call on each, and looks at a row and a name. Whether all answers, rows and bytes are alike.
+    fn step(&mut self, rt: &impl Abort, call: Call, at: At, position: usize, now: u64) -> bool {
         let hashed = perform(rt, self.alloc, &mut self.hashed, &self.plain, call, now);
         let plain = perform(rt, self.alloc, &mut self.plain, &self.counted, call, now);
         let counted = make_again(self.alloc, &mut self.counted, call, now);
-        assert!(rt; is_same_answer(&plain, &hashed), "call {now}");
-        assert!(rt; is_same_answer(&plain, &counted), "call {now}, counted");
-        assert!(rt;
-            look_alike(&self.plain, &self.hashed, at, position),
-            "after {now}"
-        );
-        assert!(rt;
-            look_alike(&self.plain, &self.counted, at, position),
-            "after {now}, counted"
-        );
+        is_same_answer(&plain, &hashed)
+            && is_same_answer(&plain, &counted)
+            && look_alike(&self.plain, &self.hashed, at, position)
+            && look_alike(&self.plain, &self.counted, at, position)
     }
 }
 
@@ -121,83 +115,115 @@ fn next_code(state: &mut u64) -> u32 {
     (*state >> 33) as u32
 }
 
-#[test]
-fn random_calls_answer_alike(rt: HostRuntime) {
-    let mut three = Three::new(rt.alloc());
+const RANDOM: usize = 300_000;
+
+// How many random calls are alike up to the first that is not.
+fn random_alike(rt: &impl Abort, three: &mut Three) -> usize {
     let mut state = 20260712u64;
-    for now in 0..300_000u64 {
+    for now in 0..RANDOM {
         let code = next_code(&mut state);
         let mut digits = Digits { left: code / 64 };
         let position = digits.below(8);
-        three.step(&rt, random_call(code), digits.at(), position, now);
+        if !three.step(rt, random_call(code), digits.at(), position, now as u64) {
+            return now;
+        }
     }
+    RANDOM
+}
+
+#[test]
+fn random_calls_answer_alike(rt: HostRuntime) {
+    are_alike_in_each(&rt, rt.alloc(), false);
+}
+
+// The same of the written calls.
+fn written_alike(rt: &impl Abort, three: &mut Three) -> usize {
+    for (now, code) in CALLS.iter().enumerate() {
+        let at = first_name(*code);
+        if !three.step(rt, random_call(*code), at, now % 8, now as u64) {
+            return now;
+        }
+    }
+    CALLS.len()
+}
+
+fn are_alike_in_each(rt: &impl Abort, alloc: Global, are_written: bool) {
+    let mut three = Three::new(alloc);
+    let (alike, all) = if are_written {
+        (written_alike(rt, &mut three), CALLS.len())
+    } else {
+        (random_alike(rt, &mut three), RANDOM)
+    };
+    are_right(rt, 0, Ok(alike), all);
 }
 
 #[test]
 fn written_calls_answer_alike(rt: HostRuntime) {
-    let mut three = Three::new(rt.alloc());
-    for (now, code) in CALLS.iter().enumerate() {
-        three.step(
-            &rt,
-            random_call(*code),
-            first_name(*code),
-            now % 8,
-            now as u64,
-        );
-    }
+    are_alike_in_each(&rt, rt.alloc(), true);
 }
 
-// Makes a call that is to fail: it answers Fault, and has changed nothing. Whether there was memory for it.
+// Makes a call that is to fail: it answers Fault, and has changed nothing.
 fn faults(
-    rt: &impl Abort,
     alloc: Global,
     plain: &PlainDirs,
     failing: &mut FailAt<IndexDirs>,
     call: Call,
-) -> bool {
+) -> Result<bool, DirError> {
     match make_call(alloc, failing, call, 0) {
-        Err(DirError::NoMemory) => false,
-        Err(DirError::Fault) => are_alike(plain, failing) || panic!(rt; "changed by a fault"),
-        _ => panic!(rt; "no fault"),
+        Err(DirError::NoMemory) => Err(DirError::NoMemory),
+        Err(DirError::Fault) => Ok(are_alike(plain, failing)),
+        _ => Ok(false),
     }
 }
 
-// Makes a call that is to pass. Whether there was memory for it.
+// Makes a call that is to pass, as it does over the others.
 fn passes(
-    rt: &impl Abort,
     alloc: Global,
     plain: &mut PlainDirs,
     failing: &mut FailAt<IndexDirs>,
     call: Call,
     now: u64,
-) -> bool {
+) -> Result<bool, DirError> {
     let answer = make_call(alloc, failing, call, now);
     if matches!(answer, Err(DirError::NoMemory)) {
-        return false;
+        return Err(DirError::NoMemory);
     }
-    let wanted = make_call(alloc, plain, call, now);
-    assert!(rt; is_same_answer(&answer, &wanted), "call {now}");
-    true
+    Ok(is_same_answer(&answer, &make_call(alloc, plain, call, now)))
 }
 
-// Directories of which a call is to fail answer Fault at that call alone, and are then as they were.
-fn fail_in_turn(rt: &impl Abort, alloc: Global, at: u64) {
-    let mut plain = PlainDirs::new(alloc, 2);
-    let mut failing = FailAt::new(IndexDirs::new(alloc, 2), at);
+const IN_TURN: u32 = 40;
+
+// How many calls are right up to the first that is not. Directories of which a call is to fail answer Fault at that call alone, and are
+// then as they were.
+fn right_in_turn(
+    alloc: Global,
+    plain: &mut PlainDirs,
+    failing: &mut FailAt<IndexDirs>,
+    at: u64,
+) -> Result<usize, DirError> {
     let mut state = 20260712u64;
-    let mut has_memory = true;
-    for now in 1..=40u64 {
+    let mut right = 0usize;
+    for now in 1..=u64::from(IN_TURN) {
         let call = random_call(next_code(&mut state));
-        if has_memory && now == at {
-            has_memory = faults(rt, alloc, &plain, &mut failing, call);
+        let is_right = now != at || faults(alloc, plain, failing, call)?;
+        if !is_right || !passes(alloc, plain, failing, call, now)? {
+            return Ok(right);
         }
-        has_memory = has_memory && passes(rt, alloc, &mut plain, &mut failing, call, now);
+        right = right.saturating_add(1);
     }
+    Ok(right)
+}
+
+fn fail_in_turn(rt: &impl Abort, alloc: Global, at: u32) {
+    let mut plain = PlainDirs::new(alloc, 2);
+    let mut failing = FailAt::new(IndexDirs::new(alloc, 2), u64::from(at));
+    let right = right_in_turn(alloc, &mut plain, &mut failing, u64::from(at));
+    are_right(rt, at, right, IN_TURN as usize);
 }
 
 #[test]
 fn each_call_fails_in_turn(rt: HostRuntime) {
-    for at in 1..=40u64 {
+    for at in 1..=IN_TURN {
         fail_in_turn(&rt, rt.alloc(), at);
     }
 }

@@ -4,8 +4,6 @@ use super::{At, Call, make_again};
 use md_dirs::Place::Tmp;
 use md_dirs::{Bytes, DirError, Dirs, FailAt, IndexDirs, PlainDirs};
 use std::alloc::{AllocError, Global};
-use std::process::Abort;
-use std::test::Fail;
 
 // A copy of bytes, tried once more where memory was wanting.
 fn body_of(alloc: Global, bytes: &[u8]) -> Result<Bytes, AllocError> {
@@ -50,46 +48,49 @@ fn has<D: Dirs>(dirs: &D, bytes: &[u8], stamp: u64) -> bool {
     is_shown && dirs.read(0, Tmp, A.bytes()) == Some(bytes)
 }
 
-// To a file without bytes, under a name that is not there, and to a file with bytes.
-fn appends<D: Dirs>(rt: &impl Abort, alloc: Global, dirs: &mut D) -> Result<(), DirError> {
+// Appends to a file without bytes, under a name that is not there, and to a file with bytes.
+fn appends<D: Dirs>(
+    alloc: Global,
+    dirs: &mut D,
+    first: &mut Bytes,
+    second: &mut Bytes,
+) -> Result<bool, DirError> {
     let at = At(0, Tmp, A);
     make_again(alloc, dirs, Call::Create(at), 1)?;
-    let mut first = body_of(alloc, b"From ")?;
-    append_again(alloc, dirs, at, &mut first, 2)?;
-    assert!(rt; has(dirs, b"From ", 2), "a file without bytes");
-    let mut second = body_of(alloc, b"yy")?;
-    let answer = append_again(alloc, dirs, At(0, Tmp, B), &mut second, 3);
-    assert!(rt; matches!(answer, Err(DirError::NotFound)));
-    assert!(rt;
-        second.as_slice() == b"yy".as_slice() && has(dirs, b"From ", 2),
-        "no name"
-    );
-    append_again(alloc, dirs, at, &mut second, 4)?;
-    assert!(rt; has(dirs, b"From yy", 4), "a file with bytes");
-    Ok(())
+    append_again(alloc, dirs, at, first, 2)?;
+    let is_first = has(dirs, b"From ", 2);
+    let refused = append_again(alloc, dirs, At(0, Tmp, B), second, 3);
+    let is_refused = refused == Err(DirError::NotFound)
+        && second.as_slice() == b"yy".as_slice()
+        && has(dirs, b"From ", 2);
+    append_again(alloc, dirs, at, second, 4)?;
+    Ok(is_first && is_refused && has(dirs, b"From yy", 4))
 }
 
-// The call fails: the body and the file are as they were.
-fn faults<D: Dirs + Drop>(rt: &impl Abort, alloc: Global, dirs: D) -> Result<(), DirError> {
-    let mut failing = FailAt::new(dirs, 1);
+fn append_both<D: Dirs>(alloc: Global, dirs: &mut D) -> Result<bool, DirError> {
+    let mut first = body_of(alloc, b"From ")?;
+    let mut second = body_of(alloc, b"yy")?;
+    appends(alloc, dirs, &mut first, &mut second)
+}
+
+// Whether the call fails, and the body and the file are as they were.
+fn faults<D: Dirs + Drop>(alloc: Global, failing: &mut FailAt<D>) -> Result<bool, DirError> {
     let mut body = body_of(alloc, b"x")?;
-    let answer = append_again(alloc, &mut failing, At(0, Tmp, A), &mut body, 5);
-    assert!(rt; matches!(answer, Err(DirError::Fault)));
-    assert!(rt;
-        body.as_slice() == b"x".as_slice() && has(&failing, b"From yy", 4),
-        "a fault"
-    );
-    Ok(())
+    let answer = append_again(alloc, failing, At(0, Tmp, A), &mut body, 5);
+    Ok(
+        answer == Err(DirError::Fault)
+            && body.as_slice() == b"x".as_slice()
+            && has(failing, b"From yy", 4),
+    )
+}
+
+fn is_whole<D: Dirs + Drop>(alloc: Global, mut dirs: D) -> bool {
+    append_both(alloc, &mut dirs) == Ok(true)
+        && faults(alloc, &mut FailAt::new(dirs, 1)) == Ok(true)
 }
 
 #[test]
-fn a_body_is_appended_whole(rt: HostRuntime) -> Result<(), Fail> {
-    let alloc = rt.alloc();
-    let mut index = IndexDirs::new(alloc, 1);
-    appends(&rt, alloc, &mut index)?;
-    faults(&rt, alloc, index)?;
-    let mut plain = PlainDirs::new(alloc, 1);
-    appends(&rt, alloc, &mut plain)?;
-    faults(&rt, alloc, plain)?;
-    Ok(())
+fn a_body_is_appended_whole(rt: HostRuntime) {
+    assert!(rt; is_whole(rt.alloc(), IndexDirs::new(rt.alloc(), 1)));
+    assert!(rt; is_whole(rt.alloc(), PlainDirs::new(rt.alloc(), 1)));
 }

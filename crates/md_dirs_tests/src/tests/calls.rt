@@ -1,7 +1,7 @@
 // A fixed list of calls. The answers are those of open, link, rename, unlink and readdir of a file system on Linux: its
 // errors, its names in order of their bytes, its sizes. The stamp is the number, from 0, of the last call that made or
 // grew the file.
-use super::{At, Body, Call, Name, are_alike, make_again, perform};
+use super::{At, Body, Call, Name, are_alike, are_right, make_again, perform};
 use Call::{Append, Create, Link, List, Rename, Unlink};
 use Want::{Done, Exists, NotFound, Rows};
 use md_dirs::Place::{Cur, New, Tmp};
@@ -211,12 +211,18 @@ static BYTES: [(At, Body); 13] = [
     (At(1, Cur, A), NONE),
 ];
 
+fn is_row(row: &Row, want: &(u8, u64, u64)) -> bool {
+    row.name.as_slice() == [want.0].as_slice() && row.stamp == want.1 && row.size == want.2
+}
+
 // Whether rows are the wanted ones.
 fn are_rows(rows: &[Row], want: &[(u8, u64, u64)]) -> bool {
+    for (row, want) in rows.iter().zip(want) {
+        if !is_row(row, want) {
+            return false;
+        }
+    }
     rows.len() == want.len()
-        && rows.iter().zip(want).all(|(row, want)| row.name.as_slice() == [want.0].as_slice()
-            && row.stamp == want.1
-            && row.size == want.2)
 }
 
 fn is_wanted(answer: &Result<Vec<Row>, DirError>, want: Want) -> bool {
@@ -229,32 +235,52 @@ fn is_wanted(answer: &Result<Vec<Row>, DirError>, want: Want) -> bool {
     }
 }
 
-// Makes calls on empty directories, each at its number from 1 as its moment.
-fn replay(rt: &impl Abort, alloc: Global, calls: &[(Call, Want)]) -> PlainDirs {
-    let mut dirs = PlainDirs::new(alloc, 2);
-    let mut behind = PlainDirs::new(alloc, 2);
-    for (i, (call, want)) in calls.iter().enumerate() {
-        let now = i as u64;
-        let answer = perform(rt, alloc, &mut dirs, &behind, *call, now);
-        assert!(rt; is_wanted(&answer, *want), "call {now}: {answer:?}");
-        let _follow = make_again(alloc, &mut behind, *call, now);
-        assert!(rt; are_alike(&dirs, &behind), "apart after call {now}");
-    }
-    dirs
+// Makes a call, and once more on directories that are one call late. Whether it is answered so, and they are then alike.
+fn answers(
+    rt: &impl Abort,
+    alloc: Global,
+    dirs: &mut PlainDirs,
+    behind: &mut PlainDirs,
+    (call, want): (Call, Want),
+    now: u64,
+) -> bool {
+    let is_right = is_wanted(&perform(rt, alloc, dirs, behind, call, now), want);
+    let _follow = make_again(alloc, behind, call, now);
+    is_right && are_alike(dirs, behind)
 }
 
-fn holds(dirs: &PlainDirs, files: &[(At, Body)]) -> bool {
-    for (at, body) in files {
+// Makes the calls on empty directories, each at its number as its moment. How many are right up to the first that is not.
+fn replay(rt: &impl Abort, alloc: Global, dirs: &mut PlainDirs, behind: &mut PlainDirs) -> usize {
+    for (now, row) in CALLS.iter().enumerate() {
+        if !answers(rt, alloc, dirs, behind, *row, now as u64) {
+            return now;
+        }
+    }
+    CALLS.len()
+}
+
+// Whether directories have the bytes that the calls leave, and no other name.
+fn are_left(dirs: &PlainDirs) -> bool {
+    for (at, body) in BYTES.iter() {
         if dirs.read(at.0, at.1, at.2.bytes()) != Some(body.bytes()) {
             return false;
         }
     }
-    true
+    dirs.read(0, Tmp, b"a").is_none() && dirs.folders() == 2
+}
+
+// The same, and one more if the bytes are left.
+fn right(rt: &impl Abort, alloc: Global) -> usize {
+    let mut dirs = PlainDirs::new(alloc, 2);
+    let right = replay(rt, alloc, &mut dirs, &mut PlainDirs::new(alloc, 2));
+    if are_left(&dirs) {
+        right.saturating_add(1)
+    } else {
+        right
+    }
 }
 
 #[test]
 fn the_calls_answer_as_a_file_system(rt: HostRuntime) {
-    let dirs = replay(&rt, rt.alloc(), &CALLS);
-    assert!(rt; holds(&dirs, &BYTES));
-    assert!(rt; dirs.read(0, Tmp, b"a").is_none() && dirs.folders() == 2);
+    are_right(&rt, 0, Ok(right(&rt, rt.alloc())), CALLS.len() + 1);
 }

@@ -1,10 +1,9 @@
 // Directories from a list of files: what is accepted, and which refusal comes first.
-use super::At;
 use super::calls::{A, B};
+use super::{At, are_right};
 use md_dirs::Place::{Cur, New, Tmp};
 use md_dirs::{Bytes, DirError, Dirs, ImageFile, PlainDirs};
 use std::alloc::{AllocError, Global};
-use std::test::Fail;
 
 static FILES: [(&[(At, &[u8], u64)], Option<DirError>); 8] = [
     (&[], None),
@@ -85,14 +84,27 @@ fn holds(dirs: &PlainDirs, files: &[(At, &[u8], u64)]) -> bool {
     true
 }
 
-#[test]
-fn files_are_made_in_their_order(rt: HostRuntime) {
-    for (files, refusal) in FILES {
-        match made(rt.alloc(), files) {
-            Ok(dirs) => assert!(rt; refusal.is_none() && holds(&dirs, files)),
-            Err(error) => assert_eq!(rt; refusal, Some(error)),
+// Whether the files of a row are made, or refused so.
+fn is_made(alloc: Global, files: &[(At, &[u8], u64)], refusal: Option<DirError>) -> bool {
+    match made(alloc, files) {
+        Ok(dirs) => refusal.is_none() && holds(&dirs, files),
+        Err(error) => refusal == Some(error),
+    }
+}
+
+// How many rows are right up to the first that is not.
+fn right_rows(alloc: Global) -> usize {
+    for (row, (files, refusal)) in FILES.iter().enumerate() {
+        if !is_made(alloc, files, *refusal) {
+            return row;
         }
     }
+    FILES.len()
+}
+
+#[test]
+fn files_are_made_in_their_order(rt: HostRuntime) {
+    are_right(&rt, 0, Ok(right_rows(rt.alloc())), FILES.len());
 }
 
 // Whether cur of folder 1 has the second of the files below, and no third, and there is no third folder.
@@ -104,10 +116,16 @@ fn shows(dirs: &PlainDirs) -> bool {
     second && dirs.row_at(1, Cur, 2).is_none() && dirs.row_at(2, Cur, 0).is_none()
 }
 
+static SHOWN: [(At, &[u8], u64); 2] = [(At(1, Cur, B), b"two", 7), (At(1, Cur, A), b"", 9)];
+
+fn is_shown(alloc: Global) -> bool {
+    match made(alloc, &SHOWN) {
+        Ok(dirs) => shows(&dirs),
+        Err(_) => false,
+    }
+}
+
 #[test]
-fn a_row_shows_name_stamp_and_size(rt: HostRuntime) -> Result<(), Fail> {
-    let files: [(At, &[u8], u64); 2] = [(At(1, Cur, B), b"two", 7), (At(1, Cur, A), b"", 9)];
-    let dirs = made(rt.alloc(), &files)?;
-    assert!(rt; shows(&dirs));
-    Ok(())
+fn a_row_shows_name_stamp_and_size(rt: HostRuntime) {
+    assert!(rt; is_shown(rt.alloc()));
 }

@@ -1,7 +1,7 @@
 // The small types, and what may cross threads.
+use super::are_right;
 use md_dirs::{Bytes, DirError, Dirs, ImageFile, Path, Place, PlainDirs, Row, RowRef};
 use std::alloc::{AllocError, Global};
-use std::test::Fail;
 
 fn name_made(alloc: Global) -> Result<Bytes, AllocError> {
     let mut name = Bytes::of(Vec::from_slice(alloc, b"a:2,")?);
@@ -46,70 +46,82 @@ fn is_the_file(file: &ImageFile) -> bool {
         && file.bytes.len() == 5
 }
 
-#[test]
-fn a_file_is_copied(rt: HostRuntime) -> Result<(), Fail> {
-    let copy = match file_copied(rt.alloc()) {
-        Ok(copy) => copy,
-        Err(_) => file_copied(rt.alloc())?,
-    };
-    assert!(rt; is_the_file(&copy));
-    let bytes = copy.bytes.into_vec();
-    assert!(rt; bytes.as_slice() == b"a:2,S".as_slice());
-    Ok(())
-}
-
-#[test]
-fn a_row_is_copied(rt: HostRuntime) -> Result<(), Fail> {
-    let row = match row_copied(rt.alloc()) {
-        Ok(row) => row,
-        Err(_) => row_copied(rt.alloc())?,
-    };
-    assert!(rt; row.name.as_slice() == b"n".as_slice() && row.stamp == 1 && row.size == 2);
-    Ok(())
-}
-
-#[test]
-fn errors_have_their_texts(rt: HostRuntime) -> Result<(), Fail> {
-    for (error, text) in [
-        (DirError::Exists, "exists"),
-        (DirError::NotFound, "not found"),
-        (DirError::Fault, "fault"),
-        (DirError::NoMemory, "no memory"),
-    ] {
-        let shown = match format!(in rt.alloc(); "{error}") {
-            Ok(shown) => shown,
-            Err(_) => format!(in rt.alloc(); "{error}")?,
-        };
-        assert_eq!(rt; shown.as_str(), text);
+fn is_copied(alloc: Global) -> bool {
+    match file_copied(alloc) {
+        Ok(copy) => {
+            is_the_file(&copy)
+                && is_send(&copy)
+                && is_send(&copy.path)
+                && is_send(&copy.bytes)
+                && copy.bytes.into_vec().as_slice() == b"a:2,S".as_slice()
+        }
+        Err(_) => false,
     }
-    Ok(())
 }
 
-fn is_send<T: Send>(x: T) -> T {
-    x
+// Tried once more, where memory was wanting.
+#[test]
+fn a_file_is_copied(rt: HostRuntime) {
+    assert!(rt; is_copied(rt.alloc()) || is_copied(rt.alloc()));
+}
+
+fn is_row_copied(alloc: Global) -> bool {
+    match row_copied(alloc) {
+        Ok(row) => {
+            is_send(&row)
+                && row.name.as_slice() == b"n".as_slice()
+                && row.stamp == 1
+                && row.size == 2
+        }
+        Err(_) => false,
+    }
 }
 
 #[test]
-fn values_may_cross_threads(rt: HostRuntime) -> Result<(), Fail> {
-    let alloc = rt.alloc();
-    let dirs = is_send(PlainDirs::new(alloc, 3));
-    assert_eq!(rt; dirs.folders(), 3);
-    let path = is_send(Path {
-        folder: 0,
-        place: is_send(Place::Tmp),
-        name: is_send(Bytes::of(Vec::new(alloc))),
-    });
-    let file = is_send(ImageFile {
-        path,
-        bytes: Bytes::of(Vec::new(alloc)),
-        stamp: 0,
-    });
-    let row = is_send(Row {
-        name: is_send(file.bytes),
-        stamp: 0,
-        size: 0,
-    });
-    assert!(rt; is_send(row.name).is_empty());
-    assert!(rt; matches!(is_send(DirError::Fault), DirError::Fault));
-    Ok(())
+fn a_row_is_copied(rt: HostRuntime) {
+    assert!(rt; is_row_copied(rt.alloc()) || is_row_copied(rt.alloc()));
+}
+
+static ERRORS: [(DirError, &str); 4] = [
+    (DirError::Exists, "exists"),
+    (DirError::NotFound, "not found"),
+    (DirError::Fault, "fault"),
+    (DirError::NoMemory, "no memory"),
+];
+
+fn is_told(alloc: Global, error: DirError, text: &str) -> bool {
+    match format!(in alloc; "{error}") {
+        Ok(told) => told.as_str() == text,
+        Err(_) => false,
+    }
+}
+
+// How many errors have their texts up to the first that has not, each tried once more where memory was wanting.
+fn told(alloc: Global) -> usize {
+    for (row, (error, text)) in ERRORS.iter().enumerate() {
+        if !is_told(alloc, *error, text) && !is_told(alloc, *error, text) {
+            return row;
+        }
+    }
+    ERRORS.len()
+}
+
+#[test]
+fn errors_have_their_texts(rt: HostRuntime) {
+    are_right(&rt, 0, Ok(told(rt.alloc())), ERRORS.len());
+}
+
+fn is_send<T: Send>(_value: &T) -> bool {
+    true
+}
+
+fn may_cross(alloc: Global) -> bool {
+    let dirs = PlainDirs::new(alloc, 3);
+    is_send(&dirs) && is_send(&Place::Tmp) && is_send(&DirError::Fault) && dirs.folders() == 3
+}
+
+// So may files, paths, bytes and rows, of which copies are made above.
+#[test]
+fn values_may_cross_threads(rt: HostRuntime) {
+    assert!(rt; may_cross(rt.alloc()) && Bytes::of(Vec::new(rt.alloc())).is_empty());
 }

@@ -2,8 +2,10 @@
 use super::make;
 use md_index::Gate;
 use std::alloc::{AllocError, Global};
+use std::sync::Wait;
 use std::sync::atomic::{AtomicBool, AtomicU64, Ordering};
 use std::thread;
+use std::thread::Threads;
 
 const ROUNDS: usize = 10;
 
@@ -32,19 +34,15 @@ impl Gate for Meeting {
     fn after(&self, _item: usize) {}
 }
 
-#[test]
-fn two_items_wait_for_each_other(rt: HostRuntime) {
-    let mut spoiled = false;
-    for _ in 0..ROUNDS {
-        let gate = Meeting {
-            came: [AtomicBool::new(false), AtomicBool::new(false)],
-            limits: AtomicU64::new(0),
-        };
-        let made = make(&rt, rt.alloc(), 2, 2, &gate);
-        if made.is_err() || gate.limits.load(Ordering::SeqCst) > 0 {
-            assert!(rt; !spoiled, "two rounds are spoiled");
-            spoiled = true;
-        }
+/// Makes an index at a gate where two items meet. None where the round is spoiled.
+fn meet<R: Threads + Wait + Sync>(rt: &R, alloc: Global) -> Option<bool> {
+    let gate = Meeting {
+        came: [AtomicBool::new(false), AtomicBool::new(false)],
+        limits: AtomicU64::new(0),
+    };
+    match make(rt, alloc, 2, 2, &gate) {
+        Some(true) if gate.limits.load(Ordering::SeqCst) > 0 => None,
+        made => made,
     }
 }
 
@@ -77,20 +75,16 @@ impl Gate for Patience {
     }
 }
 
-#[test]
-fn items_go_to_whichever_worker_is_free(rt: HostRuntime) {
-    let mut spoiled = false;
-    for _ in 0..ROUNDS {
-        let gate = Patience {
-            others: 99,
-            done: AtomicU64::new(0),
-            limits: AtomicU64::new(0),
-        };
-        let made = make(&rt, rt.alloc(), 100, 2, &gate);
-        if made.is_err() || gate.limits.load(Ordering::SeqCst) > 0 {
-            assert!(rt; !spoiled, "two rounds are spoiled");
-            spoiled = true;
-        }
+/// Makes an index at a gate where one item waits for all others.
+fn wait<R: Threads + Wait + Sync>(rt: &R, alloc: Global) -> Option<bool> {
+    let gate = Patience {
+        others: 99,
+        done: AtomicU64::new(0),
+        limits: AtomicU64::new(0),
+    };
+    match make(rt, alloc, 100, 2, &gate) {
+        Some(true) if gate.limits.load(Ordering::SeqCst) > 0 => None,
+        made => made,
     }
 }
 
@@ -118,7 +112,9 @@ impl Gate for Counts {
 fn zeros(alloc: Global, count: usize) -> Result<Vec<AtomicU64>, AllocError> {
     let mut all = Vec::with_capacity(alloc, count)?;
     for _ in 0..count {
-        all.push(AtomicU64::new(0)).map_err(|_| AllocError)?;
+        if all.push(AtomicU64::new(0)).is_err() {
+            return Err(AllocError);
+        }
     }
     Ok(all)
 }
@@ -132,27 +128,74 @@ impl Counts {
     }
 
     fn are_one(&self) -> bool {
-        self.before.iter().all(is_once) && self.after.iter().all(is_once)
+        are_once(&self.before) && are_once(&self.after)
     }
 }
 
-fn is_once(count: &AtomicU64) -> bool {
-    count.load(Ordering::SeqCst) == 1
+fn are_once(counts: &[AtomicU64]) -> bool {
+    for count in counts {
+        if count.load(Ordering::SeqCst) != 1 {
+            return false;
+        }
+    }
+    true
+}
+
+fn count_at<R: Threads + Wait + Sync>(rt: &R, alloc: Global, gate: &Counts) -> Option<bool> {
+    match make(rt, alloc, 100, 7, gate) {
+        Some(true) if !gate.are_one() => None,
+        made => made,
+    }
+}
+
+/// Makes an index at a gate that counts.
+fn count<R: Threads + Wait + Sync>(rt: &R, alloc: Global) -> Option<bool> {
+    match Counts::zero(alloc, 100) {
+        Ok(gate) => count_at(rt, alloc, &gate),
+        Err(_) => None,
+    }
+}
+
+/// What is done in a round.
+#[derive(Clone, Copy)]
+enum Round {
+    Meet,
+    Wait,
+    Count,
+}
+
+fn play<R: Threads + Wait + Sync>(rt: &R, alloc: Global, round: Round) -> Option<bool> {
+    match round {
+        Round::Meet => meet(rt, alloc),
+        Round::Wait => wait(rt, alloc),
+        Round::Count => count(rt, alloc),
+    }
+}
+
+/// Whether each round is right, but for one that may be spoiled.
+fn are_right<R: Threads + Wait + Sync>(rt: &R, alloc: Global, round: Round) -> bool {
+    let mut spoiled = 0u32;
+    for _ in 0..ROUNDS {
+        match play(rt, alloc, round) {
+            Some(true) => {}
+            Some(false) => return false,
+            None => spoiled = spoiled.saturating_add(1),
+        }
+    }
+    spoiled <= 1
+}
+
+#[test]
+fn two_items_wait_for_each_other(rt: HostRuntime) {
+    assert!(rt; are_right(&rt, rt.alloc(), Round::Meet));
+}
+
+#[test]
+fn items_go_to_whichever_worker_is_free(rt: HostRuntime) {
+    assert!(rt; are_right(&rt, rt.alloc(), Round::Wait));
 }
 
 #[test]
 fn each_item_passes_the_gate_once(rt: HostRuntime) {
-    let mut spoiled = false;
-    for _ in 0..ROUNDS {
-        let Ok(gate) = Counts::zero(rt.alloc(), 100) else {
-            assert!(rt; !spoiled, "two rounds are spoiled");
-            spoiled = true;
-            continue;
-        };
-        let made = make(&rt, rt.alloc(), 100, 7, &gate);
-        if made.is_err() || !gate.are_one() {
-            assert!(rt; !spoiled, "two rounds are spoiled");
-            spoiled = true;
-        }
-    }
+    assert!(rt; are_right(&rt, rt.alloc(), Round::Count));
 }

@@ -1,8 +1,8 @@
 //! Commands, as lines spell them.
 
+use super::plays::{Ask, ask_each};
 use md_script::{PlayKind, Setup, image};
 use std::alloc::{AllocError, Global};
-use std::test::Fail;
 
 const TWO_FOLDERS: &[u8] = b"folder i\nfolder j\n";
 
@@ -21,31 +21,32 @@ job deliver i u 4  b |[Deliver { folder: 0, unique: Bytes { items: [117] }, body
 job deliver i u 0 \\\\n\\r\\n\r|[Deliver { folder: 0, unique: Bytes { items: [117] }, body: Bytes { items: [92, 110, 13, 10, 13] }, chunk: 0 }]";
 
 /// Whether the calls of a setup are written so.
-fn are_written(alloc: Global, setup: &Setup, calls: &[u8]) -> Result<bool, AllocError> {
-    Ok(format!(in alloc; "{:?}", setup.calls)?.as_bytes() == calls)
+fn are_written(alloc: Global, setup: &Setup, calls: &[u8]) -> bool {
+    match format!(in alloc; "{:?}", setup.calls) {
+        Ok(written) => written.as_bytes() == calls,
+        Err(_) => false,
+    }
 }
 
 /// Whether a script spells these calls.
-pub(super) fn spells(alloc: Global, script: &[u8], calls: &[u8]) -> Result<bool, Fail> {
-    let setup = image(alloc, script, true)?;
-    Ok(are_written(alloc, &setup, calls)?)
+pub(super) fn spells(alloc: Global, script: &[u8], calls: &[u8]) -> bool {
+    match image(alloc, script, true) {
+        Ok(setup) => are_written(alloc, &setup, calls),
+        Err(_) => false,
+    }
 }
 
-/// Whether a row is true.
-fn is_true(alloc: Global, row: &[u8]) -> Result<bool, Fail> {
-    let mut parts = row.split(|byte| *byte == b'|');
-    match (parts.next(), parts.next()) {
-        (Some(line), Some(calls)) => spells(alloc, &joined(alloc, TWO_FOLDERS, line)?, calls),
-        _ => Ok(false),
+/// Whether a line does, where there are two folders.
+pub(super) fn spells_line(alloc: Global, line: &[u8], calls: &[u8]) -> bool {
+    match joined(alloc, TWO_FOLDERS, line) {
+        Ok(script) => spells(alloc, &script, calls),
+        Err(_) => false,
     }
 }
 
 #[test]
-fn lines_spell_calls(rt: HostRuntime) -> Result<(), Fail> {
-    for row in DELIVERIES.split(|byte| *byte == b'%') {
-        assert!(rt; is_true(rt.alloc(), row)?, "{row:?}");
-    }
-    Ok(())
+fn lines_spell_calls(rt: HostRuntime) {
+    ask_each(&rt, rt.alloc(), Ask::Calls, DELIVERIES);
 }
 
 /// A folder of a name of its own.
@@ -71,21 +72,30 @@ fn is_bad_folder(alloc: Global, script: &[u8], line: u64) -> bool {
     }
 }
 
-#[test]
-fn a_script_names_at_most_64_folders(rt: HostRuntime) -> Result<(), Fail> {
-    for (count, line) in [(64, 0), (65, 65)] {
-        let script = folders(rt.alloc(), count)?;
-        assert!(rt; is_bad_folder(rt.alloc(), &script, line), "{count}");
+/// Whether so many folders are set up, or the one of this line is refused.
+fn are_folders(alloc: Global, count: u32, line: u64) -> bool {
+    match folders(alloc, count) {
+        Ok(script) => is_bad_folder(alloc, &script, line),
+        Err(_) => false,
     }
-    Ok(())
 }
 
 #[test]
-fn a_folders_name_has_at_most_100_bytes(rt: HostRuntime) -> Result<(), Fail> {
-    let name = [b'n'; 101];
-    for (len, line) in [(100usize, 0), (101, 1)] {
-        let script = joined(rt.alloc(), b"folder ", &name[..len.min(101)])?;
-        assert!(rt; is_bad_folder(rt.alloc(), &script, line), "{len}");
+fn a_script_names_at_most_64_folders(rt: HostRuntime) {
+    assert!(rt; are_folders(rt.alloc(), 64, 0));
+    assert!(rt; are_folders(rt.alloc(), 65, 65));
+}
+
+/// The same of one folder of this name.
+fn is_folder(alloc: Global, name: &[u8], line: u64) -> bool {
+    match joined(alloc, b"folder ", name) {
+        Ok(script) => is_bad_folder(alloc, &script, line),
+        Err(_) => false,
     }
-    Ok(())
+}
+
+#[test]
+fn a_folders_name_has_at_most_100_bytes(rt: HostRuntime) {
+    assert!(rt; is_folder(rt.alloc(), &[b'n'; 100], 0));
+    assert!(rt; is_folder(rt.alloc(), &[b'n'; 101], 1));
 }

@@ -5,7 +5,6 @@ use super::plays::{is_refused, played, prints};
 use md_script::{PlayError, PlayKind};
 use std::alloc::{AllocError, Global};
 use std::io::{Chain, Read};
-use std::test::Fail;
 
 /// So many bytes, so many at a time.
 fn stream(byte: u8, left: u64, at_once: usize) -> Stream {
@@ -79,9 +78,14 @@ fn long_summary(alloc: Global) -> Result<Vec<u8>, AllocError> {
     Ok(script)
 }
 
+fn is_passed_over(alloc: Global) -> bool {
+    match long_summary(alloc) {
+        Ok(script) => prints(alloc, script.as_slice(), b"subject=b\nend\n"),
+        Err(_) => false,
+    }
+}
+
 #[test]
-fn a_line_of_16_mebibytes_is_passed_over_in_a_summary(rt: HostRuntime) -> Result<(), Fail> {
-    let script = long_summary(rt.alloc())?;
-    assert!(rt; prints(rt.alloc(), script.as_slice(), b"subject=b\nend\n"));
-    Ok(())
+fn a_line_of_16_mebibytes_is_passed_over_in_a_summary(rt: HostRuntime) {
+    assert!(rt; is_passed_over(rt.alloc()));
 }

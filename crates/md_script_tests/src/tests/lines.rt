@@ -2,39 +2,39 @@
 
 use super::commands::joined;
 use super::fakes::{Interrupted, Torn};
-use super::plays::prints;
-use md_script::image;
+use super::plays::{Ask, ask_each, prints};
+use md_script::{Setup, image};
 use std::alloc::{AllocError, Global};
-use std::test::Fail;
 
 /// What follows the words of a file, and the file's bytes.
 static ENDS: &[u8] = b"a|a%a\n|a%a\r\n|a%a\r\r\n|a\r%a\r|a\r%a\rb\n|a\rb%a\\nb|a\nb";
 
-/// Whether a file whose line ends so has these bytes.
-fn has_bytes(alloc: Global, end: &[u8], bytes: &[u8]) -> Result<bool, Fail> {
-    let script = joined(alloc, b"folder i\nfile i new u 0 ", end)?;
-    let setup = image(alloc, &script, false)?;
-    Ok(match setup.files.as_slice() {
+/// Whether a setup has one file, of these bytes.
+fn has_file(setup: &Setup, bytes: &[u8]) -> bool {
+    match setup.files.as_slice() {
         [file] => file.bytes.as_slice() == bytes,
         _ => false,
-    })
+    }
 }
 
-/// Whether a row is true.
-fn is_true(alloc: Global, row: &[u8]) -> Result<bool, Fail> {
-    let mut parts = row.split(|byte| *byte == b'|');
-    match (parts.next(), parts.next()) {
-        (Some(end), Some(bytes)) => has_bytes(alloc, end, bytes),
-        _ => Ok(false),
+fn sets_up(alloc: Global, script: &[u8], bytes: &[u8]) -> bool {
+    match image(alloc, script, false) {
+        Ok(setup) => has_file(&setup, bytes),
+        Err(_) => false,
+    }
+}
+
+/// Whether a file whose line ends so has these bytes.
+pub(super) fn has_bytes(alloc: Global, end: &[u8], bytes: &[u8]) -> bool {
+    match joined(alloc, b"folder i\nfile i new u 0 ", end) {
+        Ok(script) => sets_up(alloc, &script, bytes),
+        Err(_) => false,
     }
 }
 
 #[test]
-fn lines_end_at_line_feeds(rt: HostRuntime) -> Result<(), Fail> {
-    for row in ENDS.split(|byte| *byte == b'%') {
-        assert!(rt; is_true(rt.alloc(), row)?, "{row:?}");
-    }
-    Ok(())
+fn lines_end_at_line_feeds(rt: HostRuntime) {
+    ask_each(&rt, rt.alloc(), Ask::Ends, ENDS);
 }
 
 #[test]
@@ -83,19 +83,33 @@ fn long_lines(alloc: Global, body: &[u8]) -> Result<Vec<u8>, AllocError> {
     twice(alloc, body, b"folder i\nfile i new u 0 ", second, reads)
 }
 
-#[test]
-fn lines_longer_than_the_room_may_come_in_pieces(rt: HostRuntime) -> Result<(), Fail> {
-    let body = long_body(rt.alloc())?;
-    let script = long_lines(rt.alloc(), &body)?;
-    let listing = b"\nnew u - 200000\nnew v - 200000\n";
-    let wanted = twice(rt.alloc(), &body, b"bytes=", b"\nbytes=", listing)?;
-    for at_once in [1usize, 5_000, 65_536, 1_000_000] {
+static PIECES: [usize; 4] = [1, 5_000, 65_536, 1_000_000];
+
+/// How many sizes of pieces are right up to the first that is not.
+fn right_pieces(alloc: Global, script: &[u8], wanted: &[u8]) -> usize {
+    for (number, at_once) in PIECES.iter().enumerate() {
         let script = Torn {
-            script: &script,
-            at_once,
+            script,
+            at_once: *at_once,
             fault: None,
         };
-        assert!(rt; prints(rt.alloc(), script, &wanted), "{at_once}");
+        if !prints(alloc, script, wanted) {
+            return number;
+        }
     }
-    Ok(())
+    PIECES.len()
+}
+
+fn right_long_lines(alloc: Global) -> Result<usize, AllocError> {
+    let body = long_body(alloc)?;
+    let script = long_lines(alloc, &body)?;
+    let listing = b"\nnew u - 200000\nnew v - 200000\n";
+    let wanted = twice(alloc, &body, b"bytes=", b"\nbytes=", listing)?;
+    Ok(right_pieces(alloc, &script, &wanted))
+}
+
+#[test]
+fn lines_longer_than_the_room_may_come_in_pieces(rt: HostRuntime) {
+    let right = right_long_lines(rt.alloc()).unwrap_or(0);
+    assert!(rt; right == PIECES.len(), "row {right}");
 }

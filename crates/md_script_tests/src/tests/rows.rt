@@ -1,12 +1,11 @@
 //! Scripts of known transcripts. More of them, which are text in whole lines, are in crates/examples/data/.
 
 use super::fakes::Torn;
-use super::plays::{has_text, played};
+use super::plays::{Ask, ask_each, has_text, played};
 use md_script::{PlayError, PlayKind, Reader, Writer, count_lines, play, transcript};
 use std::alloc::{AllocError, Global};
 use std::io;
 use std::io::Write;
-use std::test::Fail;
 
 /// A delivery that is written in pieces, linked, and listed.
 const DELIVERED: &[u8] =
@@ -56,71 +55,67 @@ static PIECES: [usize; 21] = [
 ];
 
 /// Whether a script that comes so many bytes at a time prints this, and ends with this refusal.
-fn plays(
+pub(super) fn plays_so(
     alloc: Global,
     script: &[u8],
     at_once: usize,
     prints: &[u8],
     refusal: &[u8],
-) -> Result<bool, AllocError> {
+) -> bool {
     let script = Torn {
         script,
         at_once,
         fault: None,
     };
     let (refused, is_printed) = played(alloc, script, prints);
-    Ok(has_text(alloc, refused, refusal)? && is_printed)
-}
-
-/// Whether a row is true where its script comes so many bytes at a time.
-fn is_true(alloc: Global, row: &[u8], at_once: usize) -> Result<bool, AllocError> {
-    let mut parts = row.split(|byte| *byte == b'|');
-    match (parts.next(), parts.next(), parts.next()) {
-        (Some(refusal), Some(prints), Some(script)) => {
-            plays(alloc, script, at_once, prints, refusal)
-        }
-        _ => Ok(false),
-    }
+    is_printed && has_text(alloc, refused, refusal)
 }
 
 #[test]
-fn scripts_of_any_bytes_are_played_in_pieces_of_any_size(rt: HostRuntime) -> Result<(), Fail> {
-    for at_once in PIECES {
-        for row in ROWS.split(|byte| *byte == b'%') {
-            assert!(rt; is_true(rt.alloc(), row, at_once)?, "{at_once} {row:?}");
-        }
+fn scripts_of_any_bytes_are_played_in_pieces_of_any_size(rt: HostRuntime) {
+    for at_once in PIECES.iter() {
+        ask_each(&rt, rt.alloc(), Ask::Pieces(*at_once), ROWS);
     }
-    Ok(())
 }
 
 /// What the front of a script prints is a front of what the whole prints, and it is refused at its last line if at all.
-fn prints_the_front(alloc: Global, front: &[u8]) -> Result<bool, AllocError> {
-    let printed = transcript(alloc, front)?;
+fn prints_the_front(alloc: Global, front: &[u8]) -> bool {
+    let Ok(printed) = transcript(alloc, front) else {
+        return false;
+    };
     let is_last = match printed.refusal {
         Some(refused) => refused.line == count_lines(front),
         None => true,
     };
-    Ok(is_last && PRINTED.starts_with(&printed.text))
+    is_last && PRINTED.starts_with(&printed.text)
 }
 
 #[test]
-fn a_script_that_is_cut_short_prints_the_front(rt: HostRuntime) -> Result<(), Fail> {
+fn a_script_that_is_cut_short_prints_the_front(rt: HostRuntime) {
     for len in 0..DELIVERED.len() {
-        assert!(rt; prints_the_front(rt.alloc(), &DELIVERED[..len])?, "{len}");
+        assert!(rt; prints_the_front(rt.alloc(), &DELIVERED[..len]), "{len}");
     }
-    Ok(())
 }
 
 /// Whether a script is refused so, and prints so many bytes before.
-fn is_refused(
+fn is_refused(alloc: Global, script: &[u8], refusal: &[u8], count: usize) -> bool {
+    match transcript(alloc, script) {
+        Ok(printed) => { printed.text.len() == count && has_text(alloc, printed.refusal, refusal) }
+        Err(_) => false,
+    }
+}
+
+/// Whether a script that was made is.
+fn is_made_and_refused(
     alloc: Global,
-    script: &[u8],
+    made: Result<Vec<u8>, AllocError>,
     refusal: &[u8],
     count: usize,
-) -> Result<bool, AllocError> {
-    let printed = transcript(alloc, script)?;
-    let is_counted = printed.text.len() == count;
-    Ok(has_text(alloc, printed.refusal, refusal)? && is_counted)
+) -> bool {
+    match made {
+        Ok(script) => is_refused(alloc, &script, refusal, count),
+        Err(_) => false,
+    }
 }
 
 /// A delivery of a name of its own.
@@ -139,12 +134,11 @@ fn too_many_jobs(alloc: Global) -> Result<Vec<u8>, AllocError> {
 }
 
 #[test]
-fn a_store_takes_at_most_10000_jobs(rt: HostRuntime) -> Result<(), Fail> {
-    let script = too_many_jobs(rt.alloc())?;
+fn a_store_takes_at_most_10000_jobs(rt: HostRuntime) {
     // `job 1` to `job 10000`, a line each.
     let count = 10_000 * 5 + 9 + 90 * 2 + 900 * 3 + 9_000 * 4 + 5;
-    assert!(rt; is_refused(rt.alloc(), &script, b"line 10002: too many jobs", count)?);
-    Ok(())
+    let script = too_many_jobs(rt.alloc());
+    assert!(rt; is_made_and_refused(rt.alloc(), script, b"line 10002: too many jobs", count));
 }
 
 /// A body of one byte more than 16 mebibytes.
@@ -155,10 +149,9 @@ fn long_body(alloc: Global) -> Result<Vec<u8>, AllocError> {
 }
 
 #[test]
-fn a_body_has_at_most_16_mebibytes(rt: HostRuntime) -> Result<(), Fail> {
-    let script = long_body(rt.alloc())?;
-    assert!(rt; is_refused(rt.alloc(), &script, b"line 2: body too long", 0)?);
-    Ok(())
+fn a_body_has_at_most_16_mebibytes(rt: HostRuntime) {
+    let script = long_body(rt.alloc());
+    assert!(rt; is_made_and_refused(rt.alloc(), script, b"line 2: body too long", 0));
 }
 
 /// Keeps what is written in room that it has from the start.

@@ -2,21 +2,25 @@
 
 use super::commands::{joined, spells};
 use super::fakes::Torn;
-use super::plays::has_text;
+use super::plays::{Ask, ask_each, has_text};
 use md_script::{PlayError, Reader, Setup, image, read_image};
-use std::alloc::{AllocError, Global};
+use std::alloc::Global;
 use std::io::ErrorKind;
-use std::test::Fail;
 
 /// Whether a setup is written so.
-fn is_written(alloc: Global, setup: &Setup, text: &[u8]) -> Result<bool, AllocError> {
-    Ok(format!(in alloc; "{setup:?}")?.as_bytes() == text)
+fn is_written(alloc: Global, setup: &Setup, text: &[u8]) -> bool {
+    match format!(in alloc; "{setup:?}") {
+        Ok(written) => written.as_bytes() == text,
+        Err(_) => false,
+    }
 }
 
 /// Whether a script sets this up.
-fn is_set_up(alloc: Global, script: &[u8], text: &[u8]) -> Result<bool, Fail> {
-    let setup = image(alloc, script, true)?;
-    Ok(is_written(alloc, &setup, text)?)
+fn is_set_up(alloc: Global, script: &[u8], text: &[u8]) -> bool {
+    match image(alloc, script, true) {
+        Ok(setup) => is_written(alloc, &setup, text),
+        Err(_) => false,
+    }
 }
 
 /// Seven lines, and what they set up.
@@ -30,33 +34,44 @@ Clean { folder: 0 }, \
 Flag { folder: 1, unique: Bytes { items: [117] }, add: Flags { word: 262176 }, remove: Flags { word: 0 }, tries: 3 }] }";
 
 #[test]
-fn a_setup_has_what_the_lines_name(rt: HostRuntime) -> Result<(), Fail> {
-    assert!(rt; is_set_up(rt.alloc(), SCRIPT, WANT)?);
-    Ok(())
+fn a_setup_has_what_the_lines_name(rt: HostRuntime) {
+    assert!(rt; is_set_up(rt.alloc(), SCRIPT, WANT));
 }
 
 /// Whether the seven lines set this up where they come so many bytes at a time.
-fn is_read_so(alloc: Global, script: &[u8], at_once: usize) -> Result<bool, Fail> {
+fn is_read_so(alloc: Global, script: &[u8], at_once: usize) -> bool {
     let mut source = Reader::new(Torn {
         script,
         at_once,
         fault: None,
     });
-    let read = read_image(alloc, &mut source, true)?;
-    Ok(read.lines == 7 && is_written(alloc, &read.setup, WANT)?)
+    match read_image(alloc, &mut source, true) {
+        Ok(read) => read.lines == 7 && is_written(alloc, &read.setup, WANT),
+        Err(_) => false,
+    }
+}
+
+/// How many sizes of pieces are right up to the first that is not.
+fn right_sizes(alloc: Global, ended: &[u8]) -> usize {
+    for at_once in 1..SCRIPT.len() + 1 {
+        if !is_read_so(alloc, SCRIPT, at_once) || !is_read_so(alloc, ended, at_once) {
+            return at_once - 1;
+        }
+    }
+    SCRIPT.len()
+}
+
+fn right_pieces(alloc: Global) -> usize {
+    match joined(alloc, SCRIPT, b"\n") {
+        Ok(ended) => right_sizes(alloc, &ended),
+        Err(_) => 0,
+    }
 }
 
 #[test]
-fn a_setup_is_read_in_pieces(rt: HostRuntime) -> Result<(), Fail> {
-    let ended = joined(rt.alloc(), SCRIPT, b"\n")?;
-    for at_once in 1..SCRIPT.len() + 1 {
-        let is_same = is_read_so(rt.alloc(), SCRIPT, at_once)?;
-        assert!(rt;
-            is_same && is_read_so(rt.alloc(), &ended, at_once)?,
-            "{at_once}"
-        );
-    }
-    Ok(())
+fn a_setup_is_read_in_pieces(rt: HostRuntime) {
+    let right = right_pieces(rt.alloc());
+    assert!(rt; right == SCRIPT.len(), "{right} sizes");
 }
 
 /// Why the setup of a script that comes so many bytes at a time can't be read, where it ends so.
@@ -69,25 +84,25 @@ fn unread(alloc: Global, at_once: usize, fault: Option<ErrorKind>) -> Option<Pla
     read_image(alloc, &mut source, true).err()
 }
 
-#[test]
-fn a_read_fault_comes_before_a_line_that_sets_nothing_up(rt: HostRuntime) -> Result<(), Fail> {
-    for at_once in 1..24usize {
-        let whole = unread(rt.alloc(), at_once, None);
-        let torn = unread(rt.alloc(), at_once, Some(ErrorKind::BrokenPipe));
-        assert!(rt;
-            has_text(rt.alloc(), whole, b"line 2: not in this run")?,
-            "{at_once}"
-        );
-        assert!(rt;
-            has_text(rt.alloc(), torn, b"line 0: read fault")?,
-            "{at_once}"
-        );
-    }
-    Ok(())
+/// Whether the line is refused, and a read fault before it.
+fn comes_before(alloc: Global, at_once: usize) -> bool {
+    let torn = unread(alloc, at_once, Some(ErrorKind::BrokenPipe));
+    has_text(
+        alloc,
+        unread(alloc, at_once, None),
+        b"line 2: not in this run",
+    ) && has_text(alloc, torn, b"line 0: read fault")
 }
 
 #[test]
-fn the_calls_of_a_setup(rt: HostRuntime) -> Result<(), Fail> {
+fn a_read_fault_comes_before_a_line_that_sets_nothing_up(rt: HostRuntime) {
+    for at_once in 1..24usize {
+        assert!(rt; comes_before(rt.alloc(), at_once), "{at_once}");
+    }
+}
+
+#[test]
+fn the_calls_of_a_setup(rt: HostRuntime) {
     let script =
         b"folder a\nfolder b\njob deliver a u 4 x\njob seen a u S 1\njob move a u b 2\njob copy a u b v 3\njob expunge b u 16\njob clean b";
     let want =
@@ -97,8 +112,7 @@ Move { folder: 0, unique: Bytes { items: [117] }, to: 1, tries: 2 }, \
 Copy { folder: 0, unique: Bytes { items: [117] }, to: 1, fresh: Bytes { items: [118] }, tries: 3 }, \
 Expunge { folder: 1, unique: Bytes { items: [117] }, tries: 16 }, \
 Clean { folder: 1 }]";
-    assert!(rt; spells(rt.alloc(), script, want)?);
-    Ok(())
+    assert!(rt; spells(rt.alloc(), script, want));
 }
 
 /// Lines after `folder i`, and why they set nothing up, if they do, whether jobs are allowed or not.
@@ -124,57 +138,41 @@ job seen i u S1 1 x|line 2: bad flag%\
 job seen i u - 1 x|line 2: bad command";
 
 /// Whether a script is refused so, if at all.
-fn is_refused(
-    alloc: Global,
-    line: &[u8],
-    with_jobs: bool,
-    refusal: &[u8],
-) -> Result<bool, AllocError> {
-    let script = joined(alloc, b"folder i\n", line)?;
-    let refused = image(alloc, &script, with_jobs).err();
-    has_text(alloc, refused, refusal)
+fn is_refused(alloc: Global, script: &[u8], with_jobs: bool, refusal: &[u8]) -> bool {
+    has_text(alloc, image(alloc, script, with_jobs).err(), refusal)
 }
 
-/// Whether a row is true, with and without jobs.
-fn is_true(alloc: Global, row: &[u8]) -> Result<bool, AllocError> {
-    let mut parts = row.split(|byte| *byte == b'|');
-    match (parts.next(), parts.next()) {
-        (Some(line), Some(refusal)) => {
-            Ok(is_refused(alloc, line, true, refusal)? && is_refused(alloc, line, false, refusal)?)
+/// Whether a line is refused so with jobs, and so without.
+pub(super) fn is_refused_line(alloc: Global, line: &[u8], refusal: &[u8], without: &[u8]) -> bool {
+    match joined(alloc, b"folder i\n", line) {
+        Ok(script) => {
+            is_refused(alloc, &script, true, refusal) && is_refused(alloc, &script, false, without)
         }
-        _ => Ok(false),
-    }
-}
-
-/// Whether a row of a job is true, which is refused where no job is allowed.
-fn is_true_of_job(alloc: Global, row: &[u8]) -> Result<bool, AllocError> {
-    let too_soon = b"line 2: not in this run";
-    let mut parts = row.split(|byte| *byte == b'|');
-    match (parts.next(), parts.next()) {
-        (Some(line), Some(refusal)) => {
-            Ok(is_refused(alloc, line, true, refusal)? && is_refused(alloc, line, false, too_soon)?)
-        }
-        _ => Ok(false),
+        Err(_) => false,
     }
 }
 
 #[test]
-fn what_sets_nothing_up_is_refused(rt: HostRuntime) -> Result<(), Fail> {
-    for row in LINES.split(|byte| *byte == b'%') {
-        assert!(rt; is_true(rt.alloc(), row)?, "{row:?}");
+fn what_sets_nothing_up_is_refused(rt: HostRuntime) {
+    ask_each(&rt, rt.alloc(), Ask::Lines, LINES);
+    ask_each(&rt, rt.alloc(), Ask::JobLines, JOB_LINES);
+}
+
+/// Whether a setup has so many folders, files and calls.
+fn has_counts(alloc: Global, script: &[u8], folders: usize, files: usize, calls: usize) -> bool {
+    match image(alloc, script, true) {
+        Ok(setup) => {
+            setup.folders.len() == folders
+                && setup.files.len() == files
+                && setup.calls.len() == calls
+        }
+        Err(_) => false,
     }
-    for row in JOB_LINES.split(|byte| *byte == b'%') {
-        assert!(rt; is_true_of_job(rt.alloc(), row)?, "{row:?}");
-    }
-    Ok(())
 }
 
 #[test]
-fn a_setup_is_not_checked_beyond_its_words(rt: HostRuntime) -> Result<(), Fail> {
+fn a_setup_is_not_checked_beyond_its_words(rt: HostRuntime) {
     let script =
         b"folder i\nfile i new u 0\nfile i new u 0\nfile i cur u 0\njob deliver i .u 0\nfolder j";
-    let setup = image(rt.alloc(), script, true)?;
-    let counts = (setup.folders.len(), setup.files.len(), setup.calls.len());
-    assert!(rt; counts == (2, 3, 1));
-    Ok(())
+    assert!(rt; has_counts(rt.alloc(), script, 2, 3, 1));
 }
