@@ -1,5 +1,6 @@
 //! What an actor did about a message since its last answer.
 ghost use Rattle.std.specs.Prelude.{◌≡◌, ◌↔◌, ◌<◌, IsTrue, true};
+ghost use Rattle.md_clauses.specs.Befores.{mark, marked_line};
 ghost use Rattle.md_clauses.specs.Claims.{IsRefused};
 
 use super::befores::{Mark, NO_MARK, line_at, mark_of};
@@ -31,6 +32,7 @@ impl About {
     pub fn note_act(&mut self, line: usize, was_refused: bool)
         ensures act { line < 4294967296 → self.new.act ≡ line }
         ensures rest { self.new ≡ record self.old { act = self.new.act; was_refused = was_refused } }
+        ensures marks { self.new.act ≡ mark line }
     {
         self.act = mark_of(line);
         self.was_refused = was_refused;
@@ -38,14 +40,17 @@ impl About {
 
     /// Notes a step that changed the message's paths.
     pub fn note_change(&mut self, line: usize)
-        ensures { self.new ≡ record self.old { is_changed = true; changed_at = self.new.changed_at } }
+        ensures rest { self.new ≡ record self.old { is_changed = true; changed_at = self.new.changed_at } }
+        ensures marks { self.new.changed_at ≡ mark line }
     {
         self.changed_at = mark_of(line);
         self.is_changed = true;
     }
 
     /// The line of the last call on it.
-    pub fn act_line(&self) -> Option<usize> {
+    pub fn act_line(&self) -> Option<usize>
+        ensures { result ≡ marked_line self.now.act }
+    {
         line_at(self.act)
     }
 

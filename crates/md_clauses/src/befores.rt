@@ -1,7 +1,10 @@
 //! The earlier lines that broken clauses go back to.
-ghost use Rattle.std.specs.Prelude.{◌≡◌, ◌<◌};
+ghost use Rattle.std.specs.Prelude.{◌≡◌, ◌<◌, None};
+ghost use Rattle.md_log.specs.declared.clause.Clause.{Clause};
+ghost use Rattle.md_clauses.specs.Befores.{mark, marked_line, line_making, before_in, first_of};
 ghost use Rattle.md_clauses.specs.Moments.{kept_moment};
 
+use super::clauses::number_of;
 use md_log::Clause;
 
 /// The number of a line that something was done at, or none where that isn't known.
@@ -22,13 +25,16 @@ pub const NO_MARK: Mark = 0;
 
 /// The mark of a line. A line past 4,294,967,295 has none.
 pub fn mark_of(line: usize) -> Mark
-    ensures { line < 4294967296 → result ≡ line }
+    ensures exact { result ≡ mark line }
+    ensures few { line < 4294967296 → result ≡ line }
 {
     u32::try_from(line).unwrap_or(NO_MARK)
 }
 
 /// The line of a mark.
-pub fn line_at(mark: Mark) -> Option<usize> {
+pub fn line_at(mark: Mark) -> Option<usize>
+    ensures { result ≡ marked_line mark }
+{
     match mark {
         NO_MARK => None,
         line => Some(line as usize),
@@ -36,7 +42,9 @@ pub fn line_at(mark: Mark) -> Option<usize> {
 }
 
 /// The line that made what is there since a moment.
-pub fn line_before(since: usize) -> Option<usize> {
+pub fn line_before(since: usize) -> Option<usize>
+    ensures { result ≡ line_making since }
+{
     match since {
         0 | 1 => None,
         since => Some(since - 1),
@@ -50,20 +58,27 @@ pub struct Befores {
 }
 
 impl Befores {
-    pub fn none() -> Self {
+    pub fn none() -> Self
+        ensures { (c : Clause) → before_in result c ≡ None }
+    {
         Befores { lines: [None; 13] }
     }
 
     /// Notes the earlier line of a clause, unless one is noted.
-    pub fn note(&mut self, clause: Clause, line: Option<usize>) {
-        if let Some(noted) = self.lines.get_mut(clause as usize)
-            && noted.is_none()
-        {
-            *noted = line;
+    pub fn note(&mut self, clause: Clause, line: Option<usize>)
+        ensures noted { before_in self.new clause ≡ first_of (before_in self.old clause) line }
+        ensures others { (c : Clause) → (c ≡ clause → ⊥) → before_in self.new c ≡ before_in self.old c }
+    {
+        let at = number_of(clause);
+        if self.lines[at].is_none() {
+            self.lines[at] = line;
         }
     }
 
-    pub fn line(&self, clause: Clause) -> Option<usize> {
-        self.lines.get(clause as usize).copied().unwrap_or(None)
+    /// The earlier line of a clause.
+    pub fn line(&self, clause: Clause) -> Option<usize>
+        ensures { result ≡ before_in self.now clause }
+    {
+        self.lines[number_of(clause)]
     }
 }

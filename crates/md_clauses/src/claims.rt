@@ -1,5 +1,6 @@
 //! What actors answer about messages, beside what is kept of that.
 ghost use Rattle.std.specs.Prelude.{◌≡◌, ◌↔◌, IsTrue};
+ghost use Rattle.md_clauses.specs.Befores.{denial_of};
 ghost use Rattle.md_clauses.specs.Claims.{count_of, HasLooked, GivesUp, WasHeld, HasMoved, WasAbsent, IsUpheld};
 
 use super::about::About;
@@ -112,7 +113,9 @@ impl Claim {
     }
 
     /// The earlier line that it goes back to, where it is not so.
-    pub fn denied_by(&self) -> Option<usize> {
+    pub fn denied_by(&self) -> Option<usize>
+        ensures { result ≡ denial_of self.now.said self.now }
+    {
         match self.said {
             Said::Failed => line_at(self.about.changed_at),
             Said::NotThere => line_before(self.message?.since),

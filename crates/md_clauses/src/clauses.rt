@@ -1,5 +1,5 @@
 //! Sets of clauses.
-ghost use Rattle.std.specs.Prelude.{◌≡◌, ◌↔◌, ◌⊎◌, IsTrue};
+ghost use Rattle.std.specs.Prelude.{◌≡◌, ◌<◌, ◌↔◌, ◌⊎◌, IsTrue};
 ghost use Rattle.md_log.specs.declared.clause.Clause.{Clause};
 ghost use Rattle.md_clauses.specs.Found.{Has, clause_index};
 
@@ -32,8 +32,9 @@ impl Clauses {
 }
 
 /// The number of a clause in the order of the law.
-fn number_of(clause: Clause) -> usize
-    ensures { result ≡ clause_index clause }
+pub(crate) fn number_of(clause: Clause) -> usize
+    ensures exact { result ≡ clause_index clause }
+    ensures few { result < 13 }
 {
     clause as usize
 }

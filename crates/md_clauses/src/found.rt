@@ -1,6 +1,7 @@
 //! What is found at a step: the clauses that it breaks, and the earlier lines that they go back to.
-ghost use Rattle.std.specs.Prelude.{◌≡◌, ◌↔◌, IsTrue};
+ghost use Rattle.std.specs.Prelude.{◌≡◌, ◌↔◌, None, IsTrue};
 ghost use Rattle.md_log.specs.declared.clause.Clause.{Clause};
+ghost use Rattle.md_clauses.specs.Befores.{before_in, first_of};
 ghost use Rattle.md_clauses.specs.Found.{Has, Notes};
 
 use super::befores::Befores;
@@ -11,12 +12,13 @@ use md_log::Clause;
 #[derive(Clone, Copy)]
 pub struct Found {
     pub broken: Clauses,
-    befores: Befores,
+    pub befores: Befores,
 }
 
 impl Found {
     pub fn nothing() -> Self
-        ensures { (c : Clause) → Has result.broken c → ⊥ }
+        ensures broken { (c : Clause) → Has result.broken c → ⊥ }
+        ensures befores { (c : Clause) → before_in result.befores c ≡ None }
     {
         Found {
             broken: Clauses::none(),
@@ -32,13 +34,17 @@ impl Found {
     }
 
     /// The moment of the earlier line that the clause goes back to, where it is broken.
-    pub fn before(&self, clause: Clause) -> Option<usize> {
+    pub fn before(&self, clause: Clause) -> Option<usize>
+        ensures { result ≡ before_in self.now.befores clause }
+    {
         self.befores.line(clause)
     }
 
     /// Notes a clause that is broken, and the earlier line that it goes back to.
     pub fn note(&mut self, is_broken: bool, clause: Clause, before: Option<usize>)
-        ensures { Notes (λ c. IsTrue is_broken × (c ≡ clause)) self.old self.new }
+        ensures notes { Notes (λ c. IsTrue is_broken × (c ≡ clause)) self.old self.new }
+        ensures before { IsTrue is_broken → before_in self.new.befores clause ≡ first_of (before_in self.old.befores clause) before }
+        ensures others { (c : Clause) → (IsTrue is_broken → c ≡ clause → ⊥) → before_in self.new.befores c ≡ before_in self.old.befores c }
     {
         if is_broken {
             self.broken.add(clause);
