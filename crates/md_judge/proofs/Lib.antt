@@ -81,3 +81,10 @@ pub mod Saying
 pub mod Untold
 pub mod Marking
 pub mod Deeds
+pub mod Renumbered
+pub mod InOrder
+pub mod Placing
+pub mod AtLines
+pub mod Judging
+pub mod Placed
+pub mod Resorted

@@ -45,7 +45,7 @@ abbrev pub HaveNumbersFrom : ℕ → List Clause → Type 0
 HaveNumbersFrom n [] = Unit {0}
 HaveNumbersFrom n (c ∷ cs) = (clause_index c ≡ n) × HaveNumbersFrom (suc n) cs
 
-numbered : (cs : List Clause) (n i : ℕ) (c : Clause) → HaveNumbersFrom n cs → slice_get cs i ≡ Some c → clause_index c ≡ n + i
+pub numbered : (cs : List Clause) (n i : ℕ) (c : Clause) → HaveNumbersFrom n cs → slice_get cs i ≡ Some c → clause_index c ≡ n + i
 numbered [] n i c all is = absurd (cc is)
 numbered (x ∷ cs) n zero c all is =
     let same : x ≡ c = cc is in

@@ -13,16 +13,18 @@ use Rattle.md_log.specs.declared.line.Line.{Line}
 use Rattle.md_log.specs.declared.line.Line.TheVariants as line
 use Rattle.md_log.specs.declared.line.Step.{Step}
 use Rattle.md_log.specs.declared.error.LineFault.{LineFault}
-use Rattle.md_log.specs.declared.error.LineFault.TheVariants.{NoLog, NoMemory}
+use Rattle.md_log.specs.declared.error.LineFault.TheVariants.{NoLog, NoMemory, NoOrder, TooManyOrders}
 use Rattle.md_log.specs.declared.error.LogFault.{LogFault}
 use Rattle.md_judge.specs.declared.log.Finding.{Finding}
 use Rattle.md_judge.specs.declared.session.Session.{Session}
 use Rattle.md_judge.specs.Law.{IsFinding}
 use Rattle.md_judge.specs.Logs.{Log, Numbered, empty_log, is_passed_over, has_begun, with_line, with_folder_line, with_text, with_lines, at_line, and_then, log_by, log_of}
 use Rattle.md_judge.specs.Ordered.{AreInOrder}
-use Rattle.md_judge.specs.Taken.{IsWithoutTicks, Answers, HasTaken, with_given}
+use Rattle.md_judge.specs.Orders.{AreFoundInOrder}
+use Rattle.md_judge.specs.Placed.{IsUnplaced, HasPlaced}
+use Rattle.md_judge.specs.Taken.{IsWithoutTicks, Answers, AnswersAny, HasTaken, HasEnded, with_given}
 use Rattle.md_judge.specs.Verdict.{IsAmong, HasNoTicks, HasRead, Remembers, AreLinesOf}
-use Rattle.md_judge.proofs.Verdicts.{no-step}
+use Rattle.md_judge.proofs.Verdicts.{HasSame, no-step}
 use Rattle.md_judge.proofs.Whole.{on-log, given-text, none-given, lines-cut, lines-end}
 
 -- where there is a value, it is this
@@ -74,6 +76,30 @@ log-then head texts l text is = by (bytes_eq head (codes "maildir_log 1")) is
     by true is = lines-then texts empty_log l 2 text is
     by false is = absurd (cc is)
 
+-- a refusal that says nothing of lines says it of any
+unplaced-any : (e : LogFault) (log : Result Log LogFault) → IsUnplaced e.fault → e.fault ≢ NoMemory → e.fault ≢ NoOrder → e.fault ≢ TooManyOrders
+    → log ≡ Err e
+unplaced-any e log unplaced known found few = absurd (elim unplaced [
+  | inl is ↦ known is
+  | inr other ↦ elim other [ inl is ↦ found is | inr is ↦ few is ]
+])
+
+-- where the lines are a log, what refuses nothing else says so of them
+pub any-by : {A : Type 0} (r : Result A LogFault) (log : Result Log LogFault) → IsOk log → IfErr r (λ e. IsUnplaced e.fault) → AnswersAny r log
+any-by (Ok x) log ok unplaced = ok
+any-by (Err e) log ok unplaced = unplaced-any e log unplaced
+
+-- a session has ended the log that the lines are
+pub ended-by : (given : List Clause) (texts : List (List ℕ)) (l : Log) (s : Session) → log_by texts ≡ Ok l
+    → AreFoundInOrder (with_given given l) s.findings.items → AreInOrder s.findings.items → HasEnded given texts s
+ended-by given texts l s is found ordered = record {
+  found = λ m other.
+      let said : Ok l ≡ Ok m = sym is ∙ other in
+      let same : l ≡ m = cc said in
+      subst (λ (k : Log). AreFoundInOrder (with_given given k) s.findings.items) same found;
+  ordered = λ m other. ordered;
+}
+
 -- what is answered of a line is answered of it whatever clauses are not judged
 answers-given : {A : Type 0} (r : Result A LogFault) (given : List Clause) (number : ℕ) (o : Result Log LineFault)
     → Answers r (at_line number (on-log (with_given given) o)) → Answers r (at_line number o)
@@ -89,7 +115,7 @@ pub answers-line : {A : Type 0} (r : Result A LogFault) (given : List Clause) (t
     → IsWithoutTicks texts → Answers r (log_by (texts ++ text ∷ []))
 answers-line r given [] text s number taken is first later none = let is' : number ≡ 1 = is in first (omega (arith, is'))
 answers-line r given (head ∷ texts) text s number taken is first later none =
-    let has = ok-of (log_by (head ∷ texts)) (taken.log none (λ same. cc same)) in
+    let has = ok-of (log_by (head ∷ texts)) (taken.log (λ same. cc same)) in
     let is' : number ≡ suc (suc (length texts)) = is in
     let here : 2 + length texts ≡ number = omega (arith, is') in
     let read = taken.read has.0 has.1 (without-all (head ∷ texts) has.0 none has.1) in
@@ -99,6 +125,30 @@ answers-line r given (head ∷ texts) text s number taken is first later none =
     (subst (λ (o : Result Log LineFault). Answers r (at_line number o)) (given-text given has.0 number text)
     (later (omega (arith, is')) (with_given given has.0) (subst (λ k. HasRead k (with_given given has.0) s) (sym is') read)))))
 
+-- the same of any lines
+any-given : {A : Type 0} (r : Result A LogFault) (given : List Clause) (number : ℕ) (o : Result Log LineFault)
+    → AnswersAny r (at_line number (on-log (with_given given) o)) → AnswersAny r (at_line number o)
+any-given (Ok x) given number (Ok l) answers = refl
+any-given (Ok x) given number (Err fault) answers = answers
+any-given (Err e) given number (Ok l) answers = λ known found few. absurd (cc (answers known found few))
+any-given (Err e) given number (Err fault) answers = answers
+
+pub any-line : {A : Type 0} (r : Result A LogFault) (given : List Clause) (texts : List (List ℕ)) (text : List ℕ) (s : Session)
+    (number : ℕ) → HasTaken given texts s → number ≡ suc (length texts) → (number ≤ 1 → AnswersAny r (log_by (text ∷ [])))
+    → (1 < number → (l : Log) → HasPlaced number l s → AnswersAny r (at_line number (with_text l number text)))
+    → AnswersAny r (log_by (texts ++ text ∷ []))
+any-line r given [] text s number taken is first later = let is' : number ≡ 1 = is in first (omega (arith, is'))
+any-line r given (head ∷ texts) text s number taken is first later =
+    let has = ok-of (log_by (head ∷ texts)) (taken.log (λ same. cc same)) in
+    let is' : number ≡ suc (suc (length texts)) = is in
+    let here : 2 + length texts ≡ number = omega (arith, is') in
+    subst (λ (o : Result Log LogFault). AnswersAny r o) (sym (log-then head texts has.0 text has.1))
+    (subst (λ k. AnswersAny r (at_line k (with_text has.0 k text))) (sym here)
+    (any-given r given number (with_text has.0 number text)
+    (subst (λ (o : Result Log LineFault). AnswersAny r (at_line number o)) (given-text given has.0 number text)
+    (later (omega (arith, is')) (with_given given has.0)
+    (subst (λ k. HasPlaced k (with_given given has.0) s) (sym is') (taken.placed has.0 has.1))))))
+
 -- ---- the text of a line
 
 -- a log with what a line says, or what is said of the line
@@ -106,16 +156,16 @@ abbrev says : Log → ℕ → Result Line LineFault → Result Log LineFault
 says l number r = r >>= (λ line. with_line l number line)
 
 -- what a line says, by what a session has read
-text-is : (number : ℕ) (l : Log) (s : Session) (text : List ℕ) → HasRead number l s → is_passed_over text ≡ false
+text-is : (number : ℕ) (l : Log) (s : Session) (text : List ℕ) → HasSame l s → is_passed_over text ≡ false
     → with_text l number text ≡ says l number (line_of s.folders s.has_begun text)
 unfolding with_text
-text-is number l s text read over =
+text-is number l s text same over =
     ap (λ (b : Bool). if b then Ok l else says l number (line_of l.folders (has_begun l) text)) over
-    ∙ ap (λ (fs : List (List ℕ)). says l number (line_of fs (has_begun l) text)) (sym read.folders)
-    ∙ ap (λ (b : Bool). says l number (line_of s.folders b text)) (sym read.begun)
+    ∙ ap (λ (fs : List (List ℕ)). says l number (line_of fs (has_begun l) text)) (sym same.0)
+    ∙ ap (λ (b : Bool). says l number (line_of s.folders b text)) (sym same.1)
 
 -- and that is read as this
-text-said : (number : ℕ) (l : Log) (s : Session) (text : List ℕ) (r : Result Line LineFault) → HasRead number l s
+text-said : (number : ℕ) (l : Log) (s : Session) (text : List ℕ) (r : Result Line LineFault) → HasSame l s
     → is_passed_over text ≡ false → line_of s.folders s.has_begun text ≡ r → with_text l number text ≡ says l number r
 text-said number l s text r read over has = text-is number l s text read over ∙ ap (says l number) has
 
@@ -130,22 +180,29 @@ over-answers number l text over =
     ap (λ (b : Bool). is_ok (at_line number (if b then Ok l else says l number (line_of l.folders (has_begun l) text)))) over
 
 -- a step is none
-pub step-answers : {A : Type 0} (r : Result A LogFault) (number : ℕ) (l : Log) (s : Session) (text : List ℕ) (x : Step) → HasRead number l s
+pub step-answers : {A : Type 0} (r : Result A LogFault) (number : ℕ) (l : Log) (s : Session) (text : List ℕ) (x : Step) → HasSame l s
     → is_passed_over text ≡ false → line_of s.folders s.has_begun text ≡ Ok (line.Step x) → IfErr r (λ e. e.fault ≡ NoMemory)
     → Answers r (at_line number (with_text l number text))
 step-answers (Ok y) number l s text x read over has memory =
     ap (λ (r : Result Log LineFault). is_ok (at_line number r)) (text-said number l s text (Ok (line.Step x)) read over has)
 step-answers (Err e) number l s text x read over has memory = λ known. absurd (known memory)
 
+pub step-any : {A : Type 0} (r : Result A LogFault) (number : ℕ) (l : Log) (s : Session) (text : List ℕ) (x : Step) → HasSame l s
+    → is_passed_over text ≡ false → line_of s.folders s.has_begun text ≡ Ok (line.Step x) → IfErr r (λ e. IsUnplaced e.fault)
+    → AnswersAny r (at_line number (with_text l number text))
+step-any (Ok y) number l s text x same over has unplaced =
+    ap (λ (r : Result Log LineFault). is_ok (at_line number r)) (text-said number l s text (Ok (line.Step x)) same over has)
+step-any (Err e) number l s text x same over has unplaced = unplaced-any e (at_line number (with_text l number text)) unplaced
+
 -- a line of the beginning is wrong where the log says so
-pub head-answers : (number : ℕ) (l : Log) (s : Session) (text : List ℕ) (v : Line) → HasRead number l s → is_passed_over text ≡ false
+pub head-answers : (number : ℕ) (l : Log) (s : Session) (text : List ℕ) (v : Line) → HasSame l s → is_passed_over text ≡ false
     → line_of s.folders s.has_begun text ≡ Ok v → IsOk (with_line l number v) → IsOk (at_line number (with_text l number text))
 head-answers number l s text v read over has ok =
     ap (λ (r : Result Log LineFault). is_ok (at_line number r)) (text-said number l s text (Ok v) read over has)
     ∙ ok-at number (with_line l number v) ok
 
 pub head-wrong : (number : ℕ) (l : Log) (s : Session) (text : List ℕ) (v : Line) (fault : LineFault) (e : LogFault)
-    → HasRead number l s → is_passed_over text ≡ false
+    → HasSame l s → is_passed_over text ≡ false
     → line_of s.folders s.has_begun text ≡ Ok v → (fault ≢ NoMemory → with_line l number v ≡ Err fault)
     → e ≡ record { line = number; fault = fault } → e.fault ≢ NoMemory → at_line number (with_text l number text) ≡ Err e
 head-wrong number l s text v fault e read over has wrong is known =
@@ -154,7 +211,7 @@ head-wrong number l s text v fault e read over has wrong is known =
 
 -- and so is a text that says nothing
 pub text-wrong : (number : ℕ) (l : Log) (s : Session) (text : List ℕ) (fault : LineFault) (e : LogFault)
-    → HasRead number l s → is_passed_over text ≡ false → (fault ≢ NoMemory → line_of s.folders s.has_begun text ≡ Err fault)
+    → HasSame l s → is_passed_over text ≡ false → (fault ≢ NoMemory → line_of s.folders s.has_begun text ≡ Err fault)
     → e ≡ record { line = number; fault = fault } → e.fault ≢ NoMemory → at_line number (with_text l number text) ≡ Err e
 text-wrong number l s text fault e read over wrong is known =
     ap (at_line number)
@@ -254,6 +311,15 @@ text-stays text one left others s e cut taken answers none known =
     let before = without-shorter taken.0 (one ∷ others) (subst IsWithoutTicks all none) in
     ap log_by all ∙ wrong-stays taken.0 one others e (answers taken.0 taken.2 before known)
 
+pub text-stays-any : (text one : List ℕ) (left others : List (List ℕ)) (s : Session) (e : LogFault) → left ≡ one ∷ others
+    → HasTakenTo text left s
+    → ((texts : List (List ℕ)) → HasTaken [] texts s → AnswersAny {A = Unit {0}} (Err e) (log_by (texts ++ one ∷ [])))
+    → AnswersAny {A = Unit {0}} (Err e) (log_of text)
+unfolding log_of
+text-stays-any text one left others s e cut taken answers = λ known found few.
+    let all : lines_of text ≡ taken.0 ++ one ∷ others = taken.1 ∙ ap (λ ls. taken.0 ++ ls) cut in
+    ap log_by all ∙ wrong-stays taken.0 one others e (answers taken.0 taken.2 known found few)
+
 -- all are taken in
 pub taken-all : (text : List ℕ) (left : List (List ℕ)) (s : Session) → left ≡ [] → HasTakenTo text left s → HasTaken [] (lines_of text) s
 taken-all text left s end taken =
@@ -265,12 +331,16 @@ unfolding log_of
 log-is text = refl
 
 -- what was found is in order
-pub ordered-all : (text : List ℕ) (s t : Session) → HasTaken [] (lines_of text) s
-    → ((l : Log) → HasTaken [] (lines_of text) s → log_by (lines_of text) ≡ Ok l → HasNoTicks l → t ≡ s)
-    → (l : Log) → log_of text ≡ Ok l → HasNoTicks l → AreInOrder t.findings.items
+pub ordered-all : (text : List ℕ) (t : Session) → HasEnded [] (lines_of text) t → IsOk (log_of text)
+    → AreInOrder t.findings.items
 unfolding log_of
-ordered-all text s t taken same l is none =
-    subst (λ (v : Session). AreInOrder v.findings.items) (sym (same l taken is none)) (taken.read l is none).ordered
+ordered-all text t ended ok = let has = ok-of (log_by (lines_of text)) ok in ended.ordered has.0 has.1
+
+-- and it is what is found where steps take effect in an order in which they may
+pub placed-all : (text : List ℕ) (t : Session) → HasEnded [] (lines_of text) t → (l : Log) → log_of text ≡ Ok l
+    → AreFoundInOrder l t.findings.items
+unfolding log_of
+placed-all text t ended l is = subst (λ (m : Log). AreFoundInOrder m t.findings.items) (none-given l) (ended.found l is)
 
 -- and what was found are the findings
 pub found-all : (text : List ℕ) (s t : Session) → HasTaken [] (lines_of text) s

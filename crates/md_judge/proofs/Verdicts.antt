@@ -61,7 +61,7 @@ on-ok-same P (Err e) (Err f) same holds = tt
 -- ---- what the judge keeps
 
 -- what it keeps of a log it keeps of the log with one more step
-remembers-longer : (lines : ℕ → ℕ) (l : Log) (n : Numbered) (i : ℕ) (j : Judge) → i ≤ length l.steps → Remembers lines l i j
+pub remembers-longer : (lines : ℕ → ℕ) (l : Log) (n : Numbered) (i : ℕ) (j : Judge) → i ≤ length l.steps → Remembers lines l i j
     → Remembers lines (record l { steps = l.steps ++ n ∷ [] }) i j
 remembers-longer lines l n i j low keeps = record {
   told = told-longer lines l n i j.known low keeps.told;
@@ -90,7 +90,7 @@ remembers-opening lines l l' j same clock keeps = record {
 
 -- ---- findings that are added
 
-last-is : {A : Type 0} (xs : List A) (y : A) → slice_get (xs ++ y ∷ []) (length xs) ≡ Some y
+pub last-is : {A : Type 0} (xs : List A) (y : A) → slice_get (xs ++ y ∷ []) (length xs) ≡ Some y
 last-is [] y = refl
 last-is (x ∷ xs) y = last-is xs y
 
@@ -193,16 +193,16 @@ adds-all c n i j allowed P a b end same broken adds m = (
 
 -- ---- one more step
 
-begun-after : (xs : List Numbered) (y : Numbered) → nat_lt 0 (length (xs ++ y ∷ [])) ≡ true
+pub begun-after : (xs : List Numbered) (y : Numbered) → nat_lt 0 (length (xs ++ y ∷ [])) ≡ true
 begun-after xs y = let long = length_push xs y in lt-ltb 0 (length (xs ++ y ∷ [])) (omega (arith, long))
 
 -- the lines of the steps of a log
-abbrev number-by : ℕ → Option Numbered → ℕ
+abbrev pub number-by : ℕ → Option Numbered → ℕ
 number-by next None = next
 number-by next (Some x) = x.number
 
 -- and what lines come next
-abbrev line-at : ℕ → Log → ℕ → ℕ
+abbrev pub line-at : ℕ → Log → ℕ → ℕ
 line-at number l k = number-by (number + k) (slice_get l.steps k)
 
 -- what comes after a place that is not there is not there
@@ -213,7 +213,7 @@ none-after xs a b y up none is =
     cc (none, some)
 
 -- lines of steps rise where the steps' own do, and those that come next go on
-lines-rise : (number : ℕ) (l : Log)
+pub lines-rise : (number : ℕ) (l : Log)
     → ((a b : ℕ) (x y : Numbered) → a < b → slice_get l.steps a ≡ Some x → slice_get l.steps b ≡ Some y → x.number < y.number)
     → ((k : ℕ) (x : Numbered) → slice_get l.steps k ≡ Some x → x.number < number)
     → (a b : ℕ) → a < b → line-at number l a < line-at number l b
@@ -226,7 +226,7 @@ lines-rise number l rises below a b up = by (slice_get l.steps a) (slice_get l.s
     by None None first last = omega (arith, up)
 
 -- and so are lines of steps above 0
-lines-above : (number : ℕ) (l : Log) → 0 < number → ((k : ℕ) (x : Numbered) → slice_get l.steps k ≡ Some x → 0 < x.number)
+pub lines-above : (number : ℕ) (l : Log) → 0 < number → ((k : ℕ) (x : Numbered) → slice_get l.steps k ≡ Some x → 0 < x.number)
     → (a : ℕ) → 0 < line-at number l a
 lines-above number l first above a = by (slice_get l.steps a) refl
   where
@@ -451,6 +451,17 @@ also-rest l l' path old is = by (is_some (file_at l.opening path)) (is_some (fil
         let same : record l { opening = with_path path l.opening (file_at l.opening old) } ≡ l' = cc in
         rest-same l (record l { opening = with_path path l.opening (file_at l.opening old) }) l' (refl, (refl, refl)) same
 
+-- a line of a folder adds no step
+pub folder-steps : (l l' : Log) (name : List ℕ) → with_folder_line l name ≡ Ok l' → l'.steps ≡ l.steps
+unfolding with_folder_line
+folder-steps l l' name is = by (with_folder l.folders name) is
+  where
+    by : (r : Result (List (List ℕ)) LineFault)
+        → (r >>= (λ folders. Ok (record l { folders = folders; opening = record l.opening { folders = length folders } }))) ≡ Ok l' → l'.steps ≡ l.steps
+    by (Err fault) is = absurd (cc is)
+    by (Ok fs) is =
+        let same : record l { folders = fs; opening = record l.opening { folders = length fs } } ≡ l' = cc is in ap (λ (m : Log). m.steps) (sym same)
+
 with-folders : (l l' : Log) (name : List ℕ) (fs : List (List ℕ)) → with_folder l.folders name ≡ Ok fs → with_folder_line l name ≡ Ok l'
     → record l { folders = fs; opening = record l.opening { folders = length fs } } ≡ l'
 unfolding with_folder_line
@@ -572,12 +583,16 @@ text-over number l l' text over is =
     subst (λ b. (if b then Ok l else (line_of l.folders (has_begun l) text >>= (λ line. with_line l number line))) ≡ Ok l') over is in
     cc now
 
+-- a session has the folders of a log, and knows whether its steps have begun
+abbrev pub HasSame : Log → Session → Type 0
+HasSame l s = (s.folders ≡ l.folders) × (s.has_begun ≡ has_begun l)
+
 -- what another line says is added
-pub text-line : (number : ℕ) (l l' : Log) (s : Session) (text : List ℕ) (line : Line) → HasRead number l s → is_passed_over text ≡ false
+pub text-line : (number : ℕ) (l l' : Log) (s : Session) (text : List ℕ) (line : Line) → HasSame l s → is_passed_over text ≡ false
     → line_of s.folders s.has_begun text ≡ Ok line → with_text l number text ≡ Ok l' → with_line l number line ≡ Ok l'
 unfolding with_text
-text-line number l l' s text line read over has is =
-    let has' : line_of l.folders (has_begun l) text ≡ Ok line = sym (λ i. line_of (read.folders i) (read.begun i) text) ∙ has in
+text-line number l l' s text line same over has is =
+    let has' : line_of l.folders (has_begun l) text ≡ Ok line = sym (λ i. line_of (same.0 i) (same.1 i) text) ∙ has in
     subst (λ (r : Result Line LineFault). (r >>= (λ line. with_line l number line)) ≡ Ok l') has'
     (subst (λ b. (if b then Ok l else (line_of l.folders (has_begun l) text >>= (λ line. with_line l number line))) ≡ Ok l') over is)
 
@@ -621,16 +636,17 @@ step-alone (line.File path stamp) other is = is
 step-alone (line.Also path old) other is = is
 step-alone (line.Step x) other is = other x refl
 
-module _ (number : ℕ) (l : Log) (s : Session) (text : List ℕ) (read : HasRead number l s) where
-  -- a line that is no step comes before the first one
-  pub none-yet : (v : Line) → ((x : Step) → v ≡ line.Step x → ⊥) → line_of s.folders s.has_begun text ≡ Ok v → l.steps ≡ []
-  none-yet v other is = by s.has_begun is read.begun
-    where
-      by : (b : Bool) → line_of s.folders b text ≡ Ok v → b ≡ has_begun l → l.steps ≡ []
-      by true is begun = absurd (step-alone v other (IfOk-at_ok IsStepLine is (late s.folders text)))
-      by false is begun = no-steps l.steps (sym begun)
+-- a line that is no step comes before the first one
+pub none-yet : (l : Log) (s : Session) (text : List ℕ) → HasSame l s → (v : Line) → ((x : Step) → v ≡ line.Step x → ⊥)
+    → line_of s.folders s.has_begun text ≡ Ok v → l.steps ≡ []
+none-yet l s text same v other is = by s.has_begun is same.1
+  where
+    by : (b : Bool) → line_of s.folders b text ≡ Ok v → b ≡ has_begun l → l.steps ≡ []
+    by true is begun = absurd (step-alone v other (IfOk-at_ok IsStepLine is (late s.folders text)))
+    by false is begun = no-steps l.steps (sym begun)
 
-  -- and its path is in a folder that is there
+module _ (number : ℕ) (l : Log) (s : Session) (text : List ℕ) (read : HasRead number l s) where
+  -- its path is in a folder that is there
   pub is-head : (v : Line) → ((x : Step) → v ≡ line.Step x → ⊥) → line_of s.folders s.has_begun text ≡ Ok v → IsHeadOf l.opening v
   is-head (line.Folder name) other is = tt
   is-head (line.Allow c) other is = tt

@@ -19,9 +19,11 @@ use Rattle.md_judge.specs.declared.log.Finding.{Finding}
 use Rattle.md_judge.specs.declared.session.Session.{Session}
 use Rattle.md_judge.specs.Law.{IsAllowed}
 use Rattle.md_judge.specs.Logs.{Log, Numbered, empty_log, is_passed_over, has_begun, with_line, with_text, with_folder_line, with_file_line, with_also_line, with_lines, at_line, and_then, log_by}
-use Rattle.md_judge.specs.Taken.{IsWithoutTicks, HasTaken, with_given}
+use Rattle.md_judge.specs.Placed.{HasPlaced}
+use Rattle.md_judge.specs.Taken.{HasTaken, with_given}
 use Rattle.md_judge.specs.Verdict.{HasNoTicks, IsAmong, HasRead}
-use Rattle.md_judge.proofs.Verdicts.{first-are, file-rest, also-rest}
+use Rattle.md_judge.proofs.Placed.{head-placed, counted-placed}
+use Rattle.md_judge.proofs.Verdicts.{first-are, file-rest, also-rest, folder-steps}
 
 -- ---- a log of which no line was read
 
@@ -41,16 +43,6 @@ IsBefore l l' = (k : ℕ) (x : Numbered) → slice_get l.steps k ≡ Some x → 
 
 same-before : (l l' : Log) → l'.steps ≡ l.steps → IsBefore l l'
 same-before l l' same k x is = subst (λ (xs : List Numbered). slice_get xs k ≡ Some x) (sym same) is
-
-folder-steps : (l l' : Log) (name : List ℕ) → with_folder_line l name ≡ Ok l' → l'.steps ≡ l.steps
-unfolding with_folder_line
-folder-steps l l' name is = by (with_folder l.folders name) is
-  where
-    by : (r : Result (List (List ℕ)) LineFault)
-        → (r >>= (λ folders. Ok (record l { folders = folders; opening = record l.opening { folders = length folders } }))) ≡ Ok l' → l'.steps ≡ l.steps
-    by (Err fault) is = absurd (cc is)
-    by (Ok fs) is =
-        let same : record l { folders = fs; opening = record l.opening { folders = length fs } } ≡ l' = cc is in ap (λ (m : Log). m.steps) (sym same)
 
 line-before : (l l' : Log) (number : ℕ) (v : Line) → with_line l number v ≡ Ok l' → IsBefore l l'
 line-before l l' number (line.Folder name) is = same-before l l' (folder-steps l l' name is)
@@ -226,27 +218,34 @@ pub takes-line : (given : List Clause) (texts : List (List ℕ)) (text : List �
     → number ≡ suc (length texts)
     → (number ≤ 1 → t ≡ s)
     → (1 < number → (l l' : Log) → HasRead number l s → with_text l number text ≡ Ok l' → HasNoTicks l' → HasRead (suc number) l' t)
-    → (IsWithoutTicks (texts ++ text ∷ []) → IsOk (log_by (texts ++ text ∷ [])))
+    → (1 < number → (l l' : Log) → HasPlaced number l s → with_text l number text ≡ Ok l' → HasPlaced (suc number) l' t)
+    → IsOk (log_by (texts ++ text ∷ []))
     → HasTaken given (texts ++ text ∷ []) (record t { lines = number })
-takes-line given [] text s t number taken is first later log =
+takes-line given [] text s t number taken is first later placed log =
     let one : number ≡ 1 = is in
     let none : Log = with_given given empty_log in
     let start : HasRead 2 none t = subst (λ (v : Session). HasRead 2 none v) (sym (first (omega (arith, one)))) (taken.none refl) in
     record {
       lines = one;
       none = λ none. absurd (none-of-some [] text none);
-      log = λ none some. log none;
+      waits = λ none. absurd (none-of-some [] text none);
+      log = λ some. log;
       read = λ l has ticks.
           subst (λ (m : Log). HasRead 2 (with_given given m) (record t { lines = number })) (log-one text l has)
           (counted 2 none t number start);
+      placed = λ l has.
+          subst (λ (m : Log). HasPlaced 2 (with_given given m) (record t { lines = number })) (log-one text l has)
+          (counted-placed 2 none t number (head-placed 2 none t refl
+          (subst (λ (v : Session). v.stretch.lines.items ≡ []) (sym (first (omega (arith, one)))) (taken.waits refl)) start));
     }
-takes-line given (head ∷ texts) text s t number taken is first later log =
+takes-line given (head ∷ texts) text s t number taken is first later placed log =
     let long : length (texts ++ text ∷ []) ≡ length texts + 1 = length_push texts text in
     let is' : number ≡ suc (suc (length texts)) = is in
     record {
       lines = let same : number ≡ suc (length (texts ++ text ∷ [])) = omega (arith, long, is') in same;
       none = λ none. absurd (none-of-some (head ∷ texts) text none);
-      log = λ none some. log none;
+      waits = λ none. absurd (none-of-some (head ∷ texts) text none);
+      log = λ some. log;
       read = λ l has ticks.
           let more = log-more head texts l text has in
           let here : 2 + length texts ≡ number = omega (arith, is') in
@@ -261,4 +260,17 @@ takes-line given (head ∷ texts) text s t number taken is first later log =
           let same : suc number ≡ suc (suc (length (texts ++ text ∷ []))) = omega (arith, long, is') in
           subst (λ k. HasRead k (with_given given l) (record t { lines = number })) same
           (counted (suc number) (with_given given l) t number now);
+      placed = λ l has.
+          let more = log-more head texts l text has in
+          let here : 2 + length texts ≡ number = omega (arith, is') in
+          let next : with_text more.0 number text ≡ Ok l = subst (λ k. with_text more.0 k text ≡ Ok l) here more.2 in
+          let next' : with_text (with_given given more.0) number text ≡ Ok (with_given given l) =
+          given-text given more.0 number text ∙ ap (on-log (with_given given)) next in
+          let before : HasPlaced (suc (suc (length texts))) (with_given given more.0) s = taken.placed more.0 more.1 in
+          let now : HasPlaced (suc number) (with_given given l) t =
+          placed (omega (arith, is')) (with_given given more.0) (with_given given l)
+          (subst (λ k. HasPlaced k (with_given given more.0) s) (sym is') before) next' in
+          let same : suc number ≡ suc (suc (length (texts ++ text ∷ []))) = omega (arith, long, is') in
+          subst (λ k. HasPlaced k (with_given given l) (record t { lines = number })) same
+          (counted-placed (suc number) (with_given given l) t number now);
     }

@@ -30,4 +30,6 @@ pub mod Said
 pub mod Marks
 pub mod Ordered
 pub mod Verdict
+pub mod Orders
+pub mod Placed
 pub mod Taken

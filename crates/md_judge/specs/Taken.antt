@@ -1,10 +1,13 @@
 -- What is answered of the lines of a log, and what a session holds that has taken them in.
 use Rattle.std.specs.Prelude.{ℕ, suc, ◌≡◌, ◌≢◌, List, [], ◌++◌, take, length, Result, Ok, Err, IsOk}
 use Rattle.md_log.specs.declared.clause.Clause.{Clause}
-use Rattle.md_log.specs.declared.error.LineFault.TheVariants.{NoMemory}
+use Rattle.md_log.specs.declared.error.LineFault.TheVariants.{NoMemory, NoOrder, TooManyOrders}
 use Rattle.md_log.specs.declared.error.LogFault.{LogFault}
 use Rattle.md_judge.specs.declared.session.Session.{Session}
 use Rattle.md_judge.specs.Logs.{Log, empty_log, log_by}
+use Rattle.md_judge.specs.Orders.{AreFoundInOrder}
+use Rattle.md_judge.specs.Ordered.{AreInOrder}
+use Rattle.md_judge.specs.Placed.{HasPlaced}
 use Rattle.md_judge.specs.Verdict.{HasNoTicks, HasRead}
 
 -- no beginning of the lines is a log in which a step has ticks
@@ -16,14 +19,27 @@ abbrev pub Answers : {A : Type 0} → Result A LogFault → Result Log LogFault 
 Answers (Ok x) log = IsOk log
 Answers (Err e) log = e.fault ≢ NoMemory → log ≡ Err e
 
+-- What is answered of any lines is what they are, unless memory is refused or no order is found.
+abbrev pub AnswersAny : {A : Type 0} → Result A LogFault → Result Log LogFault → Type 0
+AnswersAny (Ok x) log = IsOk log
+AnswersAny (Err e) log = e.fault ≢ NoMemory → e.fault ≢ NoOrder → e.fault ≢ TooManyOrders → log ≡ Err e
+
 -- a log of which these clauses are not judged either
 abbrev pub with_given : List Clause → Log → Log
 with_given given l = record l { allowed = l.allowed ++ given }
 
--- A session was told not to judge these clauses, and has taken in these lines, of which the first is the head. Where no beginning of them
--- has ticks, they are a log, and it has read that log, of which those clauses are not judged either.
+-- A session was told not to judge these clauses, and has taken in these lines, of which the first is the head. They are a log, and it has
+-- read that log, of which those clauses are not judged either.
 pub record HasTaken (given : List Clause) (texts : List (List ℕ)) (s : Session) : Type 0 where
   pub lines : s.lines ≡ length texts
   pub none : texts ≡ [] → HasRead 2 (with_given given empty_log) s
-  pub log : IsWithoutTicks texts → texts ≢ [] → IsOk (log_by texts)
+  pub waits : texts ≡ [] → s.stretch.lines.items ≡ []
+  pub log : texts ≢ [] → IsOk (log_by texts)
   pub read : (l : Log) → log_by texts ≡ Ok l → HasNoTicks l → HasRead (suc (length texts)) (with_given given l) s
+  pub placed : (l : Log) → log_by texts ≡ Ok l → HasPlaced (suc (length texts)) (with_given given l) s
+
+-- A session was told not to judge these clauses, and has taken in these lines to the end: what it found is what is found of the log that they
+-- are, of which those clauses are not judged either, and it is in order.
+pub record HasEnded (given : List Clause) (texts : List (List ℕ)) (s : Session) : Type 0 where
+  pub found : (l : Log) → log_by texts ≡ Ok l → AreFoundInOrder (with_given given l) s.findings.items
+  pub ordered : (l : Log) → log_by texts ≡ Ok l → AreInOrder s.findings.items

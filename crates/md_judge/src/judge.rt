@@ -6,6 +6,7 @@ ghost use Rattle.std.specs.Prelude.{◌≡◌, ◌<◌, ℕ, suc, Some, Ok, true
 ghost use Rattle.md_dirs.specs.State.{has_folder};
 ghost use Rattle.md_judge.specs.Logs.{Log, empty_log, with_file_line, with_also_line};
 ghost use Rattle.md_log.specs.declared.clause.Clause.{Clause};
+ghost use Rattle.md_log.specs.declared.clause.Clause.TheVariants.{NotADirectory};
 ghost use Rattle.md_clauses.specs.Found.{Has};
 ghost use Rattle.md_judge.specs.Law.{turn, Breaks};
 ghost use Rattle.md_judge.specs.Told.{at};
@@ -200,6 +201,13 @@ impl Judge {
         ensures { IsTrue result ↔ (Has self.now.watch.found.broken clause × (Has self.now.allowed clause → ⊥)) }
     {
         self.watch.found.is_broken(clause) && !self.allowed.contains(clause)
+    }
+
+    /// Whether directories don't give the last step's reply.
+    pub(crate) fn is_wrong(&self) -> bool
+        ensures { IsTrue result ↔ Has self.now.watch.found.broken NotADirectory }
+    {
+        self.watch.found.is_broken(Clause::NotADirectory)
     }
 
     /// The moment of the earlier line that the clause goes back to, where it is broken.

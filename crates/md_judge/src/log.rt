@@ -5,7 +5,8 @@ ghost use Rattle.md_log.specs.declared.clause.Clause.{Clause};
 ghost use Rattle.md_judge.specs.Law.{IsFinding};
 ghost use Rattle.md_judge.specs.Logs.{Log, log_of};
 ghost use Rattle.md_judge.specs.Ordered.{AreInOrder};
-ghost use Rattle.md_judge.specs.Taken.{IsWithoutTicks, Answers};
+ghost use Rattle.md_judge.specs.Orders.{AreFoundInOrder};
+ghost use Rattle.md_judge.specs.Taken.{IsWithoutTicks, Answers, AnswersAny};
 ghost use Rattle.md_judge.specs.Verdict.{HasNoTicks, IsAmong};
 
 use crate::session::Session;
@@ -27,8 +28,10 @@ pub struct Finding {
 pub fn judge_log(alloc: Global, log: &[u8]) -> Result<Vec<Finding>, LogFault>
     ensures found { IfOk result (λ found. (l : Log) → log_of log.now ≡ Ok l → HasNoTicks l
         → (number : ℕ) (c : Clause) → IsAmong found.items number c ↔ IsFinding l number c) }
-    ensures ordered { IfOk result (λ found. (l : Log) → log_of log.now ≡ Ok l → HasNoTicks l → AreInOrder found.items) }
+    ensures ordered { IfOk result (λ found. AreInOrder found.items) }
     ensures answers { IsWithoutTicks (lines_of log.now) → Answers result (log_of log.now) }
+    ensures placed { IfOk result (λ found. (l : Log) → log_of log.now ≡ Ok l → AreFoundInOrder l found.items) }
+    ensures answers_any { AnswersAny result (log_of log.now) }
 {
     let mut session = Session::new(alloc);
     let mut left = log;

@@ -1,20 +1,24 @@
 //! A log whose lines come one by one.
 ghost use Rattle.std.specs.Prelude.{ℕ, suc, ◌≡◌, ◌≢◌, ◌+◌, ◌<◌, ◌↔◌, List, ◌++◌, ◌∷◌, [], Some, None, Ok, is_ok, OnOk, IfOk, IfErr, length, slice_get};
+ghost use Rattle.md_dirs.specs.State.{State};
 ghost use Rattle.md_log.specs.declared.clause.Clause.{Clause};
 ghost use Rattle.md_log.specs.declared.clause.Clause.TheVariants.{NotADirectory};
+ghost use Rattle.md_judge.specs.declared.stretch.Waiting.{Waiting};
 ghost use Rattle.md_clauses.specs.Found.{Has, clause_index};
 ghost use Rattle.md_judge.specs.Law.{Breaks, IsFinding, turn};
 ghost use Rattle.md_log.specs.declared.error.LineFault.TheVariants.{NoMemory};
-ghost use Rattle.md_judge.specs.Logs.{Log, is_passed_over, log_by, at_line, with_line, with_text};
+ghost use Rattle.md_judge.specs.Logs.{Log, Numbered, is_passed_over, log_by, at_line, with_line, with_text};
 ghost use Rattle.md_judge.specs.Ordered.{AreEarlier, AreInOrder};
 ghost use Rattle.md_judge.specs.Recalled.{HasFolders, Agrees};
-ghost use Rattle.md_judge.specs.Taken.{IsWithoutTicks, Answers, HasTaken, with_given};
+ghost use Rattle.md_judge.specs.Orders.{AreFoundInOrder};
+ghost use Rattle.md_judge.specs.Placed.{IsUnplaced, HasLines, HasWaiting, HasPlaced, HasSettled, HasJudged, AreInOrderAtLines, AreBelowAtLine, IsNextStep, TakesAt, with_next};
+ghost use Rattle.md_judge.specs.Taken.{IsWithoutTicks, Answers, AnswersAny, HasTaken, HasEnded, with_given};
 ghost use Rattle.md_judge.specs.Told.{at};
 ghost use Rattle.md_judge.specs.Verdict.{HasNoTicks, Remembers, IsAmong, HasRead, IsHeadOf, IsBroken, AddsFinding, KeepsHead};
 
 use crate::judge::Judge;
 use crate::log::Finding;
-use crate::stretch::{Placed, Stretch};
+use crate::stretch::{Stretch, Waiting};
 use crate::words::Passages;
 use md_log::{CLAUSES, Clause, Folders, Line, LineFault, LogFault, Step, read_line};
 use std::alloc::{AllocError, Global};
@@ -75,6 +79,8 @@ impl Session {
             → OnOk result (HasTaken given (texts ++ text.now ∷ []) self.new) }
         ensures answers { (given : List Clause) (texts : List (List ℕ)) → HasTaken given texts self.old → IsWithoutTicks texts
             → Answers result (log_by (texts ++ text.now ∷ [])) }
+        ensures answers_any { (given : List Clause) (texts : List (List ℕ)) → HasTaken given texts self.old
+            → AnswersAny result (log_by (texts ++ text.now ∷ [])) }
     {
         let line = next_line(self.lines)?;
         if line > 1 {
@@ -92,6 +98,10 @@ impl Session {
             → HasNoTicks l → OnOk result (self.new ≡ self.old) }
         ensures answers { (given : List Clause) (texts : List (List ℕ)) → HasTaken given texts self.old → IsWithoutTicks texts
             → Answers result (log_by texts) }
+        ensures ended { (given : List Clause) (texts : List (List ℕ)) → HasTaken given texts self.old
+            → OnOk result (HasEnded given texts self.new) }
+        ensures answers_any { (given : List Clause) (texts : List (List ℕ)) → HasTaken given texts self.old
+            → AnswersAny result (log_by texts) }
     {
         if self.lines == 0 {
             return Err(fault_at(1, LineFault::NoLog));
@@ -102,6 +112,9 @@ impl Session {
     /// Judges what waits, and puts the findings in the order of their lines.
     fn finish(&mut self) -> Result<(), LogFault>
         ensures still { self.old.stretch.steps.items ≡ [] → self.old.stretch.moved.entries ≡ [] → (result ≡ Ok tt) × (self.new ≡ self.old) }
+        ensures found { (number : ℕ) (l : Log) → HasWaiting number l self.old → OnOk result (AreFoundInOrder l self.new.findings.items) }
+        ensures ordered { (number : ℕ) (l : Log) → HasWaiting number l self.old → OnOk result (AreInOrder self.new.findings.items) }
+        ensures refused { IfErr result (λ e. IsUnplaced e.fault) }
     {
         self.judge_stretch()?;
         let line = self.lines;
@@ -111,7 +124,12 @@ impl Session {
         done_at(line, self.sort())
     }
 
-    fn sort(&mut self) -> Result<(), AllocError> {
+    /// Puts the findings in the order of their lines. Those of one line stay in the order in which they stand.
+    fn sort(&mut self) -> Result<(), AllocError>
+        ensures sorted { AreInOrderAtLines self.old.findings.items → OnOk result (AreInOrder self.new.findings.items) }
+        ensures same { (number : ℕ) (c : Clause)
+            → OnOk result (IsAmong self.new.findings.items number c ↔ IsAmong self.old.findings.items number c) }
+    {
         let mut order = Vec::new(self.alloc);
         for (at, finding) in self.findings.iter().enumerate() {
             order.push((finding.line, at))?;
@@ -134,6 +152,10 @@ impl Session {
             → HasNoTicks l → (number : ℕ) (c : Clause) → IsAmong result.now number c ↔ IsFinding (with_given given l) number c }
         ensures ordered { (given : List Clause) (texts : List (List ℕ)) (l : Log) → HasTaken given texts self.now → log_by texts ≡ Ok l
             → HasNoTicks l → AreInOrder result.now }
+        ensures ended { (given : List Clause) (texts : List (List ℕ)) (l : Log) → HasEnded given texts self.now → log_by texts ≡ Ok l
+            → AreFoundInOrder (with_given given l) result.now }
+        ensures ended_ordered { (given : List Clause) (texts : List (List ℕ)) (l : Log) → HasEnded given texts self.now → log_by texts ≡ Ok l
+            → AreInOrder result.now }
     {
         self.findings.as_slice()
     }
@@ -164,6 +186,9 @@ impl Session {
         ensures read { (l l' : Log) → HasRead number l self.old → with_text l number text.now ≡ Ok l' → HasNoTicks l'
             → OnOk result (HasRead (suc number) l' self.new) }
         ensures answers { (l : Log) → HasRead number l self.old → Answers result (at_line number (with_text l number text.now)) }
+        ensures placed { (l l' : Log) → HasPlaced number l self.old → with_text l number text.now ≡ Ok l'
+            → OnOk result (HasPlaced (suc number) l' self.new) }
+        ensures answers_any { (l : Log) → HasPlaced number l self.old → AnswersAny result (at_line number (with_text l number text.now)) }
     {
         if is_passed_over(text) {
             return Ok(());
@@ -188,6 +213,7 @@ impl Session {
         ensures read { (l l' : Log) → HasRead number l self.old → l.steps ≡ [] → IsHeadOf l.opening line → with_line l number line ≡ Ok l'
             → OnOk result (HasRead (suc number) l' self.new) }
         ensures agrees { (l : Log) → HasRead number l self.old → l.steps ≡ [] → Agrees result (with_line l number line) }
+        ensures waits { self.new.stretch ≡ self.old.stretch }
     {
         self.judge.go_to(number as usize);
         match line {
@@ -212,6 +238,10 @@ impl Session {
             → HasFolders (at l (length l.steps)) step.call
             → OnOk result (HasRead (suc number) (record l { steps = l.steps ++ record { number = number; step = step } ∷ [] }) self.new) }
         ensures refused { self.old.stretch.steps.items ≡ [] → IfErr result (λ e. e.fault ≡ NoMemory) }
+        ensures placed { (l : Log) → HasPlaced number l self.old → number < 4294967295
+            → ((s : State) → s.folders ≡ length l.folders → HasFolders s step.call)
+            → OnOk result (HasPlaced (suc number) (record l { steps = l.steps ++ record { number = number; step = step } ∷ [] }) self.new) }
+        ensures unplaced { IfErr result (λ e. IsUnplaced e.fault) }
     {
         self.has_begun = true;
         if step.ticks.is_some() {
@@ -226,28 +256,47 @@ impl Session {
     /// Judges the steps that wait, in an order that their ticks and replies allow.
     fn judge_stretch(&mut self) -> Result<(), LogFault>
         ensures idle { self.old.stretch.steps.items ≡ [] → (result ≡ Ok tt) × (self.new ≡ self.old) }
+        ensures settled { (number : ℕ) (l : Log) → HasWaiting number l self.old → OnOk result (HasSettled number l self.new) }
+        ensures begun { OnOk result (self.new.has_begun ≡ self.old.has_begun) }
+        ensures unplaced { IfErr result (λ e. IsUnplaced e.fault) }
     {
         if self.stretch.is_empty() {
             return Ok(());
         }
         let order = match self.judge.order(self.stretch.steps(), self.stretch.lines()) {
             Ok(order) => order,
-            Err(stop) => return Err(fault_at(self.stretch.line(stop.step), stop.fault)),
+            Err(stop) => return Err(fault_at(self.stretch.line(stop.step), stop.why.fault())),
         };
-        let first = self.stretch.line(0);
-        let placed = match self.stretch.place(self.alloc, &order) {
-            Ok(placed) => placed,
-            Err(AllocError) => return Err(fault_at(first, LineFault::NoMemory)),
+        if !self.stretch.allows(&order) {
+            return Err(fault_at(self.stretch.line(0), LineFault::NoOrder));
+        }
+        for (place, at) in order.iter().enumerate() {
+            self.judge_waiting(place, *at)?;
+        }
+        self.stretch.clear();
+        Ok(())
+    }
+
+    /// Judges a step that waits at a place of its stretch, by their numbers from 0. It is refused where directories don't give its reply.
+    fn judge_waiting(&mut self, place: usize, at: usize) -> Result<(), LogFault>
+        ensures judged { (number : ℕ) (l m : Log) (order : List ℕ) (i : ℕ) (x y : Numbered) → HasLines number l self.old
+            → HasJudged number l order m self.old → IsNextStep l order i x y place at self.old.stretch
+            → OnOk result (HasLines number l self.new × HasJudged number l (order ++ i ∷ []) (with_next m x y) self.new) }
+        ensures had { OnOk result ((w : Waiting) × (slice_get self.old.stretch.steps.items at ≡ Some (Some w))) }
+        ensures takes { OnOk result (TakesAt at self.old.stretch self.new.stretch) }
+        ensures begun { OnOk result (self.new.has_begun ≡ self.old.has_begun) }
+        ensures unplaced { IfErr result (λ e. IsUnplaced e.fault) }
+    {
+        let moment = self.stretch.line(place);
+        let line = self.stretch.line(at);
+        let Some(waiting) = self.stretch.take(at) else {
+            return Err(fault_at(line, LineFault::NoOrder));
         };
-        for waiting in placed {
-            let Placed {
-                moment,
-                line,
-                step,
-                text,
-            } = waiting;
-            let judged = self.judge_step(moment, line, step, &text);
-            done_at(line, judged)?;
+        let Waiting { step, text } = waiting;
+        done_at(line, self.stretch.place(moment, line))?;
+        done_at(line, self.judge_step(moment as usize, line, step, &text))?;
+        if self.judge.is_wrong() {
+            return Err(fault_at(line, LineFault::NoOrder));
         }
         Ok(())
     }
@@ -271,6 +320,12 @@ impl Session {
             → AddsFinding c line (Breaks c (turn l i step) × (Has self.old.judge.allowed c → ⊥)) self.old self.new) }
         ensures ordered { AreInOrder self.old.findings.items → AreEarlier self.old.findings.items line 0
             → OnOk result (AreInOrder self.new.findings.items) }
+        ensures at_lines { AreInOrderAtLines self.old.findings.items → AreBelowAtLine self.old.findings.items line 0
+            → OnOk result (AreInOrderAtLines self.new.findings.items) }
+        ensures broken { (lines : ℕ → ℕ) (l : Log) (i : ℕ) → Remembers lines l i self.old.judge
+            → slice_get l.steps i ≡ Some (record { number = moment; step = step }) → lines i ≡ moment → moment < 4294967295
+            → ((a b : ℕ) → a < b → lines a < lines b) → ((a : ℕ) → 0 < lines a) → HasFolders (at l i) step.call
+            → OnOk result ((c : Clause) → Has self.new.judge.watch.found.broken c ↔ Breaks c (turn l i step)) }
     {
         self.judge.go_to(moment);
         self.judge.step(moment, step)?;
@@ -287,6 +342,9 @@ impl Session {
         ensures found { OnOk result ((c : Clause) → AddsFinding c line ((clause ≡ c) × IsBroken self.old.judge c) self.old self.new) }
         ensures ordered { OnOk result (AreInOrder self.old.findings.items → AreEarlier self.old.findings.items line (clause_index clause)
             → AreInOrder self.new.findings.items × AreEarlier self.new.findings.items line (suc (clause_index clause))) }
+        ensures at_lines { OnOk result (AreInOrderAtLines self.old.findings.items
+            → AreBelowAtLine self.old.findings.items line (clause_index clause)
+            → AreInOrderAtLines self.new.findings.items × AreBelowAtLine self.new.findings.items line (suc (clause_index clause))) }
     {
         if self.judge.is_broken(clause) {
             let before = self.judge.before(clause);

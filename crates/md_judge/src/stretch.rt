@@ -1,15 +1,14 @@
 //! Steps with ticks that follow one another in a log, and wait for an order.
-ghost use Rattle.std.specs.Prelude.{◌≡◌, ◌↔◌, [], IsTrue};
+ghost use Rattle.std.specs.Prelude.{ℕ, ◌≡◌, ◌↔◌, [], Some, IsTrue, IfSome, OnOk, length, slice_get, unwrap_or};
+ghost use Rattle.md_judge.specs.Placed.{AddsWaiting, TakesAt, KeepsTicks, ticks_of};
 
-use md_log::Step;
+use md_log::{Step, Ticks};
 use std::alloc::{AllocError, Global};
 use std::collections::BTreeMap;
 
-/// A step in its place: the moment at which it is placed, its line, and the line's text.
+/// A step that waits, and the text of its line.
 #[derive(Drop)]
-pub(crate) struct Placed {
-    pub(crate) moment: usize,
-    pub(crate) line: u64,
+pub(crate) struct Waiting {
     pub(crate) step: Step,
     pub(crate) text: Vec<u8>,
 }
@@ -17,8 +16,8 @@ pub(crate) struct Placed {
 /// The steps that wait, and the lines of those that were placed elsewhere than they stand.
 #[derive(Drop)]
 pub(crate) struct Stretch {
-    steps: Vec<Step>,
-    texts: Vec<Vec<u8>>,
+    /// Each until it is judged.
+    steps: Vec<Option<Waiting>>,
     lines: Vec<usize>,
     moved: BTreeMap<usize, u64>,
 }
@@ -26,11 +25,11 @@ pub(crate) struct Stretch {
 impl Stretch {
     pub(crate) fn new(alloc: Global) -> Self
         ensures waits { result.steps.items ≡ [] }
+        ensures lines { result.lines.items ≡ [] }
         ensures moved { result.moved.entries ≡ [] }
     {
         Stretch {
             steps: Vec::new(alloc),
-            texts: Vec::new(alloc),
             lines: Vec::new(alloc),
             moved: BTreeMap::new(alloc),
         }
@@ -49,7 +48,9 @@ impl Stretch {
         self.moved.is_empty()
     }
 
-    pub(crate) fn steps(&self) -> &[Step] {
+    pub(crate) fn steps(&self) -> &[Option<Waiting>]
+        ensures { result.now ≡ self.now.steps.items }
+    {
         self.steps.as_slice()
     }
 
@@ -58,7 +59,9 @@ impl Stretch {
     }
 
     /// The line of a waiting step, by its number from 0.
-    pub(crate) fn line(&self, at: usize) -> u64 {
+    pub(crate) fn line(&self, at: usize) -> u64
+        ensures { result ≡ unwrap_or (slice_get self.now.lines.items at) 0 }
+    {
         self.lines.get(at).copied().unwrap_or(0) as u64
     }
 
@@ -77,47 +80,71 @@ impl Stretch {
         line: usize,
         step: Step,
         text: &[u8],
-    ) -> Result<(), AllocError> {
-        self.steps.push(step)?;
-        self.texts.push(Vec::from_slice(alloc, text)?)?;
+    ) -> Result<(), AllocError>
+        ensures { OnOk result (AddsWaiting line step self.old self.new) }
+    {
+        let text = Vec::from_slice(alloc, text)?;
+        self.steps.push(Some(Waiting { step, text }))?;
         self.lines.push(line)?;
         Ok(())
     }
 
-    /// The steps that wait, by an order of their numbers: none waits then.
-    pub(crate) fn place(
-        &mut self,
-        alloc: Global,
-        order: &[usize],
-    ) -> Result<Vec<Placed>, AllocError> {
-        let mut places = Vec::from_elem(alloc, 0usize, order.len())?;
-        for (place, at) in order.iter().enumerate() {
-            if let Some(place_of) = places.get_mut(*at) {
-                *place_of = place;
-            }
+    /// The ticks of a waiting step, by its number from 0.
+    fn ticks(&self, at: usize) -> Option<Ticks>
+        ensures { result ≡ ticks_of (slice_get self.now.steps.items at) }
+    {
+        match self.steps.get(at) {
+            Some(Some(waiting)) => waiting.step.ticks,
+            _ => None,
         }
-        let mut placed = Vec::new(alloc);
-        for at in (0..places.len()).rev() {
-            if let (Some(step), Some(text), Some(place)) = (
-                self.steps.pop(),
-                self.texts.pop(),
-                places.get(at),
-            ) {
-                let line = self.line(at);
-                let moment = self.lines.get(*place).copied().unwrap_or(0);
-                if moment as u64 != line {
-                    self.moved.insert(moment, line)?;
+    }
+
+    /// Whether an order has as many numbers as steps wait, and none of these comes before one that had returned before it began. So it is
+    /// in each order that is found: the judge doesn't go by what a search says.
+    pub(crate) fn allows(&self, order: &[usize]) -> bool
+        ensures many { IsTrue result → length order.now ≡ length self.now.steps.items }
+        ensures ticks { IsTrue result → KeepsTicks self.now.steps.items order.now }
+    {
+        let mut latest = 0;
+        for at in order {
+            if let Some(ticks) = self.ticks(*at) {
+                if ticks.end < latest {
+                    return false;
                 }
-                placed.push(Placed {
-                    moment,
-                    line,
-                    step,
-                    text,
-                })?;
+                latest = latest.max(ticks.begin);
             }
         }
-        placed.sort_by_key(|step| step.moment)?;
+        order.len() == self.steps.len()
+    }
+
+    /// Takes a waiting step, by its number from 0, unless it was taken.
+    pub(crate) fn take(&mut self, at: usize) -> Option<Waiting>
+        ensures had { IfSome result (λ w. slice_get self.old.steps.items at ≡ Some (Some w)) }
+        ensures takes { TakesAt at self.old self.new }
+        ensures moved { self.new.moved ≡ self.old.moved }
+    {
+        self.steps.get_mut(at)?.take()
+    }
+
+    /// The step of a line is placed at a moment.
+    pub(crate) fn place(&mut self, moment: u64, line: u64) -> Result<(), AllocError>
+        ensures moved { OnOk result (self.new.moved.entries ≡ [] → (moment ≡ line) × (self.old.moved.entries ≡ [])) }
+        ensures steps { self.new.steps ≡ self.old.steps }
+        ensures lines { self.new.lines ≡ self.old.lines }
+    {
+        if moment != line {
+            self.moved.insert(moment as usize, line)?;
+        }
+        Ok(())
+    }
+
+    /// No step waits any more.
+    pub(crate) fn clear(&mut self)
+        ensures steps { self.new.steps.items ≡ [] }
+        ensures lines { self.new.lines.items ≡ [] }
+        ensures moved { self.new.moved ≡ self.old.moved }
+    {
+        self.steps.clear();
         self.lines.clear();
-        Ok(placed)
     }
 }

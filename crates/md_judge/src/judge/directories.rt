@@ -22,14 +22,6 @@ pub(super) struct Named {
     pub(super) since: Moment,
 }
 
-/// What was known of a path.
-#[derive(Clone, Copy)]
-pub(super) struct Kept {
-    spot: Spot,
-    named: Option<Named>,
-    was: Option<Moment>,
-}
-
 /// One directory: the names that are there, and the last moments of those that were.
 #[derive(Drop)]
 pub(super) struct Directory {
@@ -123,45 +115,15 @@ impl Directories {
             .last_change(spot.name)
     }
 
-    /// What is known of a path.
-    pub(super) fn keep(&self, spot: Spot) -> Kept {
-        match self.directory(spot.folder, spot.place) {
-            None => Kept {
-                spot,
-                named: None,
-                was: None,
-            },
-            Some(directory) => Kept {
-                spot,
-                named: directory.names.get(&spot.name).copied(),
-                was: directory.was(spot.name),
-            },
-        }
+    /// A path that is there.
+    pub(super) fn named_at(&self, spot: Spot) -> Option<Named> {
+        let directory = self.directory(spot.folder, spot.place)?;
+        directory.names.get(&spot.name).copied()
     }
 
-    /// Makes a path be as it was.
-    pub(super) fn put_back(&mut self, kept: Kept) -> Result<(), AllocError> {
-        let spot = kept.spot;
-        let Some(directory) = self.all.get_mut(number_of(spot.folder, spot.place)) else {
-            return Ok(());
-        };
-        match kept.named {
-            None => {
-                directory.names.remove(&spot.name);
-            }
-            Some(named) => {
-                directory.names.insert(spot.name, named)?;
-            }
-        }
-        match kept.was {
-            None => {
-                directory.was.remove(&mixed_name(spot.name));
-            }
-            Some(was) => {
-                directory.was.insert(mixed_name(spot.name), was)?;
-            }
-        }
-        Ok(())
+    /// When a path that was there was so last.
+    pub(super) fn was_at(&self, spot: Spot) -> Option<Moment> {
+        self.directory(spot.folder, spot.place)?.was(spot.name)
     }
 
     /// A path is there from the moment `at` on.

@@ -4,28 +4,67 @@
 //! of the log that fits is taken; where none fits, the last step that was placed is taken back. Orders that differ only by steps which have
 //! nothing to do with one another are tried once, by sleep sets (Godefroid, "Partial-Order Methods for the Verification of Concurrent
 //! Systems", section 5).
+ghost use Rattle.std.specs.Prelude.{◌≡◌, ℕ, OnOk};
+ghost use Rattle.md_judge.specs.Logs.{Log};
+ghost use Rattle.md_judge.specs.Placed.{IsUnplaced};
+ghost use Rattle.md_judge.specs.Verdict.{Remembers};
+
 use super::Judge;
-use super::directories::Directories;
 use super::trial::{Asked, Open, Reader, Trial, Undo};
+use crate::stretch::Waiting;
+use md_clauses::Spot;
+use md_dirs::Path;
 use md_log::{Call, LineFault, Step, Ticks};
-use std::alloc::{AllocError, Global};
-use std::collections::BTreeSet;
+use std::alloc::{AllocError, AllocFailed, Global};
+use std::collections::{BTreeMap, BTreeSet};
 
 /// As many tries there are for any steps, and as many more for each step.
 const LEAST_TRIES: usize = 100_000;
 
 const TRIES_A_STEP: usize = 64;
 
+/// Why there is no order.
+#[derive(Clone, Copy)]
+pub(crate) enum Unplaced {
+    NoMemory,
+    NoOrder,
+    TooManyOrders,
+}
+
+impl From<AllocError> for Unplaced {
+    fn from(_refused: AllocError) -> Unplaced {
+        Unplaced::NoMemory
+    }
+}
+
+impl<T: Drop> From<AllocFailed<T>> for Unplaced {
+    fn from(_refused: AllocFailed<T>) -> Unplaced {
+        Unplaced::NoMemory
+    }
+}
+
+impl Unplaced {
+    pub(crate) fn fault(self) -> LineFault
+        ensures { IsUnplaced result }
+    {
+        match self {
+            Unplaced::NoMemory => LineFault::NoMemory,
+            Unplaced::NoOrder => LineFault::NoOrder,
+            Unplaced::TooManyOrders => LineFault::TooManyOrders,
+        }
+    }
+}
+
 /// Why no order was found, and the number of the step that has no place.
 #[derive(Clone, Copy)]
 pub(crate) struct NoOrder {
     pub(crate) step: usize,
-    pub(crate) fault: LineFault,
+    pub(crate) why: Unplaced,
 }
 
 /// A step to be placed.
 #[derive(Drop)]
-struct Waiting {
+struct Candidate {
     asked: Asked,
     ticks: Ticks,
 }
@@ -44,9 +83,8 @@ struct Position {
 #[derive(Drop)]
 struct Search<'a> {
     alloc: Global,
-    directories: &'a mut Directories,
-    trial: Trial,
-    steps: &'a [Waiting],
+    trial: Trial<'a>,
+    steps: &'a [Candidate],
     /// The moments at which steps are placed.
     moments: &'a [usize],
     by_begin: BTreeSet<(u64, usize)>,
@@ -76,7 +114,7 @@ impl Search<'_> {
             }
             self.go_on()?;
         }
-        Err(self.stop(LineFault::TooManyOrders))
+        Err(self.stop(Unplaced::TooManyOrders))
     }
 
     fn begin(&mut self) -> Result<(), NoOrder> {
@@ -91,10 +129,10 @@ impl Search<'_> {
         self.open(asleep)
     }
 
-    fn stop(&self, fault: LineFault) -> NoOrder {
+    fn stop(&self, why: Unplaced) -> NoOrder {
         NoOrder {
             step: self.stuck,
-            fault,
+            why,
         }
     }
 
@@ -102,7 +140,7 @@ impl Search<'_> {
     fn open(&mut self, asleep: Vec<usize>) -> Result<(), NoOrder> {
         let choices = match self.choices() {
             Ok(choices) => choices,
-            Err(fault) => return Err(self.stop(fault)),
+            Err(why) => return Err(self.stop(why)),
         };
         self.tries = self.tries.saturating_add(choices.len());
         let depth = self.positions.len();
@@ -120,12 +158,12 @@ impl Search<'_> {
         };
         match self.positions.push(position) {
             Ok(()) => Ok(()),
-            Err(_) => Err(self.stop(LineFault::NoMemory)),
+            Err(_) => Err(self.stop(Unplaced::NoMemory)),
         }
     }
 
     /// The steps that may come next by their ticks.
-    fn choices(&self) -> Result<Vec<usize>, LineFault> {
+    fn choices(&self) -> Result<Vec<usize>, Unplaced> {
         let mut choices = Vec::new(self.alloc);
         let Some((end, _)) = self.by_end.iter().next() else {
             return Ok(choices);
@@ -144,7 +182,7 @@ impl Search<'_> {
     fn go_on(&mut self) -> Result<(), NoOrder> {
         let now = self.now();
         let Some(position) = self.positions.last_mut() else {
-            return Err(self.stop(LineFault::NoOrder));
+            return Err(self.stop(Unplaced::NoOrder));
         };
         let Some(at) = position.choices.get(position.next).copied() else {
             return self.go_back();
@@ -154,12 +192,12 @@ impl Search<'_> {
         let Some(step) = self.steps.get(at) else {
             return Ok(());
         };
-        if is_asleep || !self.trial.fits(self.directories, &step.asked, now) {
+        if is_asleep || !self.trial.fits(&step.asked, now) {
             return Ok(());
         }
         match self.put(at, now) {
             Ok(asleep) => self.open(asleep),
-            Err(fault) => Err(NoOrder { step: at, fault }),
+            Err(why) => Err(NoOrder { step: at, why }),
         }
     }
 
@@ -171,12 +209,12 @@ impl Search<'_> {
     }
 
     /// Puts a step at the last place. It gives the steps that are not to be tried next.
-    fn put(&mut self, at: usize, now: usize) -> Result<Vec<usize>, LineFault> {
+    fn put(&mut self, at: usize, now: usize) -> Result<Vec<usize>, Unplaced> {
         let mut asleep = Vec::new(self.alloc);
         let Some(step) = self.steps.get(at) else {
             return Ok(asleep);
         };
-        let undo = self.trial.make(self.directories, &step.asked, now)?;
+        let undo = self.trial.make(&step.asked, now)?;
         self.by_begin.remove(&(step.ticks.begin, at));
         self.by_end.remove(&(step.ticks.end, at));
         let Some(position) = self.positions.last_mut() else {
@@ -200,13 +238,13 @@ impl Search<'_> {
         let _closed = self.positions.pop();
         match self.take_back() {
             Ok(true) => Ok(()),
-            Ok(false) => Err(self.stop(LineFault::NoOrder)),
-            Err(fault) => Err(self.stop(fault)),
+            Ok(false) => Err(self.stop(Unplaced::NoOrder)),
+            Err(why) => Err(self.stop(why)),
         }
     }
 
     /// Takes back the step of the last place, which is not tried there again. False where there is no place.
-    fn take_back(&mut self) -> Result<bool, LineFault> {
+    fn take_back(&mut self) -> Result<bool, Unplaced> {
         let Some(position) = self.positions.last_mut() else {
             return Ok(false);
         };
@@ -214,7 +252,7 @@ impl Search<'_> {
             return Ok(true);
         };
         position.asleep.push(at)?;
-        self.trial.undo(self.directories, undo)?;
+        self.trial.undo(undo)?;
         if let Some(step) = self.steps.get(at) {
             self.by_begin.insert((step.ticks.begin, at))?;
             self.by_end.insert((step.ticks.end, at))?;
@@ -222,46 +260,21 @@ impl Search<'_> {
         Ok(true)
     }
 
-    /// The order that was found. The directories are as they were before.
-    fn finish(&mut self) -> Result<Vec<usize>, LineFault> {
+    /// The order that was found.
+    fn finish(&mut self) -> Result<Vec<usize>, AllocError> {
         let mut order = Vec::new(self.alloc);
-        for _ in 0..self.positions.len() {
-            if let Some(at) = self.take_out()? {
-                order.push(at)?;
+        for position in self.positions.iter() {
+            if let Some((at, _)) = &position.placed {
+                order.push(*at)?;
             }
         }
-        order.reverse();
         Ok(order)
-    }
-
-    /// Takes the last place away, and the step that was placed there.
-    fn take_out(&mut self) -> Result<Option<usize>, LineFault> {
-        let Some(position) = self.positions.pop() else {
-            return Ok(None);
-        };
-        let Some((at, undo)) = position.into_placed() else {
-            return Ok(None);
-        };
-        self.trial.undo(self.directories, undo)?;
-        Ok(Some(at))
-    }
-}
-
-impl Position {
-    fn into_placed(self) -> Option<(usize, Undo)> {
-        let Position {
-            choices: _,
-            next: _,
-            asleep: _,
-            placed,
-        } = self;
-        placed
     }
 }
 
 fn no_memory(step: usize) -> NoOrder {
-    let fault = LineFault::NoMemory;
-    NoOrder { step, fault }
+    let why = Unplaced::NoMemory;
+    NoOrder { step, why }
 }
 
 impl Judge {
@@ -270,22 +283,35 @@ impl Judge {
     /// 100,000 tries and 64 more for each step. Steps without ticks are placed at once.
     pub(crate) fn order(
         &mut self,
-        steps: &[Step],
+        steps: &[Option<Waiting>],
         moments: &[usize],
-    ) -> Result<Vec<usize>, NoOrder> {
-        let mut trial = Trial::new(self.alloc);
-        let mut waiting = Vec::new(self.alloc);
-        for (at, step) in steps.iter().enumerate() {
-            if let Err(fault) = self.wait(&mut trial, &mut waiting, step) {
-                return Err(NoOrder { step: at, fault });
+    ) -> Result<Vec<usize>, NoOrder>
+        ensures told { (lines : ℕ → ℕ) (l : Log) (i : ℕ) → Remembers lines l i self.old → OnOk result (Remembers lines l i self.new) }
+        ensures allowed { OnOk result (self.new.allowed ≡ self.old.allowed) }
+    {
+        let mut open = BTreeMap::new(self.alloc);
+        let mut candidates = Vec::new(self.alloc);
+        for (at, waiting) in steps.iter().enumerate() {
+            match self.prepare(&mut open, &mut candidates, waiting) {
+                Ok(()) => {}
+                Err(AllocError) => return Err(no_memory(at)),
             }
         }
+        self.search(open, &candidates, moments)
+    }
+
+    /// Looks for an order.
+    fn search(
+        &self,
+        open: BTreeMap<Reader, Open>,
+        steps: &[Candidate],
+        moments: &[usize],
+    ) -> Result<Vec<usize>, NoOrder> {
         let alloc = self.alloc;
         let mut search = Search {
             alloc,
-            directories: &mut self.known.directories,
-            trial,
-            steps: &waiting,
+            trial: Trial::new(alloc, &self.known.directories, open),
+            steps,
             moments,
             by_begin: BTreeSet::new(alloc),
             by_end: BTreeSet::new(alloc),
@@ -299,21 +325,27 @@ impl Judge {
     }
 
     /// Makes a step ready to be placed.
-    fn wait(
+    fn prepare(
         &mut self,
-        trial: &mut Trial,
-        waiting: &mut Vec<Waiting>,
-        step: &Step,
-    ) -> Result<(), LineFault> {
+        open: &mut BTreeMap<Reader, Open>,
+        candidates: &mut Vec<Candidate>,
+        waiting: &Option<Waiting>,
+    ) -> Result<(), AllocError>
+        ensures told { (lines : ℕ → ℕ) (l : Log) (i : ℕ) → Remembers lines l i self.old → OnOk result (Remembers lines l i self.new) }
+        ensures allowed { OnOk result (self.new.allowed ≡ self.old.allowed) }
+    {
+        let Some(Waiting { step, .. }) = waiting else {
+            return Ok(());
+        };
         let asked = self.asked(step)?;
         if let Asked::List { reader, place, .. } = &asked
-            && !trial.open.contains_key(reader)
-            && let Some(open) = self.open_reading(*reader, *place)?
+            && !open.contains_key(reader)
+            && let Some(reading) = self.open_reading(*reader, *place)?
         {
-            trial.open.insert(*reader, open)?;
+            open.insert(*reader, reading)?;
         }
         let ticks = step.ticks.unwrap_or(Ticks { begin: 0, end: 0 });
-        waiting.push(Waiting { asked, ticks })?;
+        candidates.push(Candidate { asked, ticks })?;
         Ok(())
     }
 
@@ -329,11 +361,14 @@ impl Judge {
         }
     }
 
-    fn asked(&mut self, step: &Step) -> Result<Asked, AllocError> {
+    fn asked(&mut self, step: &Step) -> Result<Asked, AllocError>
+        ensures told { (lines : ℕ → ℕ) (l : Log) (i : ℕ) → Remembers lines l i self.old → OnOk result (Remembers lines l i self.new) }
+        ensures allowed { OnOk result (self.new.allowed ≡ self.old.allowed) }
+    {
         match &step.call {
             Call::At { deed, path, reply } => Ok(Asked::At {
                 deed: *deed,
-                path: self.known.spot(path)?,
+                path: self.spot(path)?,
                 reply: *reply,
             }),
             Call::Between {
@@ -341,31 +376,54 @@ impl Judge {
                 old,
                 new,
                 reply,
-            } => Ok(Asked::Between {
-                naming: *naming,
-                old: self.known.spot(old)?,
-                new: self.known.spot(new)?,
-                reply: *reply,
-            }),
+            } => {
+                let old = self.spot(old)?;
+                let new = self.spot(new)?;
+                Ok(Asked::Between {
+                    naming: *naming,
+                    old,
+                    new,
+                    reply: *reply,
+                })
+            }
             Call::List {
                 folder,
                 place,
                 reply,
                 shown,
             } => {
-                let actor = self.actor_names.number(step.actor.as_slice())?.0;
-                let mut names = BTreeSet::new(self.alloc);
-                for name in shown.as_slice() {
-                    names.insert(self.known.names.number(name.as_slice())?)?;
+                let actor = self.actor(step.actor.as_slice())?;
+                let names = self.numbers(shown.as_slice())?;
+                let mut shown = BTreeSet::new(self.alloc);
+                for name in names.iter() {
+                    shown.insert(*name)?;
                 }
                 Ok(Asked::List {
                     reader: (actor, (*folder, *place as u32)),
                     place: *place,
                     reply: *reply,
-                    shown: names,
+                    shown,
                 })
             }
             Call::Answer { .. } => Ok(Asked::Answer),
         }
+    }
+
+    /// A path by numbers.
+    fn spot(&mut self, path: &Path) -> Result<Spot, AllocError>
+        ensures told { (lines : ℕ → ℕ) (l : Log) (i : ℕ) → Remembers lines l i self.old → OnOk result (Remembers lines l i self.new) }
+        ensures allowed { OnOk result (self.new.allowed ≡ self.old.allowed) }
+    {
+        self.known.spot(path)
+    }
+
+    /// The number of an actor.
+    fn actor(&mut self, actor: &[u8]) -> Result<u32, AllocError>
+        ensures told { (lines : ℕ → ℕ) (l : Log) (i : ℕ) → Remembers lines l i self.old → OnOk result (Remembers lines l i self.new) }
+        ensures allowed { OnOk result (self.new.allowed ≡ self.old.allowed) }
+    {
+        let (number, _) = self.actor_names.number(actor)?;
+        self.actor_names.are_apart();
+        Ok(number)
     }
 }

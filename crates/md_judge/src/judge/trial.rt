@@ -1,15 +1,18 @@
 //! Calls that are tried on the directories and taken back: whether directories give their replies here.
 use super::acts::{defined_at, defined_between, naming_change};
-use super::directories::{Directories, Directory, Kept};
+use super::directories::{Directories, Directory, Named};
 use super::since::was_there_since;
-use md_clauses::{Change, NO_CHANGE, Name, Spot};
+use md_clauses::{Change, Moment, NO_CHANGE, Name, Spot, moment_of};
 use md_dirs::Place;
 use md_log::{Deed, Naming, Reply};
 use std::alloc::{AllocError, Global};
 use std::collections::{BTreeMap, BTreeSet};
 
+/// A folder and a place.
+type Site = (u32, u32);
+
 /// An actor, a folder and a place: whose reading of what.
-pub(super) type Reader = (u32, (u32, u32));
+pub(super) type Reader = (u32, Site);
 
 /// A call by numbers, as far as directories answer it.
 #[derive(Drop)]
@@ -93,11 +96,25 @@ pub(super) struct Open {
     pub(super) shown: BTreeSet<Name>,
 }
 
+/// What tried calls made of a path.
+#[derive(Clone, Copy)]
+struct Tried {
+    named: Option<Named>,
+    was: Option<Moment>,
+}
+
+/// What was tried of a path before a call, where anything was.
+#[derive(Clone, Copy)]
+struct Before {
+    spot: Spot,
+    tried: Option<Tried>,
+}
+
 /// What a call that is tried did, so that it can be taken back.
 #[derive(Drop)]
 pub(super) struct Undo {
-    added: Option<Kept>,
-    taken: Option<Kept>,
+    added: Option<Before>,
+    taken: Option<Before>,
     reading: Undone,
 }
 
@@ -117,30 +134,39 @@ enum Undone {
     },
 }
 
-/// The directories, and the readings that go on.
+/// What tried calls make of the directories, and the readings that go on. The directories stay as they are.
 #[derive(Drop)]
-pub(super) struct Trial {
+pub(super) struct Trial<'a> {
     alloc: Global,
-    pub(super) open: BTreeMap<Reader, Open>,
+    directories: &'a Directories,
+    tried: BTreeMap<Site, BTreeMap<Name, Tried>>,
+    open: BTreeMap<Reader, Open>,
     /// The number of the next file that is made: they count down, so that none is a file that there is.
     next_file: u32,
 }
 
-impl Trial {
-    pub(super) fn new(alloc: Global) -> Self {
+impl Trial<'_> {
+    /// Nothing is tried yet, and these readings go on.
+    pub(super) fn new<'a>(
+        alloc: Global,
+        directories: &'a Directories,
+        open: BTreeMap<Reader, Open>,
+    ) -> Trial<'a> {
         Trial {
             alloc,
-            open: BTreeMap::new(alloc),
+            directories,
+            tried: BTreeMap::new(alloc),
+            open,
             next_file: u32::MAX,
         }
     }
 
     /// Whether the directories give the call's reply at this moment.
-    pub(super) fn fits(&self, directories: &Directories, asked: &Asked, now: usize) -> bool {
+    pub(super) fn fits(&self, asked: &Asked, now: usize) -> bool {
         match asked {
             Asked::Answer => true,
             Asked::At { deed, path, reply } => {
-                let is_there = directories.file_at(*path).is_some();
+                let is_there = self.file_at(*path).is_some();
                 *reply == Reply::Fault || *reply == defined_at(*deed, is_there)
             }
             Asked::Between {
@@ -149,8 +175,8 @@ impl Trial {
                 new,
                 reply,
             } => {
-                let is_old = directories.file_at(*old).is_some();
-                let is_new = directories.file_at(*new).is_some();
+                let is_old = self.file_at(*old).is_some();
+                let is_new = self.file_at(*new).is_some();
                 *reply == Reply::Fault || *reply == defined_between(*naming, is_old, is_new)
             }
             Asked::List {
@@ -159,35 +185,52 @@ impl Trial {
                 reply,
                 shown,
             } => {
-                let Some(directory) = directories.directory(reader.1.0, *place) else {
+                let Some(directory) = self.directories.directory(reader.1.0, *place) else {
                     return false;
                 };
-                let open = self.open.get(reader);
+                let looks = Looks {
+                    directory,
+                    tried: self.tried.get(&reader.1),
+                    shown,
+                    open: self.open.get(reader),
+                    now,
+                };
                 match reply {
                     Reply::Fault => true,
-                    Reply::More => is_rightly_shown(directory, shown, open, now),
-                    Reply::Ok => is_rightly_shown(directory, shown, open, now)
-                        && is_whole(directory, shown, open, now),
+                    Reply::More => looks.is_rightly_shown(),
+                    Reply::Ok => looks.is_rightly_shown() && looks.is_whole(),
                     Reply::Exists | Reply::NotFound => false,
                 }
             }
         }
     }
 
+    /// What was tried of a path.
+    fn tried_at(&self, spot: Spot) -> Option<Tried> {
+        self.tried.get(&site_of(spot))?.get(&spot.name).copied()
+    }
+
+    /// The name of a path that is there.
+    fn named_at(&self, spot: Spot) -> Option<Named> {
+        match self.tried_at(spot) {
+            Some(tried) => tried.named,
+            None => self.directories.named_at(spot),
+        }
+    }
+
+    fn file_at(&self, spot: Spot) -> Option<u32> {
+        self.named_at(spot).map(|named| named.file)
+    }
+
     /// Does what a call did whose reply fits.
-    pub(super) fn make(
-        &mut self,
-        directories: &mut Directories,
-        asked: &Asked,
-        now: usize,
-    ) -> Result<Undo, AllocError> {
-        let change = self.change_of(directories, asked);
+    pub(super) fn make(&mut self, asked: &Asked, now: usize) -> Result<Undo, AllocError> {
+        let change = self.change_of(asked);
         let added = match (change.added, change.turned) {
-            (Some((spot, _)), _) | (None, Some((spot, _, _))) => Some(directories.keep(spot)),
+            (Some((spot, _)), _) | (None, Some((spot, _, _))) => Some(self.before(spot)),
             (None, None) => None,
         };
-        let taken = change.taken.map(|(spot, _)| directories.keep(spot));
-        directories.make(now, change)?;
+        let taken = change.taken.map(|(spot, _)| self.before(spot));
+        self.change(now, change)?;
         let reading = self.read(asked, now)?;
         Ok(Undo {
             added,
@@ -196,14 +239,65 @@ impl Trial {
         })
     }
 
+    fn before(&self, spot: Spot) -> Before {
+        let tried = self.tried_at(spot);
+        Before { spot, tried }
+    }
+
+    /// Tries the change of a call.
+    fn change(&mut self, now: usize, change: Change) -> Result<(), AllocError> {
+        let next = moment_of(now.saturating_add(1));
+        if let Some((spot, _)) = change.taken {
+            let was = Some(moment_of(now));
+            self.put(spot, Some(Tried { named: None, was }))?;
+        }
+        if let Some((spot, _, file)) = change.turned {
+            let since = self.named_at(spot).map_or(next, |named| named.since);
+            self.add(spot, Named { file, since })?;
+        }
+        if let Some((spot, file)) = change.added {
+            self.add(spot, Named { file, since: next })?;
+        }
+        Ok(())
+    }
+
+    /// A path is there.
+    fn add(&mut self, spot: Spot, named: Named) -> Result<(), AllocError> {
+        let was = match self.tried_at(spot) {
+            Some(tried) => tried.was,
+            None => self.directories.was_at(spot),
+        };
+        let named = Some(named);
+        self.put(spot, Some(Tried { named, was }))
+    }
+
+    /// Puts what is tried of a path.
+    fn put(&mut self, spot: Spot, tried: Option<Tried>) -> Result<(), AllocError> {
+        let site = site_of(spot);
+        if !self.tried.contains_key(&site) {
+            self.tried.insert(site, BTreeMap::new(self.alloc))?;
+        }
+        if let Some(names) = self.tried.get_mut(&site) {
+            match tried {
+                None => {
+                    names.remove(&spot.name);
+                }
+                Some(tried) => {
+                    names.insert(spot.name, tried)?;
+                }
+            }
+        }
+        Ok(())
+    }
+
     /// What a call does to paths.
-    fn change_of(&mut self, directories: &Directories, asked: &Asked) -> Change {
+    fn change_of(&mut self, asked: &Asked) -> Change {
         let mut change = NO_CHANGE;
         if !asked.is_change() {
             return change;
         }
         match asked {
-            Asked::At { deed, path, .. } => match directories.file_at(*path) {
+            Asked::At { deed, path, .. } => match self.file_at(*path) {
                 Some(file) if *deed == Deed::Unlink => change.taken = Some((*path, file)),
                 None if *deed == Deed::Create => {
                     change.added = Some((*path, self.next_file));
@@ -217,8 +311,8 @@ impl Trial {
                 new,
                 ..
             } => {
-                if let Some(file) = directories.file_at(*old) {
-                    let there = directories.file_at(*new);
+                if let Some(file) = self.file_at(*old) {
+                    let there = self.file_at(*new);
                     change = naming_change(*naming, *old, *new, file, there);
                 }
             }
@@ -267,19 +361,15 @@ impl Trial {
     }
 
     /// Takes back what the last call did that is not taken back.
-    pub(super) fn undo(
-        &mut self,
-        directories: &mut Directories,
-        undo: Undo,
-    ) -> Result<(), AllocError> {
+    pub(super) fn undo(&mut self, undo: Undo) -> Result<(), AllocError> {
         let Undo {
             added,
             taken,
             reading,
         } = undo;
-        for kept in [taken, added] {
-            if let Some(kept) = kept {
-                directories.put_back(kept)?;
+        for before in [taken, added] {
+            if let Some(before) = before {
+                self.put(before.spot, before.tried)?;
             }
         }
         match reading {
@@ -308,42 +398,82 @@ impl Trial {
     }
 }
 
-/// Whether each name that a part shows was there since the reading's first part.
-fn is_rightly_shown(
-    directory: &Directory,
-    shown: &BTreeSet<Name>,
-    open: Option<&Open>,
+/// What a part of a reading is judged by: the directory, what was tried of its names, and the names that the part and those before it show.
+#[derive(Clone, Copy)]
+struct Looks<'a, 'b> {
+    directory: &'a Directory,
+    tried: Option<&'b BTreeMap<Name, Tried>>,
+    shown: &'b BTreeSet<Name>,
+    open: Option<&'b Open>,
     now: usize,
-) -> bool {
-    let first = first_of(open, now);
-    shown
-        .iter()
-        .all(|name| was_there_since(directory, *name, first))
 }
 
-/// Whether a reading that ends has shown each name that was there all the while.
-fn is_whole(
-    directory: &Directory,
-    shown: &BTreeSet<Name>,
-    open: Option<&Open>,
-    now: usize,
-) -> bool {
-    let first = first_of(open, now);
-    for (name, named) in directory.names.iter() {
-        let was_shown = match open {
-            None => false,
-            Some(open) => open.shown.contains(name),
-        };
-        if named.since as usize <= first && !was_shown && !shown.contains(name) {
-            return false;
+impl Looks<'_, '_> {
+    /// The moment of the reading's first part.
+    fn first(&self) -> usize {
+        match self.open {
+            None => self.now,
+            Some(open) => open.first,
         }
     }
-    true
+
+    fn tried(&self, name: Name) -> Option<Tried> {
+        self.tried?.get(&name).copied()
+    }
+
+    /// Whether each name that the part shows was there since the first part.
+    fn is_rightly_shown(&self) -> bool {
+        let first = self.first();
+        for name in self.shown.iter() {
+            let was_there = match self.tried(*name) {
+                None => was_there_since(self.directory, *name, first),
+                Some(tried) => tried.named.is_some() || is_from(tried.was, first),
+            };
+            if !was_there {
+                return false;
+            }
+        }
+        true
+    }
+
+    /// Whether the reading, which ends, has shown each name that was there all the while.
+    fn is_whole(&self) -> bool {
+        for (name, named) in self.directory.names.iter() {
+            if self.tried(*name).is_none() && self.lacks(*name, *named) {
+                return false;
+            }
+        }
+        let Some(tried) = self.tried else {
+            return true;
+        };
+        for (name, tried) in tried.iter() {
+            if let Some(named) = tried.named
+                && self.lacks(*name, named)
+            {
+                return false;
+            }
+        }
+        true
+    }
+
+    /// Whether a name was there all the while that no part shows.
+    fn lacks(&self, name: Name, named: Named) -> bool {
+        let was_shown = match self.open {
+            None => false,
+            Some(open) => open.shown.contains(&name),
+        };
+        named.since as usize <= self.first() && !was_shown && !self.shown.contains(&name)
+    }
 }
 
-fn first_of(open: Option<&Open>, now: usize) -> usize {
-    match open {
-        None => now,
-        Some(open) => open.first,
+/// Whether a moment is known, and is this one or a later one.
+fn is_from(was: Option<Moment>, first: usize) -> bool {
+    match was {
+        None => false,
+        Some(last) => last as usize >= first,
     }
+}
+
+fn site_of(spot: Spot) -> Site {
+    (spot.folder, spot.place as u32)
 }

@@ -1,6 +1,7 @@
 use Rattle.std.proofs.Common.{List, ◌↔◌, sym, subst}
 use Rattle.md_judge.specs.declared.log.Finding.{Finding}
 use Rattle.md_judge.specs.Law.{IsFinding}
+use Rattle.md_judge.specs.Orders.{AreFoundInOrder}
 use Rattle.md_judge.specs.Ordered.{AreInOrder}
 use Rattle.md_judge.specs.Taken.{with_given}
 use Rattle.md_judge.specs.Verdict.{IsAmong}
@@ -13,4 +14,8 @@ returns c = record {
       ((taken.read l is ticks).found n o);
   ordered = λ given texts l taken is ticks.
       subst (λ (fs : List Finding). AreInOrder fs) (sym c.as_slice.ensures.value) (taken.read l is ticks).ordered;
+  ended = λ given texts l ended is.
+      subst (λ (fs : List Finding). AreFoundInOrder (with_given given l) fs) (sym c.as_slice.ensures.value) (ended.found l is);
+  ended_ordered = λ given texts l ended is.
+      subst (λ (fs : List Finding). AreInOrder fs) (sym c.as_slice.ensures.value) (ended.ordered l is);
 }

@@ -1,8 +1,11 @@
-use Rattle.std.proofs.Common.{suc, sym, subst, ◌∙◌}
+use Rattle.std.proofs.Common.{suc, ◌↔◌, sym, subst, ◌∙◌}
+use Rattle.md_log.specs.declared.clause.Clause.{Clause}
 use Rattle.md_judge.specs.declared.judge.Judge.{Judge}
 use Rattle.md_log.specs.declared.clause.Clause.TheVariants as clause
+use Rattle.md_clauses.specs.Found.{Has}
 use Rattle.md_judge.specs.Law.{turn, Breaks}
 use Rattle.md_judge.specs.Verdict.{Remembers}
+use Rattle.md_judge.proofs.AtLines.{at-lines-next}
 use Rattle.md_judge.proofs.Ordered.{ordered-next}
 use Rattle.md_judge.proofs.Verdicts.{clauses, clauses-numbered, adds-next, adds-all}
 use Rattle.md_judge.proofs.session.Session.judge_step.Goals as goal
@@ -26,6 +29,10 @@ loop-clause-preserved c =
           let was = before.ordered order earlier in
           ordered-next clauses c.args.line c.loop-clause.clause-index clause.NotADirectory c.loop-clause.self.findings.items
           c.note.new.self.findings.items clauses-numbered c.loop-clause-test.true was.0 was.1 after.ordered;
+      at_lines = λ order below.
+          let was = before.at_lines order below in
+          at-lines-next clauses c.args.line c.loop-clause.clause-index clause.NotADirectory c.loop-clause.self.findings.items
+          c.note.new.self.findings.items clauses-numbered c.loop-clause-test.true was.0 was.1 after.at_lines;
     }
 
 pub returns-clause-told : goal.returns-clause-told
@@ -35,6 +42,14 @@ returns-clause-told c = λ lines l i told is here short there.
 
 pub returns-clause-ordered : goal.returns-clause-ordered
 returns-clause-ordered c = λ order earlier. (c.loop-clause.invariant.ordered order earlier).0
+
+pub returns-clause-at_lines : goal.returns-clause-at_lines
+returns-clause-at_lines c = λ order below. (c.loop-clause.invariant.at_lines order below).0
+
+pub returns-clause-broken : goal.returns-clause-broken
+returns-clause-broken c = λ lines l i told is here short rises above there.
+    subst (λ (j : Judge). (o : Clause) → Has j.watch.found.broken o ↔ Breaks o (turn l i c.args.step)) (sym c.loop-clause.invariant.judge)
+    (c.in_ok-step.ensures.broken lines l i (c.go_to.ensures.told lines l i told) is here short c.go_to.ensures.now rises above there)
 
 pub returns-clause-found : goal.returns-clause-found
 returns-clause-found c = λ lines l i told is here short rises above there o.

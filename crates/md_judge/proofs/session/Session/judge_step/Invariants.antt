@@ -1,6 +1,7 @@
 use Rattle.std.proofs.Common.{◌≡◌}
 use Rattle.md_log.specs.declared.clause.Clause.{Clause}
 use Rattle.md_judge.specs.Ordered.{AreEarlier, AreInOrder}
+use Rattle.md_judge.specs.Placed.{AreInOrderAtLines, AreBelowAtLine}
 use Rattle.md_judge.specs.Verdict.{IsBroken, AddsFinding, KeepsHead}
 use Rattle.md_judge.proofs.Verdicts.{Passed}
 use Rattle.md_judge.proofs.session.Session.judge_step.Given as goal
@@ -12,4 +13,6 @@ invariant-loop-clause l = record {
   found : (c : Clause) → AddsFinding c l.line (Passed c l.clause-items l.clause-index × IsBroken l.initial.self.judge c) l.initial.self l.self;
   ordered : AreInOrder l.initial.self.findings.items → AreEarlier l.initial.self.findings.items l.line 0
       → AreInOrder l.self.findings.items × AreEarlier l.self.findings.items l.line l.clause-index;
+  at_lines : AreInOrderAtLines l.initial.self.findings.items → AreBelowAtLine l.initial.self.findings.items l.line 0
+      → AreInOrderAtLines l.self.findings.items × AreBelowAtLine l.self.findings.items l.line l.clause-index;
 }

@@ -28,7 +28,9 @@ returns c = record {
       );
       ordered = none-ordered c.new-3.result.items c.new-3.ensures.items;
     };
-    log = λ none some. absurd (some refl);
+    waits = λ none. c.new-5.ensures.lines;
+    log = λ some. absurd (some refl);
     read = λ l is ticks. absurd (cc is);
+    placed = λ l is. absurd (cc is);
   };
 }

@@ -1,4 +1,5 @@
 use Rattle.std.proofs.Common.{refl}
+use Rattle.md_judge.proofs.AtLines.{one-at-lines}
 use Rattle.md_judge.proofs.Ordered.{one-ordered}
 use Rattle.md_judge.proofs.Verdicts.{adds-one}
 use Rattle.md_judge.proofs.session.Session.note.Goals as goal
@@ -11,4 +12,9 @@ returns-in_ok-add-clause-found c = λ o.
 pub returns-in_ok-add-clause-ordered : goal.returns-in_ok-add-clause-ordered
 returns-in_ok-add-clause-ordered c =
     one-ordered c.args.self.now.findings.items c.push.new.self.items (record { line = c.args.line; clause = c.args.clause; before = _ })
+    c.in_ok-push.ensures.items
+
+pub returns-in_ok-add-clause-at_lines : goal.returns-in_ok-add-clause-at_lines
+returns-in_ok-add-clause-at_lines c =
+    one-at-lines c.args.self.now.findings.items c.push.new.self.items (record { line = c.args.line; clause = c.args.clause; before = _ })
     c.in_ok-push.ensures.items

@@ -27,6 +27,7 @@ returns-in-Folder c = record {
       refl refl c.go_to.new.self c.go_to.ensures.told c.go_to.ensures.allowed done
       c.in_ok-add_folder-in-Folder.ensures.allowed c.in-Folder.name c.in_ok-add-in-Folder.ensures.folders
       (subst (λ (x : Line). with_line l c.args.number x ≡ Ok l') c.in-Folder.is is) c.in_ok-add_folder-in-Folder.ensures.told;
+  waits = refl;
   agrees = λ l read none.
       subst (λ (x : Line). IsOk (with_line l c.args.number x)) (sym c.in-Folder.is)
       (folder-ok c.args.number l c.args.self.now c.in-Folder.name _ read c.in_ok-add-in-Folder.ensures.folders);
@@ -39,6 +40,7 @@ returns-in-Allow c = record {
       allow-read c.args.number l l' c.args.self.now (record c.args.self.now { judge = c.allow.new.self }) c.in-Allow.clause read none (cc is') refl refl
       refl refl (λ lines m i told. c.allow.ensures.told lines m i (c.go_to.ensures.told lines m i told))
       (subst (λ (a : Clauses). (o : Clause) → Has c.allow.new.self.allowed o ↔ (Has a o ⊎ (o ≡ c.in-Allow.clause))) c.go_to.ensures.allowed c.allow.ensures.allowed);
+  waits = refl;
   agrees = λ l read none. subst (λ (x : Line). IsOk (with_line l c.args.number x)) (sym c.in-Allow.is) refl;
 }
 
@@ -51,6 +53,7 @@ returns-in-File c = record {
       c.go_to.new.self c.go_to.ensures.told c.go_to.ensures.allowed c.put_file.result c.put_file.ensures.allowed
       (file-rest l l' c.in-File.path c.in-File.stamp is') (folders-after l l' c.args.number c.args.line read.housed is) refl
       (λ lines told low. c.put_file.ensures.told lines l l' told is' low head');
+  waits = refl;
   agrees = λ l read none.
       subst (λ (x : Line). Agrees c.put_file.result (with_line l c.args.number x)) (sym c.in-File.is)
       (c.put_file.ensures.agrees (λ _. c.args.number) l
@@ -66,6 +69,7 @@ returns-in-Also c = record {
       c.go_to.new.self c.go_to.ensures.told c.go_to.ensures.allowed c.put_name.result c.put_name.ensures.allowed
       (also-rest l l' c.in-Also.path c.in-Also.old is') (folders-after l l' c.args.number c.args.line read.housed is) refl
       (λ lines told low. c.put_name.ensures.told lines l l' told is' low head');
+  waits = refl;
   agrees = λ l read none.
       subst (λ (x : Line). Agrees c.put_name.result (with_line l c.args.number x)) (sym c.in-Also.is)
       (c.put_name.ensures.agrees (λ _. c.args.number) l

@@ -33,9 +33,9 @@ returns c =
     let keeps : KeepsPaths noting acted = keeps-on noting filed acted c.in_ok-call.ensures.paths acts in
     let notes : NotesOne clause.NotADirectory (IsTrue wrong) old acted =
     notes-one clause.NotADirectory (IsTrue wrong) old noting acted
-    (noted wrong clause.NotADirectory (IsTrue wrong) (λ h. h, λ h. h) old noting c.note.ensures) keeps.wrong in
+    (noted wrong clause.NotADirectory (IsTrue wrong) (λ h. h, λ h. h) old noting c.note.ensures.notes) keeps.wrong in
     let other : Keeps clause.Overwritten old acted =
-    keeps-one clause.Overwritten old noting acted (unnoted wrong clause.NotADirectory clause.Overwritten (λ e. cc) old noting c.note.ensures)
+    keeps-one clause.Overwritten old noting acted (unnoted wrong clause.NotADirectory clause.Overwritten (λ e. cc) old noting c.note.ensures.notes)
     keeps.overwrites in
     record {
       wrong = ok-then c.change.result (Keeps clause.NotADirectory acted new) (NotesOne clause.NotADirectory (IsTrue wrong) old new)
@@ -49,7 +49,7 @@ returns c =
           ok-then c.change.result (c.change.new.self.files ≡ c.note_call.new.self.files) (AreFiled who many l (suc i) c.change.new.self.files.all.items)
           (λ same. subst (λ (f : Files). AreFiled who many l (suc i) f.all.items) (sym (same ∙ acted)) filed) c.change.ensures.files;
       finds = λ path who many i l x are judged.
-          let first : KeepsFiles old noting = unnoted-files wrong clause.NotADirectory (λ h. h) old noting c.note.ensures in
+          let first : KeepsFiles old noting = unnoted-files wrong clause.NotADirectory (λ h. h) old noting c.note.ensures.notes in
           let then : KeepsFiles filed acted = same-files filed acted c.in_ok-note_call.ensures.found in
           let broken = BrokenByFiles (turn l i x) in
           ok-then c.change.result (KeepsFiles acted new) (NotesFiles broken old new)
@@ -57,7 +57,7 @@ returns c =
           c.change.ensures.others;
       unlisted = ok-then c.change.result (Keeps clause.Unlisted acted new) (Keeps clause.Unlisted old new)
           (keeps-one clause.Unlisted old acted new (keeps-one clause.Unlisted old noting acted
-          (unnoted wrong clause.NotADirectory clause.Unlisted (λ e. cc) old noting c.note.ensures) keeps.unlisted)) c.change.ensures.unlisted;
+          (unnoted wrong clause.NotADirectory clause.Unlisted (λ e. cc) old noting c.note.ensures.notes) keeps.unlisted)) c.change.ensures.unlisted;
       present = ok-then c.change.result (MakeStep names c.args.act.now.change c.note_call.new.self.mail c.change.new.self.mail)
           (KeepsPresent c.args.self.now.mail c.change.new.self.mail)
           (λ makes. makes-present names c.args.act.now.change c.args.self.now.mail c.change.new.self.mail
@@ -82,14 +82,14 @@ returns c =
           c.change.ensures.mailed c.change.ensures.times;
       added = λ path who many i l x tells judged.
           let t = turn l i x in
-          let first : KeepsMessages old noting = unnoted-added wrong clause.NotADirectory (λ e. cc) (λ e. cc) (λ e. cc) old noting c.note.ensures in
+          let first : KeepsMessages old noting = unnoted-added wrong clause.NotADirectory (λ e. cc) (λ e. cc) (λ e. cc) old noting c.note.ensures.notes in
           let then : KeepsMessages filed acted = added-same filed acted c.in_ok-note_call.ensures.found in
           let keeps = added-on old noting acted first (added-on noting filed acted c.in_ok-call.ensures.added then) in
           ok-then c.change.result (NotesMessages t acted new) (NotesMessages t old new) (messages-notes t old acted new keeps)
           (c.change.ensures.added path l i x judged.done (subst (λ (m : Mail). TellsMail names l i m) (sym mail) tells));
       answers = ok-then c.change.result (KeepsAnswers acted new) (KeepsAnswers old new)
           (answers-on old acted new (answers-on old noting acted
-          (unnoted-answers wrong clause.NotADirectory (λ e. cc) (λ e. cc) old noting c.note.ensures) keeps.answers)) c.change.ensures.answers;
+          (unnoted-answers wrong clause.NotADirectory (λ e. cc) (λ e. cc) old noting c.note.ensures.notes) keeps.answers)) c.change.ensures.answers;
       acts = λ few.
           let mid = c.note_call.new.self.actors in
           let last = c.change.new.self.actors in

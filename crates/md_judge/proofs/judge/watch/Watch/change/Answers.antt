@@ -21,16 +21,16 @@ returns c =
     let made = c.make.new.self.found in
     let new = c.check_going.new.self.found in
     let change = c.args.act.now.change in
-    let turns = turned-found c.is_some.result change old noting joined made (c.is_some.ensures ∙ ap is_some c.turned_from.ensures) c.note.ensures c.check_coming.ensures.paths
+    let turns = turned-found c.is_some.result change old noting joined made (c.is_some.ensures ∙ ap is_some c.turned_from.ensures) c.note.ensures.notes c.check_coming.ensures.paths
     c.in_ok-make.ensures.found in
     let others : KeepsFiles old made = files-on old noting made
-    (unnoted-files c.is_some.result clause.Overwritten (λ h. h) old noting c.note.ensures)
+    (unnoted-files c.is_some.result clause.Overwritten (λ h. h) old noting c.note.ensures.notes)
     (files-on noting joined made c.check_coming.ensures.others (same-files joined made c.in_ok-make.ensures.found)) in
     let answers : KeepsAnswers old made = answers-on old noting made
-    (unnoted-answers c.is_some.result clause.Overwritten (λ e. cc) (λ e. cc) old noting c.note.ensures)
+    (unnoted-answers c.is_some.result clause.Overwritten (λ e. cc) (λ e. cc) old noting c.note.ensures.notes)
     (answers-on noting joined made c.check_coming.ensures.paths.answers (answers-same joined made c.in_ok-make.ensures.found)) in
     let unlisted : Keeps clause.Unlisted old made = keeps-one clause.Unlisted old noting made
-    (unnoted c.is_some.result clause.Overwritten clause.Unlisted (λ e. cc) old noting c.note.ensures)
+    (unnoted c.is_some.result clause.Overwritten clause.Unlisted (λ e. cc) old noting c.note.ensures.notes)
     (keeps-one clause.Unlisted noting joined made c.check_coming.ensures.paths.unlisted (keeps-same joined made c.in_ok-make.ensures.found).unlisted) in
     record {
       wrong = keeps-one clause.NotADirectory old made new turns.0 c.check_going.ensures.paths.wrong;
@@ -52,7 +52,7 @@ returns c =
       added = λ path l i x done tells.
           let t = turn l i x in
           let names = c.args.known.now.names in
-          let first = unnoted-added c.is_some.result clause.Overwritten (λ e. cc) (λ e. cc) (λ e. cc) old noting c.note.ensures in
+          let first = unnoted-added c.is_some.result clause.Overwritten (λ e. cc) (λ e. cc) (λ e. cc) old noting c.note.ensures.notes in
           let coming = c.check_coming.ensures.law path l i x done.leads done.spots tells in
           let then = added-same joined made c.in_ok-make.ensures.found in
           let mail = ap (λ (w : Watch). w.mail) c.check_coming.ensures.rest in

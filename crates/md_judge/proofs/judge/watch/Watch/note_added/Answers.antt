@@ -15,7 +15,7 @@ returns-in_ok-keep-clause-acts c =
     let noted = c.note_change.new.self in
     let last : About = record noted { is_added = c.if-about.about } in
     acts-kept old c.keep.new.self c.args.actor key last c.in_ok-keep.ensures.puts
-    (changed-same (done_by old c.args.actor key) c.done-about.result noted last c.done-about.ensures c.note_change.ensures refl refl)
+    (changed-same (done_by old c.args.actor key) c.done-about.result noted last c.done-about.ensures c.note_change.ensures.rest refl refl)
 
 pub returns-in_ok-keep-clause-deeds : goal.returns-in_ok-keep-clause-deeds
 returns-in_ok-keep-clause-deeds c =
@@ -27,7 +27,7 @@ returns-in_ok-keep-clause-deeds c =
     let about : About = record noted { is_added = c.if-about.about } in
     let done : About = done_by old c.args.actor (spot.folder, u) in
     let noted-is : noted ≡ record done { is_changed = true; changed_at = noted.changed_at } =
-    c.note_change.ensures ∙ ap (λ (a : About). record a { is_changed = true; changed_at = noted.changed_at }) c.done-about.ensures in
+    c.note_change.ensures.rest ∙ ap (λ (a : About). record a { is_changed = true; changed_at = noted.changed_at }) c.done-about.ensures in
     let was = ap (λ (a : About). a.is_added) noted-is in
     let many = c.count-is_added.result in
     let count = c.count-is_added.ensures in

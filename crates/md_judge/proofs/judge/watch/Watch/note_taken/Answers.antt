@@ -26,7 +26,7 @@ marked c =
     let about : About = record noted { is_unlinked = c.if-about.about } in
     let done : About = done_by old c.args.actor (spot.folder, u) in
     let noted-is : noted ≡ record done { is_changed = true; changed_at = noted.changed_at } =
-    c.note_change.ensures ∙ ap (λ (a : About). record a { is_changed = true; changed_at = noted.changed_at }) c.done-about.ensures in
+    c.note_change.ensures.rest ∙ ap (λ (a : About). record a { is_changed = true; changed_at = noted.changed_at }) c.done-about.ensures in
     let was = ap (λ (a : About). a.is_unlinked) noted-is in
     let many = c.count-is_gone.result in
     let count = c.count-is_gone.ensures in
@@ -55,7 +55,7 @@ returns-then-not-is_gone-clause-acts c =
     let noted = c.note_change.new.self in
     let last : About = record noted { is_unlinked = c.if-about.about } in
     acts-kept old c.keep.new.self c.args.actor key last c.in_ok-keep.ensures.puts
-    (changed-same (done_by old c.args.actor key) c.done-about.result noted last c.done-about.ensures c.note_change.ensures refl refl)
+    (changed-same (done_by old c.args.actor key) c.done-about.result noted last c.done-about.ensures c.note_change.ensures.rest refl refl)
 
 pub loop-folder-init : goal.loop-folder-init
 loop-folder-init c =
@@ -71,7 +71,7 @@ loop-folder-init c =
       moves = moves-none c.args.actor c.args.self.now.now (MovesTo key c.deref-folder-items.result.now 0) old c.keep.new.self
           c.keep.ensures.moved (λ k to moves. let low = moves.2.1 in omega (arith, low));
       acts = acts-kept old c.keep.new.self c.args.actor key last c.in_ok-keep.ensures.puts
-          (changed-same (done_by old c.args.actor key) c.done-about.result noted last c.done-about.ensures c.note_change.ensures refl refl);
+          (changed-same (done_by old c.args.actor key) c.done-about.result noted last c.done-about.ensures c.note_change.ensures.rest refl refl);
       deeds = marked (goal.at.loop-folder-init c).In_ok-keep;
     }
 

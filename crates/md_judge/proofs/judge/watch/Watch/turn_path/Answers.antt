@@ -41,7 +41,7 @@ returns-clause-acts c =
     let key : ℕ × ℕ = (c.args.spot.folder, c.in-Some.unique) in
     let noted = c.note_change.new.self in
     on-ok c.copy.result (acts-kept old c.keep.new.self c.args.actor key noted c.in_ok-keep.ensures.puts
-    (changed-same (done_by old c.args.actor key) c.done-about.result noted noted c.done-about.ensures c.note_change.ensures refl refl))
+    (changed-same (done_by old c.args.actor key) c.done-about.result noted noted c.done-about.ensures c.note_change.ensures.rest refl refl))
 
 pub returns-clause-times : goal.returns-clause-times
 returns-clause-times c =
@@ -64,6 +64,6 @@ returns-clause-deeds c =
     let noted = c.note_change.new.self in
     let done : About = done_by old c.args.actor (spot.folder, u) in
     let noted-is : noted ≡ record done { is_changed = true; changed_at = noted.changed_at } =
-    c.note_change.ensures ∙ ap (λ (a : About). record a { is_changed = true; changed_at = noted.changed_at }) c.done-about.ensures in
+    c.note_change.ensures.rest ∙ ap (λ (a : About). record a { is_changed = true; changed_at = noted.changed_at }) c.done-about.ensures in
     on-ok c.copy.result (turned-marks c.args.known.now.names spot u some c.args.actor old c.keep.new.self noted c.in_ok-keep.ensures.puts
     (ap (λ (a : About). a.is_changed) noted-is) (ap (λ (a : About). a.is_added) noted-is) (ap (λ (a : About). a.is_unlinked) noted-is))
