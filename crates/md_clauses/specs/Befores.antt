@@ -25,11 +25,6 @@ line_making since = if nat_lt since 2 then None else Some (since - 1)
 abbrev pub before_in : Befores → Clause → Option ℕ
 before_in b c = unwrap_or (slice_get b.lines (clause_index c)) None
 
--- the first of two, where it is there
-abbrev pub first_of : Option ℕ → Option ℕ → Option ℕ
-first_of None other = other
-first_of (Some line) other = Some line
-
 -- the earlier line that denies an answer
 abbrev pub denial_of : Said → Claim → Option ℕ
 denial_of said.Delivered k = marked_line k.about.act

@@ -1,7 +1,8 @@
 //! The earlier lines that broken clauses go back to.
 ghost use Rattle.std.specs.Prelude.{◌≡◌, ◌<◌, None};
+ghost use Rattle.std.specs.Option.{option_or};
 ghost use Rattle.md_log.specs.declared.clause.Clause.{Clause};
-ghost use Rattle.md_clauses.specs.Befores.{mark, marked_line, line_making, before_in, first_of};
+ghost use Rattle.md_clauses.specs.Befores.{mark, marked_line, line_making, before_in};
 ghost use Rattle.md_clauses.specs.Moments.{kept_moment};
 
 use super::clauses::number_of;
@@ -66,7 +67,7 @@ impl Befores {
 
     /// Notes the earlier line of a clause, unless one is noted.
     pub fn note(&mut self, clause: Clause, line: Option<usize>)
-        ensures noted { before_in self.new clause ≡ first_of (before_in self.old clause) line }
+        ensures noted { before_in self.new clause ≡ option_or (before_in self.old clause) line }
         ensures others { (c : Clause) → (c ≡ clause → ⊥) → before_in self.new c ≡ before_in self.old c }
     {
         let at = number_of(clause);

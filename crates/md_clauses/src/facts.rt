@@ -1,5 +1,5 @@
 //! What was done to a file.
-ghost use Rattle.std.specs.Prelude.{◌≡◌, ◌≢◌, ◌↔◌, ◌<◌, ◌-◌, Some, IsTrue, OnOk, true};
+ghost use Rattle.std.specs.Prelude.{◌≡◌, ◌≢◌, ◌↔◌, ◌<◌, ◌-◌, Some, IsTrue, OnOk, OnErr, true};
 ghost use Rattle.md_clauses.specs.Facts.{made, written, flushed, shown, hidden};
 
 use md_dirs::Place;
@@ -66,7 +66,8 @@ impl FileFacts {
 
     /// It has one more path of a message. More than 4,294,967,295 are not counted.
     pub fn show(&mut self, in_cur: bool) -> Result<(), AllocError>
-        ensures { OnOk result (self.new ≡ shown in_cur self.old) }
+        ensures shows { OnOk result (self.new ≡ shown in_cur self.old) }
+        ensures full { OnErr result ((self.old.seen ≡ 4294967295) × (self.new ≡ self.old)) }
     {
         if self.seen == u32::MAX {
             return Err(AllocError);

@@ -1,7 +1,8 @@
 //! What is found at a step: the clauses that it breaks, and the earlier lines that they go back to.
 ghost use Rattle.std.specs.Prelude.{◌≡◌, ◌↔◌, None, IsTrue};
 ghost use Rattle.md_log.specs.declared.clause.Clause.{Clause};
-ghost use Rattle.md_clauses.specs.Befores.{before_in, first_of};
+ghost use Rattle.std.specs.Option.{option_or};
+ghost use Rattle.md_clauses.specs.Befores.{before_in};
 ghost use Rattle.md_clauses.specs.Found.{Has, Notes};
 
 use super::befores::Befores;
@@ -43,7 +44,7 @@ impl Found {
     /// Notes a clause that is broken, and the earlier line that it goes back to.
     pub fn note(&mut self, is_broken: bool, clause: Clause, before: Option<usize>)
         ensures notes { Notes (λ c. IsTrue is_broken × (c ≡ clause)) self.old self.new }
-        ensures before { IsTrue is_broken → before_in self.new.befores clause ≡ first_of (before_in self.old.befores clause) before }
+        ensures before { IsTrue is_broken → before_in self.new.befores clause ≡ option_or (before_in self.old.befores clause) before }
         ensures others { (c : Clause) → (IsTrue is_broken → c ≡ clause → ⊥) → before_in self.new.befores c ≡ before_in self.old.befores c }
     {
         if is_broken {

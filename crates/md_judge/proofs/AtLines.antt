@@ -1,11 +1,9 @@
 -- Findings of one line stay in the order of the law as one more is added.
-use Rattle.std.proofs.Common.{ℕ, suc, ◌≡◌, ◌<◌, ◌+◌, inl, inr, List, [], ◌∷◌, ◌++◌, Some, length, get_or, slice_get, sym, ap, subst, ◌∙◌, arith}
-use Rattle.std.proofs.lemmas.Option.{slice_get_within, slice_get-get_or}
-use Rattle.md_log.specs.declared.clause.Clause.{Clause}
+use Rattle.std.proofs.Common.{suc, ◌≡◌, ◌<◌, inl, inr, List, [], ◌∷◌, ◌++◌, Some, slice_get, sym, ap, subst, ◌∙◌, arith}
+use Rattle.std.proofs.lemmas.Option.{slice_get_within}
 use Rattle.md_judge.specs.declared.log.Finding.{Finding}
 use Rattle.md_clauses.specs.Found.{clause_index}
 use Rattle.md_judge.specs.Placed.{AreInOrderAtLines, AreBelowAtLine}
-use Rattle.md_judge.proofs.Ordered.{HaveNumbersFrom, numbered}
 use Rattle.md_judge.proofs.Reopened.{one-more}
 
 -- one more finding comes after those of its line that are of earlier clauses
@@ -29,16 +27,3 @@ one-at-lines fs gs f more order below = (
     | inr now ↦ subst (λ (x : Finding). clause_index x.clause < suc (clause_index f.clause)) now.1 (omega arith)
   ],
 )
-
--- findings of one line stay in order as the next clause is passed
-pub at-lines-next : (clauses : List Clause) (line i : ℕ) (d : Clause) (fs gs : List Finding) → HaveNumbersFrom 0 clauses → i < length clauses
-    → AreInOrderAtLines fs → AreBelowAtLine fs line i
-    → (AreInOrderAtLines fs → AreBelowAtLine fs line (clause_index (get_or clauses i d))
-    → AreInOrderAtLines gs × AreBelowAtLine gs line (suc (clause_index (get_or clauses i d)))) → AreInOrderAtLines gs × AreBelowAtLine gs line (i + 1)
-at-lines-next clauses line i d fs gs all within order below more =
-    let c : Clause = get_or clauses i d in
-    let number : clause_index c ≡ 0 + i = numbered clauses 0 i c all (slice_get-get_or clauses i d within) in
-    let here : i ≡ clause_index c = omega (arith, number) in
-    let next : suc (clause_index c) ≡ i + 1 = omega (arith, number) in
-    let now = more order (subst (λ k. AreBelowAtLine fs line k) here below) in
-    (now.0, subst (λ k. AreBelowAtLine gs line k) next now.1)

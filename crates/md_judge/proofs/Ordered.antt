@@ -56,15 +56,15 @@ numbered (x ∷ cs) n (suc i) c all is =
     let number : clause_index c ≡ suc n + i = numbered cs (suc n) i c all.1 is in
     omega (arith, number)
 
--- findings stay in order as the next clause is passed
-pub ordered-next : (clauses : List Clause) (line i : ℕ) (d : Clause) (fs gs : List Finding) → HaveNumbersFrom 0 clauses → i < length clauses
-    → AreInOrder fs → AreEarlier fs line i
-    → (AreInOrder fs → AreEarlier fs line (clause_index (get_or clauses i d))
-    → AreInOrder gs × AreEarlier gs line (suc (clause_index (get_or clauses i d)))) → AreInOrder gs × AreEarlier gs line (i + 1)
-ordered-next clauses line i d fs gs all within order earlier more =
+-- what holds of findings, and of those of a line up to a clause, as the next clause is passed
+pub clause-next : (Holds : List Finding → Type 0) (HoldsUpTo : List Finding → ℕ → ℕ → Type 0) (clauses : List Clause) (line i : ℕ) (d : Clause)
+    (fs gs : List Finding) → HaveNumbersFrom 0 clauses → i < length clauses → Holds fs → HoldsUpTo fs line i
+    → (Holds fs → HoldsUpTo fs line (clause_index (get_or clauses i d))
+    → Holds gs × HoldsUpTo gs line (suc (clause_index (get_or clauses i d)))) → Holds gs × HoldsUpTo gs line (i + 1)
+clause-next Holds HoldsUpTo clauses line i d fs gs all within holds before more =
     let c : Clause = get_or clauses i d in
     let number : clause_index c ≡ 0 + i = numbered clauses 0 i c all (slice_get-get_or clauses i d within) in
     let here : i ≡ clause_index c = omega (arith, number) in
     let next : suc (clause_index c) ≡ i + 1 = omega (arith, number) in
-    let now = more order (subst (λ k. AreEarlier fs line k) here earlier) in
-    (now.0, subst (λ k. AreEarlier gs line k) next now.1)
+    let now = more holds (subst (λ k. HoldsUpTo fs line k) here before) in
+    (now.0, subst (λ k. HoldsUpTo gs line k) next now.1)

@@ -59,7 +59,8 @@ was_after c line before = after_spot_added (option_map (λ (a : Spot × ℕ). (a
 -- Directories have after the change of a line the moments that it makes of those that they had.
 pub record MakesMoments (c : Change) (line : ℕ) (old new : List Directory) : Type 0 where
   pub since : IsHoused (length old) c → (q : Spot) → since_in new q ≡ since_after c line (since_in old) q
-  pub was : IsHoused (length old) c → EachSpot (λ s. s.name < 2 ^ 64) c → (q : Spot) → q.name < 2 ^ 64 → was_in new q ≡ was_after c line (was_in old) q
+  pub was : IsHoused (length old) c → EachSpot (λ s. s.name < 2 ^ 64) c → (q : Spot) → q.name < 2 ^ 64
+      → was_in new q ≡ was_after c line (was_in old) q
 
 -- What is kept of names is what a log tells at a moment: since when they are there, and until when those were that are gone.
 pub record Recounts (path : Spot → Path) (many : ℕ) (line : ℕ → ℕ) (l : Log) (i : ℕ) (all : List Directory) : Type 0 where

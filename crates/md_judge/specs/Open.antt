@@ -120,8 +120,8 @@ pub record IsPartKept (line : ℕ → ℕ) (names : Names) (l : Log) (i : ℕ) (
   pub names_are : AreNumbersOf names (Shows l begin i actor folder place) shown
 
 -- A step is this part of a reading, the lines of steps rise, and what is kept of paths and of the reading before it is what the log tells.
-pub record IsToldPart (line : ℕ → ℕ) (l : Log) (i : ℕ) (x : Step) (folder : ℕ) (place : Place) (r : Reply) (shown : List (List ℕ)) (known : Known)
-    (numbers : List ℕ) (now : ℕ) (first : Option ℕ) (before : ℕ → Bool) : Type 0 where
+pub record IsToldPart (line : ℕ → ℕ) (l : Log) (i : ℕ) (x : Step) (folder : ℕ) (place : Place) (r : Reply) (shown : List (List ℕ))
+    (known : Known) (numbers : List ℕ) (now : ℕ) (first : Option ℕ) (before : ℕ → Bool) : Type 0 where
   pub told : IsToldAt line l i known
   pub numbered : AreNumbered known.names
   pub step : IsStep l i x

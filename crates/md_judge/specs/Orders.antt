@@ -35,7 +35,7 @@ pub record IsReordered (order : List ℕ) (l m : Log) : Type 0 where
   pub steps : (a i : ℕ) (x y : Numbered) → slice_get order a ≡ Some i → slice_get l.steps a ≡ Some x → slice_get l.steps i ≡ Some y
       → slice_get m.steps a ≡ Some (record { number = x.number; step = y.step })
 
--- In the second log, which has steps of the first in this order, directories give the reply of each step that has ticks.
+-- In a log directories give the reply of each step that has ticks.
 abbrev pub Fits : Log → Type 0
 Fits m = (a : ℕ) (x : Numbered) → slice_get m.steps a ≡ Some x → x.step.ticks ≢ None → NotADirectory (turn m a x.step) → ⊥
 

@@ -100,8 +100,10 @@ pub record IsPartOf (line : ℕ → ℕ) (name : ℕ → List ℕ) (begin i fold
   pub call : x.call ≡ call.List folder place r (map name names)
   pub reading : IsReading l begin i x.actor folder place
   pub named : (u : ℕ) → IsIn names u → IsNameOf line l begin i (path_of folder place (name u)) d u first
-  pub since : (e : ℕ × Named) → IsIn d.names.entries e → e.0 < 2 ^ 64 → IsHereSince line l begin i (path_of folder place (name e.0)) e.1 first
-  pub numbered : (n : List ℕ) → IsHere l (path_of folder place n) i → (e : ℕ × Named) × (name e.0 ≡ n) × IsIn d.names.entries e × (e.0 < 2 ^ 64)
+  pub since : (e : ℕ × Named) → IsIn d.names.entries e → e.0 < 2 ^ 64
+      → IsHereSince line l begin i (path_of folder place (name e.0)) e.1 first
+  pub numbered : (n : List ℕ) → IsHere l (path_of folder place n) i
+      → (e : ℕ × Named) × (name e.0 ≡ n) × IsIn d.names.entries e × (e.0 < 2 ^ 64)
   pub shown : (e : ℕ × Named) → IsIn d.names.entries e
       → (ordered.contains nat_cmp kept.shown e.0 ≡ true) ↔ Shows l begin i x.actor folder place (name e.0)
 

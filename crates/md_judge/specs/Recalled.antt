@@ -39,8 +39,10 @@ pub record IsToldAt (line : ℕ → ℕ) (l : Log) (i : ℕ) (known : Known) : T
   pub spots : (folder : ℕ) (place : Place) (name : List ℕ) (n : ℕ) → IsNumber known.names name n
       → file_in known.directories.all.items (spot_of folder place n) ≡ file_at (at l i) (path_of folder place name)
   pub since : (folder : ℕ) (place : Place) (name : List ℕ) (n : ℕ) → IsNumber known.names name n
-      → (m : ℕ) → since_in known.directories.all.items (spot_of folder place n) ≡ Some m → IsSince line (IsHere l (path_of folder place name)) i m
-  pub was : (folder : ℕ) (place : Place) (name : List ℕ) (n : ℕ) → IsNumber known.names name n → (IsHere l (path_of folder place name) i → ⊥)
+      → (m : ℕ) → since_in known.directories.all.items (spot_of folder place n) ≡ Some m
+      → IsSince line (IsHere l (path_of folder place name)) i m
+  pub was : (folder : ℕ) (place : Place) (name : List ℕ) (n : ℕ) → IsNumber known.names name n
+      → (IsHere l (path_of folder place name) i → ⊥)
       → RecallsWas line l (path_of folder place name) i (was_in known.directories.all.items (spot_of folder place n))
   pub numbered : (p : Path) (j : ℕ) → j ≤ i → IsHere l p j → HasNumber known.names p.name
   pub unused : (q : Spot) → q.name < 2 ^ 64 → ((name : List ℕ) → IsNumber known.names name q.name → ⊥)
@@ -56,7 +58,8 @@ HasFolders s (call.Between n old new r) = (has_folder s old ≡ true) × (has_fo
 HasFolders s (call.List folder place r shown) = nat_lt folder s.folders ≡ true
 HasFolders s (call.Answer answer folder unique) = Unit {0}
 
--- What is answered of a line of the beginning is what the log does: it takes the line, or it refuses it by this fault. But memory may be refused.
+-- What is answered of a line of the beginning is what the log does: it takes the line, or it refuses it by this fault. But memory may be
+-- refused.
 abbrev pub Agrees : {A : Type 0} → Result A LineFault → Result Log LineFault → Type 0
 Agrees (Ok x) log = IsOk log
 Agrees (Err fault) log = fault ≢ NoMemory → log ≡ Err fault

@@ -80,7 +80,8 @@ abbrev pub AreTimed : (ℕ → ℕ) → Names → Log → ℕ → Mail → Type 
 AreTimed line names l i mail = (folder u : ℕ) (unique : List ℕ) → slice_get names.uniques u ≡ Some unique
     → RecalledTimes line (λ j. IsThere (at l j) folder unique) i (message_of mail folder u)
 
--- What is kept of which messages folders have, and of when each was there, is what a log tells at a moment, where the lines of its steps rise.
+-- What is kept of which messages folders have, and of when each was there, is what a log tells at a moment, where the lines of its steps
+-- rise.
 pub record TellsTimes (line : ℕ → ℕ) (names : Names) (l : Log) (i : ℕ) (mail : Mail) : Type 0 where
   pub folders : length mail.present.items ≡ l.opening.folders
   pub present : ArePresent mail

@@ -6,17 +6,30 @@ use std::alloc::AllocError;
 
 const PLACES: [Place; 3] = [Place::Tmp, Place::New, Place::Cur];
 
-/// `file PATH STAMP` for each name that is there.
-pub(crate) fn push_files<D: Dirs>(
+/// What a line says of a row.
+#[derive(Clone, Copy)]
+pub(crate) enum Form {
+    /// `file PATH STAMP`, of the beginning of a log.
+    File,
+    /// The comment `# PLACE FOLDER NAME STAMP SIZE`.
+    State,
+}
+
+/// A line for each name that is there.
+pub(crate) fn push_rows<D: Dirs>(
     out: &mut Vec<u8>,
     names: &[Vec<u8>],
     dirs: &D,
+    form: Form,
 ) -> Result<(), PlayKind> {
     for folder in 0..dirs.folders() {
         for place in PLACES {
             for at in 0..dirs.count(folder, place) {
                 if let Some(row) = dirs.row_at(folder, place, at) {
-                    push_file(out, names, folder, place, row)?;
+                    match form {
+                        Form::File => push_file(out, names, folder, place, row)?,
+                        Form::State => push_state(out, names, folder, place, row)?,
+                    }
                 }
             }
         }
@@ -55,23 +68,14 @@ pub(crate) fn push_names<D: Dirs>(
     Ok(())
 }
 
-/// The comments `# state`, and `# PLACE FOLDER NAME STAMP SIZE` for each name that is there.
+/// The comment `# state`, and one for each name that is there.
 pub(crate) fn push_states<D: Dirs>(
     out: &mut Vec<u8>,
     names: &[Vec<u8>],
     dirs: &D,
-) -> Result<(), AllocError> {
+) -> Result<(), PlayKind> {
     out.extend_from_slice(b"# state\n")?;
-    for folder in 0..dirs.folders() {
-        for place in PLACES {
-            for at in 0..dirs.count(folder, place) {
-                if let Some(row) = dirs.row_at(folder, place, at) {
-                    push_state(out, names, folder, place, row)?;
-                }
-            }
-        }
-    }
-    Ok(())
+    push_rows(out, names, dirs, Form::State)
 }
 
 fn push_state(

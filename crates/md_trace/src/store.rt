@@ -7,7 +7,7 @@ use crate::about::About;
 use crate::answers::{push_answer, push_comment};
 use crate::effects::push_effect;
 use crate::noted::NotedDirs;
-use crate::rows::{push_files, push_states};
+use crate::rows::{Form, push_rows, push_states};
 use crate::steps::{push_begin, push_call};
 use md_core::{Answer, Call, Event, StepOut, World};
 use md_dirs::IndexDirs;
@@ -34,7 +34,7 @@ impl Store {
         world: World<NotedDirs<IndexDirs>>,
         out: &mut Vec<u8>,
     ) -> Result<Store, PlayKind> {
-        push_files(out, &names, world.dirs())?;
+        push_rows(out, &names, world.dirs(), Form::File)?;
         if with_states {
             push_states(out, &names, world.dirs())?;
         }

@@ -5,8 +5,9 @@ use Rattle.md_log.specs.declared.clause.Clause.TheVariants as clause
 use Rattle.md_clauses.specs.Found.{Has}
 use Rattle.md_judge.specs.Law.{turn, Breaks}
 use Rattle.md_judge.specs.Verdict.{Remembers}
-use Rattle.md_judge.proofs.AtLines.{at-lines-next}
-use Rattle.md_judge.proofs.Ordered.{ordered-next}
+use Rattle.md_judge.specs.Ordered.{AreInOrder, AreEarlier}
+use Rattle.md_judge.specs.Placed.{AreInOrderAtLines, AreBelowAtLine}
+use Rattle.md_judge.proofs.Ordered.{clause-next}
 use Rattle.md_judge.proofs.Verdicts.{clauses, clauses-numbered, adds-next, adds-all}
 use Rattle.md_judge.proofs.session.Session.judge_step.Goals as goal
 
@@ -27,11 +28,11 @@ loop-clause-preserved c =
           (before.found o) (after.found o);
       ordered = λ order earlier.
           let was = before.ordered order earlier in
-          ordered-next clauses c.args.line c.loop-clause.clause-index clause.NotADirectory c.loop-clause.self.findings.items
+          clause-next AreInOrder AreEarlier clauses c.args.line c.loop-clause.clause-index clause.NotADirectory c.loop-clause.self.findings.items
           c.note.new.self.findings.items clauses-numbered c.loop-clause-test.true was.0 was.1 after.ordered;
       at_lines = λ order below.
           let was = before.at_lines order below in
-          at-lines-next clauses c.args.line c.loop-clause.clause-index clause.NotADirectory c.loop-clause.self.findings.items
+          clause-next AreInOrderAtLines AreBelowAtLine clauses c.args.line c.loop-clause.clause-index clause.NotADirectory c.loop-clause.self.findings.items
           c.note.new.self.findings.items clauses-numbered c.loop-clause-test.true was.0 was.1 after.at_lines;
     }
 
