@@ -1,7 +1,5 @@
 """Tests of tools/check_face: a stand-in that answers as the rows say passes them, and each wrong main fails."""
 
-import importlib.machinery
-import importlib.util
 import os
 import subprocess
 import sys
@@ -11,60 +9,129 @@ from pathlib import Path
 
 sys.dont_write_bytecode = True
 
-TOOL = Path(__file__).resolve().parent.parent / "check_face"
-LOADER = importlib.machinery.SourceFileLoader("check_face", str(TOOL))
-check_face = importlib.util.module_from_spec(importlib.util.spec_from_loader("check_face", LOADER))
-LOADER.exec_module(check_face)
+TOOLS = Path(__file__).resolve().parent.parent
+sys.path.insert(0, str(TOOLS))
+
+from face_lib.planted import PLANTED, passed_plants, planted
+from face_lib.rows import Ended, rows_of, run, wrong_rows
+from face_lib.streams import FACES, Face, Streams, wrong_streams
 
 STAND_IN = """#!{python}
 import sys
-sys.path.insert(0, {tests!r})
-from test_face import check_face
-words, script = sys.argv[1:], sys.stdin.buffer.read()
-for row in check_face.rows_of(check_face.ROWS.read_text(encoding="utf-8")):
-    if (row.words, row.script) == (words, script):
-        sys.stdout.buffer.write(row.printed)
-        sys.stderr.buffer.write(row.said)
-        sys.exit(row.status)
+sys.path.insert(0, {tools!r})
+from face_lib.rows import rows_of
+words, given = sys.argv[1:], sys.stdin.buffer.read()
+for row in rows_of("maildir_cli"):
+    if (row.words, row.input) == (words, given):
+        sys.stdout.buffer.write(row.example.printed)
+        sys.stderr.buffer.write(row.example.said)
+        sys.exit(row.example.status)
 sys.exit(70)
 """
 
 
-class Face(unittest.TestCase):
+def program(folder: str, text: str) -> str:
+    """A program of this text."""
+    path = Path(folder) / "stand-in"
+    path.write_text(text, encoding="utf-8")
+    path.chmod(0o755)
+    return str(path)
+
+
+class Rows(unittest.TestCase):
+    def test_each_program_has_rows_of_each_status(self):
+        for name in FACES:
+            with self.subTest(name):
+                self.assertEqual({row.example.status for row in rows_of(name)}, {0, 1, 2})
+
+    def test_the_example_of_a_row_is_right_and_another_end_is_not(self):
+        for row in (row for name in FACES for row in rows_of(name)):
+            with self.subTest(row.words):
+                self.assertTrue(row.is_right(row.example))
+                self.assertFalse(row.is_right(row.example._replace(status=3)))
+                self.assertFalse(row.is_right(row.example._replace(said=row.example.said + b"x")))
+
+    def test_choices_of_words_are_runs_of_their_own(self):
+        words = [row.words for row in rows_of("maildir_cli")]
+        for number in ("1", "2", "16"):
+            self.assertGreaterEqual(words.count(["threads", number]), 9)
+
+    def test_each_log_of_the_judge_is_a_row(self):
+        logs = len(list((TOOLS.parent / "crates/judge_examples/data").glob("*.log")))
+        self.assertGreaterEqual(logs, 62)
+        self.assertGreaterEqual(sum(row.words == ["--lines"] for row in rows_of("maildir_judge")), logs)
+
+    def test_an_earlier_line_has_to_be_named(self):
+        row = next(row for row in rows_of("maildir_judge") if row.example.printed.startswith(b'{"before":'))
+        self.assertFalse(row.is_right(row.example._replace(printed=row.example.printed.replace(b",", b",\n", 1))))
+        self.assertFalse(row.is_right(row.example._replace(printed=b"")))
+
+
+class Planted(unittest.TestCase):
     def setUp(self):
         room = tempfile.TemporaryDirectory()
         self.addCleanup(room.cleanup)
         self.room = room.name
-        self.program = os.path.join(self.room, "stand-in")
-        with open(self.program, "w", encoding="utf-8") as file:
-            file.write(STAND_IN.format(python=sys.executable, tests=str(Path(__file__).parent)))
-        os.chmod(self.program, 0o755)
+        self.program = program(self.room, STAND_IN.format(python=sys.executable, tools=str(TOOLS)))
 
     def wrong_row(self, script):
         """The first row that fails for the stand-in as a shell makes it."""
-        return next(check_face.wrong_rows(check_face.planted(self.program, script, self.room)), None)
-
-    def test_there_are_rows_of_each_status(self):
-        rows = check_face.rows_of(check_face.ROWS.read_text(encoding="utf-8"))
-        self.assertEqual({row.status for row in rows}, {0, 1, 2})
-        self.assertTrue(any(row.said.startswith(b"line ") for row in rows))
-        self.assertTrue(any(row.words[:1] == ["index"] and row.printed for row in rows))
+        return next(wrong_rows(planted(self.program, script, self.room), rows_of("maildir_cli")), None)
 
     def test_what_answers_as_the_rows_say_passes(self):
         self.assertIsNone(self.wrong_row('exec "$0" "$@"'))
 
     def test_each_wrong_main_fails(self):
-        for fault, script in check_face.PLANTED.items():
+        for fault, script in PLANTED.items():
             with self.subTest(fault):
                 self.assertIsNotNone(self.wrong_row(script))
 
     def test_a_main_that_passes_is_told(self):
-        told = list(check_face.passed_plants(self.program, lambda command: iter(())))
-        self.assertEqual(len(told), len(check_face.PLANTED))
+        told = list(passed_plants(self.program, lambda command: iter(())))
+        self.assertEqual(len(told), len(PLANTED))
 
+
+class FailingStreams(unittest.TestCase):
+    FACE = Face(
+        streams=[Streams("", b"", ">/dev/full", Ended(3, b"", b"full\n"))],
+        unread=[Streams("", b"", "", Ended(3, b"", b"full\n"))],
+        torn=[Streams("", b"some text", "", Ended(4, b"", b"torn after 9\n"))],
+        no_text=Ended(3, b"", b"full\n"),
+    )
+    # Says how many bytes it read before a read failed, or that its output is full.
+    TEXT = """#!{python}
+import os, sys
+read = 0
+try:
+    while part := os.read(0, 5):
+        read += len(part)
+except OSError:
+    sys.stderr.write(f"torn after {{read}}\\n")
+    sys.exit(4)
+sys.stderr.write("full\\n")
+sys.exit(3)
+"""
+
+    def test_streams_that_fail_are_met(self):
+        with tempfile.TemporaryDirectory() as room:
+            stand_in = program(room, self.TEXT.format(python=sys.executable))
+            self.assertEqual(list(wrong_streams([stand_in], self.FACE)), [])
+            self.assertEqual(run([stand_in], [], b"").status, 3)
+
+    def test_what_does_not_come_to_it_is_told(self):
+        self.assertEqual(len(list(wrong_streams(["true"], self.FACE))), 4)
+
+
+class Words(unittest.TestCase):
     def test_wrong_words_are_refused(self):
-        done = subprocess.run([TOOL], capture_output=True, check=False)
-        self.assertEqual(done.returncode, 64)
+        for words in ([], ["no-such-program"], [sys.executable]):
+            with self.subTest(words):
+                done = subprocess.run([TOOLS / "check_face", *words], capture_output=True, check=False)
+                self.assertEqual(done.returncode, 2)
+                self.assertEqual(done.stdout, b"")
+
+    def test_each_program_is_known(self):
+        self.assertEqual(set(FACES), {"maildir_cli", "maildir_judge", "maildir_trace"})
 
 
 if __name__ == "__main__":

@@ -1,9 +1,17 @@
 //! `maildir_judge` reads a log of directory calls from standard input, and prints the steps that break the law of a maildir.
 //!
-//! What it does for its words, and the statuses that it ends with, is `judge_cli::program`. Here its words are read, and its streams opened.
+//! What it does for its words, and the statuses that it ends with, is in `entry`. Here its words are read, and its streams opened.
 #![tactic(auto)]
 
-use judge_cli::program;
+mod entry;
+mod json;
+mod reading;
+mod refusal;
+mod text;
+mod why;
+mod words;
+
+use entry::program;
 use std::io::ErrorKind;
 use std::process::ExitCode;
 use std::{env, io};

@@ -5,11 +5,22 @@
 //! words.
 #![tactic(auto)]
 
+mod about;
+mod answers;
+mod effects;
+mod noted;
+mod rows;
+mod session;
+mod steps;
+mod store;
+mod text;
+mod tracer;
+
 use md_script::{Reader, Writer};
-use md_trace::trace;
 use std::io::ErrorKind;
 use std::process::ExitCode;
 use std::{env, io};
+use tracer::trace;
 
 /// The status of a refused run.
 const REFUSED: u8 = 1;

@@ -1,5 +1,0 @@
-//! Tests of `judge_cli`.
-#![tactic(auto)]
-
-#[cfg(test)]
-mod tests;

@@ -1,0 +1,70 @@
+//! A script, played for its log.
+use crate::session::Session;
+use md_head::cut_line;
+use md_script::{PlayError, PlayKind, Printed, Sink, Source, read_script, write_whole};
+use std::alloc::{AllocError, Global};
+
+/// The byte that a line begins with that is passed over.
+const COMMENT: u8 = b'#';
+
+/// How a log begins. A store in memory flushes nothing, and no call of it could be logged as `flush`: a judge would find each delivery
+/// unflushed, which says nothing of the jobs. So the log asks not to be judged by that clause.
+const BEGIN: &[u8] = b"maildir_log 1\nallow NotFlushed\n";
+
+/// Plays a script and writes the log of its directory calls: reads it whole, runs its lines up to the first that is refused, and writes
+/// what they did.
+///
+/// With `with_states` there are comments after the beginning and after each step that show each name of each directory. The errors are
+/// those of `md_script::play`. A moment or a stamp of more than 19 digits, which no log has, is refused `BadNumber`.
+pub(crate) fn trace<S: Source, T: Sink>(
+    alloc: Global,
+    source: &mut S,
+    sink: &mut T,
+    with_states: bool,
+) -> Result<(), PlayError> {
+    let script = read_script(alloc, source)?;
+    let printed = log_of(alloc, &script, with_states)?;
+    write_whole(sink, &printed.text)?;
+    match printed.refusal {
+        None => Ok(()),
+        Some(refused) => Err(refused),
+    }
+}
+
+/// The log of a script up to the first line that is refused, and that line's refusal. The only error is out of memory.
+fn log_of(alloc: Global, script: &[u8], with_states: bool) -> Result<Printed, AllocError> {
+    let mut session = Session::new(alloc, with_states);
+    let mut text = Vec::from_slice(alloc, BEGIN)?;
+    let mut left = script;
+    let mut passed = 0u64;
+    while let Some((first, others)) = cut_line(left) {
+        let before = text.len();
+        match run_line(&mut session, first, &mut text) {
+            Ok(()) => {}
+            Err(kind) => match kind {
+                PlayKind::NoMemory => return Err(AllocError),
+                _ => {
+                    // A refused line says nothing in the log.
+                    text.truncate(before);
+                    let line = passed + 1;
+                    let refusal = Some(PlayError { line, kind });
+                    return Ok(Printed { text, refusal });
+                }
+            },
+        }
+        left = others;
+        passed += 1;
+    }
+    Ok(Printed {
+        text,
+        refusal: None,
+    })
+}
+
+// Runs a line, unless it is passed over.
+fn run_line(session: &mut Session, line: &[u8], out: &mut Vec<u8>) -> Result<(), PlayKind> {
+    if line.is_empty() || line[0] == COMMENT {
+        return Ok(());
+    }
+    session.run_line(line, out)
+}

@@ -1,5 +1,0 @@
-//! Tests of `md_cli`.
-#![tactic(auto)]
-
-#[cfg(test)]
-mod tests;

@@ -1,0 +1,5 @@
+//! Tests of `md_judge`.
+#![tactic(auto)]
+
+#[cfg(test)]
+mod tests;

@@ -1,5 +1,0 @@
-//! Tests of `md_runs`.
-#![tactic(auto)]
-
-#[cfg(test)]
-mod tests;

@@ -1,5 +1,0 @@
-//! Tests of `md_trace`.
-#![tactic(auto)]
-
-#[cfg(test)]
-mod tests;

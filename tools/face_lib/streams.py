@@ -1,0 +1,148 @@
+"""Streams that fail, as a process alone has them: closed ones, a full disk, a folder to read, a reader that has gone, a peer that is torn away."""
+
+from __future__ import annotations
+
+import array
+import fcntl
+import os
+import socket
+import struct
+import subprocess
+import termios
+import time
+from typing import Callable, Dict, Iterator, List, NamedTuple, Sequence
+
+from .rows import MOST_SECONDS, Ended, run
+
+_SCRIPT = b"folder i\nfile i new u 0\nunique 1 2 3 4 a\nx"
+_FILES = b"folder i\nfile i new u 0\n"
+_NAME = b"unique 1.M2P3Q4.a\n"
+# A log with one finding, at line 4: x leaves without T.
+_LOG = b"maildir_log 1\nfolder i\nfile i/cur/x:2, 1\n2 a unlink i/cur/x:2, ok\n"
+# One with so many findings that they are not written at once.
+_LONG_LOG = b"maildir_log 1\nfolder i\n" + b"".join(b"2 a create i/new/%d ok\n" % number for number in range(20_000))
+_WRONG_LOG = b"maildir_log 2\n"
+_UNREAD, _UNWRITTEN = b"line 0: read fault\n", b"line 0: write fault\n"
+
+
+class Streams(NamedTuple):
+    """Words and an input, where a shell sends the streams, and what the program comes to. Standard error is seen where it isn't sent elsewhere."""
+
+    words: str
+    input: bytes
+    sent: str
+    wanted: Ended
+
+
+class Face(NamedTuple):
+    """What a program does where its streams fail, and for a word that is no text."""
+
+    streams: List[Streams]
+    # Runs into a pipe whose reader has gone, and runs over an input of which nothing comes after these bytes.
+    unread: List[Streams]
+    torn: List[Streams]
+    no_text: Ended
+
+
+def _each(sent: str, wanted: Ended, runs: Sequence[tuple[str, bytes]]) -> List[Streams]:
+    return [Streams(words, given, sent, wanted) for words, given in runs]
+
+
+_CLI_RUNS = [("play", _SCRIPT), ("threads 2", b"folder i"), ("index 3", _FILES), ("--help", b"")]
+_CLI_READS = [("play", _SCRIPT), ("threads 2", _SCRIPT), ("index 3", _SCRIPT)]
+_JUDGE_RUNS = [("--lines", _LOG), ("--json", _LOG), ("--help", _LOG), ("", _LOG), ("", _LONG_LOG)]
+_TRACE_RUNS = [("", _FILES), ("--states", _FILES)]
+
+FACES: Dict[str, Face] = {
+    "maildir_cli": Face(
+        streams=[
+            *_each("</", Ended(1, b"", _UNREAD), _CLI_READS),
+            *_each("<&-", Ended(1, b"", _UNREAD), _CLI_READS[:1]),
+            *_each(">/dev/full", Ended(1, b"", _UNWRITTEN), _CLI_RUNS),
+            *_each(">&-", Ended(1, b"", _UNWRITTEN), _CLI_RUNS[:1]),
+            *(Streams(words, _SCRIPT, told, Ended(status, printed, b""))
+              for told in ("2>/dev/full", "2>&-")
+              for words, status, printed in (("play", 1, _NAME), ("plaz", 2, b""), ("--version", 0, b"maildir_cli 0.1.0\n"))),
+        ],
+        unread=_each("", Ended(1, b"", _UNWRITTEN), _CLI_RUNS),
+        torn=_each("", Ended(1, b"", _UNREAD), _CLI_READS),
+        no_text=Ended(2, b"", b"maildir_cli: a word is not UTF-8; try 'maildir_cli --help'\n"),
+    ),
+    "maildir_judge": Face(
+        streams=[
+            *_each("</", Ended(2, b"", b"line 1: read fault\n"), _JUDGE_RUNS[:1]),
+            *_each(">/dev/full", Ended(2, b"", _UNWRITTEN), _JUDGE_RUNS),
+            *_each("2>/dev/full", Ended(1, b"4 Gone\n", b""), _JUDGE_RUNS[:1]),
+            *_each("2>/dev/full", Ended(2, b"", b""), [("", _WRONG_LOG), ("--all", _LOG)]),
+        ],
+        unread=_each("", Ended(2, b"", _UNWRITTEN), _JUDGE_RUNS),
+        torn=_each("", Ended(2, b"", b"line 5: read fault\n"), _JUDGE_RUNS[:1]),
+        no_text=Ended(2, b"", b"maildir_judge: a word is not UTF-8; try 'maildir_judge --help'\n"),
+    ),
+    "maildir_trace": Face(
+        streams=[
+            *_each("</", Ended(1, b"", _UNREAD), _TRACE_RUNS[:1]),
+            *_each(">/dev/full", Ended(1, b"", _UNWRITTEN), _TRACE_RUNS),
+            *_each("2>/dev/full", Ended(2, b"", b""), [("x", b"")]),
+        ],
+        unread=_each("", Ended(1, b"", _UNWRITTEN), _TRACE_RUNS),
+        torn=_each("", Ended(1, b"", _UNREAD), _TRACE_RUNS[:1]),
+        no_text=Ended(2, b"", b"maildir_trace: usage: maildir_trace [--states] < SCRIPT\n"),
+    ),
+}
+
+
+def wrong_streams(command: Sequence[str], face: Face) -> Iterator[str]:
+    """The failing streams for which a program does not come to what it should."""
+    runs: List[tuple[str, List[Streams], Callable[[Sequence[str], Streams], Ended]]] = [
+        ("", face.streams, _redirected),
+        ("where the reader has gone", face.unread, _without_reader),
+        ("where the input is torn", face.torn, _torn),
+    ]
+    for where, all_streams, ended_by in runs:
+        for streams in all_streams:
+            ended = ended_by(command, streams)
+            if ended != streams.wanted:
+                yield f"{streams.words or 'no words'} {streams.sent or where}: {ended}, and not {streams.wanted}"
+    ended = run(command, [os.fsdecode(b"\xff")], b"")
+    if ended != face.no_text:
+        yield f"a word that is not UTF-8: {ended}, and not {face.no_text}"
+
+
+def _redirected(command: Sequence[str], streams: Streams) -> Ended:
+    """A run of which a shell sends the streams elsewhere."""
+    return run(["sh", "-c", f'exec "$@" {streams.sent}', "sh", *command], streams.words.split(), streams.input)
+
+
+def _without_reader(command: Sequence[str], streams: Streams) -> Ended:
+    """A run into a pipe whose reader has gone, as `head` does."""
+    reader, writer = os.pipe()
+    os.close(reader)
+    try:
+        words = [*command, *streams.words.split()]
+        done = subprocess.run(words, input=streams.input, stdout=writer, stderr=subprocess.PIPE, timeout=MOST_SECONDS, check=False)
+    finally:
+        os.close(writer)
+    return Ended(done.returncode, b"", done.stderr)
+
+
+def _torn(command: Sequence[str], streams: Streams) -> Ended:
+    """A run over a connection that is reset once all that came by it was read."""
+    with socket.create_server(("127.0.0.1", 0)) as server, socket.create_connection(server.getsockname()) as peer:
+        with server.accept()[0] as given:
+            words = [*command, *streams.words.split()]
+            with subprocess.Popen(words, stdin=given, stdout=subprocess.PIPE, stderr=subprocess.PIPE) as program:
+                peer.sendall(streams.input)
+                _wait_until_read(given, program)
+                # To close it then resets it, so the next read fails.
+                peer.setsockopt(socket.SOL_SOCKET, socket.SO_LINGER, struct.pack("ii", 1, 0))
+                peer.close()
+                printed, said = program.communicate(timeout=MOST_SECONDS)
+    return Ended(program.returncode, printed, said)
+
+
+def _wait_until_read(given: socket.socket, program: subprocess.Popen[bytes]) -> None:
+    waiting, ends = array.array("i", [1]), time.monotonic() + MOST_SECONDS
+    while waiting[0] and program.poll() is None and time.monotonic() < ends:
+        time.sleep(0.01)
+        fcntl.ioctl(given, termios.FIONREAD, waiting)
