@@ -1,12 +1,12 @@
 //! A log, read in one pass.
-ghost use Rattle.std.specs.Prelude.{ℕ, ◌≡◌, ◌↔◌, Ok, IfOk};
+ghost use Rattle.std.specs.Prelude.{ℕ, ◌≡◌, ◌↔◌, [], Ok, IfOk};
 ghost use Rattle.md_head.specs.Header.{lines_of};
 ghost use Rattle.md_log.specs.declared.clause.Clause.{Clause};
 ghost use Rattle.md_judge.specs.Law.{IsFinding};
 ghost use Rattle.md_judge.specs.Logs.{Log, log_of};
 ghost use Rattle.md_judge.specs.Ordered.{AreInOrder};
 ghost use Rattle.md_judge.specs.Orders.{AreFoundInOrder};
-ghost use Rattle.md_judge.specs.Taken.{IsWithoutTicks, Answers, AnswersAny};
+ghost use Rattle.md_judge.specs.Taken.{IsWithoutTicks, Answers, AnswersAny, HasTaken};
 ghost use Rattle.md_judge.specs.Verdict.{HasNoTicks, IsAmong};
 
 use crate::session::Session;
@@ -34,11 +34,24 @@ pub fn judge_log(alloc: Global, log: &[u8]) -> Result<Vec<Finding>, LogFault>
     ensures answers_any { AnswersAny result (log_of log.now) }
 {
     let mut session = Session::new(alloc);
+    found_by(&mut session, log)
+}
+
+/// What a new session finds in a log. The session is lent, so that it is let go in one place however the reading ends.
+fn found_by(session: &mut Session, log: &[u8]) -> Result<Vec<Finding>, LogFault>
+    requires is_new { HasTaken [] [] session.old }
+    ensures found { IfOk result (λ found. (l : Log) → log_of log.now ≡ Ok l → HasNoTicks l
+        → (number : ℕ) (c : Clause) → IsAmong found.items number c ↔ IsFinding l number c) }
+    ensures ordered { IfOk result (λ found. AreInOrder found.items) }
+    ensures answers { IsWithoutTicks (lines_of log.now) → Answers result (log_of log.now) }
+    ensures placed { IfOk result (λ found. (l : Log) → log_of log.now ≡ Ok l → AreFoundInOrder l found.items) }
+    ensures answers_any { AnswersAny result (log_of log.now) }
+{
     let mut left = log;
     while let Some((text, others)) = cut_line(left) {
         session.line(text)?;
         left = others;
     }
     session.end()?;
-    Ok(session.into_findings())
+    Ok(session.take_findings())
 }

@@ -22,6 +22,7 @@ use crate::stretch::{Stretch, Waiting};
 use crate::words::Passages;
 use md_log::{CLAUSES, Clause, Folders, Line, LineFault, LogFault, Step, read_line};
 use std::alloc::{AllocError, Global};
+use std::mem::replace;
 
 /// The first line of a log.
 const HEAD: &[u8] = b"maildir_log 1";
@@ -165,20 +166,11 @@ impl Session {
         self.passages.words(finding)
     }
 
-    pub(crate) fn into_findings(self) -> Vec<Finding>
-        ensures { result ≡ self.findings }
+    /// Hands out what was found. The session is not to be asked any more.
+    pub(crate) fn take_findings(&mut self) -> Vec<Finding>
+        ensures { result ≡ self.old.findings }
     {
-        let Session {
-            alloc: _,
-            folders: _,
-            has_begun: _,
-            judge: _,
-            findings,
-            passages: _,
-            lines: _,
-            stretch: _,
-        } = self;
-        findings
+        replace(&mut self.findings, Vec::new(self.alloc))
     }
 
     /// Takes a line in, unless it is passed over.

@@ -7,10 +7,10 @@ use Rattle.md_judge.specs.Orders.{AreFoundInOrder}
 use Rattle.md_judge.specs.Ordered.{AreInOrder}
 use Rattle.md_judge.specs.Verdict.{IsAmong}
 use Rattle.md_judge.proofs.Taken.{takes-next, taken-all, text-stays, text-stays-any, log-is, found-all, ordered-all, placed-all}
-use Rattle.md_judge.proofs.log.judge_log.Goals as goal
+use Rattle.md_judge.proofs.log.found_by.Goals as goal
 
 pub loop-text-init : goal.loop-text-init
-loop-text-init c = ([], refl, c.new-session.ensures.taken)
+loop-text-init c = ([], refl, c.requires.is_new)
 
 pub loop-text-preserved : goal.loop-text-preserved
 loop-text-preserved c =
@@ -53,14 +53,14 @@ returns c =
       found = λ l is none n o.
           let still = c.in_ok-end.ensures.still [] (lines_of c.args.log.now) in
           let all = found-all c.args.log.now c.loop-text.session c.end.new.self taken still l is none n o in
-          subst (λ (fs : List Finding). IsAmong fs n o ↔ IsFinding l n o) (λ i. (sym c.into_findings.ensures i).items) all;
+          subst (λ (fs : List Finding). IsAmong fs n o ↔ IsFinding l n o) (λ i. (sym c.take_findings.ensures i).items) all;
       ordered =
-          subst (λ (fs : List Finding). AreInOrder fs) (λ i. (sym c.into_findings.ensures i).items)
+          subst (λ (fs : List Finding). AreInOrder fs) (λ i. (sym c.take_findings.ensures i).items)
           (ordered-all c.args.log.now c.end.new.self (c.in_ok-end.ensures.ended [] (lines_of c.args.log.now) taken)
           (ap is_ok (log-is c.args.log.now) ∙ c.in_ok-end.ensures.answers_any [] (lines_of c.args.log.now) taken));
       answers = λ none. ap is_ok (log-is c.args.log.now) ∙ c.in_ok-end.ensures.answers [] (lines_of c.args.log.now) taken none;
       placed = λ l is.
-          subst (λ (fs : List Finding). AreFoundInOrder l fs) (λ i. (sym c.into_findings.ensures i).items)
+          subst (λ (fs : List Finding). AreFoundInOrder l fs) (λ i. (sym c.take_findings.ensures i).items)
           (placed-all c.args.log.now c.end.new.self (c.in_ok-end.ensures.ended [] (lines_of c.args.log.now) taken) l is);
       answers_any = ap is_ok (log-is c.args.log.now) ∙ c.in_ok-end.ensures.answers_any [] (lines_of c.args.log.now) taken;
     }
