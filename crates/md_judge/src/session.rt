@@ -281,11 +281,11 @@ impl Session {
     {
         let moment = self.stretch.line(place);
         let line = self.stretch.line(at);
+        done_at(line, self.stretch.place(moment, line))?;
         let Some(waiting) = self.stretch.take(at) else {
             return Err(fault_at(line, LineFault::NoOrder));
         };
         let Waiting { step, text } = waiting;
-        done_at(line, self.stretch.place(moment, line))?;
         done_at(line, self.judge_step(moment as usize, line, step, &text))?;
         if self.judge.is_wrong() {
             return Err(fault_at(line, LineFault::NoOrder));
