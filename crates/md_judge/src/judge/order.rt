@@ -214,9 +214,6 @@ impl Search<'_> {
         let Some(step) = self.steps.get(at) else {
             return Ok(asleep);
         };
-        let undo = self.trial.make(&step.asked, now)?;
-        self.by_begin.remove(&(step.ticks.begin, at));
-        self.by_end.remove(&(step.ticks.end, at));
         let Some(position) = self.positions.last_mut() else {
             return Ok(asleep);
         };
@@ -229,13 +226,17 @@ impl Search<'_> {
                 asleep.push(*other)?;
             }
         }
+        // Last, since what would undo it is let go at each exit that comes after.
+        let undo = self.trial.make(&step.asked, now)?;
+        self.by_begin.remove(&(step.ticks.begin, at));
+        self.by_end.remove(&(step.ticks.end, at));
         position.placed = Some((at, undo));
         Ok(asleep)
     }
 
     /// Closes the last place, and takes back the step before it.
     fn go_back(&mut self) -> Result<(), NoOrder> {
-        let _closed = self.positions.pop();
+        close(&mut self.positions);
         match self.take_back() {
             Ok(true) => Ok(()),
             Ok(false) => Err(self.stop(Unplaced::NoOrder)),
@@ -251,8 +252,8 @@ impl Search<'_> {
         let Some((at, undo)) = position.placed.take() else {
             return Ok(true);
         };
-        position.asleep.push(at)?;
         self.trial.undo(undo)?;
+        position.asleep.push(at)?;
         if let Some(step) = self.steps.get(at) {
             self.by_begin.insert((step.ticks.begin, at))?;
             self.by_end.insert((step.ticks.end, at))?;
@@ -270,6 +271,11 @@ impl Search<'_> {
         }
         Ok(order)
     }
+}
+
+/// Closes the last place. It is let go here, and not at each exit of the caller.
+fn close(positions: &mut Vec<Position>) {
+    let _closed = positions.pop();
 }
 
 fn no_memory(step: usize) -> NoOrder {

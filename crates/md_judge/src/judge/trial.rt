@@ -367,18 +367,12 @@ impl Trial<'_> {
             taken,
             reading,
         } = undo;
-        for before in [taken, added] {
-            if let Some(before) = before {
-                self.put(before.spot, before.tried)?;
-            }
-        }
         match reading {
-            Undone::Nothing => Ok(()),
+            Undone::Nothing => {}
             Undone::End { reader, open } => {
                 if let Some(open) = open {
                     self.open.insert(reader, open)?;
                 }
-                Ok(())
             }
             Undone::Part {
                 reader,
@@ -392,8 +386,16 @@ impl Trial<'_> {
                         open.shown.remove(name);
                     }
                 }
-                Ok(())
             }
+        }
+        self.put_back(taken)?;
+        self.put_back(added)
+    }
+
+    fn put_back(&mut self, before: Option<Before>) -> Result<(), AllocError> {
+        match before {
+            None => Ok(()),
+            Some(before) => self.put(before.spot, before.tried),
         }
     }
 }
