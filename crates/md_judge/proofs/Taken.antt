@@ -15,7 +15,6 @@ use Rattle.md_log.specs.declared.line.Step.{Step}
 use Rattle.md_log.specs.declared.error.LineFault.{LineFault}
 use Rattle.md_log.specs.declared.error.LineFault.TheVariants.{NoLog, NoMemory, NoOrder, TooManyOrders}
 use Rattle.md_log.specs.declared.error.LogFault.{LogFault}
-use Rattle.md_judge.specs.declared.log.Finding.{Finding}
 use Rattle.md_judge.specs.declared.session.Session.{Session}
 use Rattle.md_judge.specs.Law.{IsFinding}
 use Rattle.md_judge.specs.Logs.{Log, Numbered, empty_log, is_passed_over, has_begun, with_line, with_folder_line, with_text, with_lines, at_line, and_then, log_by, log_of}
@@ -343,11 +342,8 @@ unfolding log_of
 placed-all text t ended l is = subst (λ (m : Log). AreFoundInOrder m t.findings.items) (none-given l) (ended.found l is)
 
 -- and what was found are the findings
-pub found-all : (text : List ℕ) (s t : Session) → HasTaken [] (lines_of text) s
-    → ((l : Log) → HasTaken [] (lines_of text) s → log_by (lines_of text) ≡ Ok l → HasNoTicks l → t ≡ s)
+pub found-all : (text : List ℕ) (t : Session) → ((l : Log) → log_of text ≡ Ok l → HasNoTicks l → HasTaken [] (lines_of text) t)
     → (l : Log) → log_of text ≡ Ok l → HasNoTicks l → (n : ℕ) (c : Clause) → IsAmong t.findings.items n c ↔ IsFinding l n c
 unfolding log_of
-found-all text s t taken same l is none n c =
-    let now : t.findings.items ≡ s.findings.items = λ i. (same l taken is none i).findings.items in
-    subst (λ (fs : List Finding). IsAmong fs n c ↔ IsFinding l n c) (sym now)
-    (subst (λ (m : Log). IsAmong s.findings.items n c ↔ IsFinding m n c) (none-given l) ((taken.read l is none).found n c))
+found-all text t taken l is none n c =
+    subst (λ (m : Log). IsAmong t.findings.items n c ↔ IsFinding m n c) (none-given l) (((taken l is none).read l is none).found n c)

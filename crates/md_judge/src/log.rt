@@ -1,12 +1,12 @@
 //! A log, read in one pass.
-ghost use Rattle.std.specs.Prelude.{ℕ, ◌≡◌, ◌↔◌, [], Ok, IfOk};
+ghost use Rattle.std.specs.Prelude.{ℕ, ◌≡◌, ◌↔◌, [], Ok, IfOk, OnOk};
 ghost use Rattle.md_head.specs.Header.{lines_of};
 ghost use Rattle.md_log.specs.declared.clause.Clause.{Clause};
 ghost use Rattle.md_judge.specs.Law.{IsFinding};
 ghost use Rattle.md_judge.specs.Logs.{Log, log_of};
 ghost use Rattle.md_judge.specs.Ordered.{AreInOrder};
 ghost use Rattle.md_judge.specs.Orders.{AreFoundInOrder};
-ghost use Rattle.md_judge.specs.Taken.{IsWithoutTicks, Answers, AnswersAny, HasTaken};
+ghost use Rattle.md_judge.specs.Taken.{IsWithoutTicks, Answers, AnswersAny, HasTaken, HasEnded};
 ghost use Rattle.md_judge.specs.Verdict.{HasNoTicks, IsAmong};
 
 use crate::session::Session;
@@ -34,17 +34,18 @@ pub fn judge_log(alloc: Global, log: &[u8]) -> Result<Vec<Finding>, LogFault>
     ensures answers_any { AnswersAny result (log_of log.now) }
 {
     let mut session = Session::new(alloc);
-    found_by(&mut session, log)
+    match read_whole(&mut session, log) {
+        Ok(()) => Ok(session.take_findings()),
+        Err(fault) => Err(fault),
+    }
 }
 
-/// What a new session finds in a log. The session is lent, so that it is let go in one place however the reading ends.
-fn found_by(session: &mut Session, log: &[u8]) -> Result<Vec<Finding>, LogFault>
+/// Has a new session take a log in to its end. It is lent, so that it is let go in one place however the reading ends.
+fn read_whole(session: &mut Session, log: &[u8]) -> Result<(), LogFault>
     requires is_new { HasTaken [] [] session.old }
-    ensures found { IfOk result (λ found. (l : Log) → log_of log.now ≡ Ok l → HasNoTicks l
-        → (number : ℕ) (c : Clause) → IsAmong found.items number c ↔ IsFinding l number c) }
-    ensures ordered { IfOk result (λ found. AreInOrder found.items) }
+    ensures taken { (l : Log) → log_of log.now ≡ Ok l → HasNoTicks l → OnOk result (HasTaken [] (lines_of log.now) session.new) }
+    ensures ended { OnOk result (HasEnded [] (lines_of log.now) session.new) }
     ensures answers { IsWithoutTicks (lines_of log.now) → Answers result (log_of log.now) }
-    ensures placed { IfOk result (λ found. (l : Log) → log_of log.now ≡ Ok l → AreFoundInOrder l found.items) }
     ensures answers_any { AnswersAny result (log_of log.now) }
 {
     let mut left = log;
@@ -52,6 +53,5 @@ fn found_by(session: &mut Session, log: &[u8]) -> Result<Vec<Finding>, LogFault>
         session.line(text)?;
         left = others;
     }
-    session.end()?;
-    Ok(session.take_findings())
+    session.end()
 }

@@ -1,7 +1,7 @@
 use Rattle.std.proofs.Common.{length}
 use Rattle.md_head.specs.Header.{lines_of}
 use Rattle.md_judge.proofs.Taken.{HasTakenTo}
-use Rattle.md_judge.proofs.log.found_by.Given as goal
+use Rattle.md_judge.proofs.log.read_whole.Given as goal
 
 abbrev pub invariant-loop-text : goal.invariant-loop-text
 invariant-loop-text l = HasTakenTo l.log (lines_of l.left) l.session
