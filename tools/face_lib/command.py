@@ -5,15 +5,15 @@ from __future__ import annotations
 import argparse
 import os
 import sys
+from collections.abc import Iterator, Sequence
 from pathlib import Path
-from typing import Iterator, Sequence
 
 from .planted import passed_plants
-from .rows import name_of, rows_of, wrong_rows
+from .rows import WrongRow, name_of, rows_of, wrong_rows
 from .streams import FACES, wrong_streams
 
 ABOUT = f"""Holds a built program to what the rows of its crate have, crates/NAME/rows: its status, what it prints and what it says, for words and an
-input. Then come streams that a process alone has: closed ones, a full disk, a folder to read, a reader that has gone, an input that is torn. It
+input. Then come streams that a process alone has: closed ones, a full disk, a folder to read, a reader that has gone, a connection that is reset. It
 prints each that is not so, and ends with status 1 where there are any. It knows {', '.join(FACES)}."""
 
 PLANTED_ABOUT = """checks the rows of maildir_cli themselves. The program is run through a shell that makes of it what each of four wrong mains would
@@ -22,11 +22,14 @@ be: status 0 for refusals, status 1 for wrong words, refusals on standard output
 
 def _faults(program: Path, is_planted: bool) -> Iterator[str]:
     name = name_of(program)
+    rows = list(rows_of(name))
 
     def wrong(command: Sequence[str]) -> Iterator[str]:
-        return wrong_rows(command, rows_of(name))
+        return wrong_rows(command, rows)
 
-    if is_planted:
+    if not rows:
+        yield f"{name} has no rows"
+    elif is_planted:
         yield from passed_plants(str(program), wrong)
     else:
         yield from wrong([str(program)])
@@ -40,14 +43,16 @@ def main() -> int:
     parser.add_argument("--planted", action="store_true", help=PLANTED_ABOUT)
     chosen = parser.parse_args()
     program: Path = chosen.program.resolve()
-    if not os.access(program, os.X_OK) or name_of(program) not in FACES:
+    if not program.is_file() or not os.access(program, os.X_OK) or name_of(program) not in FACES:
         print(f"check_face: {chosen.program} is none of the programs {', '.join(FACES)}", file=sys.stderr)
         return 2
     if chosen.planted and name_of(program) != "maildir_cli":
         parser.error("--planted is for maildir_cli")
-    wrong = list(_faults(program, chosen.planted))
+    try:
+        wrong = list(_faults(program, chosen.planted))
+    except WrongRow as refused:
+        wrong = [str(refused)]
     for line in wrong:
         print(f"check_face: {line}")
     return 1 if wrong else 0
-
 

@@ -4,8 +4,8 @@ from __future__ import annotations
 
 import stat
 import tempfile
+from collections.abc import Callable, Iterator, Sequence
 from pathlib import Path
-from typing import Callable, Iterator, List, Sequence
 
 # What a shell makes of a program, by the fault of the main that it stands for.
 PLANTED = {
@@ -16,7 +16,7 @@ PLANTED = {
 }
 
 
-def planted(program: str, script: str, folder: str) -> List[str]:
+def planted(program: str, script: str, folder: str) -> list[str]:
     """A command that runs a program through a shell."""
     path = Path(folder) / "planted"
     path.write_text(f"#!/bin/sh\nset -- '{program}' \"$@\"\nexec sh -c '{script}' \"$@\"\n", encoding="utf-8")

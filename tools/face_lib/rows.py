@@ -5,13 +5,14 @@ from __future__ import annotations
 import itertools
 import re
 import subprocess
+from collections.abc import Callable, Iterable, Iterator, Sequence
 from pathlib import Path
-from typing import Callable, Dict, Iterator, List, NamedTuple, Sequence
+from typing import NamedTuple
 
 TOP = Path(__file__).resolve().parents[2]
 MOST_SECONDS = 60
 
-_ESCAPE = re.compile(r"\\(x[0-9a-f]{2}|.)")
+_ESCAPE = re.compile(r"\\(x[0-9a-f]{2}|.|$)")
 _ESCAPED = {"n": "\n", "r": "\r", "t": "\t", "0": "\0", "\\": "\\"}
 _CHOICE = re.compile(r"\{([^}]*)\}")
 
@@ -25,12 +26,16 @@ class Ended(NamedTuple):
 
 
 class Row(NamedTuple):
-    """Words and an input, whether what a program comes to for them is right, and an example of what is."""
+    """Words and an input. `is_right` says whether an end is right, and `example` is a right one."""
 
-    words: List[str]
+    words: list[str]
     input: bytes
     is_right: Callable[[Ended], bool]
     example: Ended
+
+
+class WrongRow(Exception):
+    """A file of rows that cannot be read, with the line."""
 
 
 def name_of(program: Path) -> str:
@@ -41,20 +46,38 @@ def name_of(program: Path) -> str:
 def rows_of(name: str) -> Iterator[Row]:
     """The rows of a program's crate, from its folder `rows`, and for the judge the logs of judge_examples."""
     for file in sorted((TOP / "crates" / name / "rows").glob("*.rows")):
-        columns, *lines = [line for line in file.read_text(encoding="utf-8").splitlines() if line and not line.startswith("#")]
-        for line in lines:
-            yield from _rows(dict(zip(columns.split("|"), line.split("|"))))
+        yield from rows_in(str(file.relative_to(TOP)), file.read_text(encoding="utf-8"))
     if name == "maildir_judge":
         yield from map(_judged, sorted((TOP / "crates/judge_examples/data").glob("*.log")))
 
 
-def run(command: Sequence[str], words: Sequence[str], given: bytes) -> Ended:
-    """A run of a program."""
-    done = subprocess.run([*command, *words], input=given, capture_output=True, timeout=MOST_SECONDS, check=False)
+def rows_in(name: str, text: str) -> Iterator[Row]:
+    """The rows of a text. Its first line names the columns, which `|` parts; lines that begin with `#` are passed over.
+
+    In a column `\\n`, `\\r`, `\\t`, `\\0` and `\\\\` are as in code, and `\\x7c` is the byte of that number, here `|`. In the words `{1,3}` stands
+    for 1 in one run, and for 3 in another."""
+    lines = [(number, line) for number, line in enumerate(text.splitlines(), 1) if line and not line.startswith("#")]
+    columns = lines[0][1].split("|")
+    for number, line in lines[1:]:
+        cells = line.split("|")
+        if len(cells) != len(columns):
+            raise WrongRow(f"{name}:{number}: {len(cells)} columns, and not {len(columns)}")
+        try:
+            yield from _rows(dict(zip(columns, cells)))
+        except (KeyError, ValueError) as error:
+            raise WrongRow(f"{name}:{number}: {error}") from None
+
+
+def run(command: Sequence[str], words: Iterable[str], given: bytes) -> Ended:
+    """A run of a program. One that does not end has the status -1."""
+    try:
+        done = subprocess.run([*command, *words], input=given, capture_output=True, timeout=MOST_SECONDS, check=False)
+    except subprocess.TimeoutExpired:
+        return Ended(-1, b"", b"not ended after a minute")
     return Ended(done.returncode, done.stdout, done.stderr)
 
 
-def wrong_rows(command: Sequence[str], rows: Iterator[Row]) -> Iterator[str]:
+def wrong_rows(command: Sequence[str], rows: Iterable[Row]) -> Iterator[str]:
     """The rows that aren't so."""
     for row in rows:
         ended = run(command, row.words, row.input)
@@ -62,20 +85,21 @@ def wrong_rows(command: Sequence[str], rows: Iterator[Row]) -> Iterator[str]:
             yield f"{' '.join(row.words) or 'no words'}, over {row.input!r}: {ended}, and not {row.example}"
 
 
-def _rows(columns: Dict[str, str]) -> Iterator[Row]:
+def _rows(columns: dict[str, str]) -> Iterator[Row]:
     if "clause" in columns:
         yield _earlier(columns)
         return
-    text = {column: _bytes(columns[column]) for column in ("input", "said")}
+    given, said = _bytes(columns["input"]), _bytes(columns["said"])
     begins = "begins" in columns
-    wanted = Ended(int(columns["status"]), _bytes(columns["begins" if begins else "printed"]), text["said"])
+    wanted = Ended(int(columns["status"]), _bytes(columns["begins" if begins else "printed"]), said)
     for words in _words(columns["words"]):
-        yield Row(words, text["input"], lambda ended: _is_so(wanted, ended, begins), wanted)
+        yield Row(words, given, lambda ended: _is_so(wanted, ended, begins), wanted)
 
 
-def _earlier(columns: Dict[str, str]) -> Row:
+def _earlier(columns: dict[str, str]) -> Row:
     """The judge finds a clause at a line, and names the earlier line that it goes back to."""
-    before, found = (text.encode() for text in (f'"before":{columns["before"]},', f'"clause":"{columns["clause"]}","line":{columns["line"]},'))
+    before = f'"before":{columns["before"]},'.encode()
+    found = f'"clause":"{columns["clause"]}","line":{columns["line"]},'.encode()
 
     def is_right(ended: Ended) -> bool:
         return (ended.status, ended.said) == (1, b"") and any(before in line and found in line for line in ended.printed.splitlines())
@@ -95,8 +119,7 @@ def _is_so(wanted: Ended, ended: Ended, begins: bool) -> bool:
     return ended._replace(printed=printed) == wanted
 
 
-def _words(text: str) -> Iterator[List[str]]:
-    """The words, parted by spaces. `{1,3}` stands for 1 in one run, and for 3 in another."""
+def _words(text: str) -> Iterator[list[str]]:
     choices = [each.split(",") for each in _CHOICE.findall(text)]
     for chosen in itertools.product(*choices):
         given = iter(chosen)
@@ -104,4 +127,4 @@ def _words(text: str) -> Iterator[List[str]]:
 
 
 def _bytes(text: str) -> bytes:
-    return _ESCAPE.sub(lambda it: chr(int(it[1][1:], 16)) if it[1].startswith("x") else _ESCAPED[it[1]], text).encode("latin-1")
+    return _ESCAPE.sub(lambda it: chr(int(it[1][1:], 16)) if it[1][:1] == "x" else _ESCAPED[it[1]], text).encode("latin-1" if text.isascii() else "ascii")

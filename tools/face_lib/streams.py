@@ -1,16 +1,12 @@
-"""Streams that fail, as a process alone has them: closed ones, a full disk, a folder to read, a reader that has gone, a peer that is torn away."""
+"""Streams that fail, as a process alone has them: closed ones, a full disk, a folder to read, a reader that has gone, a connection that is reset."""
 
 from __future__ import annotations
 
-import array
-import fcntl
 import os
 import socket
-import struct
 import subprocess
-import termios
-import time
-from typing import Callable, Dict, Iterator, List, NamedTuple, Sequence
+from collections.abc import Callable, Iterator, Sequence
+from typing import NamedTuple
 
 from .rows import MOST_SECONDS, Ended, run
 
@@ -37,23 +33,25 @@ class Streams(NamedTuple):
 class Face(NamedTuple):
     """What a program does where its streams fail, and for a word that is no text."""
 
-    streams: List[Streams]
-    # Runs into a pipe whose reader has gone, and runs over an input of which nothing comes after these bytes.
-    unread: List[Streams]
-    torn: List[Streams]
+    streams: list[Streams]
+    # Runs into a pipe whose reader has gone, and runs over a connection that is reset behind the input.
+    unread: list[Streams]
+    reset: list[Streams]
     no_text: Ended
 
 
-def _each(sent: str, wanted: Ended, runs: Sequence[tuple[str, bytes]]) -> List[Streams]:
+def _each(sent: str, wanted: Ended, runs: Sequence[tuple[str, bytes]]) -> list[Streams]:
     return [Streams(words, given, sent, wanted) for words, given in runs]
 
 
 _CLI_RUNS = [("play", _SCRIPT), ("threads 2", b"folder i"), ("index 3", _FILES), ("--help", b"")]
 _CLI_READS = [("play", _SCRIPT), ("threads 2", _SCRIPT), ("index 3", _SCRIPT)]
-_JUDGE_RUNS = [("--lines", _LOG), ("--json", _LOG), ("--help", _LOG), ("", _LOG), ("", _LONG_LOG)]
+_JUDGE_FORMS = [("", _LONG_LOG), ("--lines", _LONG_LOG), ("--json", _LONG_LOG)]
+_JUDGE_RUNS = [("", _LOG), ("--lines", _LOG), ("--json", _LOG), ("--help", _LOG), *_JUDGE_FORMS]
+_JUDGE_READS = [("", _LOG), ("--lines", _LOG)]
 _TRACE_RUNS = [("", _FILES), ("--states", _FILES)]
 
-FACES: Dict[str, Face] = {
+FACES: dict[str, Face] = {
     "maildir_cli": Face(
         streams=[
             *_each("</", Ended(1, b"", _UNREAD), _CLI_READS),
@@ -65,28 +63,33 @@ FACES: Dict[str, Face] = {
               for words, status, printed in (("play", 1, _NAME), ("plaz", 2, b""), ("--version", 0, b"maildir_cli 0.1.0\n"))),
         ],
         unread=_each("", Ended(1, b"", _UNWRITTEN), _CLI_RUNS),
-        torn=_each("", Ended(1, b"", _UNREAD), _CLI_READS),
+        reset=_each("", Ended(1, b"", _UNREAD), _CLI_READS),
         no_text=Ended(2, b"", b"maildir_cli: a word is not UTF-8; try 'maildir_cli --help'\n"),
     ),
     "maildir_judge": Face(
         streams=[
-            *_each("</", Ended(2, b"", b"line 1: read fault\n"), _JUDGE_RUNS[:1]),
+            *_each("</", Ended(2, b"", b"line 1: read fault\n"), _JUDGE_READS),
+            *_each("<&-", Ended(2, b"", b"line 1: read fault\n"), _JUDGE_READS[:1]),
             *_each(">/dev/full", Ended(2, b"", _UNWRITTEN), _JUDGE_RUNS),
-            *_each("2>/dev/full", Ended(1, b"4 Gone\n", b""), _JUDGE_RUNS[:1]),
+            *_each(">&-", Ended(2, b"", _UNWRITTEN), _JUDGE_RUNS[:1]),
+            *_each("2>/dev/full", Ended(1, b"4 Gone\n", b""), _JUDGE_READS[1:]),
+            *_each("2>&-", Ended(1, b"4 Gone\n", b""), _JUDGE_READS[1:]),
             *_each("2>/dev/full", Ended(2, b"", b""), [("", _WRONG_LOG), ("--all", _LOG)]),
         ],
         unread=_each("", Ended(2, b"", _UNWRITTEN), _JUDGE_RUNS),
-        torn=_each("", Ended(2, b"", b"line 5: read fault\n"), _JUDGE_RUNS[:1]),
+        reset=_each("", Ended(2, b"", b"line 5: read fault\n"), _JUDGE_READS),
         no_text=Ended(2, b"", b"maildir_judge: a word is not UTF-8; try 'maildir_judge --help'\n"),
     ),
     "maildir_trace": Face(
         streams=[
             *_each("</", Ended(1, b"", _UNREAD), _TRACE_RUNS[:1]),
+            *_each("<&-", Ended(1, b"", _UNREAD), _TRACE_RUNS[:1]),
             *_each(">/dev/full", Ended(1, b"", _UNWRITTEN), _TRACE_RUNS),
+            *_each(">&-", Ended(1, b"", _UNWRITTEN), _TRACE_RUNS[:1]),
             *_each("2>/dev/full", Ended(2, b"", b""), [("x", b"")]),
         ],
         unread=_each("", Ended(1, b"", _UNWRITTEN), _TRACE_RUNS),
-        torn=_each("", Ended(1, b"", _UNREAD), _TRACE_RUNS[:1]),
+        reset=_each("", Ended(1, b"", _UNREAD), _TRACE_RUNS[:1]),
         no_text=Ended(2, b"", b"maildir_trace: usage: maildir_trace [--states] < SCRIPT\n"),
     ),
 }
@@ -94,10 +97,10 @@ FACES: Dict[str, Face] = {
 
 def wrong_streams(command: Sequence[str], face: Face) -> Iterator[str]:
     """The failing streams for which a program does not come to what it should."""
-    runs: List[tuple[str, List[Streams], Callable[[Sequence[str], Streams], Ended]]] = [
+    runs: list[tuple[str, list[Streams], Callable[[Sequence[str], Streams], Ended]]] = [
         ("", face.streams, _redirected),
         ("where the reader has gone", face.unread, _without_reader),
-        ("where the input is torn", face.torn, _torn),
+        ("over a connection that is reset", face.reset, _reset),
     ]
     for where, all_streams, ended_by in runs:
         for streams in all_streams:
@@ -126,23 +129,13 @@ def _without_reader(command: Sequence[str], streams: Streams) -> Ended:
     return Ended(done.returncode, b"", done.stderr)
 
 
-def _torn(command: Sequence[str], streams: Streams) -> Ended:
-    """A run over a connection that is reset once all that came by it was read."""
-    with socket.create_server(("127.0.0.1", 0)) as server, socket.create_connection(server.getsockname()) as peer:
-        with server.accept()[0] as given:
-            words = [*command, *streams.words.split()]
-            with subprocess.Popen(words, stdin=given, stdout=subprocess.PIPE, stderr=subprocess.PIPE) as program:
-                peer.sendall(streams.input)
-                _wait_until_read(given, program)
-                # To close it then resets it, so the next read fails.
-                peer.setsockopt(socket.SOL_SOCKET, socket.SO_LINGER, struct.pack("ii", 1, 0))
-                peer.close()
-                printed, said = program.communicate(timeout=MOST_SECONDS)
-    return Ended(program.returncode, printed, said)
-
-
-def _wait_until_read(given: socket.socket, program: subprocess.Popen[bytes]) -> None:
-    waiting, ends = array.array("i", [1]), time.monotonic() + MOST_SECONDS
-    while waiting[0] and program.poll() is None and time.monotonic() < ends:
-        time.sleep(0.01)
-        fcntl.ioctl(given, termios.FIONREAD, waiting)
+def _reset(command: Sequence[str], streams: Streams) -> Ended:
+    """A run over a connection that gives the input, and is then reset: a socket that is closed with a byte unread resets it."""
+    peer, given = socket.socketpair()
+    with given:
+        with peer:
+            given.send(b"x")
+            peer.sendall(streams.input)
+        words = [*command, *streams.words.split()]
+        done = subprocess.run(words, stdin=given, capture_output=True, timeout=MOST_SECONDS, check=False)
+    return Ended(done.returncode, done.stdout, done.stderr)

@@ -13,7 +13,7 @@ TOOLS = Path(__file__).resolve().parent.parent
 sys.path.insert(0, str(TOOLS))
 
 from face_lib.planted import PLANTED, passed_plants, planted
-from face_lib.rows import Ended, rows_of, run, wrong_rows
+from face_lib.rows import Ended, WrongRow, rows_in, rows_of, run, wrong_rows
 from face_lib.streams import FACES, Face, Streams, wrong_streams
 
 STAND_IN = """#!{python}
@@ -50,6 +50,17 @@ class Rows(unittest.TestCase):
                 self.assertTrue(row.is_right(row.example))
                 self.assertFalse(row.is_right(row.example._replace(status=3)))
                 self.assertFalse(row.is_right(row.example._replace(said=row.example.said + b"x")))
+                self.assertFalse(row.is_right(row.example._replace(printed=b"y")))
+
+    def test_wrong_rows_are_named(self):
+        head = "status|words|input|printed|said\n"
+        for row in ("0|play||", "0|play||||", "0|play||a|b|", "x|play|||", "0|play|\\q||", "0|play|\\||", "0|play|é||"):
+            with self.subTest(row), self.assertRaisesRegex(WrongRow, "^a.rows:3: "):
+                list(rows_in("a.rows", f"# a comment\n{head}{row}\n"))
+
+    def test_escapes_are_bytes(self):
+        [row] = rows_in("a.rows", "status|words|input|printed|said\n0||\\xff\\n\\\\n\\x7c||\n")
+        self.assertEqual(row.input, b"\xff\n\\n|")
 
     def test_choices_of_words_are_runs_of_their_own(self):
         words = [row.words for row in rows_of("maildir_cli")]
@@ -95,7 +106,7 @@ class FailingStreams(unittest.TestCase):
     FACE = Face(
         streams=[Streams("", b"", ">/dev/full", Ended(3, b"", b"full\n"))],
         unread=[Streams("", b"", "", Ended(3, b"", b"full\n"))],
-        torn=[Streams("", b"some text", "", Ended(4, b"", b"torn after 9\n"))],
+        reset=[Streams("", text, "", Ended(4, b"", b"reset after %d\n" % len(text))) for text in (b"", b"some text", b"x" * 100_000)],
         no_text=Ended(3, b"", b"full\n"),
     )
     # Says how many bytes it read before a read failed, or that its output is full.
@@ -106,7 +117,7 @@ try:
     while part := os.read(0, 5):
         read += len(part)
 except OSError:
-    sys.stderr.write(f"torn after {{read}}\\n")
+    sys.stderr.write(f"reset after {{read}}\\n")
     sys.exit(4)
 sys.stderr.write("full\\n")
 sys.exit(3)
@@ -119,12 +130,12 @@ sys.exit(3)
             self.assertEqual(run([stand_in], [], b"").status, 3)
 
     def test_what_does_not_come_to_it_is_told(self):
-        self.assertEqual(len(list(wrong_streams(["true"], self.FACE))), 4)
+        self.assertEqual(len(list(wrong_streams(["true"], self.FACE))), 6)
 
 
 class Words(unittest.TestCase):
     def test_wrong_words_are_refused(self):
-        for words in ([], ["no-such-program"], [sys.executable]):
+        for words in ([], ["no-such-program"], [sys.executable], [TOOLS.parent / "crates/maildir_cli"]):
             with self.subTest(words):
                 done = subprocess.run([TOOLS / "check_face", *words], capture_output=True, check=False)
                 self.assertEqual(done.returncode, 2)

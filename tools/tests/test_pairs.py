@@ -12,6 +12,8 @@ from itertools import product
 from pathlib import Path
 from typing import Dict, FrozenSet, Iterator, List, NamedTuple, Optional, Tuple
 
+sys.dont_write_bytecode = True
+
 TOOLS = Path(__file__).resolve().parent.parent
 sys.path.insert(0, str(TOOLS))
 
@@ -166,7 +168,7 @@ class Pairs(unittest.TestCase):
                 for played in found:
                     self.assertEqual(list(wrongs((first, second), tries, played)), [], actors_of(played))
                 orders += len(found)
-        self.assertGreater(orders, 1000)
+        self.assertEqual(orders, 1192)
 
 
 class Watching(unittest.TestCase):

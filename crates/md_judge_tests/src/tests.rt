@@ -2,6 +2,7 @@
 //! program `maildir_judge` is held to.
 
 use md_judge::{Clause, Finding, LineFault, judge_log};
+use std::alloc::Global;
 
 /// A message leaves its folder without the flag T, and another is seen before it is whole.
 const LOG: &[u8] =
@@ -21,20 +22,40 @@ static FOUND: [Finding; 2] = [
     },
 ];
 
-#[test]
-fn a_log_is_judged_in_one_call(rt: HostRuntime) {
-    let is_found = match judge_log(rt.alloc(), LOG) {
-        Ok(found) => found.as_slice() == FOUND.as_slice(),
+/// The unlink that stands first comes last. Each loses a message without T.
+const OVERLAPPING: &[u8] = b"maildir_log 1\nfolder i\nfile i/cur/x:2, 1\nfile i/cur/y:2, 1\n\
+5@4..9 a unlink i/cur/x:2, ok\n5@1..3 b unlink i/cur/y:2, ok\n";
+
+static LOST: [Finding; 2] = [
+    Finding {
+        line: 5,
+        clause: Clause::Gone,
+        before: Some(3),
+    },
+    Finding {
+        line: 6,
+        clause: Clause::Gone,
+        before: Some(4),
+    },
+];
+
+fn is_found(alloc: Global, log: &[u8], found: &[Finding]) -> bool {
+    match judge_log(alloc, log) {
+        Ok(all) => all.as_slice() == found,
         Err(_) => false,
-    };
-    assert!(rt; is_found);
+    }
+}
+
+fn is_refused(alloc: Global, log: &[u8], line: u64, fault: LineFault) -> bool {
+    match judge_log(alloc, log) {
+        Ok(_) => false,
+        Err(refused) => refused.line == line && refused.fault == fault,
+    }
 }
 
 #[test]
-fn what_is_no_log_is_refused_in_one_call(rt: HostRuntime) {
-    let is_refused = match judge_log(rt.alloc(), b"maildir_log 2\n") {
-        Ok(_) => false,
-        Err(refused) => refused.line == 1 && refused.fault == LineFault::NoLog,
-    };
-    assert!(rt; is_refused);
+fn a_log_is_judged_in_one_call(rt: HostRuntime) {
+    assert!(rt; is_found(rt.alloc(), LOG, &FOUND));
+    assert!(rt; is_found(rt.alloc(), OVERLAPPING, &LOST));
+    assert!(rt; is_refused(rt.alloc(), b"maildir_log 2\n", 1, LineFault::NoLog));
 }

@@ -1,7 +1,7 @@
 // Calls from their submit to their answer: each of the seven, refused ones, ones that lack memory amid their steps, and ones over a call
 // that fails. What they answer is taken from what the calls mean, and the names from maildir(5).
-use super::loads::{Named, world_of};
 use super::errands::{Kind, errand, letters};
+use super::loads::{Named, world_of};
 use super::scene::{Scene, plays};
 use super::{BODY, NAME, finish, has_names, is_told, letter, load, shown};
 use md_core::Answer::{Cleaned, Copied, Delivered, Expunged, Fault, Moved};

@@ -1,6 +1,6 @@
 // Calls over directories of which one call fails.
-use super::loads::{Named, directories};
 use super::errands::{Kind, errand, letters};
+use super::loads::{Named, directories};
 use super::{BODY, NAME, has_name, has_names, letter, load, step_once, submitted};
 use md_core::Answer::{Cleaned, Delivered, Fault};
 use md_core::{Answer, Call, CoreError, StepOut, World};

@@ -1,7 +1,7 @@
 // Worlds that begin again with their directories.
+use super::errands::{Kind, errand, letters};
 use super::faults::answered;
 use super::loads::stamp_at;
-use super::errands::{Kind, errand, letters};
 use super::{
     NAME, finish, has_names, is_told, load, one_delivery, plain_delivery, step, submit_one,
     submitted,
