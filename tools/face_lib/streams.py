@@ -34,7 +34,7 @@ class Face(NamedTuple):
     """What a program does where its streams fail, and for a word that is no text."""
 
     streams: list[Streams]
-    # Runs into a pipe whose reader has gone, and runs over a connection that is reset behind the input.
+    # Runs into a pipe whose reader has gone, and runs over a connection that is reset after the input.
     unread: list[Streams]
     reset: list[Streams]
     no_text: Ended
