@@ -9,7 +9,7 @@ use Rattle.md_dirs.specs.State.{bare}
 use Rattle.md_dirs.specs.Calls.{fresh}
 use Rattle.md_core.specs.declared.jobs.effect.Effect.{Effect}
 use Rattle.md_core.specs.Runs.{Run, new_run}
-use Rattle.md_view.specs.Named.{Named, AreMessages, after_change}
+use Rattle.md_replica.specs.Named.{Named, AreMessages, after_change}
 use Rattle.md_store.specs.Histories.{named_after, IsLegalFrom}
 use Rattle.md_store.specs.Pages.{Page, Note}
 use Rattle.md_store.specs.declared.rule.Knowledge.{Knowledge}

@@ -13,11 +13,3 @@ pub mod LawHolds
 pub mod Made
 pub mod Owning
 pub mod Waiting
-pub mod Fitting
-pub mod Placing
-pub mod Trees
-pub mod Holding
-pub mod Changing
-pub mod Applying
-pub mod Renaming
-pub mod Opening

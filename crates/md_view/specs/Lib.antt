@@ -1,7 +1,4 @@
 pub mod Readings
 pub mod Rows
 pub mod Law
-pub mod Named
-pub mod Held
 pub mod Owned
-pub mod Trees

@@ -69,7 +69,8 @@ impl<'a> Model for EntryRef<'a> {
 }
 
 impl<'a> EntryRef<'a> {
-    pub(crate) fn new(unique: &'a [u8], place: Place, name: &'a [u8], size: u64) -> Self
+    /// An entry whose names are lent: its unique name, where it is, its whole file name, and its size in bytes. No byte is looked at.
+    pub fn new(unique: &'a [u8], place: Place, name: &'a [u8], size: u64) -> Self
         ensures { result ≡ record { unique = unique.now; place = place; name = name.now; size = size } }
     {
         EntryRef {
@@ -134,8 +135,8 @@ impl<'a> EntryRef<'a> {
         }
     }
 
-    /// A copy that owns its names. It is refused only when out of memory.
-    pub(crate) fn copied(&self, alloc: Global) -> Result<Entry, AllocError>
+    /// A copy that owns its names, an allocation for each. It is refused only when out of memory.
+    pub fn copied(&self, alloc: Global) -> Result<Entry, AllocError>
         ensures { IfOk result (λ entry. entry ≡ self.now) }
     {
         Ok(Entry {
@@ -162,8 +163,8 @@ impl<'a> EntryRef<'a> {
     }
 }
 
-/// Entries, lent one by one. It is refused only when out of memory.
-pub(crate) fn lend(alloc: Global, entries: &[Entry]) -> Result<Vec<EntryRef<'_>>, AllocError>
+/// Entries, lent one by one: one allocation, and no name is copied. It is refused only when out of memory.
+pub fn lend(alloc: Global, entries: &[Entry]) -> Result<Vec<EntryRef<'_>>, AllocError>
     ensures { IfOk result (λ all. all.items ≡ entries.now) }
 {
     let mut all = Vec::with_capacity(alloc, entries.len())?;
@@ -173,8 +174,8 @@ pub(crate) fn lend(alloc: Global, entries: &[Entry]) -> Result<Vec<EntryRef<'_>>
     Ok(all)
 }
 
-/// Copies of entries that own their names. It is refused only when out of memory.
-pub(crate) fn copied(alloc: Global, entries: &[EntryRef<'_>]) -> Result<Vec<Entry>, AllocError>
+/// Copies of entries that own their names: one allocation for the list, and two for each entry. It is refused only when out of memory.
+pub fn copied(alloc: Global, entries: &[EntryRef<'_>]) -> Result<Vec<Entry>, AllocError>
     ensures { IfOk result (λ all. all.items ≡ entries.now) }
 {
     let mut all = Vec::with_capacity(alloc, entries.len())?;

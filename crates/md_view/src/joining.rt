@@ -25,8 +25,8 @@ pub fn join(alloc: Global, new: &[Entry], cur: &[Entry]) -> Result<Vec<Entry>, V
     Ok(copied(alloc, &all)?)
 }
 
-/// The same of lent entries: no name is copied.
-pub(crate) fn join_lent<'a>(
+/// The same of lent entries: one allocation, and no name is copied. It is refused only when out of memory.
+pub fn join_lent<'a>(
     alloc: Global,
     new: &[EntryRef<'a>],
     cur: &[EntryRef<'a>],

@@ -8,13 +8,11 @@ mod error;
 mod joining;
 pub mod laws;
 mod listing;
-mod names;
 mod owned;
 mod read;
 
-pub use entry::{Entry, EntryRef};
+pub use entry::{Entry, EntryRef, copied, lend};
 pub use error::ViewError;
-pub use joining::join;
+pub use joining::{join, join_lent};
 pub use listing::{BegunListing, list, list_lent};
-pub use names::{EntryTree, Names, NamesIn, TreeNames};
-pub use read::reading;
+pub use read::{lent_reading, reading};

@@ -32,8 +32,8 @@ pub fn reading<D: Dirs>(
     Ok(copied(alloc, &all)?)
 }
 
-/// The same, each entry lent by its directory: no name is copied.
-pub(crate) fn lent_reading<'a, D: Dirs>(
+/// The same, each entry lent by its directory: no name is copied. It is refused as `reading` is.
+pub fn lent_reading<'a, D: Dirs>(
     alloc: Global,
     world: &'a World<D>,
     folder: u32,

@@ -1,4 +1,4 @@
-//! Tests of `md_view`.
+//! Tests of `md_view` and `md_replica`.
 #![tactic(auto)]
 
 #[cfg(test)]

@@ -1,7 +1,7 @@
 // Opens a store for a test, plays a scene there, and looks at its world. The store and its passes are lent to the scenes, so that
 // each is let go in one place alone.
 ghost use Rattle.std.specs.Prelude.{◌≡◌, IfSome};
-ghost use Rattle.md_view.specs.Named.{named_of};
+ghost use Rattle.md_replica.specs.Named.{named_of};
 ghost use Rattle.md_store.specs.Locks.{IsFresh};
 
 use super::calls::{call_and_take, call_at_once, call_twice, call_with_little_memory};

@@ -6,7 +6,8 @@ use super::{Scene, are, are_made, cut, directory_of, path_of, plays};
 use md_core::{Change, World};
 use md_dirs::{Dirs, Path, Place, PlainDirs};
 use md_name::Bytes;
-use md_view::{Entry, Names, TreeNames, ViewError, reading};
+use md_replica::{Names, TreeNames};
+use md_view::{Entry, ViewError, reading};
 use std::alloc::{AllocError, Global};
 use std::process::Abort;
 
