@@ -1,4 +1,4 @@
-//! Compares `md_view`'s readings, joins and changes with a plain Rust program that copies the same names.
+//! Compares the readings and joins of `md_view` and the changes of `md_replica` with a plain Rust program that copies the same names.
 //! `bench/view/run` builds and runs it.
 use std::hint::black_box;
 use std::time::Instant;
