@@ -45,7 +45,7 @@ class Made(unittest.TestCase):
         self.addCleanup(shutil.rmtree, room)
         self.top = os.path.join(room, 'a tree')
         shutil.copytree(LAUNCHER, os.path.join(self.top, 'launcher'))
-        source = os.path.join('crates', 'md_cli', 'src')
+        source = os.path.join('crates', 'maildir_cli', 'src')
         shutil.copytree(os.path.join(TOP, source), os.path.join(self.top, source))
         os.mkdir(os.path.join(self.top, 'docs'))
         shutil.copy(MANUAL, os.path.join(self.top, 'docs'))
@@ -89,11 +89,11 @@ class Made(unittest.TestCase):
         self.assertIn('words.txt: index: its text does not say the range 1..65', self.check()[1])
 
     def test_a_version_that_the_program_does_not_say_is_named(self):
-        self.change('crates/md_cli/src/options.rt', '.version("0.1.0")', '.version("0.2.0")')
+        self.change('crates/maildir_cli/src/options.rt', '.version("0.1.0")', '.version("0.2.0")')
         self.assertEqual(self.check(), (1, ['words.txt: the source of maildir_cli does not say "0.1.0"']))
 
     def test_a_command_that_the_table_lacks_is_named(self):
-        self.change('crates/md_cli/src/options.rt', 'let play =', 'let check = Command::new(alloc, "check");\n    let play =')
+        self.change('crates/maildir_cli/src/options.rt', 'let play =', 'let check = Command::new(alloc, "check");\n    let play =')
         self.assertEqual(self.check(), (1, ['words.txt: the command "check" of the source is missing']))
 
     @unittest.skipUnless(os.access(PROGRAM, os.X_OK), 'the program is not built')

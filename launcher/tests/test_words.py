@@ -73,7 +73,7 @@ class Words(Scene):
                     self.assertIn(word, ran.stdout)
 
     def test_the_version_is_that_of_the_program(self):
-        with open(os.path.join(TOP, 'crates', 'md_cli', 'src', 'options.rt'), encoding='utf-8') as file:
+        with open(os.path.join(TOP, 'crates', 'maildir_cli', 'src', 'options.rt'), encoding='utf-8') as file:
             source = file.read()
         for word in ('--version', '-V'):
             name, version = self.run_launcher(word).stdout.split()

@@ -21,7 +21,7 @@ PAGE = """Save this as `a.script`:
     folder i
     list i
 
-and run `./deolmutt a.script`, or `crates/uses`, or `tools`:
+and run `./deolmutt a.script`, or `crates/examples`, or `tools`:
 
     $ cat a.script
     folder i

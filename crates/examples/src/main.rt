@@ -1,14 +1,23 @@
-//! Plays the example scripts of the folder that it runs in, and then runs the server of `uses`, by the words THREADS ROUNDS MESSAGES LISTING:
-//! in each of so many rounds, each of so many threads takes in so many messages, and lists after each so many of them. It prints what was
-//! counted, which is the same whatever the schedule.
+//! How a program calls the libraries: one module for each use, in the plainest code.
+//!
+//! The program plays the example scripts of the folder that it runs in, and then runs the server, by the words THREADS ROUNDS MESSAGES
+//! LISTING: in each of so many rounds, each of so many threads takes in so many messages, and lists after each so many of them. It prints
+//! what was counted, which is the same whatever the schedule.
 #![tactic(auto)]
 
+pub mod call;
+pub mod deliver;
+pub mod head;
+pub mod index;
+pub mod locked;
+pub mod name;
 mod scripts;
+pub mod server;
 
 use anyhow::{Context, Result};
+use server::{Plan, Unwatched, serve};
 use std::env;
 use std::env::Args;
-use uses::server::{Plan, Unwatched, serve};
 
 // The next word, a number.
 fn number(words: &mut Args) -> Result<u64> {

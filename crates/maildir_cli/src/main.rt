@@ -2,10 +2,17 @@
 //! header summary of each message of the folders and files that the script names, made by N workers. `maildir_cli threads N` runs the
 //! script's jobs by N threads, and prints their answers and the folders.
 //!
-//! What it does for its words, and the statuses that it ends with, is `md_cli::program`. Here its words are read, and its streams opened.
+//! What it does for its words, over any streams, and the statuses that it ends with, is `entry::program`. Here its words are read, and its
+//! streams opened.
 #![tactic(auto)]
 
-use md_cli::program;
+mod command;
+mod complaint;
+mod entry;
+mod options;
+mod refusal;
+
+use entry::program;
 use md_script::{Reader, Writer};
 use std::alloc::AllocGlobal;
 use std::io::ErrorKind;

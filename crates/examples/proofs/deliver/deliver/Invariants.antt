@@ -1,5 +1,5 @@
 use Rattle.md_core.specs.Runs.{steps_left}
-use Rattle.uses.proofs.deliver.deliver.Given as goal
+use Rattle.examples.proofs.deliver.deliver.Given as goal
 
 -- each step leaves its job fewer steps
 abbrev pub decreases-loop-world : goal.decreases-loop-world

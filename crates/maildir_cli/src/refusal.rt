@@ -1,7 +1,7 @@
 //! The line that a refused run says on standard error, made without an allocation, since memory may be what is refused.
 ghost use Rattle.std.specs.Prelude.{◌≡◌, ◌+◌, ◌≤◌, ◌++◌, length};
 ghost use Rattle.arrayvec.specs.ArrayVec.{array_vec_len};
-ghost use Rattle.md_cli.specs.Program.{refusal_line};
+ghost use Rattle.maildir_cli.specs.Program.{refusal_line};
 
 use arrayvec::ArrayVec;
 use itoa::Buffer;

@@ -1,5 +1,5 @@
 use Rattle.md_replica.specs.Named.{named_of}
-use Rattle.uses.proofs.server.round.Given as goal
+use Rattle.examples.proofs.server.round.Given as goal
 
 -- the store that was just prepared
 abbrev pub ghosts-round_in : goal.ghosts-round_in

@@ -1,8 +1,8 @@
 //! What the words of a command line ask for.
 ghost use Rattle.std.specs.Prelude.{map, MatchResult, IfOk};
-ghost use Rattle.md_cli.specs.Program.{IsComplaint};
+ghost use Rattle.maildir_cli.specs.Program.{IsComplaint};
 ghost use Rattle.md_runs.specs.Runs.{WordsName, WordsNameNone};
-ghost use Rattle.md_cli.specs.Answers.{IsAnswer};
+ghost use Rattle.maildir_cli.specs.Answers.{IsAnswer};
 
 use crate::complaint::complaint;
 use crate::options::options;

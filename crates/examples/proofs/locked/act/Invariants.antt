@@ -1,5 +1,5 @@
 use Rattle.md_core.specs.Runs.{steps_left}
-use Rattle.uses.proofs.locked.act.Given as goal
+use Rattle.examples.proofs.locked.act.Given as goal
 
 -- each step leaves the job fewer
 abbrev pub decreases-loop-answer : goal.decreases-loop-answer

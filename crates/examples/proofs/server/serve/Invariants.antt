@@ -1,5 +1,5 @@
 use Rattle.md_store.specs.Locks.{IsFresh}
-use Rattle.uses.proofs.server.serve.Given as goal
+use Rattle.examples.proofs.server.serve.Given as goal
 
 -- each round begins with a world that has had no call
 abbrev pub invariant-loop-number : goal.invariant-loop-number

@@ -1,7 +1,7 @@
 -- What is known of the answer to words that name no run.
-use Rattle.md_cli.specs.declared.command.Answer.{Answer}
-use Rattle.md_cli.specs.declared.command.Answer.TheVariants.{Shown, Refused, NoMemory}
-use Rattle.md_cli.specs.Program.{IsComplaint}
+use Rattle.maildir_cli.specs.declared.command.Answer.{Answer}
+use Rattle.maildir_cli.specs.declared.command.Answer.TheVariants.{Shown, Refused, NoMemory}
+use Rattle.maildir_cli.specs.Program.{IsComplaint}
 
 -- a refusal is a line that complains of the words
 abbrev pub IsAnswer : Answer → Type 0

@@ -1,5 +1,5 @@
 use Rattle.std.proofs.Common.{rules}
-use Rattle.md_cli.proofs.complaint.complaint.Goals as goal
+use Rattle.maildir_cli.proofs.complaint.complaint.Goals as goal
 
 pub returns : goal.returns
 returns c =

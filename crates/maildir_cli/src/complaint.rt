@@ -1,7 +1,7 @@
 //! What wrong words are answered with.
 ghost use Rattle.std.specs.Prelude.{◌≡◌, ℕ, List, ◌++◌, IfOk, OnOk};
 ghost use Rattle.std.specs.Str.Iter.{LacksByte};
-ghost use Rattle.md_cli.specs.Program.{IsComplaint, IsTip};
+ghost use Rattle.maildir_cli.specs.Program.{IsComplaint, IsTip};
 
 use memchr::memchr;
 use std::alloc::{AllocError, Global};

@@ -1,6 +1,6 @@
 //! The program: what it does for the words of its command line.
 ghost use Rattle.std.specs.Prelude.{map};
-ghost use Rattle.md_cli.specs.Program.{Ends, IsWithin, Performs, Reported, WritesText};
+ghost use Rattle.maildir_cli.specs.Program.{Ends, IsWithin, Performs, Reported, WritesText};
 
 use crate::command::{Answer, command};
 use crate::refusal::refusal_line;
