@@ -89,6 +89,9 @@ def _rows(columns: dict[str, str]) -> Iterator[Row]:
     if "clause" in columns:
         yield _earlier(columns)
         return
+    if "fault" in columns:
+        yield _third_line(columns)
+        return
     given, said = _bytes(columns["input"]), _bytes(columns["said"])
     begins = "begins" in columns
     wanted = Ended(int(columns["status"]), _bytes(columns["begins" if begins else "printed"]), said)
@@ -105,6 +108,20 @@ def _earlier(columns: dict[str, str]) -> Row:
         return (ended.status, ended.said) == (1, b"") and any(before in line and found in line for line in ended.printed.splitlines())
 
     return Row(["--json"], _bytes(columns["input"]), is_right, Ended(1, b"{" + before + found + b"}\n", b""))
+
+
+def _third_line(columns: dict[str, str]) -> Row:
+    """The third line of a log is read, whatever is found there, or the log is refused for it."""
+    given = b"maildir_log 1\nfolder i\n" + _bytes(columns["line"]) + b"\n"
+    if columns["fault"] != "read":
+        wanted = Ended(2, b"", f"line 3: {columns['fault']}\n".encode())
+        return Row([], given, lambda ended: ended == wanted, wanted)
+
+    def is_right(ended: Ended) -> bool:
+        found = ended.printed.splitlines()
+        return ended.status == (1 if found else 0) and ended.said == b"" and all(line.startswith(b"line 3: ") for line in found)
+
+    return Row([], given, is_right, Ended(0, b"", b""))
 
 
 def _judged(log: Path) -> Row:

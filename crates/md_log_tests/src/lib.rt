@@ -1,5 +1,0 @@
-//! Tests of `md_log`.
-#![tactic(auto)]
-
-#[cfg(test)]
-mod tests;
