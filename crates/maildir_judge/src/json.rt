@@ -15,21 +15,35 @@ pub(crate) fn push_json(
     at: usize,
     finding: Finding,
 ) -> Result<(), AllocError> {
-    let (actor, call) = session.words(at);
-    let before = match finding.before {
-        None => Value::Null,
-        Some(line) => Value::from(line),
-    };
     let mut members = Map::new(alloc);
-    put_words(alloc, &mut members, "actor", actor)?;
-    put(alloc, &mut members, "before", before)?;
-    put_words(alloc, &mut members, "call", call)?;
-    put_text(alloc, &mut members, "clause", finding.clause.name())?;
-    put(alloc, &mut members, "line", Value::from(finding.line))?;
-    put_text(alloc, &mut members, "why", why(finding.clause))?;
+    put_members(alloc, &mut members, session, at, finding)?;
     let text = Value::Object(members).to_vec(alloc)?;
     out.extend_from_slice(&text)?;
     out.extend_from_slice(b"\n")
+}
+
+// The members are lent, since they are let go at each exit of a function that holds them.
+fn put_members(
+    alloc: Global,
+    members: &mut Map<String, Value>,
+    session: &Session,
+    at: usize,
+    finding: Finding,
+) -> Result<(), AllocError> {
+    let (actor, call) = session.words(at);
+    put_words(alloc, members, "actor", actor)?;
+    put(alloc, members, "before", line_or_null(finding.before))?;
+    put_words(alloc, members, "call", call)?;
+    put_text(alloc, members, "clause", finding.clause.name())?;
+    put(alloc, members, "line", Value::from(finding.line))?;
+    put_text(alloc, members, "why", why(finding.clause))
+}
+
+fn line_or_null(line: Option<u64>) -> Value {
+    match line {
+        None => Value::Null,
+        Some(line) => Value::from(line),
+    }
 }
 
 fn put(

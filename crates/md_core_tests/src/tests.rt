@@ -61,16 +61,31 @@ fn submitted<D: Dirs>(
     world: &mut World<D>,
     call: Result<Call, AllocError>,
 ) -> Result<JobId, CoreError> {
+    match call {
+        Ok(call) => submitted_twice(rt, world, call),
+        Err(error) => Err(error.into()),
+    }
+}
+
+fn submitted_twice<D: Dirs>(
+    rt: &impl Abort,
+    world: &mut World<D>,
+    call: Call,
+) -> Result<JobId, CoreError> {
     let jobs = world.jobs();
-    let refused = match world.submit(call?) {
+    let refused = match world.submit(call) {
         Ok(job) => return Ok(job),
         Err(refused) => refused,
     };
     assert!(rt; world.jobs() == jobs);
-    if refused.error != CoreError::NoMemory {
-        return Err(refused.error);
+    match refused.error {
+        CoreError::NoMemory => submitted_once(world, refused.call),
+        error => Err(error),
     }
-    match world.submit(refused.call) {
+}
+
+fn submitted_once<D: Dirs>(world: &mut World<D>, call: Call) -> Result<JobId, CoreError> {
+    match world.submit(call) {
         Ok(job) => Ok(job),
         Err(refused) => Err(refused.error),
     }

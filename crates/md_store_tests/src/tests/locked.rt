@@ -3,7 +3,7 @@ use super::fixtures::{delivery, lists};
 use super::gated::Gated;
 use super::scene::{Alone, Plan, Scene, plays};
 use super::small::is_read;
-use md_core::Answer;
+use md_core::{Answer, JobId};
 use md_store::{Locked, Naming, News, Pass, Store};
 use std::alloc::Global;
 use std::sync::{MutexGuard, Wait};
@@ -16,25 +16,36 @@ fn delivers<J: Naming, R: Wait>(
     pass: &mut Pass<J>,
 ) -> bool {
     locked.lags();
-    let Ok(call) = delivery(alloc, b"a") else {
-        return false;
-    };
-    let Ok(job) = locked.submit(call) else {
-        return false;
-    };
+    match submitted(alloc, locked) {
+        Some(job) => is_delivered(rt, locked, pass, job),
+        None => false,
+    }
+}
+
+fn submitted<J: Naming>(alloc: Global, locked: &mut Locked<Gated, J>) -> Option<JobId> {
+    match delivery(alloc, b"a") {
+        Ok(call) => locked.submit(call).ok(),
+        Err(_) => None,
+    }
+}
+
+// Whether four steps deliver, and the pass is told of one of them.
+fn is_delivered<J: Naming, R: Wait>(
+    rt: &R,
+    locked: &mut Locked<Gated, J>,
+    pass: &mut Pass<J>,
+    job: JobId,
+) -> bool {
     let mut told = 0u32;
+    let mut answer = None;
     for _ in 0..4 {
         let Ok(step) = locked.step(rt, pass, job, 1000, None) else {
             return false;
         };
-        if step.news == News::Told {
-            told = told.wrapping_add(1);
-        }
-        if step.out.answer == Some(Answer::Delivered) {
-            return told == 1;
-        }
+        told = told.wrapping_add(u32::from(step.news == News::Told));
+        answer = step.out.answer;
     }
-    false
+    told == 1 && answer == Some(Answer::Delivered)
 }
 
 fn is_a_read<J: Naming>(alloc: Global, locked: &Locked<Gated, J>) -> bool {

@@ -17,7 +17,7 @@ use super::small::refuse_calls;
 use super::stampede::{Stampede, are_beginnings, run_all};
 use super::threads::{deliver_beside_flags, deliver_by_all, deliver_to_another};
 use super::tickets::step_by_tickets;
-use md_core::World;
+use md_core::{Call, World};
 use md_dirs::{ImageFile, PlainDirs};
 use md_store::{Naming, OpenError, OpenRefused, Pass, Prepared, Store, prepare};
 use std::alloc::Global;
@@ -122,16 +122,49 @@ fn stage_before<R: Threads + Wait + Abort + Sync>(
 fn world(alloc: Global, plan: &Plan<'_>, image: Vec<ImageFile>, gate: &Gate) -> Option<World<Gated>>
     ensures { IfSome result (λ w. IsFresh w) }
 {
-    let dirs = PlainDirs::from_image(alloc, plan.folders, image).ok()?;
-    let dirs = gate.before(dirs).ok()?;
-    let calls = calls(alloc, plan.calls).ok()?;
-    let mut world = World::load(alloc, dirs).ok()?;
+    let mut world = loaded(alloc, plan.folders, image, gate)?;
+    if are_submitted(alloc, &mut world, plan.calls) {
+        Some(world)
+    } else {
+        None
+    }
+}
+
+fn loaded(
+    alloc: Global,
+    folders: u32,
+    image: Vec<ImageFile>,
+    gate: &Gate,
+) -> Option<World<Gated>>
+    ensures { IfSome result (λ w. IsFresh w) }
+{
+    match PlainDirs::from_image(alloc, folders, image) {
+        Ok(dirs) => World::load(alloc, gate.before(dirs).ok()?).ok(),
+        Err(_) => None,
+    }
+}
+
+// Whether the calls of these rows are submitted.
+fn are_submitted(alloc: Global, world: &mut World<Gated>, rows: &str) -> bool
+    requires { IsFresh world.old }
+    ensures { IsFresh world.new }
+{
+    match calls(alloc, rows) {
+        Ok(calls) => are_all_submitted(world, calls),
+        Err(_) => false,
+    }
+}
+
+fn are_all_submitted(world: &mut World<Gated>, calls: Vec<Call>) -> bool
+    requires { IsFresh world.old }
+    ensures { IsFresh world.new }
+{
     for call in calls {
         if world.submit(call).is_err() {
-            return None;
+            return false;
         }
     }
-    Some(world)
+    true
 }
 
 // Opens a store of a world, plays a scene there, and closes it; or says why it wasn't opened.
@@ -178,8 +211,11 @@ fn play_over<J: Naming + Send + Sync, R: Threads + Wait + Abort + Sync>(
     plan: &Plan<'_>,
 ) {
     assert!(rt; is_played(rt, alloc, &store, &mut passes, gate, plan));
-    let world = store.close(rt);
-    assert!(rt; is_as_wanted(rt, alloc, &world, plan));
+    look_at(rt, alloc, &store.close(rt), plan);
+}
+
+fn look_at<R: Wait + Abort>(rt: &R, alloc: Global, world: &World<Gated>, plan: &Plan<'_>) {
+    assert!(rt; is_as_wanted(rt, alloc, world, plan));
 }
 
 fn refuse<R: Wait + Abort>(
@@ -188,7 +224,7 @@ fn refuse<R: Wait + Abort>(
     refused: OpenRefused<Gated>,
     plan: &Plan<'_>,
 ) -> Option<OpenError> {
-    assert!(rt; is_as_wanted(rt, alloc, &refused.world, plan));
+    look_at(rt, alloc, &refused.world, plan);
     Some(refused.error)
 }
 
