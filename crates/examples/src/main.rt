@@ -1,14 +1,15 @@
 //! How a program calls the libraries: one module for each use, in the plainest code.
 //!
-//! The program plays the example scripts of the folder that it runs in, and then runs the server, by the words THREADS ROUNDS MESSAGES
-//! LISTING: in each of so many rounds, each of so many threads takes in so many messages, and lists after each so many of them. It prints
-//! what was counted, which is the same whatever the schedule.
+//! The program plays the example scripts of the folder that it runs in, and judges the logs there. Then it runs the server, by the words
+//! THREADS ROUNDS MESSAGES LISTING: in each of so many rounds, each of so many threads takes in so many messages, and lists after each so
+//! many of them. It prints what was counted, which is the same whatever the schedule.
 #![tactic(auto)]
 
 pub mod call;
 pub mod deliver;
 pub mod head;
 pub mod index;
+pub mod judge;
 pub mod locked;
 pub mod name;
 mod scripts;
@@ -27,6 +28,7 @@ fn number(words: &mut Args) -> Result<u64> {
 
 fn main(rt: HostRuntime) -> Result<()> {
     scripts::play_all(&rt)?;
+    judge::judge_all(&rt)?;
     let mut words = env::args(&rt)?;
     let _program = words.next();
     let threads = number(&mut words)? as usize;

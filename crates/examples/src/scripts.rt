@@ -21,8 +21,8 @@ pub(crate) fn play_all(rt: &HostRuntime) -> io::Result<()> {
     Ok(())
 }
 
-// The files with this ending, without it, in order.
-fn names_with(rt: &HostRuntime, ending: &str) -> io::Result<Vec<String>> {
+/// The files with this ending, without it, in order.
+pub(crate) fn names_with(rt: &HostRuntime, ending: &str) -> io::Result<Vec<String>> {
     let mut names = Vec::new(rt.alloc());
     for entry in fs::read_dir(rt, ".")? {
         let entry = entry?;

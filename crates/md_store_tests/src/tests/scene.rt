@@ -130,12 +130,7 @@ fn world(alloc: Global, plan: &Plan<'_>, image: Vec<ImageFile>, gate: &Gate) -> 
     }
 }
 
-fn loaded(
-    alloc: Global,
-    folders: u32,
-    image: Vec<ImageFile>,
-    gate: &Gate,
-) -> Option<World<Gated>>
+fn loaded(alloc: Global, folders: u32, image: Vec<ImageFile>, gate: &Gate) -> Option<World<Gated>>
     ensures { IfSome result (λ w. IsFresh w) }
 {
     match PlainDirs::from_image(alloc, folders, image) {

@@ -1,5 +1,0 @@
-//! Tests of `md_judge`.
-#![tactic(auto)]
-
-#[cfg(test)]
-mod tests;
