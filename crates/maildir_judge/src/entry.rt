@@ -159,19 +159,21 @@ fn complain<E: Write>(
     errors: &mut E,
     wrong: WrongWords<'_>,
 ) -> Result<(), AllocError> {
-    let (why, word) = match wrong {
-        WrongWords::Unknown(word) => ("no such word", Some(word)),
-        WrongWords::NoClause => ("--allow lacks a clause", None),
-        WrongWords::BadClause(word) => ("no clause that may be allowed", Some(word)),
-        WrongWords::TwoForms => ("--lines and --json exclude each other", None),
-    };
-    let mut line = Vec::from_slice(alloc, b"maildir_judge: ")?;
-    line.extend_from_slice(why.as_bytes())?;
-    if let Some(word) = word {
-        line.extend_from_slice(b": ")?;
-        push_shown(&mut line, word.as_bytes())?;
-    }
-    line.extend_from_slice(b"; try 'maildir_judge --help'\n")?;
+    let mut line = Vec::new(alloc);
+    push_complaint(&mut line, wrong)?;
     let _told = errors.write_all(&line);
     Ok(())
+}
+
+fn push_complaint(line: &mut Vec<u8>, wrong: WrongWords<'_>) -> Result<(), AllocError> {
+    let (why, word) = match wrong {
+        WrongWords::Unknown(word) => ("no such word: ", word),
+        WrongWords::NoClause => ("--allow lacks a clause", ""),
+        WrongWords::BadClause(word) => ("no clause that may be allowed: ", word),
+        WrongWords::TwoForms => ("--lines and --json exclude each other", ""),
+    };
+    line.extend_from_slice(b"maildir_judge: ")?;
+    line.extend_from_slice(why.as_bytes())?;
+    push_shown(line, word.as_bytes())?;
+    line.extend_from_slice(b"; try 'maildir_judge --help'\n")
 }
