@@ -62,13 +62,7 @@ pub(crate) fn program<R: Read + Drop, W: Write, E: Write>(
         Ok(Ok(Asked::Help)) => report(errors, print(sink, HELP.as_bytes()), LAWFUL),
         Ok(Ok(Asked::Version)) => report(errors, print(sink, VERSION.as_bytes()), LAWFUL),
         Ok(Ok(Asked::Judge { form, allowed })) => {
-            let mut session = Session::new(alloc);
-            let answer = judge(alloc, &mut session, &allowed, form, source, sink);
-            let status = if session.findings().is_empty() {
-                LAWFUL
-            } else {
-                FOUND
-            };
+            let (answer, status) = judge(alloc, &allowed, form, source, sink);
             report(errors, answer, status)
         }
         Ok(Err(wrong)) => {
@@ -91,6 +85,23 @@ fn report<E: Write>(errors: &mut E, answer: Result<(), Fault>, status: u8) -> u8
 }
 
 fn judge<R: Read + Drop, W: Write>(
+    alloc: Global,
+    allowed: &[Clause],
+    form: Form,
+    source: R,
+    sink: &mut W,
+) -> (Result<(), Fault>, u8) {
+    let mut session = Session::new(alloc);
+    let answer = judge_in(alloc, &mut session, allowed, form, source, sink);
+    let status = if session.findings().is_empty() {
+        LAWFUL
+    } else {
+        FOUND
+    };
+    (answer, status)
+}
+
+fn judge_in<R: Read + Drop, W: Write>(
     alloc: Global,
     session: &mut Session,
     allowed: &[Clause],

@@ -17,24 +17,40 @@ pub(crate) fn read_log<R: Read + Drop>(
     session: &mut Session,
     source: R,
 ) -> Result<(), Fault> {
-    let Ok(mut reader) = BufReader::with_capacity(alloc, ROOM, source) else {
-        return Err(Fault::no_memory(0));
-    };
     let mut line = Vec::new(alloc);
+    match BufReader::with_capacity(alloc, ROOM, source) {
+        Ok(mut reader) => read_lines(session, &mut reader, &mut line),
+        Err(_) => Err(Fault::no_memory(0)),
+    }
+}
+
+fn read_lines<R: Read + Drop>(
+    session: &mut Session,
+    reader: &mut BufReader<R>,
+    line: &mut Vec<u8>,
+) -> Result<(), Fault> {
     for number in 1..u64::MAX {
         line.clear();
-        match reader.read_until(LF, &mut line) {
-            Ok(0) => break,
-            Ok(_) => {}
-            Err(error) if error.kind() == ErrorKind::OutOfMemory => {
-                return Err(Fault::no_memory(number));
-            }
-            Err(_) => return Err(Fault::Read(number)),
+        if read_line(reader, line, number)? == 0 {
+            break;
         }
-        if let Some((text, _)) = cut_line(&line) {
+        if let Some((text, _)) = cut_line(line) {
             session.line(text)?;
         }
     }
     session.end()?;
     Ok(())
+}
+
+// How many bytes the next line has, its end included.
+fn read_line<R: Read + Drop>(
+    reader: &mut BufReader<R>,
+    line: &mut Vec<u8>,
+    number: u64,
+) -> Result<usize, Fault> {
+    match reader.read_until(LF, line) {
+        Ok(count) => Ok(count),
+        Err(error) if error.kind() == ErrorKind::OutOfMemory => Err(Fault::no_memory(number)),
+        Err(_) => Err(Fault::Read(number)),
+    }
 }

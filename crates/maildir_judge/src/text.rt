@@ -25,17 +25,27 @@ pub(crate) fn push_long(
     finding: Finding,
 ) -> Result<(), AllocError> {
     let (actor, call) = session.words(at);
-    let line = format!(in alloc; "line {}: ", finding.line)?;
-    out.extend_from_slice(line.as_bytes())?;
+    push_line(alloc, out, b"line ", finding.line)?;
+    out.extend_from_slice(b": ")?;
     push_shown(out, actor)?;
     out.extend_from_slice(b": ")?;
     push_shown(out, call)?;
-    let (name, why) = (finding.clause.name(), why(finding.clause));
-    let end = match finding.before {
-        None => format!(in alloc; ": {name}: {why}\n")?,
-        Some(before) => format!(in alloc; ": {name}: {why} (see line {before})\n")?,
-    };
-    out.extend_from_slice(end.as_bytes())
+    out.extend_from_slice(b": ")?;
+    out.extend_from_slice(finding.clause.name().as_bytes())?;
+    out.extend_from_slice(b": ")?;
+    out.extend_from_slice(why(finding.clause).as_bytes())?;
+    if let Some(before) = finding.before {
+        push_line(alloc, out, b" (see line ", before)?;
+        out.extend_from_slice(b")")?;
+    }
+    out.extend_from_slice(b"\n")
+}
+
+// A word and the number of a line.
+fn push_line(alloc: Global, out: &mut Vec<u8>, word: &[u8], line: u64) -> Result<(), AllocError> {
+    out.extend_from_slice(word)?;
+    let number = format!(in alloc; "{line}")?;
+    out.extend_from_slice(number.as_bytes())
 }
 
 /// Words as a terminal may show them: a control byte is `\xNN`, and so is each byte past ASCII where the words are not UTF-8.
