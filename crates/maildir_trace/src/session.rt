@@ -73,15 +73,23 @@ impl Session {
     // The store, opened over the folders and the files if no command did so before.
     fn store(&mut self, out: &mut Vec<u8>) -> Result<&mut Store, PlayKind> {
         if self.store.is_none() {
-            let files = mem::replace(&mut self.files, Vec::new(self.alloc));
-            let names = mem::replace(&mut self.names, Vec::new(self.alloc));
-            let world = open_store(self.alloc, self.folders.count(), files)?;
-            self.store = Some(Store::open(self.alloc, self.with_states, names, world, out)?);
+            self.open()?;
+            if let Some(store) = &self.store {
+                store.begin(out)?;
+            }
         }
         match &mut self.store {
             Some(store) => Ok(store),
             None => Err(PlayKind::NoMemory),
         }
+    }
+
+    fn open(&mut self) -> Result<(), PlayKind> {
+        let files = mem::replace(&mut self.files, Vec::new(self.alloc));
+        let world = open_store(self.alloc, self.folders.count(), files)?;
+        let names = mem::replace(&mut self.names, Vec::new(self.alloc));
+        self.store = Some(Store::new(self.alloc, self.with_states, names, world));
+        Ok(())
     }
 
     // A made name, which is checked alone.

@@ -26,34 +26,39 @@ pub(crate) struct Store {
 }
 
 impl Store {
-    /// A store that was just opened, over folders of these names. What is there is logged.
-    pub(crate) fn open(
+    /// A store that was just opened, over folders of these names.
+    pub(crate) fn new(
         alloc: Global,
         with_states: bool,
         names: Vec<Vec<u8>>,
         world: World<NotedDirs<IndexDirs>>,
-        out: &mut Vec<u8>,
-    ) -> Result<Store, PlayKind> {
-        push_rows(out, &names, world.dirs(), Form::File)?;
-        if with_states {
-            push_states(out, &names, world.dirs())?;
-        }
-        Ok(Store {
+    ) -> Store {
+        Store {
             alloc,
             with_states,
             names,
             world,
             abouts: Vec::new(alloc),
             firsts: Vec::new(alloc),
-        })
+        }
+    }
+
+    /// Logs what is there.
+    pub(crate) fn begin(&self, out: &mut Vec<u8>) -> Result<(), PlayKind> {
+        push_rows(out, &self.names, self.world.dirs(), Form::File)?;
+        if self.with_states {
+            push_states(out, &self.names, self.world.dirs())?;
+        }
+        Ok(())
     }
 
     pub(crate) fn submit(&mut self, call: Call) -> Result<(), PlayKind> {
-        let about = About::of(self.alloc, &call)?;
         self.abouts.reserve(1)?;
-        self.world.submit(call)?;
-        self.abouts.push(about)?;
-        Ok(())
+        let about = About::of(self.alloc, &call)?;
+        match self.world.submit(call) {
+            Ok(_) => Ok(self.abouts.push(about)?),
+            Err(refused) => Err(PlayKind::from(refused)),
+        }
     }
 
     /// Takes a step of a job, and logs it.
