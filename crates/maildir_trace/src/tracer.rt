@@ -34,31 +34,38 @@ pub(crate) fn trace<S: Source, T: Sink>(
 /// The log of a script up to the first line that is refused, and that line's refusal. The only error is out of memory.
 fn log_of(alloc: Global, script: &[u8], with_states: bool) -> Result<Printed, AllocError> {
     let mut session = Session::new(alloc, with_states);
-    let mut text = Vec::from_slice(alloc, BEGIN)?;
+    let mut text = Vec::new(alloc);
+    match run_lines(&mut session, script, &mut text) {
+        Ok(refusal) => Ok(Printed { text, refusal }),
+        Err(error) => Err(error),
+    }
+}
+
+// The refusal of the first line that is refused. Session and text are lent, so that they are let go in one place.
+fn run_lines(
+    session: &mut Session,
+    script: &[u8],
+    text: &mut Vec<u8>,
+) -> Result<Option<PlayError>, AllocError> {
+    text.extend_from_slice(BEGIN)?;
     let mut left = script;
     let mut passed = 0u64;
     while let Some((first, others)) = cut_line(left) {
         let before = text.len();
-        match run_line(&mut session, first, &mut text) {
+        match run_line(session, first, text) {
             Ok(()) => {}
-            Err(kind) => match kind {
-                PlayKind::NoMemory => return Err(AllocError),
-                _ => {
-                    // A refused line says nothing in the log.
-                    text.truncate(before);
-                    let line = passed + 1;
-                    let refusal = Some(PlayError { line, kind });
-                    return Ok(Printed { text, refusal });
-                }
-            },
+            Err(PlayKind::NoMemory) => return Err(AllocError),
+            Err(kind) => {
+                // A refused line says nothing in the log.
+                text.truncate(before);
+                let line = passed + 1;
+                return Ok(Some(PlayError { line, kind }));
+            }
         }
         left = others;
         passed += 1;
     }
-    Ok(Printed {
-        text,
-        refusal: None,
-    })
+    Ok(None)
 }
 
 // Runs a line, unless it is passed over.

@@ -1,5 +1,5 @@
 use Rattle.std.proofs.Common.{◌+◌, ◌≤◌, length}
-use Rattle.maildir_trace.proofs.tracer.log_of.Given as goal
+use Rattle.maildir_trace.proofs.tracer.run_lines.Given as goal
 
 abbrev pub invariant-loop-first : goal.invariant-loop-first
 invariant-loop-first l = l.passed + length l.left ≤ length l.fn.script
