@@ -1,5 +1,6 @@
 """A run of the gate, measured."""
 
+import os
 import resource
 import subprocess
 import threading
@@ -11,6 +12,9 @@ from .processes import Sampler
 from .refused import Refused
 
 SECONDS_BETWEEN_SAMPLES = 1.0
+
+# A check takes less, and `rt ci` reckons more.
+KILOBYTES_OF_A_PROCESSOR = 4 * 1024 * 1024
 
 
 def keeps_work() -> bool:
@@ -24,6 +28,21 @@ def gate_command(cores: int | None) -> list[str]:
     """The gate from nothing, whatever earlier runs on this machine kept, on the first so many processors alone where a number is given."""
     gate = ["rt", "ci", *(["--anew"] if keeps_work() else [])]
     return gate if cores is None else ["taskset", "-c", f"0-{cores - 1}", *gate]
+
+
+def available_kilobytes() -> int:
+    """The memory that programs may take, or 0 where the system does not say."""
+    try:
+        lines = Path("/proc/meminfo").read_text(encoding="ascii").splitlines()
+    except OSError:
+        return 0
+    return next((int(line.split()[1]) for line in lines if line.startswith("MemAvailable:")), 0)
+
+
+def environment(cores: int, kilobytes: int) -> dict[str, str]:
+    """What the gate finds in its environment. As under .ci/run each processor has one check at a time where there is memory for it."""
+    jobs = {"RT_JOBS": str(cores)} if kilobytes >= cores * KILOBYTES_OF_A_PROCESSOR else {}
+    return {**jobs, **os.environ}
 
 
 def processor_seconds() -> float:
@@ -52,6 +71,7 @@ def run_gate(top: Path, cores: int | None, cores_used: int) -> Run:
     began = time.monotonic()
     has_ended = threading.Event()
     how = {"cwd": top, "stdin": subprocess.DEVNULL, "stdout": subprocess.PIPE, "stderr": subprocess.STDOUT}
+    how["env"] = environment(cores_used, available_kilobytes())
     try:
         gate = subprocess.Popen(gate_command(cores), text=True, errors="replace", **how)
     except FileNotFoundError as error:

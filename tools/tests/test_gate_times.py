@@ -7,10 +7,12 @@ import sys
 import tempfile
 import unittest
 from pathlib import Path
+from unittest import mock
 
 TOOLS = Path(__file__).resolve().parent.parent
 sys.path.insert(0, str(TOOLS))
 
+from gate_times_lib.gate import environment
 from gate_times_lib.log import check_whole, read_run
 from gate_times_lib.page import BEGIN, END, PAGE
 from gate_times_lib.parts import Kind, Part, is_prover, part_of
@@ -80,6 +82,17 @@ FILES = {
     "crates/program/src/tests.rt": "one\ntwo\n",
     PAGE: PAGE_BEFORE,
 }
+
+
+class Environment(unittest.TestCase):
+    def test_each_processor_has_one_check_where_there_is_memory(self):
+        with mock.patch.dict(os.environ, {}, clear=True):
+            self.assertEqual(environment(2, 8 * 1024 * 1024), {"RT_JOBS": "2"})
+            self.assertEqual(environment(2, 8 * 1024 * 1024 - 1), {})
+
+    def test_a_number_that_is_given_stays(self):
+        with mock.patch.dict(os.environ, {"RT_JOBS": "3"}, clear=True):
+            self.assertEqual(environment(2, 8 * 1024 * 1024), {"RT_JOBS": "3"})
 
 
 class Parts(unittest.TestCase):
