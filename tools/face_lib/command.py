@@ -8,13 +8,15 @@ import sys
 from collections.abc import Iterator, Sequence
 from pathlib import Path
 
+from .large import wrong_cases
 from .planted import passed_plants
 from .rows import WrongRow, name_of, rows_of, wrong_rows
 from .streams import FACES, wrong_streams
 
 ABOUT = f"""Holds a built program to what the rows of its crate have, crates/NAME/rows: its status, what it prints and what it says, for words and an
-input. Then come streams that a process alone has: closed ones, a full disk, a folder to read, a reader that has gone, a connection that is reset. It
-prints each that is not so, and ends with status 1 where there are any. It knows {', '.join(FACES)}."""
+input. Then come streams that a process alone has: closed ones, a full disk, a folder to read, a reader that has gone, a connection that is reset; and for
+maildir_cli scripts at each limit and past it, scripts that come in pieces, and one that is cut short at each byte. It prints each that is not so, and
+ends with status 1 where there are any. It knows {', '.join(FACES)}."""
 
 PLANTED_ABOUT = """checks the rows of maildir_cli themselves. The program is run through a shell that makes of it what each of four wrong mains would
 be: status 0 for refusals, status 1 for wrong words, refusals on standard output, an `index` that runs `threads`. The rows must fail for each"""
@@ -34,6 +36,8 @@ def _faults(program: Path, is_planted: bool) -> Iterator[str]:
     else:
         yield from wrong([str(program)])
         yield from wrong_streams([str(program)], FACES[name])
+        if name == "maildir_cli":
+            yield from wrong_cases([str(program)])
 
 
 def main() -> int:

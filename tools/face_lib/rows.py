@@ -46,9 +46,14 @@ def name_of(program: Path) -> str:
 def rows_of(name: str) -> Iterator[Row]:
     """The rows of a program's crate, from its folder `rows`, and for the judge the logs of judge_examples."""
     for file in sorted((TOP / "crates" / name / "rows").glob("*.rows")):
-        yield from rows_in(str(file.relative_to(TOP)), file.read_text(encoding="utf-8"))
+        yield from rows_in_file(str(file.relative_to(TOP)))
     if name == "maildir_judge":
         yield from map(_judged, sorted((TOP / "crates/judge_examples/data").glob("*.log")))
+
+
+def rows_in_file(name: str) -> Iterator[Row]:
+    """The rows of a file, by its path from the top."""
+    return rows_in(name, (TOP / name).read_text(encoding="utf-8"))
 
 
 def rows_in(name: str, text: str) -> Iterator[Row]:

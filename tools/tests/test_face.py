@@ -12,6 +12,7 @@ sys.dont_write_bytecode = True
 TOOLS = Path(__file__).resolve().parent.parent
 sys.path.insert(0, str(TOOLS))
 
+from face_lib.large import cases, is_front, pieces, run_in_pieces
 from face_lib.planted import PLANTED, passed_plants, planted
 from face_lib.rows import Ended, WrongRow, rows_in, rows_of, run, wrong_rows
 from face_lib.streams import FACES, Face, Streams, wrong_streams
@@ -36,6 +37,41 @@ def program(folder: str, text: str) -> str:
     path.write_text(text, encoding="utf-8")
     path.chmod(0o755)
     return str(path)
+
+
+# Prints how many bytes each read gives.
+READS = """#!{python}
+import os, sys
+while given := os.read(0, 65536):
+    sys.stdout.write(f"{{len(given)}} ")
+"""
+
+
+class Large(unittest.TestCase):
+    def test_each_limit_has_a_case_past_it(self):
+        statuses = [case.wanted.status for case in cases()]
+        self.assertGreaterEqual(statuses.count(1), 6)
+        self.assertGreaterEqual(statuses.count(0), 6)
+
+    def test_a_front_prints_a_front_and_is_refused_at_its_last_line_alone(self):
+        self.assertTrue(is_front(Ended(0, b"job 1\n", b""), 40))
+        self.assertTrue(is_front(Ended(1, b"", b"line 2: bad command\n"), 40))
+        for ended in (Ended(0, b"job 2\n", b""), Ended(1, b"", b"line 1: bad command\n"), Ended(1, b"", b""), Ended(2, b"", b"line 2: x\n")):
+            with self.subTest(ended):
+                self.assertFalse(is_front(ended, 40))
+
+    def test_a_read_gives_a_piece(self):
+        with tempfile.TemporaryDirectory() as folder:
+            ended = run_in_pieces([program(folder, READS.format(python=sys.executable))], b"abcdefgh", 3)
+            self.assertEqual(ended, Ended(0, b"3 3 2 ", b""))
+
+    def test_a_program_that_reads_nothing_ends_the_run(self):
+        self.assertEqual(run_in_pieces(["true"], b"x" * 1_000_000, 1_000), Ended(0, b"", b""))
+
+    def test_each_script_comes_in_pieces_of_each_size(self):
+        sizes = {size for _, size in pieces()}
+        self.assertEqual(sizes, {*range(1, 21), 1_000})
+        self.assertGreaterEqual(len(list(pieces())), 21 * 32)
 
 
 class Rows(unittest.TestCase):

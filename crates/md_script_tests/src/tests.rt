@@ -1,11 +1,9 @@
-//! What no contract says: texts, rows with known answers, and readers and writers that fail.
+//! What no contract says: texts, setups, limits, and readers and writers that fail. What scripts print is in rows, of the built program.
 
-mod commands;
 mod fakes;
 mod faults;
 mod limits;
-mod lines;
+mod memory;
 mod plays;
-mod rows;
 mod setups;
 mod texts;

@@ -1,8 +1,8 @@
 //! Readers and writers that give or take a part, or fail. One that says of more bytes than it was offered that it read or took them
 //! can't be written: the prover refuses it.
 
-use super::fakes::{Full, Shut, Slow, Torn, Unflushed};
-use super::plays::{is_refused, is_write_fault};
+use super::fakes::{Full, Interrupted, Shut, Slow, Torn, Unflushed};
+use super::plays::{is_refused, is_write_fault, prints};
 use md_script::{PlayKind, Reader, Writer, play};
 use std::io::ErrorKind;
 
@@ -39,6 +39,21 @@ fn nothing_is_written_where_a_read_fails_amid_a_script(rt: HostRuntime) {
             "{good}"
         );
     }
+}
+
+#[test]
+fn interrupted_reads_are_tried_again(rt: HostRuntime) {
+    let script = Interrupted {
+        script: b"unique 1 2 3 4 a\r\nunique 1 2 3 5 a",
+        is_next: false,
+    };
+    assert!(rt;
+        prints(
+            rt.alloc(),
+            script,
+            b"unique 1.M2P3Q4.a\nunique 1.M2P3Q5.a\n"
+        )
+    );
 }
 
 #[test]

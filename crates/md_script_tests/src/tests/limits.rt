@@ -3,7 +3,7 @@
 use super::fakes::Stream;
 use super::plays::{is_refused, played, prints};
 use md_script::{PlayError, PlayKind};
-use std::alloc::{AllocError, Global};
+use std::alloc::Global;
 use std::io::{Chain, Read};
 
 /// So many bytes, so many at a time.
@@ -36,13 +36,6 @@ fn an_endless_script_is_refused(rt: HostRuntime) {
     }
 }
 
-#[test]
-fn a_script_has_at_most_so_many_bytes(rt: HostRuntime) {
-    assert!(rt; prints(rt.alloc(), stream(b'#', 67_108_864, 1_000_000), b""));
-    let script = stream(b'#', 67_108_865, 1_000_000);
-    assert!(rt; is_refused(rt.alloc(), script, PlayKind::TooLong));
-}
-
 /// A line that prints and one that is refused, 19 bytes that come at once, and then so many bytes of a comment, so many at a time.
 fn refused(left: u64, at_once: usize) -> Chain<&'static [u8], Stream> {
     let lines: &[u8] = b"unique 1 2 3 4 a\nx\n";
@@ -68,24 +61,4 @@ fn a_limit_comes_before_a_refused_line(rt: HostRuntime) {
         let script = refused(most + 1, at_once);
         assert!(rt; is_refused(rt.alloc(), script, kind), "{at_once}");
     }
-}
-
-/// A line that is longer than a summary reads, and then a header.
-fn long_summary(alloc: Global) -> Result<Vec<u8>, AllocError> {
-    let mut script = Vec::from_slice(alloc, b"summary ")?;
-    script.resize(8 + 16_777_216, b'a')?;
-    script.extend_from_slice(b"\\nSubject: b")?;
-    Ok(script)
-}
-
-fn is_passed_over(alloc: Global) -> bool {
-    match long_summary(alloc) {
-        Ok(script) => prints(alloc, script.as_slice(), b"subject=b\nend\n"),
-        Err(_) => false,
-    }
-}
-
-#[test]
-fn a_line_of_16_mebibytes_is_passed_over_in_a_summary(rt: HostRuntime) {
-    assert!(rt; is_passed_over(rt.alloc()));
 }

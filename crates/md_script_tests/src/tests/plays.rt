@@ -1,13 +1,8 @@
 //! How plays end. Each is made here, over any reader or writer, so that a test makes none of its own.
 
-use super::commands::spells_line;
-use super::lines::has_bytes;
-use super::rows::plays_so;
-use super::setups::is_refused_line;
 use md_script::{PlayError, PlayKind, Reader, Writer, play};
 use std::alloc::Global;
 use std::io::{Read, Write};
-use std::process::Abort;
 
 /// Whether a script that comes so is refused before its first line, with nothing written.
 pub(super) fn is_refused<R: Read + Drop>(alloc: Global, script: R, kind: PlayKind) -> bool {
@@ -55,41 +50,5 @@ pub(super) fn has_text(alloc: Global, refusal: Option<PlayError>, text: &[u8]) -
     match format!(in alloc; "{error}") {
         Ok(told) => told.as_bytes() == text,
         Err(_) => false,
-    }
-}
-
-/// What is asked of the rows of a table.
-#[derive(Clone, Copy)]
-pub(super) enum Ask {
-    Ends,
-    Calls,
-    Lines,
-    JobLines,
-    /// Scripts that come so many bytes at a time.
-    Pieces(usize),
-}
-
-/// Whether a row is true, of two parts or three.
-fn is_true(alloc: Global, ask: Ask, row: &[u8]) -> bool {
-    let mut parts = row.split(|byte| *byte == b'|');
-    let (Some(first), Some(second)) = (parts.next(), parts.next()) else {
-        return false;
-    };
-    match ask {
-        Ask::Ends => has_bytes(alloc, first, second),
-        Ask::Calls => spells_line(alloc, first, second),
-        Ask::Lines => is_refused_line(alloc, first, second, second),
-        Ask::JobLines => is_refused_line(alloc, first, second, b"line 2: not in this run"),
-        Ask::Pieces(at_once) => match parts.next() {
-            Some(script) => plays_so(alloc, script, at_once, second, first),
-            None => false,
-        },
-    }
-}
-
-/// Asks each row of a table. It says which is wrong.
-pub(super) fn ask_each(rt: &impl Abort, alloc: Global, ask: Ask, rows: &[u8]) {
-    for row in rows.split(|byte| *byte == b'%') {
-        assert!(rt; is_true(alloc, ask, row), "{row:?}");
     }
 }

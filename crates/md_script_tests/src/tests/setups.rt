@@ -1,10 +1,9 @@
 //! What scripts set up for another to run.
 
-use super::commands::{joined, spells};
 use super::fakes::Torn;
-use super::plays::{Ask, ask_each, has_text};
+use super::plays::has_text;
 use md_script::{PlayError, Reader, Setup, image, read_image};
-use std::alloc::Global;
+use std::alloc::{AllocError, Global};
 use std::io::ErrorKind;
 
 /// Whether a setup is written so.
@@ -49,6 +48,13 @@ fn is_read_so(alloc: Global, script: &[u8], at_once: usize) -> bool {
         Ok(read) => read.lines == 7 && is_written(alloc, &read.setup, WANT),
         Err(_) => false,
     }
+}
+
+/// A script of two parts.
+fn joined(alloc: Global, front: &[u8], behind: &[u8]) -> Result<Vec<u8>, AllocError> {
+    let mut script = Vec::from_slice(alloc, front)?;
+    script.extend_from_slice(behind)?;
+    Ok(script)
 }
 
 /// How many sizes of pieces are right up to the first that is not.
@@ -101,6 +107,22 @@ fn a_read_fault_comes_before_a_line_that_sets_nothing_up(rt: HostRuntime) {
     }
 }
 
+/// Whether the calls of a setup are written so.
+fn are_written(alloc: Global, setup: &Setup, calls: &[u8]) -> bool {
+    match format!(in alloc; "{:?}", setup.calls) {
+        Ok(written) => written.as_bytes() == calls,
+        Err(_) => false,
+    }
+}
+
+/// Whether a script spells these calls.
+fn spells(alloc: Global, script: &[u8], calls: &[u8]) -> bool {
+    match image(alloc, script, true) {
+        Ok(setup) => are_written(alloc, &setup, calls),
+        Err(_) => false,
+    }
+}
+
 #[test]
 fn the_calls_of_a_setup(rt: HostRuntime) {
     let script =
@@ -113,49 +135,6 @@ Copy { folder: 0, unique: Bytes { items: [117] }, to: 1, fresh: Bytes { items: [
 Expunge { folder: 1, unique: Bytes { items: [117] }, tries: 16 }, \
 Clean { folder: 1 }]";
     assert!(rt; spells(rt.alloc(), script, want));
-}
-
-/// Lines after `folder i`, and why they set nothing up, if they do, whether jobs are allowed or not.
-static LINES: &[u8] = b"\
-folder j|%\
-step 1 1|line 2: not in this run%\
-list|line 2: not in this run%\
-unique|line 2: not in this run%\
-summary|line 2: not in this run%\
-lists|line 2: bad command%\
-file i old u 0|line 2: bad place%\
-file i new u|line 2: bad command%\
-file k old u x|line 2: unknown folder%\
-file i new u x|line 2: bad number";
-
-/// Lines of jobs. Where none are allowed, they are refused before their other words are read.
-static JOB_LINES: &[u8] = b"\
-job clean i|%\
-job|line 2: bad command%\
-job sea i|line 2: bad command%\
-job move i u j 1|line 2: unknown folder%\
-job seen i u S1 1 x|line 2: bad flag%\
-job seen i u - 1 x|line 2: bad command";
-
-/// Whether a script is refused so, if at all.
-fn is_refused(alloc: Global, script: &[u8], with_jobs: bool, refusal: &[u8]) -> bool {
-    has_text(alloc, image(alloc, script, with_jobs).err(), refusal)
-}
-
-/// Whether a line is refused so with jobs, and so without.
-pub(super) fn is_refused_line(alloc: Global, line: &[u8], refusal: &[u8], without: &[u8]) -> bool {
-    match joined(alloc, b"folder i\n", line) {
-        Ok(script) => {
-            is_refused(alloc, &script, true, refusal) && is_refused(alloc, &script, false, without)
-        }
-        Err(_) => false,
-    }
-}
-
-#[test]
-fn what_sets_nothing_up_is_refused(rt: HostRuntime) {
-    ask_each(&rt, rt.alloc(), Ask::Lines, LINES);
-    ask_each(&rt, rt.alloc(), Ask::JobLines, JOB_LINES);
 }
 
 /// Whether a setup has so many folders, files and calls.

@@ -1,5 +1,0 @@
-//! Tests of `md_head`.
-#![tactic(auto)]
-
-#[cfg(test)]
-mod tests;
