@@ -2,7 +2,6 @@
 // allocation anywhere leaves each test passing: the refused call changed nothing, and is made again. Worked runs of all seven calls
 // are scripts, in crates/examples/data/.
 mod calls;
-mod errands;
 mod faults;
 mod loads;
 mod memory;

@@ -1,14 +1,12 @@
-// Calls from their submit to their answer: each of the seven, refused ones, ones that lack memory amid their steps, and ones over a call
-// that fails. What they answer is taken from what the calls mean, and the names from maildir(5).
-use super::errands::{Kind, errand, letters};
+// Calls from their submit to their answer: refused ones, and ones over a call that fails. Each of the seven, and one that lacks memory amid its
+// steps, is tested of the library for C, by tools/tests/ffi.
 use super::loads::{Named, world_of};
 use super::scene::{Scene, plays};
-use super::{BODY, NAME, finish, has_names, is_told, letter, load, shown};
-use md_core::Answer::{Cleaned, Copied, Delivered, Expunged, Fault, Moved};
+use super::{NAME, finish, has_names, is_told, letter, load};
+use md_core::Answer::{Cleaned, Delivered, Fault};
 use md_core::{Answer, Call, CallError, CoreError, World};
-use md_dirs::Place::{Cur, New, Tmp};
+use md_dirs::Place::{New, Tmp};
 use md_dirs::{Dirs, FailAt, PlainDirs};
-use md_name::Flags;
 use std::alloc::{AllocError, Global};
 use std::process::Abort;
 
@@ -61,61 +59,10 @@ fn is_answered(
     }
 }
 
-// An errand on the message u, which adds these flags.
-fn on_message(alloc: Global, kind: Kind, folder: u32, add: &[u8]) -> Result<Call, AllocError> {
-    let flags = (letters(add), Flags::empty());
-    errand(alloc, kind, (folder, b"u"), flags, b"w", 1)
-}
-
-// Whether each errand on the message is answered as it should be.
-fn errands_are_answered(rt: &impl Abort, alloc: Global, world: &mut World<PlainDirs>) -> bool {
-    let (seen, both) = (Answer::Flags(letters(b"S")), Answer::Flags(letters(b"ST")));
-    is_answered(rt, world, on_message(alloc, Kind::Seen, 0, b"S"), seen)
-        && is_answered(rt, world, on_message(alloc, Kind::Flag, 0, b"T"), both)
-        && is_answered(rt, world, on_message(alloc, Kind::Copy, 0, b""), Copied)
-        && is_answered(rt, world, on_message(alloc, Kind::Move, 0, b""), Moved)
-        && is_answered(
-            rt,
-            world,
-            on_message(alloc, Kind::Expunge, 1, b""),
-            Expunged,
-        )
-}
-
 /// A world of the message u in new, and of an old file in tmp.
 pub(super) fn world_of_two(alloc: Global) -> Result<World<PlainDirs>, CoreError> {
     let files: [Named<'_>; 2] = [(0, New, b"u", 0), (0, Tmp, b"x", 0)];
     world_of(alloc, &files)
-}
-
-// A delivery and a clean beside the errands.
-fn delivers_and_cleans(rt: &impl Abort, alloc: Global, world: &mut World<PlainDirs>) -> bool {
-    is_answered(rt, world, letter(alloc, 0, NAME), Delivered)
-        && is_answered(rt, world, Ok(Call::Clean { folder: 0 }), Cleaned(1))
-}
-
-// What is left: the delivery, and the copy, which read the bytes that they were given.
-fn are_left(world: &World<PlainDirs>) -> bool {
-    has_names(world, 0, New, &[(NAME, 6)])
-        && has_names(world, 0, Tmp, &[])
-        && has_names(world, 0, Cur, &[])
-        && has_names(world, 1, Cur, &[(b"w:2,ST", 1)])
-        && world.read(NAME) == Some(BODY)
-        && world.read(b"w") == Some(b"u".as_slice())
-        && world.read(b"u") == None
-}
-
-/// Each call in turn, in a world of two files.
-pub(super) fn answers_each(rt: &impl Abort, alloc: Global, world: &mut World<PlainDirs>) -> bool {
-    errands_are_answered(rt, alloc, world)
-        && delivers_and_cleans(rt, alloc, world)
-        && are_left(world)
-        && world.jobs() == 7
-}
-
-#[test]
-fn each_call_is_answered(rt: HostRuntime) {
-    plays(&rt, rt.alloc(), Scene::EachCall);
 }
 
 // How a call is refused, if it is.
@@ -163,20 +110,6 @@ pub(super) fn gives_back(alloc: Global, world: &mut World<PlainDirs>) -> bool {
 #[test]
 fn a_refused_call_comes_back(rt: HostRuntime) {
     plays(&rt, rt.alloc(), Scene::RefusedCall);
-}
-
-/// A delivery by a call that may lack memory amid its five steps: then its job has no answer, and takes those that are left.
-pub(super) fn is_delivered(rt: &impl Abort, alloc: Global, world: &mut World<PlainDirs>) -> bool {
-    is_answered(rt, world, letter(alloc, 0, NAME), Delivered)
-        && shown(world, 1) == (5, 1, Some(Delivered))
-        && world.jobs() == 1
-        && has_names(world, 0, New, &[(NAME, 6)])
-        && has_names(world, 0, Tmp, &[])
-}
-
-#[test]
-fn a_call_that_lacks_memory_goes_on(rt: HostRuntime) {
-    plays(&rt, rt.alloc(), Scene::LackingCall);
 }
 
 // What the delivery of a message is answered, which is made once.

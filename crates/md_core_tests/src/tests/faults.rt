@@ -1,7 +1,6 @@
 // Calls over directories of which one call fails.
-use super::errands::{Kind, errand, letters};
 use super::loads::{Named, directories};
-use super::{BODY, NAME, has_name, has_names, letter, load, step_once, submitted};
+use super::{BODY, NAME, copied, has_name, has_names, letter, load, step_once, submitted};
 use md_core::Answer::{Cleaned, Delivered, Fault};
 use md_core::{Answer, Call, CoreError, StepOut, World};
 use md_dirs::Place::{Cur, Tmp};
@@ -125,11 +124,24 @@ fn files_of(act: Act) -> &'static [Named<'static>] {
 
 // The call of an act. The flag change takes S away.
 fn call_of(alloc: Global, act: Act) -> Result<Call, AllocError> {
-    let flags = (Flags::empty(), letters(b"S"));
     match act {
         Act::Deliver => letter(alloc, 0, NAME),
-        Act::Flag => errand(alloc, Kind::Flag, (0, b"u"), flags, b"", 1),
+        Act::Flag => Ok(Call::Flag {
+            folder: 0,
+            unique: copied(alloc, b"u")?,
+            add: Flags::empty(),
+            remove: letters(b"S"),
+            tries: 1,
+        }),
         Act::Clean => Ok(Call::Clean { folder: 0 }),
+    }
+}
+
+// The flags of these letters.
+fn letters(text: &[u8]) -> Flags {
+    match Flags::parse(text) {
+        Ok(flags) => flags,
+        Err(_) => Flags::empty(),
     }
 }
 

@@ -1,7 +1,5 @@
 // Makes a world for a scene, and lends it. So it is let go in one place alone.
-use super::calls::{
-    answers_each, are_told, begins_anew, cleaned, gives_back, is_delivered, world_of_two,
-};
+use super::calls::{are_told, begins_anew, cleaned, gives_back, world_of_two};
 use super::loads::{is_read, world_of_bytes};
 use super::memory::leaves_the_clock;
 use super::runs::{refuses_steps, stops, takes_five_steps};
@@ -16,11 +14,9 @@ use std::process::Abort;
 // What a test does with a world.
 #[derive(Clone, Copy)]
 pub(super) enum Scene {
-    EachCall,
     RefusedCall,
     CallErrors,
     NewWorld,
-    LackingCall,
     FullWorld,
     Deliveries,
     Clock,
@@ -34,10 +30,10 @@ pub(super) enum Scene {
 
 fn begun(rt: &impl Abort, alloc: Global, scene: Scene) -> Result<World<PlainDirs>, CoreError> {
     match scene {
-        Scene::EachCall | Scene::RefusedCall | Scene::CallErrors => world_of_two(alloc),
+        Scene::RefusedCall | Scene::CallErrors => world_of_two(alloc),
         Scene::AnyBytes => world_of_bytes(rt, alloc),
         Scene::NewWorld => load(alloc, cleaned(rt, alloc)?),
-        Scene::LackingCall | Scene::FullWorld => load(alloc, PlainDirs::new(alloc, 1)),
+        Scene::FullWorld => load(alloc, PlainDirs::new(alloc, 1)),
         _ => plain_delivery(rt, alloc),
     }
 }
@@ -49,11 +45,9 @@ fn is_played_in(
     scene: Scene,
 ) -> bool {
     match scene {
-        Scene::EachCall => answers_each(rt, alloc, world),
         Scene::RefusedCall => gives_back(alloc, world),
         Scene::CallErrors => are_told(alloc, world),
         Scene::NewWorld => begins_anew(rt, alloc, world),
-        Scene::LackingCall => is_delivered(rt, alloc, world),
         Scene::FullWorld => is_full(rt, alloc, world),
         Scene::Deliveries => are_refused(rt, alloc, world),
         Scene::Clock => leaves_the_clock(rt, alloc, world),
