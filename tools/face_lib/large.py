@@ -65,19 +65,20 @@ def cases() -> Iterator[Case]:
     """Each limit, and what is one past it."""
     well = Ended(0, b"", b"")
     yield Case("a body of 16 MiB", b"folder i\njob deliver i u 16777216 " + b"x" * MOST_BODY, Ended(0, b"job 1\n", b""))
-    yield Case("a longer body", b"folder i\njob deliver i u 16777216 " + b"x" * (MOST_BODY + 1), _refused(2, b"body too long"))
+    yield Case("a body of one byte more", b"folder i\njob deliver i u 16777216 " + b"x" * (MOST_BODY + 1), _refused(2, b"body too long"))
     yield Case("10,000 jobs", _jobs(MOST_JOBS), Ended(0, _numbers(MOST_JOBS), b""))
-    yield Case("one more", _jobs(MOST_JOBS + 1), _refused(MOST_JOBS + 2, b"too many jobs", _numbers(MOST_JOBS)))
+    yield Case("10,001 jobs", _jobs(MOST_JOBS + 1), _refused(MOST_JOBS + 2, b"too many jobs", _numbers(MOST_JOBS)))
     yield Case("64 folders", _folders(MOST_FOLDERS), well)
-    yield Case("one more", _folders(MOST_FOLDERS + 1), _refused(MOST_FOLDERS + 1, b"bad folder"))
+    yield Case("65 folders", _folders(MOST_FOLDERS + 1), _refused(MOST_FOLDERS + 1, b"bad folder"))
     yield Case("a folder's name of 100 bytes", b"folder " + b"n" * MOST_FOLDER_NAME, well)
-    yield Case("a longer one", b"folder " + b"n" * (MOST_FOLDER_NAME + 1), _refused(1, b"bad folder"))
+    yield Case("a folder's name of 101 bytes", b"folder " + b"n" * (MOST_FOLDER_NAME + 1), _refused(1, b"bad folder"))
     yield Case("a script of 64 MiB", b"#" * MOST_SCRIPT, well)
-    yield Case("a longer one", b"#" * (MOST_SCRIPT + 1), _refused(0, b"script too long"))
-    yield Case("a refused line", _REFUSED.ljust(MOST_SCRIPT, b"#"), _refused(2, b"bad command", _NAME))
-    yield Case("a refused line in a script that is too long", _REFUSED.ljust(MOST_SCRIPT + 1, b"#"), _refused(0, b"script too long"))
+    yield Case("a script of one byte more", b"#" * (MOST_SCRIPT + 1), _refused(0, b"script too long"))
+    yield Case("a refused line in a script of 64 MiB", _REFUSED.ljust(MOST_SCRIPT, b"#"), _refused(2, b"bad command", _NAME))
+    yield Case("a refused line in a script of one byte more", _REFUSED.ljust(MOST_SCRIPT + 1, b"#"), _refused(0, b"script too long"))
     yield Case("a header line of 16 MiB", b"summary " + b"a" * MOST_BODY, Ended(0, b"end\n", b""))
-    yield Case("a field after it", b"summary " + b"a" * MOST_BODY + b"\\nSubject: b", Ended(0, b"subject=b\nend\n", b""))
+    yield Case("a field after such a line", b"summary " + b"a" * MOST_BODY + b"\\nSubject: b", Ended(0, b"subject=b\nend\n", b""))
+    yield Case("lines of 200,000 bytes", _LONG_LINES, Ended(0, _LONG_LINES_PRINT, b""))
 
 
 def wrong_cases(command: Sequence[str]) -> Iterator[str]:
