@@ -8,6 +8,7 @@ pub data Stage : Type 0 where
   Look : Stage
   Remove : (name : List ℕ) (rest : List Row) (files : ℕ) → Stage
 
+-- its folder, and how far it has come
 pub record Cleaning : Type 0 where
   pub folder : ℕ
   pub stage : Stage

@@ -11,6 +11,7 @@ pub data Stage : Type 0 where
   Linked : Stage
   Undo : (refusal : Refusal) → Stage
 
+-- its path in tmp, the body, the most bytes of a piece, and how far it has come
 pub record Delivery : Type 0 where
   pub tmp : Path
   pub body : List ℕ

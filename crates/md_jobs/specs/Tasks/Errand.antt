@@ -10,6 +10,7 @@ pub data Stage : Type 0 where
   Look : (place : Place) (tries : ℕ) → Stage
   Act : (place : Place) (row : Row) (tries : ℕ) → Stage
 
+-- where it looks, for which message and what for, and how far it has come
 pub record Errand : Type 0 where
   pub folder : ℕ
   pub unique : List ℕ
