@@ -17,7 +17,6 @@ use Rattle.md_jobs.specs.declared.effect.Effect.{Effect}
 use Rattle.md_jobs.specs.declared.step.DirReply.{DirReply}
 use Rattle.md_jobs.specs.declared.step.DirReply.TheVariants as reply
 use Rattle.md_core.specs.Alone.{alone}
-use Rattle.md_core.specs.History.{names_after}
 use Rattle.md_jobs.specs.Asked.{create, unlink, list}
 use Rattle.md_core.specs.Trace.{Trace, Step, IsStepOf, call_at, step_at, state, box, effects}
 

@@ -3,7 +3,7 @@ use Rattle.std.specs.Prelude.{ℕ, ◌-◌, List, ◌++◌, Option, Some, None, 
 use Rattle.std.specs.Option.{option_to_list, option_map}
 use Rattle.md_dirs.specs.State.{State}
 use Rattle.md_core.specs.Trace.{Step}
-use Rattle.md_jobs.specs.Asked.{Asked, ask_of, shown_call, state_by}
+use Rattle.md_jobs.specs.Asked.{ask_of, shown_call, state_by}
 use Rattle.md_jobs.specs.Turn.{Turn, rows_for, reply_of}
 use Rattle.md_jobs.specs.Machines.Deliver.{new_delivery, delivery_turn}
 use Rattle.md_jobs.specs.Machines.Deliver as delivered_by

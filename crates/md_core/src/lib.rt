@@ -6,7 +6,9 @@ pub mod laws;
 mod used;
 mod world;
 
-pub use md_jobs::{Answer, Call, Change, CoreError, DirCall, DirReply, Effect, Event, JobId, Moment, StepOut};
+pub use md_jobs::{
+    Answer, Call, Change, CoreError, DirCall, DirReply, Effect, Event, JobId, Moment, StepOut,
+};
 pub use world::World;
 pub use world::call::CallError;
 pub use world::load::LoadRefused;

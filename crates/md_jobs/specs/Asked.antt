@@ -1,12 +1,12 @@
 -- A directory call as a step makes it, with its paths: where it is refused, what it leaves, and what a step shows of it.
-use Rattle.std.specs.Prelude.{ℕ, List, length, Option, Some, None, Ok, Bool, true, false}
+use Rattle.std.specs.Prelude.{ℕ, List, length, Option, Some, None, Bool, true, false}
 use Rattle.md_dirs.specs.State.{State}
 use Rattle.md_dirs.specs.Calls.{Ask}
 use Rattle.md_dirs.specs.Calls as dirs
 use Rattle.md_dirs.specs.declared.paths.Path.{Path}
 use Rattle.md_dirs.specs.declared.paths.Place.{Place}
 use Rattle.md_dirs.specs.declared.calls.DirError.{DirError}
-use Rattle.md_dirs.specs.declared.calls.DirError.TheVariants.{Exists, NotFound, Fault}
+use Rattle.md_dirs.specs.declared.calls.DirError.TheVariants.{Exists, NotFound}
 use Rattle.md_jobs.specs.declared.step.DirCall.{DirCall}
 use Rattle.md_jobs.specs.declared.step.DirCall.TheVariants as call
 use Rattle.md_jobs.specs.declared.step.DirReply.{DirReply}

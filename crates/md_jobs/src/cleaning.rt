@@ -5,8 +5,8 @@ ghost use Rattle.md_jobs.specs.Tasks.Cleaning.{Remove};
 ghost use Rattle.md_jobs.specs.Turn.{Takes, IsUntouched};
 ghost use Rattle.md_jobs.specs.Machines.Clean.{new_cleaning, cleaning_turn, look_turn, unlink_turn, is_old as is_old_by, old_rows as old_rows_by, after_old, after_unlink, tmp as tmp_of};
 
-use crate::error::CoreError;
 use crate::answer::Answer;
+use crate::error::CoreError;
 use crate::refusal::Refusal;
 use crate::step::{DirCall, DirReply, Moment};
 use crate::turn::{Turned, reply_of};

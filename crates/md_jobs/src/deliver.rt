@@ -5,11 +5,11 @@ ghost use Rattle.md_jobs.specs.Machines.Deliver.{new_delivery, at_stage, after_c
 ghost use Rattle.md_jobs.specs.Tasks.Delivery.{Delivery as DeliveryView, Start, Writing};
 ghost use Rattle.md_jobs.specs.Tasks.Views.Stages.{delivery_stage};
 
-use crate::error::CoreError;
-use crate::image::Image;
 use crate::answer::Answer;
 use crate::call::JobId;
 use crate::effect::{Change, Effect};
+use crate::error::CoreError;
+use crate::image::Image;
 use crate::paths::path;
 use crate::refusal::Refusal;
 use crate::step::{DirCall, DirReply, Moment};

@@ -9,10 +9,10 @@ ghost use Rattle.md_jobs.specs.Tasks.Views.Errands.{errand_view};
 ghost use Rattle.md_jobs.specs.Machines.Purposes.{searches, place_after, decide, info_in};
 ghost use Rattle.md_jobs.specs.Machines.Errand.{new_errand, asked_of, after_none, after_decision, after_look, lost_or_again, after_act, look_turn, errand_turn};
 
-use crate::error::CoreError;
 use crate::answer::Answer;
 use crate::call::JobId;
 use crate::effect::{Change, Effect};
+use crate::error::CoreError;
 use crate::paths::nameless;
 use crate::purpose::{Decision, Deed, Purpose};
 use crate::refusal::Refusal;
@@ -42,13 +42,7 @@ pub struct Errand {
 
 impl Errand {
     /// An errand that has not begun.
-    pub fn new(
-        alloc: Global,
-        folder: u32,
-        unique: Bytes,
-        purpose: Purpose,
-        tries: u64,
-    ) -> Errand
+    pub fn new(alloc: Global, folder: u32, unique: Bytes, purpose: Purpose, tries: u64) -> Errand
         ensures { errand_view result ≡ new_errand folder unique (purpose_view purpose) tries }
     {
         Errand {

@@ -10,9 +10,9 @@ ghost use Rattle.md_jobs.specs.Asked.{ask_of, shown_call};
 ghost use Rattle.md_jobs.specs.Machines.Purposes.{first, searches, place_after, info_in, wanted as wanted_by, shown as shown_by, has_trashed, act_if as act_if_by, decide_flag, decide as decide_by, answer_by, name_copied, deed_by};
 ghost use Rattle.md_jobs.specs.Machines.Errand.{asked_of, change_of, taken_by};
 
-use crate::error::CoreError;
 use crate::answer::Answer;
 use crate::effect::Change;
+use crate::error::CoreError;
 use crate::paths::path;
 use crate::refusal::Refusal;
 use crate::step::DirCall;

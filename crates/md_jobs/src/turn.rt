@@ -2,9 +2,9 @@
 ghost use Rattle.std.specs.Prelude.{◌≡◌, IfOk, IfErr, OnErr, MatchResult, Some, None, false, true, is_some};
 ghost use Rattle.md_jobs.specs.Turn.{reply_from, Looks, IsUntouched};
 
-use crate::error::CoreError;
 use crate::answer::Answer;
 use crate::effect::Effect;
+use crate::error::CoreError;
 use crate::step::{DirCall, DirReply, StepOut};
 use md_dirs::{DirError, Dirs, Place, Row};
 

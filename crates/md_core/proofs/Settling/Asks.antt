@@ -10,7 +10,7 @@ use Rattle.md_jobs.specs.Machines.Errand as errands_by
 use Rattle.md_jobs.specs.Machines.Purposes.{info_in}
 use Rattle.md_jobs.specs.Tasks.Cleaning.{Cleaning}
 use Rattle.md_jobs.specs.Tasks.Cleaning as cleaning
-use Rattle.md_jobs.specs.Tasks.Delivery.{Delivery, Stage, Start, Writing, Linked, Undo}
+use Rattle.md_jobs.specs.Tasks.Delivery.{Delivery, Stage, Start, Writing}
 use Rattle.md_jobs.specs.Tasks.Errand as errand
 use Rattle.md_core.specs.Accepting.{MakesMessage}
 use Rattle.md_core.proofs.Answers.Files.Asking.{asked_at, writing-by}

@@ -11,7 +11,7 @@ use Rattle.md_jobs.specs.Tasks.Delivery.{Stage, Start, Writing, Linked, Undo}
 use Rattle.md_jobs.specs.Tasks.Cleaning as cleaning
 use Rattle.md_jobs.specs.Machines.Deliver as delivered_by
 use Rattle.md_jobs.specs.Machines.Clean as cleaned_by
-use Rattle.md_core.specs.Machine.{Machine, Standing, working, answered, Occurrence, job_at, steps_left, standing_of, new_job, after_event, step_by}
+use Rattle.md_core.specs.Machine.{Machine, Standing, working, Occurrence, job_at, steps_left, standing_of, new_job, after_event, step_by}
 use Rattle.md_core.specs.Trace.{Step, call_at}
 use Rattle.md_core.specs.Runs.{Run, beginning, run_from, machine_of, dirs_of, jobs_of, and_event, step_refusal, dirs_at_first}
 use Rattle.md_core.specs.Runs as runs

@@ -12,7 +12,7 @@ use Rattle.md_jobs.specs.Tasks.Cleaning.{Cleaning, Stage, Look, Remove}
 use Rattle.md_jobs.specs.declared.step.DirReply.TheVariants as reply
 use Rattle.md_core.specs.Mailbox.{is_tmp}
 use Rattle.md_jobs.specs.Turn.{Turn, rows_for}
-use Rattle.md_jobs.specs.Asked.{Asked, create, append, link, rename, unlink, list, ask_of, state_by}
+use Rattle.md_jobs.specs.Asked.{Asked, create, append, unlink, list, ask_of, state_by}
 use Rattle.md_core.specs.Trace.{Step, call_at, Trace, IsStepOf, step_at, state, file_in}
 use Rattle.md_core.specs.Machine.{working, new_job, job_at}
 use Rattle.md_jobs.specs.Machines.Clean.{is_old, old_rows, after_next, at_stage, tmp, stage_turn}

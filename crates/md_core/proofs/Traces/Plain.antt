@@ -26,7 +26,6 @@ use Rattle.md_core.proofs.Traces.Stands.{answered-of, ended, turn-of}
 use Rattle.md_core.proofs.Traces.Few.{count-map, place-map}
 use Rattle.md_core.proofs.Traces.Headline.{theorem, box-same, law-of}
 use Rattle.md_core.proofs.Induction.GoodRuns.{accepted-at}
-use Rattle.md_core.proofs.Machines.Errand.Table.Checks.{accepted}
 
 -- the moment of a job's first step, or the last moment where it has taken none
 abbrev pub begins_at : Trace → ℕ → ℕ

@@ -3,7 +3,7 @@
 use Rattle.std.specs.Prelude.{ℕ, ◌-◌, ◌*◌, List, Option, Some, None, Bool, max, nat_le, if◌then◌else◌}
 use Rattle.md_dirs.specs.Rows.{row_named}
 use Rattle.md_dirs.specs.declared.paths.Place.{Place}
-use Rattle.md_dirs.specs.declared.paths.Place.TheVariants.{Tmp, New, Cur}
+use Rattle.md_dirs.specs.declared.paths.Place.TheVariants.{New}
 use Rattle.md_dirs.specs.declared.rows.Row.{Row}
 use Rattle.md_jobs.specs.Turn.{Turn, After, goes_on, ends_by}
 use Rattle.md_jobs.specs.Asked.{Asked, list, link, rename, unlink}

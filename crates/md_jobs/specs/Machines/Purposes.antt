@@ -3,9 +3,8 @@
 use Rattle.std.specs.Prelude.{ℕ, List, Option, Some, None, Bool, true, false, is_some, unwrap_or, if◌then◌else◌}
 use Rattle.std.specs.FinSet as set
 use Rattle.md_dirs.specs.Path.{path_of as path}
-use Rattle.md_dirs.specs.declared.paths.Path.{Path}
 use Rattle.md_dirs.specs.declared.paths.Place.{Place}
-use Rattle.md_dirs.specs.declared.paths.Place.TheVariants.{Tmp, New, Cur}
+use Rattle.md_dirs.specs.declared.paths.Place.TheVariants.{New, Cur}
 use Rattle.md_name.specs.Letters.{Set}
 use Rattle.md_name.specs.Names.{split_of, flags_of, flagged}
 use Rattle.md_name.specs.declared.info.Info.{Info}

@@ -8,12 +8,12 @@ use Rattle.md_jobs.specs.declared.answer.Answer.TheVariants as answer
 use Rattle.md_jobs.specs.declared.call.Call.TheVariants as call
 use Rattle.md_jobs.specs.Tasks.Cleaning.{Cleaning}
 use Rattle.md_jobs.specs.Tasks.Cleaning as cleaning
-use Rattle.md_jobs.specs.Tasks.Delivery.{Delivery, Stage, Start, Writing, Linked, Undo}
+use Rattle.md_jobs.specs.Tasks.Delivery.{Delivery, Stage, Start, Writing}
 use Rattle.md_core.specs.Machine.{turn_of}
 use Rattle.md_jobs.specs.Machines.Deliver as delivered_by
 use Rattle.md_jobs.specs.Machines.Deliver.{append_turn, link_turn, unlink_turn, is_in_time}
 use Rattle.md_jobs.specs.Machines.Clean as cleaned_by
-use Rattle.md_jobs.specs.Asked.{Asked, create, append, link, rename, unlink, list}
+use Rattle.md_jobs.specs.Asked.{Asked, create, append, link, rename, unlink}
 use Rattle.md_core.specs.Accepting.{MakesMessage}
 use Rattle.md_core.proofs.Induction.Good.{TaskFits, DeliveryFits}
 use Rattle.md_core.proofs.Directories.Frames.{makes-delivery}

@@ -6,7 +6,7 @@ use Rattle.md_core.proofs.Values.{State, Path, Tmp, Row, Call, Answer, DirReply,
 use Rattle.md_dirs.specs.Path.{path_of as path}
 use Rattle.md_jobs.specs.declared.answer.Answer.TheVariants as answer
 use Rattle.md_jobs.specs.declared.call.Call.TheVariants as call
-use Rattle.md_jobs.specs.Tasks.Delivery.{Delivery, Stage, Start, Writing, Linked, Undo}
+use Rattle.md_jobs.specs.Tasks.Delivery.{Delivery, Stage, Start, Writing}
 use Rattle.md_jobs.specs.declared.step.DirReply.TheVariants as reply
 use Rattle.md_core.specs.Machine.{Machine, answered, job_at, turn_of}
 use Rattle.md_jobs.specs.Machines.Deliver.{append_turn, link_turn, unlink_turn, stage_turn, is_in_time}

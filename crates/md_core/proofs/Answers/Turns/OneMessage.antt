@@ -3,7 +3,7 @@ use Rattle.md_jobs.specs.Tasks.Errand.{Stage, Look, Act}
 use Rattle.md_jobs.specs.Machines.Purposes.{searches, place_after}
 use Rattle.std.proofs.Common.{ℕ, ◌≡◌, ◌+◌, ◌≤◌, List, Some, None, Bool, true, MatchOption}
 use Rattle.std.specs.FinMap.{get}
-use Rattle.md_core.proofs.Values.{State, file_at, Path, New, Cur, Call, Answer, DirReply, Task, Deliver, Errand, Clean}
+use Rattle.md_core.proofs.Values.{State, file_at, Path, New, Cur, Call, Answer, DirReply, Task, Errand}
 use Rattle.md_dirs.specs.Path.{path_of}
 use Rattle.md_name.specs.Names.{unique_of}
 use Rattle.md_jobs.specs.declared.answer.Answer.TheVariants as answer

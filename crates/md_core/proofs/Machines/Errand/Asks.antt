@@ -3,7 +3,7 @@ use Rattle.std.proofs.Common.{ℕ, ◌≡◌, List, true, ap, ◌∙◌}
 use Rattle.md_dirs.specs.declared.paths.Path.{Path}
 use Rattle.md_dirs.specs.declared.paths.Place.TheVariants.{Tmp}
 use Rattle.md_jobs.specs.Tasks.Errand.{Errand, Stage, Look, Act}
-use Rattle.md_jobs.specs.Asked.{Asked, create, append, link, rename, unlink, list}
+use Rattle.md_jobs.specs.Asked.{Asked, create, append, unlink}
 use Rattle.md_core.specs.Mailbox.{is_tmp}
 use Rattle.md_jobs.specs.Machines.Purposes.{info_in}
 use Rattle.md_jobs.specs.Machines.Errand.{errand_turn, stage_turn}

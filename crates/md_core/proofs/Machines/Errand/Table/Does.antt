@@ -1,5 +1,5 @@
 -- What each row of the table does to the mailbox: a message is kept as it is, or its deed is done.
-use Rattle.std.proofs.Common.{ℕ, ◌≡◌, ◌-◌, List, Some, Bool, not, refl, sym, ap, subst, ◌∙◌}
+use Rattle.std.proofs.Common.{ℕ, ◌≡◌, List, Some, not, refl, sym, ap, subst, ◌∙◌}
 use Rattle.std.proofs.lemmas.Bool.{and_from}
 use Rattle.std.specs.FinMap.{get}
 use Rattle.md_core.proofs.Values.{State, IsSound, file_at, path_of, Row, Set, Info, Call, DirReply, Errand}
@@ -22,7 +22,6 @@ use Rattle.md_jobs.specs.Machines.Errand.{asked_of, kept, stage_turn}
 use Rattle.md_core.proofs.Induction.Good.{HasSize, ErrandFits, Does}
 use Rattle.md_core.proofs.Looking.LookUps.{IsRow, row-entry, info-in}
 use Rattle.md_core.proofs.Mailbox.Shown.{shows-mailbox}
-use Rattle.md_core.proofs.Machines.Deliver.Replies.{there}
 use Rattle.md_core.proofs.Machines.Stays.{as_after}
 use Rattle.md_jobs.proofs.Sets.{same-sets, subset-union}
 use Rattle.md_core.proofs.Machines.Errand.Table.Rows.{not-tmp, one-place, acts-flags, acts-flag, keeps-flag, test-keeps, acts-trashed}

@@ -1,5 +1,5 @@
 -- What each row of the table says of a call alone: what it is answered where its message is in none of its places, and where it is refused.
-use Rattle.std.proofs.Common.{ℕ, ◌≡◌, ◌-◌, List, Option, Some, None, Bool, true, false, cond, is_some, refl, sym, ap, subst, ◌∙◌, if◌then◌else◌}
+use Rattle.std.proofs.Common.{ℕ, ◌≡◌, List, Option, Some, None, Bool, true, false, cond, is_some, refl, sym, ap, subst, ◌∙◌, if◌then◌else◌}
 use Rattle.std.proofs.lemmas.Bool.{eq-eqb}
 use Rattle.std.specs.FinMap as finmap
 use Rattle.std.specs.FinMap.{get}
@@ -7,7 +7,7 @@ use Rattle.md_core.proofs.Values.{State, path_of, New, Cur, Row, Set, Info, Call
 use Rattle.md_dirs.specs.declared.paths.Place.{Place}
 use Rattle.md_name.specs.Names.{flags_of}
 use Rattle.md_jobs.specs.declared.answer.Answer.TheVariants as answer
-use Rattle.md_jobs.specs.Tasks.Errand.{Errand as ErrandOf, Look, Act}
+use Rattle.md_jobs.specs.Tasks.Errand.{Errand as ErrandOf, Look}
 use Rattle.md_jobs.specs.Tasks.Decision as decision
 use Rattle.md_jobs.specs.Tasks.Purpose.{Purpose, Seen, Flag, Move, Copy, Expunge}
 use Rattle.md_jobs.specs.Tasks.Refusal.{Refusal}
