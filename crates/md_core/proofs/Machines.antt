@@ -1,4 +1,3 @@
-pub mod Performing
 pub mod Stays
 pub mod Deliver
 pub mod Errand

@@ -7,13 +7,13 @@ pub use Rattle.md_dirs.specs.declared.paths.Place.TheVariants.{Tmp, New, Cur}
 pub use Rattle.md_dirs.specs.declared.rows.Row.{Row}
 pub use Rattle.md_name.specs.Letters.{Set}
 pub use Rattle.md_name.specs.declared.info.Info.{Info}
-pub use Rattle.md_core.specs.declared.error.CoreError.{CoreError}
-pub use Rattle.md_core.specs.declared.jobs.call.Call.{Call}
-pub use Rattle.md_core.specs.declared.jobs.answer.Answer.{Answer}
-pub use Rattle.md_core.specs.declared.jobs.effect.Change.{Change}
-pub use Rattle.md_core.specs.declared.jobs.effect.Effect.{Effect}
-pub use Rattle.md_core.specs.declared.jobs.step.DirReply.{DirReply}
-pub use Rattle.md_core.specs.declared.jobs.step.Event.{Event}
-pub use Rattle.md_core.specs.declared.jobs.step.Moment.{Moment}
-pub use Rattle.md_core.specs.declared.jobs.step.StepOut.{StepOut}
+pub use Rattle.md_jobs.specs.declared.error.CoreError.{CoreError}
+pub use Rattle.md_jobs.specs.declared.call.Call.{Call}
+pub use Rattle.md_jobs.specs.declared.answer.Answer.{Answer}
+pub use Rattle.md_jobs.specs.declared.effect.Change.{Change}
+pub use Rattle.md_jobs.specs.declared.effect.Effect.{Effect}
+pub use Rattle.md_jobs.specs.declared.step.DirReply.{DirReply}
+pub use Rattle.md_jobs.specs.declared.step.Event.{Event}
+pub use Rattle.md_jobs.specs.declared.step.Moment.{Moment}
+pub use Rattle.md_jobs.specs.declared.step.StepOut.{StepOut}
 pub use Rattle.md_core.specs.Tasks.Task.{Task, Deliver, Errand, Clean}

@@ -1,4 +1,3 @@
-pub mod NoMemory
 pub mod UsedLemmas
 pub mod UniqueNames
 pub mod Loading

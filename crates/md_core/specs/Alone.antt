@@ -7,10 +7,11 @@ use Rattle.md_dirs.specs.declared.paths.Place.{Place}
 use Rattle.md_dirs.specs.declared.paths.Place.TheVariants.{New, Cur}
 use Rattle.md_name.specs.Letters.{Set, spelling}
 use Rattle.md_name.specs.Names.{info_by, flags_of}
-use Rattle.md_core.specs.declared.jobs.call.Call.{Call}
-use Rattle.md_core.specs.declared.jobs.call.Call.TheVariants.{Deliver, Seen, Flag, Move, Expunge, Copy, Clean}
-use Rattle.md_core.specs.declared.jobs.answer.Answer.{Answer}
-use Rattle.md_core.specs.declared.jobs.answer.Answer.TheVariants as answer
+use Rattle.md_jobs.specs.declared.call.Call.{Call}
+use Rattle.md_jobs.specs.declared.call.Call.TheVariants.{Deliver, Seen, Flag, Move, Expunge, Copy, Clean}
+use Rattle.md_jobs.specs.declared.answer.Answer.{Answer}
+use Rattle.md_jobs.specs.declared.answer.Answer.TheVariants as answer
+use Rattle.md_jobs.specs.Sets.{is_same_set}
 use Rattle.md_core.specs.Mailbox.{Entry, Mailbox}
 
 -- an answer, and the mailbox after it
@@ -34,10 +35,6 @@ is_in_place place folder e = place_index e.place == place_index place && e.folde
 abbrev pub entry_if : (Entry → Bool) → Option Entry → Option Entry
 entry_if test None = None
 entry_if test (Some e) = if test e then Some e else None
-
--- whether two sets have the same letters
-abbrev pub is_same_set : Set → Set → Bool
-is_same_set a b = set.is_subset a b && set.is_subset b a
 
 -- the info of these flags, as it is written
 abbrev pub info_with : Set → Option (List ℕ)

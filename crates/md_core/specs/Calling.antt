@@ -1,9 +1,9 @@
 -- A call from its submit to its answer, at one moment, with no step of another job between.
 use Rattle.std.specs.Prelude.{ℕ, ◌≡◌, ◌≢◌, ◌+◌, List, Option, Some, None, Result, Ok, Err, true, false, length, slice_get}
-use Rattle.md_core.specs.declared.jobs.answer.Answer.{Answer}
-use Rattle.md_core.specs.declared.jobs.answer.Answer.TheVariants as answer
-use Rattle.md_core.specs.declared.jobs.call.Call.{Call}
-use Rattle.md_core.specs.declared.jobs.step.Event.{Event}
+use Rattle.md_jobs.specs.declared.answer.Answer.{Answer}
+use Rattle.md_jobs.specs.declared.answer.Answer.TheVariants as answer
+use Rattle.md_jobs.specs.declared.call.Call.{Call}
+use Rattle.md_jobs.specs.declared.step.Event.{Event}
 use Rattle.md_core.specs.declared.world.call.CallError.{CallError}
 use Rattle.md_core.specs.declared.world.call.CallError.TheVariants.{Refused, NoMemory}
 use Rattle.md_core.specs.declared.world.submit.SubmitRefused.{SubmitRefused}

@@ -8,11 +8,11 @@ use Rattle.md_dirs.specs.declared.paths.Place.TheVariants.{Tmp, New, Cur}
 use Rattle.md_name.specs.Letters.{Set}
 use Rattle.md_name.specs.Names.{unique_of, info_text, info_of, flags_of, flagged, is_message_name}
 use Rattle.md_core.specs.Mailbox.{Entry, Mailbox, name_cmp}
-use Rattle.md_core.specs.declared.jobs.answer.Answer.{Answer}
-use Rattle.md_core.specs.declared.jobs.answer.Answer.TheVariants as answer
-use Rattle.md_core.specs.declared.jobs.effect.Change.{Change}
-use Rattle.md_core.specs.declared.jobs.effect.Change.TheVariants as change
-use Rattle.md_core.specs.declared.jobs.effect.Effect.{Effect}
+use Rattle.md_jobs.specs.declared.answer.Answer.{Answer}
+use Rattle.md_jobs.specs.declared.answer.Answer.TheVariants as answer
+use Rattle.md_jobs.specs.declared.effect.Change.{Change}
+use Rattle.md_jobs.specs.declared.effect.Change.TheVariants as change
+use Rattle.md_jobs.specs.declared.effect.Effect.{Effect}
 
 -- what a listing can see of a message: its folder, its place, its whole file name, and its size in bytes
 pub record Listed : Type 0 where

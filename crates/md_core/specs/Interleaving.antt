@@ -7,17 +7,17 @@ use Rattle.md_dirs.specs.Rows.{rows_of}
 use Rattle.md_dirs.specs.declared.paths.Path.{Path}
 use Rattle.md_dirs.specs.declared.paths.Place.TheVariants.{Tmp}
 use Rattle.md_dirs.specs.declared.rows.Row.{Row}
-use Rattle.md_core.specs.declared.jobs.answer.Answer.{Answer}
-use Rattle.md_core.specs.declared.jobs.answer.Answer.TheVariants as answer
-use Rattle.md_core.specs.declared.jobs.call.Call.{Call}
-use Rattle.md_core.specs.declared.jobs.call.Call.TheVariants as call
-use Rattle.md_core.specs.declared.jobs.effect.Effect.{Effect}
-use Rattle.md_core.specs.declared.jobs.step.DirReply.{DirReply}
-use Rattle.md_core.specs.declared.jobs.step.DirReply.TheVariants as reply
+use Rattle.md_jobs.specs.declared.answer.Answer.{Answer}
+use Rattle.md_jobs.specs.declared.answer.Answer.TheVariants as answer
+use Rattle.md_jobs.specs.declared.call.Call.{Call}
+use Rattle.md_jobs.specs.declared.call.Call.TheVariants as call
+use Rattle.md_jobs.specs.declared.effect.Effect.{Effect}
+use Rattle.md_jobs.specs.declared.step.DirReply.{DirReply}
+use Rattle.md_jobs.specs.declared.step.DirReply.TheVariants as reply
 use Rattle.md_core.specs.Mailbox.{Entry, mailbox_of, is_tmp, is_message, HasOnePath}
 use Rattle.md_core.specs.Alone.{alone}
 use Rattle.md_core.specs.History.{names_of, names_after, IsLegal}
-use Rattle.md_core.specs.Asked.{Asked, link, rename, unlink, list}
+use Rattle.md_jobs.specs.Asked.{Asked, link, rename, unlink, list}
 use Rattle.md_core.specs.Trace.{Trace, Step, IsStepOf, IsAnswered, call_at, step_at, state, box, effects, file_in, steps_of}
 use Rattle.md_core.specs.Answering.{Says}
 use Rattle.md_core.specs.Bounds.{most_steps}

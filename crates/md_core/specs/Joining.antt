@@ -2,9 +2,9 @@
 use Rattle.std.specs.Prelude.{ℕ, ◌≡◌, ◌+◌, ◌≤◌, ◌<◌, ◌++◌, List, Some, map, take, slice_get}
 use Rattle.std.specs.FinMap as finmap
 use Rattle.md_name.specs.Names.{unique_of}
-use Rattle.md_core.specs.declared.jobs.effect.Change.{Change}
-use Rattle.md_core.specs.declared.jobs.effect.Change.TheVariants.{Add}
-use Rattle.md_core.specs.declared.jobs.effect.Effect.{Effect}
+use Rattle.md_jobs.specs.declared.effect.Change.{Change}
+use Rattle.md_jobs.specs.declared.effect.Change.TheVariants.{Add}
+use Rattle.md_jobs.specs.declared.effect.Effect.{Effect}
 use Rattle.md_core.specs.History.{Listed, Names, names_after}
 
 -- the same effect, of a job whose number is so many greater

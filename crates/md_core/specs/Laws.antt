@@ -6,7 +6,7 @@ use Rattle.md_dirs.specs.declared.paths.Path.{Path}
 use Rattle.md_dirs.specs.declared.paths.Place.{Place}
 use Rattle.md_dirs.specs.declared.paths.Place.TheVariants.{Tmp, Cur}
 use Rattle.md_name.specs.Names.{unique_of}
-use Rattle.md_core.specs.declared.jobs.effect.Effect.{Effect}
+use Rattle.md_jobs.specs.declared.effect.Effect.{Effect}
 use Rattle.md_core.specs.History.{Listed, Names, names_after}
 use Rattle.md_core.specs.Mailbox.{bytes_of, is_message}
 use Rattle.md_core.specs.Runs.{Run, jobs_of}

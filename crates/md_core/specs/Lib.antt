@@ -1,10 +1,7 @@
 pub mod Mailbox
 pub mod Alone
 pub mod History
-pub mod Asked
-pub mod Turn
 pub mod Tasks
-pub mod Machines
 pub mod Machine
 pub mod Standing
 pub mod Runs

@@ -8,8 +8,8 @@ use Rattle.std.specs.FinMap as finmap
 use Rattle.md_dirs.specs.State.{State}
 use Rattle.md_dirs.specs.declared.paths.Path.{Path}
 use Rattle.md_name.specs.Names.{unique_of, is_slash, is_terminator}
-use Rattle.md_core.specs.declared.error.CoreError.{CoreError}
-use Rattle.md_core.specs.declared.error.CoreError.TheVariants as core
+use Rattle.md_jobs.specs.declared.error.CoreError.{CoreError}
+use Rattle.md_jobs.specs.declared.error.CoreError.TheVariants as core
 use Rattle.md_core.specs.Mailbox.{is_message}
 
 -- the longest file name of the usual systems, in bytes

@@ -10,8 +10,8 @@ use Rattle.md_dirs.specs.declared.paths.Path.{Path}
 use Rattle.md_dirs.specs.declared.paths.Place.{Place}
 use Rattle.md_dirs.specs.declared.rows.RowRef.{RowRef}
 use Rattle.md_name.specs.Names.{unique_of, is_message_name}
-use Rattle.md_core.specs.declared.error.CoreError.{CoreError}
-use Rattle.md_core.specs.declared.error.CoreError.TheVariants as core
+use Rattle.md_jobs.specs.declared.error.CoreError.{CoreError}
+use Rattle.md_jobs.specs.declared.error.CoreError.TheVariants as core
 use Rattle.md_core.specs.declared.world.looking.Seen.{Seen}
 use Rattle.md_core.specs.Mailbox.{is_tmp, is_message}
 use Rattle.md_core.specs.Loading.{is_bad_name, is_long_unique, most_unique_bytes, first_fault}

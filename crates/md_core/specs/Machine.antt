@@ -3,24 +3,24 @@ use Rattle.std.specs.Prelude.{ℕ, ◌-◌, List, ◌++◌, Option, Some, None, 
 use Rattle.std.specs.Option.{option_to_list, option_map}
 use Rattle.md_dirs.specs.State.{State}
 use Rattle.md_core.specs.Trace.{Step}
-use Rattle.md_core.specs.Asked.{Asked, ask_of, shown_call, state_by}
-use Rattle.md_core.specs.Turn.{Turn, rows_for, reply_of}
-use Rattle.md_core.specs.Machines.Deliver.{new_delivery, delivery_turn}
-use Rattle.md_core.specs.Machines.Deliver as delivered_by
-use Rattle.md_core.specs.Machines.Errand.{new_errand, errand_turn}
-use Rattle.md_core.specs.Machines.Errand as run_by
-use Rattle.md_core.specs.Machines.Clean.{new_cleaning, cleaning_turn}
-use Rattle.md_core.specs.Machines.Clean as cleaned_by
-use Rattle.md_core.specs.Machines.Purposes.{searches}
-use Rattle.md_core.specs.declared.jobs.call.Call.{Call}
-use Rattle.md_core.specs.declared.jobs.call.Call.TheVariants as call
-use Rattle.md_core.specs.declared.jobs.answer.Answer.{Answer}
-use Rattle.md_core.specs.declared.jobs.effect.Effect.{Effect}
-use Rattle.md_core.specs.declared.jobs.step.DirReply.{DirReply}
-use Rattle.md_core.specs.declared.jobs.step.Event.{Event}
-use Rattle.md_core.specs.declared.jobs.step.Moment.{Moment}
-use Rattle.md_core.specs.declared.jobs.step.StepOut.{StepOut}
-use Rattle.md_core.specs.Tasks.Purpose as purpose
+use Rattle.md_jobs.specs.Asked.{ask_of, shown_call, state_by}
+use Rattle.md_jobs.specs.Turn.{Turn, rows_for, reply_of}
+use Rattle.md_jobs.specs.Machines.Deliver.{new_delivery, delivery_turn}
+use Rattle.md_jobs.specs.Machines.Deliver as delivered_by
+use Rattle.md_jobs.specs.Machines.Errand.{new_errand, errand_turn}
+use Rattle.md_jobs.specs.Machines.Errand as run_by
+use Rattle.md_jobs.specs.Machines.Clean.{new_cleaning, cleaning_turn}
+use Rattle.md_jobs.specs.Machines.Clean as cleaned_by
+use Rattle.md_jobs.specs.Machines.Purposes.{searches}
+use Rattle.md_jobs.specs.declared.call.Call.{Call}
+use Rattle.md_jobs.specs.declared.call.Call.TheVariants as call
+use Rattle.md_jobs.specs.declared.answer.Answer.{Answer}
+use Rattle.md_jobs.specs.declared.effect.Effect.{Effect}
+use Rattle.md_jobs.specs.declared.step.DirReply.{DirReply}
+use Rattle.md_jobs.specs.declared.step.Event.{Event}
+use Rattle.md_jobs.specs.declared.step.Moment.{Moment}
+use Rattle.md_jobs.specs.declared.step.StepOut.{StepOut}
+use Rattle.md_jobs.specs.Tasks.Purpose as purpose
 use Rattle.md_core.specs.Tasks.Task.{Task, Deliver, Errand, Clean}
 
 -- a turn of one kind of task, as a turn of a task

@@ -3,8 +3,8 @@ use Rattle.std.specs.Prelude.{ℕ, ◌≡◌, ◌+◌, ◌≤◌, List, Some}
 use Rattle.md_dirs.specs.Path.{path_of as path}
 use Rattle.md_dirs.specs.declared.paths.Path.{Path}
 use Rattle.md_dirs.specs.declared.paths.Place.TheVariants.{Tmp}
-use Rattle.md_core.specs.declared.jobs.answer.Answer.TheVariants.{TmpGone}
-use Rattle.md_core.specs.declared.jobs.call.Call.TheVariants.{Deliver}
+use Rattle.md_jobs.specs.declared.answer.Answer.TheVariants.{TmpGone}
+use Rattle.md_jobs.specs.declared.call.Call.TheVariants.{Deliver}
 use Rattle.md_core.specs.Trace.{Trace, Step, step_at, call_at, IsAnswered}
 use Rattle.md_core.specs.Answering.{Begins, IsCleanedAway}
 

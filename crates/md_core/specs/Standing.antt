@@ -1,15 +1,15 @@
 -- What contracts see of a job: its call, and how far it is.
 use Rattle.std.specs.Prelude.{ℕ, ◌≡◌, List, Option, map}
-use Rattle.md_core.specs.declared.jobs.call.Call.{Call}
-use Rattle.md_core.specs.declared.jobs.effect.Effect.{Effect}
+use Rattle.md_jobs.specs.declared.call.Call.{Call}
+use Rattle.md_jobs.specs.declared.effect.Effect.{Effect}
 use Rattle.md_core.specs.declared.jobs.job.Progress.{Progress}
 use Rattle.md_core.specs.declared.jobs.job.Progress.TheVariants.{Working, Answered}
-use Rattle.md_core.specs.declared.jobs.step.Moment.{Moment}
-use Rattle.md_core.specs.declared.jobs.step.StepOut.{StepOut}
+use Rattle.md_jobs.specs.declared.step.Moment.{Moment}
+use Rattle.md_jobs.specs.declared.step.StepOut.{StepOut}
 use Rattle.md_core.specs.Tasks.Task.{Task}
 use Rattle.md_core.specs.Tasks.Views.Tasks.{task_view}
 use Rattle.md_dirs.specs.Calls.{Device}
-use Rattle.md_core.specs.Turn.{Takes}
+use Rattle.md_jobs.specs.Turn.{Takes}
 use Rattle.md_core.specs.Machine.{Standing, working, answered, new_job, turn_of, standing_of}
 
 -- a job: its call, and how far it is

@@ -6,10 +6,10 @@ use Rattle.std.specs.Str.{bytes_eq}
 use Rattle.std.specs.FinMap as finmap
 use Rattle.md_dirs.specs.declared.paths.Path.{Path}
 use Rattle.md_name.specs.Names.{unique_of, is_unique_name}
-use Rattle.md_core.specs.declared.error.CoreError.{CoreError}
-use Rattle.md_core.specs.declared.error.CoreError.TheVariants as core
-use Rattle.md_core.specs.declared.jobs.call.Call.{Call}
-use Rattle.md_core.specs.declared.jobs.call.Call.TheVariants.{Deliver, Seen, Flag, Move, Expunge, Copy, Clean}
+use Rattle.md_jobs.specs.declared.error.CoreError.{CoreError}
+use Rattle.md_jobs.specs.declared.error.CoreError.TheVariants as core
+use Rattle.md_jobs.specs.declared.call.Call.{Call}
+use Rattle.md_jobs.specs.declared.call.Call.TheVariants.{Deliver, Seen, Flag, Move, Expunge, Copy, Clean}
 use Rattle.md_core.specs.Mailbox.{is_tmp, is_message}
 use Rattle.md_core.specs.Runs.{Run}
 

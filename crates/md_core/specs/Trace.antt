@@ -6,13 +6,13 @@ use Rattle.std.specs.Option.{option_and_then}
 use Rattle.md_dirs.specs.State.{State, IsSound, file_at, file_by}
 use Rattle.md_dirs.specs.declared.paths.File.{File}
 use Rattle.md_dirs.specs.declared.paths.Path.{Path}
-use Rattle.md_core.specs.declared.jobs.answer.Answer.{Answer}
-use Rattle.md_core.specs.declared.jobs.call.Call.{Call}
-use Rattle.md_core.specs.declared.jobs.effect.Effect.{Effect}
-use Rattle.md_core.specs.declared.jobs.step.DirReply.{DirReply}
-use Rattle.md_core.specs.declared.jobs.step.DirReply.TheVariants.{Fault}
-use Rattle.md_core.specs.declared.jobs.step.Moment.{Moment}
-use Rattle.md_core.specs.Asked.{Asked, ask_of, state_by, reply_by}
+use Rattle.md_jobs.specs.declared.answer.Answer.{Answer}
+use Rattle.md_jobs.specs.declared.call.Call.{Call}
+use Rattle.md_jobs.specs.declared.effect.Effect.{Effect}
+use Rattle.md_jobs.specs.declared.step.DirReply.{DirReply}
+use Rattle.md_jobs.specs.declared.step.DirReply.TheVariants.{Fault}
+use Rattle.md_jobs.specs.declared.step.Moment.{Moment}
+use Rattle.md_jobs.specs.Asked.{Asked, ask_of, state_by, reply_by}
 use Rattle.md_core.specs.Mailbox.{Mailbox, mailbox_of, HasOnePath}
 use Rattle.md_core.specs.Accepting.{IsAccepted}
 

@@ -1,9 +1,9 @@
 -- The trace of a run: what its events did, one after another. Here alone the machines are used.
 use Rattle.std.specs.Prelude.{ℕ, ◌≡◌, ◌≤◌, ◌++◌, ◌∷◌, [], List, Some, None, length, slice_get, is_some}
 use Rattle.std.specs.Option.{option_to_list}
-use Rattle.md_core.specs.declared.jobs.answer.Answer.{Answer}
-use Rattle.md_core.specs.declared.jobs.step.StepOut.{StepOut}
-use Rattle.md_core.specs.Asked.{shown_call}
+use Rattle.md_jobs.specs.declared.answer.Answer.{Answer}
+use Rattle.md_jobs.specs.declared.step.StepOut.{StepOut}
+use Rattle.md_jobs.specs.Asked.{shown_call}
 use Rattle.md_core.specs.Machine.{Machine, Occurrence, step_of, after_event, job_at}
 use Rattle.md_core.specs.Runs.{Run, beginning, dirs_of, jobs_of, effects_of, answer_of}
 use Rattle.md_core.specs.Trace.{Step, Trace, IsAnswered, state, effects}

@@ -2,7 +2,7 @@
 use Rattle.std.proofs.Common.{arith, ℕ, zero, suc, ◌≡◌, ◌≢◌, ◌==◌, ◌<◌, ◌+◌, List, [], ◌∷◌, ◌++◌, Option, Some, None, Ok, Err, Bool, true, false, length, drop, refl, sym, ap, subst, ◌∙◌, true≢false}
 use Rattle.std.proofs.lemmas.Bool.{eqb-true}
 use Rattle.std.proofs.lemmas.List.{nil_from_length}
-use Rattle.md_core.specs.declared.jobs.answer.Answer.{Answer}
+use Rattle.md_jobs.specs.declared.answer.Answer.{Answer}
 use Rattle.md_core.specs.Runs.{Run}
 use Rattle.md_ffi.specs.Calling.{Comes}
 use Rattle.md_ffi.specs.Records.{record_in, Answered, Record}

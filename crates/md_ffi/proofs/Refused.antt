@@ -1,7 +1,7 @@
 -- The number of a refused step is that of its refusal.
 use Rattle.std.proofs.Common.{◌≡◌, ap}
 use Rattle.std.specs.Prelude.{Option, Some, None}
-use Rattle.md_core.specs.declared.error.CoreError.{CoreError}
+use Rattle.md_jobs.specs.declared.error.CoreError.{CoreError}
 use Rattle.md_core.specs.Runs.{IsRefusal}
 use Rattle.md_ffi.specs.Doing.{refused_step}
 use Rattle.md_ffi.specs.Numbers.{core_number}

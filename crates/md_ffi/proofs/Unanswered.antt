@@ -4,7 +4,7 @@ use Rattle.std.specs.List.{position_or_len}
 use Rattle.std.proofs.lemmas.List.Sums.{position_or_len_is}
 use Rattle.std.proofs.lemmas.Option.{slice_get-get_or}
 use Rattle.std.proofs.lemmas.Bool.{cases_lt, lt-ltb, le-ltb}
-use Rattle.md_core.specs.declared.jobs.answer.Answer.TheVariants.{Delivered}
+use Rattle.md_jobs.specs.declared.answer.Answer.TheVariants.{Delivered}
 use Rattle.md_core.specs.Machine.{Standing, working, answered, is_working, job_at}
 use Rattle.md_core.specs.Runs.{Run, answer_of, jobs_of}
 use Rattle.md_core.specs.Settling.{first_unanswered}

@@ -5,8 +5,8 @@ use Rattle.std.specs.FinSet as set
 use Rattle.std.specs.Ordering.{nat_cmp}
 use Rattle.md_name.specs.Letters.{is_letter}
 use Rattle.md_name.specs.declared.error.NameError.TheVariants.{BadFlag}
-use Rattle.md_core.specs.declared.jobs.call.Call.{Call}
-use Rattle.md_core.specs.declared.jobs.call.Call.TheVariants as call
+use Rattle.md_jobs.specs.declared.call.Call.{Call}
+use Rattle.md_jobs.specs.declared.call.Call.TheVariants as call
 use Rattle.md_script.specs.declared.error.PlayKind.TheVariants.{Name}
 use Rattle.md_ffi.specs.declared.asked.Asked.{Asked}
 use Rattle.md_ffi.specs.declared.asked.Own.{Own}

@@ -1,8 +1,8 @@
 -- What a call by a handle does to the world behind it.
 use Rattle.std.specs.Prelude.{◌≡◌, ◌⊎◌, ℕ, ◌+◌, ◌==◌, ◌&&◌, List, length, nat_le, nat_lt, Bool, true, false, Option, Some, None, Result, Ok, Err}
-use Rattle.md_core.specs.declared.error.CoreError.{CoreError}
-use Rattle.md_core.specs.declared.error.CoreError.TheVariants.{NoJob}
-use Rattle.md_core.specs.declared.jobs.answer.Answer.{Answer}
+use Rattle.md_jobs.specs.declared.error.CoreError.{CoreError}
+use Rattle.md_jobs.specs.declared.error.CoreError.TheVariants.{NoJob}
+use Rattle.md_jobs.specs.declared.answer.Answer.{Answer}
 use Rattle.md_core.specs.Machine.{Occurrence}
 use Rattle.md_core.specs.Runs.{Run, and_call, and_event}
 use Rattle.md_core.specs.Settling.{settled}

@@ -7,7 +7,7 @@ use Rattle.md_dirs.specs.Rows.{rows_of}
 use Rattle.md_dirs.specs.declared.rows.Row.{Row}
 use Rattle.md_dirs.specs.declared.paths.Place.{Place}
 use Rattle.md_dirs.specs.declared.paths.Place.TheVariants.{Tmp, New, Cur}
-use Rattle.md_core.specs.declared.error.CoreError.TheVariants.{NoFolder}
+use Rattle.md_jobs.specs.declared.error.CoreError.TheVariants.{NoFolder}
 use Rattle.md_core.specs.Mailbox.{Entry as Message, mailbox_of}
 use Rattle.md_core.specs.Runs.{Run, dirs_of}
 use Rattle.md_view.specs.Law.{names_at, listing_of}

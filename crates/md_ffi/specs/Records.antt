@@ -1,7 +1,7 @@
 -- Records of calls, and what many calls in one come to.
 use Rattle.std.specs.Prelude.{◌≡◌, ◌≢◌, ◌⊎◌, ◌≤◌, ◌<◌, ◌-◌, ℕ, List, [], ◌∷◌, Option, Some, None, Result, Ok, Err, length, take, drop, nat_le, if◌then◌else◌}
 use Rattle.std.specs.Int.{w32, w64, from_le_bytes}
-use Rattle.md_core.specs.declared.jobs.answer.Answer.{Answer}
+use Rattle.md_jobs.specs.declared.answer.Answer.{Answer}
 use Rattle.md_core.specs.Runs.{Run}
 use Rattle.md_ffi.specs.Asking.{and_then}
 use Rattle.md_ffi.specs.Calling.{no_answer_number, Comes}

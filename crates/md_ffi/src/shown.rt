@@ -1,6 +1,6 @@
 //! What C sees of answers and steps.
 ghost use Rattle.std.specs.Prelude.{◌≡◌, ◌==◌, None, Some};
-ghost use Rattle.md_core.specs.Asked.{is_fault};
+ghost use Rattle.md_jobs.specs.Asked.{is_fault};
 ghost use Rattle.md_ffi.specs.Reading.{place_at, place_number};
 ghost use Rattle.md_ffi.specs.Shown.{answer_shown, call_number, call_value, flag_bits, reply_number, IsShown};
 

@@ -17,7 +17,7 @@ use Rattle.md_dirs.specs.declared.paths.Place.{Place}
 use Rattle.lists.proofs.Maps.{by_key, at_put, beside_put, at_drop, beside_drop}
 use Rattle.md_core.specs.Mailbox.{is_tmp}
 use Rattle.md_core.specs.History.{Listed, Names, IsThere, size_in, names_after_change}
-use Rattle.md_core.specs.declared.jobs.effect.Change.TheVariants as change
+use Rattle.md_jobs.specs.declared.effect.Change.TheVariants as change
 use Rattle.md_view.specs.declared.entry.Entry.{Entry}
 use Rattle.md_view.specs.Readings.{as_entry, is_at}
 use Rattle.md_replica.specs.Named.{Named, IsMessage, AreMessages, is_listed, has_name, is_there, is_free, fits, after_change}

@@ -6,8 +6,8 @@ use Rattle.std.proofs.lemmas.Cmp.{nat_list_eq_equiv}
 use Rattle.md_name.specs.Names.{unique_of, is_message_name}
 use Rattle.md_dirs.specs.declared.paths.Place.{Place}
 use Rattle.md_core.specs.History.{Listed, names_after_change, size_in}
-use Rattle.md_core.specs.declared.jobs.effect.Change.{Change}
-use Rattle.md_core.specs.declared.jobs.effect.Change.TheVariants as change
+use Rattle.md_jobs.specs.declared.effect.Change.{Change}
+use Rattle.md_jobs.specs.declared.effect.Change.TheVariants as change
 use Rattle.md_view.specs.declared.entry.Entry.{Entry}
 use Rattle.md_view.specs.Readings.{as_entry}
 use Rattle.md_replica.specs.Named.{Named, is_there, fits, after_change}

@@ -11,8 +11,8 @@ use Rattle.md_dirs.specs.declared.paths.Place.TheVariants.{Tmp, New, Cur}
 use Rattle.md_name.specs.Names.{unique_of, is_message_name}
 use Rattle.md_core.specs.Mailbox.{mailbox_of, is_tmp}
 use Rattle.md_core.specs.History.{Listed, Names, names_of, names_after_change}
-use Rattle.md_core.specs.declared.jobs.effect.Change.{Change}
-use Rattle.md_core.specs.declared.jobs.effect.Change.TheVariants.{Add, Rename, Remove, Same}
+use Rattle.md_jobs.specs.declared.effect.Change.{Change}
+use Rattle.md_jobs.specs.declared.effect.Change.TheVariants.{Add, Rename, Remove, Same}
 
 -- how many folders there are, and what can be seen of each message, by its unique name
 pub record Named : Type 0 where

@@ -1,7 +1,7 @@
 // What a change makes of the names.
 ghost use Rattle.std.specs.Prelude.{◌≡◌, ◌≢◌, ◌↔◌, true, IsTrue, IsSome, IfSome, OnOk, OnErr};
 ghost use Rattle.md_name.specs.Names.{unique_of, is_message_name};
-ghost use Rattle.md_core.specs.declared.jobs.effect.Change.TheVariants.{Add, Rename, Remove};
+ghost use Rattle.md_jobs.specs.declared.effect.Change.TheVariants.{Add, Rename, Remove};
 ghost use Rattle.md_replica.specs.Named.{after_change, fits as fits_names};
 ghost use Rattle.md_replica.specs.Held.{entry_with, listed_in, held_names, AreHeld, HoldNames};
 

@@ -4,7 +4,7 @@ ghost use Rattle.md_dirs.specs.declared.paths.Place.{Place};
 ghost use Rattle.std.specs.List.{list_any};
 ghost use Rattle.std.specs.FinMap as finmap;
 ghost use Rattle.md_name.specs.Names.{unique_of, is_message_name};
-ghost use Rattle.md_core.specs.declared.jobs.effect.Change.TheVariants.{Rename, Remove};
+ghost use Rattle.md_jobs.specs.declared.effect.Change.TheVariants.{Rename, Remove};
 ghost use Rattle.md_replica.specs.Named.{fits as fits_names, is_listed as is_listed_in, is_free as is_free_name, is_there as is_name_there};
 ghost use Rattle.md_replica.specs.Held.{has_unique, held_names, HoldNames, IsTakenBeside};
 

@@ -6,9 +6,9 @@ use Rattle.std.proofs.lemmas.Bool.{eqb-true}
 use Rattle.std.proofs.lemmas.List.{length-map}
 use Rattle.std.proofs.lemmas.List.Sums.{AllPass-from_list_all}
 use Rattle.md_view.proofs.Rows.{and-first, and-second}
-use Rattle.md_core.specs.declared.jobs.call.Call.{Call}
-use Rattle.md_core.specs.declared.jobs.answer.Answer.{Answer}
-use Rattle.md_core.specs.declared.jobs.step.Event.{Event}
+use Rattle.md_jobs.specs.declared.call.Call.{Call}
+use Rattle.md_jobs.specs.declared.answer.Answer.{Answer}
+use Rattle.md_jobs.specs.declared.step.Event.{Event}
 use Rattle.md_core.specs.Stepping.{IsRun}
 use Rattle.md_core.specs.Machine.{Standing, Occurrence, job_at}
 use Rattle.md_core.specs.Runs.{Run, answer_of, and_events, failures_of, log_of}

@@ -3,9 +3,9 @@ use Rattle.std.proofs.Common.{ℕ, ◌≡◌, ◌≢◌, ◌+◌, ◌<◌, ◌++
 use Rattle.std.specs.Result.{IsErrAnd}
 use Rattle.md_dirs.proofs.Filled.{parted}
 use Rattle.md_dirs.specs.Calls.{fresh}
-use Rattle.md_core.specs.declared.error.CoreError.{CoreError}
-use Rattle.md_core.specs.declared.error.CoreError.TheVariants as core
-use Rattle.md_core.specs.declared.jobs.call.Call.{Call}
+use Rattle.md_jobs.specs.declared.error.CoreError.{CoreError}
+use Rattle.md_jobs.specs.declared.error.CoreError.TheVariants as core
+use Rattle.md_jobs.specs.declared.call.Call.{Call}
 use Rattle.md_dirs.specs.State.{State}
 use Rattle.md_dirs.specs.declared.image.ImageFile.{ImageFile}
 use Rattle.md_core.specs.Loading.{load_refusal}

@@ -1,7 +1,7 @@
 -- The store that a script sets up for threads: its folders and files, and its jobs, of which none was stepped.
 use Rattle.std.specs.Prelude.{◌≡◌, ℕ, List, [], ◌∷◌, true, Option, Some, None, Result, Ok, Err, length}
 use Rattle.md_dirs.specs.declared.image.ImageFile.{ImageFile}
-use Rattle.md_core.specs.declared.jobs.call.Call.{Call}
+use Rattle.md_jobs.specs.declared.call.Call.{Call}
 use Rattle.md_core.specs.Runs.{Run, and_call}
 use Rattle.md_core.specs.Submitting.{submit_refusal}
 use Rattle.md_script.specs.declared.error.PlayKind.{PlayKind}

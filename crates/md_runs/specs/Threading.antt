@@ -1,6 +1,6 @@
 -- What a run on threads writes of a script, and where it is refused.
 use Rattle.std.specs.Prelude.{◌≡◌, ℕ, zero, suc, ◌+◌, ◌<◌, ◌==◌, ◌&&◌, ◌⊎◌, Bool, true, not, List, [], ◌∷◌, ◌++◌, None, Result, Ok, Err, All, length, is_some, codes}
-use Rattle.md_core.specs.declared.jobs.step.Event.{Event}
+use Rattle.md_jobs.specs.declared.step.Event.{Event}
 use Rattle.md_core.specs.Machine.{Standing, Occurrence, job_at}
 use Rattle.md_core.specs.Mailbox.{Mailbox, mailbox_of}
 use Rattle.md_core.specs.Runs.{Run, dirs_of, jobs_of, failures_of, answer_of, and_events}

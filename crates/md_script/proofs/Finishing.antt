@@ -1,10 +1,10 @@
 -- Steps of one job until it is answered.
 use Rattle.std.proofs.Common.{ℕ, zero, suc, ◌≡◌, ◌<◌, ◌≤◌, ◌++◌, List, [], inl, inr, Option, Some, None, true, false, is_some, Result, Ok, Err, refl, sym, ap, subst, ◌∙◌, length, arith, append_assoc, append-nil}
 use Rattle.std.proofs.lemmas.Option.{slice_get_cases}
-use Rattle.md_core.specs.declared.error.CoreError.{CoreError}
-use Rattle.md_core.specs.declared.error.CoreError.TheVariants.{Answered}
-use Rattle.md_core.specs.declared.jobs.answer.Answer.{Answer}
-use Rattle.md_core.specs.declared.jobs.step.Event.{Event}
+use Rattle.md_jobs.specs.declared.error.CoreError.{CoreError}
+use Rattle.md_jobs.specs.declared.error.CoreError.TheVariants.{Answered}
+use Rattle.md_jobs.specs.declared.answer.Answer.{Answer}
+use Rattle.md_jobs.specs.declared.step.Event.{Event}
 use Rattle.md_core.specs.Machine.{Occurrence, Standing, working, answered, job_at}
 use Rattle.md_core.specs.Laws.{HasJob}
 use Rattle.md_core.specs.Runs.{Run, jobs_of, and_event, answer_of, step_refusal, steps_left}

@@ -1,6 +1,6 @@
 -- Listings that have begun wait for whatever is done to a store.
 use Rattle.std.proofs.Common.{◌≡◌, [], ◌∷◌, inl, inr, sym, subst}
-use Rattle.md_core.specs.declared.jobs.call.Call.{Call}
+use Rattle.md_jobs.specs.declared.call.Call.{Call}
 use Rattle.md_core.specs.Machine.{Occurrence}
 use Rattle.md_core.specs.Runs.{Run, and_call, and_event}
 use Rattle.md_core.specs.Stepping.{IsRun}

@@ -4,8 +4,8 @@ use Rattle.std.specs.Str.{bytes_eq}
 use Rattle.md_dirs.specs.declared.paths.Place.{Place}
 use Rattle.md_dirs.specs.declared.paths.Place.TheVariants.{Tmp, New, Cur}
 use Rattle.md_dirs.specs.declared.image.ImageFile.{ImageFile}
-use Rattle.md_core.specs.declared.jobs.call.Call.{Call}
-use Rattle.md_core.specs.declared.jobs.step.Event.{Event}
+use Rattle.md_jobs.specs.declared.call.Call.{Call}
+use Rattle.md_jobs.specs.declared.step.Event.{Event}
 use Rattle.md_script.specs.declared.error.PlayKind.{PlayKind}
 use Rattle.md_script.specs.declared.error.PlayKind.TheVariants.{BadCommand, BadFolder, BadPlace}
 use Rattle.md_script.specs.declared.verb.Verb.{Verb}

@@ -1,8 +1,8 @@
 -- Which kind of refusal an error of the store, or of a name, is. Want of memory is one kind, wherever it was met.
 use Rattle.md_name.specs.declared.error.NameError.{NameError}
 use Rattle.md_name.specs.declared.error.NameError.TheVariants as name
-use Rattle.md_core.specs.declared.error.CoreError.{CoreError}
-use Rattle.md_core.specs.declared.error.CoreError.TheVariants as core
+use Rattle.md_jobs.specs.declared.error.CoreError.{CoreError}
+use Rattle.md_jobs.specs.declared.error.CoreError.TheVariants as core
 use Rattle.md_script.specs.declared.error.PlayKind.{PlayKind}
 use Rattle.md_script.specs.declared.error.PlayKind.TheVariants.{Core, Name, NoMemory}
 use Rattle.md_script.specs.declared.error.PlayError.{PlayError}

@@ -1,9 +1,9 @@
 -- Stores whose jobs all go by the clock of the store.
 use Rattle.std.specs.Prelude.{◌≡◌, Option, Some}
 use Rattle.std.specs.Option.{option_map}
-use Rattle.md_core.specs.declared.jobs.answer.Answer.TheVariants.{TmpGone}
-use Rattle.md_core.specs.declared.jobs.step.Event.{Event}
-use Rattle.md_core.specs.declared.jobs.step.StepOut.{StepOut}
+use Rattle.md_jobs.specs.declared.answer.Answer.TheVariants.{TmpGone}
+use Rattle.md_jobs.specs.declared.step.Event.{Event}
+use Rattle.md_jobs.specs.declared.step.StepOut.{StepOut}
 use Rattle.md_core.specs.Machine.{step_of, step_out}
 use Rattle.md_core.specs.Runs.{Run, machine_of, and_event}
 use Rattle.md_core.specs.Stepping.{IsRun}

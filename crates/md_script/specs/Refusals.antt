@@ -2,8 +2,8 @@
 use Rattle.std.specs.Prelude.{ℕ, List, codes}
 use Rattle.md_name.specs.declared.error.NameError.{NameError}
 use Rattle.md_name.specs.declared.error.NameError.TheVariants as name
-use Rattle.md_core.specs.declared.error.CoreError.{CoreError}
-use Rattle.md_core.specs.declared.error.CoreError.TheVariants as core
+use Rattle.md_jobs.specs.declared.error.CoreError.{CoreError}
+use Rattle.md_jobs.specs.declared.error.CoreError.TheVariants as core
 use Rattle.md_script.specs.declared.error.PlayKind.{PlayKind}
 use Rattle.md_script.specs.declared.error.PlayKind.TheVariants as play
 

@@ -12,9 +12,9 @@ use Rattle.md_name.specs.declared.error.NameError.{NameError}
 use Rattle.md_name.specs.Made.{make_refusal}
 use Rattle.md_head.specs.Summaries.{summary_of}
 use Rattle.md_dirs.specs.Calls.{fresh}
-use Rattle.md_core.specs.declared.error.CoreError.{CoreError}
-use Rattle.md_core.specs.declared.jobs.call.Call.{Call}
-use Rattle.md_core.specs.declared.jobs.step.Event.{Event}
+use Rattle.md_jobs.specs.declared.error.CoreError.{CoreError}
+use Rattle.md_jobs.specs.declared.call.Call.{Call}
+use Rattle.md_jobs.specs.declared.step.Event.{Event}
 use Rattle.md_core.specs.Loading.{load_refusal}
 use Rattle.md_core.specs.Mailbox.{Entry, mailbox_of}
 use Rattle.md_core.specs.Machine.{Occurrence, job_at, step_of, step_out}

@@ -1,7 +1,7 @@
 -- What the lines of a script set up: folders, files and calls, of which nothing is loaded and nothing runs.
 use Rattle.std.specs.Prelude.{◌≡◌, ℕ, Bool, List, [], ◌∷◌, ◌++◌, Result, Ok, Err}
 use Rattle.md_dirs.specs.declared.image.ImageFile.{ImageFile}
-use Rattle.md_core.specs.declared.jobs.call.Call.{Call}
+use Rattle.md_jobs.specs.declared.call.Call.{Call}
 use Rattle.md_script.specs.declared.error.PlayKind.{PlayKind}
 use Rattle.md_script.specs.declared.error.PlayKind.TheVariants.{NotInThisRun}
 use Rattle.md_script.specs.declared.setup.Setup.{Setup}

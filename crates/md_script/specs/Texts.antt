@@ -8,13 +8,13 @@ use Rattle.md_name.specs.declared.info.Info.{Info}
 use Rattle.md_name.specs.Names.{split_of, flags_of}
 use Rattle.md_name.specs.Made.{made_unique}
 use Rattle.md_head.specs.declared.shown.Summary.{Summary}
-use Rattle.md_core.specs.declared.jobs.answer.Answer.{Answer}
-use Rattle.md_core.specs.declared.jobs.answer.Answer.TheVariants as answer
-use Rattle.md_core.specs.declared.jobs.step.DirCall.{DirCall}
-use Rattle.md_core.specs.declared.jobs.step.DirCall.TheVariants as dir
-use Rattle.md_core.specs.declared.jobs.step.DirReply.{DirReply}
-use Rattle.md_core.specs.declared.jobs.step.DirReply.TheVariants as reply
-use Rattle.md_core.specs.declared.jobs.step.StepOut.{StepOut}
+use Rattle.md_jobs.specs.declared.answer.Answer.{Answer}
+use Rattle.md_jobs.specs.declared.answer.Answer.TheVariants as answer
+use Rattle.md_jobs.specs.declared.step.DirCall.{DirCall}
+use Rattle.md_jobs.specs.declared.step.DirCall.TheVariants as dir
+use Rattle.md_jobs.specs.declared.step.DirReply.{DirReply}
+use Rattle.md_jobs.specs.declared.step.DirReply.TheVariants as reply
+use Rattle.md_jobs.specs.declared.step.StepOut.{StepOut}
 use Rattle.md_view.specs.declared.entry.Entry.{Entry}
 use Rattle.md_script.specs.Escapes.{escape_all}
 

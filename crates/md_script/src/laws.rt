@@ -1,7 +1,7 @@
 //! What holds of scripts by their definitions alone. Each law is a function that does nothing: its contract is the law, and a caller
 //! that calls it may rely on it.
 ghost use Rattle.std.specs.Prelude.{◌≡◌, Ok, None};
-ghost use Rattle.md_core.specs.declared.jobs.step.Event.{Event as ScriptEvent};
+ghost use Rattle.md_jobs.specs.declared.step.Event.{Event as ScriptEvent};
 ghost use Rattle.md_core.specs.Runs.{Run};
 ghost use Rattle.md_core.specs.Stepping.{IsRun};
 ghost use Rattle.md_core.specs.Tracing.{HasOneClock};

@@ -1,8 +1,8 @@
 -- What a step of a call tells.
 use Rattle.std.proofs.Common.{ℕ, Option, refl, sym, subst}
-use Rattle.md_core.specs.declared.error.CoreError.{CoreError}
-use Rattle.md_core.specs.declared.error.CoreError.TheVariants as core
-use Rattle.md_core.specs.declared.jobs.step.StepOut.{StepOut}
+use Rattle.md_jobs.specs.declared.error.CoreError.{CoreError}
+use Rattle.md_jobs.specs.declared.error.CoreError.TheVariants as core
+use Rattle.md_jobs.specs.declared.step.StepOut.{StepOut}
 use Rattle.md_core.specs.Runs.{Run, IsRefusal}
 use Rattle.md_store.specs.Calling.{RefusesSince}
 use Rattle.md_store.specs.Locks.{StepsSince}

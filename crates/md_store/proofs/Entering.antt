@@ -4,7 +4,7 @@ use Rattle.std.proofs.Common.{◌≡◌, ◌≢◌, ℕ, zero, suc, ◌<◌, ◌
 use mathlib.Core.List.{IsPrefix}
 use prog.Atomic.{either}
 use Rattle.logbook.specs.Pages.{Cell, Nib, View, cell, adds, keeps, gives, no_nib, step, Moves, Goes}
-use Rattle.md_core.specs.declared.jobs.call.Call.{Call}
+use Rattle.md_jobs.specs.declared.call.Call.{Call}
 use Rattle.md_store.specs.declared.entered.Entered.{Entered}
 use Rattle.md_store.specs.Rolls.{calls_of, no_entry, next_from, Follows, AreUsed, MadeNone, first_pen, IsChained, MayEnter, MakesPen, FindsAll, AddsCall}
 

@@ -8,7 +8,7 @@ use Rattle.md_dirs.specs.declared.paths.Place.TheVariants.{Tmp, New, Cur}
 use Rattle.md_core.specs.History.{Listed, Names}
 use Rattle.md_core.specs.Laws.{IsNotInTmp, KeepsPlaces}
 use Rattle.md_core.specs.Mailbox.{is_tmp}
-use Rattle.md_core.specs.declared.jobs.effect.Effect.{Effect}
+use Rattle.md_jobs.specs.declared.effect.Effect.{Effect}
 use Rattle.md_view.specs.declared.entry.Entry.{Entry}
 use Rattle.md_view.specs.Law.{names_after_first}
 use Rattle.md_replica.specs.Named.{Named, AreMessages}

@@ -5,7 +5,7 @@ use Rattle.std.proofs.lemmas.Bool.Decides.{eqb_tells}
 use Rattle.std.proofs.lemmas.Bool.{eq-eqb}
 use prog.Atomic.{either}
 use Rattle.logbook.specs.Pages.{Cell, View, cell, keeps, no_nib, step, Moves, Goes}
-use Rattle.md_core.specs.declared.jobs.effect.Effect.{Effect}
+use Rattle.md_jobs.specs.declared.effect.Effect.{Effect}
 use Rattle.md_store.specs.Rules.{IsCounted, Appends}
 use Rattle.md_store.proofs.Beginnings.{all_of_it}
 

@@ -1,7 +1,7 @@
 -- What is listed at the end of a run.
 use Rattle.std.proofs.Common.{◌≡◌, List, sym, ap, ◌∙◌, length, arith}
 use Rattle.md_dirs.specs.declared.paths.Place.TheVariants.{New, Cur}
-use Rattle.md_core.specs.declared.jobs.effect.Effect.{Effect}
+use Rattle.md_jobs.specs.declared.effect.Effect.{Effect}
 use Rattle.md_core.specs.History.{Names, names_of, names_after}
 use Rattle.md_core.specs.Interleaving.{Interleaves}
 use Rattle.md_core.specs.Tracing.{trace_of, IsShown}

@@ -11,9 +11,9 @@ use Rattle.lists.proofs.Maps.{by_key, at_put, beside_put, at_drop, beside_drop}
 use Rattle.md_name.specs.Names.{unique_of}
 use Rattle.md_core.specs.History.{Listed, Names, IsAllowedAfter, WasNowhere, names_after, names_after_change}
 use Rattle.md_core.specs.Mailbox.{is_tmp}
-use Rattle.md_core.specs.declared.jobs.effect.Change.{Change}
-use Rattle.md_core.specs.declared.jobs.effect.Change.TheVariants as change
-use Rattle.md_core.specs.declared.jobs.effect.Effect.{Effect}
+use Rattle.md_jobs.specs.declared.effect.Change.{Change}
+use Rattle.md_jobs.specs.declared.effect.Change.TheVariants as change
+use Rattle.md_jobs.specs.declared.effect.Effect.{Effect}
 use Rattle.md_replica.specs.Named.{Named, IsMessage, AreMessages, is_listed, is_free, fits, after_change}
 use Rattle.md_replica.proofs.Fitting.{allowed-applied, nowhere}
 use Rattle.md_view.proofs.Rows.{and-first, and-second}

@@ -1,7 +1,7 @@
 -- What a seat that enters what is published sees of it.
 use Rattle.std.proofs.Common.{ℕ, ◌≡◌, ◌<◌, true, List, Option, sym, ap, ◌∙◌, subst, Result, Ok, Err, IfOk}
 use mathlib.Core.List.{IsPrefix}
-use Rattle.md_core.specs.declared.jobs.effect.Effect.{Effect}
+use Rattle.md_jobs.specs.declared.effect.Effect.{Effect}
 use Rattle.md_view.specs.declared.entry.Entry.{Entry}
 use Rattle.md_replica.specs.Named.{Named, AreMessages}
 use Rattle.md_store.specs.declared.error.ListError.{ListError}

@@ -5,12 +5,12 @@ use Rattle.std.specs.Option.{option_map, option_to_list}
 use Rattle.std.specs.declared.alloc.AllocError.{AllocError}
 use Rattle.std.proofs.lemmas.List.{append-nil}
 use Rattle.logbook.specs.Pages.{Book}
-use Rattle.md_core.specs.declared.error.CoreError.{CoreError}
-use Rattle.md_core.specs.declared.jobs.call.Call.{Call}
+use Rattle.md_jobs.specs.declared.error.CoreError.{CoreError}
+use Rattle.md_jobs.specs.declared.call.Call.{Call}
 use Rattle.md_core.specs.declared.world.submit.SubmitRefused.{SubmitRefused}
-use Rattle.md_core.specs.declared.jobs.effect.Effect.{Effect}
-use Rattle.md_core.specs.declared.jobs.step.StepOut.{StepOut}
-use Rattle.md_core.specs.Asked.{is_fault}
+use Rattle.md_jobs.specs.declared.effect.Effect.{Effect}
+use Rattle.md_jobs.specs.declared.step.StepOut.{StepOut}
+use Rattle.md_jobs.specs.Asked.{is_fault}
 use Rattle.md_core.specs.Tasks.Task.{Task}
 use Rattle.md_core.specs.Machine.{Machine, Occurrence, occurrence, step_by, task_of, job_at, step_of as done_of}
 use Rattle.md_core.specs.Trace.{Step}

@@ -2,11 +2,11 @@
 use Rattle.std.proofs.Common.{◌≡◌, ℕ, zero, suc, ◌+◌, ◌<◌, ◌++◌, List, [], ◌∷◌, Option, Some, Result, Ok, Err, IfOk, OnErr, MatchResult, refl, sym, ap, ◌∙◌, subst, arith, length, slice_get, append-nil, append_assoc}
 use mathlib.Core.List.{IsPrefix}
 use Rattle.logbook.specs.Pages.{Book}
-use Rattle.md_core.specs.declared.error.CoreError.{CoreError}
-use Rattle.md_core.specs.declared.jobs.call.Call.{Call}
-use Rattle.md_core.specs.declared.jobs.step.StepOut.{StepOut}
+use Rattle.md_jobs.specs.declared.error.CoreError.{CoreError}
+use Rattle.md_jobs.specs.declared.call.Call.{Call}
+use Rattle.md_jobs.specs.declared.step.StepOut.{StepOut}
 use Rattle.md_core.specs.declared.world.submit.SubmitRefused.{SubmitRefused}
-use Rattle.md_core.specs.Asked.{is_fault}
+use Rattle.md_jobs.specs.Asked.{is_fault}
 use Rattle.md_core.specs.Machine.{occurrence}
 use Rattle.md_core.specs.Runs.{Run, and_call, and_event}
 use Rattle.md_core.specs.Trace.{call_at}

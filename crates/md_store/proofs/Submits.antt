@@ -9,10 +9,10 @@ use Rattle.md_dirs.specs.Path.{path_cmp}
 use Rattle.md_dirs.specs.State.{bare}
 use Rattle.md_name.specs.Names.{is_unique_name}
 use Rattle.md_dirs.specs.Calls.{fresh}
-use Rattle.md_core.specs.declared.error.CoreError.{CoreError}
-use Rattle.md_core.specs.declared.error.CoreError.TheVariants as core
-use Rattle.md_core.specs.declared.jobs.call.Call.{Call}
-use Rattle.md_core.specs.declared.jobs.call.Call.TheVariants as call
+use Rattle.md_jobs.specs.declared.error.CoreError.{CoreError}
+use Rattle.md_jobs.specs.declared.error.CoreError.TheVariants as core
+use Rattle.md_jobs.specs.declared.call.Call.{Call}
+use Rattle.md_jobs.specs.declared.call.Call.TheVariants as call
 use Rattle.md_core.specs.declared.world.submit.SubmitRefused.{SubmitRefused}
 use Rattle.md_core.specs.Machine.{Standing, working, answered}
 use Rattle.md_core.specs.Runs.{Run, new_run, IsRefusal, step_refusal}

@@ -3,18 +3,18 @@ use Rattle.std.specs.Prelude.{◌≡◌, ◌≤◌, ◌+◌, ◌⊎◌, ℕ, len
 use Rattle.std.specs.Option.{option_map}
 use Rattle.std.specs.FinMap as finmap
 use Rattle.logbook.specs.Pages.{Book}
-use Rattle.md_core.specs.declared.jobs.call.Call.{Call}
-use Rattle.md_core.specs.declared.jobs.effect.Effect.{Effect}
-use Rattle.md_core.specs.declared.jobs.step.StepOut.{StepOut}
+use Rattle.md_jobs.specs.declared.call.Call.{Call}
+use Rattle.md_jobs.specs.declared.effect.Effect.{Effect}
+use Rattle.md_jobs.specs.declared.step.StepOut.{StepOut}
 use Rattle.md_core.specs.Stepping.{IsRun, ShowsStep}
 use Rattle.md_core.specs.Machine.{Occurrence, occurrence, job_at}
 use Rattle.md_core.specs.Mailbox.{Entry, mailbox_of}
 use Rattle.md_core.specs.Interleaving.{IsWhole}
 use Rattle.md_core.specs.Tracing.{trace_of}
-use Rattle.md_core.specs.declared.error.CoreError.{CoreError}
+use Rattle.md_jobs.specs.declared.error.CoreError.{CoreError}
 use Rattle.md_core.specs.Runs.{Run, dirs_of, jobs_of, effects_of, and_event, step_refusal, IsRefusal}
 use Rattle.md_core.specs.Submitting.{submit_refusal}
-use Rattle.md_core.specs.Asked.{is_fault}
+use Rattle.md_jobs.specs.Asked.{is_fault}
 use Rattle.md_replica.specs.Named.{Named, named_of}
 use Rattle.md_store.specs.Pages.{Log, Page, Note}
 use Rattle.md_store.specs.Publishing.{knower, WaitsFor}

@@ -1,7 +1,7 @@
 -- What is published, and what is to be published next.
 use Rattle.std.specs.Prelude.{List}
 use Rattle.logbook.specs.Pages.{Book}
-use Rattle.md_core.specs.declared.jobs.effect.Effect.{Effect}
+use Rattle.md_jobs.specs.declared.effect.Effect.{Effect}
 use Rattle.md_replica.specs.Named.{Named}
 
 -- a beginning of the history of a book

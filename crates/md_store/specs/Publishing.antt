@@ -7,7 +7,7 @@ use lib.ListN.{get_elem?}
 use Rattle.logbook.specs.Pages.{Book}
 use Rattle.md_dirs.specs.State.{bare}
 use Rattle.md_dirs.specs.Calls.{fresh}
-use Rattle.md_core.specs.declared.jobs.effect.Effect.{Effect}
+use Rattle.md_jobs.specs.declared.effect.Effect.{Effect}
 use Rattle.md_core.specs.Runs.{Run, new_run}
 use Rattle.md_replica.specs.Named.{Named, AreMessages, after_change}
 use Rattle.md_store.specs.Histories.{named_after, IsLegalFrom}

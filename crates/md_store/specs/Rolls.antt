@@ -1,8 +1,8 @@
 -- A roll: its entries, the rule that its book keeps, and what each step tells.
 use Rattle.std.specs.Prelude.{ℕ, ◌≡◌, ◌≢◌, ◌<◌, true, List, [], ◌∷◌, ◌++◌, length, map}
 use Rattle.logbook.specs.Pages.{Cell, Step, View, Book, Nib, cell, may_write, may_make}
-use Rattle.md_core.specs.declared.jobs.call.Call.{Call}
-use Rattle.md_core.specs.declared.jobs.call.Call.TheVariants as call
+use Rattle.md_jobs.specs.declared.call.Call.{Call}
+use Rattle.md_jobs.specs.declared.call.Call.TheVariants as call
 use Rattle.md_store.specs.declared.entered.Entered.{Entered}
 
 -- calls in the order in which they were entered, and their book

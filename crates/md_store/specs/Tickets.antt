@@ -1,10 +1,10 @@
 -- Tickets of calls, and what a step by a ticket tells.
 use Rattle.std.specs.Prelude.{◌≡◌, ℕ, List, [], ◌∷◌, Option, Some, IfSome}
-use Rattle.md_core.specs.declared.jobs.answer.Answer.{Answer}
-use Rattle.md_core.specs.declared.jobs.call.Call.{Call}
-use Rattle.md_core.specs.declared.jobs.effect.Effect.{Effect}
+use Rattle.md_jobs.specs.declared.answer.Answer.{Answer}
+use Rattle.md_jobs.specs.declared.call.Call.{Call}
+use Rattle.md_jobs.specs.declared.effect.Effect.{Effect}
 use Rattle.md_core.specs.Answering.{Says}
-use Rattle.md_core.specs.Asked.{is_fault}
+use Rattle.md_jobs.specs.Asked.{is_fault}
 use Rattle.md_core.specs.Interleaving.{Acts}
 use Rattle.md_core.specs.Machine.{occurrence}
 use Rattle.md_core.specs.Runs.{Run, and_event}

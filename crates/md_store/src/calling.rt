@@ -1,7 +1,7 @@
 // Calls, each from its submission to its answer.
 ghost use Rattle.std.specs.Prelude.{◌≡◌, ◌⊎◌, Some, None, IfOk, IfErr};
 ghost use mathlib.Core.List.{IsPrefix};
-ghost use Rattle.md_core.specs.declared.error.CoreError.TheVariants as core;
+ghost use Rattle.md_jobs.specs.declared.error.CoreError.TheVariants as core;
 ghost use Rattle.md_store.specs.declared.calling.CallError.TheVariants as refusal;
 ghost use Rattle.md_store.specs.Calling.{Answers, GivesSince, RefusesSince, Leaves, Ends, Stops};
 ghost use Rattle.md_store.specs.Telling.{Stands};

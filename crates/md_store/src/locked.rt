@@ -3,7 +3,7 @@ ghost use Rattle.std.specs.Prelude.{◌≡◌, ◌≢◌, ◌+◌, ◌<◌, ◌�
 ghost use Rattle.std.specs.FinMap as finmap;
 ghost use mathlib.Core.List.{IsPrefix};
 ghost use Rattle.left_right.specs.Sides.{view};
-ghost use Rattle.md_core.specs.Asked.{is_fault};
+ghost use Rattle.md_jobs.specs.Asked.{is_fault};
 ghost use Rattle.md_core.specs.Mailbox.{Entry, mailbox_of};
 ghost use Rattle.md_core.specs.Machine.{occurrence, job_at};
 ghost use Rattle.md_core.specs.Runs.{dirs_of, jobs_of, effects_of, and_event, and_call, step_refusal, steps_left, IsRefusal};

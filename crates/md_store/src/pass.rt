@@ -38,7 +38,7 @@ impl<J: Naming> Model for Pass<J> {
     ghost use Rattle.std.specs.Coded.{codes};
     ghost use Rattle.md_name.specs.contracts.flags.Flags as flags;
     ghost use Rattle.left_right.specs.Sides.{view as seat_view};
-    ghost use Rattle.md_core.specs.declared.jobs.effect.Effect.{Effect};
+    ghost use Rattle.md_jobs.specs.declared.effect.Effect.{Effect};
     ghost use Rattle.md_store.specs.Histories.{IsLegalFrom};
     ghost use Rattle.md_store.specs.Publishing.{IsOf};
 

@@ -6,7 +6,7 @@ use Rattle.md_dirs.specs.Path.{place_index}
 use Rattle.md_dirs.specs.declared.paths.Place.{Place}
 use Rattle.md_dirs.specs.declared.paths.Place.TheVariants.{Tmp, New, Cur}
 use Rattle.md_dirs.specs.State.{State}
-use Rattle.md_core.specs.declared.jobs.effect.Effect.{Effect}
+use Rattle.md_jobs.specs.declared.effect.Effect.{Effect}
 use Rattle.md_core.specs.Mailbox.{mailbox_of}
 use Rattle.md_core.specs.History.{Listed, Names, names_of, IsLegal}
 use Rattle.md_core.specs.Runs.{Run}

@@ -1,6 +1,6 @@
 -- Every answer of a run says what happened.
 use Rattle.std.proofs.Common.{ℕ, ◌≡◌, Some}
-use Rattle.md_core.specs.declared.jobs.answer.Answer.TheVariants as answer
+use Rattle.md_jobs.specs.declared.answer.Answer.TheVariants as answer
 use Rattle.md_core.proofs.Values.{Call, Answer}
 use Rattle.md_core.specs.Machine.{answered, job_at}
 use Rattle.md_core.specs.Runs.{Run, jobs_of}

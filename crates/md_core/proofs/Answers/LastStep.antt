@@ -4,8 +4,8 @@ use Rattle.std.proofs.lemmas.Option.{slice_get_within}
 use Rattle.std.specs.Option.{option_and_then}
 use Rattle.md_dirs.proofs.Sound.{by_number, get-set_same, get-set_other}
 use Rattle.md_core.proofs.Values.{Call, Answer, DirReply, Task}
-use Rattle.md_core.specs.declared.jobs.call.Call.TheVariants as call
-use Rattle.md_core.specs.Turn.{After, Turn, rows_for}
+use Rattle.md_jobs.specs.declared.call.Call.TheVariants as call
+use Rattle.md_jobs.specs.Turn.{After, Turn, rows_for}
 use Rattle.md_core.specs.Machine.{Machine, Standing, working, answered, Occurrence, job_at, new_job, moment_of, turn_of, reply_to, standing_of, step_of, step_by}
 use Rattle.md_core.specs.Trace.{Step, call_at}
 use Rattle.md_core.specs.Runs.{Run, machine_at, beginning, jobs_of, done_at}

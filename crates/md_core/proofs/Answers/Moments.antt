@@ -6,8 +6,8 @@ use Rattle.std.proofs.lemmas.Bool.Decides.{nat_tests}
 use Rattle.std.proofs.lemmas.Option.{slice_get_within, slice_get_past}
 use Rattle.md_core.proofs.Values.{IsSound, Call, DirReply, Moment, Task}
 use Rattle.md_dirs.proofs.Sound.{by_number}
-use Rattle.md_core.specs.Asked.{Asked, ask_of, state_by}
-use Rattle.md_core.specs.Turn.{After, rows_for}
+use Rattle.md_jobs.specs.Asked.{Asked, ask_of, state_by}
+use Rattle.md_jobs.specs.Turn.{After, rows_for}
 use Rattle.md_core.specs.Machine.{Machine, Standing, working, Occurrence, step_of, job_at, moment_of, turn_of, after_turn}
 use Rattle.md_core.specs.Trace.{Step, call_at}
 use Rattle.md_core.specs.Runs.{Run, machine_at, done_at, first_step}

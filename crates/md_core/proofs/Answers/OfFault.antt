@@ -1,15 +1,15 @@
 -- A job is answered that it faulted only where one of its directory calls did, and never that its name is taken.
-use Rattle.md_core.specs.Tasks.Errand as errand
-use Rattle.md_core.specs.Tasks.Errand.{Look, Act}
+use Rattle.md_jobs.specs.Tasks.Errand as errand
+use Rattle.md_jobs.specs.Tasks.Errand.{Look, Act}
 use Rattle.std.proofs.Common.{ℕ, ◌≡◌, ◌+◌, ◌≤◌, List, Some, None, refl, subst, ◌∙◌, length, arith}
 use Rattle.md_core.proofs.Values.{State, Call, DirReply, Task, Deliver, Errand, Clean}
-use Rattle.md_core.specs.declared.jobs.answer.Answer.{Answer}
-use Rattle.md_core.specs.declared.jobs.answer.Answer.TheVariants as answer
-use Rattle.md_core.specs.declared.jobs.call.Call.TheVariants as call
-use Rattle.md_core.specs.Machines.Refusals.{refused_by}
-use Rattle.md_core.specs.Tasks.Delivery.{Stage, Start, Writing, Linked, Undo}
-use Rattle.md_core.specs.declared.jobs.step.DirReply.TheVariants as reply
-use Rattle.md_core.specs.Turn.{After}
+use Rattle.md_jobs.specs.declared.answer.Answer.{Answer}
+use Rattle.md_jobs.specs.declared.answer.Answer.TheVariants as answer
+use Rattle.md_jobs.specs.declared.call.Call.TheVariants as call
+use Rattle.md_jobs.specs.Machines.Refusals.{refused_by}
+use Rattle.md_jobs.specs.Tasks.Delivery.{Stage, Start, Writing, Linked, Undo}
+use Rattle.md_jobs.specs.declared.step.DirReply.TheVariants as reply
+use Rattle.md_jobs.specs.Turn.{After}
 use Rattle.md_core.specs.Machine.{working, job_at, new_job}
 use Rattle.md_core.specs.Runs.{Run, machine_at}
 use Rattle.md_core.specs.Trace.{call_at}

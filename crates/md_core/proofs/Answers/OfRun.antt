@@ -5,11 +5,11 @@ use Rattle.md_dirs.specs.Path.{path_of as path}
 use Rattle.md_dirs.specs.Rows.{rows_of}
 use Rattle.md_core.proofs.Values.{Path, Call, Answer, Effect}
 use Rattle.md_dirs.specs.declared.paths.Place.TheVariants.{Tmp}
-use Rattle.md_core.specs.declared.jobs.answer.Answer.TheVariants as answer
-use Rattle.md_core.specs.declared.jobs.call.Call.TheVariants as call
-use Rattle.md_core.specs.declared.jobs.step.DirReply.TheVariants as reply
+use Rattle.md_jobs.specs.declared.answer.Answer.TheVariants as answer
+use Rattle.md_jobs.specs.declared.call.Call.TheVariants as call
+use Rattle.md_jobs.specs.declared.step.DirReply.TheVariants as reply
 use Rattle.md_core.specs.Alone.{alone}
-use Rattle.md_core.specs.Asked.{create, unlink, list}
+use Rattle.md_jobs.specs.Asked.{create, unlink, list}
 use Rattle.md_core.specs.Trace.{Step, call_at}
 use Rattle.md_core.specs.Runs.{Run, beginning, machine_at, done_at, box_in, first_step, dirs_at_first}
 use Rattle.md_core.specs.Answering.{is_touch, is_ok, is_unused}

@@ -5,8 +5,8 @@ use Rattle.md_dirs.specs.declared.paths.Place.TheVariants.{Tmp}
 use Rattle.md_core.specs.Trace.{Step, call_at}
 use Rattle.md_core.specs.Machine.{answered, job_at}
 use Rattle.md_core.specs.Runs.{Run, done_at, jobs_of, first_step}
-use Rattle.md_core.specs.declared.jobs.answer.Answer.TheVariants.{TmpGone}
-use Rattle.md_core.specs.declared.jobs.call.Call.TheVariants.{Deliver}
+use Rattle.md_jobs.specs.declared.answer.Answer.TheVariants.{TmpGone}
+use Rattle.md_jobs.specs.declared.call.Call.TheVariants.{Deliver}
 use Rattle.md_core.proofs.Answers.OfRun.{IsStep, IsCleanedAway}
 
 -- at every event the clock of the job and that of the store are no more than so many seconds apart

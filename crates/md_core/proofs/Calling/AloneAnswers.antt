@@ -8,9 +8,9 @@ use Rattle.std.proofs.lemmas.List.{take_all, drop_all, append-nil}
 use Rattle.std.proofs.lemmas.List.Elements.{filter_map-append}
 use Rattle.std.proofs.lemmas.Option.{slice_get_within, slice_get-map}
 use Rattle.md_core.proofs.Values.{Path, Call, Effect, Event}
-use Rattle.md_core.specs.declared.jobs.answer.Answer.{Answer}
-use Rattle.md_core.specs.declared.jobs.answer.Answer.TheVariants as answer
-use Rattle.md_core.specs.declared.jobs.call.Call.TheVariants as call
+use Rattle.md_jobs.specs.declared.answer.Answer.{Answer}
+use Rattle.md_jobs.specs.declared.answer.Answer.TheVariants as answer
+use Rattle.md_jobs.specs.declared.call.Call.TheVariants as call
 use Rattle.md_core.specs.Accepting.{IsAccepted}
 use Rattle.md_core.specs.Alone.{alone}
 use Rattle.md_core.specs.Answering.{is_touch, IsOfSpan, IsTouched, IsLost, IsOutOfTime, IsTimedOut, IsTmpGone, Says}

@@ -1,7 +1,7 @@
 -- A run that goes on by one more step of its one job.
 use Rattle.std.proofs.Common.{ℕ, ◌≡◌, ◌++◌, [], ◌∷◌, Option, None, Bool, sym, ap, subst, ◌∙◌, append_assoc}
-use Rattle.md_core.specs.declared.jobs.call.Call.{Call}
-use Rattle.md_core.specs.declared.jobs.step.Event.{Event}
+use Rattle.md_jobs.specs.declared.call.Call.{Call}
+use Rattle.md_jobs.specs.declared.step.Event.{Event}
 use Rattle.md_core.specs.Laws.{HasJob}
 use Rattle.md_core.specs.Machine.{Occurrence, job_at}
 use Rattle.md_core.specs.Runs.{Run, jobs_of, and_event, and_call, step_refusal}

@@ -7,8 +7,8 @@ use Rattle.md_core.specs.Mailbox.{is_message, is_tmp}
 use Rattle.md_core.proofs.Induction.Good.{bytes_at, IsUnused, HasNoMessage, IsAlone, StageFits, DeliveryFits, ErrandFits, TaskFits}
 use Rattle.md_core.proofs.Mailbox.Changes.{by_name}
 use Rattle.md_core.proofs.Machines.Errand.Table.Calls.{folder_to}
-use Rattle.md_core.specs.Tasks.Delivery.{Delivery, Stage, Start, Writing, Linked, Undo}
-use Rattle.md_core.specs.Tasks.Errand.{Errand as ErrandOf}
+use Rattle.md_jobs.specs.Tasks.Delivery.{Delivery, Stage, Start, Writing, Linked, Undo}
+use Rattle.md_jobs.specs.Tasks.Errand.{Errand as ErrandOf}
 use Rattle.md_core.specs.Accepting.{MakesMessage, name_used}
 
 pub message-key : (p : Path) → is_message p ≡ true → name_used p ≡ unique_of p.name

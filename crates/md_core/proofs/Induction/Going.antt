@@ -5,7 +5,7 @@ use Rattle.std.proofs.lemmas.Option.{slice_get_within}
 use Rattle.md_dirs.proofs.Sound.{by_number, get-set_same, get-set_other}
 use Rattle.md_core.proofs.Values.{Call, Answer}
 use Rattle.md_core.specs.Tasks.Task.{Task}
-use Rattle.md_core.specs.Turn.{rows_for}
+use Rattle.md_jobs.specs.Turn.{rows_for}
 use Rattle.md_core.specs.Machine.{Machine, Standing, working, Occurrence, job_at, standing_of, after_event, step_by, reply_to}
 use Rattle.md_core.specs.Trace.{Step}
 use Rattle.md_core.proofs.Induction.Good.{IsGood, IsApart, Does, EachTurn}

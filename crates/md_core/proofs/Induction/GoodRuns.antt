@@ -3,11 +3,11 @@ use Rattle.std.proofs.Common.{ℕ, zero, suc, ◌+◌, ◌≡◌, ◌<◌, ◌++
 use Rattle.std.proofs.lemmas.Bool.{cases_order}
 use Rattle.std.proofs.lemmas.List.{length-map}
 use Rattle.md_core.proofs.Values.{Call, Task}
-use Rattle.md_core.specs.declared.jobs.call.Call.TheVariants.{Deliver, Clean}
-use Rattle.md_core.specs.Tasks.Purpose.{Purpose}
+use Rattle.md_jobs.specs.declared.call.Call.TheVariants.{Deliver, Clean}
+use Rattle.md_jobs.specs.Tasks.Purpose.{Purpose}
 use Rattle.md_core.specs.Tasks.Task as task
-use Rattle.md_core.specs.Machines.Deliver.{new_delivery}
-use Rattle.md_core.specs.Machines.Errand.{new_errand}
+use Rattle.md_jobs.specs.Machines.Deliver.{new_delivery}
+use Rattle.md_jobs.specs.Machines.Errand.{new_errand}
 use Rattle.md_core.specs.Machine.{Machine, Standing, working, answered, Occurrence, job_at, new_job, after_event, step_of, step_by}
 use Rattle.md_core.specs.Trace.{Step}
 use Rattle.md_core.specs.Runs.{Run, beginning, machine_at, machine_of, done_at}

@@ -1,6 +1,6 @@
 -- All is good after an event of a machine where all is good.
 use Rattle.std.proofs.Common.{ℕ, ◌≡◌, List, Some, sym, ap, subst, ◌∙◌, slice_get}
-use Rattle.md_core.specs.declared.jobs.call.Call.{Call}
+use Rattle.md_jobs.specs.declared.call.Call.{Call}
 use Rattle.md_core.specs.Tasks.Task.{Task}
 use Rattle.md_core.specs.Machine.{Machine, working}
 use Rattle.md_core.specs.Trace.{Step}

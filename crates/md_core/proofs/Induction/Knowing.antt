@@ -3,10 +3,10 @@ use Rattle.std.proofs.Common.{ℕ, suc, ◌≡◌, inl, inr, List, Option, Some,
 use Rattle.std.specs.Option.{option_or}
 use Rattle.std.specs.FinMap as finmap
 use Rattle.md_core.proofs.Values.{State, Call, Effect, Task, Deliver, Errand, Clean}
-use Rattle.md_core.specs.declared.jobs.answer.Answer.{Answer}
-use Rattle.md_core.specs.Tasks.Delivery.{Stage, Start, Writing, Linked, Undo}
+use Rattle.md_jobs.specs.declared.answer.Answer.{Answer}
+use Rattle.md_jobs.specs.Tasks.Delivery.{Stage, Start, Writing, Linked, Undo}
 use Rattle.md_core.specs.Mailbox.{Entry, Mailbox, mailbox_of}
-use Rattle.md_core.specs.Machines.Deliver.{delivery_effect}
+use Rattle.md_jobs.specs.Machines.Deliver.{delivery_effect}
 use Rattle.md_core.specs.Machine.{Machine, working}
 use Rattle.md_core.specs.Trace.{Step}
 use Rattle.md_core.specs.Stepping.{AsAlone}

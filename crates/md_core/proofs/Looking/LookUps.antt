@@ -13,7 +13,7 @@ use Rattle.md_name.proofs.Digits.{and_first, and_second}
 use Rattle.md_name.proofs.Flagged.{IsUniquePart, IsUniquePart-maildir}
 use Rattle.md_core.specs.Mailbox.{Entry, mailbox_of, entry_of, is_message, is_tmp, HasOnePath}
 use Rattle.md_core.specs.Alone.{entry_if, is_in_place}
-use Rattle.md_core.specs.Machines.Purposes.{info_in, info_in_parts}
+use Rattle.md_jobs.specs.Machines.Purposes.{info_in, info_in_parts}
 use Rattle.lists.proofs.Members.{Has, get-has, has-get}
 use Rattle.md_core.proofs.Mailbox.Shown.{mailbox-shows, shows-mailbox}
 use Rattle.md_core.proofs.Mailbox.WholeName.{before}

@@ -1,5 +1,3 @@
-pub mod Deeds
-pub mod Sets
 pub mod Moves
 pub mod Names
 pub mod Table

@@ -2,7 +2,7 @@
 use Rattle.std.proofs.Common.{Option, refl, ap}
 use Rattle.md_dirs.specs.Calls.{Device}
 use Rattle.md_core.specs.Machine.{as_task}
-use Rattle.md_core.specs.Turn.{Turn, After, Takes, TakesOrEnds}
+use Rattle.md_jobs.specs.Turn.{Turn, After, Takes, TakesOrEnds}
 use Rattle.md_core.proofs.Values.{Effect, Moment, StepOut, Task}
 
 takes-as-task : {T : Type 0} (wrap : T → Task) (turn : Turn T) (at : Moment) (old : Device) (out : StepOut) (effect : Option Effect) (task : T)

@@ -8,8 +8,8 @@ use Rattle.md_name.specs.Names.{unique_of}
 use Rattle.md_name.proofs.Flagged.{unique_of-flagged, colonless-unique_of}
 use Rattle.md_core.proofs.Values.{Place, Answer, Change}
 use Rattle.md_dirs.specs.declared.paths.Place.TheVariants.{Tmp, New, Cur}
-use Rattle.md_core.specs.declared.jobs.answer.Answer.TheVariants as answer
-use Rattle.md_core.specs.declared.jobs.effect.Change.TheVariants.{Add, Rename, Remove, Same}
+use Rattle.md_jobs.specs.declared.answer.Answer.TheVariants as answer
+use Rattle.md_jobs.specs.declared.effect.Change.TheVariants.{Add, Rename, Remove, Same}
 use Rattle.md_core.specs.History.{Listed, Names, IsThere, IsAllowed}
 use Rattle.md_core.specs.Joining.{AddsName}
 

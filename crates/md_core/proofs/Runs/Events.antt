@@ -3,8 +3,8 @@ use Rattle.std.proofs.Common.{ℕ, zero, suc, ◌≡◌, ◌<◌, ◌≤◌, ◌
 use Rattle.std.specs.Option.{option_map}
 use Rattle.std.proofs.lemmas.Option.{slice_get_within}
 use Rattle.md_core.proofs.Values.{DirReply, Task}
-use Rattle.md_core.specs.declared.jobs.step.Moment.{Moment}
-use Rattle.md_core.specs.Turn.{Turn, rows_for}
+use Rattle.md_jobs.specs.declared.step.Moment.{Moment}
+use Rattle.md_jobs.specs.Turn.{Turn, rows_for}
 use Rattle.md_core.specs.Machine.{Machine, Standing, working, Occurrence, job_at, task_of, turn_of, moment_of, standing_of, after_turn, reply_to, after_turn_of, after_event, step_of, step_by}
 use Rattle.md_core.specs.Runs.{step_refusal}
 use Rattle.md_core.proofs.Lists.Places.{get-more, set-more}

@@ -3,7 +3,7 @@ use Rattle.std.proofs.Common.{ℕ, ◌≡◌, ◌≤◌, List, [], ◌∷◌, So
 use Rattle.std.proofs.lemmas.List.{take_at, take-take, take-append-le}
 use Rattle.std.proofs.lemmas.Option.{slice_get_within}
 use Rattle.md_dirs.specs.State.{State, IsSound}
-use Rattle.md_core.specs.declared.jobs.call.Call.{Call}
+use Rattle.md_jobs.specs.declared.call.Call.{Call}
 use Rattle.md_core.specs.Machine.{Machine, working, Occurrence, job_at, new_job}
 use Rattle.md_core.specs.Loading.{load_refusal}
 use Rattle.md_core.specs.Runs.{Run, first_clock, beginning, run_from, machine_at, machine_of, jobs_of, and_event, and_call, step_refusal}

@@ -4,14 +4,14 @@ use Rattle.std.proofs.Common.{ℕ, ◌≡◌, List, true}
 use Rattle.md_core.proofs.Values.{State, Call, Moment, Task, Deliver, Errand, Clean}
 use Rattle.md_name.specs.Names.{is_unique_name}
 use Rattle.md_core.specs.Machine.{turn_of}
-use Rattle.md_core.specs.Machines.Clean as cleaned_by
-use Rattle.md_core.specs.Machines.Deliver.{target}
-use Rattle.md_core.specs.Machines.Errand as errands_by
-use Rattle.md_core.specs.Machines.Purposes.{info_in}
-use Rattle.md_core.specs.Tasks.Cleaning.{Cleaning}
-use Rattle.md_core.specs.Tasks.Cleaning as cleaning
-use Rattle.md_core.specs.Tasks.Delivery.{Delivery, Stage, Start, Writing, Linked, Undo}
-use Rattle.md_core.specs.Tasks.Errand as errand
+use Rattle.md_jobs.specs.Machines.Clean as cleaned_by
+use Rattle.md_jobs.specs.Machines.Deliver.{target}
+use Rattle.md_jobs.specs.Machines.Errand as errands_by
+use Rattle.md_jobs.specs.Machines.Purposes.{info_in}
+use Rattle.md_jobs.specs.Tasks.Cleaning.{Cleaning}
+use Rattle.md_jobs.specs.Tasks.Cleaning as cleaning
+use Rattle.md_jobs.specs.Tasks.Delivery.{Delivery, Stage, Start, Writing}
+use Rattle.md_jobs.specs.Tasks.Errand as errand
 use Rattle.md_core.specs.Accepting.{MakesMessage}
 use Rattle.md_core.proofs.Answers.Files.Asking.{asked_at, writing-by}
 use Rattle.md_core.proofs.Induction.Good.{TaskFits}

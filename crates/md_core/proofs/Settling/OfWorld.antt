@@ -5,7 +5,7 @@ use Rattle.std.proofs.lemmas.List.{length-map}
 use Rattle.std.specs.FinMap as finmap
 use Rattle.md_dirs.specs.Calls.{Device}
 use Rattle.md_core.proofs.Values.{CoreError, Effect, Event}
-use Rattle.md_core.specs.declared.error.CoreError.TheVariants as core
+use Rattle.md_jobs.specs.declared.error.CoreError.TheVariants as core
 use Rattle.md_core.specs.Loading.{load_refusal}
 use Rattle.md_core.specs.Looking.{IsFault}
 use Rattle.md_core.specs.Machine.{Machine, is_working}

@@ -6,12 +6,12 @@ use Rattle.std.proofs.lemmas.Bool.Decides.{nat_tests}
 use Rattle.std.proofs.lemmas.List.{take_all, take-append-le}
 use Rattle.std.proofs.lemmas.List.Sums.{sum_by-append}
 use Rattle.md_core.proofs.Values.{State, Call, Task, Deliver, Errand, Clean}
-use Rattle.md_core.specs.declared.jobs.answer.Answer.{Answer}
-use Rattle.md_core.specs.Tasks.Delivery.{Stage, Start, Writing, Linked, Undo}
-use Rattle.md_core.specs.Tasks.Cleaning as cleaning
-use Rattle.md_core.specs.Machines.Deliver as delivered_by
-use Rattle.md_core.specs.Machines.Clean as cleaned_by
-use Rattle.md_core.specs.Machine.{Machine, Standing, working, answered, Occurrence, job_at, steps_left, standing_of, new_job, after_event, step_by}
+use Rattle.md_jobs.specs.declared.answer.Answer.{Answer}
+use Rattle.md_jobs.specs.Tasks.Delivery.{Stage, Start, Writing, Linked, Undo}
+use Rattle.md_jobs.specs.Tasks.Cleaning as cleaning
+use Rattle.md_jobs.specs.Machines.Deliver as delivered_by
+use Rattle.md_jobs.specs.Machines.Clean as cleaned_by
+use Rattle.md_core.specs.Machine.{Machine, Standing, working, Occurrence, job_at, steps_left, standing_of, new_job, after_event, step_by}
 use Rattle.md_core.specs.Trace.{Step, call_at}
 use Rattle.md_core.specs.Runs.{Run, beginning, run_from, machine_of, dirs_of, jobs_of, and_event, step_refusal, dirs_at_first}
 use Rattle.md_core.specs.Runs as runs
@@ -24,7 +24,7 @@ use Rattle.md_core.proofs.Lists.Places.{none-of_kind, some-of_kind, first-of_kin
 use Rattle.md_core.proofs.Runs.ByEvent.{at_last, machine-and_event, run_from-none, run_from-more_event}
 use Rattle.md_core.proofs.Induction.Going.{Goes, goes, goes-cases, goes-here, goes-others}
 use Rattle.md_core.proofs.Induction.GoodRuns.{new_at, all-apart, good-beginning, good-machine}
-use Rattle.md_core.specs.Machines.Purposes.{searches}
+use Rattle.md_jobs.specs.Machines.Purposes.{searches}
 use Rattle.md_core.proofs.Machines.Errand.Table.Rows.{steps_left-some as errand-some}
 
 -- a turn leaves less to its job

@@ -1,8 +1,8 @@
 -- Each message of a run has whole bytes, at each moment.
 use Rattle.std.proofs.Common.{ℕ, zero, suc, ◌≡◌, ◌≤◌, ◌+◌, ◌⊎◌, inl, inr, List, Option, Some, None, true, is_some, refl, sym, ap, subst, ◌∙◌, slice_get, arith}
 use Rattle.std.specs.FinMap as finmap
-use Rattle.md_core.specs.declared.jobs.call.Call.{Call}
-use Rattle.md_core.specs.declared.jobs.effect.Effect.{Effect}
+use Rattle.md_jobs.specs.declared.call.Call.{Call}
+use Rattle.md_jobs.specs.declared.effect.Effect.{Effect}
 use Rattle.md_core.specs.Mailbox.{Entry, Mailbox}
 use Rattle.md_core.specs.Machine.{Machine, Occurrence}
 use Rattle.md_core.specs.Trace.{Step, call_at}

@@ -6,7 +6,7 @@ use Rattle.std.proofs.lemmas.List.{append-nil, take-append-le, take_at}
 use Rattle.std.proofs.lemmas.List.Elements.{filter-append}
 use Rattle.std.proofs.lemmas.Option.{slice_get_within}
 use Rattle.md_core.proofs.Values.{Call, Answer, Task}
-use Rattle.md_core.specs.declared.jobs.effect.Effect.{Effect}
+use Rattle.md_jobs.specs.declared.effect.Effect.{Effect}
 use Rattle.md_core.specs.Mailbox.{mailbox_of}
 use Rattle.md_core.specs.History.{Names, names_of, names_after_change, names_after, WasNowhere, IsAllowed, IsAllowedAfter, IsLegal}
 use Rattle.md_core.specs.Machine.{Machine, Standing, working, answered, standing_of}

@@ -7,7 +7,7 @@ use Rattle.std.proofs.lemmas.List.{take_all, take-append-le, take-map}
 use Rattle.std.proofs.lemmas.Option.{slice_get_within, slice_get-map}
 use Rattle.std.proofs.Math.Seq.{take-append-add}
 use Rattle.md_core.proofs.Values.{Change, Effect}
-use Rattle.md_core.specs.declared.jobs.effect.Change.TheVariants as change
+use Rattle.md_jobs.specs.declared.effect.Change.TheVariants as change
 use Rattle.md_core.specs.History.{Listed, Names, names_after_change, names_after, IsNowhere, WasNowhere, IsAllowed, IsAllowedAfter, IsLegal}
 use Rattle.md_core.specs.Joining.{job_after, numbered_after, joined, AddsName, UsesAgain, HasJobsTo, HasJobsFromOne}
 use Rattle.md_core.proofs.Lists.Places.{at_joint, get-second}

@@ -5,13 +5,13 @@ use Rattle.std.specs.FinMap as finmap
 use Rattle.std.proofs.lemmas.List.{take_all}
 use Rattle.md_core.proofs.Values.{State, file_at, Call, Answer, Effect, Task, Deliver, Errand, Clean}
 use Rattle.md_dirs.specs.declared.paths.Path.{Path}
-use Rattle.md_core.specs.declared.jobs.call.Call.TheVariants as call
+use Rattle.md_jobs.specs.declared.call.Call.TheVariants as call
 use Rattle.md_core.specs.Mailbox.{Entry, mailbox_of, is_tmp, is_message}
 use Rattle.md_core.specs.History.{Names, names_of, as_listed, names_after, IsNowhere}
 use Rattle.md_core.specs.Machine.{Machine, Standing, working, answered, Occurrence, job_at, steps_left, new_job}
 use Rattle.md_core.specs.Bounds.{most_over}
 use Rattle.md_core.specs.Trace.{Step, call_at}
-use Rattle.md_core.specs.Machines.Deliver.{delivery_effect}
+use Rattle.md_jobs.specs.Machines.Deliver.{delivery_effect}
 use Rattle.md_core.specs.Runs.{Run, beginning, machine_at, machine_of, jobs_of, dirs_of, dirs_at_first}
 use Rattle.md_core.specs.Stepping.{IsRun, Simulates, effects_by}
 use Rattle.md_core.proofs.Theorem.RunLaw.{Happened, IsSafe, is_linked, is_past_link, steps_of, JobLaw, RunLaw}

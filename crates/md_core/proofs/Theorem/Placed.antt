@@ -7,7 +7,7 @@ use Rattle.md_name.specs.Names.{unique_of}
 use Rattle.md_core.proofs.Values.{Place, Change}
 use Rattle.md_dirs.specs.declared.paths.Place.TheVariants.{Tmp, Cur}
 use Rattle.lists.proofs.Maps.{at_put, beside_put, at_drop, beside_drop}
-use Rattle.md_core.specs.declared.jobs.effect.Change.TheVariants as change
+use Rattle.md_jobs.specs.declared.effect.Change.TheVariants as change
 use Rattle.md_core.specs.History.{Listed, Names, names_after_change}
 use Rattle.md_core.specs.Laws.{IsPlaced}
 use Rattle.md_core.proofs.Mailbox.Changes.{by_name}

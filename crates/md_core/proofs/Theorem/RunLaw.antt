@@ -9,7 +9,7 @@ use Rattle.md_core.specs.Bounds.{most_over}
 use Rattle.md_core.specs.Trace.{Step, call_at}
 use Rattle.md_core.specs.Machine.{Standing, working, answered, job_at, steps_left}
 use Rattle.md_core.specs.Runs.{Run, machine_at, dirs_of, done_at, jobs_of, effects_of, box_in, dirs_at_first}
-use Rattle.md_core.specs.Tasks.Delivery.{Stage, Linked}
+use Rattle.md_jobs.specs.Tasks.Delivery.{Stage, Linked}
 use Rattle.md_core.specs.Tasks.Task as task
 use Rattle.md_core.specs.Stepping.{Simulates, effects_by}
 use Rattle.md_core.specs.Interleaving.{is_success, NoneOverwritten, IsDeliveryOf, IsCopyTo}

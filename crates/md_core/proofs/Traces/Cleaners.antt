@@ -3,7 +3,7 @@ use Rattle.std.proofs.Common.{ℕ}
 use Rattle.md_dirs.specs.Path.{path_of as path}
 use Rattle.md_dirs.specs.declared.paths.Path.{Path}
 use Rattle.md_dirs.specs.declared.paths.Place.TheVariants.{Tmp}
-use Rattle.md_core.specs.declared.jobs.answer.Answer.TheVariants.{TmpGone}
+use Rattle.md_jobs.specs.declared.answer.Answer.TheVariants.{TmpGone}
 use Rattle.md_core.specs.Trace.{Trace}
 use Rattle.md_core.specs.Answering.{IsCleanedAway}
 use Rattle.md_core.specs.Sparing.{AreApart, CleanersSpare}

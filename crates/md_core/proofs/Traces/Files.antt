@@ -1,6 +1,6 @@
 -- The clauses on files: in new and cur, those that are no messages stay as they are; in tmp, a delivery changes its own, and a clean takes
 -- away what it saw to be old.
-use Rattle.md_core.specs.Machines.Errand.{errand_turn}
+use Rattle.md_jobs.specs.Machines.Errand.{errand_turn}
 use Rattle.md_core.proofs.Machines.Errand.Asks.{errand-of-mail, no-append}
 use Rattle.std.proofs.Common.{ℕ, zero, suc, ◌≡◌, ◌≤◌, ◌+◌, List, Option, Some, None, Bool, true, false, cond, refl, sym, ap, subst, ◌∙◌, length, take, arith, nat_lt}
 use Rattle.std.specs.Option.{option_and_then}
@@ -9,17 +9,17 @@ use Rattle.md_core.proofs.Values.{State, IsSound, file_at, file_by, Path, Tmp, C
 use Rattle.md_dirs.specs.Calls.{after_append, file_with_more, with_path, without_path, with_files_still_named, is_one_file}
 use Rattle.md_dirs.specs.declared.paths.File.{File}
 use Rattle.md_dirs.proofs.Sound.{file_by-push, file_by-set_other, number-within, swept-kept}
-use Rattle.md_core.specs.declared.jobs.answer.Answer.TheVariants as answer
-use Rattle.md_core.specs.Tasks.Delivery.{Delivery, Stage, Start, Writing, Linked, Undo}
-use Rattle.md_core.specs.Tasks.Cleaning as cleaning
-use Rattle.md_core.specs.declared.jobs.step.DirReply.TheVariants as reply
+use Rattle.md_jobs.specs.declared.answer.Answer.TheVariants as answer
+use Rattle.md_jobs.specs.Tasks.Delivery.{Delivery, Stage, Start, Writing, Linked, Undo}
+use Rattle.md_jobs.specs.Tasks.Cleaning as cleaning
+use Rattle.md_jobs.specs.declared.step.DirReply.TheVariants as reply
 use Rattle.md_core.specs.Mailbox.{is_tmp, is_message}
-use Rattle.md_core.specs.Asked.{Asked, create, append, link, rename, unlink, list, ask_of, state_by}
+use Rattle.md_jobs.specs.Asked.{Asked, create, append, link, rename, unlink, list, ask_of, state_by}
 use Rattle.md_core.specs.Trace.{Step, call_at, Trace, step_at, state, state_after, file_in}
 use Rattle.md_core.specs.Machine.{turn_of}
-use Rattle.md_core.specs.Machines.Deliver as delivered_by
-use Rattle.md_core.specs.Machines.Deliver.{append_turn, link_turn, unlink_turn, is_in_time}
-use Rattle.md_core.specs.Machines.Clean as cleaned_by
+use Rattle.md_jobs.specs.Machines.Deliver as delivered_by
+use Rattle.md_jobs.specs.Machines.Deliver.{append_turn, link_turn, unlink_turn, is_in_time}
+use Rattle.md_jobs.specs.Machines.Clean as cleaned_by
 use Rattle.md_core.specs.Runs.{Run, machine_at}
 use Rattle.md_core.specs.Stepping.{IsRun}
 use Rattle.md_core.specs.Interleaving.{IsTmpOf}

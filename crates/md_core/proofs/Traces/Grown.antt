@@ -1,7 +1,7 @@
 -- The trace of a run grows by what its next event does.
 use Rattle.std.proofs.Common.{◌≡◌, ◌++◌, Option, Some, None, refl, sym, ap, ◌∙◌}
 use Rattle.std.specs.Option.{option_to_list, option_map}
-use Rattle.md_core.specs.declared.jobs.step.StepOut.{StepOut}
+use Rattle.md_jobs.specs.declared.step.StepOut.{StepOut}
 use Rattle.md_core.specs.Tasks.Task.{Task}
 use Rattle.md_core.specs.Trace.{Step}
 use Rattle.md_core.specs.Machine.{Occurrence, job_at, task_of, step_of, step_by}

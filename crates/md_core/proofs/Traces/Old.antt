@@ -1,5 +1,5 @@
 -- What a clean still has to take away it saw to be old; and what a step does to a path of tmp.
-use Rattle.md_core.specs.Machines.Errand.{errand_turn}
+use Rattle.md_jobs.specs.Machines.Errand.{errand_turn}
 use Rattle.md_core.proofs.Machines.Errand.Asks.{errand-of-mail, no-unlink}
 use Rattle.std.proofs.Common.{ℕ, zero, suc, ◌≡◌, ◌<◌, ◌≤◌, ◌+◌, ◌-◌, ◌⊎◌, inl, inr, List, [], ◌∷◌, Some, None, true, refl, sym, ap, subst, ◌∙◌, length, slice_get, arith}
 use Rattle.std.proofs.lemmas.Bool.Decides.{nat_tests}
@@ -7,15 +7,15 @@ use Rattle.md_core.proofs.Values.{State, Path, Place, Tmp, Row, Call, DirReply, 
 use Rattle.md_dirs.specs.Rows.{rows_of}
 use Rattle.md_dirs.specs.declared.paths.Place.TheVariants as place
 use Rattle.md_dirs.proofs.Sound.{by_path}
-use Rattle.md_core.specs.declared.jobs.call.Call.TheVariants as call
-use Rattle.md_core.specs.Tasks.Cleaning.{Cleaning, Stage, Look, Remove}
-use Rattle.md_core.specs.declared.jobs.step.DirReply.TheVariants as reply
+use Rattle.md_jobs.specs.declared.call.Call.TheVariants as call
+use Rattle.md_jobs.specs.Tasks.Cleaning.{Cleaning, Stage, Look, Remove}
+use Rattle.md_jobs.specs.declared.step.DirReply.TheVariants as reply
 use Rattle.md_core.specs.Mailbox.{is_tmp}
-use Rattle.md_core.specs.Turn.{Turn, rows_for}
-use Rattle.md_core.specs.Asked.{Asked, create, append, link, rename, unlink, list, ask_of, state_by}
+use Rattle.md_jobs.specs.Turn.{Turn, rows_for}
+use Rattle.md_jobs.specs.Asked.{Asked, create, append, unlink, list, ask_of, state_by}
 use Rattle.md_core.specs.Trace.{Step, call_at, Trace, IsStepOf, step_at, state, file_in}
 use Rattle.md_core.specs.Machine.{working, new_job, job_at}
-use Rattle.md_core.specs.Machines.Clean.{is_old, old_rows, after_next, at_stage, tmp, stage_turn}
+use Rattle.md_jobs.specs.Machines.Clean.{is_old, old_rows, after_next, at_stage, tmp, stage_turn}
 use Rattle.md_core.specs.Runs.{Run, machine_at}
 use Rattle.md_core.specs.Stepping.{IsRun}
 use Rattle.md_core.specs.Interleaving.{IsTmpOf, HasSeenOld, MayChange, KeepsTmp}

@@ -4,12 +4,12 @@ use Rattle.std.specs.Prelude.{count_by}
 use Rattle.std.specs.List.{position_or_len}
 use Rattle.std.specs.FinMap as finmap
 use Rattle.md_core.proofs.Values.{State, IsSound, Call}
-use Rattle.md_core.specs.declared.jobs.answer.Answer.{Answer}
-use Rattle.md_core.specs.declared.jobs.step.DirReply.TheVariants.{Fault}
+use Rattle.md_jobs.specs.declared.answer.Answer.{Answer}
+use Rattle.md_jobs.specs.declared.step.DirReply.TheVariants.{Fault}
 use Rattle.md_core.specs.Mailbox.{Entry, Mailbox, mailbox_of, HasOnePath}
 use Rattle.md_core.specs.History.{names_of, names_after, IsLegal}
-use Rattle.md_core.specs.Asked.{ask_of, reply_by}
-use Rattle.md_core.specs.Turn.{reply_of}
+use Rattle.md_jobs.specs.Asked.{ask_of, reply_by}
+use Rattle.md_jobs.specs.Turn.{reply_of}
 use Rattle.md_core.specs.Machine.{Machine, Occurrence}
 use Rattle.md_core.specs.Trace.{Step, call_at, Trace, IsAnswered, IsTrace, step_at, state, box, effects, steps_of}
 use Rattle.md_core.specs.Runs.{Run, machine_at, first_step}
@@ -26,7 +26,6 @@ use Rattle.md_core.proofs.Traces.Stands.{answered-of, ended, turn-of}
 use Rattle.md_core.proofs.Traces.Few.{count-map, place-map}
 use Rattle.md_core.proofs.Traces.Headline.{theorem, box-same, law-of}
 use Rattle.md_core.proofs.Induction.GoodRuns.{accepted-at}
-use Rattle.md_core.proofs.Machines.Errand.Table.Checks.{accepted}
 
 -- the moment of a job's first step, or the last moment where it has taken none
 abbrev pub begins_at : Trace → ℕ → ℕ

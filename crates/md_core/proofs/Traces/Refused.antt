@@ -3,9 +3,9 @@ use Rattle.std.proofs.Common.{ℕ, ◌≡◌, ◌≢◌, ◌<◌, ◌+◌, ◌-�
 use Rattle.md_dirs.specs.Rows.{rows_of}
 use Rattle.md_core.proofs.Values.{Path, Row, Call, Answer}
 use Rattle.md_dirs.specs.declared.paths.Place.TheVariants.{Tmp}
-use Rattle.md_core.specs.declared.jobs.call.Call.TheVariants.{Clean, Expunge}
+use Rattle.md_jobs.specs.declared.call.Call.TheVariants.{Clean, Expunge}
 use Rattle.md_core.specs.Mailbox.{is_tmp, is_message}
-use Rattle.md_core.specs.Asked.{list}
+use Rattle.md_jobs.specs.Asked.{list}
 use Rattle.md_core.specs.Trace.{call_at, Trace, Step, IsStepOf, IsAnswered, step_at, state, box, file_in, steps_of}
 use Rattle.md_core.specs.Interleaving.{is_success, Interleaves, MayChange}
 use Rattle.md_core.specs.Bounds.{most_steps}

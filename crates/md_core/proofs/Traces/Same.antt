@@ -5,8 +5,8 @@ use Rattle.std.specs.Option.{option_to_list, option_map, option_and_then}
 use Rattle.std.proofs.lemmas.List.{append-nil, append_assoc, map-append, take_all, take_at}
 use Rattle.std.proofs.lemmas.Option.{slice_get_within, slice_get_past}
 use Rattle.md_core.proofs.Values.{State, Task}
-use Rattle.md_core.specs.declared.jobs.effect.Effect.{Effect}
-use Rattle.md_core.specs.Asked.{ask_of, state_by}
+use Rattle.md_jobs.specs.declared.effect.Effect.{Effect}
+use Rattle.md_jobs.specs.Asked.{ask_of, state_by}
 use Rattle.md_core.specs.Machine.{Machine, working, Occurrence, job_at, after_event, step_of, step_by}
 use Rattle.md_core.specs.Trace.{Step, Trace, step_at, state_after, state, effects}
 use Rattle.md_core.specs.Runs.{Run, beginning, run_from, machine_at, done_at}

@@ -1,6 +1,6 @@
 -- What a world shows is what the trace of its run says.
 use Rattle.std.proofs.Common.{ℕ, ◌≡◌, Option, Some, None, refl, sym, ap, ◌∙◌, length}
-use Rattle.md_core.specs.declared.jobs.answer.Answer.{Answer}
+use Rattle.md_jobs.specs.declared.answer.Answer.{Answer}
 use Rattle.md_core.specs.Machine.{Machine, Standing, working, answered, job_at}
 use Rattle.md_core.specs.Runs.{Run, dirs_of, jobs_of, effects_of, answer_of}
 use Rattle.md_core.specs.Stepping.{IsRun}

@@ -5,11 +5,11 @@ use Rattle.std.proofs.lemmas.Bool.Decides.{nat_tests}
 use Rattle.md_core.proofs.Values.{State, Path, Tmp, Call, Answer, Effect}
 use Rattle.md_dirs.specs.Path.{path_of as path}
 use Rattle.md_dirs.specs.Rows.{rows_of}
-use Rattle.md_core.specs.declared.jobs.answer.Answer.TheVariants as answer
-use Rattle.md_core.specs.declared.jobs.call.Call.TheVariants as call
+use Rattle.md_jobs.specs.declared.answer.Answer.TheVariants as answer
+use Rattle.md_jobs.specs.declared.call.Call.TheVariants as call
 use Rattle.md_core.specs.Mailbox.{Mailbox}
 use Rattle.md_core.specs.Alone.{alone}
-use Rattle.md_core.specs.Asked.{unlink}
+use Rattle.md_jobs.specs.Asked.{unlink}
 use Rattle.md_core.specs.Runs.{Run, machine_at, first_step}
 use Rattle.md_core.specs.Trace.{call_at, Trace, Step, IsStepOf, IsAnswered, state, effects}
 use Rattle.md_core.specs.Stepping.{IsRun}

@@ -3,12 +3,12 @@ use Rattle.std.proofs.Common.{ℕ, zero, suc, ◌≡◌, ◌<◌, ◌+◌, ◌-�
 use Rattle.std.specs.Prelude.{count_by}
 use Rattle.std.specs.Option.{option_to_list, option_map}
 use Rattle.std.proofs.lemmas.List.Sums.{sum_by_push}
-use Rattle.md_core.specs.declared.error.CoreError.TheVariants.{Answered}
+use Rattle.md_jobs.specs.declared.error.CoreError.TheVariants.{Answered}
 use Rattle.md_core.proofs.Values.{Answer, DirReply, Event, Moment, StepOut, Task}
-use Rattle.md_core.specs.declared.jobs.effect.Effect.{Effect}
+use Rattle.md_jobs.specs.declared.effect.Effect.{Effect}
 use Rattle.md_dirs.specs.Calls.{Device}
-use Rattle.md_core.specs.Turn.{Turn, After, rows_for}
-use Rattle.md_core.specs.Asked.{is_fault}
+use Rattle.md_jobs.specs.Turn.{Turn, After, rows_for}
+use Rattle.md_jobs.specs.Asked.{is_fault}
 use Rattle.md_core.specs.Machine.{Machine, Standing, working, answered, is_working, Occurrence, moment_of, standing_of, after_event, after_turn, turn_of, job_at, step_of, step_out}
 use Rattle.md_core.specs.Standing.{JobView, TakesTurn, standings}
 use Rattle.md_core.specs.Runs.{Run, machine_of, jobs_of, failures_of, and_event, step_refusal, answer_of}

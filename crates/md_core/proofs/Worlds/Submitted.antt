@@ -4,7 +4,7 @@ use Rattle.std.specs.List.{list_any}
 use Rattle.std.specs.FinMap as finmap
 use Rattle.std.proofs.lemmas.List.{map-append}
 use Rattle.md_core.proofs.Values.{IsSound, Effect, Event}
-use Rattle.md_core.specs.declared.jobs.call.Call.{Call}
+use Rattle.md_jobs.specs.declared.call.Call.{Call}
 use Rattle.md_dirs.specs.Calls.{Device}
 use Rattle.md_core.specs.Machine.{Machine, new_job}
 use Rattle.md_core.specs.Standing.{JobView, job_of}

@@ -1,6 +1,6 @@
 -- Many steps, one after another.
 use Rattle.std.proofs.Common.{ℕ, ◌≡◌, ◌+◌, ◌++◌, ◌∙◌, List, [], ◌∷◌, Some, Bool, sym, ap, take, slice_get, arith, append_assoc, length-append}
-use Rattle.md_core.specs.declared.jobs.step.Event.{Event}
+use Rattle.md_jobs.specs.declared.step.Event.{Event}
 use Rattle.md_core.specs.Machine.{occurrence}
 use Rattle.md_core.specs.Runs.{Run, and_event}
 use Rattle.md_core.specs.Worlds.{TakesAll, occurrences}

@@ -1,4 +1,1 @@
-pub mod Purposes
-pub mod Stages
 pub mod Tasks
-pub mod Bodies

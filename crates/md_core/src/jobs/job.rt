@@ -1,18 +1,13 @@
 //! Jobs: the call of each, for contracts alone, and how far it is.
 ghost use Rattle.std.specs.Prelude.{◌≡◌, true, Some, IfOk, IfErr, OnErr};
-ghost use Rattle.md_core.specs.Turn.{IsUntouched};
+ghost use Rattle.md_jobs.specs.Turn.{IsUntouched};
 ghost use Rattle.md_core.specs.Machine.{is_working, with_answer};
 ghost use Rattle.md_core.specs.Standing.{TakesTurn, job_of};
 ghost use Rattle.md_core.specs.Runs.{answer_of};
 
-use crate::error::CoreError;
-use crate::image::Image;
-use crate::jobs::answer::Answer;
-use crate::jobs::call::{Call, JobId};
-use crate::jobs::step::Moment;
 use crate::jobs::task::Task;
-use crate::jobs::turn::Turned;
 use md_dirs::Dirs;
+use md_jobs::{Answer, Call, CoreError, Image, JobId, Moment, Turned};
 use std::alloc::Global;
 use std::marker::Model;
 

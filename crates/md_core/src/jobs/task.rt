@@ -1,18 +1,11 @@
 //! Tasks: what a job that has no answer does, one kind for each call.
 ghost use Rattle.std.specs.Prelude.{◌≡◌, IfOk, IfErr, OnErr};
-ghost use Rattle.md_core.specs.Turn.{TakesOrEnds, IsUntouched};
+ghost use Rattle.md_jobs.specs.Turn.{TakesOrEnds, IsUntouched};
 ghost use Rattle.md_core.specs.Tasks.Views.Tasks.{task_view};
 ghost use Rattle.md_core.specs.Machine.{turn_of, new_job, working};
 
-use crate::error::CoreError;
-use crate::jobs::call::{Call, JobId};
-use crate::jobs::cleaning::Cleaning;
-use crate::jobs::deliver::Delivery;
-use crate::jobs::errand::Errand;
-use crate::jobs::purpose::Purpose;
-use crate::jobs::step::Moment;
-use crate::jobs::turn::Turned;
 use md_dirs::Dirs;
+use md_jobs::{Call, Cleaning, CoreError, Delivery, Errand, JobId, Moment, Purpose, Turned};
 use std::alloc::Global;
 
 /// What a job does, and how far it has come.

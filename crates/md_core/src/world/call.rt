@@ -11,11 +11,10 @@ ghost use Rattle.md_core.specs.Laws.{HasJob};
 ghost use Rattle.md_core.specs.Calling.{next_job, GoesOnBy, StepsAlone, OthersStay, HasAnswer, IsUnanswered, AnswersAlone, AnswersAsAlone};
 ghost use Rattle.md_core.specs.Calling.{IfRefused, IfSubmitted, IfStopped};
 
-use crate::jobs::answer::Answer;
-use crate::jobs::call::{Call, JobId};
 use crate::world::World;
 use crate::world::submit::SubmitRefused;
 use md_dirs::Dirs;
+use md_jobs::{Answer, Call, JobId};
 use thiserror::Error;
 
 /// Why a call has no answer.

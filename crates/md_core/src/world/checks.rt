@@ -1,13 +1,12 @@
 //! What is checked of a call when it is submitted, and in which order.
 ghost use Rattle.std.specs.Prelude.{◌≡◌, ◌||◌, not};
 ghost use Rattle.md_name.specs.Names.{is_unique_name as is_unique};
-ghost use Rattle.md_core.specs.declared.jobs.call.Call.TheVariants.{Deliver, Move, Copy, Clean};
+ghost use Rattle.md_jobs.specs.declared.call.Call.TheVariants.{Deliver, Move, Copy, Clean};
 ghost use Rattle.md_core.specs.Submitting.{submit_refusal, no_folder, too_many, is_used as is_used_by, bad_tries, first_met, checks_of_look_up};
 
-use crate::error::CoreError;
-use crate::jobs::call::Call;
 use crate::world::World;
 use md_dirs::Dirs;
+use md_jobs::{Call, CoreError};
 use md_name::is_unique_name;
 
 /// The most bytes of a body, 16 MiB.

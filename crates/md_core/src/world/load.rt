@@ -5,12 +5,11 @@ ghost use Rattle.md_core.specs.Runs.{new_run};
 ghost use Rattle.md_core.specs.Interleaving.{Interleaves};
 ghost use Rattle.md_core.specs.Tracing.{trace_of};
 
-use crate::error::CoreError;
-use crate::image::Image;
 use crate::world::World;
 use crate::world::log::Log;
 use crate::world::looking::look;
 use md_dirs::Dirs;
+use md_jobs::{CoreError, Image};
 use std::alloc::Global;
 
 /// Directories that were not loaded, and why.

@@ -3,8 +3,7 @@ ghost use Rattle.std.specs.Prelude.{◌≡◌, ◌++◌, ◌∷◌, [], OnOk};
 ghost use Rattle.std.specs.Option.{option_to_list};
 ghost use Rattle.md_core.specs.Worlds.{HasRoom};
 
-use crate::jobs::effect::Effect;
-use crate::jobs::step::Event;
+use md_jobs::{Effect, Event};
 use std::alloc::{AllocError, Global};
 
 /// The steps so far, and the effects among them.

@@ -10,9 +10,9 @@ ghost use Rattle.md_core.specs.Runs.{first_clock};
 ghost use Rattle.md_core.specs.Submitting.{uses};
 ghost use Rattle.md_core.specs.Used.{is_among};
 
-use crate::error::CoreError;
 use crate::used::{NameSet, UsedNames};
 use md_dirs::{Dirs, Place, RowRef};
+use md_jobs::CoreError;
 use md_name::{holds_terminator, split};
 use std::alloc::{AllocError, Global};
 

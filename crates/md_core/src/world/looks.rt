@@ -8,13 +8,10 @@ ghost use Rattle.md_core.specs.Mailbox.{Entry, mailbox_of};
 ghost use Rattle.md_core.specs.Machine.{job_at};
 ghost use Rattle.md_core.specs.Runs.{dirs_of, jobs_of, effects_of, log_of, answer_of};
 
-use crate::jobs::answer::Answer;
-use crate::jobs::call::JobId;
-use crate::jobs::effect::Effect;
-use crate::jobs::step::Event;
 use crate::world::World;
 use crate::world::reading::message_bytes;
 use md_dirs::{Dirs, Place, RowRef};
+use md_jobs::{Answer, Effect, Event, JobId};
 use std::alloc::{AllocError, Global};
 
 impl<D: Dirs> World<D> {

@@ -4,10 +4,9 @@ ghost use Rattle.md_core.specs.Worlds.{TakesAll, StopsAt};
 ghost use Rattle.md_core.specs.Interleaving.{Interleaves};
 ghost use Rattle.md_core.specs.Tracing.{trace_of};
 
-use crate::error::CoreError;
-use crate::jobs::step::Event;
 use crate::world::World;
 use md_dirs::Dirs;
+use md_jobs::{CoreError, Event};
 
 /// Where a run of steps stopped: the place in the list, from 0, and the refusal of the step.
 #[derive(Clone, Copy, Debug, PartialEq, Eq)]

@@ -5,14 +5,12 @@ ghost use Rattle.md_core.specs.Machine.{is_working};
 ghost use Rattle.md_core.specs.Settling.{first_unanswered, settle_error, settled};
 ghost use Rattle.md_core.specs.Tracing.{trace_of};
 
-use crate::error::CoreError;
-use crate::image::Image;
-use crate::jobs::call::JobId;
 use crate::jobs::job::Job;
 use crate::world::World;
 use crate::world::log::Log;
 use crate::world::looking::look;
 use md_dirs::Dirs;
+use md_jobs::{CoreError, Image, JobId};
 use thiserror::Error;
 
 /// Why a world does not settle.

@@ -1,6 +1,6 @@
 //! One step of a job.
 ghost use Rattle.std.specs.Prelude.{◌≡◌, ◌≢◌, ◌+◌, ◌<◌, length, MatchResult, Some, None, IfOk, OnOk, OnErr};
-ghost use Rattle.md_core.specs.Asked.{is_fault};
+ghost use Rattle.md_jobs.specs.Asked.{is_fault};
 ghost use Rattle.md_core.specs.Machine.{occurrence, job_at};
 ghost use Rattle.md_core.specs.Standing.{standings};
 ghost use Rattle.md_core.specs.Runs.{jobs_of, and_event, step_refusal, steps_left, IsRefusal};
@@ -8,12 +8,10 @@ ghost use Rattle.md_core.specs.Interleaving.{Interleaves};
 ghost use Rattle.md_core.specs.Tracing.{trace_of, GrowsByStep};
 ghost use Rattle.md_core.specs.Stepping.{ShowsStep, Succeeds};
 
-use crate::error::CoreError;
-use crate::jobs::call::JobId;
 use crate::jobs::job::Job;
-use crate::jobs::step::{Event, Moment, StepOut};
 use crate::world::World;
 use md_dirs::Dirs;
+use md_jobs::{CoreError, Event, JobId, Moment, StepOut};
 
 // How far a job is that is there and has no answer.
 fn unanswered(jobs: &[Job], job: JobId) -> Result<usize, CoreError>

@@ -6,12 +6,11 @@ ghost use Rattle.md_core.specs.Used.{is_among};
 ghost use Rattle.md_core.specs.Interleaving.{Interleaves};
 ghost use Rattle.md_core.specs.Tracing.{trace_of};
 
-use crate::error::CoreError;
-use crate::jobs::call::{Call, JobId};
 use crate::jobs::job::Job;
 use crate::used::UsedNames;
 use crate::world::World;
 use md_dirs::Dirs;
+use md_jobs::{Call, CoreError, JobId};
 
 /// A call that was not submitted, and why.
 #[derive(Debug, Drop)]

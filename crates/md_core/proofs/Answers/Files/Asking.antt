@@ -1,19 +1,19 @@
 -- Which tasks ask what of a path in tmp: only a delivery of its name makes it, and only that or a clean takes it away.
-use Rattle.md_core.specs.Machines.Errand.{errand_turn}
+use Rattle.md_jobs.specs.Machines.Errand.{errand_turn}
 use Rattle.md_core.proofs.Machines.Errand.Asks.{errand-of-mail, no-create, no-unlink}
 use Rattle.std.proofs.Common.{ℕ, ◌≡◌, ◌⊎◌, inl, inr, Bool, true, false, cond, nat_lt, length, refl, subst}
 use Rattle.md_core.proofs.Values.{State, Tmp, Call, Moment, Task, Deliver, Errand, Clean}
 use Rattle.md_dirs.specs.declared.paths.Path.{Path}
-use Rattle.md_core.specs.declared.jobs.answer.Answer.TheVariants as answer
-use Rattle.md_core.specs.declared.jobs.call.Call.TheVariants as call
-use Rattle.md_core.specs.Tasks.Cleaning.{Cleaning}
-use Rattle.md_core.specs.Tasks.Cleaning as cleaning
-use Rattle.md_core.specs.Tasks.Delivery.{Delivery, Stage, Start, Writing, Linked, Undo}
+use Rattle.md_jobs.specs.declared.answer.Answer.TheVariants as answer
+use Rattle.md_jobs.specs.declared.call.Call.TheVariants as call
+use Rattle.md_jobs.specs.Tasks.Cleaning.{Cleaning}
+use Rattle.md_jobs.specs.Tasks.Cleaning as cleaning
+use Rattle.md_jobs.specs.Tasks.Delivery.{Delivery, Stage, Start, Writing}
 use Rattle.md_core.specs.Machine.{turn_of}
-use Rattle.md_core.specs.Machines.Deliver as delivered_by
-use Rattle.md_core.specs.Machines.Deliver.{append_turn, link_turn, unlink_turn, is_in_time}
-use Rattle.md_core.specs.Machines.Clean as cleaned_by
-use Rattle.md_core.specs.Asked.{Asked, create, append, link, rename, unlink, list}
+use Rattle.md_jobs.specs.Machines.Deliver as delivered_by
+use Rattle.md_jobs.specs.Machines.Deliver.{append_turn, link_turn, unlink_turn, is_in_time}
+use Rattle.md_jobs.specs.Machines.Clean as cleaned_by
+use Rattle.md_jobs.specs.Asked.{Asked, create, append, link, rename, unlink}
 use Rattle.md_core.specs.Accepting.{MakesMessage}
 use Rattle.md_core.proofs.Induction.Good.{TaskFits, DeliveryFits}
 use Rattle.md_core.proofs.Directories.Frames.{makes-delivery}

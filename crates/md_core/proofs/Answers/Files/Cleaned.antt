@@ -11,15 +11,15 @@ use Rattle.md_core.proofs.Values.{State, Tmp, Row, DirReply, Task, Deliver, Erra
 use Rattle.md_dirs.specs.Path.{path_of as path}
 use Rattle.md_dirs.specs.Rows.{rows_of}
 use Rattle.md_dirs.proofs.Sound.{by_number}
-use Rattle.md_core.specs.declared.jobs.answer.Answer.TheVariants as answer
-use Rattle.md_core.specs.declared.jobs.call.Call.TheVariants as call
-use Rattle.md_core.specs.Tasks.Cleaning.{Cleaning, Stage, Look, Remove}
-use Rattle.md_core.specs.declared.jobs.step.DirReply.TheVariants as reply
+use Rattle.md_jobs.specs.declared.answer.Answer.TheVariants as answer
+use Rattle.md_jobs.specs.declared.call.Call.TheVariants as call
+use Rattle.md_jobs.specs.Tasks.Cleaning.{Cleaning, Stage, Look, Remove}
+use Rattle.md_jobs.specs.declared.step.DirReply.TheVariants as reply
 use Rattle.md_core.specs.Machine.{Machine, Standing, working, answered, Occurrence, after_event, step_of, job_at, new_job, standing_of}
 use Rattle.md_core.specs.Trace.{Step, call_at}
-use Rattle.md_core.specs.Machines.Clean.{old_rows, after_next, at_stage, tmp, stage_turn}
-use Rattle.md_core.specs.Turn.{Turn, rows_for}
-use Rattle.md_core.specs.Asked.{Asked, list, unlink}
+use Rattle.md_jobs.specs.Machines.Clean.{old_rows, after_next, at_stage, tmp, stage_turn}
+use Rattle.md_jobs.specs.Turn.{Turn, rows_for}
+use Rattle.md_jobs.specs.Asked.{Asked, list, unlink}
 use Rattle.md_core.specs.Runs.{Run, beginning, run_from, machine_at, jobs_of, first_step, dirs_at_first}
 use Rattle.md_core.specs.Stepping.{IsRun}
 use Rattle.md_core.specs.Tracing.{deeds_from}

@@ -4,14 +4,14 @@ use Rattle.std.proofs.lemmas.Bool.Decides.{nat_tests}
 use Rattle.md_dirs.specs.Path.{path_of as path}
 use Rattle.md_core.proofs.Values.{Path, Task}
 use Rattle.md_dirs.specs.declared.paths.Place.TheVariants.{Tmp}
-use Rattle.md_core.specs.declared.jobs.answer.Answer.TheVariants.{TmpGone}
-use Rattle.md_core.specs.declared.jobs.call.Call.TheVariants.{Deliver}
-use Rattle.md_core.specs.Tasks.Delivery.{Delivery}
+use Rattle.md_jobs.specs.declared.answer.Answer.TheVariants.{TmpGone}
+use Rattle.md_jobs.specs.declared.call.Call.TheVariants.{Deliver}
+use Rattle.md_jobs.specs.Tasks.Delivery.{Delivery}
 use Rattle.md_core.specs.Tasks.Task as task
 use Rattle.md_core.specs.Trace.{Step, call_at}
 use Rattle.md_core.specs.Machine.{answered, working, job_at}
-use Rattle.md_core.specs.Machines.Clean.{least_seconds}
-use Rattle.md_core.specs.Machines.Deliver.{most_seconds}
+use Rattle.md_jobs.specs.Machines.Clean.{least_seconds}
+use Rattle.md_jobs.specs.Machines.Deliver.{most_seconds}
 use Rattle.md_core.specs.Runs.{Run, machine_at, jobs_of, first_step}
 use Rattle.md_core.specs.Stepping.{IsRun}
 use Rattle.md_core.proofs.Answers.OfRun.{IsStep, IsCleanedAway}

@@ -6,17 +6,17 @@ use Rattle.md_dirs.specs.declared.calls.DirError.{DirError}
 use Rattle.md_dirs.specs.declared.calls.DirError.TheVariants.{Exists, NotFound}
 use Rattle.md_core.proofs.Values.{Path, Call, Answer, DirReply, Task, Deliver, Errand, Clean}
 use Rattle.md_dirs.specs.declared.rows.Row.{Row}
-use Rattle.md_core.specs.declared.jobs.answer.Answer.TheVariants as answer
-use Rattle.md_core.specs.Tasks.Cleaning.{Cleaning}
-use Rattle.md_core.specs.Tasks.Cleaning as cleaning
-use Rattle.md_core.specs.Machines.Refusals.{refused_by}
-use Rattle.md_core.specs.Tasks.Delivery.{Delivery, Stage, Start, Writing, Linked, Undo}
-use Rattle.md_core.specs.declared.jobs.step.DirReply.TheVariants as reply
+use Rattle.md_jobs.specs.declared.answer.Answer.TheVariants as answer
+use Rattle.md_jobs.specs.Tasks.Cleaning.{Cleaning}
+use Rattle.md_jobs.specs.Tasks.Cleaning as cleaning
+use Rattle.md_jobs.specs.Machines.Refusals.{refused_by}
+use Rattle.md_jobs.specs.Tasks.Delivery.{Delivery, Stage, Start, Writing, Linked, Undo}
+use Rattle.md_jobs.specs.declared.step.DirReply.TheVariants as reply
 use Rattle.md_core.specs.Machine.{working}
-use Rattle.md_core.specs.Machines.Clean as cleaned_by
-use Rattle.md_core.specs.Machines.Deliver.{at_stage, target, create_turn, append_turn, link_turn, unlink_turn, stage_turn, is_in_time}
-use Rattle.md_core.specs.Turn.{Turn, reply_of, rows_for}
-use Rattle.md_core.specs.Asked.{ask_of, reply_by}
+use Rattle.md_jobs.specs.Machines.Clean as cleaned_by
+use Rattle.md_jobs.specs.Machines.Deliver.{at_stage, target, create_turn, append_turn, link_turn, unlink_turn, stage_turn, is_in_time}
+use Rattle.md_jobs.specs.Turn.{Turn, reply_of, rows_for}
+use Rattle.md_jobs.specs.Asked.{ask_of, reply_by}
 use Rattle.md_core.specs.Runs.{Run, machine_at}
 use Rattle.md_core.specs.Stepping.{IsRun}
 use Rattle.md_core.proofs.Induction.Good.{DeliveryFits, TaskFits}

@@ -5,14 +5,14 @@ use Rattle.std.proofs.lemmas.Bool.Decides.{nat_tests}
 use Rattle.md_core.proofs.Values.{State, file_at, Path, Tmp, Row, Call, DirReply, Task, Deliver, Errand, Clean}
 use Rattle.md_dirs.specs.Path.{path_of as path}
 use Rattle.md_dirs.specs.Rows.{rows_of}
-use Rattle.md_core.specs.declared.jobs.call.Call.TheVariants as call
-use Rattle.md_core.specs.Tasks.Cleaning.{Cleaning, Stage, Look, Remove}
-use Rattle.md_core.specs.declared.jobs.step.DirReply.TheVariants as reply
+use Rattle.md_jobs.specs.declared.call.Call.TheVariants as call
+use Rattle.md_jobs.specs.Tasks.Cleaning.{Cleaning, Stage, Look, Remove}
+use Rattle.md_jobs.specs.declared.step.DirReply.TheVariants as reply
 use Rattle.md_core.specs.Trace.{Step, call_at}
 use Rattle.md_core.specs.Machine.{working, job_at, new_job}
-use Rattle.md_core.specs.Machines.Clean.{least_seconds, is_old, old_rows, after_next, at_stage, tmp, stage_turn}
-use Rattle.md_core.specs.Turn.{Turn, rows_for}
-use Rattle.md_core.specs.Asked.{unlink}
+use Rattle.md_jobs.specs.Machines.Clean.{least_seconds, is_old, old_rows, after_next, at_stage, tmp, stage_turn}
+use Rattle.md_jobs.specs.Turn.{Turn, rows_for}
+use Rattle.md_jobs.specs.Asked.{unlink}
 use Rattle.md_core.specs.Runs.{Run, machine_at, first_step}
 use Rattle.md_core.specs.Stepping.{IsRun}
 use Rattle.md_core.proofs.Answers.OfRun.{IsStep, IsCleanedAway}

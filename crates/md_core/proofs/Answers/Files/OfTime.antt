@@ -4,11 +4,11 @@ use Rattle.std.proofs.lemmas.Bool.Decides.{nat_tests}
 use Rattle.md_dirs.specs.Path.{path_of as path}
 use Rattle.md_core.proofs.Values.{Path, Call, Answer}
 use Rattle.md_dirs.specs.declared.paths.Place.TheVariants.{Tmp}
-use Rattle.md_core.specs.declared.jobs.answer.Answer.TheVariants as answer
-use Rattle.md_core.specs.declared.jobs.call.Call.TheVariants as call
-use Rattle.md_core.specs.Tasks.Delivery.{Delivery}
+use Rattle.md_jobs.specs.declared.answer.Answer.TheVariants as answer
+use Rattle.md_jobs.specs.declared.call.Call.TheVariants as call
+use Rattle.md_jobs.specs.Tasks.Delivery.{Delivery}
 use Rattle.md_core.specs.Machine.{answered, job_at}
-use Rattle.md_core.specs.Machines.Deliver.{most_seconds}
+use Rattle.md_jobs.specs.Machines.Deliver.{most_seconds}
 use Rattle.md_core.specs.Runs.{Run, machine_at, jobs_of, first_step}
 use Rattle.md_core.specs.Trace.{call_at}
 use Rattle.md_core.specs.Stepping.{IsRun}

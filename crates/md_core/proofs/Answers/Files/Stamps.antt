@@ -2,8 +2,8 @@
 use Rattle.std.proofs.Common.{ℕ, zero, suc, ◌≡◌, ◌≤◌, ◌+◌, inl, inr, List, Some, None, refl, sym, ap, subst, ◌∙◌, length, arith}
 use Rattle.md_core.proofs.Values.{State, file_at, Path, Tmp, Task}
 use Rattle.md_dirs.specs.Path.{path_of as path}
-use Rattle.md_core.specs.declared.jobs.call.Call.TheVariants.{Deliver}
-use Rattle.md_core.specs.Tasks.Delivery.{Stage}
+use Rattle.md_jobs.specs.declared.call.Call.TheVariants.{Deliver}
+use Rattle.md_jobs.specs.Tasks.Delivery.{Stage}
 use Rattle.md_core.specs.Machine.{Machine}
 use Rattle.md_core.specs.Runs.{Run, machine_at, first_step}
 use Rattle.md_core.specs.Trace.{call_at}

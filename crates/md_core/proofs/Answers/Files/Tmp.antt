@@ -8,10 +8,10 @@ use Rattle.md_dirs.specs.declared.paths.File.{File}
 use Rattle.md_dirs.proofs.PathOrder.{path_total, path_exact}
 use Rattle.lists.proofs.Maps as maps
 use Rattle.md_dirs.proofs.Sound.{by_path, by_number, file_by-push, file_by-last, file_by-set_same, file_by-set_other, number-within, swept-kept}
-use Rattle.md_core.specs.declared.jobs.step.DirReply.TheVariants as reply
+use Rattle.md_jobs.specs.declared.step.DirReply.TheVariants as reply
 use Rattle.md_core.specs.Mailbox.{is_tmp}
 use Rattle.md_core.specs.Runs.{stamp_of}
-use Rattle.md_core.specs.Asked.{Asked, create, append, link, rename, unlink, list, ask_of, state_by}
+use Rattle.md_jobs.specs.Asked.{Asked, create, append, link, rename, unlink, list, ask_of, state_by}
 
 -- the stamp of the file of a number
 abbrev pub stamp_at : State → ℕ → ℕ

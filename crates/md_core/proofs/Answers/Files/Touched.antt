@@ -2,8 +2,8 @@
 use Rattle.std.proofs.Common.{ℕ, ◌≡◌, ◌⊎◌, ◌+◌, inl, inr, Some, None, sym, ap, subst, ◌∙◌}
 use Rattle.md_core.proofs.Values.{State, file_at, Tmp, Call, DirReply, Deliver}
 use Rattle.md_dirs.specs.declared.paths.Path.{Path}
-use Rattle.md_core.specs.Tasks.Delivery.{Delivery, Start}
-use Rattle.md_core.specs.Asked.{Asked}
+use Rattle.md_jobs.specs.Tasks.Delivery.{Delivery, Start}
+use Rattle.md_jobs.specs.Asked.{Asked}
 use Rattle.md_core.specs.Runs.{Run, machine_at}
 use Rattle.md_core.specs.Trace.{call_at}
 use Rattle.md_core.specs.Stepping.{IsRun}

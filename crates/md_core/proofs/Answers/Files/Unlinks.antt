@@ -4,14 +4,14 @@ use Rattle.md_core.proofs.Machines.Errand.Table.Rows.{no-delivery}
 use Rattle.std.proofs.Common.{ℕ, ◌≡◌, ◌∙◌, ◌⊎◌, inl, inr, List, Some, Bool, true, false, cond, nat_lt, length, refl, ap, subst}
 use Rattle.md_core.proofs.Values.{State, Path, Tmp, Row, Call, Answer, DirReply, Moment, Task, Deliver, Errand, Clean}
 use Rattle.md_dirs.specs.Path.{path_of as path}
-use Rattle.md_core.specs.declared.jobs.answer.Answer.TheVariants as answer
-use Rattle.md_core.specs.declared.jobs.call.Call.TheVariants as call
-use Rattle.md_core.specs.Tasks.Delivery.{Delivery, Stage, Start, Writing, Linked, Undo}
-use Rattle.md_core.specs.declared.jobs.step.DirReply.TheVariants as reply
+use Rattle.md_jobs.specs.declared.answer.Answer.TheVariants as answer
+use Rattle.md_jobs.specs.declared.call.Call.TheVariants as call
+use Rattle.md_jobs.specs.Tasks.Delivery.{Delivery, Stage, Start, Writing}
+use Rattle.md_jobs.specs.declared.step.DirReply.TheVariants as reply
 use Rattle.md_core.specs.Machine.{Machine, answered, job_at, turn_of}
-use Rattle.md_core.specs.Machines.Deliver.{append_turn, link_turn, unlink_turn, stage_turn, is_in_time}
-use Rattle.md_core.specs.Turn.{Turn}
-use Rattle.md_core.specs.Asked.{create, unlink}
+use Rattle.md_jobs.specs.Machines.Deliver.{append_turn, link_turn, unlink_turn, stage_turn, is_in_time}
+use Rattle.md_jobs.specs.Turn.{Turn}
+use Rattle.md_jobs.specs.Asked.{create, unlink}
 use Rattle.md_core.specs.Runs.{Run, machine_at, jobs_of}
 use Rattle.md_core.specs.Trace.{call_at}
 use Rattle.md_core.specs.Stepping.{IsRun}

@@ -4,15 +4,15 @@ use Rattle.md_core.proofs.Values.{State, file_at, Tmp, Row, Call, DirReply, Task
 use Rattle.md_dirs.specs.declared.paths.Path.{Path}
 use Rattle.md_dirs.proofs.PathOrder.{path_total, path_exact}
 use Rattle.lists.proofs.Maps as maps
-use Rattle.md_core.specs.declared.jobs.answer.Answer.TheVariants as answer
-use Rattle.md_core.specs.declared.jobs.call.Call.TheVariants as call
-use Rattle.md_core.specs.Machines.Refusals.{refused_by}
-use Rattle.md_core.specs.Tasks.Delivery.{Delivery, Stage, Start, Writing, Linked, Undo}
-use Rattle.md_core.specs.declared.jobs.step.DirReply.TheVariants as reply
+use Rattle.md_jobs.specs.declared.answer.Answer.TheVariants as answer
+use Rattle.md_jobs.specs.declared.call.Call.TheVariants as call
+use Rattle.md_jobs.specs.Machines.Refusals.{refused_by}
+use Rattle.md_jobs.specs.Tasks.Delivery.{Delivery, Stage, Start, Writing, Linked, Undo}
+use Rattle.md_jobs.specs.declared.step.DirReply.TheVariants as reply
 use Rattle.md_core.specs.Machine.{Occurrence, working, job_at, new_job}
-use Rattle.md_core.specs.Machines.Deliver.{at_stage, piece, append_turn, link_turn, unlink_turn, stage_turn, is_in_time}
-use Rattle.md_core.specs.Turn.{Turn}
-use Rattle.md_core.specs.Asked.{append, ask_of, state_by}
+use Rattle.md_jobs.specs.Machines.Deliver.{at_stage, piece, append_turn, link_turn, unlink_turn, stage_turn, is_in_time}
+use Rattle.md_jobs.specs.Turn.{Turn}
+use Rattle.md_jobs.specs.Asked.{append, ask_of, state_by}
 use Rattle.md_core.specs.Runs.{Run, machine_at, first_step}
 use Rattle.md_core.specs.Trace.{call_at}
 use Rattle.md_core.specs.Stepping.{IsRun}

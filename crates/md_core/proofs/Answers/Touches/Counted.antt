@@ -13,7 +13,7 @@ use Rattle.md_name.specs.Names.{unique_of}
 use Rattle.md_dirs.specs.Rows.{is_named}
 use Rattle.lists.proofs.Maps.{beside_put, beside_drop}
 use Rattle.md_core.proofs.Values.{Change, Effect}
-use Rattle.md_core.specs.declared.jobs.effect.Change.TheVariants as change
+use Rattle.md_jobs.specs.declared.effect.Change.TheVariants as change
 use Rattle.md_core.specs.Mailbox.{Mailbox}
 use Rattle.md_core.specs.History.{Names, names_of, names_after_change}
 use Rattle.md_core.specs.Machine.{Machine, Occurrence}

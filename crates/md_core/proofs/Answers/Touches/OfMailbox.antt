@@ -1,6 +1,6 @@
 -- What each answer says that isn't of a delivery that is done, of a fault, of time or of a clean.
 use Rattle.std.proofs.Common.{ℕ, ◌≡◌, Some, refl}
-use Rattle.md_core.specs.declared.jobs.answer.Answer.TheVariants as answer
+use Rattle.md_jobs.specs.declared.answer.Answer.TheVariants as answer
 use Rattle.md_core.proofs.Values.{Call, Answer}
 use Rattle.md_core.specs.Machine.{answered, job_at}
 use Rattle.md_core.specs.Runs.{Run, jobs_of}

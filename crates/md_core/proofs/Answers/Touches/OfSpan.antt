@@ -1,8 +1,8 @@
 -- What one look-up says is so at its moment; and what a search says that looked in new and then in cur is so at one of the two moments.
-use Rattle.md_core.specs.Tasks.Errand.{Stage, Look, Act}
-use Rattle.md_core.specs.Tasks.Purpose.{Purpose}
-use Rattle.md_core.specs.Machines.Purposes.{searches, place_after, first}
-use Rattle.md_core.specs.Machines.Errand.{at_stage}
+use Rattle.md_jobs.specs.Tasks.Errand.{Stage, Look, Act}
+use Rattle.md_jobs.specs.Tasks.Purpose.{Purpose}
+use Rattle.md_jobs.specs.Machines.Purposes.{searches, place_after, first}
+use Rattle.md_jobs.specs.Machines.Errand.{at_stage}
 use Rattle.md_core.proofs.Machines.Errand.Table.Rows.{one-place, last-place}
 use Rattle.std.proofs.Common.{ℕ, ◌≡◌, ◌<◌, ◌≤◌, ◌+◌, ◌⊎◌, inl, inr, List, Option, Some, None, Bool, true, false, cond, not, refl, sym, ap, subst, ◌∙◌, length, arith, if◌then◌else◌}
 use Rattle.std.proofs.lemmas.Bool.{eq-eqb, and_from, and_parts, not-true}
@@ -10,14 +10,14 @@ use Rattle.std.specs.FinMap.{get}
 use Rattle.md_dirs.specs.Path.{place_index}
 use Rattle.md_core.proofs.Values.{State, Tmp, New, Cur, Call, Answer, DirReply, Task, Deliver, Errand, Clean}
 use Rattle.md_dirs.specs.declared.paths.Place.{Place}
-use Rattle.md_core.specs.declared.jobs.answer.Answer.TheVariants as answer
-use Rattle.md_core.specs.declared.jobs.call.Call.TheVariants as call
+use Rattle.md_jobs.specs.declared.answer.Answer.TheVariants as answer
+use Rattle.md_jobs.specs.declared.call.Call.TheVariants as call
 use Rattle.md_core.specs.Mailbox.{Entry, is_tmp}
 use Rattle.md_core.specs.Alone.{entry_if, is_in_place, is_in_folder}
 use Rattle.md_core.specs.Machine.{working, job_at, new_job}
 use Rattle.md_core.specs.Runs.{Run, machine_at, box_in}
 use Rattle.md_core.specs.Trace.{call_at}
-use Rattle.md_core.specs.Turn.{After}
+use Rattle.md_jobs.specs.Turn.{After}
 use Rattle.md_core.specs.Stepping.{IsRun}
 use Rattle.md_core.proofs.Answers.OfRun.{IsStep, IsOfSpan}
 use Rattle.md_core.proofs.Induction.Good.{ErrandFits, TaskFits}

@@ -4,12 +4,12 @@ use Rattle.std.specs.FinMap.{get}
 use Rattle.md_core.proofs.Values.{State, Call, DirReply, Task, Deliver, Errand, Clean}
 use Rattle.md_dirs.specs.declared.paths.Path.{Path}
 use Rattle.md_name.specs.Names.{unique_of}
-use Rattle.md_core.specs.declared.jobs.call.Call.TheVariants as call
+use Rattle.md_jobs.specs.declared.call.Call.TheVariants as call
 use Rattle.md_core.specs.History.{names_of}
 use Rattle.md_core.specs.Machine.{working, Occurrence, job_at, new_job}
 use Rattle.md_core.specs.Runs.{Run, machine_at, box_in}
 use Rattle.md_core.specs.Trace.{call_at}
-use Rattle.md_core.specs.Turn.{After}
+use Rattle.md_jobs.specs.Turn.{After}
 use Rattle.md_core.specs.Stepping.{IsRun}
 use Rattle.md_core.proofs.Answers.OfRun.{IsStep, IsTouched, IsLost}
 use Rattle.md_core.proofs.Induction.Good.{TaskFits}

@@ -4,12 +4,12 @@ use Rattle.md_dirs.specs.Calls as dirs
 use Rattle.md_dirs.specs.Rows.{rows_of}
 use Rattle.md_core.proofs.Values.{State, Row, Answer, DirReply, Moment}
 use Rattle.md_dirs.specs.declared.paths.Place.TheVariants.{Tmp}
-use Rattle.md_core.specs.declared.jobs.answer.Answer.TheVariants as answer
-use Rattle.md_core.specs.Tasks.Cleaning.{Cleaning, Stage, Look, Remove}
-use Rattle.md_core.specs.declared.jobs.step.DirReply.TheVariants as reply
-use Rattle.md_core.specs.Turn.{After, Turn, rows_for, reply_of}
-use Rattle.md_core.specs.Asked.{ask_of}
-use Rattle.md_core.specs.Machines.Clean.{at_stage, tmp, old_rows, after_next, look_turn, unlink_turn, stage_turn, cleaning_turn}
+use Rattle.md_jobs.specs.declared.answer.Answer.TheVariants as answer
+use Rattle.md_jobs.specs.Tasks.Cleaning.{Cleaning, Stage, Look, Remove}
+use Rattle.md_jobs.specs.declared.step.DirReply.TheVariants as reply
+use Rattle.md_jobs.specs.Turn.{After, Turn, rows_for, reply_of}
+use Rattle.md_jobs.specs.Asked.{ask_of}
+use Rattle.md_jobs.specs.Machines.Clean.{at_stage, tmp, old_rows, after_next, look_turn, unlink_turn, stage_turn, cleaning_turn}
 use Rattle.md_core.proofs.Answers.Turns.Refusals.{list-exists, list-not_found, unlink-exists}
 
 -- what an answer says of the reply

@@ -7,9 +7,9 @@ use Rattle.md_dirs.specs.declared.calls.DirError.{DirError}
 use Rattle.md_dirs.specs.declared.calls.DirError.TheVariants.{Exists, NotFound, Fault, NoMemory}
 use Rattle.md_dirs.specs.declared.paths.Path.{Path}
 use Rattle.md_dirs.specs.declared.paths.Place.{Place}
-use Rattle.md_core.specs.Turn.{reply_of}
-use Rattle.md_core.specs.Asked.{reply_by}
-use Rattle.md_core.specs.declared.jobs.step.DirReply.TheVariants as reply
+use Rattle.md_jobs.specs.Turn.{reply_of}
+use Rattle.md_jobs.specs.Asked.{reply_by}
+use Rattle.md_jobs.specs.declared.step.DirReply.TheVariants as reply
 
 -- a call that says that a name is there, or isn't, was refused for that
 by-exists : (refusal : Option DirError) (faulted : Bool) → reply.Exists ≡ cond faulted reply.Fault (reply_by refusal) →

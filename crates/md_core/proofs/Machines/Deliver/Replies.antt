@@ -2,8 +2,8 @@
 use Rattle.std.proofs.Common.{ℕ, ◌≡◌, Option, Some, None, Bool, true, false, cond, refl, is_some}
 use Rattle.md_dirs.specs.declared.calls.DirError.{DirError}
 use Rattle.md_dirs.specs.declared.calls.DirError.TheVariants.{Exists, NotFound, Fault, NoMemory}
-use Rattle.md_core.specs.Asked.{reply_by}
-use Rattle.md_core.specs.declared.jobs.step.DirReply.TheVariants as reply
+use Rattle.md_jobs.specs.Asked.{reply_by}
+use Rattle.md_jobs.specs.declared.step.DirReply.TheVariants as reply
 
 -- a call that is done was refused by nothing
 pub accepted : (refusal : Option DirError) (faulted : Bool) → cond faulted reply.Fault (reply_by refusal) ≡ reply.Ok → refusal ≡ None

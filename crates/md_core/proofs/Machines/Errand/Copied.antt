@@ -6,17 +6,17 @@ use Rattle.std.specs.FinMap.{get}
 use Rattle.md_core.proofs.Values.{State, IsSound, file_at, path_of, Path, Place, Tmp, Row, Set, Call, Effect, Errand}
 use Rattle.md_dirs.specs.Calls as dirs
 use Rattle.md_name.specs.Names.{unique_of, flags_of}
-use Rattle.md_core.specs.declared.jobs.answer.Answer.TheVariants as answer
-use Rattle.md_core.specs.Tasks.Errand.{Errand as ErrandOf, Act}
-use Rattle.md_core.specs.Tasks.Deed as deed
-use Rattle.md_core.specs.Tasks.Purpose as purpose
-use Rattle.md_core.specs.declared.jobs.step.DirReply.TheVariants as reply
+use Rattle.md_jobs.specs.declared.answer.Answer.TheVariants as answer
+use Rattle.md_jobs.specs.Tasks.Errand.{Errand as ErrandOf, Act}
+use Rattle.md_jobs.specs.Tasks.Deed as deed
+use Rattle.md_jobs.specs.Tasks.Purpose as purpose
+use Rattle.md_jobs.specs.declared.step.DirReply.TheVariants as reply
 use Rattle.md_core.specs.Mailbox.{Entry, Mailbox, mailbox_of, entry_of, is_message, is_tmp, HasOnePath}
 use Rattle.md_core.specs.Alone.{alone, copy_alone, copy_by, entry_if, is_in_folder, info_copied}
 use Rattle.md_core.specs.History.{names_of, names_after_change}
-use Rattle.md_core.specs.Asked.{link}
-use Rattle.md_core.specs.Machines.Purposes.{info_in, name_copied}
-use Rattle.md_core.specs.Machines.Errand.{done_by}
+use Rattle.md_jobs.specs.Asked.{link}
+use Rattle.md_jobs.specs.Machines.Purposes.{info_in, name_copied}
+use Rattle.md_jobs.specs.Machines.Errand.{done_by}
 use Rattle.md_core.specs.Stepping.{AsAlone}
 use Rattle.md_core.specs.Interleaving.{is_effect_at}
 use Rattle.md_core.specs.Accepting.{MakesMessage}

@@ -8,7 +8,7 @@ use Rattle.md_name.specs.declared.info.Info.{Info}
 use Rattle.md_name.specs.declared.info.Info.TheVariants.{Bare, Two, Opaque}
 use Rattle.md_name.proofs.Flagged.{IsUniquePart, list_all-spelling, unique_of-flagged}
 use Rattle.md_core.specs.Alone.{info_with, info_copied}
-use Rattle.md_core.specs.Machines.Purposes.{info_in, name_copied}
+use Rattle.md_jobs.specs.Machines.Purposes.{info_in, name_copied}
 use Rattle.md_core.proofs.Looking.LookUps.{unique-part, message-name, info-in}
 use Rattle.md_core.proofs.Machines.Errand.Moves.{info-flagged}
 use Rattle.md_core.proofs.Worlds.UniqueNames.{unique_name}

@@ -8,7 +8,7 @@ use Rattle.std.proofs.lemmas.List.Sums.{fold-append}
 use Rattle.md_core.proofs.Values.{State, file_by, CoreError}
 use Rattle.md_dirs.specs.declared.paths.Path.{Path}
 use Rattle.md_name.specs.Names.{unique_of}
-use Rattle.md_core.specs.declared.error.CoreError.TheVariants as core
+use Rattle.md_jobs.specs.declared.error.CoreError.TheVariants as core
 use Rattle.md_core.specs.declared.world.looking.Seen.{Seen}
 use Rattle.md_core.specs.Mailbox.{is_message}
 use Rattle.md_core.specs.Loading.{is_same_message, is_bad_name, is_long_unique, fault_of, first_fault}

@@ -10,7 +10,7 @@ use Rattle.md_core.proofs.Values.{State, file_at, file_by, CoreError}
 use Rattle.md_dirs.specs.declared.paths.Path.{Path}
 use Rattle.md_dirs.proofs.PathOrder.{path_total, path_exact}
 use Rattle.md_name.specs.Names.{is_colon, begins_with_dot, unique_of, is_message_name, is_maildir_unique, is_unique_name}
-use Rattle.md_core.specs.declared.error.CoreError.TheVariants as core
+use Rattle.md_jobs.specs.declared.error.CoreError.TheVariants as core
 use Rattle.md_core.specs.Mailbox.{is_message, is_tmp, HasOnePath}
 use Rattle.md_core.specs.Loading.{is_bad_name, is_long_unique, is_same_message, fault_of, first_fault, load_refusal}
 use Rattle.md_core.specs.Runs.{stamp_of, first_clock}

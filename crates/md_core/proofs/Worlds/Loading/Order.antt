@@ -7,7 +7,7 @@ use Rattle.std.specs.FinMap.{is_sorted, entries, entries_sorted}
 use Rattle.std.specs.FinMap.Entries.{below_all}
 use Rattle.std.proofs.lemmas.Bool.Decides.{nat_tests}
 use Rattle.md_dirs.specs.Path.{path_cmp, place_index}
-use Rattle.md_core.proofs.Values.{State, IsSound, Path, Place, Tmp, New, Cur}
+use Rattle.md_core.proofs.Values.{State, IsSound, Path, Place, Tmp}
 use Rattle.md_dirs.specs.Rows.{is_in}
 use Rattle.md_dirs.proofs.PathOrder.{path_total, path_exact}
 use Rattle.md_core.specs.Looking.{is_before, entries_before}

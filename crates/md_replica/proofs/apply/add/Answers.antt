@@ -4,7 +4,7 @@ use Rattle.std.specs.Result.{OnOk}
 use Rattle.std.proofs.lemmas.Option.{slice_get_read}
 use Rattle.md_name.specs.Names.{unique_of, info_of, is_message_name}
 use Rattle.md_name.specs.declared.info.Info.{Info}
-use Rattle.md_core.specs.declared.jobs.effect.Change.TheVariants.{Add}
+use Rattle.md_jobs.specs.declared.effect.Change.TheVariants.{Add}
 use Rattle.md_view.specs.declared.entry.Entry.{Entry}
 use Rattle.md_replica.specs.Named.{Named, after_change, is_listed}
 use Rattle.md_replica.specs.Held.{FolderLists, list_of, entry_with, DiffersIn, IsTakenBeside, AreHeld, held_names}

@@ -1,6 +1,6 @@
 use Rattle.std.proofs.Common.{ℕ, ◌≡◌, List, None, true, refl, sym, subst, ◌∙◌}
 use Rattle.std.proofs.lemmas.Option.{slice_get_read}
-use Rattle.md_core.specs.declared.jobs.effect.Change.TheVariants.{Remove}
+use Rattle.md_jobs.specs.declared.effect.Change.TheVariants.{Remove}
 use Rattle.md_replica.specs.Named.{fits}
 use Rattle.md_replica.specs.Held.{FolderLists, DiffersIn, held_names}
 use Rattle.md_view.proofs.Rows.{and-first, and-second}

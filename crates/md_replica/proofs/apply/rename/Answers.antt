@@ -1,5 +1,5 @@
 use Rattle.md_name.specs.Names.{unique_of, info_of, is_message_name}
-use Rattle.md_core.specs.declared.jobs.effect.Change.TheVariants.{Rename}
+use Rattle.md_jobs.specs.declared.effect.Change.TheVariants.{Rename}
 use Rattle.md_replica.specs.Held.{held_names}
 use Rattle.md_replica.proofs.Applying.{there-other, no-parts}
 use Rattle.md_replica.proofs.Renaming.{unfit-held, unfit-there, unfit-name}

@@ -2,7 +2,7 @@ use Rattle.std.proofs.Common.{ℕ, ◌<◌, List, Ok, Err, length, refl, slice_s
 use Rattle.std.specs.Option.{option_map}
 use Rattle.std.specs.Result.{OnOk}
 use Rattle.std.proofs.lemmas.Option.{slice_get_read}
-use Rattle.md_core.specs.declared.jobs.effect.Change.TheVariants.{Rename}
+use Rattle.md_jobs.specs.declared.effect.Change.TheVariants.{Rename}
 use Rattle.md_replica.specs.Named.{after_change}
 use Rattle.md_replica.specs.Held.{list_of, entry_with, renamed, DiffersIn, AreHeld, held_names}
 use Rattle.md_replica.proofs.Renaming.{here-held}

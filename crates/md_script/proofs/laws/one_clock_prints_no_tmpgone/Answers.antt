@@ -1,8 +1,8 @@
 use Rattle.std.proofs.Common.{ℕ, zero, suc, ◌≡◌, ◌++◌, List, [], ◌∷◌, Option, Some, None, refl, sym, ap, ◌∙◌, length, slice_get, arith}
 use Rattle.std.specs.Option.{option_map}
-use Rattle.md_core.specs.declared.jobs.answer.Answer.{Answer}
-use Rattle.md_core.specs.declared.jobs.answer.Answer.TheVariants.{TmpGone}
-use Rattle.md_core.specs.declared.jobs.step.StepOut.{StepOut}
+use Rattle.md_jobs.specs.declared.answer.Answer.{Answer}
+use Rattle.md_jobs.specs.declared.answer.Answer.TheVariants.{TmpGone}
+use Rattle.md_jobs.specs.declared.step.StepOut.{StepOut}
 use Rattle.md_core.specs.Machine.{Occurrence, step_of, step_out}
 use Rattle.md_core.specs.Runs.{Run, machine_of, and_event}
 use Rattle.md_core.specs.Trace.{Step, IsAnswered}

@@ -2,15 +2,15 @@
 use Rattle.std.proofs.Common.{ℕ, ◌≡◌, ◌≢◌, List, [], true, refl, sym, ap, subst}
 use Rattle.md_name.specs.Names.{is_unique_name}
 use Rattle.md_core.proofs.Values.{Call, Deliver, Errand, Clean, Task}
-use Rattle.md_core.specs.declared.jobs.call.Call.TheVariants as call
+use Rattle.md_jobs.specs.declared.call.Call.TheVariants as call
 use Rattle.md_core.specs.Machine.{Standing, working, answered, new_job}
-use Rattle.md_core.specs.Machines.Clean.{new_cleaning}
-use Rattle.md_core.specs.Machines.Deliver.{new_delivery}
-use Rattle.md_core.specs.Machines.Errand.{new_errand}
-use Rattle.md_core.specs.Tasks.Errand as errand
-use Rattle.md_core.specs.Tasks.Errand.{Stage}
-use Rattle.md_core.specs.Tasks.Purpose.{Purpose, Seen, Flag, Move, Copy, Expunge}
-use Rattle.md_core.specs.Tasks.Cleaning.{Cleaning, Look}
+use Rattle.md_jobs.specs.Machines.Clean.{new_cleaning}
+use Rattle.md_jobs.specs.Machines.Deliver.{new_delivery}
+use Rattle.md_jobs.specs.Machines.Errand.{new_errand}
+use Rattle.md_jobs.specs.Tasks.Errand as errand
+use Rattle.md_jobs.specs.Tasks.Errand.{Stage}
+use Rattle.md_jobs.specs.Tasks.Purpose.{Purpose, Seen, Flag, Move, Copy, Expunge}
+use Rattle.md_jobs.specs.Tasks.Cleaning.{Cleaning, Look}
 
 -- the call of an errand
 abbrev pub call_by : ℕ → List ℕ → Purpose → ℕ → Call

@@ -6,9 +6,9 @@ use Rattle.md_core.proofs.Values.{State, Info}
 use Rattle.md_dirs.specs.declared.paths.Place.{Place}
 use Rattle.md_name.specs.Names.{is_unique_name}
 use Rattle.md_name.specs.declared.info.Info.TheVariants.{Two}
-use Rattle.md_core.specs.Machines.Errand.{asked_of}
-use Rattle.md_core.specs.Machines.Purposes.{deed_by, name_copied}
-use Rattle.md_core.specs.Tasks.Purpose.{Purpose, Move, Copy, Seen, Flag}
+use Rattle.md_jobs.specs.Machines.Errand.{asked_of}
+use Rattle.md_jobs.specs.Machines.Purposes.{deed_by, name_copied}
+use Rattle.md_jobs.specs.Tasks.Purpose.{Purpose, Move, Copy, Seen, Flag}
 use Rattle.md_core.proofs.Settling.Loadable.{IsGoodPath, IsLoadable}
 use Rattle.md_core.proofs.Settling.Leaving.{MakesGood}
 use Rattle.md_core.proofs.Settling.Names.{unique-good, flagged-good}

@@ -1,5 +1,5 @@
 use Rattle.std.proofs.Common.{◌∙◌, ap, sym}
-use Rattle.md_core.specs.declared.jobs.call.Call.TheVariants.{Deliver, Copy}
+use Rattle.md_jobs.specs.declared.call.Call.TheVariants.{Deliver, Copy}
 use Rattle.md_core.specs.Submitting.{submit_refusal}
 use Rattle.md_core.proofs.world.World.refusal_of.Goals as goal
 

@@ -1,7 +1,7 @@
 use Rattle.std.proofs.Common.{None, arith, get_or}
 use Rattle.std.proofs.lemmas.Option.{slice_get-get_or}
-use Rattle.md_core.specs.declared.jobs.step.Event.{Event}
-use Rattle.md_core.specs.Asked.{is_fault}
+use Rattle.md_jobs.specs.declared.step.Event.{Event}
+use Rattle.md_jobs.specs.Asked.{is_fault}
 use Rattle.md_core.proofs.Worlds.Taking.{takes-more}
 use Rattle.md_core.proofs.world.World.run.Goals as goal
 

@@ -1,7 +1,7 @@
 use Rattle.std.proofs.Common.{◌≡◌, ◌⊎◌, Some, rules, inl, inr, sym, subst}
 use Rattle.std.proofs.Common.{append-nil}
 use Rattle.md_dirs.specs.Rows.{row_shown}
-use Rattle.md_core.specs.declared.error.CoreError.TheVariants.{NoMemory}
+use Rattle.md_jobs.specs.declared.error.CoreError.TheVariants.{NoMemory}
 use Rattle.md_core.specs.Loading.{load_refusal}
 use Rattle.md_core.specs.Looking.{IsLookOf}
 use Rattle.md_core.proofs.Worlds.Loading.Rows.{until-row, until-all, refused-row}

@@ -1,5 +1,5 @@
 use Rattle.std.proofs.Common.{◌≡◌, List, [], ap, sym, ◌∙◌, inl, arith, append-nil}
-use Rattle.md_core.specs.declared.jobs.effect.Effect.{Effect}
+use Rattle.md_jobs.specs.declared.effect.Effect.{Effect}
 use Rattle.md_store.specs.Pages.{Log}
 use Rattle.md_store.proofs.Rolled.{rolled-itself}
 use Rattle.md_store.proofs.Since.{since_itself}

@@ -1,8 +1,8 @@
 use Rattle.std.proofs.Common.{◌≡◌, true, false, ◌∙◌, sym, List, subst, rules}
 use mathlib.Core.List.{IsPrefix}
-use Rattle.md_core.specs.declared.jobs.effect.Effect.{Effect}
+use Rattle.md_jobs.specs.declared.effect.Effect.{Effect}
 use Rattle.md_core.specs.Machine.{occurrence}
-use Rattle.md_core.specs.Asked.{is_fault}
+use Rattle.md_jobs.specs.Asked.{is_fault}
 use Rattle.md_core.specs.Runs.{effects_of}
 use Rattle.md_store.proofs.Moves.{no_effect, one_effect}
 use Rattle.md_store.proofs.Told.{stands}

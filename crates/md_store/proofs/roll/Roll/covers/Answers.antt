@@ -1,7 +1,7 @@
 use Rattle.std.proofs.Common.{◌≡◌, List, sym, ◌∙◌, ap, subst}
 use mathlib.Core.List.{IsPrefix}
 use Rattle.md_store.specs.declared.entered.Entered.{Entered}
-use Rattle.md_core.specs.declared.jobs.call.Call.{Call}
+use Rattle.md_jobs.specs.declared.call.Call.{Call}
 use Rattle.md_store.specs.Rolls.{no_entry, calls_of}
 use Rattle.md_store.proofs.Entering.{looks, covers-all}
 use Rattle.md_store.proofs.roll.Roll.covers.Goals as goal

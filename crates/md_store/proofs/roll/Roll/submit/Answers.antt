@@ -1,6 +1,6 @@
 use Rattle.std.proofs.Common.{◌≡◌, List, [], ◌∷◌, ◌++◌, sym, ◌∙◌, ap, refl}
 use Rattle.md_store.specs.declared.entered.Entered.{Entered}
-use Rattle.md_core.specs.declared.jobs.call.Call.{Call}
+use Rattle.md_jobs.specs.declared.call.Call.{Call}
 use Rattle.md_store.specs.Rolls.{calls_of, next_from, first_pen}
 use Rattle.md_store.specs.Rules.{head_of}
 use Rattle.md_store.proofs.Entering.{enters, next-more, calls-append}

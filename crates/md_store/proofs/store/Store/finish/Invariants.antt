@@ -1,6 +1,6 @@
 use Rattle.std.proofs.Common.{◌<◌}
 use mathlib.Core.List.{IsPrefix}
-use Rattle.md_core.specs.declared.error.CoreError.TheVariants as core
+use Rattle.md_jobs.specs.declared.error.CoreError.TheVariants as core
 use Rattle.md_store.specs.Calling.{RefusesSince}
 use Rattle.md_store.proofs.store.Store.finish.Given as goal
 

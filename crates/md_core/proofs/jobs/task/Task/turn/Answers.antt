@@ -1,9 +1,9 @@
 use Rattle.std.proofs.lemmas.Result.{IfOk-weaker}
-use Rattle.md_core.specs.Machines.Clean.{cleaning_turn}
-use Rattle.md_core.specs.Machines.Deliver.{delivery_turn}
-use Rattle.md_core.specs.Machines.Errand.{errand_turn}
+use Rattle.md_jobs.specs.Machines.Clean.{cleaning_turn}
+use Rattle.md_jobs.specs.Machines.Deliver.{delivery_turn}
+use Rattle.md_jobs.specs.Machines.Errand.{errand_turn}
 use Rattle.md_core.specs.Tasks.Task.{Deliver, Errand, Clean}
-use Rattle.md_core.specs.Tasks.Views.Tasks.{errand_view}
+use Rattle.md_jobs.specs.Tasks.Views.Errands.{errand_view}
 use Rattle.md_core.proofs.Machines.Wrapping.{takes-wrapped, ends-wrapped}
 use Rattle.md_core.proofs.jobs.task.Task.turn.Goals as goal
 

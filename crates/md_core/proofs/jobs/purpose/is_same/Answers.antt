@@ -1,6 +1,0 @@
-use Rattle.std.proofs.Common.{◌∙◌}
-use Rattle.md_core.proofs.Machines.Errand.Sets.{words-same}
-use Rattle.md_core.proofs.jobs.purpose.is_same.Goals as goal
-
-pub returns : goal.returns
-returns c = c.eq.ensures ∙ words-same c.args.first c.args.second c.only_letters.ensures c.only_letters-2.ensures

@@ -1,0 +1,5 @@
+pub mod Performing
+pub mod Deeds
+pub mod Sets
+pub mod NoMemory
+pub mod Turns

@@ -1,0 +1,7 @@
+pub mod Sets
+pub mod Pieces
+pub mod Asked
+pub mod Turn
+pub mod Tasks
+pub mod Machines
+pub mod Laws

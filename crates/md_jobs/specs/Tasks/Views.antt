@@ -1,0 +1,4 @@
+pub mod Purposes
+pub mod Stages
+pub mod Errands
+pub mod Bodies

@@ -1,0 +1,29 @@
+-- What the definitions see of how far the code's tasks have come.
+use Rattle.md_dirs.specs.declared.paths.Path.{Path}
+use Rattle.md_jobs.specs.Tasks.Errand as errand
+use Rattle.md_jobs.specs.Tasks.Delivery as delivery
+use Rattle.md_jobs.specs.Tasks.Cleaning as cleaning
+use Rattle.md_jobs.specs.Tasks.Views.Purposes.{refusal_view}
+use Rattle.md_jobs.specs.declared.errand.Stage.{Stage as ErrandStage}
+use Rattle.md_jobs.specs.declared.errand.Stage.TheVariants as errand_at
+use Rattle.md_jobs.specs.declared.deliver.Stage.{Stage as DeliveryStage}
+use Rattle.md_jobs.specs.declared.deliver.Stage.TheVariants as delivery_at
+use Rattle.md_jobs.specs.declared.cleaning.Stage.{Stage as CleaningStage}
+use Rattle.md_jobs.specs.declared.cleaning.Stage.TheVariants as cleaning_at
+
+-- how far an errand has come, by the path where it looks, or that it found, as the definitions see it
+abbrev pub errand_stage : Path → ErrandStage → errand.Stage
+errand_stage path (errand_at.Look tries) = errand.Look path.place tries
+errand_stage path (errand_at.Act stamp size tries) = errand.Act path.place (record { name = path.name; stamp = stamp; size = size }) tries
+
+-- how far a delivery has come, as the definitions see it
+abbrev pub delivery_stage : DeliveryStage → delivery.Stage
+delivery_stage delivery_at.Start = delivery.Start
+delivery_stage (delivery_at.Writing start written) = delivery.Writing start written
+delivery_stage delivery_at.Linked = delivery.Linked
+delivery_stage (delivery_at.Undo refusal) = delivery.Undo (refusal_view refusal)
+
+-- how far a clean has come, as the definitions see it
+abbrev pub cleaning_stage : CleaningStage → cleaning.Stage
+cleaning_stage cleaning_at.Look = cleaning.Look
+cleaning_stage (cleaning_at.Remove name rest files) = cleaning.Remove name rest.items files

@@ -1,0 +1,351 @@
+//! A delivery: "Using maildir format", steps 3 to 6.
+ghost use Rattle.std.specs.Prelude.{◌≡◌, ◌+◌, ◌-◌, ◌^◌, ◌<◌, ◌≤◌, length, take, drop, min, IfOk, IfErr, OnErr, is_some};
+ghost use Rattle.md_jobs.specs.Turn.{Takes, IsUntouched};
+ghost use Rattle.md_jobs.specs.Machines.Deliver.{new_delivery, at_stage, after_create, after_append, after_link, create_turn, append_turn, link_turn, unlink_turn, delivery_turn, delivery_effect, piece_len, target as target_of, is_in_time as is_in_time_by};
+ghost use Rattle.md_jobs.specs.Tasks.Delivery.{Delivery as DeliveryView, Start, Writing};
+ghost use Rattle.md_jobs.specs.Tasks.Views.Stages.{delivery_stage};
+
+use crate::answer::Answer;
+use crate::call::JobId;
+use crate::effect::{Change, Effect};
+use crate::error::CoreError;
+use crate::image::Image;
+use crate::paths::path;
+use crate::refusal::Refusal;
+use crate::step::{DirCall, DirReply, Moment};
+use crate::turn::{Turned, reply_of};
+use md_dirs::{Bytes, Dirs, Path, Place};
+use std::alloc::{AllocError, Global};
+use std::marker::Model;
+
+/// How far a delivery has come.
+#[derive(Clone, Copy)]
+pub enum Stage {
+    /// Nothing was done.
+    Start,
+    /// The file is in tmp. The delivery began at `start`, in seconds by its own clock, and so many bytes are written.
+    Writing { start: u64, written: u64 },
+    /// The message is in new.
+    Linked,
+    /// The file in tmp goes, and then the job is refused so.
+    Undo(Refusal),
+}
+
+/// A delivery is given up after 24 hours, in seconds.
+const MOST_SECONDS: u64 = 86_400;
+
+/// A delivery of a body, in pieces of `chunk` bytes, by way of a file in tmp. Where one piece is all of the body, the directories may keep
+/// its bytes: then the whole is there for contracts alone.
+#[derive(Drop)]
+pub struct Delivery {
+    tmp: Path,
+    // The whole body, while a piece of it is still to be written.
+    body: Bytes,
+    // The whole body, for contracts alone.
+    whole: Image<Bytes>,
+    size: u64,
+    chunk: u64,
+    stage: Stage,
+}
+
+impl Model for Delivery {
+    ghost use Rattle.md_jobs.specs.Tasks.Delivery.{Delivery as DeliveryView};
+    ghost use Rattle.md_jobs.specs.Tasks.Views.Stages.{delivery_stage};
+    ghost use Rattle.md_jobs.specs.Tasks.Views.Bodies.{HasBody};
+    ghost use Rattle.std.specs.Coded.{codes};
+    ghost use Rattle.md_name.specs.contracts.flags.Flags as flags;
+
+    ghost Value = { DeliveryView };
+
+    ghost coded = { Prim.hlevel (codes, flags.the_row.coded) };
+
+    ghost view = { λ d. record { tmp = d.tmp; body = d.whole.value; chunk = d.chunk; stage = delivery_stage d.stage } };
+
+    ghost invariant = { λ d. HasBody (delivery_stage d.stage) d.whole.value d.body d.size };
+}
+
+// Whether a delivery that began at `start` is in time at `own`, both by its own clock. A clock that went back counts as none.
+fn is_in_time(start: u64, own: u64) -> bool
+    ensures { result ≡ is_in_time_by start own }
+{
+    own.saturating_sub(start) < MOST_SECONDS
+}
+
+// The bytes of a body that are written next, after so many.
+fn piece(body: &[u8], chunk: u64, written: u64) -> &[u8]
+    requires { written < length body.now }
+    ensures bytes { result.now ≡ take (min chunk (length body.now - written)) (drop written body.now) }
+    ensures len { length result.now ≡ min chunk (length body.now - written) }
+    ensures fits { written + length result.now < 2 ^ 64 }
+{
+    let left = &body[written as usize..];
+    let len = chunk.min(left.len() as u64) as usize;
+    &left[..len]
+}
+
+// Says how far a delivery is after an append, where so many bytes are written if it was done.
+fn appended(stage: &mut Stage, start: u64, written: u64, reply: DirReply) -> Option<Answer>
+    ensures { (d : DeliveryView) (k : _) → delivery_stage stage.old ≡ d.stage → written ≡ k + piece_len d k →
+        after_append d start k reply ≡ record { task = at_stage d (delivery_stage stage.new); answer = result; effect = None } }
+{
+    match reply {
+        DirReply::Ok => {
+            *stage = Stage::Writing { start, written };
+            None
+        }
+        DirReply::Exists => Some(Refusal::Fault.answer()),
+        DirReply::NotFound => Some(Refusal::TmpGone.answer()),
+        DirReply::Fault => {
+            *stage = Stage::Undo(Refusal::Fault);
+            None
+        }
+    }
+}
+
+impl Delivery {
+    /// A delivery that has not begun.
+    pub fn new(folder: u32, unique: Bytes, body: Bytes, chunk: u64) -> Delivery
+        ensures { result ≡ new_delivery folder unique body chunk }
+    {
+        Delivery {
+            tmp: Path {
+                folder,
+                place: Place::Tmp,
+                name: unique,
+            },
+            whole: Image::of(&body),
+            size: body.len() as u64,
+            body,
+            chunk,
+            stage: Stage::Start,
+        }
+    }
+
+    /// Takes the next turn. After a refusal nothing has changed.
+    pub fn turn<D: Dirs>(
+        &mut self,
+        alloc: Global,
+        dirs: &mut D,
+        job: JobId,
+        at: Moment,
+    ) -> Result<Turned, CoreError>
+        ensures ok { IfOk result (λ t.
+            Takes (delivery_turn job self.old at) at (D.device dirs.old) t.out t.effect
+            self.new (D.device dirs.new)) }
+        ensures memory { IfErr result (λ e. e ≡ CoreError.NoMemory) }
+        ensures task { OnErr result (self.new ≡ self.old) }
+        ensures dirs { OnErr result (IsUntouched (D.device dirs.old)
+            (D.device dirs.new)) }
+    {
+        match self.stage {
+            Stage::Start => self.create(dirs, at),
+            Stage::Writing { start, written } => {
+                if !is_in_time(start, at.own) {
+                    self.unlink(dirs, at, Refusal::TimedOut.answer())
+                } else if written < self.size {
+                    self.append(dirs, at, start, written)
+                } else {
+                    self.link(alloc, dirs, job, at)
+                }
+            }
+            Stage::Linked => self.unlink(dirs, at, Answer::Delivered),
+            Stage::Undo(refusal) => self.unlink(dirs, at, refusal.answer()),
+        }
+    }
+
+    fn create<D: Dirs>(&mut self, dirs: &mut D, at: Moment) -> Result<Turned, CoreError>
+        requires { self.old.stage ≡ Start }
+        ensures ok { IfOk result (λ t.
+            Takes (create_turn self.old at.own) at (D.device dirs.old) t.out t.effect
+            self.new (D.device dirs.new)) }
+        ensures memory { IfErr result (λ e. e ≡ CoreError.NoMemory) }
+        ensures task { OnErr result (self.new ≡ self.old) }
+        ensures dirs { OnErr result (IsUntouched (D.device dirs.old)
+            (D.device dirs.new)) }
+    {
+        let reply = reply_of(dirs.create(&self.tmp, at.clock))?;
+        let answer = self.created(at.own, reply);
+        Ok(Turned::plain(DirCall::Create, reply, answer))
+    }
+
+    fn append<D: Dirs>(
+        &mut self,
+        dirs: &mut D,
+        at: Moment,
+        start: u64,
+        written: u64,
+    ) -> Result<Turned, CoreError>
+        requires stage { self.old.stage ≡ Writing start written }
+        requires more { written < length self.old.body }
+        ensures ok { IfOk result (λ t.
+            Takes (append_turn self.old start written) at (D.device dirs.old) t.out t.effect
+            self.new (D.device dirs.new)) }
+        ensures memory { IfErr result (λ e. e ≡ CoreError.NoMemory) }
+        ensures task { OnErr result (self.new ≡ self.old) }
+        ensures dirs { OnErr result (IsUntouched (D.device dirs.old)
+            (D.device dirs.new)) }
+    {
+        if written == 0 && self.size <= self.chunk {
+            self.append_whole(dirs, at, start)
+        } else {
+            self.append_piece(dirs, at, start, written)
+        }
+    }
+
+    // Writes the whole body, whose bytes the directories may keep.
+    fn append_whole<D: Dirs>(
+        &mut self,
+        dirs: &mut D,
+        at: Moment,
+        start: u64,
+    ) -> Result<Turned, CoreError>
+        requires stage { self.old.stage ≡ Writing start 0 }
+        requires more { 0 < length self.old.body }
+        requires whole { length self.old.body ≤ self.old.chunk }
+        ensures ok { IfOk result (λ t.
+            Takes (append_turn self.old start 0) at (D.device dirs.old) t.out t.effect
+            self.new (D.device dirs.new)) }
+        ensures memory { IfErr result (λ e. e ≡ CoreError.NoMemory) }
+        ensures task { OnErr result (self.new ≡ self.old) }
+        ensures dirs { OnErr result (IsUntouched (D.device dirs.old)
+            (D.device dirs.new)) }
+    {
+        let reply = reply_of(dirs.append_body(&self.tmp, &mut self.body, at.clock))?;
+        let answer = appended(&mut self.stage, start, self.size, reply);
+        Ok(Turned::plain(DirCall::Append(self.size), reply, answer))
+    }
+
+    fn append_piece<D: Dirs>(
+        &mut self,
+        dirs: &mut D,
+        at: Moment,
+        start: u64,
+        written: u64,
+    ) -> Result<Turned, CoreError>
+        requires stage { self.old.stage ≡ Writing start written }
+        requires more { written < length self.old.body }
+        ensures ok { IfOk result (λ t.
+            Takes (append_turn self.old start written) at (D.device dirs.old) t.out t.effect
+            self.new (D.device dirs.new)) }
+        ensures memory { IfErr result (λ e. e ≡ CoreError.NoMemory) }
+        ensures task { OnErr result (self.new ≡ self.old) }
+        ensures dirs { OnErr result (IsUntouched (D.device dirs.old)
+            (D.device dirs.new)) }
+    {
+        let piece = piece(self.body.as_slice(), self.chunk, written);
+        let len = piece.len() as u64;
+        let reply = reply_of(dirs.append(&self.tmp, piece, at.clock))?;
+        let answer = appended(&mut self.stage, start, written + len, reply);
+        Ok(Turned::plain(DirCall::Append(len), reply, answer))
+    }
+
+    // The name is copied before the call, since a link that was made can't be refused any more.
+    fn link<D: Dirs>(
+        &mut self,
+        alloc: Global,
+        dirs: &mut D,
+        job: JobId,
+        at: Moment,
+    ) -> Result<Turned, CoreError>
+        ensures ok { IfOk result (λ t.
+            Takes (link_turn job self.old) at (D.device dirs.old) t.out t.effect
+            self.new (D.device dirs.new)) }
+        ensures memory { IfErr result (λ e. e ≡ CoreError.NoMemory) }
+        ensures task { OnErr result (self.new ≡ self.old) }
+        ensures dirs { OnErr result (IsUntouched (D.device dirs.old)
+            (D.device dirs.new)) }
+    {
+        let target = self.target(alloc)?;
+        let reply = reply_of(dirs.link(&self.tmp, &target))?;
+        let effect = self.effect(job, target);
+        // At the link the message is delivered. Whatever comes now, it stays so.
+        Ok(self.linked(reply, effect))
+    }
+
+    // Takes the name in tmp away, whatever the reply is.
+    fn unlink<D: Dirs>(
+        &mut self,
+        dirs: &mut D,
+        at: Moment,
+        answer: Answer,
+    ) -> Result<Turned, CoreError>
+        ensures ok { IfOk result (λ t.
+            Takes (unlink_turn self.old answer) at (D.device dirs.old) t.out t.effect
+            self.new (D.device dirs.new)) }
+        ensures memory { IfErr result (λ e. e ≡ CoreError.NoMemory) }
+        ensures task { self.new ≡ self.old }
+        ensures dirs { OnErr result (IsUntouched (D.device dirs.old)
+            (D.device dirs.new)) }
+    {
+        let reply = reply_of(dirs.unlink(&self.tmp))?;
+        Ok(Turned::plain(DirCall::Unlink, reply, Some(answer)))
+    }
+
+    // Where the message is delivered.
+    fn target(&self, alloc: Global) -> Result<Path, AllocError>
+        ensures { IfOk result (λ path. path ≡ target_of self.now) }
+    {
+        path(alloc, self.tmp.folder, Place::New, &self.tmp.name)
+    }
+
+    // The effect that a link to the target is.
+    fn effect(&self, job: JobId, target: Path) -> Effect
+        requires { target ≡ target_of self.now }
+        ensures { result ≡ delivery_effect job self.now }
+    {
+        Effect {
+            job,
+            answer: Answer::Delivered,
+            change: Change::Add {
+                folder: target.folder,
+                place: target.place,
+                name: target.name,
+                size: self.size,
+            },
+        }
+    }
+
+    fn created(&mut self, own: u64, reply: DirReply) -> Option<Answer>
+        requires { self.old.stage ≡ Start }
+        ensures { after_create self.old own reply ≡ record { task = self.new; answer = result; effect = None } }
+    {
+        match reply {
+            DirReply::Ok => {
+                self.stage = Stage::Writing {
+                    start: own,
+                    written: 0,
+                };
+                None
+            }
+            DirReply::Exists => Some(Refusal::NameTaken.answer()),
+            DirReply::NotFound | DirReply::Fault => Some(Refusal::Fault.answer()),
+        }
+    }
+
+    fn linked(&mut self, reply: DirReply, effect: Effect) -> Turned
+        ensures follows { (job : _) → effect ≡ delivery_effect job self.old →
+            after_link job self.old reply ≡ record { task = self.new; answer = result.out.answer; effect = result.effect } }
+        ensures shown { (result.out.call ≡ DirCall.Link) × (result.out.reply ≡ reply) }
+        ensures effect { result.out.effect ≡ is_some result.effect }
+    {
+        match reply {
+            DirReply::Ok => {
+                self.stage = Stage::Linked;
+                Turned::acted(DirCall::Link, reply, effect)
+            }
+            DirReply::Exists => {
+                self.stage = Stage::Undo(Refusal::NameTaken);
+                Turned::plain(DirCall::Link, reply, None)
+            }
+            DirReply::NotFound => Turned::plain(
+                DirCall::Link,
+                reply,
+                Some(Refusal::TmpGone.answer()),
+            ),
+            DirReply::Fault => {
+                self.stage = Stage::Undo(Refusal::Fault);
+                Turned::plain(DirCall::Link, reply, None)
+            }
+        }
+    }
+}

@@ -1,0 +1,226 @@
+//! An errand: it looks for a message in one place after the other, decides what to do with it, and does that. Seen, Flag, Move, Copy and
+//! Expunge are errands, each a row of the table in `purpose.rt`.
+ghost use Rattle.std.specs.Prelude.{◌≡◌, [], IfOk, IfErr, OnErr, is_some};
+ghost use Rattle.md_dirs.specs.Path.{path_of};
+ghost use Rattle.md_jobs.specs.Turn.{Takes, TakesOrEnds, FollowsOrEnds, IsUntouched};
+ghost use Rattle.md_jobs.specs.Asked.{shown_call};
+ghost use Rattle.md_jobs.specs.Tasks.Views.Purposes.{purpose_view, deed_view};
+ghost use Rattle.md_jobs.specs.Tasks.Views.Errands.{errand_view};
+ghost use Rattle.md_jobs.specs.Machines.Purposes.{searches, place_after, decide, info_in};
+ghost use Rattle.md_jobs.specs.Machines.Errand.{new_errand, asked_of, after_none, after_decision, after_look, lost_or_again, after_act, look_turn, errand_turn};
+
+use crate::answer::Answer;
+use crate::call::JobId;
+use crate::effect::{Change, Effect};
+use crate::error::CoreError;
+use crate::paths::nameless;
+use crate::purpose::{Decision, Deed, Purpose};
+use crate::refusal::Refusal;
+use crate::step::{DirCall, DirReply, Moment};
+use crate::turn::{Turned, look, reply_of};
+use md_dirs::{Bytes, Dirs, Path, Row};
+use std::alloc::Global;
+use std::mem::replace;
+
+/// How far an errand has come. So many tries are left, with this one.
+#[derive(Clone, Copy)]
+pub enum Stage {
+    /// The message is looked for in the place of the path, whatever name that has.
+    Look { tries: u64 },
+    /// The message was found by the path, with its file's stamp and size, and its name is acted on.
+    Act { stamp: u64, size: u64, tries: u64 },
+}
+
+/// An errand on the message of a unique name. The directory calls borrow its path, and a change that is done takes its name.
+#[derive(Drop)]
+pub struct Errand {
+    pub path: Path,
+    pub unique: Bytes,
+    pub purpose: Purpose,
+    pub stage: Stage,
+}
+
+impl Errand {
+    /// An errand that has not begun.
+    pub fn new(alloc: Global, folder: u32, unique: Bytes, purpose: Purpose, tries: u64) -> Errand
+        ensures { errand_view result ≡ new_errand folder unique (purpose_view purpose) tries }
+    {
+        Errand {
+            path: nameless(alloc, folder, purpose.first()),
+            unique,
+            purpose,
+            stage: Stage::Look { tries },
+        }
+    }
+
+    /// Takes the next turn. After a refusal nothing has changed.
+    pub fn turn<D: Dirs>(
+        &mut self,
+        alloc: Global,
+        dirs: &mut D,
+        job: JobId,
+        at: Moment,
+    ) -> Result<Turned, CoreError>
+        ensures ok { IfOk result (λ t.
+            TakesOrEnds (errand_turn job (errand_view self.old)) at (D.device dirs.old) t.out t.effect
+            (errand_view self.new) (D.device dirs.new)) }
+        ensures memory { IfErr result (λ e. e ≡ CoreError.NoMemory) }
+        ensures task { OnErr result (self.new ≡ self.old) }
+        ensures dirs { OnErr result (IsUntouched (D.device dirs.old)
+            (D.device dirs.new)) }
+    {
+        match self.stage {
+            Stage::Look { tries } => self.look(dirs, job, at, tries),
+            // The deed is made ready before its call, since a call that was made can't be refused any more.
+            Stage::Act { size, tries, .. } => {
+                let (deed, answer) = self.purpose.deed(alloc, &self.unique, &self.path)?;
+                let reply = reply_of(deed.make(dirs, &self.path))?;
+                Ok(self.acted(alloc, job, deed, answer, size, tries, reply))
+            }
+        }
+    }
+
+    fn look<D: Dirs>(
+        &mut self,
+        dirs: &mut D,
+        job: JobId,
+        at: Moment,
+        tries: u64,
+    ) -> Result<Turned, CoreError>
+        ensures ok { IfOk result (λ t.
+            Takes (look_turn job (errand_view self.old) self.old.path.place tries) at (D.device dirs.old) t.out t.effect
+            (errand_view self.new) (D.device dirs.new)) }
+        ensures memory { IfErr result (λ e. e ≡ CoreError.NoMemory) }
+        ensures task { OnErr result (self.new ≡ self.old) }
+        ensures dirs { OnErr result (IsUntouched (D.device dirs.old)
+            (D.device dirs.new)) }
+    {
+        let (reply, row) = look(
+            dirs,
+            self.path.folder,
+            self.path.place,
+            self.unique.as_slice(),
+        )?;
+        Ok(self.looked(job, reply, row, tries))
+    }
+
+    fn looked(&mut self, job: JobId, reply: DirReply, row: Option<Row>, tries: u64) -> Turned
+        ensures follows { after_look job (errand_view self.old) self.old.path.place tries reply row ≡
+            record { task = errand_view self.new; answer = result.out.answer; effect = result.effect } }
+        ensures shown { (result.out.call ≡ DirCall.List self.old.path.place) × (result.out.reply ≡ reply) }
+        ensures effect { result.out.effect ≡ is_some result.effect }
+    {
+        let call = DirCall::List(self.path.place);
+        if reply != DirReply::Ok {
+            return Turned::plain(call, reply, Some(Refusal::Fault.answer()));
+        }
+        let Some(row) = row else {
+            let answer = self.not_found(tries);
+            return Turned::plain(call, reply, answer);
+        };
+        self.found(job, row, tries)
+    }
+
+    // The message is looked for in the next place, if there is one.
+    fn not_found(&mut self, tries: u64) -> Option<Answer>
+        ensures { after_none (errand_view self.old) tries (place_after (searches (purpose_view self.old.purpose)) self.old.path.place) ≡
+            record { task = errand_view self.new; answer = result; effect = None } }
+    {
+        let Some(place) = self.purpose.after(self.path.place) else {
+            return Some(Refusal::NotThere.answer());
+        };
+        self.path.place = place;
+        self.stage = Stage::Look { tries };
+        None
+    }
+
+    // A listing was made, and this row was found.
+    fn found(&mut self, job: JobId, row: Row, tries: u64) -> Turned
+        ensures follows { after_decision job (errand_view self.old) self.old.path.place tries row
+            (decide (purpose_view self.old.purpose) (info_in row.name)) ≡
+            record { task = errand_view self.new; answer = result.out.answer; effect = result.effect } }
+        ensures shown { (result.out.call ≡ DirCall.List self.old.path.place) × (result.out.reply ≡ DirReply.Ok) }
+        ensures effect { result.out.effect ≡ is_some result.effect }
+    {
+        let call = DirCall::List(self.path.place);
+        match self.purpose.decide(row.name.as_slice()) {
+            Decision::Refuse(refusal) => {
+                Turned::plain(call, DirReply::Ok, Some(refusal.answer()))
+            }
+            Decision::Keep => {
+                let effect = Effect {
+                    job,
+                    answer: self.purpose.answer(row.name.as_slice()),
+                    change: Change::Same,
+                };
+                Turned::ended(call, DirReply::Ok, effect)
+            }
+            Decision::Act => {
+                let Row { name, stamp, size } = row;
+                self.path.name = name;
+                self.stage = Stage::Act { stamp, size, tries };
+                Turned::plain(call, DirReply::Ok, None)
+            }
+        }
+    }
+
+    // The deed was done, or its call was refused. One that is done ends the errand, and its effect takes the path's name.
+    fn acted(
+        &mut self,
+        alloc: Global,
+        job: JobId,
+        deed: Deed,
+        answer: Answer,
+        size: u64,
+        tries: u64,
+        reply: DirReply,
+    ) -> Turned
+        ensures follows { FollowsOrEnds (after_act job (errand_view self.old) (deed_view self.old.path deed) answer size tries reply)
+            (errand_view self.new) result.out.answer result.effect }
+        ensures shown { (result.out.call ≡ shown_call (asked_of (deed_view self.old.path deed))) × (result.out.reply ≡ reply) }
+        ensures effect { result.out.effect ≡ is_some result.effect }
+    {
+        let call = deed.shown();
+        match reply {
+            DirReply::Ok => {
+                let change = deed.change(self.take_path(alloc), size);
+                Turned::ended(
+                    call,
+                    reply,
+                    Effect {
+                        job,
+                        answer,
+                        change,
+                    },
+                )
+            }
+            DirReply::NotFound => {
+                let answer = self.again(tries);
+                Turned::plain(call, reply, answer)
+            }
+            DirReply::Exists => Turned::plain(call, reply, Some(deed.taken().answer())),
+            DirReply::Fault => Turned::plain(call, reply, Some(Refusal::Fault.answer())),
+        }
+    }
+
+    // The path, moved out: one without a name stays.
+    fn take_path(&mut self, alloc: Global) -> Path
+        ensures path { result ≡ self.old.path }
+        ensures rest { self.new ≡ record self.old { path = path_of self.old.path.folder self.old.path.place [] } }
+    {
+        let left = nameless(alloc, self.path.folder, self.path.place);
+        replace(&mut self.path, left)
+    }
+
+    // The name was gone: the message is looked for again, where a try is left.
+    fn again(&mut self, tries: u64) -> Option<Answer>
+        ensures { lost_or_again (errand_view self.old) tries ≡ record { task = errand_view self.new; answer = result; effect = None } }
+    {
+        if tries <= 1 {
+            return Some(Refusal::Lost.answer());
+        }
+        self.path.place = self.purpose.first();
+        self.stage = Stage::Look { tries: tries - 1 };
+        None
+    }
+}

@@ -1,0 +1,29 @@
+//! Jobs on directories of mail as machines: what callers ask, the one directory call that each job makes next, and how its answer comes about.
+#![tactic(auto)]
+
+mod answer;
+mod call;
+mod cleaning;
+mod deliver;
+mod effect;
+mod errand;
+mod error;
+mod image;
+pub mod laws;
+mod paths;
+mod purpose;
+mod refusal;
+mod step;
+mod turn;
+
+pub use answer::Answer;
+pub use call::{Call, JobId};
+pub use cleaning::Cleaning;
+pub use deliver::Delivery;
+pub use effect::{Change, Effect};
+pub use errand::Errand;
+pub use error::CoreError;
+pub use image::Image;
+pub use purpose::Purpose;
+pub use step::{DirCall, DirReply, Event, Moment, StepOut};
+pub use turn::Turned;

@@ -1,0 +1,319 @@
+//! The table of errands, a row for each purpose: the places that it looks in, what it decides of a message that it found, and what it does
+//! with it.
+ghost use Rattle.std.specs.Prelude.{◌≡◌, IfOk, IfErr, MatchResult};
+ghost use Rattle.md_dirs.specs.Path.{path_of};
+ghost use Rattle.md_dirs.specs.Calls.{Obeys};
+ghost use Rattle.md_jobs.specs.Tasks.Views.Purposes.{purpose_view, decision_view, deed_view, refusal_view};
+ghost use Rattle.md_name.specs.Names.{flags_of, flagged};
+ghost use Rattle.md_jobs.specs.Sets.{is_same_set};
+ghost use Rattle.md_jobs.specs.Asked.{ask_of, shown_call};
+ghost use Rattle.md_jobs.specs.Machines.Purposes.{first, searches, place_after, info_in, wanted as wanted_by, shown as shown_by, has_trashed, act_if as act_if_by, decide_flag, decide as decide_by, answer_by, name_copied, deed_by};
+ghost use Rattle.md_jobs.specs.Machines.Errand.{asked_of, change_of, taken_by};
+
+use crate::answer::Answer;
+use crate::effect::Change;
+use crate::error::CoreError;
+use crate::paths::path;
+use crate::refusal::Refusal;
+use crate::step::DirCall;
+use md_dirs::{Bytes, DirError, Dirs, Path, Place};
+use md_name::laws::only_letters;
+use md_name::{Flags, Info, split, with_flags};
+use std::alloc::Global;
+
+/// What an errand is for.
+#[derive(Drop)]
+pub enum Purpose {
+    /// A new message goes to cur, its flags joined by these.
+    Seen(Flags),
+    /// A message of cur gets those that are added, and then loses those that are removed.
+    Flag { add: Flags, remove: Flags },
+    /// A message goes to another folder, and keeps its place and its whole name.
+    Move { to: u32 },
+    /// A message gets a second one of its file, under a fresh name in the same place of a folder.
+    Copy { to: u32, fresh: Bytes },
+    /// A message of cur that has the flag T (trashed) goes.
+    Expunge,
+}
+
+/// What an errand does with a message that it found.
+#[derive(Clone, Copy)]
+pub enum Decision {
+    /// It ends without an effect.
+    Refuse(Refusal),
+    /// The message is as it should be: that takes effect at once.
+    Keep,
+    /// It acts on the name.
+    Act,
+}
+
+/// A directory call that an errand makes on the path that it found, and the path that it makes.
+#[derive(Drop)]
+pub enum Deed {
+    Rename { new: Path },
+    Link { new: Path },
+    Unlink,
+}
+
+// The info of a message's name. What is no message's name has other info.
+fn info_of(name: &[u8]) -> Info
+    ensures { result ≡ info_in name.now }
+{
+    match split(name) {
+        Some((_, info)) => info,
+        None => Info::Opaque,
+    }
+}
+
+// Whether two sets have the same letters.
+fn is_same(first: Flags, second: Flags) -> bool
+    ensures { result ≡ is_same_set first second }
+{
+    only_letters(first);
+    only_letters(second);
+    first == second
+}
+
+// The flags of a message, and none where it has other info.
+fn shown(name: &[u8]) -> Flags
+    ensures { result ≡ shown_by (info_in name.now) }
+{
+    info_of(name).flags().unwrap_or(Flags::empty())
+}
+
+// Whether a message has the flag T.
+fn is_trashed(name: &[u8]) -> bool
+    ensures { result ≡ has_trashed (flags_of (info_in name.now)) }
+{
+    info_of(name).flags().is_some_and(|flags| flags.has(b'T'))
+}
+
+// What is done by a test, or refused.
+fn act_if(test: bool, refusal: Refusal) -> Decision
+    ensures { decision_view result ≡ act_if_by test (refusal_view refusal) }
+{
+    if test {
+        return Decision::Act;
+    }
+    Decision::Refuse(refusal)
+}
+
+// A unique name with flags.
+fn named(alloc: Global, unique: &Bytes, flags: Flags) -> Result<Bytes, CoreError>
+    ensures { MatchResult result (λ name. name ≡ flagged unique.now flags) (λ e. e ≡ CoreError.NoMemory) }
+{
+    match with_flags(alloc, unique.as_slice(), flags) {
+        Ok(name) => Ok(Bytes::of(name)),
+        Err(_) => Err(CoreError::NoMemory),
+    }
+}
+
+// The whole name of a copy: it shows the flags of the message, where that has info.
+fn copied_name(alloc: Global, fresh: &Bytes, info: Info) -> Result<Bytes, CoreError>
+    ensures { MatchResult result (λ name. name ≡ name_copied fresh.now info) (λ e. e ≡ CoreError.NoMemory) }
+{
+    match info {
+        Info::Two(flags) => named(alloc, fresh, flags),
+        Info::Bare | Info::Opaque => Ok(fresh.again(alloc)?),
+    }
+}
+
+// Where a message of this folder is that has these flags: in cur, by another name.
+fn marked(alloc: Global, folder: u32, unique: &Bytes, flags: Flags) -> Result<Path, CoreError>
+    ensures { MatchResult result
+        (λ path. path ≡ path_of folder Place.Cur (flagged unique.now flags))
+        (λ e. e ≡ CoreError.NoMemory) }
+{
+    Ok(Path {
+        folder,
+        place: Place::Cur,
+        name: named(alloc, unique, flags)?,
+    })
+}
+
+impl Purpose {
+    /// The place that is looked in first.
+    pub(crate) fn first(&self) -> Place
+        ensures { result ≡ first (purpose_view self.now) }
+    {
+        match self {
+            Purpose::Seen(_) => Place::New,
+            Purpose::Flag { .. } => Place::Cur,
+            Purpose::Move { .. } => Place::New,
+            Purpose::Copy { .. } => Place::New,
+            Purpose::Expunge => Place::Cur,
+        }
+    }
+
+    // Whether cur is looked in too, where the message is not in new.
+    fn searches(&self) -> bool
+        ensures { result ≡ searches (purpose_view self.now) }
+    {
+        matches!(self, Purpose::Move { .. } | Purpose::Copy { .. })
+    }
+
+    /// The place that is looked in after this one.
+    pub(crate) fn after(&self, place: Place) -> Option<Place>
+        ensures { result ≡ place_after (searches (purpose_view self.now)) place }
+    {
+        match place {
+            Place::New if self.searches() => Some(Place::Cur),
+            Place::Tmp | Place::New | Place::Cur => None,
+        }
+    }
+
+    // The flags that a message with these gets.
+    fn wanted(&self, had: Flags) -> Flags
+        ensures { result ≡ wanted_by (purpose_view self.now) had }
+    {
+        match self {
+            Purpose::Seen(given) => had.with(*given),
+            Purpose::Flag { add, remove } => had.with(*add).without(*remove),
+            Purpose::Move { .. } | Purpose::Copy { .. } | Purpose::Expunge => had,
+        }
+    }
+
+    // A Flag keeps the name of a message that has its flags.
+    fn decide_flag(&self, name: &[u8]) -> Decision
+        ensures { decision_view result ≡ decide_flag (purpose_view self.now) (flags_of (info_in name.now)) }
+    {
+        let Some(had) = info_of(name).flags() else {
+            return Decision::Refuse(Refusal::OtherInfo);
+        };
+        if is_same(had, self.wanted(had)) {
+            return Decision::Keep;
+        }
+        Decision::Act
+    }
+
+    /// What is decided of a message of this name.
+    pub(crate) fn decide(&self, name: &[u8]) -> Decision
+        ensures { decision_view result ≡ decide_by (purpose_view self.now) (info_in name.now) }
+    {
+        match self {
+            Purpose::Seen(_) => act_if(info_of(name).flags().is_some(), Refusal::OtherInfo),
+            Purpose::Flag { .. } => self.decide_flag(name),
+            Purpose::Move { .. } => Decision::Act,
+            Purpose::Copy { .. } => act_if(info_of(name).flags().is_some(), Refusal::OtherInfo),
+            Purpose::Expunge => act_if(is_trashed(name), Refusal::NotTrashed),
+        }
+    }
+
+    // The answer that says which flags the message has then.
+    fn flags(&self, name: &[u8]) -> Answer
+        ensures { result ≡ Answer.Flags (wanted_by (purpose_view self.now) (shown_by (info_in name.now))) }
+    {
+        Answer::Flags(self.wanted(shown(name)))
+    }
+
+    /// The answer of one whose call took effect on a message of this name.
+    pub(crate) fn answer(&self, name: &[u8]) -> Answer
+        ensures { result ≡ answer_by (purpose_view self.now) (info_in name.now) }
+    {
+        match self {
+            Purpose::Seen(_) | Purpose::Flag { .. } => self.flags(name),
+            Purpose::Move { .. } => Answer::Moved,
+            Purpose::Copy { .. } => Answer::Copied,
+            Purpose::Expunge => Answer::Expunged,
+        }
+    }
+
+    /// What is done with a message of this unique name and path, and the answer where it is done. The path that is made is ready then, so
+    /// that a directory call that was made needs no memory, and the info is read once, where it plays a part.
+    pub(crate) fn deed(
+        &self,
+        alloc: Global,
+        unique: &Bytes,
+        old: &Path,
+    ) -> Result<(Deed, Answer), CoreError>
+        ensures deed { IfOk result (λ done. deed_view old.now done.0 ≡
+            deed_by (purpose_view self.now) old.now.folder unique.now old.now.place old.now.name (info_in old.now.name)) }
+        ensures answer { IfOk result (λ done. done.1 ≡ answer_by (purpose_view self.now) (info_in old.now.name)) }
+        ensures memory { IfErr result (λ e. e ≡ CoreError.NoMemory) }
+    {
+        let place = old.place;
+        let name = &old.name;
+        match self {
+            Purpose::Seen(_) | Purpose::Flag { .. } => {
+                let flags = self.wanted(shown(name.as_slice()));
+                let new = marked(alloc, old.folder, unique, flags)?;
+                Ok((Deed::Rename { new }, Answer::Flags(flags)))
+            }
+            Purpose::Move { to } => {
+                let new = path(alloc, *to, place, name)?;
+                Ok((Deed::Rename { new }, Answer::Moved))
+            }
+            Purpose::Copy { to, fresh } => {
+                let name = copied_name(alloc, fresh, info_of(name.as_slice()))?;
+                let new = Path {
+                    folder: *to,
+                    place,
+                    name,
+                };
+                Ok((Deed::Link { new }, Answer::Copied))
+            }
+            Purpose::Expunge => Ok((Deed::Unlink, Answer::Expunged)),
+        }
+    }
+}
+
+impl Deed {
+    /// Makes the directory call on this path. No clock plays a part in it.
+    pub(crate) fn make<D: Dirs>(&self, dirs: &mut D, old: &Path) -> Result<(), DirError>
+        ensures meets { Obeys (ask_of (asked_of (deed_view old.now self.now)) 0) (D.device dirs.old) result (D.device dirs.new) }
+    {
+        match self {
+            Deed::Rename { new } => dirs.rename(old, new),
+            Deed::Link { new } => dirs.link(old, new),
+            Deed::Unlink => dirs.unlink(old),
+        }
+    }
+
+    /// The directory call, as a step shows it.
+    pub(crate) fn shown(&self) -> DirCall
+        ensures { (old : _) → result ≡ shown_call (asked_of (deed_view old self.now)) }
+    {
+        match self {
+            Deed::Rename { .. } => DirCall::Rename,
+            Deed::Link { .. } => DirCall::Link,
+            Deed::Unlink => DirCall::Unlink,
+        }
+    }
+
+    /// What it changed on this path, with a message of this size.
+    pub(crate) fn change(self, old: Path, size: u64) -> Change
+        ensures { result ≡ change_of (deed_view old self) size }
+    {
+        match self {
+            Deed::Rename { new } => Change::Rename {
+                folder: old.folder,
+                place: old.place,
+                name: old.name,
+                to_folder: new.folder,
+                to_place: new.place,
+                to_name: new.name,
+            },
+            Deed::Link { new } => Change::Add {
+                folder: new.folder,
+                place: new.place,
+                name: new.name,
+                size,
+            },
+            Deed::Unlink => Change::Remove {
+                folder: old.folder,
+                place: old.place,
+                name: old.name,
+            },
+        }
+    }
+
+    /// What it says where a name is there: a link makes a name, and nothing else does.
+    pub(crate) fn taken(&self) -> Refusal
+        ensures { (old : _) → refusal_view result ≡ taken_by (deed_view old self.now) }
+    {
+        match self {
+            Deed::Link { .. } => Refusal::NameTaken,
+            Deed::Rename { .. } | Deed::Unlink => Refusal::Fault,
+        }
+    }
+}

@@ -1,0 +1,90 @@
+//! What one turn of a job gave.
+ghost use Rattle.std.specs.Prelude.{◌≡◌, IfOk, IfErr, OnErr, MatchResult, Some, None, false, true, is_some};
+ghost use Rattle.md_jobs.specs.Turn.{reply_from, Looks, IsUntouched};
+
+use crate::answer::Answer;
+use crate::effect::Effect;
+use crate::error::CoreError;
+use crate::step::{DirCall, DirReply, StepOut};
+use md_dirs::{DirError, Dirs, Place, Row};
+
+/// What a turn shows, and the effect, where it was one.
+#[derive(Drop)]
+pub struct Turned {
+    pub out: StepOut,
+    pub effect: Option<Effect>,
+}
+
+impl Turned {
+    /// A turn that is no effect.
+    pub(crate) fn plain(call: DirCall, reply: DirReply, answer: Option<Answer>) -> Turned
+        ensures { result ≡ record { out = record { call = call; reply = reply; answer = answer; effect = false }; effect = None } }
+    {
+        Turned::of(call, reply, answer, None)
+    }
+
+    /// A turn that is the effect of a job which goes on.
+    pub(crate) fn acted(call: DirCall, reply: DirReply, effect: Effect) -> Turned
+        ensures { result ≡ record { out = record { call = call; reply = reply; answer = None; effect = true }; effect = Some effect } }
+    {
+        Turned::of(call, reply, None, Some(effect))
+    }
+
+    /// A turn that is the effect of a job which ends with its answer.
+    pub(crate) fn ended(call: DirCall, reply: DirReply, effect: Effect) -> Turned
+        ensures { result ≡ record { out = record { call = call; reply = reply; answer = Some effect.answer; effect = true }; effect = Some effect } }
+    {
+        Turned::of(call, reply, Some(effect.answer), Some(effect))
+    }
+
+    // A turn with this answer and this effect, where there is one.
+    fn of(call: DirCall, reply: DirReply, answer: Option<Answer>, effect: Option<Effect>) -> Turned
+        ensures { result ≡ record { out = record { call = call; reply = reply; answer = answer; effect = is_some effect }; effect = effect } }
+    {
+        let out = StepOut {
+            call,
+            reply,
+            answer,
+            effect: effect.is_some(),
+        };
+        Turned { out, effect }
+    }
+}
+
+/// What the directories answered. Out of memory is handed on: no step was taken.
+pub(crate) fn reply_of(answer: Result<(), DirError>) -> Result<DirReply, CoreError>
+    ensures ok { IfOk result (λ reply. reply_from answer ≡ Some reply) }
+    ensures err { IfErr result (λ e. e ≡ CoreError.NoMemory) }
+    ensures no_memory { OnErr result (answer ≡ Err DirError.NoMemory) }
+{
+    match answer {
+        Ok(()) => Ok(DirReply::Ok),
+        Err(DirError::Exists) => Ok(DirReply::Exists),
+        Err(DirError::NotFound) => Ok(DirReply::NotFound),
+        Err(DirError::Fault) => Ok(DirReply::Fault),
+        Err(DirError::NoMemory) => Err(CoreError::NoMemory),
+    }
+}
+
+/// Looks for one message of a directory, and says what the directories answered. Out of memory is handed on: no step was taken.
+pub(crate) fn look<D: Dirs>(
+    dirs: &mut D,
+    folder: u32,
+    place: Place,
+    unique: &[u8],
+) -> Result<(DirReply, Option<Row>), CoreError>
+    ensures obeys { MatchResult result
+        (λ found. Looks folder place unique.now (D.device dirs.old) found.0 found.1
+        (D.device dirs.new))
+        (λ e. e ≡ CoreError.NoMemory) }
+    ensures dirs { OnErr result (IsUntouched (D.device dirs.old)
+        (D.device dirs.new)) }
+{
+    match dirs.find(folder, place, unique) {
+        Ok(row) => Ok((DirReply::Ok, row)),
+        Err(DirError::Exists) => Ok((DirReply::Exists, None)),
+        Err(DirError::NotFound) => Ok((DirReply::NotFound, None)),
+        Err(DirError::Fault) => Ok((DirReply::Fault, None)),
+        Err(DirError::NoMemory) => Err(CoreError::NoMemory),
+    }
+}
