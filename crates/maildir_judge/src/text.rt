@@ -70,8 +70,5 @@ pub(crate) fn push_shown(out: &mut Vec<u8>, words: &[u8]) -> Result<(), AllocErr
 fn push_hex(out: &mut Vec<u8>, byte: u8) -> Result<(), AllocError> {
     let high = HEX[(byte >> 4) as usize];
     let low = HEX[(byte & 15) as usize];
-    out.extend_from_slice(b"\\x")?;
-    out.push(high)?;
-    out.push(low)?;
-    Ok(())
+    out.extend_from_slice(&[b'\\', b'x', high, low])
 }
