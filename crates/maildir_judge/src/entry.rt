@@ -5,9 +5,10 @@ use crate::reading::read_log;
 use crate::refusal::{Fault, tell};
 use crate::text::{push_long, push_short, push_shown};
 use crate::words::{Asked, Form, WrongWords, read_words};
-use md_judge::{Clause, Session};
+use md_clauses::Clauses;
+use md_judge::{CLAUSES, Session};
 use std::alloc::{AllocError, Global};
-use std::io::{Read, Write};
+use std::io::Print;
 
 /// The status of a lawful log, and of help.
 const LAWFUL: u8 = 0;
@@ -47,52 +48,39 @@ docs/JUDGE.md has the log's language and the law.
 
 /// Does what the words after the program's name ask for, and gives the status that it ends with.
 ///
-/// The log is read from the source line by line, and judged; its findings go to the sink once the log is over, so that nothing is printed
-/// of a log that is refused. The status is 0 where there is none, and 1 where there is one. A wrong log, or a fault of reading, writing or
-/// memory is told to the errors as `line N: TEXT`, where N is 0 for one that is of no line, and the status is 2. Wrong words are answered
-/// with one line and the status 2.
-pub(crate) fn program<R: Read + Drop, W: Write, E: Write>(
-    alloc: Global,
-    words: &[&str],
-    source: R,
-    sink: &mut W,
-    errors: &mut E,
-) -> u8 {
-    match read_words(alloc, words) {
-        Ok(Ok(Asked::Help)) => report(errors, print(sink, HELP.as_bytes()), LAWFUL),
-        Ok(Ok(Asked::Version)) => report(errors, print(sink, VERSION.as_bytes()), LAWFUL),
-        Ok(Ok(Asked::Judge { form, allowed })) => {
-            let (answer, status) = judge(alloc, &allowed, form, source, sink);
-            report(errors, answer, status)
+/// The log is read from standard input line by line, and judged; its findings are printed once the log is over, so that nothing is
+/// printed of a log that is refused. The status is 0 where there is none, and 1 where there is one. A wrong log, or a fault of reading,
+/// writing or memory is told on standard error as `line N: TEXT`, where N is 0 for one that is of no line, and the status is 2. Wrong
+/// words are answered with one line and the status 2.
+pub(crate) fn program(rt: &HostRuntime, words: &[String]) -> u8 {
+    match read_words(words) {
+        Ok(Asked::Help) => report(rt, print(rt, HELP.as_bytes()), LAWFUL),
+        Ok(Asked::Version) => report(rt, print(rt, VERSION.as_bytes()), LAWFUL),
+        Ok(Asked::Judge { form, allowed }) => {
+            let (answer, status) = judge(rt, &allowed, form);
+            report(rt, answer, status)
         }
-        Ok(Err(wrong)) => {
-            let _told = complain(alloc, errors, wrong);
+        Err(wrong) => {
+            let _told = complain(rt, wrong);
             REFUSED
         }
-        Err(_) => report(errors, Err(Fault::no_memory(0)), REFUSED),
     }
 }
 
-/// The status of an answer, once the errors were told of its refusal.
-fn report<E: Write>(errors: &mut E, answer: Result<(), Fault>, status: u8) -> u8 {
+/// The status of an answer, once its refusal was told.
+fn report(rt: &HostRuntime, answer: Result<(), Fault>, status: u8) -> u8 {
     match answer {
         Ok(()) => status,
         Err(fault) => {
-            tell(errors, fault);
+            tell(rt, fault);
             REFUSED
         }
     }
 }
 
-fn judge<R: Read + Drop, W: Write>(
-    alloc: Global,
-    allowed: &[Clause],
-    form: Form,
-    source: R,
-    sink: &mut W,
-) -> (Result<(), Fault>, u8) {
-    let mut session = Session::new(alloc);
-    let answer = judge_in(alloc, &mut session, allowed, form, source, sink);
+fn judge(rt: &HostRuntime, allowed: &Clauses, form: Form) -> (Result<(), Fault>, u8) {
+    let mut session = Session::new(rt.alloc());
+    let answer = judge_in(rt, &mut session, allowed, form);
     let status = if session.findings().is_empty() {
         LAWFUL
     } else {
@@ -101,34 +89,34 @@ fn judge<R: Read + Drop, W: Write>(
     (answer, status)
 }
 
-fn judge_in<R: Read + Drop, W: Write>(
-    alloc: Global,
+fn judge_in(
+    rt: &HostRuntime,
     session: &mut Session,
-    allowed: &[Clause],
+    allowed: &Clauses,
     form: Form,
-    source: R,
-    sink: &mut W,
 ) -> Result<(), Fault> {
-    for clause in allowed {
-        session.allow(*clause);
+    for clause in CLAUSES.as_slice() {
+        if allowed.contains(*clause) {
+            session.allow(*clause);
+        }
     }
-    read_log(alloc, session, source)?;
-    show(alloc, session, form, sink)
+    read_log(rt, session)?;
+    show(rt, session, form)
 }
 
 /// Prints the findings.
-fn show<W: Write>(alloc: Global, session: &Session, form: Form, sink: &mut W) -> Result<(), Fault> {
-    let mut out = Vec::new(alloc);
+fn show(rt: &HostRuntime, session: &Session, form: Form) -> Result<(), Fault> {
+    let mut out = Vec::new(rt.alloc());
     for at in 0..session.findings().len() {
-        if push_finding(alloc, &mut out, session, form, at).is_err() {
+        if push_finding(rt.alloc(), &mut out, session, form, at).is_err() {
             return Err(Fault::no_memory(0));
         }
         if out.len() >= MOST_GATHERED {
-            write(sink, &out)?;
+            print(rt, &out)?;
             out.clear();
         }
     }
-    print(sink, &out)
+    print(rt, &out)
 }
 
 fn push_finding(
@@ -148,31 +136,18 @@ fn push_finding(
     }
 }
 
-fn write<W: Write>(sink: &mut W, text: &[u8]) -> Result<(), Fault> {
-    match sink.write_all(text) {
-        Ok(()) => Ok(()),
-        Err(_) => Err(Fault::Write),
-    }
-}
-
-/// Writes a text, and passes on all that was written.
-fn print<W: Write>(sink: &mut W, text: &[u8]) -> Result<(), Fault> {
-    write(sink, text)?;
-    match sink.flush() {
+fn print(rt: &HostRuntime, text: &[u8]) -> Result<(), Fault> {
+    match rt.write_all(text) {
         Ok(()) => Ok(()),
         Err(_) => Err(Fault::Write),
     }
 }
 
 /// Says in one line why the words are wrong.
-fn complain<E: Write>(
-    alloc: Global,
-    errors: &mut E,
-    wrong: WrongWords<'_>,
-) -> Result<(), AllocError> {
-    let mut line = Vec::new(alloc);
+fn complain(rt: &HostRuntime, wrong: WrongWords<'_>) -> Result<(), AllocError> {
+    let mut line = Vec::new(rt.alloc());
     push_complaint(&mut line, wrong)?;
-    let _told = errors.write_all(&line);
+    let _told = rt.stderr().write_all(&line);
     Ok(())
 }
 

@@ -1,6 +1,6 @@
 //! `maildir_judge` reads a log of directory calls from standard input, and prints the steps that break the law of a maildir.
 //!
-//! What it does for its words, and the statuses that it ends with, is in `entry`. Here its words are read, and its streams opened.
+//! What it does for its words, and the statuses that it ends with, is in `entry`. Here its words are read.
 #![tactic(auto)]
 
 mod entry;
@@ -12,33 +12,25 @@ mod why;
 mod words;
 
 use entry::program;
+use std::env;
 use std::io::ErrorKind;
 use std::process::ExitCode;
-use std::{env, io};
 
 /// The status where nothing was judged.
 const REFUSED: u8 = 2;
 
 fn main(rt: HostRuntime) -> ExitCode {
-    let args = match env::args(&rt) {
+    let mut args = match env::args(&rt) {
         Ok(args) => args,
         Err(error) if error.kind() == ErrorKind::OutOfMemory => return refuse(&rt),
         Err(_) => return refuse_words(&rt),
     };
-    let Ok(args) = args.skip(1).collect::<Vec<String>>(rt.alloc()) else {
+    // The first is the program's name.
+    let _ = args.next();
+    let Ok(words) = args.collect::<Vec<String>>(rt.alloc()) else {
         return refuse(&rt);
     };
-    let Ok(words) = args
-        .iter()
-        .map(|arg| arg.as_str())
-        .collect::<Vec<&str>>(rt.alloc())
-    else {
-        return refuse(&rt);
-    };
-    let mut sink = io::writer(&rt);
-    let mut errors = rt.stderr();
-    let status = program(rt.alloc(), &words, rt.reader(), &mut sink, &mut errors);
-    ExitCode::from(status)
+    ExitCode::from(program(&rt, &words))
 }
 
 fn refuse(rt: &HostRuntime) -> ExitCode {

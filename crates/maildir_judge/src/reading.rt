@@ -3,30 +3,25 @@
 use crate::refusal::Fault;
 use md_head::cut_line;
 use md_judge::Session;
-use std::alloc::Global;
-use std::io::{BufRead, BufReader, ErrorKind, Read};
+use std::io::{BufRead, BufReader, ErrorKind, StdinLock};
 
 /// Bytes that a read is asked for.
 const ROOM: usize = 65_536;
 
 const LF: u8 = b'\n';
 
-/// Hands each line of a log to the session. The longest line is held in memory, and no other.
-pub(crate) fn read_log<R: Read + Drop>(
-    alloc: Global,
-    session: &mut Session,
-    source: R,
-) -> Result<(), Fault> {
-    let mut line = Vec::new(alloc);
-    match BufReader::with_capacity(alloc, ROOM, source) {
+/// Hands each line of standard input to the session. The longest line is held in memory, and no other.
+pub(crate) fn read_log(rt: &HostRuntime, session: &mut Session) -> Result<(), Fault> {
+    let mut line = Vec::new(rt.alloc());
+    match BufReader::with_capacity(rt.alloc(), ROOM, rt.reader()) {
         Ok(mut reader) => read_lines(session, &mut reader, &mut line),
         Err(_) => Err(Fault::no_memory(0)),
     }
 }
 
-fn read_lines<R: Read + Drop>(
+fn read_lines(
     session: &mut Session,
-    reader: &mut BufReader<R>,
+    reader: &mut BufReader<StdinLock<'_>>,
     line: &mut Vec<u8>,
 ) -> Result<(), Fault> {
     for number in 1..u64::MAX {
@@ -43,8 +38,8 @@ fn read_lines<R: Read + Drop>(
 }
 
 // How many bytes the next line has, its end included.
-fn read_line<R: Read + Drop>(
-    reader: &mut BufReader<R>,
+fn read_line(
+    reader: &mut BufReader<StdinLock<'_>>,
     line: &mut Vec<u8>,
     number: u64,
 ) -> Result<usize, Fault> {

@@ -1,7 +1,6 @@
 //! Why nothing was judged, or printed.
 
 use md_judge::{LineFault, LogFault};
-use std::io::Write;
 
 /// Why a run was refused.
 #[derive(Clone, Copy)]
@@ -28,11 +27,11 @@ impl From<LogFault> for Fault {
 }
 
 /// Says `line N: TEXT`.
-pub(crate) fn tell<E: Write>(errors: &mut E, fault: Fault) {
+pub(crate) fn tell(rt: &HostRuntime, fault: Fault) {
     let (line, text) = match fault {
         Fault::Log(fault) => (fault.line, fault.fault.text()),
         Fault::Read(line) => (line, "read fault"),
         Fault::Write => (0, "write fault"),
     };
-    let _told = writeln!(errors, "line {line}: {text}");
+    let _told = eprintln!(rt; "line {line}: {text}");
 }

@@ -26,19 +26,21 @@ pub(crate) fn push_long(
 ) -> Result<(), AllocError> {
     let (actor, call) = session.words(at);
     push_line(alloc, out, b"line ", finding.line)?;
-    out.extend_from_slice(b": ")?;
-    push_shown(out, actor)?;
-    out.extend_from_slice(b": ")?;
-    push_shown(out, call)?;
-    out.extend_from_slice(b": ")?;
-    out.extend_from_slice(finding.clause.name().as_bytes())?;
-    out.extend_from_slice(b": ")?;
-    out.extend_from_slice(why(finding.clause).as_bytes())?;
+    push_part(out, actor)?;
+    push_part(out, call)?;
+    push_part(out, finding.clause.name().as_bytes())?;
+    push_part(out, why(finding.clause).as_bytes())?;
     if let Some(before) = finding.before {
         push_line(alloc, out, b" (see line ", before)?;
         out.extend_from_slice(b")")?;
     }
     out.extend_from_slice(b"\n")
+}
+
+// What comes next in a line for people, after a colon.
+fn push_part(out: &mut Vec<u8>, words: &[u8]) -> Result<(), AllocError> {
+    out.extend_from_slice(b": ")?;
+    push_shown(out, words)
 }
 
 // A word and the number of a line.
@@ -68,8 +70,5 @@ pub(crate) fn push_shown(out: &mut Vec<u8>, words: &[u8]) -> Result<(), AllocErr
 fn push_hex(out: &mut Vec<u8>, byte: u8) -> Result<(), AllocError> {
     let high = HEX[(byte >> 4) as usize];
     let low = HEX[(byte & 15) as usize];
-    out.extend_from_slice(b"\\x")?;
-    out.push(high)?;
-    out.push(low)?;
-    Ok(())
+    out.extend_from_slice(&[b'\\', b'x', high, low])
 }

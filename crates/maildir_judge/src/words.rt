@@ -1,7 +1,7 @@
 //! The words of the command line.
 
+use md_clauses::Clauses;
 use md_judge::{CLAUSES, Clause};
-use std::alloc::{AllocError, Global};
 
 /// How findings are printed.
 #[derive(Clone, Copy, PartialEq, Eq)]
@@ -15,9 +15,9 @@ pub(crate) enum Form {
 }
 
 /// What is asked for.
-#[derive(Drop)]
+#[derive(Clone, Copy)]
 pub(crate) enum Asked {
-    Judge { form: Form, allowed: Vec<Clause> },
+    Judge { form: Form, allowed: Clauses },
     Help,
     Version,
 }
@@ -35,38 +35,30 @@ pub(crate) enum WrongWords<'a> {
     TwoForms,
 }
 
-/// What words come to.
-pub(crate) type Read<'a> = Result<Asked, WrongWords<'a>>;
-
 /// Reads the words after the program's name, from left to right: the first wrong word, or the first that asks for help or the version,
 /// decides.
-pub(crate) fn read_words<'a>(alloc: Global, words: &[&'a str]) -> Result<Read<'a>, AllocError> {
+pub(crate) fn read_words(words: &[String]) -> Result<Asked, WrongWords<'_>> {
     let mut form = Form::People;
-    let mut allowed = Vec::new(alloc);
+    let mut allowed = Clauses::none();
     let mut is_after_allow = false;
-    for word in words.iter().copied() {
+    for word in words {
+        let word = word.as_str();
         if is_after_allow {
-            match clause_named(word) {
-                None => return Ok(Err(WrongWords::BadClause(word))),
-                Some(clause) => allowed.push(clause)?,
-            }
+            allowed.add(clause_named(word)?);
             is_after_allow = false;
             continue;
         }
         match word {
-            "-h" | "--help" => return Ok(Ok(Asked::Help)),
-            "-V" | "--version" => return Ok(Ok(Asked::Version)),
+            "-h" | "--help" => return Ok(Asked::Help),
+            "-V" | "--version" => return Ok(Asked::Version),
             "--allow" => is_after_allow = true,
-            _ => match form_of(form, word) {
-                Ok(next) => form = next,
-                Err(wrong) => return Ok(Err(wrong)),
-            },
+            _ => form = form_of(form, word)?,
         }
     }
     if is_after_allow {
-        return Ok(Err(WrongWords::NoClause));
+        return Err(WrongWords::NoClause);
     }
-    Ok(Ok(Asked::Judge { form, allowed }))
+    Ok(Asked::Judge { form, allowed })
 }
 
 /// The form that a word asks for after those before it.
@@ -83,6 +75,11 @@ fn form_of(form: Form, word: &str) -> Result<Form, WrongWords<'_>> {
 }
 
 /// The clause of a name, unless it is always judged.
-fn clause_named(name: &str) -> Option<Clause> {
-    CLAUSES.iter().copied().find(|clause| *clause != Clause::NotADirectory && clause.name() == name)
+fn clause_named(name: &str) -> Result<Clause, WrongWords<'_>> {
+    for clause in CLAUSES.as_slice() {
+        if *clause != Clause::NotADirectory && clause.name() == name {
+            return Ok(*clause);
+        }
+    }
+    Err(WrongWords::BadClause(name))
 }

@@ -76,6 +76,6 @@ impl Listed {
     pub fn is_left_out(&self) -> bool
         ensures { result ≡ (not self.now.is_shown && self.now.was_there) }
     {
-        !self.is_shown && self.was_there
+        self.was_there && !self.is_shown
     }
 }

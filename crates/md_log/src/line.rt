@@ -15,7 +15,7 @@ use crate::clause::Clause;
 use crate::error::LineFault;
 use crate::folders::Folders;
 use crate::names::{Names, name};
-use crate::words::{Rest, piece, word};
+use crate::words::{Rest, equals, piece, word};
 use calls::step_line;
 use head::{head_line, head_word};
 use md_dirs::{Bytes, Path, Place};
@@ -149,11 +149,11 @@ fn folder(alloc: Global, folders: &Folders, word: &[u8]) -> Result<u32, LineFaul
 fn place(word: &[u8]) -> Result<Place, LineFault>
     ensures { result ≡ directory_of word.now }
 {
-    if word == b"tmp".as_slice() {
+    if equals(word, b"tmp") {
         Ok(Place::Tmp)
-    } else if word == b"new".as_slice() {
+    } else if equals(word, b"new") {
         Ok(Place::New)
-    } else if word == b"cur".as_slice() {
+    } else if equals(word, b"cur") {
         Ok(Place::Cur)
     } else {
         Err(LineFault::BadPlace)

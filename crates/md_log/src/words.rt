@@ -1,6 +1,7 @@
 //! The words of a line, read from left to right.
 ghost use Rattle.std.specs.Prelude.{◌≡◌, ◌<◌, length, position, IfOk, IfSome};
 ghost use Rattle.std.specs.Option.{option_copied};
+ghost use Rattle.std.specs.Str.{bytes_eq};
 ghost use Rattle.md_log.specs.Words.{is_byte, cut_at, word_at, piece_at, end_at, Reads};
 
 use crate::error::LineFault;
@@ -55,6 +56,13 @@ pub(crate) fn piece(word: &[u8]) -> Result<(&[u8], &[u8]), LineFault>
         (piece, Some(left)) => Ok((piece, left)),
         (_, None) => Err(LineFault::BadLine),
     }
+}
+
+/// Whether a word is this one.
+pub(crate) fn equals(word: &[u8], other: &[u8]) -> bool
+    ensures { result ≡ bytes_eq word.now other.now }
+{
+    word == other
 }
 
 /// Refuses a word too many.

@@ -9,7 +9,7 @@ use crate::error::LineFault;
 use crate::flags::flags_from;
 use crate::folders::Folders;
 use crate::names::unique;
-use crate::words::{Rest, end, word};
+use crate::words::{Rest, end, equals, word};
 use std::alloc::Global;
 
 /// The words of `answer` after it.
@@ -22,9 +22,9 @@ pub(super) fn answer_line(
     ensures { Gives (λ call. call) result (answer_line folders.now (option_copied rest.entry)) }
 {
     let (first, rest) = word(rest)?;
-    if first == b"flags".as_slice() {
+    if equals(first, b"flags") {
         flags_line(alloc, folders, rest)
-    } else if first == b"moved".as_slice() {
+    } else if equals(first, b"moved") {
         moved_line(alloc, folders, rest)
     } else {
         bare_line(alloc, folders, first, rest)
@@ -89,15 +89,15 @@ fn about_line(
 fn bare(word: &[u8]) -> Result<Said, LineFault>
     ensures { result ≡ bare_of word.now }
 {
-    if word == b"delivered".as_slice() {
+    if equals(word, b"delivered") {
         Ok(Said::Delivered)
-    } else if word == b"expunged".as_slice() {
+    } else if equals(word, b"expunged") {
         Ok(Said::Expunged)
-    } else if word == b"done".as_slice() {
+    } else if equals(word, b"done") {
         Ok(Said::Done)
-    } else if word == b"failed".as_slice() {
+    } else if equals(word, b"failed") {
         Ok(Said::Failed)
-    } else if word == b"notthere".as_slice() {
+    } else if equals(word, b"notthere") {
         Ok(Said::NotThere)
     } else {
         Err(LineFault::BadLine)

@@ -10,7 +10,7 @@ use super::{Call, Deed, Naming, Reply, Step, folder, path, place};
 use crate::error::LineFault;
 use crate::folders::Folders;
 use crate::names::names_in;
-use crate::words::{Rest, end, word};
+use crate::words::{Rest, end, equals, word};
 use md_dirs::Bytes;
 use std::alloc::Global;
 
@@ -38,13 +38,11 @@ pub(super) fn step_line(
     let (actor, rest) = word(rest)?;
     let (third, rest) = word(rest)?;
     let verb = verb_from(third)?;
-    let call = call_line(alloc, folders, verb, rest)?;
-    let actor = Bytes::copied(alloc, actor)?;
     Ok(Step {
         moment: when.moment,
         ticks: when.ticks,
-        actor,
-        call,
+        actor: Bytes::copied(alloc, actor)?,
+        call: call_line(alloc, folders, verb, rest)?,
     })
 }
 
@@ -69,21 +67,21 @@ fn call_line(
 fn verb_from(word: &[u8]) -> Result<Verb, LineFault>
     ensures { result ≡ verb_of word.now }
 {
-    if word == b"create".as_slice() {
+    if equals(word, b"create") {
         Ok(Verb::At(Deed::Create))
-    } else if word == b"write".as_slice() {
+    } else if equals(word, b"write") {
         Ok(Verb::At(Deed::Write))
-    } else if word == b"flush".as_slice() {
+    } else if equals(word, b"flush") {
         Ok(Verb::At(Deed::Flush))
-    } else if word == b"unlink".as_slice() {
+    } else if equals(word, b"unlink") {
         Ok(Verb::At(Deed::Unlink))
-    } else if word == b"link".as_slice() {
+    } else if equals(word, b"link") {
         Ok(Verb::Between(Naming::Link))
-    } else if word == b"rename".as_slice() {
+    } else if equals(word, b"rename") {
         Ok(Verb::Between(Naming::Rename))
-    } else if word == b"list".as_slice() {
+    } else if equals(word, b"list") {
         Ok(Verb::List)
-    } else if word == b"answer".as_slice() {
+    } else if equals(word, b"answer") {
         Ok(Verb::Answer)
     } else {
         Err(LineFault::BadLine)
@@ -191,15 +189,15 @@ fn reply(rest: Rest<'_>) -> Result<(Reply, Rest<'_>), LineFault>
 fn reply_from(word: &[u8]) -> Result<Reply, LineFault>
     ensures { result ≡ reply_of word.now }
 {
-    if word == b"ok".as_slice() {
+    if equals(word, b"ok") {
         Ok(Reply::Ok)
-    } else if word == b"more".as_slice() {
+    } else if equals(word, b"more") {
         Ok(Reply::More)
-    } else if word == b"exists".as_slice() {
+    } else if equals(word, b"exists") {
         Ok(Reply::Exists)
-    } else if word == b"notfound".as_slice() {
+    } else if equals(word, b"notfound") {
         Ok(Reply::NotFound)
-    } else if word == b"fault".as_slice() {
+    } else if equals(word, b"fault") {
         Ok(Reply::Fault)
     } else {
         Err(LineFault::BadReply)

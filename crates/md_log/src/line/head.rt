@@ -10,7 +10,7 @@ use crate::error::LineFault;
 use crate::folders::Folders;
 use crate::names::name;
 use crate::number::number;
-use crate::words::{Rest, end, word};
+use crate::words::{Rest, end, equals, word};
 use std::alloc::Global;
 
 /// The first word of such a line.
@@ -26,13 +26,13 @@ pub(super) enum HeadWord {
 pub(super) fn head_word(word: &[u8]) -> Option<HeadWord>
     ensures { result ≡ head_of word.now }
 {
-    if word == b"folder".as_slice() {
+    if equals(word, b"folder") {
         Some(HeadWord::Folder)
-    } else if word == b"allow".as_slice() {
+    } else if equals(word, b"allow") {
         Some(HeadWord::Allow)
-    } else if word == b"file".as_slice() {
+    } else if equals(word, b"file") {
         Some(HeadWord::File)
-    } else if word == b"also".as_slice() {
+    } else if equals(word, b"also") {
         Some(HeadWord::Also)
     } else {
         None
