@@ -8,6 +8,7 @@ import sys
 from collections.abc import Iterator, Sequence
 from pathlib import Path
 
+from .faults import wrong_faults
 from .large import wrong_cases
 from .planted import passed_plants
 from .rows import WrongRow, name_of, rows_of, wrong_rows
@@ -15,7 +16,8 @@ from .streams import FACES, wrong_streams
 
 ABOUT = f"""Holds a built program to what the rows of its crate have, crates/NAME/rows: its status, what it prints and what it says, for words and an
 input. Then come streams that a process alone has: closed ones, a full disk, a folder to read, a reader that has gone, a connection that is reset; and for
-maildir_cli scripts at each limit and past it, scripts that come in pieces, and one that is cut short at each byte. It prints each that is not so, and
+maildir_cli scripts at each limit and past it, scripts that come in pieces, and one that is cut short at each byte; and, by gcc or the compiler that CC
+names, reads and writes that are interrupted or fail amid a stream, a million reads, and memory that is refused. It prints each that is not so, and
 ends with status 1 where there are any. It knows {', '.join(FACES)}."""
 
 PLANTED_ABOUT = """checks the rows of maildir_cli themselves. The program is run through a shell that makes of it what each of four wrong mains would
@@ -38,6 +40,7 @@ def _faults(program: Path, is_planted: bool) -> Iterator[str]:
         yield from wrong_streams([str(program)], FACES[name])
         if name == "maildir_cli":
             yield from wrong_cases([str(program)])
+            yield from wrong_faults([str(program)])
 
 
 def main() -> int:

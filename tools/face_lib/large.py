@@ -32,6 +32,9 @@ _LONG_LINES = b"folder i\nfile i new u 0 " + _LETTERS + b"\r\nfile i new v 0 " +
 _LONG_LINES_PRINT = b"bytes=" + _LETTERS + b"\nbytes=" + _LETTERS + b"\nnew u - 200000\nnew v - 200000\n"
 _LONG_PIECES = (1, 5_000, 65_536)
 
+# How many messages are indexed, by how many workers.
+_INDEXED = ((0, 1), (0, 64), (1, 64), (100, 1), (100, 2), (100, 7))
+
 # Scripts that are played in pieces, and how many bytes come at once; the last is more than a script there has.
 _PIECES_ROWS = "crates/maildir_cli/rows/pieces.rows"
 _PIECES = (*range(1, 21), 1_000)
@@ -57,7 +60,18 @@ def _numbers(count: int) -> bytes:
     return b"".join(b"job %d\n" % number for number in range(1, count + 1))
 
 
-def _refused(line: int, text: bytes, printed: bytes = b"") -> Ended:
+def _messages(count: int) -> bytes:
+    """Messages of which no two are alike. Each has a second subject behind its header."""
+    line = b"file i new %d.host 0 Subject: letter %d\\r\\n\\r\\nSubject: none\\r\\n\n"
+    return b"folder i\n" + b"".join(line % (number, number) for number in range(count))
+
+
+def _index(count: int) -> bytes:
+    """Their index, in order of unique name."""
+    return b"".join(sorted(b"i %d.host\nsubject=letter %d\nend\n" % (number, number) for number in range(count)))
+
+
+def refused(line: int, text: bytes, printed: bytes = b"") -> Ended:
     return Ended(1, printed, b"line %d: %s\n" % (line, text))
 
 
@@ -65,28 +79,32 @@ def cases() -> Iterator[Case]:
     """Each limit, and what is one past it."""
     well = Ended(0, b"", b"")
     yield Case("a body of 16 MiB", b"folder i\njob deliver i u 16777216 " + b"x" * MOST_BODY, Ended(0, b"job 1\n", b""))
-    yield Case("a body of one byte more", b"folder i\njob deliver i u 16777216 " + b"x" * (MOST_BODY + 1), _refused(2, b"body too long"))
+    yield Case("a body of one byte more", b"folder i\njob deliver i u 16777216 " + b"x" * (MOST_BODY + 1), refused(2, b"body too long"))
     yield Case("10,000 jobs", _jobs(MOST_JOBS), Ended(0, _numbers(MOST_JOBS), b""))
-    yield Case("10,001 jobs", _jobs(MOST_JOBS + 1), _refused(MOST_JOBS + 2, b"too many jobs", _numbers(MOST_JOBS)))
+    yield Case("10,001 jobs", _jobs(MOST_JOBS + 1), refused(MOST_JOBS + 2, b"too many jobs", _numbers(MOST_JOBS)))
     yield Case("64 folders", _folders(MOST_FOLDERS), well)
-    yield Case("65 folders", _folders(MOST_FOLDERS + 1), _refused(MOST_FOLDERS + 1, b"bad folder"))
+    yield Case("65 folders", _folders(MOST_FOLDERS + 1), refused(MOST_FOLDERS + 1, b"bad folder"))
     yield Case("a folder's name of 100 bytes", b"folder " + b"n" * MOST_FOLDER_NAME, well)
-    yield Case("a folder's name of 101 bytes", b"folder " + b"n" * (MOST_FOLDER_NAME + 1), _refused(1, b"bad folder"))
+    yield Case("a folder's name of 101 bytes", b"folder " + b"n" * (MOST_FOLDER_NAME + 1), refused(1, b"bad folder"))
     yield Case("a script of 64 MiB", b"#" * MOST_SCRIPT, well)
-    yield Case("a script of one byte more", b"#" * (MOST_SCRIPT + 1), _refused(0, b"script too long"))
-    yield Case("a refused line in a script of 64 MiB", _REFUSED.ljust(MOST_SCRIPT, b"#"), _refused(2, b"bad command", _NAME))
-    yield Case("a refused line in a script of one byte more", _REFUSED.ljust(MOST_SCRIPT + 1, b"#"), _refused(0, b"script too long"))
+    yield Case("a script of one byte more", b"#" * (MOST_SCRIPT + 1), refused(0, b"script too long"))
+    yield Case("a refused line in a script of 64 MiB", _REFUSED.ljust(MOST_SCRIPT, b"#"), refused(2, b"bad command", _NAME))
+    yield Case("a refused line in a script of one byte more", _REFUSED.ljust(MOST_SCRIPT + 1, b"#"), refused(0, b"script too long"))
     yield Case("a header line of 16 MiB", b"summary " + b"a" * MOST_BODY, Ended(0, b"end\n", b""))
     yield Case("a field after such a line", b"summary " + b"a" * MOST_BODY + b"\\nSubject: b", Ended(0, b"subject=b\nend\n", b""))
     yield Case("lines of 200,000 bytes", _LONG_LINES, Ended(0, _LONG_LINES_PRINT, b""))
 
 
 def wrong_cases(command: Sequence[str]) -> Iterator[str]:
-    """The long inputs, and those that come in pieces or are cut short, over which `play` does not come to what it should."""
+    """The long inputs, those that come in pieces or are cut short, and many messages, over which the program does not come to what it should."""
     for case in cases():
         ended = run(command, ["play"], case.input)
         if ended != case.wanted:
             yield f"play over {case.what}: {_brief(ended)}, and not {_brief(case.wanted)}"
+    for count, workers in _INDEXED:
+        ended = run(command, ["index", str(workers)], _messages(count))
+        if ended != Ended(0, _index(count), b""):
+            yield f"index {workers} over {count} messages: {_brief(ended)}"
     for size in _LONG_PIECES:
         ended = run_in_pieces(command, _LONG_LINES, size)
         if ended != Ended(0, _LONG_LINES_PRINT, b""):

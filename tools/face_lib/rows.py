@@ -25,6 +25,9 @@ class Ended(NamedTuple):
     said: bytes
 
 
+NOT_ENDED = Ended(-1, b"", b"not ended after a minute")
+
+
 class Row(NamedTuple):
     """Words and an input. `is_right` says whether an end is right, and `example` is a right one."""
 
@@ -78,7 +81,7 @@ def run(command: Sequence[str], words: Iterable[str], given: bytes) -> Ended:
     try:
         done = subprocess.run([*command, *words], input=given, capture_output=True, timeout=MOST_SECONDS, check=False)
     except subprocess.TimeoutExpired:
-        return Ended(-1, b"", b"not ended after a minute")
+        return NOT_ENDED
     return Ended(done.returncode, done.stdout, done.stderr)
 
 

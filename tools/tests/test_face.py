@@ -1,6 +1,8 @@
 """Tests of tools/check_face: a stand-in that answers as the rows say passes them, and each wrong main fails."""
 
+import errno
 import os
+import shutil
 import subprocess
 import sys
 import tempfile
@@ -12,6 +14,7 @@ sys.dont_write_bytecode = True
 TOOLS = Path(__file__).resolve().parent.parent
 sys.path.insert(0, str(TOOLS))
 
+from face_lib.faults import Fault, built, faults, run_with, wrong_memory
 from face_lib.large import cases, is_front, pieces, run_in_pieces
 from face_lib.planted import PLANTED, passed_plants, planted
 from face_lib.rows import Ended, WrongRow, rows_in, rows_of, run, wrong_rows
@@ -72,6 +75,101 @@ class Large(unittest.TestCase):
         sizes = {size for _, size in pieces()}
         self.assertEqual(sizes, {*range(1, 21), 1_000})
         self.assertGreaterEqual(len(list(pieces())), 21 * 32)
+
+
+# Says what eight reads gave at most, up to an end or a fault, and what two writes took: a count, or the error below 0.
+STREAMS = """
+#include <errno.h>
+#include <stdio.h>
+#include <unistd.h>
+
+static int told(ssize_t done) {
+    fprintf(stderr, "%d ", done < 0 ? -errno : (int)done);
+    return done > 0 || (done < 0 && errno == EINTR);
+}
+
+int main(void) {
+    char bytes[64];
+    int at;
+    for (at = 0; at < 8 && told(read(0, bytes, sizeof bytes)); at++)
+        ;
+    for (at = 0; at < 2; at++)
+        told(write(1, "abc", 3));
+    return 0;
+}
+"""
+
+# Asks for memory twelve times, and says where it is refused, unless words are given.
+MEMORY = """
+#include <stdio.h>
+#include <stdlib.h>
+
+int main(int count, char **words) {
+    void *volatile at = NULL;
+    int asked;
+    for (asked = 0; asked < 12; asked++) {
+        at = asked % 2 ? realloc(at, 99) : malloc(9);
+        if (at == NULL && count == 1) {
+            fputs("line 0: no memory\\n", stderr);
+            return 1;
+        }
+        if (at == NULL)
+            return 2;
+    }
+    return 0;
+}
+"""
+
+
+def compiled(folder: str, text: str) -> str:
+    """A program of C, of this text."""
+    path = Path(folder) / "stand-in"
+    path.with_suffix(".c").write_text(text, encoding="utf-8")
+    subprocess.run(["gcc", "-o", path, path.with_suffix(".c")], check=True)
+    return str(path)
+
+
+@unittest.skipUnless(shutil.which("gcc"), "gcc is not installed")
+class Faults(unittest.TestCase):
+    def setUp(self):
+        room = tempfile.TemporaryDirectory()
+        self.addCleanup(room.cleanup)
+        self.room = room.name
+        self.library = built(self.room)
+
+    def test_each_fault_is_met(self):
+        stand_in = compiled(self.room, STREAMS)
+        for wrong, said in (
+            ({}, "8 0 3 3 "),
+            ({"READ_AT_ONCE": 5}, "5 3 0 3 3 "),
+            ({"READ_AT_ONCE": 5, "READ_FAULT": errno.EPIPE}, f"5 3 {-errno.EPIPE} 3 3 "),
+            ({"READ_SIGNALS": 1}, f"{-errno.EINTR} 8 {-errno.EINTR} 0 3 3 "),
+            ({"READ_ENDLESS": 97, "READ_AT_ONCE": 9}, "9 9 9 9 9 9 9 9 3 3 "),
+            ({"WRITE_AT_ONCE": 1}, "8 0 1 1 "),
+            ({"WRITE_AT_ONCE": 0}, "8 0 0 0 "),
+            ({"WRITE_GOOD": 1}, f"8 0 3 {-errno.ENOSPC} "),
+            ({"WRITE_SIGNALS": 1}, f"8 0 {-errno.EINTR} 3 "),
+        ):
+            with self.subTest(wrong):
+                ended, was_refused = run_with(self.library, [stand_in], Fault("", b"abcdefgh", wrong, Ended(0, b"", b"")))
+                self.assertEqual(ended.said.decode(), said)
+                self.assertFalse(was_refused)
+
+    def test_each_allocation_is_refused(self):
+        stand_in = compiled(self.room, MEMORY)
+        for words, count in (("", 0), ("silent", 12)):
+            for rest in ({}, {"REFUSED_REST": 1}):
+                with self.subTest(words):
+                    wrong = list(wrong_memory(self.library, [stand_in], Fault(words, b"", rest, Ended(0, b"", b""))))
+                    self.assertEqual(len(wrong), count)
+
+    def test_a_run_without_allocations_is_told(self):
+        self.assertEqual(len(list(wrong_memory(self.library, [compiled(self.room, "int main(void) { return 0; }")],
+                                               Fault("", b"", {}, Ended(0, b"", b""))))), 1)
+
+    def test_there_are_faults_of_each_kind(self):
+        names = {name for fault in faults() for name in fault.wrong}
+        self.assertEqual(names, {"READ_AT_ONCE", "READ_ENDLESS", "READ_FAULT", "READ_SIGNALS", "WRITE_AT_ONCE", "WRITE_GOOD", "WRITE_SIGNALS"})
 
 
 class Rows(unittest.TestCase):

@@ -15,6 +15,9 @@ pub fn subject(alloc: Global, message: &[u8]) -> Result<Option<Bytes>> {
 
 /// Whether a message was written before this second since 1970-01-01 00:00:00 UTC. No answer where it has no date that can be read.
 pub fn is_older(alloc: Global, message: &[u8], second: i64) -> Result<Option<bool>> {
-    let summary = summary(alloc, message)?;
-    Ok(summary.seconds.map(|written| written < second))
+    let seconds = summary(alloc, message)?.seconds;
+    match seconds {
+        Some(written) => Ok(Some(written < second)),
+        None => Ok(None),
+    }
 }

@@ -3,8 +3,8 @@ use anyhow::Result;
 use md_core::World;
 use md_dirs::IndexDirs;
 use md_index::{Indexed, Message, OpenGate, index};
-use md_view::list;
-use std::alloc::Global;
+use md_view::{Entry, list};
+use std::alloc::{AllocError, Global};
 use std::sync::Wait;
 use std::thread::Threads;
 
@@ -16,12 +16,22 @@ pub fn index_folder<R: Threads + Wait + Sync>(
     folder: u32,
 ) -> Result<Vec<Indexed>> {
     let entries = list(alloc, world, folder)?;
+    let messages = messages(alloc, world, &entries)?;
+    Ok(index(rt, alloc, &messages, 4, &OpenGate)?)
+}
+
+// The messages of a listing, lent.
+fn messages<'a>(
+    alloc: Global,
+    world: &'a World<IndexDirs>,
+    entries: &'a [Entry],
+) -> Result<Vec<Message<'a>>, AllocError> {
     let mut messages = Vec::new(alloc);
-    for entry in &entries {
+    for entry in entries {
         let unique = entry.unique.as_slice();
         if let Some(bytes) = world.read(unique) {
             messages.push(Message { unique, bytes })?;
         }
     }
-    Ok(index(rt, alloc, &messages, 4, &OpenGate)?)
+    Ok(messages)
 }

@@ -7,6 +7,7 @@
 
 pub mod call;
 pub mod deliver;
+mod files;
 pub mod head;
 pub mod index;
 pub mod judge;
@@ -16,9 +17,16 @@ mod scripts;
 pub mod server;
 
 use anyhow::{Context, Result};
-use server::{Plan, Unwatched, serve};
-use std::env;
+use server::{Counts, Plan, Unwatched, serve};
 use std::env::Args;
+use std::{env, io};
+
+/// What the words of the command line ask for.
+#[derive(Clone, Copy)]
+struct Asked {
+    plan: Plan,
+    rounds: u64,
+}
 
 // The next word, a number.
 fn number(words: &mut Args) -> Result<u64> {
@@ -26,24 +34,30 @@ fn number(words: &mut Args) -> Result<u64> {
     word.parse::<u64>().context("a number")
 }
 
-fn main(rt: HostRuntime) -> Result<()> {
-    scripts::play_all(&rt)?;
-    judge::judge_all(&rt)?;
-    let mut words = env::args(&rt)?;
+fn read_words(words: &mut Args) -> Result<Asked> {
     let _program = words.next();
-    let threads = number(&mut words)? as usize;
-    let rounds = number(&mut words)?;
-    let messages = number(&mut words)?;
-    let listing = number(&mut words)?;
+    let threads = number(words)? as usize;
+    let rounds = number(words)?;
+    let messages = number(words)?;
+    let listing = number(words)?;
     let plan = Plan {
         threads,
         messages,
         listing,
     };
+    Ok(Asked { plan, rounds })
+}
+
+fn main(rt: HostRuntime) -> Result<()> {
+    files::show_all(&rt)?;
+    let Asked { plan, rounds } = read_words(&mut env::args(&rt)?)?;
     let (counts, kept) = serve(&rt, rt.alloc(), plan, rounds, &Unwatched)?;
+    Ok(tell(&rt, counts, kept)?)
+}
+
+fn tell(rt: &HostRuntime, counts: Counts, kept: usize) -> io::Result<()> {
     println!(rt; "delivered {}", counts.delivered)?;
     println!(rt; "seen {}", counts.seen)?;
     println!(rt; "listed {}", counts.listed)?;
-    println!(rt; "kept {kept}")?;
-    Ok(())
+    println!(rt; "kept {kept}")
 }

@@ -13,7 +13,7 @@ use md_dirs::{Bytes, IndexDirs};
 use md_name::{Flags, UniqueParts, make_unique};
 use md_store::{Naming, Pass, Prepared, Store, prepare};
 use md_view::{Entry, list};
-use std::alloc::Global;
+use std::alloc::{AllocError, Global};
 use std::marker::Brand;
 use std::sync::Wait;
 use std::thread;
@@ -89,7 +89,7 @@ struct Session<J: Naming> {
 impl<J: Naming> Session<J> {
     // Takes in the messages of a thread in a round, and lists between them.
     fn run<R: Wait>(
-        mut self,
+        &mut self,
         rt: &R,
         alloc: Global,
         store: &Store<IndexDirs, J>,
@@ -99,12 +99,26 @@ impl<J: Naming> Session<J> {
         let mut counts = Counts::none();
         for count in 0..plan.messages {
             let unique = unique_name(alloc, round, self.number, count)?;
-            counts = counts.and(self.take_in(rt, alloc, store, &unique)?);
-            if count.checked_rem(plan.listing) == Some(0) {
-                counts = counts.and(self.look(alloc, store, &unique)?);
-            }
+            let lists = count.checked_rem(plan.listing) == Some(0);
+            counts = counts.and(self.take_turn(rt, alloc, store, &unique, lists)?);
         }
         Ok(counts)
+    }
+
+    // Takes in a message, and lists after it where it is time to.
+    fn take_turn<R: Wait>(
+        &mut self,
+        rt: &R,
+        alloc: Global,
+        store: &Store<IndexDirs, J>,
+        unique: &[u8],
+        lists: bool,
+    ) -> Result<Counts> {
+        let counts = self.take_in(rt, alloc, store, unique)?;
+        if !lists {
+            return Ok(counts);
+        }
+        Ok(counts.and(self.look(alloc, store, unique)?))
     }
 
     // Delivers a message, and marks it seen.
@@ -117,12 +131,7 @@ impl<J: Naming> Session<J> {
     ) -> Result<Counts> {
         let call = delivery(alloc, unique, MAIL)?;
         let delivered = store.call(rt, &mut self.pass, call, NOW, None)?;
-        let marking = Call::Seen {
-            folder: 0,
-            unique: Bytes::copied(alloc, unique)?,
-            flags: Flags::parse(b"S")?,
-            tries: 16,
-        };
+        let marking = marking(alloc, unique)?;
         let marked = store.call(rt, &mut self.pass, marking, NOW, None)?;
         Ok(Counts {
             delivered: u64::from(delivered == Answer::Delivered),
@@ -146,6 +155,17 @@ impl<J: Naming> Session<J> {
             listed,
         })
     }
+}
+
+// The call that marks a message seen.
+fn marking(alloc: Global, unique: &[u8]) -> Result<Call> {
+    let flags = Flags::parse(b"S")?;
+    Ok(Call::Seen {
+        folder: 0,
+        unique: Bytes::copied(alloc, unique)?,
+        flags,
+        tries: 16,
+    })
 }
 
 // Whether a listing shows a message of this unique name, marked seen.
@@ -185,8 +205,14 @@ pub fn serve<W: Watch, R: Threads + Wait + Sync>(
         counts = counts.and(counted);
         world = go_on(left)?;
     }
-    let kept = list(alloc, &world, 0)?.len();
-    Ok((counts, kept))
+    let kept = shown(alloc, &world);
+    drop(world);
+    Ok((counts, kept?))
+}
+
+// How many messages the folder shows.
+fn shown(alloc: Global, world: &World<IndexDirs>) -> Result<usize> {
+    Ok(list(alloc, world, 0)?.len())
 }
 
 /// One round: opens a store of a world, lets the threads take in their messages, and closes it.
@@ -237,15 +263,26 @@ fn by_threads<J: Naming + Send + Sync, R: Threads + Wait + Sync>(
     plan: Plan,
     round: u64,
 ) -> Result<Counts> {
+    let sessions = sessions(alloc, passes)?;
+    let run = |mut session: Session<J>| session.run(rt, alloc, store, plan, round);
+    sum(thread::map_vec(rt, sessions, &run)?)
+}
+
+// Passes with the numbers of their threads.
+fn sessions<J: Naming>(alloc: Global, passes: Vec<Pass<J>>) -> Result<Vec<Session<J>>, AllocError> {
     let mut sessions = Vec::new(alloc);
     for (number, pass) in passes.into_iter().enumerate() {
         let number = number as u64;
         sessions.push(Session { number, pass })?;
     }
-    let run = |session: Session<J>| session.run(rt, alloc, store, plan, round);
+    Ok(sessions)
+}
+
+// What all threads did together.
+fn sum(counted: Vec<Result<Counts>>) -> Result<Counts> {
     let mut counts = Counts::none();
-    for counted in thread::map_vec(rt, sessions, &run)? {
-        counts = counts.and(counted?);
+    for one in counted {
+        counts = counts.and(one?);
     }
     Ok(counts)
 }

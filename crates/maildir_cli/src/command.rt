@@ -73,23 +73,23 @@ fn refused(line: Result<Vec<u8>, AllocError>) -> Answer
     }
 }
 
-/// What an error says in its first line, and in the next where the first ends with a colon; and the subcommand that was meant, if one is
-/// like it.
+/// The line of an error's text, and the subcommand that was meant, if one is like it.
 fn complaint_of(alloc: Global, error: &Error) -> Result<Vec<u8>, AllocError>
     ensures { IfOk result (λ line. IsComplaint line.items) }
 {
     let text = format!(in alloc; "{error}")?;
-    let mut lines = text.as_str().lines();
+    complaint(alloc, &reason(alloc, &text)?, similar(&text))
+}
+
+/// What an error says in its first line, and in the next where the first ends with a colon.
+fn reason(alloc: Global, text: &str) -> Result<String, AllocError> {
+    let mut lines = text.lines();
     let first = lines.next().unwrap_or("the words are wrong");
     let first = first.strip_prefix("error: ").unwrap_or(first);
-    let mut why = String::from_str(alloc, first)?;
-    if first.ends_with(":")
-        && let Some(next) = lines.next()
-    {
-        why.push_str(" ")?;
-        why.push_str(next.trim())?;
+    match lines.next() {
+        Some(next) if first.ends_with(":") => format!(in alloc; "{first} {}", next.trim()),
+        _ => String::from_str(alloc, first),
     }
-    complaint(alloc, &why, similar(&text))
 }
 
 /// The line of an error that names a subcommand like the one that was given, or nothing.

@@ -4,86 +4,79 @@
 //! log is `failed`, which says that nothing was done to the message: the job had no effect. `notthere` of a log speaks of the whole folder.
 //! So it stands only for a job that looked through new and cur, a move or a copy; a job that looks in one of them alone has `failed`.
 use crate::about::{About, Message};
+use crate::log::Log;
 use crate::steps::push_begin;
-use crate::text::{push_folder, push_message, push_number};
+use crate::text::{push_folder, push_message};
 use md_core::{Answer, Event};
-use md_name::Flags;
-use md_script::PlayKind;
-use std::alloc::AllocError;
 
 /// Appends the line of an answer. Nothing where the log has no word for it, as for a clean.
 pub(crate) fn push_answer(
-    out: &mut Vec<u8>,
+    log: &mut Log,
     names: &[Vec<u8>],
     about: &About,
     event: Event,
     answer: &Answer,
-) -> Result<(), PlayKind> {
+) {
     match about {
-        About::Nothing => Ok(()),
+        About::Nothing => {}
         About::One(message) => {
-            push_begin(out, event)?;
-            push_one(out, *answer)?;
-            Ok(end(out, names, message)?)
+            push_begin(log, event);
+            push_one(log, *answer);
+            end(log, names, message);
         }
         About::Moved { message, to } => {
-            push_begin(out, event)?;
-            push_moved(out, names, *to, *answer)?;
-            Ok(end(out, names, message)?)
+            push_begin(log, event);
+            push_moved(log, names, *to, *answer);
+            end(log, names, message);
         }
         About::Copied { message, copy } => {
-            push_begin(out, event)?;
-            Ok(push_copied(out, names, message, copy, *answer)?)
+            push_begin(log, event);
+            push_copied(log, names, message, copy, *answer);
         }
     }
 }
 
 // The answer of a move.
-fn push_moved(
-    out: &mut Vec<u8>,
-    names: &[Vec<u8>],
-    to: u32,
-    answer: Answer,
-) -> Result<(), AllocError> {
+fn push_moved(log: &mut Log, names: &[Vec<u8>], to: u32, answer: Answer) {
     match answer {
         Answer::Moved => {
-            out.extend_from_slice(b" answer moved ")?;
-            push_folder(out, names, to)
+            log.push(b" answer moved ");
+            push_folder(log, names, to);
         }
-        other => out.extend_from_slice(without_effect(other)),
+        other => log.push(without_effect(other)),
     }
 }
 
 // The answer of a copy, which is about the copy where there is one.
 fn push_copied(
-    out: &mut Vec<u8>,
+    log: &mut Log,
     names: &[Vec<u8>],
     message: &Message,
     copy: &Message,
     answer: Answer,
-) -> Result<(), AllocError> {
+) {
     match answer {
         Answer::Copied => {
-            out.extend_from_slice(b" answer delivered")?;
-            end(out, names, copy)
+            log.push(b" answer delivered");
+            end(log, names, copy);
         }
         other => {
-            out.extend_from_slice(without_effect(other))?;
-            end(out, names, message)
+            log.push(without_effect(other));
+            end(log, names, message);
         }
     }
 }
 
 // The answer of a job about one message.
-fn push_one(out: &mut Vec<u8>, answer: Answer) -> Result<(), AllocError> {
+fn push_one(log: &mut Log, answer: Answer) {
     match answer {
-        Answer::Delivered => out.extend_from_slice(b" answer delivered"),
-        Answer::Expunged => out.extend_from_slice(b" answer expunged"),
+        Answer::Delivered => log.push(b" answer delivered"),
+        Answer::Expunged => log.push(b" answer expunged"),
         Answer::Flags(flags) => {
-            out.extend_from_slice(b" answer flags ")?;
-            push_flags(out, flags)
+            log.push(b" answer flags ");
+            log.push_flags(flags);
         }
-        _ => out.extend_from_slice(b" answer failed"),
+        _ => log.push(b" answer failed"),
     }
 }
 
@@ -95,26 +88,26 @@ fn without_effect(answer: Answer) -> &'static [u8] {
     }
 }
 
-fn end(out: &mut Vec<u8>, names: &[Vec<u8>], message: &Message) -> Result<(), AllocError> {
-    push_message(out, names, message.folder, message.unique.as_slice())?;
-    Ok(out.push(b'\n')?)
+fn end(log: &mut Log, names: &[Vec<u8>], message: &Message) {
+    push_message(log, names, message.folder, message.unique.as_slice());
+    log.push(b"\n");
 }
 
 /// Appends the comment that has the whole answer, in the words of a script's transcript.
-pub(crate) fn push_comment(out: &mut Vec<u8>, answer: Answer) -> Result<(), AllocError> {
-    out.extend_from_slice(b"# answer ")?;
+pub(crate) fn push_comment(log: &mut Log, answer: Answer) {
+    log.push(b"# answer ");
     match answer {
         Answer::Flags(flags) => {
-            out.extend_from_slice(b"flags ")?;
-            push_flags(out, flags)?;
+            log.push(b"flags ");
+            log.push_flags(flags);
         }
         Answer::Cleaned(count) => {
-            out.extend_from_slice(b"cleaned ")?;
-            push_number(out, count)?;
+            log.push(b"cleaned ");
+            log.push_number(count);
         }
-        other => out.extend_from_slice(word(other))?,
+        other => log.push(word(other)),
     }
-    Ok(out.push(b'\n')?)
+    log.push(b"\n");
 }
 
 // The first word of an answer.
@@ -135,14 +128,4 @@ fn word(answer: Answer) -> &'static [u8] {
         Answer::NameTaken => b"nametaken",
         Answer::Fault => b"fault",
     }
-}
-
-// Letters in ASCII order, and a hyphen where there are none.
-fn push_flags(out: &mut Vec<u8>, flags: Flags) -> Result<(), AllocError> {
-    let begin = out.len();
-    flags.write_onto(out)?;
-    if out.len() == begin {
-        out.push(b'-')?;
-    }
-    Ok(())
 }

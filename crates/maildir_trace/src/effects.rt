@@ -1,20 +1,16 @@
 //! Effects, as comments of a log.
-use crate::text::{push_number, push_path_of, push_word};
+use crate::log::Log;
+use crate::text::push_path_of;
 use md_core::{Change, Effect};
-use std::alloc::AllocError;
 
 /// `# effect` and the change: `add PATH SIZE`, `rename PATH PATH`, `remove PATH` or `same`.
-pub(crate) fn push_effect(
-    out: &mut Vec<u8>,
-    names: &[Vec<u8>],
-    effect: &Effect,
-) -> Result<(), AllocError> {
-    out.extend_from_slice(b"# effect ")?;
-    push_change(out, names, &effect.change)?;
-    Ok(out.push(b'\n')?)
+pub(crate) fn push_effect(log: &mut Log, names: &[Vec<u8>], effect: &Effect) {
+    log.push(b"# effect ");
+    push_change(log, names, &effect.change);
+    log.push(b"\n");
 }
 
-fn push_change(out: &mut Vec<u8>, names: &[Vec<u8>], change: &Change) -> Result<(), AllocError> {
+fn push_change(log: &mut Log, names: &[Vec<u8>], change: &Change) {
     match change {
         Change::Add {
             folder,
@@ -22,9 +18,10 @@ fn push_change(out: &mut Vec<u8>, names: &[Vec<u8>], change: &Change) -> Result<
             name,
             size,
         } => {
-            push_word(out, names, b"add", *folder, *place, name.as_slice())?;
-            out.push(b' ')?;
-            push_number(out, *size)
+            log.push(b"add");
+            push_path_of(log, names, *folder, *place, name.as_slice());
+            log.push(b" ");
+            log.push_number(*size);
         }
         Change::Rename {
             folder,
@@ -34,14 +31,18 @@ fn push_change(out: &mut Vec<u8>, names: &[Vec<u8>], change: &Change) -> Result<
             to_place,
             to_name,
         } => {
-            push_word(out, names, b"rename", *folder, *place, name.as_slice())?;
-            push_path_of(out, names, *to_folder, *to_place, to_name.as_slice())
+            log.push(b"rename");
+            push_path_of(log, names, *folder, *place, name.as_slice());
+            push_path_of(log, names, *to_folder, *to_place, to_name.as_slice());
         }
         Change::Remove {
             folder,
             place,
             name,
-        } => push_word(out, names, b"remove", *folder, *place, name.as_slice()),
-        Change::Same => out.extend_from_slice(b"same"),
+        } => {
+            log.push(b"remove");
+            push_path_of(log, names, *folder, *place, name.as_slice());
+        }
+        Change::Same => log.push(b"same"),
     }
 }

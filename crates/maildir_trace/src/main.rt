@@ -8,6 +8,7 @@
 mod about;
 mod answers;
 mod effects;
+mod log;
 mod noted;
 mod rows;
 mod session;

@@ -1,8 +1,7 @@
 //! The rows of directories, as the beginning of a log, a listing and a comment have them.
-use crate::text::{place_text, push_message, push_name, push_number, push_path_of, push_seconds};
+use crate::log::Log;
+use crate::text::{place_text, push_message, push_path_of};
 use md_dirs::{Dirs, Place, RowRef};
-use md_script::PlayKind;
-use std::alloc::AllocError;
 
 const PLACES: [Place; 3] = [Place::Tmp, Place::New, Place::Cur];
 
@@ -16,82 +15,64 @@ pub(crate) enum Form {
 }
 
 /// A line for each name that is there.
-pub(crate) fn push_rows<D: Dirs>(
-    out: &mut Vec<u8>,
+pub(crate) fn push_rows<D: Dirs>(log: &mut Log, names: &[Vec<u8>], dirs: &D, form: Form) {
+    for folder in 0..dirs.folders() {
+        for place in PLACES {
+            push_rows_of(log, names, dirs, form, folder, place);
+        }
+    }
+}
+
+// A line for each name of a directory.
+fn push_rows_of<D: Dirs>(
+    log: &mut Log,
     names: &[Vec<u8>],
     dirs: &D,
     form: Form,
-) -> Result<(), PlayKind> {
-    for folder in 0..dirs.folders() {
-        for place in PLACES {
-            for at in 0..dirs.count(folder, place) {
-                if let Some(row) = dirs.row_at(folder, place, at) {
-                    match form {
-                        Form::File => push_file(out, names, folder, place, row)?,
-                        Form::State => push_state(out, names, folder, place, row)?,
-                    }
-                }
+    folder: u32,
+    place: Place,
+) {
+    for at in 0..dirs.count(folder, place) {
+        if let Some(row) = dirs.row_at(folder, place, at) {
+            match form {
+                Form::File => push_file(log, names, folder, place, row),
+                Form::State => push_state(log, names, folder, place, row),
             }
         }
     }
-    Ok(())
 }
 
-fn push_file(
-    out: &mut Vec<u8>,
-    names: &[Vec<u8>],
-    folder: u32,
-    place: Place,
-    row: RowRef<'_>,
-) -> Result<(), PlayKind> {
-    out.extend_from_slice(b"file")?;
-    push_path_of(out, names, folder, place, row.name)?;
-    out.push(b' ')?;
-    push_seconds(out, row.stamp)?;
-    out.push(b'\n')?;
-    Ok(())
+fn push_file(log: &mut Log, names: &[Vec<u8>], folder: u32, place: Place, row: RowRef<'_>) {
+    log.push(b"file");
+    push_path_of(log, names, folder, place, row.name);
+    log.push(b" ");
+    log.push_seconds(row.stamp);
+    log.push(b"\n");
 }
 
 /// Each name of a directory, with a space in front.
-pub(crate) fn push_names<D: Dirs>(
-    out: &mut Vec<u8>,
-    dirs: &D,
-    folder: u32,
-    place: Place,
-) -> Result<(), AllocError> {
+pub(crate) fn push_names<D: Dirs>(log: &mut Log, dirs: &D, folder: u32, place: Place) {
     for at in 0..dirs.count(folder, place) {
         if let Some(row) = dirs.row_at(folder, place, at) {
-            out.push(b' ')?;
-            push_name(out, row.name)?;
+            log.push(b" ");
+            log.push_name(row.name);
         }
     }
-    Ok(())
 }
 
 /// The comment `# state`, and one for each name that is there.
-pub(crate) fn push_states<D: Dirs>(
-    out: &mut Vec<u8>,
-    names: &[Vec<u8>],
-    dirs: &D,
-) -> Result<(), PlayKind> {
-    out.extend_from_slice(b"# state\n")?;
-    push_rows(out, names, dirs, Form::State)
+pub(crate) fn push_states<D: Dirs>(log: &mut Log, names: &[Vec<u8>], dirs: &D) {
+    log.push(b"# state\n");
+    push_rows(log, names, dirs, Form::State);
 }
 
-fn push_state(
-    out: &mut Vec<u8>,
-    names: &[Vec<u8>],
-    folder: u32,
-    place: Place,
-    row: RowRef<'_>,
-) -> Result<(), AllocError> {
-    out.extend_from_slice(b"# ")?;
-    out.extend_from_slice(place_text(place))?;
-    push_message(out, names, folder, row.name)?;
-    out.push(b' ')?;
-    push_number(out, row.stamp)?;
-    out.push(b' ')?;
-    push_number(out, row.size)?;
-    out.push(b'\n')?;
-    Ok(())
+fn push_state(log: &mut Log, names: &[Vec<u8>], folder: u32, place: Place, row: RowRef<'_>) {
+    log.push(b"# ");
+    log.push(place_text(place));
+    push_message(log, names, folder, row.name);
+    log.push(b" ");
+    log.push_number(row.stamp);
+    log.push(b" ");
+    log.push_number(row.size);
+    log.push(b"\n");
 }

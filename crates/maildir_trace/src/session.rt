@@ -2,13 +2,13 @@
 ghost use Rattle.std.specs.Prelude.{◌<◌, length};
 ghost use Rattle.md_script.specs.Folders.{most_folders};
 
+use crate::log::Log;
 use crate::store::Store;
-use crate::text::push_name;
 use md_dirs::ImageFile;
 use md_name::{UniqueParts, make_unique};
 use md_script::{Command, Folders, Mode, PlayKind, open_store, read_command};
 use std::alloc::Global;
-use std::mem;
+use std::mem::{forget, replace};
 
 /// Folders and files, and a store over them, which is opened at the first command that needs it.
 #[derive(Drop)]
@@ -36,46 +36,38 @@ impl Session {
 
     /// Runs one line, which isn't empty and doesn't begin with `#`. What a script prints by itself has no place in a log: a listing, a
     /// reading, a made name and a summary are checked as they are in a script, and say nothing.
-    pub(crate) fn run_line(&mut self, line: &[u8], out: &mut Vec<u8>) -> Result<(), PlayKind> {
+    pub(crate) fn run_line(&mut self, line: &[u8], log: &mut Log) -> Result<(), PlayKind> {
         let mode = Mode::Playing {
             is_loaded: self.store.is_some(),
         };
         match read_command(self.alloc, &self.folders, mode, line)? {
-            Command::Folder { name } => self.folder(name, out),
+            Command::Folder { name } => self.folder(name, log),
             Command::File(file) => Ok(self.files.push(file)?),
-            Command::Submit(call) => self.store(out)?.submit(call),
-            Command::Step(event) => self.store(out)?.step(event, out),
-            Command::Finish(event) => self.store(out)?.finish(event, out),
-            Command::List { .. } | Command::Read { .. } => {
-                self.store(out)?;
-                Ok(())
-            }
-            Command::First { folder } => self.store(out)?.first(folder),
-            Command::Second { folder } => self.store(out)?.second(folder),
             Command::Unique(parts) => self.unique(parts),
             Command::Summary { .. } => Ok(()),
+            other => self.store(log)?.run(other, log),
         }
     }
 }
 
 impl Session {
-    fn folder(&mut self, name: &[u8], out: &mut Vec<u8>) -> Result<(), PlayKind>
+    fn folder(&mut self, name: &[u8], log: &mut Log) -> Result<(), PlayKind>
         requires { length self.old.folders < most_folders }
     {
         self.folders.add(name)?;
         self.names.push(Vec::from_slice(self.alloc, name)?)?;
-        out.extend_from_slice(b"folder ")?;
-        push_name(out, name)?;
-        out.push(b'\n')?;
-        Ok(())
+        log.push(b"folder ");
+        log.push_name(name);
+        log.push(b"\n");
+        log.taken()
     }
 
     // The store, opened over the folders and the files if no command did so before.
-    fn store(&mut self, out: &mut Vec<u8>) -> Result<&mut Store, PlayKind> {
+    fn store(&mut self, log: &mut Log) -> Result<&mut Store, PlayKind> {
         if self.store.is_none() {
             self.open()?;
             if let Some(store) = &self.store {
-                store.begin(out)?;
+                store.begin(log)?;
             }
         }
         match &mut self.store {
@@ -85,10 +77,12 @@ impl Session {
     }
 
     fn open(&mut self) -> Result<(), PlayKind> {
-        let files = mem::replace(&mut self.files, Vec::new(self.alloc));
+        let files = replace(&mut self.files, Vec::new(self.alloc));
         let world = open_store(self.alloc, self.folders.count(), files)?;
-        let names = mem::replace(&mut self.names, Vec::new(self.alloc));
-        self.store = Some(Store::new(self.alloc, self.with_states, names, world));
+        let names = replace(&mut self.names, Vec::new(self.alloc));
+        let store = Store::new(self.alloc, self.with_states, names, world);
+        // There was none, so that nothing is forgotten.
+        forget(self.store.replace(store));
         Ok(())
     }
 

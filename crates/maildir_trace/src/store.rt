@@ -6,12 +6,13 @@ ghost use Rattle.md_core.specs.Runs.{steps_left, jobs_of, answer_of};
 use crate::about::About;
 use crate::answers::{push_answer, push_comment};
 use crate::effects::push_effect;
+use crate::log::Log;
 use crate::noted::NotedDirs;
 use crate::rows::{Form, push_rows, push_states};
 use crate::steps::{push_begin, push_call};
 use md_core::{Answer, Call, Event, StepOut, World};
 use md_dirs::IndexDirs;
-use md_script::PlayKind;
+use md_script::{Command, PlayKind};
 use std::alloc::Global;
 
 /// A world whose directories note their calls, what the answer of each job is about, and the folders of which a first reading is kept.
@@ -43,26 +44,43 @@ impl Store {
         }
     }
 
-    /// Logs what is there.
-    pub(crate) fn begin(&self, out: &mut Vec<u8>) -> Result<(), PlayKind> {
-        push_rows(out, &self.names, self.world.dirs(), Form::File)?;
-        if self.with_states {
-            push_states(out, &self.names, self.world.dirs())?;
+    /// Does what a command asks of a store. One that asks nothing of it does nothing.
+    pub(crate) fn run(&mut self, command: Command<'_>, log: &mut Log) -> Result<(), PlayKind> {
+        match command {
+            Command::Submit(call) => self.submit(call),
+            Command::Step(event) => self.step(event, log),
+            Command::Finish(event) => self.finish(event, log),
+            Command::First { folder } => self.first(folder),
+            Command::Second { folder } => self.second(folder),
+            _ => Ok(()),
         }
-        Ok(())
     }
 
-    pub(crate) fn submit(&mut self, call: Call) -> Result<(), PlayKind> {
-        self.abouts.reserve(1)?;
-        let about = About::of(self.alloc, &call)?;
+    /// Logs what is there.
+    pub(crate) fn begin(&self, log: &mut Log) -> Result<(), PlayKind> {
+        push_rows(log, &self.names, self.world.dirs(), Form::File);
+        if self.with_states {
+            push_states(log, &self.names, self.world.dirs());
+        }
+        log.taken()
+    }
+
+    fn submit(&mut self, call: Call) -> Result<(), PlayKind> {
+        self.note(&call)?;
         match self.world.submit(call) {
-            Ok(_) => Ok(self.abouts.push(about)?),
+            Ok(_) => Ok(()),
             Err(refused) => Err(PlayKind::from(refused)),
         }
     }
 
+    // Keeps what the answer of the next job is about. Where that job is refused, no other comes: the script ends there.
+    fn note(&mut self, call: &Call) -> Result<(), PlayKind> {
+        let about = About::of(self.alloc, call)?;
+        Ok(self.abouts.push(about)?)
+    }
+
     /// Takes a step of a job, and logs it.
-    pub(crate) fn step(&mut self, event: Event, out: &mut Vec<u8>) -> Result<(), PlayKind>
+    fn step(&mut self, event: Event, log: &mut Log) -> Result<(), PlayKind>
         ensures nearer { OnOk result (steps_left self.new.world event.job < steps_left self.old.world event.job) }
     {
         // The kit's borrow checker refuses a `?` here, where no signature names `Answer`.
@@ -70,27 +88,28 @@ impl Store {
             Ok(shown) => shown,
             Err(error) => return Err(PlayKind::from(error)),
         };
-        self.log_step(event, shown, out)
+        self.log_step(event, shown, log);
+        log.taken()
     }
 
     /// Takes steps of a job until it is answered, and logs them.
-    pub(crate) fn finish(&mut self, event: Event, out: &mut Vec<u8>) -> Result<(), PlayKind> {
-        self.step(event, out)?;
+    fn finish(&mut self, event: Event, log: &mut Log) -> Result<(), PlayKind> {
+        self.step(event, log)?;
         while self.world.answer(event.job).is_none() {
-            self.step(event, out)?;
+            self.step(event, log)?;
         }
         Ok(())
     }
 
     /// Keeps a first reading of a folder.
-    pub(crate) fn first(&mut self, folder: u32) -> Result<(), PlayKind> {
+    fn first(&mut self, folder: u32) -> Result<(), PlayKind> {
         self.firsts.retain(|kept| *kept != folder);
         self.firsts.push(folder)?;
         Ok(())
     }
 
     /// Uses the first reading of a folder up. `NoFirst` where none is kept.
-    pub(crate) fn second(&mut self, folder: u32) -> Result<(), PlayKind> {
+    fn second(&mut self, folder: u32) -> Result<(), PlayKind> {
         if !self.firsts.as_slice().contains(&folder) {
             return Err(PlayKind::NoFirst);
         }
@@ -98,28 +117,26 @@ impl Store {
         Ok(())
     }
 
-    fn log_step(&self, event: Event, shown: StepOut, out: &mut Vec<u8>) -> Result<(), PlayKind> {
-        push_begin(out, event)?;
-        push_call(out, &self.names, self.world.dirs(), shown.reply)?;
+    fn log_step(&self, event: Event, shown: StepOut, log: &mut Log) {
+        push_begin(log, event);
+        push_call(log, &self.names, self.world.dirs(), shown.reply);
         if shown.effect
             && let Some(effect) = self.world.effects().last()
         {
-            push_effect(out, &self.names, effect)?;
+            push_effect(log, &self.names, effect);
         }
         if let Some(answer) = shown.answer {
-            self.log_answer(event, answer, out)?;
+            self.log_answer(event, answer, log);
         }
         if self.with_states {
-            push_states(out, &self.names, self.world.dirs())?;
+            push_states(log, &self.names, self.world.dirs());
         }
-        Ok(())
     }
 
-    fn log_answer(&self, event: Event, answer: Answer, out: &mut Vec<u8>) -> Result<(), PlayKind> {
-        push_comment(out, answer)?;
-        match self.about(event.job) {
-            Some(about) => push_answer(out, &self.names, about, event, &answer),
-            None => Ok(()),
+    fn log_answer(&self, event: Event, answer: Answer, log: &mut Log) {
+        push_comment(log, answer);
+        if let Some(about) = self.about(event.job) {
+            push_answer(log, &self.names, about, event, &answer);
         }
     }
 

@@ -1,8 +1,10 @@
 //! A script, played for its log.
+use crate::log::Log;
 use crate::session::Session;
 use md_head::cut_line;
 use md_script::{PlayError, PlayKind, Printed, Sink, Source, read_script, write_whole};
 use std::alloc::{AllocError, Global};
+use std::mem::forget;
 
 /// The byte that a line begins with that is passed over.
 const COMMENT: u8 = b'#';
@@ -33,31 +35,45 @@ pub(crate) fn trace<S: Source, T: Sink>(
 
 /// The log of a script up to the first line that is refused, and that line's refusal. The only error is out of memory.
 fn log_of(alloc: Global, script: &[u8], with_states: bool) -> Result<Printed, AllocError> {
-    let mut session = Session::new(alloc, with_states);
-    let mut text = Vec::new(alloc);
-    match run_lines(&mut session, script, &mut text) {
-        Ok(refusal) => Ok(Printed { text, refusal }),
-        Err(error) => Err(error),
-    }
+    let mut log = Log::new(alloc);
+    let refusal = play(alloc, script, with_states, &mut log)?;
+    let text = log.into_text();
+    Ok(Printed { text, refusal })
 }
 
-// The refusal of the first line that is refused. Session and text are lent, so that they are let go in one place.
+// The refusal of the first line that is refused.
+fn play(
+    alloc: Global,
+    script: &[u8],
+    with_states: bool,
+    log: &mut Log,
+) -> Result<Option<PlayError>, AllocError> {
+    let mut session = Session::new(alloc, with_states);
+    let refusal = run_lines(&mut session, script, log);
+    // The process ends soon, and the system takes its memory at once.
+    forget(session);
+    refusal
+}
+
 fn run_lines(
     session: &mut Session,
     script: &[u8],
-    text: &mut Vec<u8>,
+    log: &mut Log,
 ) -> Result<Option<PlayError>, AllocError> {
-    text.extend_from_slice(BEGIN)?;
+    log.push(BEGIN);
+    if log.taken().is_err() {
+        return Err(AllocError);
+    }
     let mut left = script;
     let mut passed = 0u64;
     while let Some((first, others)) = cut_line(left) {
-        let before = text.len();
-        match run_line(session, first, text) {
+        let before = log.len();
+        match run_line(session, first, log) {
             Ok(()) => {}
             Err(PlayKind::NoMemory) => return Err(AllocError),
             Err(kind) => {
                 // A refused line says nothing in the log.
-                text.truncate(before);
+                log.cut(before);
                 let line = passed + 1;
                 return Ok(Some(PlayError { line, kind }));
             }
@@ -69,9 +85,9 @@ fn run_lines(
 }
 
 // Runs a line, unless it is passed over.
-fn run_line(session: &mut Session, line: &[u8], out: &mut Vec<u8>) -> Result<(), PlayKind> {
+fn run_line(session: &mut Session, line: &[u8], log: &mut Log) -> Result<(), PlayKind> {
     if line.is_empty() || line[0] == COMMENT {
         return Ok(());
     }
-    session.run_line(line, out)
+    session.run_line(line, log)
 }

@@ -1,4 +1,4 @@
-//! Tests of `md_script`.
+//! Tests of `md_script`, `md_index` and `md_name`.
 #![tactic(auto)]
 
 #[cfg(test)]

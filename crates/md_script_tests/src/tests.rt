@@ -1,9 +1,8 @@
-//! What no contract says: texts, setups, limits, and readers and writers that fail. What scripts print is in rows, of the built program.
+//! What no contract says, and what no built program shows.
 
-mod fakes;
-mod faults;
-mod limits;
-mod memory;
+mod meetings;
+mod messages;
+mod names;
 mod plays;
 mod setups;
 mod texts;

@@ -1,54 +1,57 @@
-//! How plays end. Each is made here, over any reader or writer, so that a test makes none of its own.
+//! A script that is played to its end, and one whose text is taken and not passed on. How the streams of a process fail is in
+//! tools/check_face.
 
-use md_script::{PlayError, PlayKind, Reader, Writer, play};
+use md_script::{PlayKind, Reader, Writer, play};
 use std::alloc::Global;
-use std::io::{Read, Write};
+use std::io;
+use std::io::Write;
 
-/// Whether a script that comes so is refused before its first line, with nothing written.
-pub(super) fn is_refused<R: Read + Drop>(alloc: Global, script: R, kind: PlayKind) -> bool {
-    let mut script = Reader::new(script);
-    let mut out = Vec::new(alloc);
-    match play(alloc, &mut script, &mut out) {
-        Ok(()) => false,
-        Err(error) => error.line == 0 && error.kind == kind && out.is_empty(),
+const PRINTS: &[u8] = b"unique 1.M2P3Q4.a\n";
+
+/// Takes all, and fails to pass it on.
+#[derive(Drop)]
+struct Unflushed {
+    taken: usize,
+}
+
+impl Write for Unflushed {
+    fn write(&mut self, buf: &[u8]) -> io::Result<usize> {
+        self.taken = self.taken.saturating_add(buf.len());
+        Ok(buf.len())
+    }
+
+    fn flush(&mut self) -> io::Result<()> {
+        Err(io::Error::from(io::ErrorKind::StorageFull))
     }
 }
 
-/// The refusal of a script that comes so, and whether it prints this.
-pub(super) fn played<R: Read + Drop>(
-    alloc: Global,
-    script: R,
-    prints: &[u8],
-) -> (Option<PlayError>, bool) {
-    let mut script = Reader::new(script);
+/// Whether a script prints one line, up to its end.
+fn is_played(alloc: Global, script: &[u8]) -> bool {
     let mut out = Vec::new(alloc);
-    let answer = play(alloc, &mut script, &mut out);
-    (answer.err(), out.as_slice() == prints)
-}
-
-/// Whether a script that comes so is played to its end and prints this.
-pub(super) fn prints<R: Read + Drop>(alloc: Global, script: R, prints: &[u8]) -> bool {
-    let (refusal, is_printed) = played(alloc, script, prints);
-    refusal.is_none() && is_printed
-}
-
-/// Whether a script is refused since its text can't be written there.
-pub(super) fn is_write_fault<W: Write + Drop>(alloc: Global, script: &[u8], out: W) -> bool {
-    let mut script = Reader::new(script);
-    let mut out = Writer::new(out);
-    match play(alloc, &mut script, &mut out) {
-        Ok(()) => false,
-        Err(error) => error.line == 0 && error.kind == PlayKind::WriteFault,
-    }
-}
-
-/// Whether a refusal has this text, which is empty for none.
-pub(super) fn has_text(alloc: Global, refusal: Option<PlayError>, text: &[u8]) -> bool {
-    let Some(error) = refusal else {
-        return text.is_empty();
-    };
-    match format!(in alloc; "{error}") {
-        Ok(told) => told.as_bytes() == text,
+    match play(alloc, &mut Reader::new(script), &mut out) {
+        Ok(()) => out.as_slice() == PRINTS,
         Err(_) => false,
     }
+}
+
+/// Whether a script is refused since its line was taken and not passed on.
+fn is_not_passed_on(alloc: Global, script: &[u8]) -> bool {
+    let mut out = Writer::new(Unflushed { taken: 0 });
+    match play(alloc, &mut Reader::new(script), &mut out) {
+        Ok(()) => false,
+        Err(error) => {
+            error.line == 0
+                && error.kind == PlayKind::WriteFault
+                && out.into_inner().taken == PRINTS.len()
+        }
+    }
+}
+
+#[test]
+fn a_write_fault_comes_before_a_refused_line(rt: HostRuntime) {
+    assert!(rt;
+        is_played(rt.alloc(), b"unique 1 2 3 4 a")
+            && is_not_passed_on(rt.alloc(), b"unique 1 2 3 4 a")
+            && is_not_passed_on(rt.alloc(), b"unique 1 2 3 4 a\nx")
+    );
 }

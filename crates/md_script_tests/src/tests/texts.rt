@@ -1,19 +1,37 @@
-//! What refusals print. Those of lines are in crates/examples/data/.
+//! What errors print, as docs/SCRIPT.md has it.
 
 use md_core::CoreError;
+use md_index::IndexError;
 use md_name::NameError;
 use md_script::{PlayError, PlayKind};
 use std::alloc::Global;
 use std::fmt::Display;
-use std::process::Abort;
 
-static KINDS: [PlayKind; 6] = [
+static KINDS: [PlayKind; 24] = [
     PlayKind::ReadFault,
     PlayKind::WriteFault,
     PlayKind::TooLong,
     PlayKind::TooManyReads,
     PlayKind::NoMemory,
     PlayKind::NotInThisRun,
+    PlayKind::Core(CoreError::BadName),
+    PlayKind::Core(CoreError::LongUnique),
+    PlayKind::Core(CoreError::DuplicateUnique),
+    PlayKind::Core(CoreError::NameUsed),
+    PlayKind::Core(CoreError::NoFolder),
+    PlayKind::Core(CoreError::SameFolder),
+    PlayKind::Core(CoreError::BadUnique),
+    PlayKind::Core(CoreError::BadTries),
+    PlayKind::Core(CoreError::BadChunk),
+    PlayKind::Core(CoreError::TooManyJobs),
+    PlayKind::Core(CoreError::BodyTooLong),
+    PlayKind::Core(CoreError::NoJob),
+    PlayKind::Core(CoreError::Answered),
+    PlayKind::Core(CoreError::NoMemory),
+    PlayKind::Name(NameError::BadHost),
+    PlayKind::Name(NameError::BadMicro),
+    PlayKind::Name(NameError::NoMemory),
+    PlayKind::Name(NameError::BadFlag),
 ];
 
 static TEXTS: &str = "line 0: read fault
@@ -21,7 +39,25 @@ line 0: write fault
 line 0: script too long
 line 0: too many reads
 line 0: no memory
-line 0: not in this run";
+line 0: not in this run
+line 0: bad name
+line 0: long unique
+line 0: duplicate unique
+line 0: name used
+line 0: no folder
+line 0: same folder
+line 0: bad unique
+line 0: bad tries
+line 0: bad chunk
+line 0: too many jobs
+line 0: body too long
+line 0: no job
+line 0: answered
+line 0: no memory
+line 0: bad host
+line 0: bad micro
+line 0: no memory
+line 0: bad flag";
 
 fn is_told<T: Display>(alloc: Global, value: &T, text: &str) -> bool {
     match format!(in alloc; "{value}") {
@@ -30,11 +66,16 @@ fn is_told<T: Display>(alloc: Global, value: &T, text: &str) -> bool {
     }
 }
 
-/// All texts are right. It says the first that is not.
-fn are_right(rt: &impl Abort, right: usize, all: usize) {
-    assert!(rt; right == all, "row {right}");
+/// Whether the store's error, or a name's, is told as the refusal that it causes.
+fn is_cause_told(alloc: Global, kind: PlayKind) -> bool {
+    match kind {
+        PlayKind::Core(error) => is_told(alloc, &error, kind.text()),
+        PlayKind::Name(error) => is_told(alloc, &error, kind.text()),
+        _ => true,
+    }
 }
 
+/// How many texts are right up to the first that is not.
 fn right_texts(alloc: Global) -> usize {
     let mut right = 0usize;
     for (text, kind) in TEXTS.split('\n').zip(KINDS.iter()) {
@@ -42,7 +83,7 @@ fn right_texts(alloc: Global) -> usize {
             line: 0,
             kind: *kind,
         };
-        if !is_told(alloc, &error, text) {
+        if !is_told(alloc, &error, text) || !is_cause_told(alloc, *kind) {
             return right;
         }
         right = right.saturating_add(1);
@@ -52,53 +93,10 @@ fn right_texts(alloc: Global) -> usize {
 
 #[test]
 fn refusals_have_texts(rt: HostRuntime) {
-    are_right(&rt, right_texts(rt.alloc()), KINDS.len());
-}
-
-static CORE: [CoreError; 14] = [
-    CoreError::BadName,
-    CoreError::LongUnique,
-    CoreError::DuplicateUnique,
-    CoreError::NameUsed,
-    CoreError::NoFolder,
-    CoreError::SameFolder,
-    CoreError::BadUnique,
-    CoreError::BadTries,
-    CoreError::BadChunk,
-    CoreError::TooManyJobs,
-    CoreError::BodyTooLong,
-    CoreError::NoJob,
-    CoreError::Answered,
-    CoreError::NoMemory,
-];
-
-static NAMES: [NameError; 4] = [
-    NameError::BadHost,
-    NameError::BadMicro,
-    NameError::NoMemory,
-    NameError::BadFlag,
-];
-
-fn right_core(alloc: Global) -> usize {
-    for (row, error) in CORE.iter().enumerate() {
-        if !is_told(alloc, error, PlayKind::Core(*error).text()) {
-            return row;
-        }
-    }
-    CORE.len()
-}
-
-fn right_names(alloc: Global) -> usize {
-    for (row, error) in NAMES.iter().enumerate() {
-        if !is_told(alloc, error, PlayKind::Name(*error).text()) {
-            return row;
-        }
-    }
-    NAMES.len()
-}
-
-#[test]
-fn errors_of_the_store_keep_their_texts(rt: HostRuntime) {
-    are_right(&rt, right_core(rt.alloc()), CORE.len());
-    are_right(&rt, right_names(rt.alloc()), NAMES.len());
+    let right = right_texts(rt.alloc());
+    assert!(rt; right == KINDS.len(), "row {right}");
+    assert!(rt;
+        is_told(rt.alloc(), &IndexError::BadWorkers, "bad workers")
+            && is_told(rt.alloc(), &IndexError::NoMemory, "no memory")
+    );
 }

@@ -1,5 +1,0 @@
-//! Tests of `md_index`.
-#![tactic(auto)]
-
-#[cfg(test)]
-mod tests;

@@ -1,5 +1,0 @@
-//! Tests of `md_name`.
-#![tactic(auto)]
-
-#[cfg(test)]
-mod tests;
