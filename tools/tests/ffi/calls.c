@@ -1,37 +1,6 @@
 /* Every function of deolmutt.h: what it gives, each refusal that a caller can come to, and every null pointer. Ends with a count. */
-#include "deolmutt.h"
-
-#include <stdio.h>
-#include <stdlib.h>
-#include <string.h>
-
-static unsigned long checked;
-
-#define CHECK(what)                                                                     \
-    do {                                                                                \
-        checked++;                                                                      \
-        if (!(what)) {                                                                  \
-            fprintf(stderr, "%s:%d: not so: %s\n", __FILE__, __LINE__, #what);           \
-            exit(1);                                                                    \
-        }                                                                               \
-    } while (0)
-
-#define TEXT(s) (const uint8_t *)(s), strlen(s)
-#define NO_BYTES NULL, 0
-
-static deolmutt_world *loaded(const char *lines) {
-    deolmutt_world *world = NULL;
-    uint64_t line = 7;
-    CHECK(deolmutt_load(TEXT(lines), &world, &line) == DEOLMUTT_OK);
-    CHECK(world != NULL && line == 0);
-    return world;
-}
-
-static uint32_t done(deolmutt_world *world, uint32_t kind, uint32_t folder, const char *unique, uint32_t to, const char *first,
-                     const char *second, uint64_t number, uint64_t now, deolmutt_answer *answer) {
-    uint64_t job = 99;
-    return deolmutt_call(world, kind, folder, TEXT(unique), to, TEXT(first), TEXT(second), number, now, NULL, &job, answer);
-}
+#include "checks.h"
+#include "worlds.h"
 
 static void test_texts(void) {
     static const uint32_t numbers[] = {1,  2,  3,  4,  5,  6,  7,  8,  9,  10, 11, 20, 21, 22, 23, 24, 25, 26, 27, 28, 29, 30,
@@ -554,6 +523,7 @@ int main(void) {
     test_call();
     test_settle();
     test_full();
+    test_worlds();
     printf("%lu checks\n", checked);
     return 0;
 }

@@ -41,16 +41,7 @@ static deolmutt_world *loaded(void) {
     return world;
 }
 
-/* One call with its allocation `at` refused: whether there was such an allocation. */
-static int call_without(long at) {
-    static uint8_t out[4096], text[64];
-    deolmutt_world *world = loaded(), *other = NULL;
-    deolmutt_answer answer;
-    deolmutt_step_out step;
-    uint64_t job = 0, line = 9;
-    size_t length = 9, before = 0, after = 0, done = 9;
-    uint32_t status;
-    int was_met = 0;
+/* A call with its allocation `at` refused, if it makes so many: it is done, or says so. */
 #define WITHOUT(call)                                                           \
     do {                                                                        \
         until = at;                                                             \
@@ -62,6 +53,86 @@ static int call_without(long at) {
         must(status == DEOLMUTT_OK || (status == DEOLMUTT_NO_MEMORY && until < 0), #call); \
         until = -1;                                                             \
     } while (0)
+
+/* What is seen of a world of one folder and one job: the names in its three places, the bytes of its listing, and the job's answer. */
+typedef struct seen {
+    size_t names[3];
+    size_t listed;
+    deolmutt_answer answer;
+} seen;
+
+static seen see(deolmutt_world *world) {
+    static uint8_t out[4096];
+    seen all;
+    uint32_t place;
+    size_t length;
+    memset(&all, 0, sizeof all);
+    for (place = 0; place < 3; place++)
+        while (deolmutt_names(world, 0, place, all.names[place], out, sizeof out, &length) == DEOLMUTT_OK)
+            all.names[place]++;
+    must(deolmutt_list(world, 0, out, sizeof out, &all.listed) == DEOLMUTT_OK, "a listing");
+    must(deolmutt_job_answer(world, 1, &all.answer) == DEOLMUTT_OK, "the answer of a job");
+    return all;
+}
+
+/* How many files of tmp a clean takes at a moment. */
+static uint64_t cleaned(deolmutt_world *world, uint64_t now) {
+    deolmutt_answer answer;
+    uint64_t job = 0;
+    must(deolmutt_call(world, DEOLMUTT_CLEAN, 0, NULL, 0, 0, NULL, 0, NULL, 0, 0, now, NULL, &job, &answer) == DEOLMUTT_OK, "a clean");
+    must(answer.kind == DEOLMUTT_CLEANED, "cleans");
+    return answer.value;
+}
+
+/* The five steps of a delivery, each with its allocation `at` refused, and late. One that is refused leaves all as it was, also what it was to
+   write, and is made again early: so the latest that was not refused is the clock, which stamps the next file. */
+static int steps_without(long at) {
+    static const uint32_t calls[] = {DEOLMUTT_CREATE, DEOLMUTT_APPEND, DEOLMUTT_APPEND, DEOLMUTT_LINK, DEOLMUTT_UNLINK};
+    static const uint64_t values[] = {0, 4, 2, 0, 0};
+    deolmutt_world *world = NULL;
+    deolmutt_step_out step, untouched;
+    uint64_t job = 0, line = 0, clock = 1000, late;
+    uint32_t status;
+    int was_met = 0;
+    must(deolmutt_load((const uint8_t *)"folder a\n", 9, &world, &line) == DEOLMUTT_OK, "load");
+    must(deolmutt_submit(world, DEOLMUTT_DELIVER, 0, (const uint8_t *)"u", 1, 0, (const uint8_t *)"hello\n", 6, NULL, 0, 4, &job) ==
+             DEOLMUTT_OK && job == 1, "submit");
+    memset(&untouched, 9, sizeof untouched);
+    for (late = 2000; late < 2005; late++) {
+        seen before = see(world), after;
+        step = untouched;
+        WITHOUT(deolmutt_step(world, job, late, NULL, &step));
+        if (status == DEOLMUTT_OK) {
+            clock = late;
+        } else {
+            after = see(world);
+            must(memcmp(&after, &before, sizeof after) == 0, "a refused step changes nothing");
+            must(memcmp(&step, &untouched, sizeof step) == 0, "and shows nothing");
+            must(deolmutt_step(world, job, 1000, NULL, &step) == DEOLMUTT_OK, "a refused step may come again");
+        }
+        must(step.call == calls[late - 2000] && step.value == values[late - 2000] && step.reply == DEOLMUTT_DONE, "it makes its call");
+        must(step.effect == (late == 2003), "the link is the effect");
+        must(step.answer.kind == (late == 2004 ? DEOLMUTT_DELIVERED : DEOLMUTT_NO_ANSWER) && step.answer.value == 0, "the last step answers");
+    }
+    must(deolmutt_submit(world, DEOLMUTT_DELIVER, 0, (const uint8_t *)"next", 4, 0, NULL, 0, NULL, 0, 1, &job) == DEOLMUTT_OK && job == 2,
+         "a job more");
+    must(deolmutt_step(world, job, 0, NULL, &step) == DEOLMUTT_OK && step.call == DEOLMUTT_CREATE, "the next file");
+    must(cleaned(world, clock + 36 * 3600 - 1) == 0, "no file is 36 hours old");
+    must(cleaned(world, clock + 36 * 3600) == 1, "the next file has the clock for its stamp");
+    must(deolmutt_free(world) == DEOLMUTT_OK, "free");
+    return was_met;
+}
+
+/* One call with its allocation `at` refused: whether there was such an allocation. */
+static int call_without(long at) {
+    static uint8_t out[4096], text[64];
+    deolmutt_world *world = loaded(), *other = NULL;
+    deolmutt_answer answer;
+    deolmutt_step_out step;
+    uint64_t job = 0, line = 9;
+    size_t length = 9, before = 0, after = 0, done = 9;
+    uint32_t status;
+    int was_met = 0;
     must(deolmutt_list(world, 0, out, sizeof out, &before) == DEOLMUTT_OK, "list before");
     WITHOUT(deolmutt_call(world, DEOLMUTT_DELIVER, 0, (const uint8_t *)"u", 1, 0, (const uint8_t *)"mail", 4, NULL, 0, 2, 9, NULL, &job,
                           &answer));
@@ -93,12 +164,20 @@ static int call_without(long at) {
         while (step.answer.kind == DEOLMUTT_NO_ANSWER);
     }
     must(deolmutt_settle(world, &job) == DEOLMUTT_OK, "and then each has its answer");
+    job = 99;
     WITHOUT(deolmutt_submit(world, DEOLMUTT_SEEN, 0, (const uint8_t *)"u", 1, 0, (const uint8_t *)"S", 1, NULL, 0, 1, &job));
+    if (status == DEOLMUTT_NO_MEMORY) {
+        must(job == 99 && deolmutt_job_answer(world, 1, &answer) == DEOLMUTT_NO_JOB, "a refused submit is no job");
+        must(deolmutt_submit(world, DEOLMUTT_SEEN, 0, (const uint8_t *)"u", 1, 0, (const uint8_t *)"S", 1, NULL, 0, 1, &job) == DEOLMUTT_OK,
+             "a refused submit may come again");
+    }
+    must(job == 1, "a job");
     WITHOUT(deolmutt_list(world, 0, out, sizeof out, &after));
     WITHOUT(deolmutt_load((const uint8_t *)lines, sizeof lines - 1, &other, &line));
     must((status == DEOLMUTT_OK) == (other != NULL) && line == 0, "a world or none");
-    if (other != NULL)
-        must(deolmutt_free(other) == DEOLMUTT_OK, "free");
+    if (other == NULL)
+        must(deolmutt_load((const uint8_t *)lines, sizeof lines - 1, &other, &line) == DEOLMUTT_OK, "a refused load may come again");
+    must(deolmutt_free(other) == DEOLMUTT_OK, "free");
     WITHOUT(deolmutt_unique(1, 2, 3, 4, (const uint8_t *)"host", 4, text, sizeof text, &length));
     WITHOUT(deolmutt_summary((const uint8_t *)"Subject: a\nFrom: b\n", 19, out, sizeof out, &length));
     WITHOUT(deolmutt_transcript((const uint8_t *)"folder i\njob deliver i u 1 x\nfinish 1 1\nlist i\n", 47, out, sizeof out, &length, &line));
@@ -113,6 +192,10 @@ int main(void) {
     while (call_without(at))
         at++;
     must(refused > 0 && stopped > 0, "some allocation is refused, amid the steps of a job too");
+    at = 0;
+    while (steps_without(at))
+        at++;
+    must(at > 0, "and that of a step");
     printf("%lu refused allocations\n", refused);
     return 0;
 }

@@ -1,227 +1,189 @@
-// Calls over directories of which one call fails.
-use super::loads::{Named, directories};
-use super::{BODY, NAME, copied, has_name, has_names, letter, load, step_once, submitted};
-use md_core::Answer::{Cleaned, Delivered, Fault};
-use md_core::{Answer, Call, CoreError, StepOut, World};
-use md_dirs::Place::{Cur, Tmp};
-use md_dirs::{Dirs, FailAt, Place, PlainDirs};
+// Calls over directories of which one call fails, by their steps and in one.
+use super::scene::{Failing, Scene, plays};
+use super::{NOW, called, has_names, letter, submitted};
+use DirCall::{Append, Create, Link, List, Rename, Unlink};
+use md_core::Answer::{Cleaned, Delivered};
+use md_core::{Answer, Call, CoreError, DirCall, DirReply};
+use md_dirs::Place::{Cur, New, Tmp};
+use md_dirs::{Bytes, Place};
 use md_name::Flags;
 use std::alloc::{AllocError, Global};
 use std::process::Abort;
 
-// What is done over directories of which one call fails.
-#[derive(Clone, Copy)]
-enum Act {
+/// What is done over directories of which one call fails.
+#[derive(Clone, Copy, PartialEq, Eq)]
+pub(super) enum Act {
     Deliver,
     Flag,
     Clean,
 }
 
-// What an act does where its first, second, .. call fails: its calls with their replies, the names that are left where it acts, and
-// whether it is answered as if none had failed, in place of Fault.
+// A call of an act, where the call at a number fails, and whether it is this one.
+type Made = (Act, u64, DirCall, DirReply);
 
-// A delivery, whose name in new makes it one. The sixth call never comes.
-static DELIVERIES: &str = "Create Fault|nowhere%\
-Create Ok, Append(4) Fault, Unlink Ok|nowhere%\
-Create Ok, Append(4) Ok, Append(2) Fault, Unlink Ok|nowhere%\
-Create Ok, Append(4) Ok, Append(2) Ok, Link Fault, Unlink Ok|nowhere%\
-Create Ok, Append(4) Ok, Append(2) Ok, Link Ok, Unlink Fault|in tmp and new|done%\
-Create Ok, Append(4) Ok, Append(2) Ok, Link Ok, Unlink Ok|in new|done";
+const DELIVER: Act = Act::Deliver;
 
-// A flag change that takes S away. The third call never comes.
-static FLAGS: &str =
-    "List(Cur) Fault|u:2,S%List(Cur) Ok, Rename Fault|u:2,S%List(Cur) Ok, Rename Ok|u:2,|done";
+const DONE: DirReply = DirReply::Ok;
 
-// A clean that finds two old files. What it removed before a fault stays removed. The fourth call never comes.
-static CLEANS: &str = "List(Tmp) Fault|x y%\
-List(Tmp) Ok, Unlink Fault|x y%\
-List(Tmp) Ok, Unlink Ok, Unlink Fault|y%\
-List(Tmp) Ok, Unlink Ok, Unlink Ok||done";
+const FAULT: DirReply = DirReply::Fault;
 
-fn is_printed(alloc: Global, out: &StepOut, want: &str) -> Result<bool, CoreError> {
-    let printed = format!(in alloc; "{:?} {:?}", out.call, out.reply)?;
-    Ok(printed.as_str() == want)
-}
+// The calls of each act where its first, second, .. call fails, and at last where none does.
+static CALLS: [Made; 37] = [
+    (DELIVER, 1, Create, FAULT),
+    (DELIVER, 2, Create, DONE),
+    (DELIVER, 2, Append(4), FAULT),
+    (DELIVER, 2, Unlink, DONE),
+    (DELIVER, 3, Create, DONE),
+    (DELIVER, 3, Append(4), DONE),
+    (DELIVER, 3, Append(2), FAULT),
+    (DELIVER, 3, Unlink, DONE),
+    (DELIVER, 4, Create, DONE),
+    (DELIVER, 4, Append(4), DONE),
+    (DELIVER, 4, Append(2), DONE),
+    (DELIVER, 4, Link, FAULT),
+    (DELIVER, 4, Unlink, DONE),
+    (DELIVER, 5, Create, DONE),
+    (DELIVER, 5, Append(4), DONE),
+    (DELIVER, 5, Append(2), DONE),
+    (DELIVER, 5, Link, DONE),
+    (DELIVER, 5, Unlink, FAULT),
+    (DELIVER, 6, Create, DONE),
+    (DELIVER, 6, Append(4), DONE),
+    (DELIVER, 6, Append(2), DONE),
+    (DELIVER, 6, Link, DONE),
+    (DELIVER, 6, Unlink, DONE),
+    (Act::Flag, 1, List(Cur), FAULT),
+    (Act::Flag, 2, List(Cur), DONE),
+    (Act::Flag, 2, Rename, FAULT),
+    (Act::Flag, 3, List(Cur), DONE),
+    (Act::Flag, 3, Rename, DONE),
+    (Act::Clean, 1, List(Tmp), FAULT),
+    (Act::Clean, 2, List(Tmp), DONE),
+    (Act::Clean, 2, Unlink, FAULT),
+    (Act::Clean, 3, List(Tmp), DONE),
+    (Act::Clean, 3, Unlink, DONE),
+    (Act::Clean, 3, Unlink, FAULT),
+    (Act::Clean, 4, List(Tmp), DONE),
+    (Act::Clean, 4, Unlink, DONE),
+    (Act::Clean, 4, Unlink, DONE),
+];
 
-// Whether a step of job 1, which has no answer yet, makes this call and gets this reply.
-fn is_step<D: Dirs>(
-    alloc: Global,
-    world: &mut World<D>,
-    now: u64,
-    want: &str,
-) -> Result<bool, CoreError> {
-    if world.answer(1).is_some() {
-        return Ok(false);
-    }
-    match step_once(world, 1, now) {
-        Ok(out) => is_printed(alloc, &out, want),
-        Err(error) => Err(error),
-    }
-}
+// What an act is answered, how many effects it has, and the names that it leaves in tmp, new and cur. The name in new makes a delivery one;
+// what a clean removed before a fault stays removed.
+type End = (Answer, usize, &'static str, &'static str, &'static str);
 
-/// Takes steps of job 1 with these calls and replies, and gives its answer.
-pub(super) fn answered<D: Dirs>(
-    rt: &impl Abort,
-    alloc: Global,
-    world: &mut World<D>,
-    now: u64,
-    steps: &str,
-) -> Result<Option<Answer>, CoreError> {
-    for step in steps.split(',') {
-        assert!(rt; is_step(alloc, world, now, step.trim_start())?, "{step}");
-    }
-    Ok(world.answer(1))
-}
-
-// Whether the names of a delivery are left in tmp, in new, or in both.
-fn is_left(world: &World<FailAt<PlainDirs>>, left: &str) -> bool {
-    let there: [(&[u8], u64); 1] = [(NAME, BODY.len() as u64)];
-    let in_tmp = usize::from(left == "in tmp and new");
-    let in_new = usize::from(left != "nowhere");
-    has_names(world, 0, Place::Tmp, &there[..in_tmp])
-        && has_names(world, 0, Place::New, &there[..in_new])
-        && world.effects().len() == in_new
-}
-
-// A world of these files, over directories whose call number `at` fails.
-fn failing(
-    alloc: Global,
-    files: &[Named<'_>],
-    at: u64,
-) -> Result<World<FailAt<PlainDirs>>, CoreError> {
-    match directories(alloc, files) {
-        Ok(dirs) => load(alloc, FailAt::new(dirs, at)),
-        Err(_) => Err(CoreError::NoMemory),
-    }
-}
-
-// Whether these names are in a directory, in their order, each of so many bytes.
-fn are_left(world: &World<FailAt<PlainDirs>>, place: Place, names: &str, size: u64) -> bool {
-    let mut count = 0usize;
-    for name in names.split(' ') {
-        if !name.is_empty() {
-            if !has_name(world, 0, place, count, (name.as_bytes(), size)) {
-                return false;
-            }
-            count = count.saturating_add(1);
-        }
-    }
-    world.names(0, place, count).is_none()
-}
-
-static FLAGGED: [Named<'static>; 1] = [(0, Cur, b"u:2,S", 0)];
-
-static CLEANED: [Named<'static>; 2] = [(0, Tmp, b"x", 0), (0, Tmp, b"y", 0)];
-
-// The files that are there before an act.
-fn files_of(act: Act) -> &'static [Named<'static>] {
-    match act {
-        Act::Deliver => &[],
-        Act::Flag => &FLAGGED,
-        Act::Clean => &CLEANED,
+fn end(act: Act, at: u64) -> End {
+    match (act, at) {
+        (Act::Deliver, 5) => (Delivered, 1, "u", "u", ""),
+        (Act::Deliver, 6) => (Delivered, 1, "", "u", ""),
+        (Act::Deliver, _) => (Answer::Fault, 0, "", "", ""),
+        (Act::Flag, 3) => (Answer::Flags(Flags::empty()), 1, "", "", "u:2,"),
+        (Act::Flag, _) => (Answer::Fault, 0, "", "", "u:2,S"),
+        (Act::Clean, 4) => (Cleaned(2), 0, "", "", ""),
+        (Act::Clean, 3) => (Answer::Fault, 0, "y", "", ""),
+        (Act::Clean, _) => (Answer::Fault, 0, "x y", "", ""),
     }
 }
 
 // The call of an act. The flag change takes S away.
 fn call_of(alloc: Global, act: Act) -> Result<Call, AllocError> {
     match act {
-        Act::Deliver => letter(alloc, 0, NAME),
+        Act::Deliver => letter(alloc, 0, "u"),
         Act::Flag => Ok(Call::Flag {
             folder: 0,
-            unique: copied(alloc, b"u")?,
+            unique: Bytes::copied(alloc, b"u")?,
             add: Flags::empty(),
-            remove: letters(b"S"),
+            remove: Flags::parse(b"S").unwrap_or(Flags::empty()),
             tries: 1,
         }),
         Act::Clean => Ok(Call::Clean { folder: 0 }),
     }
 }
 
-// The flags of these letters.
-fn letters(text: &[u8]) -> Flags {
-    match Flags::parse(text) {
-        Ok(flags) => flags,
-        Err(_) => Flags::empty(),
+// The answer of job 1, whose steps are to make these calls and get these replies.
+fn stepped(world: &mut Failing, act: Act, at: u64) -> Result<Option<Answer>, CoreError> {
+    for (made, number, call, reply) in &CALLS {
+        if *made == act && *number == at {
+            let out = world.step(1, NOW, None)?;
+            if out.call != *call || out.reply != *reply {
+                return Ok(None);
+            }
+        }
     }
+    Ok(world.answer(1))
 }
 
-// What an act is answered of which no call failed.
-fn answer_of(act: Act) -> Answer {
-    match act {
-        Act::Deliver => Delivered,
-        Act::Flag => Answer::Flags(Flags::empty()),
-        Act::Clean => Cleaned(2),
-    }
-}
-
-fn leaves(world: &World<FailAt<PlainDirs>>, act: Act, left: &str) -> bool {
-    match act {
-        Act::Deliver => is_left(world, left),
-        Act::Flag => are_left(world, Cur, left, 5),
-        Act::Clean => are_left(world, Tmp, left, 1),
-    }
-}
-
-// Whether the job of an act takes the steps that are wanted, leaves these names and answers so.
-fn acts_in(
-    rt: &impl Abort,
+fn answered(
     alloc: Global,
-    world: &mut World<FailAt<PlainDirs>>,
-    act: Act,
-    row: &str,
-) -> Result<bool, CoreError> {
-    let mut parts = row.split('|');
-    let steps = parts.next().unwrap_or("");
-    let left = parts.next().unwrap_or("");
-    let want = if parts.next() == Some("done") {
-        answer_of(act)
-    } else {
-        Fault
-    };
-    let job = submitted(rt, world, call_of(alloc, act))?;
-    let answer = answered(rt, alloc, world, 129_600, steps)?;
-    Ok(job == 1 && answer == Some(want) && leaves(world, act, left))
-}
-
-fn acts_once(
-    rt: &impl Abort,
-    alloc: Global,
+    world: &mut Failing,
     act: Act,
     at: u64,
-    row: &str,
+    is_called: bool,
+) -> Result<Option<Answer>, CoreError> {
+    let call = call_of(alloc, act)?;
+    if is_called {
+        return Ok(Some(called(world, call, NOW)?));
+    }
+    submitted(world, call)?;
+    stepped(world, act, at)
+}
+
+// After a call that ended in a fault the next one is answered as ever.
+fn goes_on(alloc: Global, world: &mut Failing) -> Result<bool, CoreError> {
+    let jobs = world.jobs();
+    let answer = called(world, letter(alloc, 0, "v")?, NOW)?;
+    Ok(jobs == 1 && answer == Delivered && has_names(world, Place::New, "v"))
+}
+
+/// Whether an act, in one call or by its steps, is answered as it should be, and leaves these names.
+pub(super) fn acts(
+    alloc: Global,
+    world: &mut Failing,
+    act: Act,
+    at: u64,
+    is_called: bool,
 ) -> Result<bool, CoreError> {
-    match failing(alloc, files_of(act), at) {
-        Ok(mut world) => acts_in(rt, alloc, &mut world, act, row),
-        Err(error) => Err(error),
+    let (answer, effects, tmp, new, cur) = end(act, at);
+    let is_right = answered(alloc, world, act, at, is_called)? == Some(answer)
+        && has_names(world, Tmp, tmp)
+        && has_names(world, New, new)
+        && has_names(world, Cur, cur)
+        && world.effects().len() == effects;
+    if answer == Answer::Fault {
+        return Ok(is_right && goes_on(alloc, world)?);
     }
+    Ok(is_right)
 }
 
-// A call that lacks memory counts as well, so a row begins anew where one was refused.
-fn acts(rt: &impl Abort, alloc: Global, act: Act, at: u64, row: &str) -> bool {
-    match acts_once(rt, alloc, act, at, row) {
-        Ok(is_right) => is_right,
-        Err(_) => acts_once(rt, alloc, act, at, row) == Ok(true),
-    }
-}
-
-// Plays all rows of an act.
-fn acts_by_rows(rt: &impl Abort, alloc: Global, act: Act, rows: &str) {
-    for (at, row) in rows.split('%').enumerate() {
-        assert!(rt; acts(rt, alloc, act, at as u64 + 1, row), "{row}");
+// Plays an act where its first, second, .. call fails, and at last where none does.
+fn acts_up_to(rt: &impl Abort, alloc: Global, act: Act, most: u64) {
+    for at in 1..=most {
+        plays(rt, alloc, Scene::Steps(act, at));
+        plays(rt, alloc, Scene::Call(act, at));
     }
 }
 
 #[test]
 fn a_fault_undoes_a_delivery_or_leaves_it_delivered(rt: HostRuntime) {
-    acts_by_rows(&rt, rt.alloc(), Act::Deliver, DELIVERIES);
+    acts_up_to(&rt, rt.alloc(), Act::Deliver, 6);
 }
 
 #[test]
 fn a_fault_leaves_the_flags(rt: HostRuntime) {
-    acts_by_rows(&rt, rt.alloc(), Act::Flag, FLAGS);
+    acts_up_to(&rt, rt.alloc(), Act::Flag, 3);
 }
 
 #[test]
 fn a_fault_ends_a_clean(rt: HostRuntime) {
-    acts_by_rows(&rt, rt.alloc(), Act::Clean, CLEANS);
+    acts_up_to(&rt, rt.alloc(), Act::Clean, 4);
+}
+
+#[test]
+fn a_fault_alone_is_a_fault(rt: HostRuntime) {
+    assert!(rt;
+        DirReply::Fault.is_fault()
+            && !DirReply::Ok.is_fault()
+            && !DirReply::Exists.is_fault()
+            && !DirReply::NotFound.is_fault()
+    );
 }

@@ -1,165 +1,70 @@
-// Names that no script can write, and directories that are given back. Which others a world may begin with, and what it finds in them, is
-// in crates/examples/data/. The bytes of each file are its name.
+// Directories that a world is given, and that come back where it refuses them.
+use super::BODY;
 use super::scene::{Scene, plays};
-use super::{copied, delivery, step, submitted};
-use md_core::{Call, CoreError, World};
-use md_dirs::{Bytes, DirError, Dirs, ImageFile, Path, Place, PlainDirs};
-use std::alloc::{AllocError, Global};
-use std::process::Abort;
+use md_core::{CoreError, LoadRefused, World};
+use md_dirs::{Bytes, DirError, Dirs, Path, Place, PlainDirs};
+use std::alloc::Global;
 
-/// A file by its folder, its place, its name and its stamp.
-pub(super) type Named<'a> = (u32, Place, &'a [u8], u64);
+// A name with a line feed, which no line of a script can have. Other bad names are loaded by tools/tests/ffi.
+const BAD: &str = "a\n";
 
-// Directories of two folders.
-fn built(alloc: Global, files: &[Named<'_>]) -> Result<PlainDirs, DirError> {
-    let mut image = Vec::new(alloc);
-    for (folder, place, name, stamp) in files {
-        let path = Path {
-            folder: *folder,
-            place: *place,
-            name: Bytes::copied(alloc, name)?,
-        };
-        image.push(ImageFile {
-            path,
-            bytes: Bytes::copied(alloc, name)?,
-            stamp: *stamp,
-        })?;
-    }
-    PlainDirs::from_image(alloc, 2, image)
-}
-
-pub(super) fn directories(alloc: Global, files: &[Named<'_>]) -> Result<PlainDirs, DirError> {
-    match built(alloc, files) {
-        Err(DirError::NoMemory) => built(alloc, files),
-        made => made,
-    }
-}
-
-/// A world of these files in two folders.
-pub(super) fn world_of(alloc: Global, files: &[Named<'_>]) -> Result<World<PlainDirs>, CoreError> {
-    match directories(alloc, files) {
-        Ok(dirs) => super::load(alloc, dirs),
-        Err(_) => Err(CoreError::NoMemory),
-    }
-}
-
-// How many of the first rows of a directory are there.
-fn count(dirs: &PlainDirs, folder: u32, place: Place, most: usize) -> usize {
-    let mut count = 0usize;
-    for at in 0..most {
-        if dirs.row_at(folder, place, at).is_some() {
-            count = count.saturating_add(1);
-        }
-    }
-    count
-}
-
-// How many rows there are in a folder.
-fn count_in(dirs: &PlainDirs, folder: u32, most: usize) -> usize {
-    count(dirs, folder, Place::Tmp, most)
-        .saturating_add(count(dirs, folder, Place::New, most))
-        .saturating_add(count(dirs, folder, Place::Cur, most))
-}
-
-// Whether directories hold these files and no other.
-fn holds(dirs: &PlainDirs, files: &[Named<'_>]) -> bool {
-    for (folder, place, name, _) in files {
-        if dirs.read(*folder, *place, name) != Some(*name) {
-            return false;
-        }
-    }
-    let most = files.len();
-    count_in(dirs, 0, most).saturating_add(count_in(dirs, 1, most)) == most
-}
-
-// Loads directories, and once more where a growth was refused. After each refusal the directories are the same.
-fn load(
-    rt: &impl Abort,
-    alloc: Global,
-    dirs: PlainDirs,
-    files: &[Named<'_>],
-) -> Result<World<PlainDirs>, CoreError> {
-    match World::load(alloc, dirs) {
-        Ok(world) => Ok(world),
-        Err(refused) => {
-            assert!(rt; holds(&refused.dirs, files));
-            super::load(alloc, refused.dirs)
-        }
-    }
-}
-
-// Whether directories of one file of folder 0 are refused for its name.
-fn is_refused(rt: &impl Abort, alloc: Global, place: Place, name: &[u8]) -> bool {
-    let files: [Named<'_>; 1] = [(0, place, name, 0)];
-    match directories(alloc, &files) {
-        Ok(dirs) => load(rt, alloc, dirs, &files).err() == Some(CoreError::BadName),
-        Err(_) => false,
-    }
-}
-
-static SEPARATED: &str = "a/b|\0|a\n|\ra|u:2,/";
-
-// Whether a name is bad in each place.
-fn is_bad(rt: &impl Abort, alloc: Global, name: &[u8]) -> bool {
-    is_refused(rt, alloc, Place::Tmp, name)
-        && is_refused(rt, alloc, Place::New, name)
-        && is_refused(rt, alloc, Place::Cur, name)
-}
-
-#[test]
-fn names_have_no_separator(rt: HostRuntime) {
-    for name in SEPARATED.split('|') {
-        assert!(rt; is_bad(&rt, rt.alloc(), name.as_bytes()), "{name:?}");
-    }
-}
-
-/// Directories of a message are taken, and what it reads is its bytes.
-pub(super) fn is_read(world: &World<PlainDirs>) -> bool {
-    world.read(b"\xff\xfe") == Some(b"\xff\xfe:2,S".as_slice())
-        && world.read(b"\xff") == None
-        && world.read(b"") == None
-}
-
-/// A world of a message under a name of any bytes.
-pub(super) fn world_of_bytes(
-    rt: &impl Abort,
-    alloc: Global,
-) -> Result<World<PlainDirs>, CoreError> {
-    let files: [Named<'_>; 1] = [(1, Place::Cur, b"\xff\xfe:2,S", 0)];
-    match directories(alloc, &files) {
-        Ok(dirs) => load(rt, alloc, dirs, &files),
-        Err(_) => Err(CoreError::NoMemory),
-    }
-}
-
-#[test]
-fn a_name_of_any_bytes_is_read(rt: HostRuntime) {
-    plays(&rt, rt.alloc(), Scene::AnyBytes);
-}
-
-fn empty(alloc: Global) -> Result<Call, AllocError> {
-    delivery(alloc, 0, b"u", copied(alloc, b"")?, 1)
-}
-
-/// The stamp of the first file of tmp of folder 0, once a delivery began at this moment.
-pub(super) fn stamp_at(
-    rt: &impl Abort,
-    alloc: Global,
-    world: &mut World<PlainDirs>,
-    now: u64,
-) -> Option<u64> {
-    let Ok(job) = submitted(rt, world, empty(alloc)) else {
-        return None;
+// Adds a file, stamped at 0.
+fn add(alloc: Global, dirs: &mut PlainDirs, place: Place, name: &str) -> Result<(), DirError> {
+    let path = Path {
+        folder: 0,
+        place,
+        name: Bytes::copied(alloc, name.as_bytes())?,
     };
-    if step(rt, world, job, now).is_err() {
-        return None;
-    }
-    stamp(world)
+    dirs.create(&path, 0)?;
+    dirs.append(&path, BODY, 0)
 }
 
-fn stamp(world: &World<PlainDirs>) -> Option<u64> {
-    match world.names(0, Place::Tmp, 0) {
-        Some(row) => Some(row.stamp),
-        None => None,
+/// Directories of one folder, with files of these names, between spaces, in one place.
+pub(super) fn directories(
+    alloc: Global,
+    place: Place,
+    names: &str,
+) -> Result<PlainDirs, CoreError> {
+    let mut dirs = PlainDirs::new(alloc, 1);
+    let mut is_made = true;
+    for name in names.split(' ') {
+        is_made &= name.is_empty() || add(alloc, &mut dirs, place, name).is_ok();
     }
+    if is_made {
+        Ok(dirs)
+    } else {
+        Err(CoreError::NoMemory)
+    }
+}
+
+// Whether directories come back with their file and no other.
+fn is_same(dirs: &PlainDirs, place: Place) -> bool {
+    let count = dirs
+        .count(0, Place::Tmp)
+        .saturating_add(dirs.count(0, Place::New))
+        .saturating_add(dirs.count(0, Place::Cur));
+    count == 1 && dirs.read(0, place, BAD.as_bytes()) == Some(BODY)
+}
+
+fn is_bad(refused: &LoadRefused<PlainDirs>, place: Place) -> Result<bool, CoreError> {
+    let is_same = is_same(&refused.dirs, place);
+    match refused.error {
+        CoreError::NoMemory if is_same => Err(CoreError::NoMemory),
+        error => Ok(is_same && error == CoreError::BadName),
+    }
+}
+
+/// Whether directories of one file are refused for its name, and come back.
+pub(super) fn is_refused(alloc: Global, place: Place) -> Result<bool, CoreError> {
+    match World::load(alloc, directories(alloc, place, BAD)?).err() {
+        Some(refused) => is_bad(&refused, place),
+        None => Ok(false),
+    }
+}
+
+#[test]
+fn names_have_no_line_feed(rt: HostRuntime) {
+    plays(&rt, rt.alloc(), Scene::BadName(Place::Tmp));
+    plays(&rt, rt.alloc(), Scene::BadName(Place::New));
+    plays(&rt, rt.alloc(), Scene::BadName(Place::Cur));
 }

@@ -1,12 +1,9 @@
-// Worked runs of one delivery.
-use super::scene::{Scene, plays};
-use super::{BODY, NAME, has_names, run, step};
-use DirCall::{Append, Create, Link, Unlink};
-use md_core::{
-    Answer, Change, CoreError, DirCall, DirReply, Effect, Event, RunStop, StepOut, World,
-};
-use md_dirs::{Place, PlainDirs};
-use std::process::Abort;
+// Runs of events, and a call that comes back.
+use super::scene::{Failing, Scene, plays};
+use super::{NOW, has_names, letter, submitted};
+use md_core::{Answer, Call, CallError, Change, CoreError, Effect, Event, RunStop};
+use md_dirs::Place;
+use std::alloc::Global;
 
 // A step of job 1, by the clock.
 const EVENT: Event = Event {
@@ -17,98 +14,87 @@ const EVENT: Event = Event {
 
 static EVENTS: [Event; 6] = [EVENT; 6];
 
-fn is_the_effect(effect: &Effect) -> bool {
+fn is_delivery(effect: &Effect) -> bool {
     let is_add = match &effect.change {
         Change::Add {
             folder,
             place: Place::New,
             name,
             size,
-        } => { *folder == 0 && name.as_slice() == NAME && *size == BODY.len() as u64 }
+        } => *folder == 0 && name.as_slice() == b"u".as_slice() && *size == 6,
         _ => false,
     };
     effect.job == 1 && effect.answer == Answer::Delivered && is_add
 }
 
-// Whether a step makes this call, and has this answer and effect.
-fn is_step(
-    rt: &impl Abort,
-    world: &mut World<PlainDirs>,
-    call: DirCall,
-    answer: Option<Answer>,
-    effect: bool,
-) -> bool {
-    let reply = DirReply::Ok;
-    let want = StepOut {
-        call,
-        reply,
-        answer,
-        effect,
-    };
-    step(rt, world, 1, 1) == Ok(want) && world.answer(1) == answer
-}
-
-pub(super) fn takes_five_steps(rt: &impl Abort, world: &mut World<PlainDirs>) -> bool {
-    is_step(rt, world, Create, None, false)
-        && is_step(rt, world, Append(4), None, false)
-        && is_step(rt, world, Append(2), None, false)
-        && is_step(rt, world, Link, None, true)
-        && is_step(rt, world, Unlink, Some(Answer::Delivered), false)
-}
-
-#[test]
-fn a_delivery_takes_five_steps(rt: HostRuntime) {
-    plays(&rt, rt.alloc(), Scene::FiveSteps);
-}
-
-/// A run of so many steps of one delivery stops at the sixth.
-pub(super) fn stops(rt: &impl Abort, world: &mut World<PlainDirs>, count: usize) -> bool {
-    let refused = RunStop {
-        at: 5,
-        error: CoreError::Answered,
-    };
-    assert!(rt; count <= EVENTS.len());
-    run(rt, world, &EVENTS[..count]) == (count == 6).then_some(refused) && has_run(world)
+fn is_one_delivery(effects: &[Effect]) -> bool {
+    effects.len() == 1 && is_delivery(&effects[0])
 }
 
 // Whether a world has taken the five steps of its delivery.
-fn has_run(world: &World<PlainDirs>) -> bool {
+fn has_run(world: &Failing) -> bool {
     world.log() == &EVENTS[..5]
-        && has_one_effect(world.effects())
-        && has_names(world, 0, Place::New, &[(NAME, 6)])
-        && has_names(world, 0, Place::Tmp, &[])
+        && is_one_delivery(world.effects())
+        && has_names(world, Place::New, "u")
+        && has_names(world, Place::Tmp, "")
         && world.jobs() == 1
         && world.folders() == 1
 }
 
-fn has_one_effect(effects: &[Effect]) -> bool {
-    effects.len() == 1 && is_the_effect(&effects[0])
+// Whether a run is refused at its sixth event. A step that lacks memory leaves the log, the effects and the answer: the fourth is the effect.
+fn is_stopped(world: &Failing, stop: RunStop) -> Result<bool, CoreError> {
+    let is_kept = world.log().len() == stop.at && world.effects().len() == usize::from(stop.at > 3);
+    match stop.error {
+        CoreError::Answered => Ok(is_kept && stop.at == 5 && has_run(world)),
+        CoreError::NoMemory if is_kept && world.answer(1).is_none() => Err(CoreError::NoMemory),
+        _ => Ok(false),
+    }
+}
+
+/// A run of so many events of one delivery stops at the sixth.
+pub(super) fn stops(alloc: Global, world: &mut Failing, count: usize) -> Result<bool, CoreError> {
+    submitted(world, letter(alloc, 0, "u")?)?;
+    let is_whole = count == 5;
+    match world.run(if is_whole { &EVENTS[..5] } else { &EVENTS }) {
+        Ok(()) => Ok(is_whole && has_run(world)),
+        Err(stop) => Ok(is_stopped(world, stop)? && !is_whole),
+    }
 }
 
 #[test]
 fn a_run_stops_at_its_first_refusal(rt: HostRuntime) {
-    plays(&rt, rt.alloc(), Scene::FiveEvents);
-    plays(&rt, rt.alloc(), Scene::SixEvents);
+    plays(&rt, rt.alloc(), Scene::Run(5));
+    plays(&rt, rt.alloc(), Scene::Run(6));
 }
 
-// Whether a step of a job is refused so.
-fn refuses(rt: &impl Abort, world: &mut World<PlainDirs>, job: u64, error: CoreError) -> bool {
-    step(rt, world, job, 1) == Err(error)
+// Whether a call is in its refusal, as it was made.
+fn is_given_back(error: &CallError) -> bool {
+    match error {
+        CallError::Refused(refused) => {
+            refused.error == CoreError::NoFolder
+                && matches!(
+                    refused.call,
+                    Call::Deliver {
+                        folder: 2,
+                        chunk: 4,
+                        ..
+                    }
+                )
+        }
+        CallError::NoMemory { .. } => false,
+    }
 }
 
-fn lacks(rt: &impl Abort, world: &mut World<PlainDirs>, job: u64) -> bool {
-    refuses(rt, world, job, CoreError::NoJob) && world.answer(job).is_none()
-}
-
-pub(super) fn refuses_steps(rt: &impl Abort, world: &mut World<PlainDirs>) -> bool {
-    lacks(rt, world, 0)
-        && lacks(rt, world, 2)
-        && lacks(rt, world, u64::MAX)
-        && run(rt, world, &EVENTS[..5]).is_none()
-        && refuses(rt, world, 1, CoreError::Answered)
+/// A call that is refused, and comes back.
+pub(super) fn gives_back(alloc: Global, world: &mut Failing) -> Result<bool, CoreError> {
+    let is_back = match world.call(letter(alloc, 2, "u")?, NOW, None).err() {
+        Some(error) => is_given_back(&error),
+        None => false,
+    };
+    Ok(is_back && world.jobs() == 0 && world.log().is_empty())
 }
 
 #[test]
-fn a_step_wants_a_job_without_an_answer(rt: HostRuntime) {
-    plays(&rt, rt.alloc(), Scene::RefusedSteps);
+fn a_refused_call_comes_back(rt: HostRuntime) {
+    plays(&rt, rt.alloc(), Scene::Refused);
 }

@@ -1,72 +1,77 @@
 // Makes a world for a scene, and lends it. So it is let go in one place alone.
-use super::calls::{are_told, begins_anew, cleaned, gives_back, world_of_two};
-use super::loads::{is_read, world_of_bytes};
-use super::memory::leaves_the_clock;
-use super::runs::{refuses_steps, stops, takes_five_steps};
-use super::small::may_cross;
-use super::submits::{are_refused, is_full};
-use super::{load, plain_delivery};
+use super::ends::{Next, begins_again};
+use super::faults::{Act, acts};
+use super::loads::{directories, is_refused};
+use super::runs::{gives_back, stops};
+use super::texts::{are_told, refusals_are_told};
+use super::{are_right, load};
 use md_core::{CoreError, World};
-use md_dirs::PlainDirs;
+use md_dirs::{FailAt, Place, PlainDirs};
 use std::alloc::Global;
 use std::process::Abort;
 
-// What a test does with a world.
+/// A world over directories of which one call may fail.
+pub(super) type Failing = World<FailAt<PlainDirs>>;
+
+/// What is played.
 #[derive(Clone, Copy)]
 pub(super) enum Scene {
-    RefusedCall,
-    CallErrors,
-    NewWorld,
-    FullWorld,
-    Deliveries,
-    Clock,
-    FiveSteps,
-    FiveEvents,
-    SixEvents,
-    RefusedSteps,
-    AnyBytes,
-    Crossing,
+    /// An act of which the call at a number fails, by its steps.
+    Steps(Act, u64),
+    /// The same in one call.
+    Call(Act, u64),
+    /// A run of so many steps.
+    Run(usize),
+    /// A call that is refused.
+    Refused,
+    /// A world that ends, and goes on so, with this clock.
+    End(Next, u64),
+    /// A name that is refused, in a place.
+    BadName(Place),
+    /// The texts of errors.
+    Texts,
+    /// Those of refused calls and settles.
+    Refusals,
 }
 
-fn begun(rt: &impl Abort, alloc: Global, scene: Scene) -> Result<World<PlainDirs>, CoreError> {
+// Of an act the files at its beginning.
+fn files_of(act: Act) -> (Place, &'static str) {
+    match act {
+        Act::Deliver => (Place::Tmp, ""),
+        Act::Flag => (Place::Cur, "u:2,S"),
+        Act::Clean => (Place::Tmp, "x y"),
+    }
+}
+
+fn is_played_in(alloc: Global, world: &mut Failing, scene: Scene) -> Result<bool, CoreError> {
     match scene {
-        Scene::RefusedCall | Scene::CallErrors => world_of_two(alloc),
-        Scene::AnyBytes => world_of_bytes(rt, alloc),
-        Scene::NewWorld => load(alloc, cleaned(rt, alloc)?),
-        Scene::FullWorld => load(alloc, PlainDirs::new(alloc, 1)),
-        _ => plain_delivery(rt, alloc),
+        Scene::Steps(act, at) => acts(alloc, world, act, at, false),
+        Scene::Call(act, at) => acts(alloc, world, act, at, true),
+        Scene::Run(count) => stops(alloc, world, count),
+        _ => gives_back(alloc, world),
     }
 }
 
-fn is_played_in(
-    rt: &impl Abort,
-    alloc: Global,
-    world: &mut World<PlainDirs>,
-    scene: Scene,
-) -> bool {
+// Plays a scene over the files of an act, where the call at a number fails.
+fn is_played_over(alloc: Global, scene: Scene, act: Act, at: u64) -> Result<bool, CoreError> {
+    let (place, names) = files_of(act);
+    let dirs = directories(alloc, place, names)?;
+    let mut world = load(alloc, FailAt::new(dirs, at))?;
+    is_played_in(alloc, &mut world, scene)
+}
+
+fn is_played(alloc: Global, scene: Scene) -> Result<bool, CoreError> {
     match scene {
-        Scene::RefusedCall => gives_back(alloc, world),
-        Scene::CallErrors => are_told(alloc, world),
-        Scene::NewWorld => begins_anew(rt, alloc, world),
-        Scene::FullWorld => is_full(rt, alloc, world),
-        Scene::Deliveries => are_refused(rt, alloc, world),
-        Scene::Clock => leaves_the_clock(rt, alloc, world),
-        Scene::FiveSteps => takes_five_steps(rt, world),
-        Scene::FiveEvents => stops(rt, world, 5),
-        Scene::SixEvents => stops(rt, world, 6),
-        Scene::RefusedSteps => refuses_steps(rt, world),
-        Scene::AnyBytes => is_read(world),
-        Scene::Crossing => may_cross(world),
+        Scene::Steps(act, at) | Scene::Call(act, at) => is_played_over(alloc, scene, act, at),
+        Scene::Run(_) | Scene::Refused => is_played_over(alloc, scene, Act::Deliver, 0),
+        Scene::End(next, clock) => begins_again(alloc, next, clock),
+        Scene::BadName(place) => is_refused(alloc, place),
+        Scene::Texts => are_told(alloc),
+        Scene::Refusals => refusals_are_told(alloc),
     }
 }
 
-fn is_played(rt: &impl Abort, alloc: Global, scene: Scene) -> bool {
-    match begun(rt, alloc, scene) {
-        Ok(mut world) => is_played_in(rt, alloc, &mut world, scene),
-        Err(_) => false,
-    }
-}
-
+/// Plays a scene twice.
 pub(super) fn plays(rt: &impl Abort, alloc: Global, scene: Scene) {
-    assert!(rt; is_played(rt, alloc, scene));
+    are_right(rt, is_played(alloc, scene), is_played(alloc, scene));
 }

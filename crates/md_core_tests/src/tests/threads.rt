@@ -1,94 +1,64 @@
-// Worlds that cross threads, alone and inside a lock, over directories of md_dirs and over a wrapper of them.
-use super::{copied, delivery, has_names, load, submitted};
-use md_core::{Answer, Call, CoreError, JobId, World};
-use md_dirs::{Dirs, FailAt, Place, PlainDirs};
-use std::alloc::{AllocError, Global};
-use std::process::Abort;
+// A world that crosses threads, alone and inside a lock.
+use super::{NOW, are_right, has_names, letter, load, submitted};
+use md_core::{Call, CoreError, Effect, JobId, World};
+use md_dirs::{FailAt, Place, PlainDirs};
+use std::alloc::Global;
 use std::sync::{Mutex, Wait};
 use std::thread;
 use std::thread::Threads;
 
-// Of this wrapper no call fails.
-type Wrapped = FailAt<PlainDirs>;
+// Directories of md_dirs in a wrapper, of which no call fails.
+type Wrapped = World<FailAt<PlainDirs>>;
 
-fn wrapped(alloc: Global) -> Wrapped {
-    FailAt::new(PlainDirs::new(alloc, 1), 0)
+fn may_cross<T: Send>() {}
+
+// Submits two deliveries, of five steps each.
+fn submit_two(alloc: Global, world: &mut Wrapped) -> Result<(), CoreError> {
+    submitted(world, letter(alloc, 0, "a")?)?;
+    submitted(world, letter(alloc, 0, "b")?)
 }
 
-// Two deliveries of one byte, of four steps each.
-fn two_deliveries<D: Dirs + Drop>(
-    rt: &impl Abort,
-    alloc: Global,
-    dirs: D,
-) -> Result<World<D>, CoreError> {
-    let mut world = load(alloc, dirs)?;
-    assert!(rt; delivers(rt, alloc, &mut world, b"a") && delivers(rt, alloc, &mut world, b"b"));
-    Ok(world)
-}
-
-fn one_byte(alloc: Global, unique: &[u8]) -> Result<Call, AllocError> {
-    delivery(alloc, 0, unique, copied(alloc, b"x")?, 4)
-}
-
-fn delivers<D: Dirs>(rt: &impl Abort, alloc: Global, world: &mut World<D>, unique: &[u8]) -> bool {
-    submitted(rt, world, one_byte(alloc, unique)).is_ok()
-}
-
-// Takes the steps of both jobs, one of them once more where it found no memory.
-fn finished<D: Dirs>(mut world: World<D>) -> World<D> {
-    for job in [1, 1, 1, 1, 1, 2, 2, 2, 2, 2] {
-        let _step = world.step(job, 1, None);
-    }
+// Takes the first step of each job.
+fn begun(mut world: Wrapped) -> Wrapped {
+    let _one = world.step(1, NOW, None);
+    let _two = world.step(2, NOW, None);
     world
 }
 
-fn both_are_there<D: Dirs>(world: &World<D>) -> bool {
-    has_names(world, 0, Place::New, &[(b"a", 1), (b"b", 1)]) && has_names(world, 0, Place::Tmp, &[])
+fn step_behind(rt: &impl Wait, lock: &Mutex<Wrapped>, job: JobId) {
+    let _step = lock.lock(rt).step(job, NOW, None);
 }
 
-fn step_behind(rt: &impl Wait, lock: &Mutex<World<Wrapped>>, job: JobId) {
-    let _step = lock.lock(rt).step(job, 1, None);
-}
-
-fn finished_behind(rt: &impl Wait, lock: &Mutex<World<Wrapped>>, job: JobId) -> Option<Answer> {
-    for _ in 0..5 {
+// Takes the other steps of a job, of which one may lack memory.
+fn finish_behind(rt: &impl Wait, lock: &Mutex<Wrapped>, job: JobId) {
+    for _ in 0..6 {
         step_behind(rt, lock, job);
     }
-    lock.lock(rt).answer(job)
 }
 
-fn step_by_turns<R: Threads + Wait + Abort + Sync>(rt: &R, lock: &Mutex<World<Wrapped>>) {
-    let (one, two) = thread::join(
-        rt,
-        || finished_behind(rt, lock, 1),
-        || finished_behind(rt, lock, 2),
-    );
-    assert!(rt; one == Some(Answer::Delivered) && two == Some(Answer::Delivered));
+fn are_delivered(world: &Wrapped) -> bool {
+    has_names(world, Place::New, "a b") && has_names(world, Place::Tmp, "")
 }
 
-fn goes_and_returns<R: Threads + Wait + Sync>(rt: &R, world: World<PlainDirs>) -> bool {
-    let ((), world) = thread::join(rt, || (), move || finished(world));
-    both_are_there(&world)
-}
-
-#[test]
-fn a_world_goes_to_a_thread_and_back(rt: HostRuntime) {
-    match two_deliveries(&rt, rt.alloc(), PlainDirs::new(rt.alloc(), 1)) {
-        Ok(world) => assert!(rt; goes_and_returns(&rt, world)),
-        Err(_) => panic!(rt; "no world"),
-    }
-}
-
-fn stands_behind_a_lock<R: Threads + Wait + Abort + Sync>(rt: &R, world: World<Wrapped>) -> bool {
+// Whether a world goes to a thread and back, and is then stepped on by two threads, inside a lock.
+fn crosses<R: Threads + Wait + Sync>(rt: &R, alloc: Global) -> Result<bool, CoreError> {
+    let mut world = load(alloc, FailAt::new(PlainDirs::new(alloc, 1), 0))?;
+    let submitted = submit_two(alloc, &mut world);
+    let ((), world) = thread::join(rt, || (), move || begun(world));
     let lock = Mutex::new(world);
-    step_by_turns(rt, &lock);
-    both_are_there(&lock.into_inner())
+    let ((), ()) = thread::join(
+        rt,
+        || finish_behind(rt, &lock, 1),
+        || finish_behind(rt, &lock, 2),
+    );
+    let are_delivered = are_delivered(&lock.into_inner());
+    submitted.and(Ok(are_delivered))
 }
 
+// Its calls and its effects may cross too.
 #[test]
-fn a_world_stands_behind_a_lock(rt: HostRuntime) {
-    match two_deliveries(&rt, rt.alloc(), wrapped(rt.alloc())) {
-        Ok(world) => assert!(rt; stands_behind_a_lock(&rt, world)),
-        Err(_) => panic!(rt; "no world"),
-    }
+fn a_world_crosses_threads_alone_and_inside_a_lock(rt: HostRuntime) {
+    may_cross::<Call>();
+    may_cross::<Effect>();
+    are_right(&rt, crosses(&rt, rt.alloc()), crosses(&rt, rt.alloc()));
 }
