@@ -1,16 +1,14 @@
 // What no clause says: that threads that step and list meet, that a listing enters anew, and each refusal once.
-mod calls;
-mod caught;
+mod acts;
+mod alone;
 mod crowd;
 mod fixtures;
 mod gated;
-mod halves;
-mod later;
 mod locked;
+mod memory;
+mod passes;
 mod scene;
-mod seen;
-mod sent;
-mod small;
+mod stages;
 mod stampede;
 mod threads;
 mod tickets;

@@ -1,34 +1,24 @@
 // The stampede, as a test: a short one.
 use super::scene::{Plan, Scene, stage};
 use super::stampede::{Stampede, THREADS, image};
-use md_dirs::ImageFile;
 use std::alloc::Global;
 use std::process::Abort;
 use std::sync::Wait;
 use std::thread::Threads;
 
-fn is_played<R: Threads + Wait + Abort + Sync>(
-    rt: &R,
-    alloc: Global,
-    stampede: &Stampede,
-    image: Vec<ImageFile>,
-) -> bool {
-    let plan = Plan {
-        scene: Scene::Stampede(stampede),
-        folders: 2,
-        passes: THREADS,
-        files: "",
-        calls: "",
-        wanted: (0, 0, 0),
-    };
-    stage(rt, alloc, &plan, image) == Some(None)
-}
-
 fn is_run<R: Threads + Wait + Abort + Sync>(rt: &R, alloc: Global) -> bool {
     match image(alloc) {
         Ok(image) => {
             let stampede = Stampede::new(alloc, &image, 0, 128);
-            is_played(rt, alloc, &stampede, image)
+            let plan = Plan {
+                scene: Scene::Stampede(&stampede),
+                folders: 2,
+                passes: THREADS,
+                files: "",
+                calls: "",
+                wanted: (0, 0, 0),
+            };
+            stage(rt, alloc, &plan, image) == Some(None)
         }
         Err(_) => false,
     }

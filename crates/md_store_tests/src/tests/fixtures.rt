@@ -7,12 +7,34 @@ use md_view::Entry;
 use std::alloc::{AllocError, Global};
 use std::sync::Wait;
 
-// How a delivery ends that its pass was told of.
-pub const DELIVERED: (Option<Answer>, News) = (Some(Answer::Delivered), News::Told);
+// The words of a row up to the first blank, and those after it.
+pub fn cut(row: &str) -> (&str, &str) {
+    row.split_once(' ').unwrap_or((row, ""))
+}
 
-// The delivery of a message of one byte, written in one piece.
-pub fn delivered(alloc: Global, folder: u32, unique: Bytes) -> Result<Call, AllocError> {
-    let body = Bytes::copied(alloc, b"x")?;
+// The number of a word.
+pub fn number(word: &str) -> u64 {
+    word.parse().unwrap_or(0)
+}
+
+// The call of a row: what it does, the unique name of its message, the flags that it adds or removes or the body of a delivery, and the fresh
+// name of a copy. A delivery writes pieces of four bytes: it takes four steps, and one more for each further piece.
+pub fn call(alloc: Global, folder: u32, row: &str) -> Result<Call, AllocError> {
+    let (kind, rest) = cut(row);
+    let (name, more) = cut(rest);
+    let (word, fresh) = cut(more);
+    let unique = Bytes::copied(alloc, name.as_bytes())?;
+    match kind {
+        "deliver" => delivery(alloc, folder, unique, word),
+        "copy" => copy(alloc, folder, unique, fresh),
+        _ => Ok(change(kind, folder, unique, word)),
+    }
+}
+
+// The delivery of a body, which is of one byte where none is given.
+fn delivery(alloc: Global, folder: u32, unique: Bytes, body: &str) -> Result<Call, AllocError> {
+    let body = if body.is_empty() { "x" } else { body };
+    let body = Bytes::copied(alloc, body.as_bytes())?;
     Ok(Call::Deliver {
         folder,
         unique,
@@ -21,75 +43,70 @@ pub fn delivered(alloc: Global, folder: u32, unique: Bytes) -> Result<Call, Allo
     })
 }
 
-// The same, by its name: it takes four steps.
-pub fn delivery(alloc: Global, unique: &[u8]) -> Result<Call, AllocError> {
-    delivered(alloc, 0, Bytes::copied(alloc, unique)?)
+fn copy(alloc: Global, folder: u32, unique: Bytes, fresh: &str) -> Result<Call, AllocError> {
+    let fresh = Bytes::copied(alloc, fresh.as_bytes())?;
+    Ok(Call::Copy {
+        folder,
+        unique,
+        to: 1 - folder.min(1),
+        fresh,
+        tries: 16,
+    })
 }
 
-// The words of a row up to the first blank, and those after it.
-fn cut(row: &str) -> (&str, &str) {
-    match row.split_once(' ') {
-        Some(parts) => parts,
-        None => (row, ""),
-    }
+// The flags of these letters.
+pub fn flags(letters: &str) -> Flags {
+    Flags::parse(letters.as_bytes()).unwrap_or(Flags::empty())
 }
 
-// The call of a row: what it does, the unique name of its message in folder 0, and the flags that it adds or the fresh name of a copy.
-pub fn call(alloc: Global, row: &str) -> Result<Call, AllocError> {
-    let (kind, rest) = cut(row);
-    let (name, more) = cut(rest);
-    let folder = 0;
-    let unique = Bytes::copied(alloc, name.as_bytes())?;
-    let flags = Flags::parse(more.as_bytes()).unwrap_or(Flags::empty());
-    Ok(match kind {
-        "flag" => Call::Flag {
-            folder,
-            unique,
-            add: flags,
-            remove: Flags::empty(),
-            tries: 16,
-        },
+// The calls that name no second message.
+fn change(kind: &str, folder: u32, unique: Bytes, letters: &str) -> Call {
+    let tries = 16;
+    match kind {
         "seen" => Call::Seen {
             folder,
             unique,
-            flags,
-            tries: 1,
+            flags: flags(letters),
+            tries,
+        },
+        "flag" => Call::Flag {
+            folder,
+            unique,
+            add: flags(letters),
+            remove: Flags::empty(),
+            tries,
+        },
+        "unflag" => Call::Flag {
+            folder,
+            unique,
+            add: Flags::empty(),
+            remove: flags(letters),
+            tries,
+        },
+        "move" => Call::Move {
+            folder,
+            unique,
+            to: 1 - folder.min(1),
+            tries,
         },
         "expunge" => Call::Expunge {
             folder,
             unique,
-            tries: 1,
+            tries,
         },
-        "copy" => Call::Copy {
-            folder,
-            unique,
-            to: 1,
-            fresh: Bytes::copied(alloc, more.as_bytes())?,
-            tries: 1,
-        },
-        _ => delivered(alloc, folder, unique)?,
-    })
-}
-
-// The calls of these rows, between bars.
-pub fn calls(alloc: Global, rows: &str) -> Result<Vec<Call>, AllocError> {
-    let mut calls = Vec::new(alloc);
-    for row in rows.split('|') {
-        if !row.is_empty() {
-            calls.push(call(alloc, row)?)?;
-        }
+        _ => Call::Clean { folder },
     }
-    Ok(calls)
 }
 
-// A message of one byte.
-pub fn file(
-    alloc: Global,
-    folder: u32,
-    place: Place,
-    name: &[u8],
-) -> Result<ImageFile, AllocError> {
-    let name = Bytes::copied(alloc, name)?;
+// A message of one byte, of a row: new or cur, and a name.
+pub fn file(alloc: Global, folder: u32, row: &str) -> Result<ImageFile, AllocError> {
+    let (word, name) = cut(row);
+    let place = if word == "new" {
+        Place::New
+    } else {
+        Place::Cur
+    };
+    let name = Bytes::copied(alloc, name.as_bytes())?;
     let bytes = Bytes::copied(alloc, b"x")?;
     let path = Path {
         folder,
@@ -103,25 +120,19 @@ pub fn file(
     })
 }
 
-// The messages of these rows, between bars: new or cur of folder 0, and a name.
+// The messages of folder 0 of these rows, between bars.
 pub fn files(alloc: Global, rows: &str) -> Result<Vec<ImageFile>, AllocError> {
     let mut image = Vec::new(alloc);
     for row in rows.split('|') {
-        let (place, name) = cut(row);
-        if !name.is_empty() {
-            let place = if place == "new" {
-                Place::New
-            } else {
-                Place::Cur
-            };
-            image.push(file(alloc, 0, place, name.as_bytes())?)?;
+        if !row.is_empty() {
+            image.push(file(alloc, 0, row)?)?;
         }
     }
     Ok(image)
 }
 
 // Makes a step of a job. Its news, or its refusal.
-pub fn news<D: Dirs, J: Naming, R: Wait>(
+pub fn step<D: Dirs, J: Naming, R: Wait>(
     rt: &R,
     store: &Store<D, J>,
     pass: &mut Pass<J>,
@@ -158,63 +169,29 @@ pub fn finish<D: Dirs, J: Naming, R: Wait>(
     (None, news)
 }
 
-// Makes a step of a job, once more where it found no memory.
-pub fn step<D: Dirs, J: Naming, R: Wait>(
-    rt: &R,
-    store: &Store<D, J>,
-    pass: &mut Pass<J>,
-    job: JobId,
-) -> Option<News> {
-    match news(rt, store, pass, job) {
-        Err(CoreError::NoMemory) => news(rt, store, pass, job).ok(),
-        made => made.ok(),
-    }
-}
-
-// Whether a listing shows a message of this file name.
-pub fn shows(listing: &[Entry], name: &[u8]) -> bool {
+// Whether a listing shows a message of this file name, with one byte.
+fn shows(listing: &[Entry], name: &str) -> bool {
     for entry in listing {
-        if entry.name.as_slice() == name && entry.size == 1 {
+        if entry.name.as_slice() == name.as_bytes() && entry.size == 1 {
             return true;
         }
     }
     false
 }
 
-// Whether folder 0 is listed with a message of this file name.
-pub fn listed<D: Dirs, J: Naming>(
-    alloc: Global,
-    store: &Store<D, J>,
-    pass: &mut Pass<J>,
-    name: &[u8],
-) -> Result<bool, ListError> {
-    match store.list(alloc, pass, 0) {
-        Ok(entries) => Ok(shows(&entries, name)),
-        Err(error) => Err(error),
-    }
-}
-
-// The same, once more where there was no memory.
-pub fn lists_later<D: Dirs, J: Naming>(
-    alloc: Global,
-    store: &Store<D, J>,
-    pass: &mut Pass<J>,
-    name: &[u8],
-) -> bool {
-    match listed(alloc, store, pass, name) {
-        Err(ListError::NoMemory) => listed(alloc, store, pass, name) == Ok(true),
-        made => made == Ok(true),
-    }
-}
-
-// Whether a listing shows messages of these file names, between which are blanks, and no others.
-fn shows_all(listing: &[Entry], names: &str) -> bool {
+// Whether a listing shows messages of these file names, between which are blanks, and no others, unless the last is `..`.
+pub fn shows_all(listing: &[Entry], names: &str) -> bool {
     let mut count = 0usize;
     for name in names.split(' ') {
-        if !shows(listing, name.as_bytes()) {
-            return false;
+        if name == ".." {
+            return true;
         }
-        count = count.wrapping_add(1);
+        if !name.is_empty() {
+            if !shows(listing, name) {
+                return false;
+            }
+            count = count.wrapping_add(1);
+        }
     }
     count == listing.len()
 }
@@ -226,9 +203,9 @@ pub fn lists<D: Dirs, J: Naming>(
     pass: &mut Pass<J>,
     folder: u32,
     names: &str,
-) -> bool {
+) -> Result<bool, ListError> {
     match store.list(alloc, pass, folder) {
-        Ok(entries) => shows_all(&entries, names),
-        Err(_) => false,
+        Ok(entries) => Ok(shows_all(&entries, names)),
+        Err(error) => Err(error),
     }
 }

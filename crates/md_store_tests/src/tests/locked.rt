@@ -1,29 +1,15 @@
 // A store that is submitted to, stepped and read under one lock.
-use super::fixtures::{delivery, lists};
+use super::fixtures::call;
 use super::gated::Gated;
-use super::scene::{Alone, Plan, Scene, plays};
-use super::small::is_read;
 use md_core::{Answer, JobId};
 use md_store::{Locked, Naming, News, Pass, Store};
 use std::alloc::Global;
 use std::sync::{MutexGuard, Wait};
 
-// Submits the delivery of `a`, and makes its four steps. Whether it was delivered.
-fn delivers<J: Naming, R: Wait>(
-    rt: &R,
-    alloc: Global,
-    locked: &mut Locked<Gated, J>,
-    pass: &mut Pass<J>,
-) -> bool {
-    locked.lags();
-    match submitted(alloc, locked) {
-        Some(job) => is_delivered(rt, locked, pass, job),
-        None => false,
-    }
-}
-
+// Submits the delivery of `a`.
 fn submitted<J: Naming>(alloc: Global, locked: &mut Locked<Gated, J>) -> Option<JobId> {
-    match delivery(alloc, b"a") {
+    locked.lags();
+    match call(alloc, 0, "deliver a") {
         Ok(call) => locked.submit(call).ok(),
         Err(_) => None,
     }
@@ -48,13 +34,6 @@ fn is_delivered<J: Naming, R: Wait>(
     told == 1 && answer == Some(Answer::Delivered)
 }
 
-fn is_a_read<J: Naming>(alloc: Global, locked: &Locked<Gated, J>) -> bool {
-    match locked.read(alloc, b"a") {
-        Ok(read) => is_read(&read, Some(b"x")),
-        Err(_) => false,
-    }
-}
-
 // Whether the bytes of `a` are read, and all is published.
 fn reads<J: Naming, R: Wait>(
     rt: &R,
@@ -62,10 +41,17 @@ fn reads<J: Naming, R: Wait>(
     locked: &mut Locked<Gated, J>,
     pass: &mut Pass<J>,
 ) -> bool {
-    is_a_read(alloc, locked) && locked.catch_up(rt, pass).is_ok() && pass.len() == 1
+    match locked.read(alloc, b"a") {
+        Ok(Some(bytes)) => {
+            bytes.as_slice() == "x".as_bytes()
+                && locked.catch_up(rt, pass).is_ok()
+                && pass.len() == 1
+        }
+        _ => false,
+    }
 }
 
-// Delivers and reads under one lock, and then lists.
+// Delivers and reads under one lock.
 pub fn act_locked<J: Naming, R: Wait>(
     rt: &R,
     alloc: Global,
@@ -73,21 +59,12 @@ pub fn act_locked<J: Naming, R: Wait>(
     pass: &mut Pass<J>,
 ) -> bool {
     let mut guard = store.lock(rt);
-    let is_delivered = delivers(rt, alloc, &mut guard, pass);
-    let is_read = reads(rt, alloc, &mut guard, pass);
-    MutexGuard::unlock(guard);
-    is_delivered && is_read && lists(alloc, store, pass, 0, "a")
-}
-
-#[test]
-fn one_lock_holds_a_whole_delivery(rt: HostRuntime) {
-    let plan = Plan {
-        scene: Scene::Alone(Alone::Locked),
-        folders: 1,
-        passes: 1,
-        files: "",
-        calls: "",
-        wanted: (1, 4, 1),
+    let made = match submitted(alloc, &mut guard) {
+        Some(job) => {
+            is_delivered(rt, &mut guard, pass, job) && reads(rt, alloc, &mut guard, pass)
+        }
+        None => false,
     };
-    plays(&rt, rt.alloc(), &plan);
+    MutexGuard::unlock(guard);
+    made
 }

@@ -1,13 +1,11 @@
 // Sixteen threads of mixed calls over a thousand messages, with listings between them. At the end the log says of each listing that it
-// showed two beginnings of the log, no earlier than those of the listing before nor than the effect that its pass was told of last. So no
-// two passes saw the effects in different orders.
-use super::fixtures::{delivered, file, finish};
+// showed two beginnings of the log, those that its pass held as it read new and then cur, and no earlier than those of the listing before nor
+// than the effect that its pass was told of last. So no two passes saw the effects in different orders.
+use super::fixtures::{call, file, finish};
 use md_core::{Call, Change, Effect, World};
-use md_dirs::{Bytes, Dirs, ImageFile, Place};
-use md_name::Flags;
-use md_replica::Names;
+use md_dirs::{Dirs, ImageFile, Place};
 use md_store::{FirstReading, Naming, News, Pass, Store};
-use md_view::Entry;
+use md_view::{Entry, list};
 use std::alloc::{AllocError, Global};
 use std::sync::atomic::{AtomicU64, Ordering};
 use std::sync::{Mutex, MutexGuard, Wait};
@@ -21,13 +19,22 @@ const MESSAGES: u64 = 1000;
 /// A listing is made after so many calls.
 const CALLS_A_LISTING: u64 = 8;
 
-// What a listing showed, as sums over the names of new and of cur, and the last job of which its pass was told before it.
-#[derive(Clone, Copy)]
+/// What calls do, and the letter of the names that they do it to: a delivery of a name of its own, and all others to any of the messages that
+/// were there first. The rows are as likely as each other.
+const KINDS: &str =
+    "deliver d|deliver d|deliver d|seen m|seen m|seen m|flag m|flag m|flag m|unflag m|unflag m|move m|move m|copy m|\
+expunge m|clean m";
+
+// What a listing showed, as sums over the names of new and of cur; how many effects its pass held as it read new and as it read cur; how many
+// at the end of the listing before, and the last job of which it was told before this one.
+#[derive(Drop)]
 struct Reading {
-    pass: usize,
     folder: u32,
+    before: u64,
     told: u64,
+    at_new: u64,
     new: u64,
+    at_cur: u64,
     cur: u64,
 }
 
@@ -35,10 +42,9 @@ struct Reading {
 type Sums = [u64; 4];
 
 fn sum_number(folder: u32, place: Place) -> usize {
-    match place {
-        Place::Cur => (folder as usize).wrapping_mul(2).wrapping_add(1),
-        _ => (folder as usize).wrapping_mul(2),
-    }
+    (folder as usize)
+        .wrapping_mul(2)
+        .wrapping_add(usize::from(place == Place::Cur))
 }
 
 fn hash(name: &[u8]) -> u64 {
@@ -49,15 +55,9 @@ fn hash(name: &[u8]) -> u64 {
     hash
 }
 
-fn add(sums: &mut Sums, folder: u32, place: Place, name: &[u8]) {
+fn add(sums: &mut Sums, folder: u32, place: Place, amount: u64) {
     if let Some(sum) = sums.get_mut(sum_number(folder, place)) {
-        *sum = sum.wrapping_add(hash(name));
-    }
-}
-
-fn take(sums: &mut Sums, folder: u32, place: Place, name: &[u8]) {
-    if let Some(sum) = sums.get_mut(sum_number(folder, place)) {
-        *sum = sum.wrapping_sub(hash(name));
+        *sum = sum.wrapping_add(amount);
     }
 }
 
@@ -68,7 +68,7 @@ fn change(sums: &mut Sums, change: &Change) {
             place,
             name,
             size: _,
-        } => add(sums, *folder, *place, name.as_slice()),
+        } => add(sums, *folder, *place, hash(name.as_slice())),
         Change::Rename {
             folder,
             place,
@@ -77,14 +77,14 @@ fn change(sums: &mut Sums, change: &Change) {
             to_place,
             to_name,
         } => {
-            take(sums, *folder, *place, name.as_slice());
-            add(sums, *to_folder, *to_place, to_name.as_slice());
+            add(sums, *folder, *place, hash(name.as_slice()).wrapping_neg());
+            add(sums, *to_folder, *to_place, hash(to_name.as_slice()));
         }
         Change::Remove {
             folder,
             place,
             name,
-        } => take(sums, *folder, *place, name.as_slice()),
+        } => add(sums, *folder, *place, hash(name.as_slice()).wrapping_neg()),
         Change::Same => {}
     }
 }
@@ -100,82 +100,65 @@ fn sum(entries: &[Entry], place: Place) -> u64 {
     sum
 }
 
-// A name made of a letter and a number.
-fn name(alloc: Global, letter: &str, number: u64, info: &str) -> Result<Bytes, AllocError> {
-    Ok(Bytes::of(format!(in alloc; "{letter}{number}{info}")?.into_bytes()))
-}
-
 // A number that looks like any other, from this one.
 fn scattered(number: u64) -> u64 {
     let mixed = number.wrapping_add(1).wrapping_mul(0x9e37_79b9_7f4a_7c15);
     (mixed ^ (mixed >> 29)).wrapping_mul(0xbf58_476d_1ce4_e5b9) >> 20
 }
 
-// The call of a number: of seven kinds, for any of the messages that were there first.
-fn call(alloc: Global, number: u64) -> Result<Call, AllocError> {
+// The call of a number: of eight kinds, each over either folder.
+fn numbered(alloc: Global, number: u64) -> Result<Call, AllocError> {
     let any = scattered(number);
-    let folder = (any % 2) as u32;
-    match (any / 2) % 16 {
-        0..3 => delivered(alloc, folder, name(alloc, "d", number, "")?),
-        13 => copy(alloc, folder, any, number),
-        15 => Ok(Call::Clean { folder }),
-        kind => Ok(change_of(kind, folder, message(alloc, any)?)),
+    let kind = KINDS
+        .split('|')
+        .nth(((any / 2) % 16) as usize)
+        .unwrap_or("clean m");
+    let named = if kind == "deliver d" {
+        number
+    } else {
+        (any / 64) % MESSAGES
+    };
+    let row = format!(in alloc; "{kind}{named} T c{number}")?;
+    call(alloc, (any % 2) as u32, &row)
+}
+
+// Submits a call and steps it to its answer. The job, where its effect was told.
+fn make<D: Dirs, J: Naming, R: Wait>(
+    rt: &R,
+    alloc: Global,
+    store: &Store<D, J>,
+    pass: &mut Pass<J>,
+    number: u64,
+) -> Option<u64> {
+    let call = numbered(alloc, number).ok()?;
+    let job = store.submit(rt, call).ok()?;
+    match finish(rt, store, pass, job) {
+        (Some(_), News::Told) => Some(job),
+        _ => None,
     }
 }
 
-// The unique name of any of the messages that were there first.
-fn message(alloc: Global, any: u64) -> Result<Bytes, AllocError> {
-    name(alloc, "m", (any / 64) % MESSAGES, "")
-}
-
-fn copy(alloc: Global, folder: u32, any: u64, number: u64) -> Result<Call, AllocError> {
-    let unique = message(alloc, any)?;
-    let fresh = name(alloc, "c", number, "")?;
-    Ok(Call::Copy {
-        folder,
-        unique,
-        to: 1 - folder.min(1),
-        fresh,
-        tries: 16,
-    })
-}
-
-// The calls that name one message alone.
-fn change_of(kind: u64, folder: u32, unique: Bytes) -> Call {
-    let trashed = Flags::parse(b"T").unwrap_or(Flags::empty());
-    let tries = 16;
-    match kind {
-        3..6 => Call::Seen {
-            folder,
-            unique,
-            flags: trashed,
-            tries,
-        },
-        6..9 => Call::Flag {
-            folder,
-            unique,
-            add: trashed,
-            remove: Flags::empty(),
-            tries,
-        },
-        9..11 => Call::Flag {
-            folder,
-            unique,
-            add: Flags::empty(),
-            remove: trashed,
-            tries,
-        },
-        11..13 => Call::Move {
-            folder,
-            unique,
-            to: 1 - folder.min(1),
-            tries,
-        },
-        _ => Call::Expunge {
-            folder,
-            unique,
-            tries,
-        },
+// Lists the second half of a folder. What both showed.
+fn read_on<D: Dirs, J: Naming>(
+    alloc: Global,
+    store: &Store<D, J>,
+    pass: &mut Pass<J>,
+    first: &FirstReading<J>,
+    before: u64,
+    told: u64,
+) -> Option<Reading> {
+    let at_new = pass.len();
+    match store.second(alloc, pass, first) {
+        Ok(entries) => Some(Reading {
+            folder: first.folder(),
+            before,
+            told,
+            at_new,
+            new: sum(first.entries(), Place::New),
+            at_cur: pass.len(),
+            cur: sum(&entries, Place::Cur),
+        }),
+        Err(_) => None,
     }
 }
 
@@ -188,66 +171,34 @@ pub struct Stampede {
     readings: Mutex<Vec<Reading>>,
 }
 
-// Submits a call.
-fn submitted<D: Dirs, J: Naming, R: Wait>(
-    rt: &R,
-    alloc: Global,
-    store: &Store<D, J>,
-    number: u64,
-) -> Option<u64> {
-    match call(alloc, number) {
-        Ok(call) => store.submit(rt, call).ok(),
-        Err(_) => None,
-    }
-}
-
-// Submits a call and steps it to its answer. The job, where its effect was told.
-fn make<D: Dirs, J: Naming, R: Wait>(
-    rt: &R,
-    alloc: Global,
-    store: &Store<D, J>,
-    pass: &mut Pass<J>,
-    number: u64,
-) -> Option<u64> {
-    let job = submitted(rt, alloc, store, number)?;
-    match finish(rt, store, pass, job) {
-        (Some(_), News::Told) => Some(job),
-        _ => None,
-    }
-}
-
-// Lists the second half of a folder. The sums of both.
-fn read_on<D: Dirs, J: Naming>(
-    alloc: Global,
-    store: &Store<D, J>,
-    pass: &mut Pass<J>,
-    first: &FirstReading<J>,
-) -> Option<(u64, u64)> {
-    match store.second(alloc, pass, first) {
-        Ok(entries) => Some((sum(first.entries(), Place::New), sum(&entries, Place::Cur))),
-        Err(_) => None,
-    }
-}
-
-// Lists a folder in two halves.
-fn read<D: Dirs, J: Naming>(
-    alloc: Global,
-    store: &Store<D, J>,
-    pass: &mut Pass<J>,
-    folder: u32,
-) -> Option<(u64, u64)> {
-    match store.first(alloc, pass, folder) {
-        Ok(first) => read_on(alloc, store, pass, &first),
-        Err(_) => None,
-    }
-}
-
 impl Stampede {
-    // Keeps what a listing showed.
-    fn keep<R: Wait>(&self, rt: &R, reading: Reading) {
+    // Keeps what a listing showed. How many effects its pass held then.
+    fn keep<R: Wait>(&self, rt: &R, reading: Reading) -> u64 {
+        let held = reading.at_cur;
         let mut readings = self.readings.lock(rt);
         let _ = readings.push(reading);
         MutexGuard::unlock(readings);
+        held
+    }
+
+    // Lists a folder in two halves, and keeps what they showed. How many effects the pass held then.
+    fn look<D: Dirs, J: Naming, R: Wait>(
+        &self,
+        rt: &R,
+        alloc: Global,
+        store: &Store<D, J>,
+        pass: &mut Pass<J>,
+        folder: u32,
+        before: u64,
+        told: u64,
+    ) -> u64 {
+        match store.first(alloc, pass, folder) {
+            Ok(first) => match read_on(alloc, store, pass, &first, before, told) {
+                Some(reading) => self.keep(rt, reading),
+                None => before,
+            },
+            Err(_) => before,
+        }
     }
 
     // The calls of one thread, and its listings. How many of its effects were told.
@@ -260,6 +211,7 @@ impl Stampede {
         thread: usize,
     ) -> u64 {
         let mut told = 0;
+        let mut before = 0;
         let mut effects = 0u64;
         let seed = self.seed.wrapping_add(thread as u64);
         for turn in 0..self.calls {
@@ -270,18 +222,7 @@ impl Stampede {
             }
             if turn % CALLS_A_LISTING == 0 {
                 let folder = (turn / CALLS_A_LISTING % 2) as u32;
-                if let Some((new, cur)) = read(alloc, store, pass, folder) {
-                    self.keep(
-                        rt,
-                        Reading {
-                            pass: thread,
-                            folder,
-                            told,
-                            new,
-                            cur,
-                        },
-                    );
-                }
+                before = self.look(rt, alloc, store, pass, folder, before, told);
             }
         }
         effects
@@ -321,71 +262,59 @@ fn beginnings(alloc: Global, opening: Sums, effects: &[Effect]) -> Result<Vec<Su
     Ok(all)
 }
 
-// The first beginning from here on with this sum.
-fn found(beginnings: &[Sums], from: usize, number: usize, sum: u64) -> Option<usize> {
-    for (at, sums) in beginnings.iter().enumerate() {
-        if at >= from && sums.get(number) == Some(&sum) {
-            return Some(at);
-        }
-    }
-    None
-}
-
-// The first beginning with the effect of a job.
-fn with_effect(effects: &[Effect], job: u64) -> usize {
-    for (at, effect) in effects.iter().enumerate() {
+// How many effects the first beginning with the effect of a job has.
+fn with_effect(effects: &[Effect], job: u64) -> u64 {
+    let mut count = 0u64;
+    for effect in effects {
+        count = count.wrapping_add(1);
         if effect.job == job {
-            return at.wrapping_add(1);
+            return count;
         }
     }
     0
 }
 
-// The beginning that a listing ended with, where it showed one from here on and a later one.
-fn shown(beginnings: &[Sums], effects: &[Effect], from: usize, reading: &Reading) -> Option<usize> {
-    let told = from.max(with_effect(effects, reading.told));
-    let first = found(
-        beginnings,
-        told,
-        sum_number(reading.folder, Place::New),
-        reading.new,
-    )?;
-    found(
-        beginnings,
-        first,
-        sum_number(reading.folder, Place::Cur),
-        reading.cur,
-    )
+// Whether the beginning of so many effects has this sum.
+fn has_sum(beginnings: &[Sums], effects: u64, number: usize, wanted: u64) -> bool {
+    match beginnings.get(effects as usize) {
+        Some(sums) => sums.get(number) == Some(&wanted),
+        None => false,
+    }
 }
 
-// Whether the listings of a pass, in their order, showed ever later beginnings.
-fn are_in_order(
-    beginnings: &[Sums],
-    effects: &[Effect],
-    readings: &[Reading],
-    pass: usize,
-) -> bool {
-    let mut from = 0;
+// Whether a listing showed a beginning that was late enough, and one no earlier than that.
+fn is_shown(beginnings: &[Sums], effects: &[Effect], reading: &Reading) -> bool {
+    let new = sum_number(reading.folder, Place::New);
+    let cur = sum_number(reading.folder, Place::Cur);
+    reading.before <= reading.at_new
+        && with_effect(effects, reading.told) <= reading.at_new
+        && reading.at_new <= reading.at_cur
+        && has_sum(beginnings, reading.at_new, new, reading.new)
+        && has_sum(beginnings, reading.at_cur, cur, reading.cur)
+}
+
+// Whether all listings showed such beginnings.
+fn are_shown(beginnings: &[Sums], effects: &[Effect], readings: &[Reading]) -> bool {
     for reading in readings {
-        if reading.pass == pass {
-            match shown(beginnings, effects, from, reading) {
-                Some(at) => from = at,
-                None => return false,
-            }
+        if !is_shown(beginnings, effects, reading) {
+            return false;
         }
     }
-    true
+    !readings.is_empty()
 }
 
-// The sums of the names that a world has now.
-fn sums_of<D: Dirs>(alloc: Global, world: &World<D>) -> Option<Sums> {
-    let names = Names::of(alloc, world).ok()?;
-    Some([
-        sum(names.entries(0, Place::New), Place::New),
-        sum(names.entries(0, Place::Cur), Place::Cur),
-        sum(names.entries(1, Place::New), Place::New),
-        sum(names.entries(1, Place::Cur), Place::Cur),
-    ])
+// Whether a folder of a world has the names of these sums.
+fn has_names<D: Dirs>(alloc: Global, world: &World<D>, folder: u32, sums: &[Sums]) -> bool {
+    match list(alloc, world, folder) {
+        Ok(entries) => {
+            let last = sums.len().wrapping_sub(1) as u64;
+            let new = sum_number(folder, Place::New);
+            let cur = sum_number(folder, Place::Cur);
+            has_sum(sums, last, new, sum(&entries, Place::New))
+                && has_sum(sums, last, cur, sum(&entries, Place::Cur))
+        }
+        Err(_) => false,
+    }
 }
 
 // Whether each pass saw ever later beginnings of the log of a world, and the log leads to its names.
@@ -395,30 +324,28 @@ pub fn are_beginnings<D: Dirs, R: Wait>(
     stampede: &Stampede,
     world: &World<D>,
 ) -> bool {
-    let effects = world.effects();
-    let Ok(beginnings) = beginnings(alloc, stampede.opening, effects) else {
-        return false;
-    };
-    let readings = stampede.readings.lock(rt);
-    let mut are = !readings.is_empty() && beginnings.last().copied() == sums_of(alloc, world);
-    for pass in 0..THREADS {
-        are = are && are_in_order(&beginnings, effects, &readings, pass);
+    match beginnings(alloc, stampede.opening, world.effects()) {
+        Ok(all) => {
+            let readings = stampede.readings.lock(rt);
+            let are = are_shown(&all, world.effects(), &readings);
+            MutexGuard::unlock(readings);
+            are && has_names(alloc, world, 0, &all) && has_names(alloc, world, 1, &all)
+        }
+        Err(_) => false,
     }
-    MutexGuard::unlock(readings);
-    are
 }
 
 // A thousand messages of two folders, half of them in new.
 pub fn image(alloc: Global) -> Result<Vec<ImageFile>, AllocError> {
     let mut image = Vec::new(alloc);
     for number in 0..MESSAGES {
-        let folder = (number % 2) as u32;
-        let (place, info) = match number % 4 {
-            0..2 => (Place::New, ""),
-            _ => (Place::Cur, ":2,"),
+        let (place, info) = if number % 4 < 2 {
+            ("new", "")
+        } else {
+            ("cur", ":2,")
         };
-        let name = name(alloc, "m", number, info)?;
-        image.push(file(alloc, folder, place, name.as_slice())?)?;
+        let row = format!(in alloc; "{place} m{number}{info}")?;
+        image.push(file(alloc, (number % 2) as u32, &row)?)?;
     }
     Ok(image)
 }
@@ -428,11 +355,12 @@ impl Stampede {
     pub fn new(alloc: Global, image: &[ImageFile], seed: u64, calls: u64) -> Stampede {
         let mut opening = [0; 4];
         for file in image {
+            let path = &file.path;
             add(
                 &mut opening,
-                file.path.folder,
-                file.path.place,
-                file.path.name.as_slice(),
+                path.folder,
+                path.place,
+                hash(path.name.as_slice()),
             );
         }
         Stampede {

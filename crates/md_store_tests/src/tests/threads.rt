@@ -1,168 +1,45 @@
-// Threads that step and list.
-use super::fixtures::{DELIVERED, finish, listed, lists};
-use super::gated::Gated;
-use super::scene::{Both, Plan, Scene, is_staged, plays};
-use md_core::Answer;
-use md_store::{Naming, News, Pass, Store};
-use std::alloc::Global;
-use std::process::Abort;
-use std::sync::Wait;
-use std::sync::atomic::{AtomicU64, Ordering};
-use std::thread;
-use std::thread::Threads;
+// Threads that step and list at once.
+use super::scene::{Plan, Scene, plays};
 
-// Four names, of a byte each, for each of four threads.
-const NAMES: &[u8] = b"abcdefghijklmnop";
-
-// Their deliveries.
-const CALLS: &str =
-    "deliver a|deliver b|deliver c|deliver d|deliver e|deliver f|deliver g|deliver h|\
-deliver i|deliver j|deliver k|deliver l|deliver m|deliver n|deliver o|deliver p";
-
-// Whether a delivery is told, and its message then listed.
-fn is_delivered<J: Naming, R: Wait>(
-    rt: &R,
-    alloc: Global,
-    store: &Store<Gated, J>,
-    pass: &mut Pass<J>,
-    job: u64,
-    name: u8,
-) -> bool {
-    finish(rt, store, pass, job) == DELIVERED && listed(alloc, store, pass, &[name]) == Ok(true)
-}
-
-// Steps the four deliveries of a thread to their answers, and lists after each. How many of them were told and then listed.
-fn deliver<J: Naming, R: Wait>(
-    rt: &R,
-    alloc: Global,
-    store: &Store<Gated, J>,
-    pass: &mut Pass<J>,
-    thread: usize,
-) -> u64 {
-    let mut listed = 0u64;
-    for (number, name) in NAMES.iter().enumerate() {
-        let is_own = number / 4 == thread;
-        if is_own && is_delivered(rt, alloc, store, pass, number as u64 + 1, *name) {
-            listed = listed.wrapping_add(1);
-        }
-    }
-    listed
-}
-
-// Steps the jobs 5 to 8 to their answers. How many of them are flags.
-fn flag<J: Naming, R: Wait>(rt: &R, store: &Store<Gated, J>, pass: &mut Pass<J>) -> u64 {
-    let mut flagged = 0u64;
-    for job in 5..9 {
-        if let (Some(Answer::Flags(_)), News::Told) = finish(rt, store, pass, job) {
-            flagged = flagged.wrapping_add(1);
-        }
-    }
-    flagged
-}
-
-// What one of the threads does: it delivers, or flags where it isn't the first and the others flag. How many calls were told.
-fn act<J: Naming, R: Wait>(
-    rt: &R,
-    alloc: Global,
-    store: &Store<Gated, J>,
-    pass: &mut Pass<J>,
-    thread: usize,
-    others_flag: bool,
-) -> u64 {
-    if others_flag && thread > 0 {
-        flag(rt, store, pass)
-    } else {
-        deliver(rt, alloc, store, pass, thread)
-    }
-}
-
-// Each pass in a thread of its own: all deliver, or all but the first flag. How many calls were told.
-fn by_threads<J: Naming + Send + Sync, R: Threads + Wait + Sync>(
-    rt: &R,
-    alloc: Global,
-    store: &Store<Gated, J>,
-    passes: &mut [Pass<J>],
-    others_flag: bool,
-) -> u64 {
-    let told = AtomicU64::new(0);
-    let threads = passes.len().max(1);
-    thread::for_each_mut(
-        rt,
-        passes,
-        threads,
-        &|thread, pass| {
-            told.fetch_add(
-                act(rt, alloc, store, pass, thread, others_flag),
-                Ordering::SeqCst,
-            );
-        },
-    );
-    told.load(Ordering::SeqCst)
-}
-
-// So many threads, of four deliveries each.
-pub fn deliver_by_all<J: Naming + Send + Sync, R: Threads + Wait + Sync>(
-    rt: &R,
-    alloc: Global,
-    store: &Store<Gated, J>,
-    passes: &mut [Pass<J>],
-) -> bool {
-    let wanted = 4u64.wrapping_mul(passes.len() as u64);
-    by_threads(rt, alloc, store, passes, false) == wanted
-}
-
-// Whether sixteen deliveries are made by so many threads, of which each takes four.
-fn deliver_with<R: Threads + Wait + Abort + Sync>(
-    rt: &R,
-    alloc: Global,
-    threads: usize,
-    steps: usize,
-    effects: usize,
-) -> bool {
-    let plan = Plan {
-        scene: Scene::Deliverers,
-        folders: 1,
-        passes: threads,
-        files: "cur z",
-        calls: CALLS,
-        wanted: (16, steps, effects),
-    };
-    is_staged(rt, alloc, &plan, None)
-}
-
+// Each of four threads makes four deliveries, and lists each that it was told of; two make their eight.
 #[test]
 fn threads_deliver(rt: HostRuntime) {
-    for (threads, steps, effects) in [(2, 32, 8), (4, 64, 16)] {
-        assert!(rt;
-            deliver_with(&rt, rt.alloc(), threads, steps, effects),
-            "{threads}"
-        );
+    for (passes, steps, effects) in [(2, 32, 8), (4, 64, 16)] {
+        let plan = Plan {
+            scene: Scene::Acts(
+                "0 ends 1 delivered told|0 lists 0 a ..|0 ends 2 delivered told|0 lists 0 b ..|\
+0 ends 3 delivered told|0 lists 0 c ..|0 ends 4 delivered told|0 lists 0 d ..|\
+1 ends 5 delivered told|1 lists 0 e ..|1 ends 6 delivered told|1 lists 0 f ..|\
+1 ends 7 delivered told|1 lists 0 g ..|1 ends 8 delivered told|1 lists 0 h ..|\
+2 ends 9 delivered told|2 lists 0 i ..|2 ends 10 delivered told|2 lists 0 j ..|\
+2 ends 11 delivered told|2 lists 0 k ..|2 ends 12 delivered told|2 lists 0 l ..|\
+3 ends 13 delivered told|3 lists 0 m ..|3 ends 14 delivered told|3 lists 0 n ..|\
+3 ends 15 delivered told|3 lists 0 o ..|3 ends 16 delivered told|3 lists 0 p ..",
+                0,
+            ),
+            folders: 1,
+            passes,
+            files: "cur z",
+            calls: "deliver a|deliver b|deliver c|deliver d|deliver e|deliver f|deliver g|deliver h|\
+deliver i|deliver j|deliver k|deliver l|deliver m|deliver n|deliver o|deliver p",
+            wanted: (16, steps, effects),
+        };
+        plays(&rt, rt.alloc(), &plan);
     }
 }
 
-// One thread delivers while a second flags another message. A third pass lists before and after them: it makes no step, and so it learns
-// of their effects by listing alone.
-pub fn deliver_beside_flags<J: Naming + Send + Sync, R: Threads + Wait + Sync>(
-    rt: &R,
-    alloc: Global,
-    store: &Store<Gated, J>,
-    passes: &mut [Pass<J>],
-) -> bool {
-    match passes.split_last_mut() {
-        Some((third, threads)) => {
-            lists(alloc, store, third, 0, "z:2,")
-                && by_threads(rt, alloc, store, threads, true) == 8
-                && lists(alloc, store, third, 0, "a b c d z:2,FRST")
-        }
-        None => false,
-    }
-}
-
-// Four deliveries, and four flags for another message.
+// One thread delivers while a second flags another message. A third pass lists before and after them: it makes no step, and so it learns of
+// their effects by listing alone.
 #[test]
 fn a_told_delivery_is_listed(rt: HostRuntime) {
     let plan = Plan {
-        scene: Scene::DelivererAndFlagger,
+        scene: Scene::Acts(
+            "2 lists 0 z:2,%\
+0 ends 1 delivered told|0 lists 0 a ..|0 ends 2 delivered told|0 lists 0 b ..|0 ends 3 delivered told|0 lists 0 c ..|\
+0 ends 4 delivered told|0 lists 0 d ..|1 ends 5 F told|1 ends 6 FR told|1 ends 7 FRS told|1 ends 8 FRST told%\
+2 lists 0 a b c d z:2,FRST",
+            0,
+        ),
         folders: 1,
         passes: 3,
         files: "cur z:2,",
@@ -172,34 +49,14 @@ fn a_told_delivery_is_listed(rt: HostRuntime) {
     plays(&rt, rt.alloc(), &plan);
 }
 
-// How many deliveries of another thread are told and listed there.
-fn delivered_there<J: Naming + Send + Sync, R: Threads + Wait + Sync>(
-    rt: &R,
-    alloc: Global,
-    store: &Store<Gated, J>,
-    theirs: &mut Pass<J>,
-) -> u64 {
-    let (delivered, ()) = thread::join(rt, || deliver(rt, alloc, store, theirs, 0), || ());
-    delivered
-}
-
 // A pass lists, another thread delivers and ends, and the pass lists once more. It makes no step.
-pub fn deliver_to_another<J: Naming + Send + Sync, R: Threads + Wait + Sync>(
-    rt: &R,
-    alloc: Global,
-    store: &Store<Gated, J>,
-    mine: &mut Pass<J>,
-    theirs: &mut Pass<J>,
-) -> bool {
-    lists(alloc, store, mine, 0, "z")
-        && delivered_there(rt, alloc, store, theirs) == 1
-        && lists(alloc, store, mine, 0, "a z")
-}
-
 #[test]
 fn a_listing_enters_anew(rt: HostRuntime) {
     let plan = Plan {
-        scene: Scene::Both(Both::Newcomer),
+        scene: Scene::Acts(
+            "0 lists 0 z%1 ends 1 delivered told|1 lists 0 a ..%0 lists 0 a z",
+            0,
+        ),
         folders: 1,
         passes: 2,
         files: "cur z",
@@ -207,4 +64,60 @@ fn a_listing_enters_anew(rt: HostRuntime) {
         wanted: (1, 4, 1),
     };
     plays(&rt, rt.alloc(), &plan);
+}
+
+// A thread makes the link, and waits there, inside the lock. A listing shows nothing meanwhile, and the message once the link was made.
+#[test]
+fn a_listing_waits_for_no_link(rt: HostRuntime) {
+    let plan = Plan {
+        scene: Scene::Acts(
+            "0 shuts|0 steps 1 silent|0 steps 1 silent%0 steps 1 told|1 peeks%1 lists 0 a",
+            0,
+        ),
+        folders: 1,
+        passes: 2,
+        files: "",
+        calls: "deliver a",
+        wanted: (1, 3, 1),
+    };
+    plays(&rt, rt.alloc(), &plan);
+}
+
+#[test]
+fn two_threads_call_at_once(rt: HostRuntime) {
+    let plan = Plan {
+        scene: Scene::Acts(
+            "0 calls delivered deliver a|0 lists 0 a ..|0 calls delivered deliver b|0 lists 0 b ..|\
+0 calls delivered deliver c|0 lists 0 c ..|0 calls delivered deliver d|0 lists 0 d ..|\
+1 calls delivered deliver e|1 lists 0 e ..|1 calls delivered deliver f|1 lists 0 f ..|\
+1 calls delivered deliver g|1 lists 0 g ..|1 calls delivered deliver h|1 lists 0 h ..%\
+0 lists 0 a b c d e f g h%1 lists 0 a b c d e f g h",
+            8,
+        ),
+        folders: 1,
+        passes: 2,
+        files: "",
+        calls: "",
+        wanted: (8, 32, 8),
+    };
+    plays(&rt, rt.alloc(), &plan);
+}
+
+// One thread calls, and another steps its job: just one of them is given the answer.
+#[test]
+fn one_thread_is_given_the_answer(rt: HostRuntime) {
+    let plan = Plan {
+        scene: Scene::Acts(
+            "0 calls delivered deliver a|1 takes%0 lists 0 a%1 lists 0 a",
+            1,
+        ),
+        folders: 1,
+        passes: 2,
+        files: "",
+        calls: "",
+        wanted: (1, 4, 1),
+    };
+    for _ in 0..16 {
+        plays(&rt, rt.alloc(), &plan);
+    }
 }

@@ -1,20 +1,19 @@
 // Calls that are stepped by their tickets, the later one first.
-use super::fixtures::{delivery, lists};
+use super::fixtures::{call, lists};
 use super::gated::Gated;
-use super::scene::{Alone, Plan, Scene, plays};
 use md_core::{Answer, CoreError};
 use md_store::{Naming, Pass, Store, Ticket};
 use std::alloc::Global;
 use std::sync::Wait;
 
-// Issues the delivery of a name.
+// Issues a call.
 fn issued<J: Naming, R: Wait>(
     rt: &R,
     alloc: Global,
     store: &Store<Gated, J>,
-    name: &[u8],
+    row: &str,
 ) -> Option<Ticket<J>> {
-    match delivery(alloc, name) {
+    match call(alloc, 0, row) {
         Ok(call) => store.issue(rt, call).ok(),
         Err(_) => None,
     }
@@ -50,9 +49,9 @@ fn deliver_both<J: Naming, R: Wait>(
     a.job() == 1
         && b.job() == 2
         && is_delivered(rt, store, pass, &b.again())
-        && lists(alloc, store, pass, 0, "b")
+        && lists(alloc, store, pass, 0, "b") == Ok(true)
         && is_delivered(rt, store, pass, a)
-        && lists(alloc, store, pass, 0, "a b")
+        && lists(alloc, store, pass, 0, "a b") == Ok(true)
 }
 
 pub fn step_by_tickets<J: Naming, R: Wait>(
@@ -61,24 +60,10 @@ pub fn step_by_tickets<J: Naming, R: Wait>(
     store: &Store<Gated, J>,
     pass: &mut Pass<J>,
 ) -> bool {
-    let Some(a) = issued(rt, alloc, store, b"a") else {
-        return false;
-    };
-    match issued(rt, alloc, store, b"b") {
-        Some(b) => deliver_both(rt, alloc, store, pass, &a, &b),
-        None => false,
+    let a = issued(rt, alloc, store, "deliver a");
+    let b = issued(rt, alloc, store, "deliver b");
+    match (&a, &b) {
+        (Some(a), Some(b)) => deliver_both(rt, alloc, store, pass, a, b),
+        _ => false,
     }
-}
-
-#[test]
-fn a_ticket_steps_its_own_call(rt: HostRuntime) {
-    let plan = Plan {
-        scene: Scene::Alone(Alone::Tickets),
-        folders: 1,
-        passes: 1,
-        files: "",
-        calls: "",
-        wanted: (2, 8, 2),
-    };
-    plays(&rt, rt.alloc(), &plan);
 }

@@ -1,0 +1,81 @@
+// Each call of a store once, over one thread.
+use super::scene::{Plan, Scene, is_staged, plays};
+use md_store::OpenError;
+
+#[test]
+fn passes_are_1_to_64(rt: HostRuntime) {
+    let refused = Some(OpenError::BadPasses);
+    for (passes, refusal) in [(0, refused), (65, refused), (64, None), (2, None)] {
+        let plan = Plan {
+            scene: Scene::Acts("0 holds 0", 0),
+            folders: 1,
+            passes,
+            files: "cur u",
+            calls: "deliver a",
+            wanted: (1, 0, 0),
+        };
+        assert!(rt; is_staged(&rt, rt.alloc(), &plan, refusal), "{passes}");
+    }
+}
+
+// The delivery of `hello` and a line end takes five steps. A name that was used, a job that has its answer, one that isn't there, and a folder
+// that isn't there are refused.
+#[test]
+fn read_and_submit_through_the_lock(rt: HostRuntime) {
+    let plan = Plan {
+        scene: Scene::Acts(
+            "0 submits 1 deliver u hello\n|0 ends 1 delivered told|0 reads u hello\n|0 reads v nothing|\
+0 submits refused deliver u hello\n|0 steps 1 answered|0 steps 2 no-job|0 no-folder 1",
+            0,
+        ),
+        folders: 1,
+        passes: 1,
+        files: "",
+        calls: "",
+        wanted: (1, 5, 1),
+    };
+    plays(&rt, rt.alloc(), &plan);
+}
+
+#[test]
+fn a_refused_call_comes_back(rt: HostRuntime) {
+    let plan = Plan {
+        scene: Scene::Acts(
+            "0 calls delivered deliver a|0 lists 0 a ..|0 calls refused deliver a|0 lists 0 a",
+            1,
+        ),
+        folders: 1,
+        passes: 1,
+        files: "",
+        calls: "",
+        wanted: (1, 4, 1),
+    };
+    plays(&rt, rt.alloc(), &plan);
+}
+
+// Two calls are stepped by their tickets, the later one first.
+#[test]
+fn a_ticket_steps_its_own_call(rt: HostRuntime) {
+    let plan = Plan {
+        scene: Scene::Acts("0 tickets", 0),
+        folders: 1,
+        passes: 1,
+        files: "",
+        calls: "",
+        wanted: (2, 8, 2),
+    };
+    plays(&rt, rt.alloc(), &plan);
+}
+
+#[test]
+fn one_lock_holds_a_whole_delivery(rt: HostRuntime) {
+    let plan = Plan {
+        scene: Scene::Acts("0 locked|0 lists 0 a", 0),
+        folders: 1,
+        passes: 1,
+        files: "",
+        calls: "",
+        wanted: (1, 4, 1),
+    };
+    plays(&rt, rt.alloc(), &plan);
+}
