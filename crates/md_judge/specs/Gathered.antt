@@ -97,8 +97,8 @@ pub record KeepsGathered (names : Names) (actor folder : ℕ) (place : Place) (r
 
 -- ---- what a log tells
 
--- The actor's reading of the folder's new or cur between these steps counts with its listing that goes on at a moment, and that began with a
--- step.
+-- The actor's reading of the folder's new or cur between these steps counts with its listing that goes on at a moment, and that began
+-- with a step.
 abbrev pub Counts : Log → ℕ → ℕ → List ℕ → ℕ → ℕ → ℕ → Place → Type 0
 Counts l begin i actor folder m n place = (begin ≤ n) × (n < i) × (place ≢ Tmp) × IsWholeReading l m n actor folder place
 

@@ -38,8 +38,8 @@ pub record HasTaken (given : List Clause) (texts : List (List ℕ)) (s : Session
   pub read : (l : Log) → log_by texts ≡ Ok l → HasNoTicks l → HasRead (suc (length texts)) (with_given given l) s
   pub placed : (l : Log) → log_by texts ≡ Ok l → HasPlaced (suc (length texts)) (with_given given l) s
 
--- A session was told not to judge these clauses, and has taken in these lines to the end: what it found is what is found of the log that they
--- are, of which those clauses are not judged either, and it is in order.
+-- A session was told not to judge these clauses, and has taken in these lines to the end: what it found is what is found of the log that
+-- they are, of which those clauses are not judged either, and it is in order.
 pub record HasEnded (given : List Clause) (texts : List (List ℕ)) (s : Session) : Type 0 where
   pub found : (l : Log) → log_by texts ≡ Ok l → AreFoundInOrder (with_given given l) s.findings.items
   pub ordered : (l : Log) → log_by texts ≡ Ok l → AreInOrder s.findings.items

@@ -140,29 +140,29 @@ impl Judge {
         Ok(())
     }
 
-    /// Judges the next step.
-    pub(crate) fn step(&mut self, line: usize, step: Step) -> Result<(), AllocError>
+    /// Judges the next step. It is lent, so that it is not let go at each exit.
+    pub(crate) fn step(&mut self, line: usize, step: &Step) -> Result<(), AllocError>
         ensures told { (lines : ℕ → ℕ) (l : Log) (i : ℕ) → Remembers lines l i self.old
-            → slice_get l.steps i ≡ Some (record { number = line; step = step }) → lines i ≡ line → line < 4294967295
-            → self.old.watch.now ≡ line → HasFolders (at l i) step.call → OnOk result (Remembers lines l (suc i) self.new) }
+            → slice_get l.steps i ≡ Some (record { number = line; step = step.now }) → lines i ≡ line → line < 4294967295
+            → self.old.watch.now ≡ line → HasFolders (at l i) step.now.call → OnOk result (Remembers lines l (suc i) self.new) }
         ensures broken { (lines : ℕ → ℕ) (l : Log) (i : ℕ) → Remembers lines l i self.old
-            → slice_get l.steps i ≡ Some (record { number = line; step = step }) → lines i ≡ line → line < 4294967295
-            → self.old.watch.now ≡ line → ((a b : ℕ) → a < b → lines a < lines b) → ((a : ℕ) → 0 < lines a) → HasFolders (at l i) step.call
-            → OnOk result ((c : Clause) → Has self.new.watch.found.broken c ↔ Breaks c (turn l i step)) }
+            → slice_get l.steps i ≡ Some (record { number = line; step = step.now }) → lines i ≡ line → line < 4294967295
+            → self.old.watch.now ≡ line → ((a b : ℕ) → a < b → lines a < lines b) → ((a : ℕ) → 0 < lines a) → HasFolders (at l i) step.now.call
+            → OnOk result ((c : Clause) → Has self.new.watch.found.broken c ↔ Breaks c (turn l i step.now)) }
         ensures opens { (lines : ℕ → ℕ) (l : Log) (i : ℕ)
             → AreOpen lines self.old.actor_names self.old.known.names l i self.old.listings
-            → slice_get l.steps i ≡ Some (record { number = line; step = step }) → lines i ≡ line → self.old.watch.now ≡ line
+            → slice_get l.steps i ≡ Some (record { number = line; step = step.now }) → lines i ≡ line → self.old.watch.now ≡ line
             → OnOk result (AreOpen lines self.new.actor_names self.new.known.names l (suc i) self.new.listings) }
         ensures gathers { (lines : ℕ → ℕ) (l : Log) (i : ℕ)
             → AreOpen lines self.old.actor_names self.old.known.names l i self.old.listings
             → AreGathered lines self.old.actor_names self.old.known.names l i self.old.listings
-            → slice_get l.steps i ≡ Some (record { number = line; step = step }) → lines i ≡ line → self.old.watch.now ≡ line
+            → slice_get l.steps i ≡ Some (record { number = line; step = step.now }) → lines i ≡ line → self.old.watch.now ≡ line
             → OnOk result (AreGathered lines self.new.actor_names self.new.known.names l (suc i) self.new.listings) }
         ensures allowed { OnOk result (self.new.allowed ≡ self.old.allowed) }
     {
         let (actor, _) = self.actor_names.number(step.actor.as_slice())?;
         self.actor_names.are_apart();
-        self.act = self.known.step(line, &step)?;
+        self.act = self.known.step(line, step)?;
         self.known.names.are_numbered();
         self.watch.begin(actor)?;
         match &step.call {

@@ -241,7 +241,7 @@ impl Session {
             return done_at(number, waits);
         }
         self.judge_stretch()?;
-        let judged = self.judge_step(number as usize, number, step, text);
+        let judged = self.judge_step(number as usize, number, &step, text);
         done_at(number, judged)
     }
 
@@ -285,8 +285,11 @@ impl Session {
         let Some(waiting) = self.stretch.take(at) else {
             return Err(fault_at(line, LineFault::NoOrder));
         };
-        let Waiting { step, text } = waiting;
-        done_at(line, self.judge_step(moment as usize, line, step, &text))?;
+        let judged = {
+            let Waiting { step, text } = waiting;
+            self.judge_step(moment as usize, line, &step, &text)
+        };
+        done_at(line, judged)?;
         if self.judge.is_wrong() {
             return Err(fault_at(line, LineFault::NoOrder));
         }
@@ -298,26 +301,26 @@ impl Session {
         &mut self,
         moment: usize,
         line: u64,
-        step: Step,
+        step: &Step,
         text: &[u8],
     ) -> Result<(), AllocError>
         ensures keeps { OnOk result (KeepsHead self.old self.new) }
         ensures told { (lines : ℕ → ℕ) (l : Log) (i : ℕ) → Remembers lines l i self.old.judge
-            → slice_get l.steps i ≡ Some (record { number = moment; step = step }) → lines i ≡ moment → moment < 4294967295
-            → HasFolders (at l i) step.call → OnOk result (Remembers lines l (suc i) self.new.judge) }
+            → slice_get l.steps i ≡ Some (record { number = moment; step = step.now }) → lines i ≡ moment → moment < 4294967295
+            → HasFolders (at l i) step.now.call → OnOk result (Remembers lines l (suc i) self.new.judge) }
         ensures found { (lines : ℕ → ℕ) (l : Log) (i : ℕ) → Remembers lines l i self.old.judge
-            → slice_get l.steps i ≡ Some (record { number = moment; step = step }) → lines i ≡ moment → moment < 4294967295
-            → ((a b : ℕ) → a < b → lines a < lines b) → ((a : ℕ) → 0 < lines a) → HasFolders (at l i) step.call
+            → slice_get l.steps i ≡ Some (record { number = moment; step = step.now }) → lines i ≡ moment → moment < 4294967295
+            → ((a b : ℕ) → a < b → lines a < lines b) → ((a : ℕ) → 0 < lines a) → HasFolders (at l i) step.now.call
             → OnOk result ((c : Clause)
-            → AddsFinding c line (Breaks c (turn l i step) × (Has self.old.judge.allowed c → ⊥)) self.old self.new) }
+            → AddsFinding c line (Breaks c (turn l i step.now) × (Has self.old.judge.allowed c → ⊥)) self.old self.new) }
         ensures ordered { AreInOrder self.old.findings.items → AreEarlier self.old.findings.items line 0
             → OnOk result (AreInOrder self.new.findings.items) }
         ensures at_lines { AreInOrderAtLines self.old.findings.items → AreBelowAtLine self.old.findings.items line 0
             → OnOk result (AreInOrderAtLines self.new.findings.items) }
         ensures broken { (lines : ℕ → ℕ) (l : Log) (i : ℕ) → Remembers lines l i self.old.judge
-            → slice_get l.steps i ≡ Some (record { number = moment; step = step }) → lines i ≡ moment → moment < 4294967295
-            → ((a b : ℕ) → a < b → lines a < lines b) → ((a : ℕ) → 0 < lines a) → HasFolders (at l i) step.call
-            → OnOk result ((c : Clause) → Has self.new.judge.watch.found.broken c ↔ Breaks c (turn l i step)) }
+            → slice_get l.steps i ≡ Some (record { number = moment; step = step.now }) → lines i ≡ moment → moment < 4294967295
+            → ((a b : ℕ) → a < b → lines a < lines b) → ((a : ℕ) → 0 < lines a) → HasFolders (at l i) step.now.call
+            → OnOk result ((c : Clause) → Has self.new.judge.watch.found.broken c ↔ Breaks c (turn l i step.now)) }
     {
         self.judge.go_to(moment);
         self.judge.step(moment, step)?;
@@ -339,8 +342,10 @@ impl Session {
             → AreInOrderAtLines self.new.findings.items × AreBelowAtLine self.new.findings.items line (suc (clause_index clause))) }
     {
         if self.judge.is_broken(clause) {
-            let before = self.judge.before(clause);
-            let before = before.map(|moment| self.stretch.line_at(moment));
+            let before = match self.judge.before(clause) {
+                None => None,
+                Some(moment) => Some(self.stretch.line_at(moment)),
+            };
             self.findings.push(Finding {
                 line,
                 clause,

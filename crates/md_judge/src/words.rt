@@ -68,10 +68,12 @@ impl Passages {
 
 /// The first word of a text, and what comes after the space after it.
 fn first_word(text: &[u8]) -> (&[u8], &[u8]) {
-    match text.iter().position(|byte| *byte == SPACE) {
-        None => (text, &[]),
-        Some(at) => (&text[..at], &text[at + 1..]),
+    for (at, byte) in text.iter().enumerate() {
+        if *byte == SPACE {
+            return (&text[..at], &text[at + 1..]);
+        }
     }
+    (text, &[])
 }
 
 /// A call without the names that a reading shows: these may be as many as a directory has.

@@ -316,7 +316,13 @@ fn counted(files: u32, deed: Deed, reply: Reply) -> Result<u32, AllocError>
 }
 
 /// What a call on one path does, where the next file that is made has this number.
-fn change_at(deed: Deed, spot: Spot, there: Option<u32>, reply: Reply, next: u32) -> Change
+pub(super) fn change_at(
+    deed: Deed,
+    spot: Spot,
+    there: Option<u32>,
+    reply: Reply,
+    next: u32,
+) -> Change
     ensures leads { (path : Spot → Path) (s : State) (now : ℕ) → file_at s (path spot) ≡ there → next ≡ length s.files → IsOlder there next
         → Leads path result s (after_ask reply (ask_at deed (path spot) now) s) }
     ensures spots { EachSpot (λ q. q ≡ spot) result }
@@ -349,7 +355,7 @@ fn made_at(deed: Deed, spot: Spot, there: Option<u32>, next: u32) -> Change
 }
 
 /// What a call on two paths does.
-fn change_between(
+pub(super) fn change_between(
     naming: Naming,
     old: Spot,
     new: Spot,

@@ -21,7 +21,6 @@ use super::known::Known;
 use super::mail::{Mail, Message};
 use super::since::{is_there_since, was_there_since};
 use super::tables::Names;
-use super::trial::Open;
 use super::watch::Watch;
 use md_clauses::{Found, Listed, Name};
 use md_dirs::Place;
@@ -31,9 +30,9 @@ use std::collections::{BTreeMap, BTreeSet};
 
 /// A reading of one directory: the moment of its first part, and the names that it showed.
 #[derive(Drop)]
-struct Reading {
-    first: Option<usize>,
-    shown: BTreeSet<Name>,
+pub(super) struct Reading {
+    pub(super) first: Option<usize>,
+    pub(super) shown: BTreeSet<Name>,
 }
 
 impl Reading {
@@ -97,20 +96,7 @@ impl Listing {
         }
     }
 
-    /// The reading of a place, where it goes on.
-    pub(super) fn open(&self, alloc: Global, place: Place) -> Result<Option<Open>, AllocError> {
-        let reading = self.reading(place);
-        let Some(first) = reading.first else {
-            return Ok(None);
-        };
-        let mut shown = BTreeSet::new(alloc);
-        for name in reading.shown.iter() {
-            shown.insert(*name)?;
-        }
-        Ok(Some(Open { first, shown }))
-    }
-
-    fn reading(&self, place: Place) -> &Reading
+    pub(super) fn reading(&self, place: Place) -> &Reading
         ensures { result.now ≡ reading_of self.now place }
     {
         match place {
@@ -220,10 +206,12 @@ impl Listing {
     fn first_lacking(&self, mail: &Mail, folder: u32) -> Option<u32>
         ensures { result ≡ lacking self.now mail.now folder }
     {
-        mail.present(folder)?
-            .iter()
-            .copied()
-            .find(|unique| self.lacks(mail, folder, *unique))
+        for unique in mail.present(folder)?.iter() {
+            if self.lacks(mail, folder, *unique) {
+                return Some(*unique);
+            }
+        }
+        None
     }
 
     /// Whether no reading of the listing shows a message that was there at each.

@@ -10,13 +10,13 @@ ghost use Rattle.md_judge.specs.Placed.{IsUnplaced};
 ghost use Rattle.md_judge.specs.Verdict.{Remembers};
 
 use super::Judge;
-use super::trial::{Asked, Open, Reader, Trial, Undo};
+use super::trial::{ALL, ANSWER, Asked, Deal, Trial};
 use crate::stretch::Waiting;
-use md_clauses::Spot;
+use md_clauses::{Name, Spot};
 use md_dirs::Path;
-use md_log::{Call, LineFault, Step, Ticks};
-use std::alloc::{AllocError, AllocFailed, Global};
-use std::collections::{BTreeMap, BTreeSet};
+use md_log::{Call, LineFault, Step};
+use std::alloc::{AllocError, Global};
+use std::collections::BTreeSet;
 
 /// As many tries there are for any steps, and as many more for each step.
 const LEAST_TRIES: usize = 100_000;
@@ -29,18 +29,6 @@ pub(crate) enum Unplaced {
     NoMemory,
     NoOrder,
     TooManyOrders,
-}
-
-impl From<AllocError> for Unplaced {
-    fn from(_refused: AllocError) -> Unplaced {
-        Unplaced::NoMemory
-    }
-}
-
-impl<T: Drop> From<AllocFailed<T>> for Unplaced {
-    fn from(_refused: AllocFailed<T>) -> Unplaced {
-        Unplaced::NoMemory
-    }
 }
 
 impl Unplaced {
@@ -62,21 +50,14 @@ pub(crate) struct NoOrder {
     pub(crate) why: Unplaced,
 }
 
-/// A step to be placed.
-#[derive(Drop)]
-struct Candidate {
-    asked: Asked,
-    ticks: Ticks,
-}
-
-/// A place in the order: the steps that may come here, in the order of the log.
-#[derive(Drop)]
+/// A place in the order.
+#[derive(Clone, Copy)]
 struct Position {
-    choices: Vec<usize>,
+    /// Where the steps that may come here begin among the choices, and which of them is next to be tried.
+    choices: usize,
     next: usize,
-    /// Steps that were tried here, or at an earlier place with the same outcome.
-    asleep: Vec<usize>,
-    placed: Option<(usize, Undo)>,
+    /// Where those begin that are asleep here.
+    asleep: usize,
 }
 
 /// The search for an order.
@@ -84,12 +65,16 @@ struct Position {
 struct Search<'a> {
     alloc: Global,
     trial: Trial<'a>,
-    steps: &'a [Candidate],
+    steps: &'a [Asked],
     /// The moments at which steps are placed.
     moments: &'a [usize],
     by_begin: BTreeSet<(u64, usize)>,
     by_end: BTreeSet<(u64, usize)>,
     positions: Vec<Position>,
+    /// The steps that may come at each place, in the order of the log.
+    choices: Vec<usize>,
+    /// Of each place, the steps that were tried there, or at an earlier place with the same outcome.
+    asleep: Vec<usize>,
     /// How many steps were placed at most, and the first step that could have come next there.
     deepest: usize,
     stuck: usize,
@@ -98,106 +83,111 @@ struct Search<'a> {
 
 impl Search<'_> {
     /// Searches until an order is found.
-    fn run(&mut self) -> Result<(), NoOrder> {
+    fn find(&mut self) -> Result<Vec<usize>, NoOrder> {
+        let why = match self.run() {
+            Ok(None) => match self.order() {
+                Ok(order) => return Ok(order),
+                Err(AllocError) => Unplaced::NoMemory,
+            },
+            Ok(Some(why)) => why,
+            Err(AllocError) => Unplaced::NoMemory,
+        };
+        Err(NoOrder {
+            step: self.stuck,
+            why,
+        })
+    }
+
+    /// Places the steps, or says why they have no places.
+    fn run(&mut self) -> Result<Option<Unplaced>, AllocError> {
+        for (at, step) in self.steps.iter().enumerate() {
+            self.by_begin.insert((step.ticks.begin, at))?;
+            self.by_end.insert((step.ticks.end, at))?;
+        }
+        self.open(0)?;
         let most = self
             .steps
             .len()
             .saturating_mul(TRIES_A_STEP)
             .saturating_add(LEAST_TRIES);
-        self.begin()?;
         for _ in 0..most {
             if self.by_end.is_empty() {
-                return Ok(());
+                return Ok(None);
             }
             if self.tries > most {
                 break;
             }
-            self.go_on()?;
-        }
-        Err(self.stop(Unplaced::TooManyOrders))
-    }
-
-    fn begin(&mut self) -> Result<(), NoOrder> {
-        for (at, step) in self.steps.iter().enumerate() {
-            let begun = self.by_begin.insert((step.ticks.begin, at));
-            let ended = self.by_end.insert((step.ticks.end, at));
-            if begun.is_err() || ended.is_err() {
-                return Err(no_memory(at));
+            if !self.go_on()? {
+                return Ok(Some(Unplaced::NoOrder));
             }
         }
-        let asleep = Vec::new(self.alloc);
-        self.open(asleep)
-    }
-
-    fn stop(&self, why: Unplaced) -> NoOrder {
-        NoOrder {
-            step: self.stuck,
-            why,
-        }
+        Ok(Some(Unplaced::TooManyOrders))
     }
 
     /// Opens the next place.
-    fn open(&mut self, asleep: Vec<usize>) -> Result<(), NoOrder> {
-        let choices = match self.choices() {
-            Ok(choices) => choices,
-            Err(why) => return Err(self.stop(why)),
-        };
-        self.tries = self.tries.saturating_add(choices.len());
+    fn open(&mut self, asleep: usize) -> Result<(), AllocError> {
+        let choices = self.choices.len();
+        self.choose()?;
+        let many = self.choices.len().saturating_sub(choices);
+        self.tries = self.tries.saturating_add(many);
         let depth = self.positions.len();
         if depth >= self.deepest
-            && let Some(first) = choices.first()
+            && let Some(first) = self.choices.get(choices)
         {
             self.stuck = *first;
             self.deepest = depth.saturating_add(1);
         }
-        let position = Position {
+        self.positions.push(Position {
             choices,
-            next: 0,
+            next: choices,
             asleep,
-            placed: None,
-        };
-        match self.positions.push(position) {
-            Ok(()) => Ok(()),
-            Err(_) => Err(self.stop(Unplaced::NoMemory)),
-        }
+        })?;
+        Ok(())
     }
 
-    /// The steps that may come next by their ticks.
-    fn choices(&self) -> Result<Vec<usize>, Unplaced> {
-        let mut choices = Vec::new(self.alloc);
-        let Some((end, _)) = self.by_end.iter().next() else {
-            return Ok(choices);
+    /// Adds the steps that may come next by their ticks to the choices.
+    fn choose(&mut self) -> Result<(), AllocError> {
+        let before = self.choices.len();
+        let Some((end, _)) = self.by_end.first() else {
+            return Ok(());
         };
         for (begin, at) in self.by_begin.iter() {
             if begin > end {
                 break;
             }
-            choices.push(*at)?;
+            self.choices.push(*at)?;
         }
-        choices.sort_unstable();
-        Ok(choices)
+        if let Some(choices) = self.choices.as_mut_slice().get_mut(before..) {
+            choices.sort_unstable();
+        }
+        Ok(())
     }
 
-    /// Tries the next choice of the last place, or takes back the one before it.
-    fn go_on(&mut self) -> Result<(), NoOrder> {
+    /// Tries the next choice of the last place, or takes back the one before it. False where there is none.
+    fn go_on(&mut self) -> Result<bool, AllocError> {
         let now = self.now();
         let Some(position) = self.positions.last_mut() else {
-            return Err(self.stop(Unplaced::NoOrder));
+            return Ok(false);
         };
-        let Some(at) = position.choices.get(position.next).copied() else {
+        let Some(at) = self.choices.get(position.next).copied() else {
             return self.go_back();
         };
         position.next = position.next.saturating_add(1);
-        let is_asleep = position.asleep.as_slice().contains(&at);
+        let asleep = position.asleep;
         let Some(step) = self.steps.get(at) else {
-            return Ok(());
+            return Ok(true);
         };
-        if is_asleep || !self.trial.fits(&step.asked, now) {
-            return Ok(());
+        if !self.is_asleep(asleep, at) && self.trial.fits(step, now)? {
+            self.put(asleep, at, step, now)?;
         }
-        match self.put(at, now) {
-            Ok(asleep) => self.open(asleep),
-            Err(why) => Err(NoOrder { step: at, why }),
+        Ok(true)
+    }
+
+    /// Whether a step is asleep at the last place, whose steps that are asleep begin here.
+    fn is_asleep(&self, asleep: usize, at: usize) -> bool {
+        match self.asleep.get(asleep..) {
+            None => false,
+            Some(asleep) => asleep.contains(&at),
         }
     }
 
@@ -208,79 +198,70 @@ impl Search<'_> {
         moment.copied().unwrap_or(usize::MAX)
     }
 
-    /// Puts a step at the last place. It gives the steps that are not to be tried next.
-    fn put(&mut self, at: usize, now: usize) -> Result<Vec<usize>, Unplaced> {
-        let mut asleep = Vec::new(self.alloc);
-        let Some(step) = self.steps.get(at) else {
-            return Ok(asleep);
-        };
-        let Some(position) = self.positions.last_mut() else {
-            return Ok(asleep);
-        };
-        for other in position.asleep.iter() {
-            let is_apart = match self.steps.get(*other) {
-                None => false,
-                Some(other) => other.asked.is_apart(&step.asked),
-            };
-            if is_apart {
-                asleep.push(*other)?;
+    /// Puts a step at the last place, and opens the next. There those stay asleep that have nothing to do with the step.
+    fn put(
+        &mut self,
+        asleep: usize,
+        at: usize,
+        step: &Asked,
+        now: usize,
+    ) -> Result<(), AllocError> {
+        let many = self.asleep.len();
+        for place in asleep..many {
+            if let Some(other) = self.asleep.get(place).copied()
+                && let Some(asked) = self.steps.get(other)
+                && asked.is_apart(step)
+            {
+                self.asleep.push(other)?;
             }
         }
-        // Last, since what would undo it is let go at each exit that comes after.
-        let undo = self.trial.make(&step.asked, now)?;
+        self.trial.make(step, now)?;
         self.by_begin.remove(&(step.ticks.begin, at));
         self.by_end.remove(&(step.ticks.end, at));
-        position.placed = Some((at, undo));
-        Ok(asleep)
+        self.open(many)
     }
 
-    /// Closes the last place, and takes back the step before it.
-    fn go_back(&mut self) -> Result<(), NoOrder> {
-        close(&mut self.positions);
-        match self.take_back() {
-            Ok(true) => Ok(()),
-            Ok(false) => Err(self.stop(Unplaced::NoOrder)),
-            Err(why) => Err(self.stop(why)),
+    /// Closes the last place, and takes back the step before it, which is not tried there again. False where there is none.
+    fn go_back(&mut self) -> Result<bool, AllocError> {
+        if let Some(closed) = self.positions.pop() {
+            self.choices.truncate(closed.choices);
+            self.asleep.truncate(closed.asleep);
         }
-    }
-
-    /// Takes back the step of the last place, which is not tried there again. False where there is no place.
-    fn take_back(&mut self) -> Result<bool, Unplaced> {
-        let Some(position) = self.positions.last_mut() else {
+        let Some(position) = self.positions.last().copied() else {
             return Ok(false);
         };
-        let Some((at, undo)) = position.placed.take() else {
+        let Some(at) = self.placed(position) else {
             return Ok(true);
         };
-        self.trial.undo(undo)?;
-        position.asleep.push(at)?;
-        if let Some(step) = self.steps.get(at) {
-            self.by_begin.insert((step.ticks.begin, at))?;
-            self.by_end.insert((step.ticks.end, at))?;
-        }
+        let Some(step) = self.steps.get(at) else {
+            return Ok(true);
+        };
+        let now = self.now();
+        self.trial.undo(step, now);
+        self.asleep.push(at)?;
+        self.by_begin.insert((step.ticks.begin, at))?;
+        self.by_end.insert((step.ticks.end, at))?;
         Ok(true)
     }
 
-    /// The order that was found.
-    fn finish(&mut self) -> Result<Vec<usize>, AllocError> {
+    /// The step that was tried last at a place, which is there where there is a place after it.
+    fn placed(&self, position: Position) -> Option<usize> {
+        let last = position.next.checked_sub(1)?;
+        self.choices.get(last).copied()
+    }
+
+    /// The order that was found. No step is at the last place.
+    fn order(&self) -> Result<Vec<usize>, AllocError> {
         let mut order = Vec::new(self.alloc);
         for position in self.positions.iter() {
-            if let Some((at, _)) = &position.placed {
-                order.push(*at)?;
+            if position.next > position.choices
+                && let Some(at) = self.placed(*position)
+            {
+                order.push(at)?;
             }
         }
         Ok(order)
     }
-}
-
-/// Closes the last place. It is let go here, and not at each exit of the caller.
-fn close(positions: &mut Vec<Position>) {
-    let _closed = positions.pop();
-}
-
-fn no_memory(step: usize) -> NoOrder {
-    let why = Unplaced::NoMemory;
-    NoOrder { step, why }
 }
 
 impl Judge {
@@ -295,46 +276,50 @@ impl Judge {
         ensures told { (lines : ℕ → ℕ) (l : Log) (i : ℕ) → Remembers lines l i self.old → OnOk result (Remembers lines l i self.new) }
         ensures allowed { OnOk result (self.new.allowed ≡ self.old.allowed) }
     {
-        let mut open = BTreeMap::new(self.alloc);
-        let mut candidates = Vec::new(self.alloc);
+        let mut names = Vec::new(self.alloc);
+        let mut all = Vec::new(self.alloc);
         for (at, waiting) in steps.iter().enumerate() {
-            match self.prepare(&mut open, &mut candidates, waiting) {
+            match self.prepare(&mut all, &mut names, waiting) {
                 Ok(()) => {}
-                Err(AllocError) => return Err(no_memory(at)),
+                Err(AllocError) => {
+                    let why = Unplaced::NoMemory;
+                    return Err(NoOrder { step: at, why });
+                }
             }
         }
-        self.search(open, &candidates, moments)
+        self.search(&all, &names, moments)
     }
 
     /// Looks for an order.
     fn search(
         &self,
-        open: BTreeMap<Reader, Open>,
-        steps: &[Candidate],
+        steps: &[Asked],
+        names: &[Name],
         moments: &[usize],
     ) -> Result<Vec<usize>, NoOrder> {
         let alloc = self.alloc;
         let mut search = Search {
             alloc,
-            trial: Trial::new(alloc, &self.known.directories, open),
+            trial: Trial::new(alloc, &self.known.directories, &self.listings, names),
             steps,
             moments,
             by_begin: BTreeSet::new(alloc),
             by_end: BTreeSet::new(alloc),
             positions: Vec::new(alloc),
+            choices: Vec::new(alloc),
+            asleep: Vec::new(alloc),
             deepest: 0,
             stuck: 0,
             tries: 0,
         };
-        search.run()?;
-        search.finish().map_err(|_| no_memory(0))
+        search.find()
     }
 
-    /// Makes a step ready to be placed.
+    /// Makes a step ready to be placed, with the names that it shows.
     fn prepare(
         &mut self,
-        open: &mut BTreeMap<Reader, Open>,
-        candidates: &mut Vec<Candidate>,
+        all: &mut Vec<Asked>,
+        names: &mut Vec<Name>,
         waiting: &Option<Waiting>,
     ) -> Result<(), AllocError>
         ensures told { (lines : ℕ → ℕ) (l : Log) (i : ℕ) → Remembers lines l i self.old → OnOk result (Remembers lines l i self.new) }
@@ -343,54 +328,36 @@ impl Judge {
         let Some(Waiting { step, .. }) = waiting else {
             return Ok(());
         };
-        let asked = self.asked(step)?;
-        if let Asked::List { reader, place, .. } = &asked
-            && !open.contains_key(reader)
-            && let Some(reading) = self.open_reading(*reader, *place)?
-        {
-            open.insert(*reader, reading)?;
+        let mut asked = self.asked(names, step)?;
+        if let Some(ticks) = step.ticks {
+            asked.ticks = ticks;
         }
-        let ticks = step.ticks.unwrap_or(Ticks { begin: 0, end: 0 });
-        candidates.push(Candidate { asked, ticks })?;
+        all.push(asked)?;
         Ok(())
     }
 
-    /// A reading that goes on.
-    fn open_reading(
-        &self,
-        reader: Reader,
-        place: md_dirs::Place,
-    ) -> Result<Option<Open>, AllocError> {
-        match self.listings.get(&(reader.0, reader.1.0)) {
-            None => Ok(None),
-            Some(listing) => listing.open(self.alloc, place),
-        }
-    }
-
-    fn asked(&mut self, step: &Step) -> Result<Asked, AllocError>
+    fn asked(&mut self, names: &mut Vec<Name>, step: &Step) -> Result<Asked, AllocError>
         ensures told { (lines : ℕ → ℕ) (l : Log) (i : ℕ) → Remembers lines l i self.old → OnOk result (Remembers lines l i self.new) }
         ensures allowed { OnOk result (self.new.allowed ≡ self.old.allowed) }
     {
+        let mut asked = ANSWER;
         match &step.call {
-            Call::At { deed, path, reply } => Ok(Asked::At {
-                deed: *deed,
-                path: self.spot(path)?,
-                reply: *reply,
-            }),
+            Call::At { deed, path, reply } => {
+                asked.deal = Deal::At(*deed);
+                asked.reply = *reply;
+                asked.old = self.spot(path)?;
+                asked.new = asked.old;
+            }
             Call::Between {
                 naming,
                 old,
                 new,
                 reply,
             } => {
-                let old = self.spot(old)?;
-                let new = self.spot(new)?;
-                Ok(Asked::Between {
-                    naming: *naming,
-                    old,
-                    new,
-                    reply: *reply,
-                })
+                asked.deal = Deal::Between(*naming);
+                asked.reply = *reply;
+                asked.old = self.spot(old)?;
+                asked.new = self.spot(new)?;
             }
             Call::List {
                 folder,
@@ -398,21 +365,22 @@ impl Judge {
                 reply,
                 shown,
             } => {
-                let actor = self.actor(step.actor.as_slice())?;
-                let names = self.numbers(shown.as_slice())?;
-                let mut shown = BTreeSet::new(self.alloc);
-                for name in names.iter() {
-                    shown.insert(*name)?;
-                }
-                Ok(Asked::List {
-                    reader: (actor, (*folder, *place as u32)),
+                asked.deal = Deal::List;
+                asked.reply = *reply;
+                asked.old = Spot {
+                    folder: *folder,
                     place: *place,
-                    reply: *reply,
-                    shown,
-                })
+                    name: ALL,
+                };
+                asked.new = asked.old;
+                asked.actor = self.actor(step.actor.as_slice())?;
+                let begin = names.len();
+                names.extend_from_slice(&self.numbers(shown.as_slice())?)?;
+                asked.shown = (begin, names.len());
             }
-            Call::Answer { .. } => Ok(Asked::Answer),
+            Call::Answer { .. } => {}
         }
+        Ok(asked)
     }
 
     /// A path by numbers.

@@ -1,99 +1,90 @@
 //! Calls that are tried on the directories and taken back: whether directories give their replies here.
-use super::acts::{defined_at, defined_between, naming_change};
-use super::directories::{Directories, Directory, Named};
-use super::since::was_there_since;
-use md_clauses::{Change, Moment, NO_CHANGE, Name, Spot, moment_of};
+//!
+//! What a call did stands under its moment, so taking it out undoes the call.
+use super::acts::{is_wrong_at, is_wrong_between};
+use super::directories::{Directories, Named};
+use super::known::{change_at, change_between};
+use super::listing::{Listings, Reading};
+use super::since::is_there_since;
+use md_clauses::{Change, Moment, Name, Spot, moment_of};
 use md_dirs::Place;
-use md_log::{Deed, Naming, Reply};
+use md_log::{Deed, Naming, Reply, Ticks};
 use std::alloc::{AllocError, Global};
 use std::collections::{BTreeMap, BTreeSet};
 
-/// A folder and a place.
-type Site = (u32, u32);
+/// What stands for the names of a directory: no name has this number.
+pub(super) const ALL: Name = u64::MAX;
 
-/// An actor, a folder and a place: whose reading of what.
-pub(super) type Reader = (u32, Site);
-
-/// A call by numbers, as far as directories answer it.
-#[derive(Drop)]
-pub(super) enum Asked {
-    At {
-        deed: Deed,
-        path: Spot,
-        reply: Reply,
-    },
-    Between {
-        naming: Naming,
-        old: Spot,
-        new: Spot,
-        reply: Reply,
-    },
-    List {
-        reader: Reader,
-        place: Place,
-        reply: Reply,
-        shown: BTreeSet<Name>,
-    },
+/// A call, as far as directories answer it.
+#[derive(Clone, Copy)]
+pub(super) enum Deal {
+    At(Deed),
+    Between(Naming),
+    List,
     Answer,
 }
 
+/// A step by numbers, to be placed.
+#[derive(Clone, Copy)]
+pub(super) struct Asked {
+    pub(super) deal: Deal,
+    pub(super) reply: Reply,
+    /// The paths that it names, where it names one that one twice; of a reading, `ALL` names of its directory.
+    pub(super) old: Spot,
+    pub(super) new: Spot,
+    /// Of a reading: the actor, and where the names that it shows begin and end among those of all readings.
+    pub(super) actor: u32,
+    pub(super) shown: (usize, usize),
+    pub(super) ticks: Ticks,
+}
+
+const NO_SPOT: Spot = Spot {
+    folder: u32::MAX,
+    place: Place::Tmp,
+    name: ALL,
+};
+
+/// An answer, which fits everywhere.
+pub(super) const ANSWER: Asked = Asked {
+    deal: Deal::Answer,
+    reply: Reply::Ok,
+    old: NO_SPOT,
+    new: NO_SPOT,
+    actor: 0,
+    shown: (0, 0),
+    ticks: Ticks { begin: 0, end: 0 },
+};
+
 impl Asked {
-    /// The paths that the call names.
-    fn paths(&self) -> (Option<Spot>, Option<Spot>) {
-        match self {
-            Asked::At { path, .. } => (Some(*path), None),
-            Asked::Between { old, new, .. } => (Some(*old), Some(*new)),
-            _ => (None, None),
-        }
-    }
-
-    /// Whether the call changes names.
+    /// Whether it changes names.
     fn is_change(&self) -> bool {
-        match self {
-            Asked::At { deed, reply, .. } => *reply == Reply::Ok
-                && matches!(*deed, Deed::Create | Deed::Unlink),
-            Asked::Between { reply, .. } => *reply == Reply::Ok,
-            _ => false,
-        }
-    }
-
-    /// Whether it reads the directory of a path.
-    fn reads(&self, path: Option<Spot>) -> bool {
-        match (self, path) {
-            (Asked::List { reader, place, .. }, Some(path)) => reader.1.0 == path.folder
-                && *place == path.place,
+        match self.deal {
+            Deal::At(Deed::Create | Deed::Unlink) | Deal::Between(_) => self.reply == Reply::Ok,
             _ => false,
         }
     }
 
     /// Whether two calls answer and do the same in either order, wherever both can be made.
     pub(super) fn is_apart(&self, other: &Asked) -> bool {
-        if let (Asked::List { reader: one, .. }, Asked::List { reader: two, .. }) = (self, other) {
-            return *one != *two;
+        if self.is_change() || other.is_change() {
+            let is_met = meets(self.old, other.old)
+                || meets(self.old, other.new)
+                || meets(self.new, other.old)
+                || meets(self.new, other.new);
+            return !is_met;
         }
-        if !self.is_change() && !other.is_change() {
-            return true;
+        match (self.deal, other.deal) {
+            (Deal::List, Deal::List) => self.actor != other.actor || !meets(self.old, other.old),
+            _ => true,
         }
-        let (one, two) = self.paths();
-        let (three, four) = other.paths();
-        let is_shared = is_same(one, three)
-            || is_same(one, four)
-            || is_same(two, three)
-            || is_same(two, four);
-        let is_read = self.reads(three) || self.reads(four) || other.reads(one) || other.reads(two);
-        !is_shared && !is_read
     }
 }
 
-fn is_same(one: Option<Spot>, two: Option<Spot>) -> bool {
-    one.is_some() && one == two
-}
-
-/// A reading that goes on: the moment of its first part, and the names that it showed.
-#[derive(Drop)]
-pub(super) struct Open {
-    pub(super) first: usize,
-    pub(super) shown: BTreeSet<Name>,
+/// Whether two paths are one, or one of them is of a directory that the other stands for.
+fn meets(one: Spot, two: Spot) -> bool {
+    one.folder == two.folder
+        && one.place == two.place
+        && (one.name == two.name || one.name == ALL || two.name == ALL)
 }
 
 /// What tried calls made of a path.
@@ -103,145 +94,194 @@ struct Tried {
     was: Option<Moment>,
 }
 
-/// What was tried of a path before a call, where anything was.
+/// A part of a reading: the first moment of the reading, unless it is over, and where the names of the part begin and end.
 #[derive(Clone, Copy)]
-struct Before {
-    spot: Spot,
-    tried: Option<Tried>,
+struct Part {
+    first: Option<usize>,
+    shown: (usize, usize),
 }
 
-/// What a call that is tried did, so that it can be taken back.
-#[derive(Drop)]
-pub(super) struct Undo {
-    added: Option<Before>,
-    taken: Option<Before>,
-    reading: Undone,
-}
+/// A path, and a moment.
+type PathThen = (u32, u32, Name, usize);
 
-#[derive(Drop)]
-enum Undone {
-    Nothing,
-    /// A part was added that showed these names for the first time.
-    Part {
-        reader: Reader,
-        was_open: bool,
-        names: Vec<Name>,
-    },
-    /// A reading was ended.
-    End {
-        reader: Reader,
-        open: Option<Open>,
-    },
-}
+/// An actor, a folder, a place and a moment.
+type PartThen = (u32, u32, u32, usize);
 
-/// What tried calls make of the directories, and the readings that go on. The directories stay as they are.
+/// What tried calls make of the directories and of readings. The directories stay as they are.
 #[derive(Drop)]
 pub(super) struct Trial<'a> {
-    alloc: Global,
     directories: &'a Directories,
-    tried: BTreeMap<Site, BTreeMap<Name, Tried>>,
-    open: BTreeMap<Reader, Open>,
+    listings: &'a Listings,
+    names: &'a [Name],
+    tried: BTreeMap<PathThen, Tried>,
+    /// The paths of which anything was ever tried.
+    paths: BTreeSet<(u32, u32, Name)>,
+    parts: BTreeMap<PartThen, Part>,
+    /// The names that a reading showed that is looked at.
+    shown: BTreeSet<Name>,
     /// The number of the next file that is made: they count down, so that none is a file that there is.
     next_file: u32,
 }
 
 impl Trial<'_> {
-    /// Nothing is tried yet, and these readings go on.
+    /// Nothing is tried yet. These are the names that readings show.
     pub(super) fn new<'a>(
         alloc: Global,
         directories: &'a Directories,
-        open: BTreeMap<Reader, Open>,
+        listings: &'a Listings,
+        names: &'a [Name],
     ) -> Trial<'a> {
         Trial {
-            alloc,
             directories,
+            listings,
+            names,
             tried: BTreeMap::new(alloc),
-            open,
+            paths: BTreeSet::new(alloc),
+            parts: BTreeMap::new(alloc),
+            shown: BTreeSet::new(alloc),
             next_file: u32::MAX,
         }
     }
 
-    /// Whether the directories give the call's reply at this moment.
-    pub(super) fn fits(&self, asked: &Asked, now: usize) -> bool {
-        match asked {
-            Asked::Answer => true,
-            Asked::At { deed, path, reply } => {
-                let is_there = self.file_at(*path).is_some();
-                *reply == Reply::Fault || *reply == defined_at(*deed, is_there)
-            }
-            Asked::Between {
-                naming,
-                old,
-                new,
-                reply,
-            } => {
-                let is_old = self.file_at(*old).is_some();
-                let is_new = self.file_at(*new).is_some();
-                *reply == Reply::Fault || *reply == defined_between(*naming, is_old, is_new)
-            }
-            Asked::List {
-                reader,
-                place,
-                reply,
-                shown,
-            } => {
-                let Some(directory) = self.directories.directory(reader.1.0, *place) else {
-                    return false;
-                };
-                let looks = Looks {
-                    directory,
-                    tried: self.tried.get(&reader.1),
-                    shown,
-                    open: self.open.get(reader),
-                    now,
-                };
-                match reply {
-                    Reply::Fault => true,
-                    Reply::More => looks.is_rightly_shown(),
-                    Reply::Ok => looks.is_rightly_shown() && looks.is_whole(),
-                    Reply::Exists | Reply::NotFound => false,
-                }
-            }
-        }
-    }
-
-    /// What was tried of a path.
-    fn tried_at(&self, spot: Spot) -> Option<Tried> {
-        self.tried.get(&site_of(spot))?.get(&spot.name).copied()
-    }
-
-    /// The name of a path that is there.
-    fn named_at(&self, spot: Spot) -> Option<Named> {
-        match self.tried_at(spot) {
-            Some(tried) => tried.named,
-            None => self.directories.named_at(spot),
+    /// What was tried of a path last, or is so of it.
+    fn tried_at(&self, spot: Spot) -> Tried {
+        let last = (spot.folder, spot.place as u32, spot.name, usize::MAX);
+        match self.tried.range(..=last).next_back() {
+            Some((path, tried)) if (path.0, path.1, path.2) == (last.0, last.1, last.2) => *tried,
+            _ => Tried {
+                named: self.directories.named_at(spot),
+                was: self.directories.was_at(spot),
+            },
         }
     }
 
     fn file_at(&self, spot: Spot) -> Option<u32> {
-        self.named_at(spot).map(|named| named.file)
+        match self.tried_at(spot).named {
+            None => None,
+            Some(named) => Some(named.file),
+        }
+    }
+
+    /// Whether the directories give the call's reply at this moment.
+    pub(super) fn fits(&mut self, asked: &Asked, now: usize) -> Result<bool, AllocError> {
+        let is_old = self.file_at(asked.old).is_some();
+        match asked.deal {
+            Deal::Answer => Ok(true),
+            Deal::At(deed) => Ok(!is_wrong_at(deed, is_old, asked.reply)),
+            Deal::Between(naming) => {
+                let are_there = (is_old, self.file_at(asked.new).is_some());
+                Ok(!is_wrong_between(naming, are_there, asked.reply))
+            }
+            Deal::List => self.shows(asked, now),
+        }
+    }
+
+    /// Whether a directory may answer a part of a reading so.
+    fn shows(&mut self, asked: &Asked, now: usize) -> Result<bool, AllocError> {
+        let first = self.first(asked).unwrap_or(now);
+        match asked.reply {
+            Reply::Fault => Ok(true),
+            Reply::More => Ok(self.is_rightly_shown(asked, first)),
+            Reply::Ok if self.is_rightly_shown(asked, first) => {
+                self.gather(asked, first)?;
+                Ok(self.is_whole(asked.old, first))
+            }
+            _ => Ok(false),
+        }
+    }
+
+    /// Whether each name that the part shows was there since the first part.
+    fn is_rightly_shown(&self, asked: &Asked, first: usize) -> bool {
+        for name in shown_in(self.names, asked.shown) {
+            let tried = self.tried_at(named_in(asked.old, *name));
+            if tried.named.is_none() && !is_from(tried.was, first) {
+                return false;
+            }
+        }
+        true
+    }
+
+    /// Whether the names that were gathered have each that was there all the while.
+    fn is_whole(&self, of: Spot, first: usize) -> bool {
+        let Some(directory) = self.directories.directory(of.folder, of.place) else {
+            return false;
+        };
+        for (name, _) in directory.names.iter() {
+            if self.lacks(named_in(of, *name), first) {
+                return false;
+            }
+        }
+        for (folder, place, name) in self.paths.range((of.folder, of.place as u32, 0)..) {
+            if (*folder, *place) != (of.folder, of.place as u32) {
+                break;
+            }
+            if self.lacks(named_in(of, *name), first) {
+                return false;
+            }
+        }
+        true
+    }
+
+    /// Whether a path was there all the while that was not gathered.
+    fn lacks(&self, spot: Spot, first: usize) -> bool {
+        match self.tried_at(spot).named {
+            Some(named) => is_there_since(named, first) && !self.shown.contains(&spot.name),
+            None => false,
+        }
+    }
+
+    /// Gathers the names that the parts of a reading show, of which this one is the last.
+    fn gather(&mut self, asked: &Asked, first: usize) -> Result<(), AllocError> {
+        self.shown.clear();
+        if let Some(reading) = reading_before(self.listings, asked)
+            && reading.first == Some(first)
+        {
+            for name in reading.shown.iter() {
+                self.shown.insert(*name)?;
+            }
+        }
+        let from = then(asked, first);
+        for (then, part) in self.parts.range(from..) {
+            if (then.0, then.1, then.2) != (from.0, from.1, from.2) {
+                break;
+            }
+            for name in shown_in(self.names, part.shown) {
+                self.shown.insert(*name)?;
+            }
+        }
+        for name in shown_in(self.names, asked.shown) {
+            self.shown.insert(*name)?;
+        }
+        Ok(())
+    }
+
+    /// The first moment of the reading, where it goes on.
+    fn first(&self, asked: &Asked) -> Option<usize> {
+        let last = then(asked, usize::MAX);
+        match self.parts.range(..=last).next_back() {
+            Some((then, part)) if (then.0, then.1, then.2) == (last.0, last.1, last.2) =>
+                part.first,
+            _ => reading_before(self.listings, asked)?.first,
+        }
     }
 
     /// Does what a call did whose reply fits.
-    pub(super) fn make(&mut self, asked: &Asked, now: usize) -> Result<Undo, AllocError> {
-        let change = self.change_of(asked);
-        let added = match (change.added, change.turned) {
-            (Some((spot, _)), _) | (None, Some((spot, _, _))) => Some(self.before(spot)),
-            (None, None) => None,
-        };
-        let taken = change.taken.map(|(spot, _)| self.before(spot));
-        self.change(now, change)?;
-        let reading = self.read(asked, now)?;
-        Ok(Undo {
-            added,
-            taken,
-            reading,
-        })
-    }
-
-    fn before(&self, spot: Spot) -> Before {
-        let tried = self.tried_at(spot);
-        Before { spot, tried }
+    pub(super) fn make(&mut self, asked: &Asked, now: usize) -> Result<(), AllocError> {
+        let file = self.file_at(asked.old);
+        match asked.deal {
+            Deal::Answer => Ok(()),
+            Deal::At(deed) => {
+                let change = change_at(deed, asked.old, file, asked.reply, self.next_file);
+                self.next_file = self.next_file.saturating_sub(1);
+                self.change(now, change)
+            }
+            Deal::Between(naming) => {
+                let there = self.file_at(asked.new);
+                let change = change_between(naming, asked.old, asked.new, file, there, asked.reply);
+                self.change(now, change)
+            }
+            Deal::List => self.read(asked, now),
+        }
     }
 
     /// Tries the change of a call.
@@ -249,222 +289,78 @@ impl Trial<'_> {
         let next = moment_of(now.saturating_add(1));
         if let Some((spot, _)) = change.taken {
             let was = Some(moment_of(now));
-            self.put(spot, Some(Tried { named: None, was }))?;
+            self.put(spot, now, Tried { named: None, was })?;
         }
-        if let Some((spot, _, file)) = change.turned {
-            let since = self.named_at(spot).map_or(next, |named| named.since);
-            self.add(spot, Named { file, since })?;
-        }
-        if let Some((spot, file)) = change.added {
-            self.add(spot, Named { file, since: next })?;
+        if let Some((spot, file)) = change.named() {
+            let Tried { named, was } = self.tried_at(spot);
+            let since = match named {
+                None => next,
+                Some(named) => named.since,
+            };
+            let named = Some(Named { file, since });
+            self.put(spot, now, Tried { named, was })?;
         }
         Ok(())
-    }
-
-    /// A path is there.
-    fn add(&mut self, spot: Spot, named: Named) -> Result<(), AllocError> {
-        let was = match self.tried_at(spot) {
-            Some(tried) => tried.was,
-            None => self.directories.was_at(spot),
-        };
-        let named = Some(named);
-        self.put(spot, Some(Tried { named, was }))
     }
 
     /// Puts what is tried of a path.
-    fn put(&mut self, spot: Spot, tried: Option<Tried>) -> Result<(), AllocError> {
-        let site = site_of(spot);
-        if !self.tried.contains_key(&site) {
-            self.tried.insert(site, BTreeMap::new(self.alloc))?;
-        }
-        if let Some(names) = self.tried.get_mut(&site) {
-            match tried {
-                None => {
-                    names.remove(&spot.name);
-                }
-                Some(tried) => {
-                    names.insert(spot.name, tried)?;
-                }
-            }
-        }
+    fn put(&mut self, spot: Spot, now: usize, tried: Tried) -> Result<(), AllocError> {
+        let place = spot.place as u32;
+        self.paths.insert((spot.folder, place, spot.name))?;
+        self.tried
+            .insert((spot.folder, place, spot.name, now), tried)?;
         Ok(())
     }
 
-    /// What a call does to paths.
-    fn change_of(&mut self, asked: &Asked) -> Change {
-        let mut change = NO_CHANGE;
-        if !asked.is_change() {
-            return change;
-        }
-        match asked {
-            Asked::At { deed, path, .. } => match self.file_at(*path) {
-                Some(file) if *deed == Deed::Unlink => change.taken = Some((*path, file)),
-                None if *deed == Deed::Create => {
-                    change.added = Some((*path, self.next_file));
-                    self.next_file = self.next_file.saturating_sub(1);
-                }
-                _ => {}
-            },
-            Asked::Between {
-                naming,
-                old,
-                new,
-                ..
-            } => {
-                if let Some(file) = self.file_at(*old) {
-                    let there = self.file_at(*new);
-                    change = naming_change(*naming, *old, *new, file, there);
-                }
-            }
-            Asked::List { .. } | Asked::Answer => {}
-        }
-        change
-    }
-
     /// Goes on with a reading, or ends it.
-    fn read(&mut self, asked: &Asked, now: usize) -> Result<Undone, AllocError> {
-        let Asked::List {
-            reader,
-            place: _,
-            reply,
-            shown,
-        } = asked
-        else {
-            return Ok(Undone::Nothing);
+    fn read(&mut self, asked: &Asked, now: usize) -> Result<(), AllocError> {
+        let first = match asked.reply {
+            Reply::More => Some(self.first(asked).unwrap_or(now)),
+            _ => None,
         };
-        let reader = *reader;
-        if *reply != Reply::More {
-            let open = self.open.remove(&reader);
-            return Ok(Undone::End { reader, open });
-        }
-        let was_open = self.open.contains_key(&reader);
-        if !was_open {
-            let open = Open {
-                first: now,
-                shown: BTreeSet::new(self.alloc),
-            };
-            self.open.insert(reader, open)?;
-        }
-        let mut names = Vec::new(self.alloc);
-        if let Some(open) = self.open.get_mut(&reader) {
-            for name in shown.iter() {
-                if open.shown.insert(*name)? {
-                    names.push(*name)?;
-                }
-            }
-        }
-        Ok(Undone::Part {
-            reader,
-            was_open,
-            names,
-        })
+        let shown = asked.shown;
+        self.parts.insert(then(asked, now), Part { first, shown })?;
+        Ok(())
     }
 
-    /// Takes back what the last call did that is not taken back.
-    pub(super) fn undo(&mut self, undo: Undo) -> Result<(), AllocError> {
-        let Undo {
-            added,
-            taken,
-            reading,
-        } = undo;
-        match reading {
-            Undone::Nothing => {}
-            Undone::End { reader, open } => {
-                if let Some(open) = open {
-                    self.open.insert(reader, open)?;
-                }
-            }
-            Undone::Part {
-                reader,
-                was_open,
-                names,
-            } => {
-                if !was_open {
-                    self.open.remove(&reader);
-                } else if let Some(open) = self.open.get_mut(&reader) {
-                    for name in names.iter() {
-                        open.shown.remove(name);
-                    }
-                }
-            }
-        }
-        self.put_back(taken)?;
-        self.put_back(added)
-    }
-
-    fn put_back(&mut self, before: Option<Before>) -> Result<(), AllocError> {
-        match before {
-            None => Ok(()),
-            Some(before) => self.put(before.spot, before.tried),
-        }
+    /// Takes back what a call did at this moment.
+    pub(super) fn undo(&mut self, asked: &Asked, now: usize) {
+        let Asked { old, new, .. } = *asked;
+        self.tried
+            .remove(&(old.folder, old.place as u32, old.name, now));
+        self.tried
+            .remove(&(new.folder, new.place as u32, new.name, now));
+        self.parts.remove(&then(asked, now));
     }
 }
 
-/// What a part of a reading is judged by: the directory, what was tried of its names, and the names that the part and those before it show.
-#[derive(Clone, Copy)]
-struct Looks<'a, 'b> {
-    directory: &'a Directory,
-    tried: Option<&'b BTreeMap<Name, Tried>>,
-    shown: &'b BTreeSet<Name>,
-    open: Option<&'b Open>,
-    now: usize,
+/// The names of a part of a reading, among those of all readings.
+fn shown_in(names: &[Name], shown: (usize, usize)) -> &[Name] {
+    match names.get(shown.0..shown.1) {
+        None => &[],
+        Some(names) => names,
+    }
 }
 
-impl Looks<'_, '_> {
-    /// The moment of the reading's first part.
-    fn first(&self) -> usize {
-        match self.open {
-            None => self.now,
-            Some(open) => open.first,
-        }
-    }
+/// The reading before anything was tried.
+fn reading_before<'a>(listings: &'a Listings, asked: &Asked) -> Option<&'a Reading> {
+    let listing = listings.get(&(asked.actor, asked.old.folder))?;
+    Some(listing.reading(asked.old.place))
+}
 
-    fn tried(&self, name: Name) -> Option<Tried> {
-        self.tried?.get(&name).copied()
-    }
+/// The part of a reading at a moment.
+fn then(asked: &Asked, moment: usize) -> PartThen {
+    let Spot { folder, place, .. } = asked.old;
+    (asked.actor, folder, place as u32, moment)
+}
 
-    /// Whether each name that the part shows was there since the first part.
-    fn is_rightly_shown(&self) -> bool {
-        let first = self.first();
-        for name in self.shown.iter() {
-            let was_there = match self.tried(*name) {
-                None => was_there_since(self.directory, *name, first),
-                Some(tried) => tried.named.is_some() || is_from(tried.was, first),
-            };
-            if !was_there {
-                return false;
-            }
-        }
-        true
-    }
-
-    /// Whether the reading, which ends, has shown each name that was there all the while.
-    fn is_whole(&self) -> bool {
-        for (name, named) in self.directory.names.iter() {
-            if self.tried(*name).is_none() && self.lacks(*name, *named) {
-                return false;
-            }
-        }
-        let Some(tried) = self.tried else {
-            return true;
-        };
-        for (name, tried) in tried.iter() {
-            if let Some(named) = tried.named
-                && self.lacks(*name, named)
-            {
-                return false;
-            }
-        }
-        true
-    }
-
-    /// Whether a name was there all the while that no part shows.
-    fn lacks(&self, name: Name, named: Named) -> bool {
-        let was_shown = match self.open {
-            None => false,
-            Some(open) => open.shown.contains(&name),
-        };
-        named.since as usize <= self.first() && !was_shown && !self.shown.contains(&name)
+/// A name of a directory.
+fn named_in(of: Spot, name: Name) -> Spot {
+    let Spot { folder, place, .. } = of;
+    Spot {
+        folder,
+        place,
+        name,
     }
 }
 
@@ -474,8 +370,4 @@ fn is_from(was: Option<Moment>, first: usize) -> bool {
         None => false,
         Some(last) => last as usize >= first,
     }
-}
-
-fn site_of(spot: Spot) -> Site {
-    (spot.folder, spot.place as u32)
 }

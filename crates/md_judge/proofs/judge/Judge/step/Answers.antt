@@ -66,26 +66,26 @@ use Rattle.md_judge.proofs.judge.Judge.step.Goals as goal
 
 -- ---- what is not judged
 
-pub returns-in-List-clause-allowed : goal.returns-in-List-clause-allowed
-returns-in-List-clause-allowed c = on-ok c.list.result c.in_ok-names-in-List.ensures.allowed
+pub returns-in_ok-names-in-List-clause-allowed : goal.returns-in_ok-names-in-List-clause-allowed
+returns-in_ok-names-in-List-clause-allowed c = on-ok c.list.result c.in_ok-names-in-List.ensures.allowed
 
-pub returns-in-Answer-clause-allowed : goal.returns-in-Answer-clause-allowed
-returns-in-Answer-clause-allowed c = refl
+pub returns-in_ok-unique-in-Answer-clause-allowed : goal.returns-in_ok-unique-in-Answer-clause-allowed
+returns-in_ok-unique-in-Answer-clause-allowed c = refl
 
-pub returns-clause-allowed : goal.returns-clause-allowed
-returns-clause-allowed c = on-ok c.call.result refl
+pub returns-in_default-clause-allowed : goal.returns-in_default-clause-allowed
+returns-in_default-clause-allowed c = on-ok c.call.result refl
 
 -- ---- readings that are open
 
-pub returns-in-List-clause-opens : goal.returns-in-List-clause-opens
-returns-in-List-clause-opens c = λ lines l i is-open is here now.
+pub returns-in_ok-names-in-List-clause-opens : goal.returns-in_ok-names-in-List-clause-opens
+returns-in_ok-names-in-List-clause-opens c = λ lines l i is-open is here now.
     let first = c.args.self.now in
     let judge = c.numbers.new.self in
     let names = judge.known.names in
     let number = c.in_ok-actor.actor in
     let folder = c.in-List.folder in
     let place = c.in-List.place in
-    let x = c.args.step in
+    let x = c.args.step.now in
     let before = open-before lines first.actor_names c.number.new.self judge.actor_names c.in_ok-actor.field-0-1 c.as_slice.result.now
     first.known.names c.step.new.self.names names l i first.listings judge.listings c.in_ok-actor.ensures.grows c.are_apart.ensures.apart
     c.step.ensures.keeps c.numbers.ensures.keeps c.numbers.ensures.rest.2 c.numbers.ensures.rest.1 is-open in
@@ -101,11 +101,11 @@ returns-in-List-clause-opens c = λ lines l i is-open is here now.
     c.in-List.reply c.in-List.shown c.deref.result.now judge.watch.now named c.in-List.is here' are keeps) c.list.ensures.part
 
 -- a part of a reading, and what is kept of it, are what the log tells
-told-part : (c : goal.Joined-step-6) (lines : ℕ → ℕ) (l : Log) (i : ℕ) → IsToldAt lines l i c.args.self.now.known
+told-part : (c : goal.After-drop-names) (lines : ℕ → ℕ) (l : Log) (i : ℕ) → IsToldAt lines l i c.args.self.now.known
     → AreOpen lines c.args.self.now.actor_names c.args.self.now.known.names l i c.args.self.now.listings
-    → slice_get l.steps i ≡ Some (record { number = c.args.line; step = c.args.step }) → lines i ≡ c.args.line → HasFolders (at l i) c.args.step.call
+    → slice_get l.steps i ≡ Some (record { number = c.args.line; step = c.args.step.now }) → lines i ≡ c.args.line → HasFolders (at l i) c.args.step.now.call
     → c.args.self.now.watch.now ≡ c.args.line → ((a b : ℕ) → a < b → lines a < lines b)
-    → IsToldPart lines l i c.args.step c.in-List.folder c.in-List.place c.in-List.reply c.in-List.shown c.numbers.new.self.known c.deref.result.now
+    → IsToldPart lines l i c.args.step.now c.in-List.folder c.in-List.place c.in-List.reply c.in-List.shown c.numbers.new.self.known c.deref.result.now
     c.numbers.new.self.watch.now (first_in c.numbers.new.self.listings c.in_ok-actor.actor c.in-List.folder c.in-List.place)
     (shows_in c.numbers.new.self.listings c.in_ok-actor.actor c.in-List.folder c.in-List.place)
 told-part c lines l i told is-open is here there now rises =
@@ -115,7 +115,7 @@ told-part c lines l i told is-open is here there now rises =
     let number = c.in_ok-actor.actor in
     let folder = c.in-List.folder in
     let place = c.in-List.place in
-    let x = c.args.step in
+    let x = c.args.step.now in
     let before = open-before lines first.actor_names c.number.new.self judge.actor_names c.in_ok-actor.field-0-1 c.as_slice.result.now
     first.known.names c.step.new.self.names names l i first.listings judge.listings c.in_ok-actor.ensures.grows c.are_apart.ensures.apart
     c.step.ensures.keeps c.numbers.ensures.keeps c.numbers.ensures.rest.2 c.numbers.ensures.rest.1 is-open in
@@ -137,35 +137,35 @@ told-part c lines l i told is-open is here there now rises =
       recalls = before.open_at number x.actor folder place named;
     }
 
-pub returns-in-Answer-clause-opens : goal.returns-in-Answer-clause-opens
-returns-in-Answer-clause-opens c = λ lines l i is-open is here now.
+pub returns-in_ok-unique-in-Answer-clause-opens : goal.returns-in_ok-unique-in-Answer-clause-opens
+returns-in_ok-unique-in-Answer-clause-opens c = λ lines l i is-open is here now.
     let first = c.args.self.now in
     let before = open-before lines first.actor_names c.number.new.self c.number.new.self c.in_ok-actor.field-0-1 c.as_slice.result.now
     first.known.names c.step.new.self.names c.unique.new.self l i first.listings first.listings c.in_ok-actor.ensures.grows c.are_apart.ensures.apart
     c.step.ensures.keeps c.unique.ensures.keeps refl refl is-open in
-    open-rests lines c.number.new.self c.unique.new.self l i first.listings first.listings before c.args.step (c.args.line, is)
+    open-rests lines c.number.new.self c.unique.new.self l i first.listings first.listings before c.args.step.now (c.args.line, is)
     (subst IsNoPart (sym c.in-Answer.is) (answer-no-part _ _ _))
 
-pub returns-clause-opens : goal.returns-clause-opens
-returns-clause-opens c = λ lines l i is-open is here now.
+pub returns-in_default-clause-opens : goal.returns-in_default-clause-opens
+returns-in_default-clause-opens c = λ lines l i is-open is here now.
     let first = c.args.self.now in
     let before = open-before lines first.actor_names c.number.new.self c.number.new.self c.in_ok-actor.field-0-1 c.as_slice.result.now
     first.known.names c.step.new.self.names c.step.new.self.names l i first.listings first.listings c.in_ok-actor.ensures.grows c.are_apart.ensures.apart
     c.step.ensures.keeps (λ name n of. of) refl refl is-open in
-    on-ok c.call.result (open-rests lines c.number.new.self c.step.new.self.names l i first.listings first.listings before c.args.step (c.args.line, is)
+    on-ok c.call.result (open-rests lines c.number.new.self c.step.new.self.names l i first.listings first.listings before c.args.step.now (c.args.line, is)
     (λ folder place r shown same. c.in_default.not-List folder place r shown same))
 
 -- ---- listings that go on
 
-pub returns-in-List-clause-gathers : goal.returns-in-List-clause-gathers
-returns-in-List-clause-gathers c = λ lines l i is-open goes is here now.
+pub returns-in_ok-names-in-List-clause-gathers : goal.returns-in_ok-names-in-List-clause-gathers
+returns-in_ok-names-in-List-clause-gathers c = λ lines l i is-open goes is here now.
     let first = c.args.self.now in
     let judge = c.numbers.new.self in
     let names = judge.known.names in
     let number = c.in_ok-actor.actor in
     let folder = c.in-List.folder in
     let place = c.in-List.place in
-    let x = c.args.step in
+    let x = c.args.step.now in
     let opened = open-before lines first.actor_names c.number.new.self judge.actor_names c.in_ok-actor.field-0-1 c.as_slice.result.now
     first.known.names c.step.new.self.names names l i first.listings judge.listings c.in_ok-actor.ensures.grows c.are_apart.ensures.apart
     c.step.ensures.keeps c.numbers.ensures.keeps c.numbers.ensures.rest.2 c.numbers.ensures.rest.1 is-open in
@@ -184,33 +184,33 @@ returns-in-List-clause-gathers c = λ lines l i is-open goes is here now.
     c.in-List.reply c.in-List.shown c.deref.result.now judge.watch.now named c.in-List.is here' are
     (opened.open_at number x.actor folder place named) keeps) c.list.ensures.listing
 
-pub returns-in-Answer-clause-gathers : goal.returns-in-Answer-clause-gathers
-returns-in-Answer-clause-gathers c = λ lines l i is-open goes is here now.
+pub returns-in_ok-unique-in-Answer-clause-gathers : goal.returns-in_ok-unique-in-Answer-clause-gathers
+returns-in_ok-unique-in-Answer-clause-gathers c = λ lines l i is-open goes is here now.
     let first = c.args.self.now in
     let before = gathered-before lines first.actor_names c.number.new.self c.number.new.self c.in_ok-actor.field-0-1 c.as_slice.result.now
     first.known.names c.step.new.self.names c.unique.new.self l i first.listings first.listings c.in_ok-actor.ensures.grows c.are_apart.ensures.apart
     c.step.ensures.keeps c.unique.ensures.keeps refl refl goes in
-    gathered-rests lines c.number.new.self c.unique.new.self l i first.listings first.listings before c.args.step (c.args.line, is)
+    gathered-rests lines c.number.new.self c.unique.new.self l i first.listings first.listings before c.args.step.now (c.args.line, is)
     (subst IsNoPart (sym c.in-Answer.is) (answer-no-part _ _ _))
 
-pub returns-clause-gathers : goal.returns-clause-gathers
-returns-clause-gathers c = λ lines l i is-open goes is here now.
+pub returns-in_default-clause-gathers : goal.returns-in_default-clause-gathers
+returns-in_default-clause-gathers c = λ lines l i is-open goes is here now.
     let first = c.args.self.now in
     let before = gathered-before lines first.actor_names c.number.new.self c.number.new.self c.in_ok-actor.field-0-1 c.as_slice.result.now
     first.known.names c.step.new.self.names c.step.new.self.names l i first.listings first.listings c.in_ok-actor.ensures.grows c.are_apart.ensures.apart
     c.step.ensures.keeps (λ name n of. of) refl refl goes in
-    on-ok c.call.result (gathered-rests lines c.number.new.self c.step.new.self.names l i first.listings first.listings before c.args.step
+    on-ok c.call.result (gathered-rests lines c.number.new.self c.step.new.self.names l i first.listings first.listings before c.args.step.now
     (c.args.line, is) (λ folder place r shown same. c.in_default.not-List folder place r shown same))
 
 -- ---- what is kept of actors
 
-returns-in-List-acting : (c : goal.Joined-step-6) (lines : ℕ → ℕ) (l : Log) (i : ℕ)
+returns-in-List-acting : (c : goal.After-drop-names) (lines : ℕ → ℕ) (l : Log) (i : ℕ)
     → AreActing lines c.args.self.now.actor_names c.args.self.now.known.names.uniques l i c.args.self.now.watch.actors c.args.self.now.listings
-    → slice_get l.steps i ≡ Some (record { number = c.args.line; step = c.args.step }) → lines i ≡ c.args.line → c.args.line < 4294967295
+    → slice_get l.steps i ≡ Some (record { number = c.args.line; step = c.args.step.now }) → lines i ≡ c.args.line → c.args.line < 4294967295
     → c.args.self.now.watch.now ≡ c.args.line
     → OnOk c.list.result (AreActing lines c.numbers.new.self.actor_names c.numbers.new.self.known.names.uniques l (suc i) c.list.new.self.actors c.list.new.listings)
 returns-in-List-acting c lines l i acting is here short now =
-    let x = c.args.step in
+    let x = c.args.step.now in
     let first = c.args.self.now in
     let judge = c.numbers.new.self in
     let names = c.number.new.self in
@@ -240,13 +240,13 @@ returns-in-List-acting c lines l i acting is here short now =
     (subst (λ (ls : Listings). NotesLook me read judge.watch.now ls c.list.new.listings) c.numbers.ensures.rest.1 notes))))
     c.list.ensures.looks c.list.ensures.actors
 
-returns-in-Answer-acting : (c : goal.Joined-step-8) (lines : ℕ → ℕ) (l : Log) (i : ℕ)
+returns-in-Answer-acting : (c : goal.After-answer) (lines : ℕ → ℕ) (l : Log) (i : ℕ)
     → AreActing lines c.args.self.now.actor_names c.args.self.now.known.names.uniques l i c.args.self.now.watch.actors c.args.self.now.listings
-    → slice_get l.steps i ≡ Some (record { number = c.args.line; step = c.args.step }) → lines i ≡ c.args.line → c.args.line < 4294967295
+    → slice_get l.steps i ≡ Some (record { number = c.args.line; step = c.args.step.now }) → lines i ≡ c.args.line → c.args.line < 4294967295
     → c.args.self.now.watch.now ≡ c.args.line
     → AreActing lines c.number.new.self c.unique.new.self.uniques l (suc i) c.answer.new.self.actors c.args.self.now.listings
 returns-in-Answer-acting c lines l i acting is here short now =
-    let x = c.args.step in
+    let x = c.args.step.now in
     let first = c.args.self.now in
     let names = c.number.new.self in
     let me = c.in_ok-actor.actor in
@@ -268,23 +268,23 @@ returns-in-Answer-acting c lines l i acting is here short now =
     c.answer.ensures.moved refl
 
 -- what the call did is what its act says
-judged-in : (c : goal.Joined-step-9) (lines : ℕ → ℕ) (l : Log) (i : ℕ) → Remembers lines l i c.args.self.now
-    → slice_get l.steps i ≡ Some (record { number = c.args.line; step = c.args.step }) → lines i ≡ c.args.line → c.args.line < 4294967295
-    → HasFolders (at l i) c.args.step.call
-    → (path : Spot → Path) × IsJudged path (name_at c.number.new.self) (length c.number.new.self) l i c.args.step c.in_ok-actor.actor
-    c.args.step.call c.step.new.self c.in_ok-self.field-0
+judged-in : (c : goal.After-call) (lines : ℕ → ℕ) (l : Log) (i : ℕ) → Remembers lines l i c.args.self.now
+    → slice_get l.steps i ≡ Some (record { number = c.args.line; step = c.args.step.now }) → lines i ≡ c.args.line → c.args.line < 4294967295
+    → HasFolders (at l i) c.args.step.now.call
+    → (path : Spot → Path) × IsJudged path (name_at c.number.new.self) (length c.number.new.self) l i c.args.step.now c.in_ok-actor.actor
+    c.args.step.now.call c.step.new.self c.in_ok-self.field-0
 judged-in c lines l i keeps is here short there =
-    let acts = acts-by c.number.new.self c.in_ok-actor.actor c.args.step c.are_apart.ensures.apart
+    let acts = acts-by c.number.new.self c.in_ok-actor.actor c.args.step.now c.are_apart.ensures.apart
     (c.in_ok-actor.ensures.found ∙ ap Some c.as_slice.ensures) in
     let done = c.in_ok-self.ensures.done lines l i keeps.told is here short there in
     (done.0, record { step = (c.args.line, is); call = refl; acts = acts; clock = c.step.ensures.clock l i keeps.clock is; done = done.1 })
 
-returns-acting : (c : goal.Joined-step-9) (lines : ℕ → ℕ) (l : Log) (i : ℕ) → Remembers lines l i c.args.self.now
-    → slice_get l.steps i ≡ Some (record { number = c.args.line; step = c.args.step }) → lines i ≡ c.args.line → c.args.line < 4294967295
-    → c.args.self.now.watch.now ≡ c.args.line → HasFolders (at l i) c.args.step.call
+returns-acting : (c : goal.After-call) (lines : ℕ → ℕ) (l : Log) (i : ℕ) → Remembers lines l i c.args.self.now
+    → slice_get l.steps i ≡ Some (record { number = c.args.line; step = c.args.step.now }) → lines i ≡ c.args.line → c.args.line < 4294967295
+    → c.args.self.now.watch.now ≡ c.args.line → HasFolders (at l i) c.args.step.now.call
     → OnOk c.call.result (AreActing lines c.number.new.self c.step.new.self.names.uniques l (suc i) c.call.new.self.actors c.args.self.now.listings)
 returns-acting c lines l i keeps is here short now there =
-    let x = c.args.step in
+    let x = c.args.step.now in
     let names = c.number.new.self in
     let first = c.args.self.now in
     let known = c.step.new.self in
@@ -342,13 +342,13 @@ returns-acting c lines l i keeps is here short now there =
 -- ---- answers
 
 -- an answer's span, and what is kept of what it says
-answering : (c : goal.Joined-step-8) (lines : ℕ → ℕ) (l : Log) (i : ℕ) → Remembers lines l i c.args.self.now
-    → slice_get l.steps i ≡ Some (record { number = c.args.line; step = c.args.step }) → lines i ≡ c.args.line → c.args.line < 4294967295
+answering : (c : goal.After-answer) (lines : ℕ → ℕ) (l : Log) (i : ℕ) → Remembers lines l i c.args.self.now
+    → slice_get l.steps i ≡ Some (record { number = c.args.line; step = c.args.step.now }) → lines i ≡ c.args.line → c.args.line < 4294967295
     → c.args.self.now.watch.now ≡ c.args.line → ((a b : ℕ) → a < b → lines a < lines b) → ((a : ℕ) → 0 < lines a)
     → (first : ℕ) × IsAnswering lines first i c.in_ok-actor.actor c.in-Answer.said (c.in-Answer.folder, c.in_ok-unique-in-Answer.unique)
-    c.in-Answer.unique l c.args.step c.begin.new.self c.args.self.now.listings
+    c.in-Answer.unique l c.args.step.now c.begin.new.self c.args.self.now.listings
 answering c lines l i keeps is here short now rises counted =
-    let x = c.args.step in
+    let x = c.args.step.now in
     let step-is : IsStep l i x = (c.args.line, is) in
     let first = c.args.self.now in
     let names = c.number.new.self in
@@ -386,7 +386,7 @@ answering c lines l i keeps is here short now rises counted =
     )
 
 -- what was told before an answer is told when it is judged
-told-answer : (c : goal.Joined-step-8) (lines : ℕ → ℕ) (l : Log) (i : ℕ) → IsToldAt lines l i c.args.self.now.known
+told-answer : (c : goal.After-answer) (lines : ℕ → ℕ) (l : Log) (i : ℕ) → IsToldAt lines l i c.args.self.now.known
     → IsToldAt lines l i (record c.step.new.self { names = c.unique.new.self })
 told-answer c lines l i told =
     let first = c.args.self.now.known in
@@ -396,14 +396,14 @@ told-answer c lines l i told =
     (clocked lines l i first known.clock told)) c.unique.ensures.keeps c.in_ok-unique-in-Answer.ensures.numbered refl refl
 
 -- what is kept of what an answer says is what the log tells
-answer-so : (c : goal.Joined-step-8) (lines : ℕ → ℕ) (l : Log) (i : ℕ) → Remembers lines l i c.args.self.now
-    → slice_get l.steps i ≡ Some (record { number = c.args.line; step = c.args.step }) → lines i ≡ c.args.line
-    → ((a b : ℕ) → a < b → lines a < lines b) → (first : ℕ) → IsSpan l first i c.args.step.actor c.in-Answer.folder c.in-Answer.unique
-    → RecallsSo lines (turn l i c.args.step) first c.in-Answer.folder c.in-Answer.unique c.in-Answer.said
+answer-so : (c : goal.After-answer) (lines : ℕ → ℕ) (l : Log) (i : ℕ) → Remembers lines l i c.args.self.now
+    → slice_get l.steps i ≡ Some (record { number = c.args.line; step = c.args.step.now }) → lines i ≡ c.args.line
+    → ((a b : ℕ) → a < b → lines a < lines b) → (first : ℕ) → IsSpan l first i c.args.step.now.actor c.in-Answer.folder c.in-Answer.unique
+    → RecallsSo lines (turn l i c.args.step.now) first c.in-Answer.folder c.in-Answer.unique c.in-Answer.said
     (claim_by (record c.step.new.self { names = c.unique.new.self }) c.begin.new.self c.args.self.now.listings c.in_ok-actor.actor
     c.in-Answer.said (c.in-Answer.folder, c.in_ok-unique-in-Answer.unique) (lines first))
 answer-so c lines l i keeps is here rises begins span =
-    let x = c.args.step in
+    let x = c.args.step.now in
     let first = c.args.self.now in
     let folder = c.in-Answer.folder in
     let u = c.in_ok-unique-in-Answer.unique in
@@ -435,12 +435,12 @@ answer-so c lines l i keeps is here rises begins span =
 
 -- ---- messages that listings lack
 
-returns-in-List-unlisted : (c : goal.Joined-step-6) (lines : ℕ → ℕ) (l : Log) (i : ℕ) → Remembers lines l i c.args.self.now
-    → slice_get l.steps i ≡ Some (record { number = c.args.line; step = c.args.step }) → lines i ≡ c.args.line
-    → c.args.self.now.watch.now ≡ c.args.line → ((a b : ℕ) → a < b → lines a < lines b) → HasFolders (at l i) c.args.step.call
-    → OnOk c.list.result (Has c.list.new.self.found.broken clause.Unlisted ↔ Unlisted (turn l i c.args.step))
+returns-in-List-unlisted : (c : goal.After-drop-names) (lines : ℕ → ℕ) (l : Log) (i : ℕ) → Remembers lines l i c.args.self.now
+    → slice_get l.steps i ≡ Some (record { number = c.args.line; step = c.args.step.now }) → lines i ≡ c.args.line
+    → c.args.self.now.watch.now ≡ c.args.line → ((a b : ℕ) → a < b → lines a < lines b) → HasFolders (at l i) c.args.step.now.call
+    → OnOk c.list.result (Has c.list.new.self.found.broken clause.Unlisted ↔ Unlisted (turn l i c.args.step.now))
 returns-in-List-unlisted c lines l i keeps is here now rises there =
-    let x = c.args.step in
+    let x = c.args.step.now in
     let first = c.args.self.now in
     let judge = c.numbers.new.self in
     let names = judge.known.names in
@@ -465,12 +465,12 @@ returns-in-List-unlisted c lines l i keeps is here now rises there =
 
 -- ---- clauses that are judged one by one
 
-alone-in-List : (c : goal.Joined-step-6) (lines : ℕ → ℕ) (l : Log) (i : ℕ) → Remembers lines l i c.args.self.now
-    → slice_get l.steps i ≡ Some (record { number = c.args.line; step = c.args.step }) → lines i ≡ c.args.line
-    → c.args.self.now.watch.now ≡ c.args.line → ((a b : ℕ) → a < b → lines a < lines b) → HasFolders (at l i) c.args.step.call
-    → OnOk c.list.result (IsJudgedAlone c.list.new.self.found.broken (turn l i c.args.step))
+alone-in-List : (c : goal.After-drop-names) (lines : ℕ → ℕ) (l : Log) (i : ℕ) → Remembers lines l i c.args.self.now
+    → slice_get l.steps i ≡ Some (record { number = c.args.line; step = c.args.step.now }) → lines i ≡ c.args.line
+    → c.args.self.now.watch.now ≡ c.args.line → ((a b : ℕ) → a < b → lines a < lines b) → HasFolders (at l i) c.args.step.now.call
+    → OnOk c.list.result (IsJudgedAlone c.list.new.self.found.broken (turn l i c.args.step.now))
 alone-in-List c lines l i keeps is here now rises there =
-    let x = c.args.step in
+    let x = c.args.step.now in
     let t = turn l i x in
     let begun = c.begin.new.self.found in
     let shown = c.numbers.new.self.watch.found in
@@ -500,12 +500,12 @@ alone-in-List c lines l i keeps is here now rises there =
     (none-overwritten (at l i) (at l (suc i)) still) c.list.ensures.overwrites)) c.list.ensures.answers
     (returns-in-List-unlisted c lines l i keeps is here now rises there)
 
-alone-in-Answer : (c : goal.Joined-step-8) (lines : ℕ → ℕ) (l : Log) (i : ℕ) → Remembers lines l i c.args.self.now
-    → slice_get l.steps i ≡ Some (record { number = c.args.line; step = c.args.step }) → lines i ≡ c.args.line → c.args.line < 4294967295
+alone-in-Answer : (c : goal.After-answer) (lines : ℕ → ℕ) (l : Log) (i : ℕ) → Remembers lines l i c.args.self.now
+    → slice_get l.steps i ≡ Some (record { number = c.args.line; step = c.args.step.now }) → lines i ≡ c.args.line → c.args.line < 4294967295
     → c.args.self.now.watch.now ≡ c.args.line → ((a b : ℕ) → a < b → lines a < lines b) → ((a : ℕ) → 0 < lines a)
-    → IsJudgedAlone c.answer.new.self.found.broken (turn l i c.args.step)
+    → IsJudgedAlone c.answer.new.self.found.broken (turn l i c.args.step.now)
 alone-in-Answer c lines l i keeps is here short now rises counted =
-    let x = c.args.step in
+    let x = c.args.step.now in
     let t = turn l i x in
     let begun = c.begin.new.self.found in
     let new = c.answer.new.self.found in
@@ -528,11 +528,11 @@ alone-in-Answer c lines l i keeps is here short now rises counted =
           (rests-none l i x (c.args.line, is) (subst IsNoPart (sym c.in-Answer.is) (answer-no-part _ _ _)));
     }
 
-alone-by-call : (c : goal.Joined-step-9) (lines : ℕ → ℕ) (l : Log) (i : ℕ) → Remembers lines l i c.args.self.now
-    → slice_get l.steps i ≡ Some (record { number = c.args.line; step = c.args.step }) → lines i ≡ c.args.line → c.args.line < 4294967295
-    → HasFolders (at l i) c.args.step.call → OnOk c.call.result (IsJudgedAlone c.call.new.self.found.broken (turn l i c.args.step))
+alone-by-call : (c : goal.After-call) (lines : ℕ → ℕ) (l : Log) (i : ℕ) → Remembers lines l i c.args.self.now
+    → slice_get l.steps i ≡ Some (record { number = c.args.line; step = c.args.step.now }) → lines i ≡ c.args.line → c.args.line < 4294967295
+    → HasFolders (at l i) c.args.step.now.call → OnOk c.call.result (IsJudgedAlone c.call.new.self.found.broken (turn l i c.args.step.now))
 alone-by-call c lines l i keeps is here short there =
-    let x = c.args.step in
+    let x = c.args.step.now in
     let t = turn l i x in
     let begun = c.begin.new.self.found in
     let new = c.call.new.self.found in
@@ -558,9 +558,9 @@ alone-by-call c lines l i keeps is here short there =
 
 -- ---- what is kept, and what is found
 
-pub returns-in-List-clause-told : goal.returns-in-List-clause-told
-returns-in-List-clause-told c = λ lines l i keeps is here short now there.
-    let x = c.args.step in
+pub returns-in_ok-names-in-List-clause-told : goal.returns-in_ok-names-in-List-clause-told
+returns-in_ok-names-in-List-clause-told c = λ lines l i keeps is here short now there.
+    let x = c.args.step.now in
     let step-is : IsStep l i x = (c.args.line, is) in
     let names = c.number.new.self in
     let actor = c.in_ok-actor.actor in
@@ -600,13 +600,13 @@ returns-in-List-clause-told c = λ lines l i keeps is here short now there.
           (sym (rest.0 ∙ ap (λ (w : Watch). w.mail) c.numbers.ensures.rest.0 ∙ c.begin.ensures.mail)) times;
       acting = rest.1;
     }) c.list.ensures.files
-    (ok-both c.list.result kept-open kept-listings (returns-in-List-clause-opens c lines l i keeps.opens is here now)
-    (returns-in-List-clause-gathers c lines l i keeps.opens keeps.gathers is here now))
+    (ok-both c.list.result kept-open kept-listings (returns-in_ok-names-in-List-clause-opens c lines l i keeps.opens is here now)
+    (returns-in_ok-names-in-List-clause-gathers c lines l i keeps.opens keeps.gathers is here now))
     (ok-both c.list.result same-mail kept-actors c.list.ensures.mail (returns-in-List-acting c lines l i keeps.acting is here short now))
 
-pub returns-in-List-clause-broken : goal.returns-in-List-clause-broken
-returns-in-List-clause-broken c = λ lines l i keeps is here short now rises counted there.
-    let x = c.args.step in
+pub returns-in_ok-names-in-List-clause-broken : goal.returns-in_ok-names-in-List-clause-broken
+returns-in_ok-names-in-List-clause-broken c = λ lines l i keeps is here short now rises counted there.
+    let x = c.args.step.now in
     let step-is : IsStep l i x = (c.args.line, is) in
     let names = c.number.new.self in
     let actor = c.in_ok-actor.actor in
@@ -628,9 +628,9 @@ returns-in-List-clause-broken c = λ lines l i keeps is here short now rises cou
     added (still-two l i still x) (still-again l i still x) (still-gone l i still x))
     (alone-in-List c lines l i keeps is here now rises there) c.list.ensures.others c.list.ensures.added
 
-pub returns-in-Answer-clause-told : goal.returns-in-Answer-clause-told
-returns-in-Answer-clause-told c = λ lines l i keeps is here short now there.
-    let x = c.args.step in
+pub returns-in_ok-unique-in-Answer-clause-told : goal.returns-in_ok-unique-in-Answer-clause-told
+returns-in_ok-unique-in-Answer-clause-told c = λ lines l i keeps is here short now there.
+    let x = c.args.step.now in
     let first = c.args.self.now in
     let step-is : IsStep l i x = (c.args.line, is) in
     let names = c.number.new.self in
@@ -650,8 +650,8 @@ returns-in-Answer-clause-told c = λ lines l i keeps is here short now there.
       filed = subst (λ (f : Files). AreFiled who (length names) l (suc i) f.all.items) (sym (c.answer.ensures.files ∙ c.begin.ensures.files))
           (still-filed who (length names) l i x step-is actor acts c.args.self.now.watch.files.all.items are c.step.new.self.names still apart);
       clock = c.step.ensures.clock l i keeps.clock is;
-      opens = returns-in-Answer-clause-opens c lines l i keeps.opens is here now;
-      gathers = returns-in-Answer-clause-gathers c lines l i keeps.opens keeps.gathers is here now;
+      opens = returns-in_ok-unique-in-Answer-clause-opens c lines l i keeps.opens is here now;
+      gathers = returns-in_ok-unique-in-Answer-clause-gathers c lines l i keeps.opens keeps.gathers is here now;
       mailed = subst (λ (m : Mail). TellsMail c.unique.new.self l (suc i) m) (sym (c.answer.ensures.mail ∙ c.begin.ensures.mail))
           (tells-still l i still c.unique.new.self first.watch.mail told);
       timed = subst (λ (m : Mail). TellsTimes lines c.unique.new.self l (suc i) m) (sym (c.answer.ensures.mail ∙ c.begin.ensures.mail))
@@ -660,9 +660,9 @@ returns-in-Answer-clause-told c = λ lines l i keeps is here short now there.
       acting = returns-in-Answer-acting c lines l i keeps.acting is here short now;
     }
 
-pub returns-in-Answer-clause-broken : goal.returns-in-Answer-clause-broken
-returns-in-Answer-clause-broken c = λ lines l i keeps is here short now rises counted there.
-    let x = c.args.step in
+pub returns-in_ok-unique-in-Answer-clause-broken : goal.returns-in_ok-unique-in-Answer-clause-broken
+returns-in_ok-unique-in-Answer-clause-broken c = λ lines l i keeps is here short now rises counted there.
+    let x = c.args.step.now in
     let step-is : IsStep l i x = (c.args.line, is) in
     let names = c.number.new.self in
     let actor = c.in_ok-actor.actor in
@@ -679,9 +679,9 @@ returns-in-Answer-clause-broken c = λ lines l i keeps is here short now rises c
     (still-lawful who (length names) l i x step-is actor acts c.args.self.now.watch.files.all.items are c.step.new.self.names still apart)
     c.answer.ensures.added (still-two l i still x) (still-again l i still x) (still-gone l i still x)
 
-pub returns-clause-told : goal.returns-clause-told
-returns-clause-told c = λ lines l i keeps is here short now there.
-    let x = c.args.step in
+pub returns-in_default-clause-told : goal.returns-in_default-clause-told
+returns-in_default-clause-told c = λ lines l i keeps is here short now there.
+    let x = c.args.step.now in
     let step-is : IsStep l i x = (c.args.line, is) in
     let names = c.number.new.self in
     let actor = c.in_ok-actor.actor in
@@ -725,15 +725,15 @@ returns-clause-told c = λ lines l i keeps is here short now there.
       timed = rest.0.1;
       acting = rest.1;
     }) (c.call.ensures.filed done.0 who (length names) i l x kept judged)
-    (ok-both c.call.result kept-open kept-listings (returns-clause-opens c lines l i keeps.opens is here now)
-    (returns-clause-gathers c lines l i keeps.opens keeps.gathers is here now))
+    (ok-both c.call.result kept-open kept-listings (returns-in_default-clause-opens c lines l i keeps.opens is here now)
+    (returns-in_default-clause-gathers c lines l i keeps.opens keeps.gathers is here now))
     (ok-both c.call.result (kept-mail × kept-times) kept-actors
     (ok-both c.call.result kept-mail kept-times (c.call.ensures.mailed done.0 who (length names) i l x mail judged) goes-times)
     (returns-acting c lines l i keeps is here short now there))
 
-pub returns-clause-broken : goal.returns-clause-broken
-returns-clause-broken c = λ lines l i keeps is here short now rises counted there.
-    let x = c.args.step in
+pub returns-in_default-clause-broken : goal.returns-in_default-clause-broken
+returns-in_default-clause-broken c = λ lines l i keeps is here short now rises counted there.
+    let x = c.args.step.now in
     let step-is : IsStep l i x = (c.args.line, is) in
     let names = c.number.new.self in
     let actor = c.in_ok-actor.actor in

@@ -49,12 +49,12 @@ returns-clause-at_lines c = λ order below. (c.loop-clause.invariant.at_lines or
 
 pub returns-clause-broken : goal.returns-clause-broken
 returns-clause-broken c = λ lines l i told is here short rises above there.
-    subst (λ (j : Judge). (o : Clause) → Has j.watch.found.broken o ↔ Breaks o (turn l i c.args.step)) (sym c.loop-clause.invariant.judge)
+    subst (λ (j : Judge). (o : Clause) → Has j.watch.found.broken o ↔ Breaks o (turn l i c.args.step.now)) (sym c.loop-clause.invariant.judge)
     (c.in_ok-step.ensures.broken lines l i (c.go_to.ensures.told lines l i told) is here short c.go_to.ensures.now rises above there)
 
 pub returns-clause-found : goal.returns-clause-found
 returns-clause-found c = λ lines l i told is here short rises above there o.
-    adds-all o c.args.line c.loop-clause.clause-index c.step.new.self c.args.self.now.judge.allowed (Breaks o (turn l i c.args.step))
+    adds-all o c.args.line c.loop-clause.clause-index c.step.new.self c.args.self.now.judge.allowed (Breaks o (turn l i c.args.step.now))
     (record c.args.self.now { judge = c.step.new.self }) c.loop-clause.self c.loop-clause-test.false
     (c.in_ok-step.ensures.allowed ∙ c.go_to.ensures.allowed)
     (c.in_ok-step.ensures.broken lines l i (c.go_to.ensures.told lines l i told) is here short c.go_to.ensures.now rises above there o)
