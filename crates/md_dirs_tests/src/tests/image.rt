@@ -1,131 +1,79 @@
 // Directories from a list of files: what is accepted, and which refusal comes first.
-use super::calls::{A, B};
-use super::{At, are_right};
-use md_dirs::Place::{Cur, New, Tmp};
-use md_dirs::{Bytes, DirError, Dirs, ImageFile, PlainDirs};
+use super::rows::{cut, path_of, shows};
+use super::values::is_told;
+use md_dirs::{Bytes, DirError, Dirs, ImageFile, Place, PlainDirs};
 use std::alloc::{AllocError, Global};
 
-static FILES: [(&[(At, &[u8], u64)], Option<DirError>); 8] = [
-    (&[], None),
-    (
-        &[
-            (At(0, Tmp, A), b"x", 3),
-            (At(1, Cur, A), b"", 0),
-            (At(0, New, A), b"x", 2),
-        ],
-        None,
-    ),
-    (&[(At(2, Tmp, A), b"x", 3)], Some(DirError::NotFound)),
-    (
-        &[(At(0, Tmp, A), b"x", 3), (At(0, Tmp, A), b"x", 3)],
-        Some(DirError::Exists),
-    ),
-    (
-        &[
-            (At(0, Tmp, A), b"x", 3),
-            (At(0, New, A), b"x", 3),
-            (At(0, Tmp, B), b"x", 3),
-        ],
-        None,
-    ),
-    (
-        &[
-            (At(0, Tmp, A), b"", 3),
-            (At(0, Tmp, A), b"y", 4),
-            (At(5, Tmp, A), b"", 3),
-        ],
-        Some(DirError::Exists),
-    ),
-    (
-        &[
-            (At(0, Tmp, A), b"", 3),
-            (At(2, Tmp, A), b"", 3),
-            (At(0, Tmp, A), b"", 3),
-        ],
-        Some(DirError::NotFound),
-    ),
-    (
-        &[(At(2, Tmp, A), b"", 3), (At(2, Tmp, A), b"", 3)],
-        Some(DirError::NotFound),
-    ),
-];
+// A row has files, each with its path, bytes and stamp, the refusal, and what cur of the second folder then shows.
+static IMAGES: &str = "||%\
+0/tmp=a x 3,1/cur=a  0,0/new=a x 2||a 0 0%\
+2/tmp=a x 3|not found|%\
+0/tmp=a x 3,0/tmp=a x 3|exists|%\
+0/tmp=a x 3,0/new=a x 3,0/tmp=b x 3||%\
+0/tmp=a  3,0/tmp=a y 4,5/tmp=a  3|exists|%\
+0/tmp=a  3,2/tmp=a  3,0/tmp=a  3|not found|%\
+2/tmp=a  3,2/tmp=a  3|not found|%\
+1/cur=b two 7,1/cur=a  9||a 9 0,b 7 3";
 
-fn file_of(alloc: Global, at: At, bytes: &[u8], stamp: u64) -> Result<ImageFile, AllocError> {
-    let bytes = Bytes::copied(alloc, bytes)?;
-    let path = at.path(alloc)?;
-    Ok(ImageFile { path, bytes, stamp })
+fn file_of(alloc: Global, file: &str) -> Result<ImageFile, AllocError> {
+    let (path, rest) = cut(file, ' ');
+    let (bytes, stamp) = cut(rest, ' ');
+    let path = path_of(alloc, path)?;
+    Ok(ImageFile {
+        path,
+        bytes: Bytes::copied(alloc, bytes.as_bytes())?,
+        stamp: stamp.parse().unwrap_or(0),
+    })
 }
 
 // The directories of a list of files, with two folders.
-fn dirs_of(alloc: Global, files: &[(At, &[u8], u64)]) -> Result<PlainDirs, DirError> {
+fn dirs_of(alloc: Global, files: &str) -> Result<PlainDirs, DirError> {
     let mut image = Vec::new(alloc);
-    for (at, bytes, stamp) in files {
-        image.push(file_of(alloc, *at, bytes, *stamp)?)?;
+    for file in files.split(',') {
+        if !file.is_empty() {
+            image.push(file_of(alloc, file)?)?;
+        }
     }
     PlainDirs::from_image(alloc, 2, image)
 }
 
-// The same, once more where memory was wanting.
-fn made(alloc: Global, files: &[(At, &[u8], u64)]) -> Result<PlainDirs, DirError> {
-    let made = dirs_of(alloc, files);
-    if matches!(made, Err(DirError::NoMemory)) {
-        return dirs_of(alloc, files);
-    }
-    made
-}
-
-// Whether each file of a list is there with its bytes.
-fn holds(dirs: &PlainDirs, files: &[(At, &[u8], u64)]) -> bool {
-    for (at, bytes, _) in files {
-        if dirs.read(at.0, at.1, at.2.bytes()) != Some(*bytes) {
-            return false;
+// Whether each file of a list is there with its bytes. It is, where memory is wanting.
+fn holds(alloc: Global, dirs: &PlainDirs, files: &str) -> bool {
+    for file in files.split(',') {
+        if !file.is_empty() {
+            if let Ok(ImageFile { path, bytes, .. }) = file_of(alloc, file) {
+                let there = dirs.read(path.folder, path.place, path.name.as_slice());
+                if there != Some(bytes.as_slice()) {
+                    return false;
+                }
+            }
         }
     }
     true
 }
 
 // Whether the files of a row are made, or refused so.
-fn is_made(alloc: Global, files: &[(At, &[u8], u64)], refusal: Option<DirError>) -> bool {
-    match made(alloc, files) {
-        Ok(dirs) => refusal.is_none() && holds(&dirs, files),
-        Err(error) => refusal == Some(error),
-    }
-}
-
-// How many rows are right up to the first that is not.
-fn right_rows(alloc: Global) -> usize {
-    for (row, (files, refusal)) in FILES.iter().enumerate() {
-        if !is_made(alloc, files, *refusal) {
-            return row;
+fn is_made(alloc: Global, row: &str) -> bool {
+    let (files, rest) = cut(row, '|');
+    let (refusal, shown) = cut(rest, '|');
+    match dirs_of(alloc, files) {
+        Ok(dirs) => {
+            refusal.is_empty()
+                && holds(alloc, &dirs, files)
+                && shows(&dirs, 1, Place::Cur, shown)
+                && dirs.row_at(2, Place::Cur, 0).is_none()
         }
+        Err(error) => is_told(alloc, error, refusal),
     }
-    FILES.len()
 }
 
+// Each row is tried once more, where memory was wanting.
 #[test]
 fn files_are_made_in_their_order(rt: HostRuntime) {
-    are_right(&rt, 0, Ok(right_rows(rt.alloc())), FILES.len());
-}
-
-// Whether cur of folder 1 has the second of the files below, and no third, and there is no third folder.
-fn shows(dirs: &PlainDirs) -> bool {
-    let second = match dirs.row_at(1, Cur, 1) {
-        Some(row) => row.name == b"b".as_slice() && row.stamp == 7 && row.size == 3,
-        None => false,
-    };
-    second && dirs.row_at(1, Cur, 2).is_none() && dirs.row_at(2, Cur, 0).is_none()
-}
-
-static SHOWN: [(At, &[u8], u64); 2] = [(At(1, Cur, B), b"two", 7), (At(1, Cur, A), b"", 9)];
-
-fn is_shown(alloc: Global) -> bool {
-    match made(alloc, &SHOWN) {
-        Ok(dirs) => shows(&dirs),
-        Err(_) => false,
+    for row in IMAGES.split('%') {
+        assert!(rt;
+            is_made(rt.alloc(), row) || is_made(rt.alloc(), row),
+            "{row}"
+        );
     }
-}
-
-#[test]
-fn a_row_shows_name_stamp_and_size(rt: HostRuntime) {
-    assert!(rt; is_shown(rt.alloc()));
 }

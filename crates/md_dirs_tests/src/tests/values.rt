@@ -1,28 +1,24 @@
 // The small types, and what may cross threads.
-use super::are_right;
 use md_dirs::{Bytes, DirError, Dirs, ImageFile, Path, Place, PlainDirs, Row, RowRef};
 use std::alloc::{AllocError, Global};
 
-fn name_made(alloc: Global) -> Result<Bytes, AllocError> {
+fn path_copied(alloc: Global) -> Result<Path, AllocError> {
     let mut name = Bytes::of(Vec::from_slice(alloc, b"a:2,")?);
     name.extend(b"S")?;
-    Ok(name)
-}
-
-fn path_copied(alloc: Global) -> Result<Path, AllocError> {
     let path = Path {
         folder: 4,
         place: Place::Cur,
-        name: name_made(alloc)?,
+        name,
     };
     path.again(alloc)
 }
 
 fn file_copied(alloc: Global) -> Result<ImageFile, AllocError> {
     let path = path_copied(alloc)?;
+    let bytes = path.name.again(alloc)?;
     let file = ImageFile {
         path,
-        bytes: name_made(alloc)?,
+        bytes,
         stamp: 8,
     };
     file.again(alloc)
@@ -38,90 +34,47 @@ fn row_copied(alloc: Global) -> Result<Row, AllocError> {
     row.again(alloc)
 }
 
-fn is_the_file(file: &ImageFile) -> bool {
-    let is_there = file.path.folder == 4 && matches!(file.path.place, Place::Cur);
-    is_there
+// Whether these are the copies, which may cross threads.
+fn are_the_copies(file: &ImageFile, row: &Row) -> bool {
+    is_send(file)
+        && is_send(&file.path)
+        && is_send(&file.bytes)
+        && is_send(row)
+        && (file.path.folder, file.path.place, file.stamp) == (4, Place::Cur, 8)
         && file.path.name.as_slice() == b"a:2,S".as_slice()
-        && file.stamp == 8
         && file.bytes.len() == 5
+        && row.name.as_slice() == b"n".as_slice()
+        && (row.stamp, row.size) == (1, 2)
 }
 
-fn is_copied(alloc: Global) -> bool {
-    match file_copied(alloc) {
-        Ok(copy) => {
-            is_the_file(&copy)
-                && is_send(&copy)
-                && is_send(&copy.path)
-                && is_send(&copy.bytes)
-                && copy.bytes.into_vec().as_slice() == b"a:2,S".as_slice()
-        }
-        Err(_) => false,
-    }
+fn are_copied(alloc: Global) -> Result<bool, AllocError> {
+    let file = file_copied(alloc)?;
+    let row = row_copied(alloc)?;
+    Ok(are_the_copies(&file, &row) && file.bytes.into_vec().as_slice() == b"a:2,S".as_slice())
 }
 
-// Tried once more, where memory was wanting.
-#[test]
-fn a_file_is_copied(rt: HostRuntime) {
-    assert!(rt; is_copied(rt.alloc()) || is_copied(rt.alloc()));
-}
-
-fn is_row_copied(alloc: Global) -> bool {
-    match row_copied(alloc) {
-        Ok(row) => {
-            is_send(&row)
-                && row.name.as_slice() == b"n".as_slice()
-                && row.stamp == 1
-                && row.size == 2
-        }
-        Err(_) => false,
-    }
-}
-
-#[test]
-fn a_row_is_copied(rt: HostRuntime) {
-    assert!(rt; is_row_copied(rt.alloc()) || is_row_copied(rt.alloc()));
-}
-
-static ERRORS: [(DirError, &str); 4] = [
-    (DirError::Exists, "exists"),
-    (DirError::NotFound, "not found"),
-    (DirError::Fault, "fault"),
-    (DirError::NoMemory, "no memory"),
-];
-
-fn is_told(alloc: Global, error: DirError, text: &str) -> bool {
-    match format!(in alloc; "{error}") {
-        Ok(told) => told.as_str() == text,
-        Err(_) => false,
-    }
-}
-
-// How many errors have their texts up to the first that has not, each tried once more where memory was wanting.
-fn told(alloc: Global) -> usize {
-    for (row, (error, text)) in ERRORS.iter().enumerate() {
-        if !is_told(alloc, *error, text) && !is_told(alloc, *error, text) {
-            return row;
+/// Whether an error has this text, tried once more where memory was wanting.
+pub fn is_told(alloc: Global, error: DirError, text: &str) -> bool {
+    for _ in 0..2 {
+        if let Ok(told) = format!(in alloc; "{error}") {
+            return told.as_str() == text;
         }
     }
-    ERRORS.len()
-}
-
-#[test]
-fn errors_have_their_texts(rt: HostRuntime) {
-    are_right(&rt, 0, Ok(told(rt.alloc())), ERRORS.len());
+    false
 }
 
 fn is_send<T: Send>(_value: &T) -> bool {
     true
 }
 
-fn may_cross(alloc: Global) -> bool {
-    let dirs = PlainDirs::new(alloc, 3);
-    is_send(&dirs) && is_send(&Place::Tmp) && is_send(&DirError::Fault) && dirs.folders() == 3
-}
-
-// So may files, paths, bytes and rows, of which copies are made above.
+// Copies are tried once more where memory was wanting. The texts of the other two errors come with the rows.
 #[test]
-fn values_may_cross_threads(rt: HostRuntime) {
-    assert!(rt; may_cross(rt.alloc()) && Bytes::of(Vec::new(rt.alloc())).is_empty());
+fn values_are_copied_and_told_and_may_cross_threads(rt: HostRuntime) {
+    let alloc = rt.alloc();
+    assert!(rt; are_copied(alloc) == Ok(true) || are_copied(alloc) == Ok(true));
+    assert!(rt; is_told(alloc, DirError::Fault, "fault"));
+    assert!(rt; is_told(alloc, DirError::NoMemory, "no memory"));
+    let dirs = PlainDirs::new(alloc, 3);
+    let may_cross = is_send(&dirs) && is_send(&Place::Tmp) && is_send(&DirError::Fault);
+    assert!(rt; may_cross && dirs.folders() == 3 && Bytes::of(Vec::new(alloc)).is_empty());
 }

@@ -2,27 +2,26 @@
 ghost use Rattle.std.specs.Prelude.{◌≡◌, IfOk};
 ghost use Rattle.md_view.specs.Readings.{reading_of};
 
-use super::{Scene, are, are_made, cut, directory_of, path_of, plays};
+use super::{are, cut, path_of, reads, refuses, world_of};
 use md_core::{Change, World};
 use md_dirs::{Dirs, Path, Place, PlainDirs};
 use md_name::Bytes;
 use md_replica::{Names, TreeNames};
 use md_view::{Entry, ViewError, reading};
-use std::alloc::{AllocError, Global};
+use std::alloc::Global;
 use std::process::Abort;
 
-// Steps, between bars. A step is a change, or it says what one is to show: the names of a directory, between blanks, or the one message of
-// cur, by its unique name.
+// Files, and behind a mark steps, between bars; behind another mark come those that a copy then takes, which stays as it was before. A step
+// is a change, or it says what one is to show: the names of a directory, between blanks; the one message of cur, by its unique name; new of the
+// world joined with cur; the order in which cur is read; that many names come; or that names may cross threads.
 
-static NEW_NAME: &str = "add 0/cur=u:2,S|rename 0/cur=u:2,S 0/cur=u:2,FS|0/cur u:2,FS|0/new|one u";
+static NEW_NAME: &str = "%add 0/cur=u:2,S|rename 0/cur=u:2,S 0/cur=u:2,FS|0/cur u:2,FS|0/new|one u";
 
-static TO_CUR: &str = "rename 0/new=a 0/cur=a:2,|rename 0/new=c 0/new=d|0/new d|0/cur a:2, b:2,S|\
-remove 0/cur=b:2,S|0/cur a:2,";
-
-static BEFORE: &str = "0/new a c";
+static TO_CUR: &str = "0/new=a 0/new=c 0/cur=b:2,S%rename 0/new=a 0/cur=a:2,|joined a:2, b:2,S c|\
+rename 0/new=c 0/new=d|0/new d|0/cur a:2, b:2,S|remove 0/cur=b:2,S|0/cur a:2,%0/new a c|0/cur b:2,S";
 
 // Each way in which a change doesn't fit new with v and cur with u:2,S of one folder. It changes nothing.
-static MISFITS: &str = "same|\
+static MISFITS: &str = "0/new=v 0/cur=u:2,S%same|\
 misfit add 1/new=a|\
 misfit add 0/tmp=a|\
 misfit add 0/new=.a|\
@@ -45,20 +44,7 @@ misfit remove 0/cur=u|\
 misfit remove 0/cur=.u|\
 0/tmp|1/cur";
 
-// The same names, in vectors and in trees.
-#[derive(Drop)]
-struct Both {
-    names: Names,
-    trees: TreeNames,
-}
-
-fn named(alloc: Global, world: &World<PlainDirs>) -> Result<Both, ViewError> {
-    let names = Names::of(alloc, world)?;
-    let trees = TreeNames::of(alloc, world)?;
-    Ok(Both { names, trees })
-}
-
-// The change of a kind. What is added has one byte.
+// The change of a row: its kind, a path, and where that is renamed to. What is added has one byte.
 fn change_of(kind: &str, from: Path, to: Path) -> Change {
     let Path {
         folder,
@@ -89,34 +75,40 @@ fn change_of(kind: &str, from: Path, to: Path) -> Change {
     }
 }
 
-// The change of a row: its kind, a path, and where that is renamed to.
-fn change(alloc: Global, row: &str) -> Result<Change, AllocError> {
+// Whether a change is taken, both ways.
+fn takes(names: &mut Names, trees: &mut TreeNames, change: &Change) -> bool {
+    names.apply(change).is_ok() && trees.apply(change).is_ok()
+}
+
+// Whether the change of a row is taken.
+fn applies(
+    rt: &impl Abort,
+    alloc: Global,
+    names: &mut Names,
+    trees: &mut TreeNames,
+    row: &str,
+) -> bool {
     let (kind, paths) = cut(row, ' ');
     let (from, to) = cut(paths, ' ');
-    let from = path_of(alloc, from)?;
-    Ok(change_of(kind, from, path_of(alloc, to)?))
-}
-
-fn apply(both: &mut Both, change: &Change) -> Result<(), ViewError> {
-    both.names.apply(change)?;
-    both.trees.apply(change)
-}
-
-// Whether the change of a row is taken, both ways.
-fn applies(alloc: Global, both: &mut Both, row: &str) -> bool {
-    match change(alloc, row) {
-        Ok(change) => apply(both, &change).is_ok(),
-        Err(_) => false,
-    }
+    let from = path_of(rt, alloc, from);
+    let change = change_of(kind, from, path_of(rt, alloc, to));
+    takes(names, trees, &change)
 }
 
 // Whether a directory has these names, both ways.
-fn have(alloc: Global, both: &Both, directory: &str, names: &str) -> bool {
-    let (folder, place) = directory_of(directory);
-    match both.trees.read(alloc, folder, place) {
-        Ok(read) => are(both.names.entries(folder, place), names) && are(&read, names),
-        Err(_) => false,
-    }
+fn have(
+    rt: &impl Abort,
+    alloc: Global,
+    names: &Names,
+    trees: &TreeNames,
+    (directory, wanted): (&str, &str),
+) -> bool {
+    let Path { folder, place, .. } = path_of(rt, alloc, directory);
+    are(names.entries(folder, place), wanted)
+        && are(
+            &trees.read(alloc, folder, place).expect(rt, "memory"),
+            wanted,
+        )
 }
 
 // The entries of the names of a world are its reading.
@@ -141,197 +133,159 @@ fn is_one_byte(entry: Option<&Entry>, unique: &[u8]) -> bool {
 }
 
 // Whether cur of folder 0 has this message first, both ways.
-fn is_first(alloc: Global, both: &Both, unique: &str) -> bool {
-    match both.trees.read(alloc, 0, Place::Cur) {
-        Ok(read) => {
-            is_one_byte(read.first(), unique.as_bytes())
-                && is_one_byte(both.names.entries(0, Place::Cur).first(), unique.as_bytes())
-        }
+fn is_first(alloc: Global, names: &Names, trees: &TreeNames, unique: &[u8]) -> bool {
+    let is_named = is_one_byte(names.entries(0, Place::Cur).first(), unique);
+    match trees.read(alloc, 0, Place::Cur) {
+        Ok(read) => is_named && is_one_byte(read.first(), unique),
         Err(_) => false,
     }
 }
 
-// Whether a step is right.
-fn is_right(alloc: Global, both: &mut Both, step: &str) -> bool {
-    let (kind, rest) = cut(step, ' ');
-    match kind {
-        "add" | "rename" | "remove" | "same" => applies(alloc, both, step),
-        "misfit" => {
-            applies(alloc, both, rest)
-                && have(alloc, both, "0/new", "v")
-                && have(alloc, both, "0/cur", "u:2,S")
-        }
-        "one" => is_first(alloc, both, rest),
-        _ => have(alloc, both, kind, rest),
-    }
-}
-
-// Takes steps. It says which is wrong.
-fn take(rt: &impl Abort, alloc: Global, both: &mut Both, steps: &str) -> bool {
-    for step in steps.split('|') {
-        assert!(rt; is_right(alloc, both, step), "{step}");
-    }
-    both.names.folders() == 1 && both.trees.folders() == 1
-}
-
-// A copy stays as it was before the steps.
-fn take_beside(
+// Whether new of a world, read now, and cur as its trees have it are joined to these names.
+fn is_joined(
     rt: &impl Abort,
-    alloc: Global,
-    both: &mut Both,
-    copy: &mut Both,
-    steps: &str,
-) -> bool {
-    take(rt, alloc, both, steps) && take(rt, alloc, copy, BEFORE)
-}
-
-fn goes(rt: &impl Abort, alloc: Global, both: &mut Both) -> bool {
-    match again(alloc, both) {
-        Ok(mut copy) => take_beside(rt, alloc, both, &mut copy, TO_CUR),
-        Err(_) => false,
-    }
-}
-
-fn again(alloc: Global, both: &Both) -> Result<Both, AllocError> {
-    let names = both.names.again(alloc)?;
-    let trees = both.trees.again(alloc)?;
-    Ok(Both { names, trees })
-}
-
-fn is_played_with(
-    rt: &impl Abort,
-    alloc: Global,
-    world: &World<PlainDirs>,
-    both: &mut Both,
-    scene: Scene,
-) -> bool {
-    match scene {
-        Scene::Joined => is_joined(alloc, world, both),
-        Scene::NewName => take(rt, alloc, both, NEW_NAME),
-        Scene::ToCur => goes(rt, alloc, both),
-        Scene::Misfits => take(rt, alloc, both, MISFITS),
-        Scene::Many => come_many(alloc, both),
-        _ => may_cross(both),
-    }
-}
-
-// Makes the names of a world, and lends them.
-pub(super) fn is_played(
-    rt: &impl Abort,
-    alloc: Global,
-    world: &World<PlainDirs>,
-    scene: Scene,
-) -> bool {
-    match named(alloc, world) {
-        Ok(mut both) => is_played_with(rt, alloc, world, &mut both, scene),
-        Err(_) => false,
-    }
-}
-
-#[test]
-fn a_message_shows_its_new_name(rt: HostRuntime) {
-    plays(&rt, rt.alloc(), Scene::NewName);
-}
-
-#[test]
-fn a_message_goes_from_new_to_cur_and_away(rt: HostRuntime) {
-    plays(&rt, rt.alloc(), Scene::ToCur);
-}
-
-#[test]
-fn a_change_that_does_not_fit_changes_nothing(rt: HostRuntime) {
-    plays(&rt, rt.alloc(), Scene::Misfits);
-}
-
-// New of a world, read now, and cur as its trees have it.
-fn joined(
     alloc: Global,
     world: &World<PlainDirs>,
     trees: &TreeNames,
-) -> Result<Vec<Entry>, ViewError> {
-    let new = reading(alloc, world, 0, Place::New)?;
-    Ok(trees.join_cur(alloc, &new, 0)?)
-}
-
-fn is_joined(alloc: Global, world: &World<PlainDirs>, both: &mut Both) -> bool {
-    applies(alloc, both, "rename 0/new=a 0/cur=a:2,")
-        && are_made(joined(alloc, world, &both.trees), "a:2, b:2,S c")
-}
-
-#[test]
-fn a_reading_of_new_is_joined_with_cur(rt: HostRuntime) {
-    plays(&rt, rt.alloc(), Scene::Joined);
+    wanted: &str,
+) -> bool {
+    let new = reading(alloc, world, 0, Place::New).expect(rt, "new");
+    let joined = trees.join_cur(alloc, &new, 0).expect(rt, "memory");
+    are(&joined, wanted)
 }
 
 // The number in five digits.
-fn digits(alloc: Global, number: u32) -> Result<Bytes, AllocError> {
+fn digits(rt: &impl Abort, alloc: Global, number: u32) -> Bytes {
     let mut name = Bytes::of(Vec::new(alloc));
     for unit in [10_000, 1_000, 100, 10, 1] {
         let digit = (number / unit % 10) as u8;
-        name.extend(&[b'0' + digit])?;
+        name.extend(&[b'0' + digit]).expect(rt, "memory");
     }
-    Ok(name)
+    name
 }
 
-// Adds the messages below a number that leave this rest when halved.
-fn add_many(alloc: Global, both: &mut Both, count: u32, rest: u32) -> Result<(), ViewError> {
-    for number in 0..count {
-        if number % 2 == rest {
-            add(alloc, both, number)?;
-        }
-    }
-    Ok(())
-}
-
-fn add(alloc: Global, both: &mut Both, number: u32) -> Result<(), ViewError> {
-    let made = Change::Add {
-        folder: 0,
-        place: Place::New,
-        name: digits(alloc, number)?,
-        size: 1,
-    };
-    apply(both, &made)
-}
-
-// Whether the names are in their order, both ways.
-fn are_many(alloc: Global, both: &Both) -> bool {
-    let all = both.names.entries(0, Place::New);
-    match both.trees.read(alloc, 0, Place::New) {
-        Ok(read) => {
-            all.len() == 10_000
-                && is_one_byte(all.first(), b"00000")
-                && is_one_byte(all.last(), b"09999")
-                && read.as_slice() == all
-        }
-        Err(_) => false,
+// Adds ten thousand messages, those of even numbers first.
+fn add_many(rt: &impl Abort, alloc: Global, names: &mut Names, trees: &mut TreeNames) {
+    for turn in 0..10_000 {
+        let number = if turn < 5_000 {
+            turn * 2
+        } else {
+            turn * 2 - 9_999
+        };
+        let change = Change::Add {
+            folder: 0,
+            place: Place::New,
+            name: digits(rt, alloc, number),
+            size: 1,
+        };
+        assert!(rt; takes(names, trees, &change));
     }
 }
 
-fn come_many(alloc: Global, both: &mut Both) -> bool {
-    add_many(alloc, both, 10_000, 0).is_ok()
-        && add_many(alloc, both, 10_000, 1).is_ok()
-        && are_many(alloc, both)
-}
-
-#[test]
-fn many_names_come_into_their_order(rt: HostRuntime) {
-    plays(&rt, rt.alloc(), Scene::Many);
+// Whether ten thousand names are in their order, both ways.
+fn are_many(rt: &impl Abort, alloc: Global, names: &Names, trees: &TreeNames) -> bool {
+    let all = names.entries(0, Place::New);
+    let read = trees.read(alloc, 0, Place::New).expect(rt, "memory");
+    all.len() == 10_000
+        && is_one_byte(all.first(), b"00000")
+        && is_one_byte(all.last(), b"09999")
+        && read.as_slice() == all
 }
 
 fn is_shared<T: Send + Sync>(_value: &T) -> bool {
     true
 }
 
-fn may_cross(both: &Both) -> bool {
-    match both.names.entries(0, Place::New).first() {
+fn may_cross(names: &Names, trees: &TreeNames) -> bool {
+    match names.entries(0, Place::New).first() {
         Some(entry) => {
-            is_shared(&both.names) && is_shared(&both.trees) && is_shared(entry) && entry.size == 1
+            is_shared(names) && is_shared(trees) && is_shared(entry) && entry.size == 1
         }
         None => false,
     }
 }
 
+// Whether a step is right.
+fn is_right(
+    rt: &impl Abort,
+    alloc: Global,
+    world: &World<PlainDirs>,
+    names: &mut Names,
+    trees: &mut TreeNames,
+    step: &str,
+) -> bool {
+    let (kind, rest) = cut(step, ' ');
+    match kind {
+        "add" | "rename" | "remove" | "same" => applies(rt, alloc, names, trees, step),
+        "misfit" => {
+            applies(rt, alloc, names, trees, rest)
+                && have(rt, alloc, names, trees, ("0/new", "v"))
+                && have(rt, alloc, names, trees, ("0/cur", "u:2,S"))
+        }
+        "one" => is_first(alloc, names, trees, rest.as_bytes()),
+        "joined" => is_joined(rt, alloc, world, trees, rest),
+        "order" => reads(rt, alloc, world, rest) && refuses(alloc, world),
+        "many" => {
+            add_many(rt, alloc, names, trees);
+            are_many(rt, alloc, names, trees)
+        }
+        "shared" => may_cross(names, trees),
+        _ => have(rt, alloc, names, trees, (kind, rest)),
+    }
+}
+
+// Takes steps. It says which is wrong.
+fn take(
+    rt: &impl Abort,
+    alloc: Global,
+    world: &World<PlainDirs>,
+    names: &mut Names,
+    trees: &mut TreeNames,
+    steps: &str,
+) {
+    for step in steps.split('|') {
+        assert!(rt; is_right(rt, alloc, world, names, trees, step), "{step}");
+    }
+    assert!(rt; names.folders() == 1 && trees.folders() == 1);
+}
+
+fn play_in(rt: &impl Abort, alloc: Global, world: &World<PlainDirs>, steps: &str) {
+    let (steps, beside) = cut(steps, '%');
+    let mut names = Names::of(alloc, world).expect(rt, "memory");
+    let mut trees = TreeNames::of(alloc, world).expect(rt, "memory");
+    let mut copy = names.again(alloc).expect(rt, "memory");
+    let mut copied = trees.again(alloc).expect(rt, "memory");
+    take(rt, alloc, world, &mut names, &mut trees, steps);
+    take(rt, alloc, world, &mut copy, &mut copied, beside);
+}
+
+fn play(rt: &impl Abort, alloc: Global, text: &str) {
+    let (files, steps) = cut(text, '%');
+    play_in(rt, alloc, &world_of(rt, alloc, files), steps);
+}
+
+#[test]
+fn a_reading_is_in_order_of_unique_names(rt: HostRuntime) {
+    play(
+        &rt,
+        rt.alloc(),
+        "0/cur=a:2,S 0/cur=a! 0/tmp=d%order a:2,S a!",
+    );
+}
+
+#[test]
+fn names_follow_their_changes(rt: HostRuntime) {
+    play(&rt, rt.alloc(), NEW_NAME);
+    play(&rt, rt.alloc(), TO_CUR);
+    play(&rt, rt.alloc(), MISFITS);
+}
+
+#[test]
+fn many_names_come_into_their_order(rt: HostRuntime) {
+    play(&rt, rt.alloc(), "%many");
+}
+
 #[test]
 fn names_may_cross_threads(rt: HostRuntime) {
-    plays(&rt, rt.alloc(), Scene::Threads);
+    play(&rt, rt.alloc(), "0/new=v%shared");
 }
