@@ -140,6 +140,15 @@ pub trait Dirs {
         Ok(rows)
     }
 
+    /// Makes a directory ready to show its rows in order, so that looks at many of them need not find the order anew. It is no call, and
+    /// changes nothing that a caller can see. By itself it does nothing. It is refused only when out of memory: the looks then answer the
+    /// same, later.
+    fn arrange(&mut self, _folder: u32, _place: Place) -> Result<(), AllocError>
+        ensures { device self.new ≡ device self.old }
+    {
+        Ok(())
+    }
+
     /// How many rows a directory has, and 0 where the folder is not there. By itself it looks at 65 rows, by halving.
     fn count(&self, folder: u32, place: Place) -> usize
         ensures { result ≡ length (rows_of (device self.now).state folder place) }

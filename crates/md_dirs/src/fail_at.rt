@@ -158,6 +158,10 @@ impl<D: Dirs> Dirs for FailAt<D> {
         self.dirs.rows_from(alloc, folder, place, from)
     }
 
+    fn arrange(&mut self, folder: u32, place: Place) -> Result<(), AllocError> {
+        self.dirs.arrange(folder, place)
+    }
+
     fn count(&self, folder: u32, place: Place) -> usize {
         self.dirs.count(folder, place)
     }
