@@ -14,5 +14,6 @@ pub mod Places
 pub mod Slots
 pub mod Find
 pub mod NameKey
-pub mod Positions
+pub mod Named
+pub mod Least
 pub mod Sortable

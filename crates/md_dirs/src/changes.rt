@@ -14,9 +14,9 @@ use std::alloc::{AllocError, Global};
 pub trait Paths {
     ghost names: { Self → PathMap };
 
-    /// Gives a path to a file, also in place of the one that it named. When out of memory, nothing has changed.
-    fn put(&mut self, alloc: Global, path: Path, file: usize) -> Result<(), AllocError>
-        ensures ok { OnOk result (names self.new ≡ finmap.insert (names self.old) path file) }
+    /// Gives a path to a file, also in place of the one that it named. The path is copied. When out of memory, nothing has changed.
+    fn put(&mut self, alloc: Global, path: &Path, file: usize) -> Result<(), AllocError>
+        ensures ok { OnOk result (names self.new ≡ finmap.insert (names self.old) path.now file) }
         ensures err { OnErr result (names self.new ≡ names self.old) };
 }
 
@@ -25,10 +25,10 @@ pub fn add_file<N: Paths>(
     names: &mut N,
     slots: &mut Slots,
     alloc: Global,
-    path: Path,
+    path: &Path,
     file: File,
 ) -> Result<(), AllocError>
-    ensures names { OnOk result (N.names names.new ≡ finmap.insert (N.names names.old) path (length (slots_of slots.old))) }
+    ensures names { OnOk result (N.names names.new ≡ finmap.insert (N.names names.old) path.now (length (slots_of slots.old))) }
     ensures slots { OnOk result (slots_of slots.new ≡ slots_of slots.old ++ Some (record { file = file; names = 1 }) ∷ []) }
     ensures same_names { OnErr result (N.names names.new ≡ N.names names.old) }
     ensures same_slots { OnErr result (slots_of slots.new ≡ slots_of slots.old) }
@@ -44,11 +44,11 @@ pub fn add_name<N: Paths>(
     names: &mut N,
     slots: &mut Slots,
     alloc: Global,
-    path: Path,
+    path: &Path,
     file: usize,
 ) -> Result<(), AllocError>
     requires { file < length (slots_of slots.old) }
-    ensures names { OnOk result (N.names names.new ≡ finmap.insert (N.names names.old) path file) }
+    ensures names { OnOk result (N.names names.new ≡ finmap.insert (N.names names.old) path.now file) }
     ensures slots { OnOk result (slots_of slots.new ≡ slice_set (slots_of slots.old) file (named_again (slot_at (slots_of slots.old) file))) }
     ensures same_names { OnErr result (N.names names.new ≡ N.names names.old) }
     ensures same_slots { OnErr result (slots_of slots.new ≡ slots_of slots.old) }

@@ -1,34 +1,30 @@
 // Directories as one hash table for each with the order of its names, and the files in the order of their making.
 mod key;
-mod load;
-mod loose;
+mod least;
+mod named;
 mod names;
-mod positions;
 mod sorting;
-mod tops;
 mod tree;
 
 use crate::calls::{DirError, Dirs};
 use crate::changes::{add_file, add_name};
 use crate::count::Count;
-use crate::files::{is_same, release_one, shown_row};
+use crate::files::{Kept, is_same, release_one, shown_row};
 use crate::image::ImageFile;
 use crate::paths::{File, Path, Place};
 use crate::rows::{Row, RowRef, copied_row};
 use crate::slots::Slots;
-use load::Loading;
 use md_name::Bytes;
 use std::alloc::{AllocError, Global};
 use std::marker::Model;
 use tree::Tree;
 
-/// Directories that are hashed: one table for each directory, and the positions of its rows in order of the names.
+/// Directories that are hashed: one table for each directory, by the unique parts of its names.
 ///
-/// A name is looked up by its hash, which takes its bytes at once, and a row by its position by halving. A name that comes or
-/// goes finds its place in the order by halving, over the blocks first and then in one. It moves the positions of its block
-/// alone, and a count for each block after it; one that takes another's place in the order moves nothing. Where a name goes,
-/// the last row of its table takes its row. Each file knows how many names it has. No call copies the bytes of a file, and room
-/// is made before anything is changed. They never fault.
+/// A call finds a name by its hash, and takes the same time in a folder of any size. The order of a directory's names is made when it is
+/// asked for, by `arrange` or by a listing, with one sort; names that come behind all others and changes of info keep it. Where it is not
+/// made, `rows_from` sorts for itself, and `row_at` looks at each name for each position. Each file knows how many names it has. No call
+/// copies the bytes of a file, and room is made before anything is changed. They never fault.
 #[derive(Drop)]
 pub struct IndexDirs {
     alloc: Global,
@@ -53,9 +49,9 @@ impl Model for IndexDirs {
 }
 
 impl IndexDirs {
-    ghost use Rattle.std.specs.Prelude.{◌≡◌, ◌⊎◌, Some, None, IfOk, IfErr};
+    ghost use Rattle.std.specs.Prelude.{◌≡◌, ◌⊎◌, Some, None, IfOk, IfErr, OnOk};
     ghost use Rattle.md_dirs.specs.State.{bare};
-    ghost use Rattle.md_dirs.specs.Image.{image_state, image_refusal};
+    ghost use Rattle.md_dirs.specs.Image.{put, image_state, image_refusal};
     ghost use Rattle.md_dirs.specs.declared.calls.DirError.TheVariants.{NoMemory};
 
     /// Folders with no file. It takes no memory.
@@ -71,7 +67,7 @@ impl IndexDirs {
         }
     }
 
-    /// Folders with files, which are made in their order; their bytes are moved in, and each directory is sorted once.
+    /// Folders with files, which are made in their order; their names and their bytes are moved in. No directory is in order yet.
     /// `NotFound` or `Exists` at the first file whose folder is not there or whose path was met before. `NoMemory` may come in
     /// place of either.
     pub fn from_image(
@@ -83,22 +79,35 @@ impl IndexDirs {
         ensures made { IfOk result (λ dirs. dirs ≡ record { state = image_state folders image.items; calls = 0 }) }
         ensures refused { IfErr result (λ e. (e ≡ NoMemory) ⊎ (image_refusal folders image.items ≡ Some e)) }
     {
-        let mut loading = Loading::new(alloc, folders);
+        let mut dirs = IndexDirs::new(alloc, folders);
         for file in image {
-            loading.put_file(alloc, file)?;
+            dirs.put_file(file)?;
         }
-        let Loading {
-            folders,
-            names,
-            slots,
-        } = loading;
-        Ok(IndexDirs {
-            alloc,
-            folders,
-            names: names.sorted(alloc)?,
-            slots,
-            calls: Count::zero(),
-        })
+        Ok(dirs)
+    }
+
+    // Makes a file with its bytes. It is no call.
+    fn put_file(&mut self, file: ImageFile) -> Result<(), DirError>
+        ensures made { OnOk result (((put file).refusal self.old.state ≡ None) × (self.new.state ≡ (put file).after self.old.state)) }
+        ensures calls { self.new.calls ≡ self.old.calls }
+        ensures refused { IfErr result (λ e. (e ≡ NoMemory) ⊎ ((put file).refusal self.old.state ≡ Some e)) }
+    {
+        if file.path.folder >= self.folders {
+            return Err(DirError::NotFound);
+        }
+        let number = self.slots.make_room()?;
+        if !self.names.add(self.alloc, file.path, number)? {
+            return Err(DirError::Exists);
+        }
+        let made = File {
+            bytes: file.bytes,
+            stamp: file.stamp,
+        };
+        self.slots.push(Kept {
+            file: made,
+            names: 1,
+        });
+        Ok(())
     }
 }
 
@@ -114,12 +123,11 @@ impl Dirs for IndexDirs {
             self.calls.raise();
             return Err(DirError::Exists);
         }
-        let name = path.again(self.alloc)?;
         let file = File {
             bytes: Bytes::of(Vec::new(self.alloc)),
             stamp: now,
         };
-        add_file(&mut self.names, &mut self.slots, self.alloc, name, file)?;
+        add_file(&mut self.names, &mut self.slots, self.alloc, path, file)?;
         self.calls.raise();
         Ok(())
     }
@@ -157,8 +165,7 @@ impl Dirs for IndexDirs {
             self.calls.raise();
             return Err(DirError::Exists);
         }
-        let name = new.again(self.alloc)?;
-        add_name(&mut self.names, &mut self.slots, self.alloc, name, file)?;
+        add_name(&mut self.names, &mut self.slots, self.alloc, new, file)?;
         self.calls.raise();
         Ok(())
     }
@@ -177,9 +184,8 @@ impl Dirs for IndexDirs {
             self.calls.raise();
             return Ok(());
         }
-        let name = new.again(self.alloc)?;
         self.names
-            .rename(self.alloc, old, name, file, there.is_none())?;
+            .rename(self.alloc, old, new, file, there.is_none())?;
         release_one(&mut self.slots, there);
         self.calls.raise();
         Ok(())
@@ -200,6 +206,7 @@ impl Dirs for IndexDirs {
             self.calls.raise();
             return Err(DirError::NotFound);
         }
+        self.names.arrange(self.alloc, folder, place)?;
         let rows = self.names.rows_of(self.alloc, folder, place, &self.slots)?;
         self.calls.raise();
         Ok(rows)
@@ -219,6 +226,10 @@ impl Dirs for IndexDirs {
         self.folders
     }
 
+    fn arrange(&mut self, folder: u32, place: Place) -> Result<(), AllocError> {
+        self.names.arrange(self.alloc, folder, place)
+    }
+
     // A world that begins asks this for each name.
     #[inline(always)]
     fn row_at(&self, folder: u32, place: Place, at: usize) -> Option<RowRef<'_>> {
@@ -226,7 +237,7 @@ impl Dirs for IndexDirs {
         Some(shown_row(&self.slots, name, file))
     }
 
-    // The rows of one block: a listing finds each block once.
+    // A few rows of a directory that is in order, and all that are left of one that is not.
     fn rows_from(
         &self,
         alloc: Global,

@@ -5,6 +5,7 @@ ghost use Rattle.std.specs.Cmp.Lexicographic.{nat_list_eq_equiv, nat_list_cmp_to
 ghost use Rattle.std.specs.Str.{bytes_eq};
 ghost use Rattle.std.proofs.Common.{ap, refl};
 ghost use Rattle.md_dirs.specs.Index.{name_cmp};
+ghost use Rattle.md_dirs.specs.NameKey.{held_bytes};
 
 use std::cmp::Ordering;
 use std::hash::{Hash, Hasher};
@@ -52,6 +53,13 @@ impl<'a> NameKey<'a> {
         NameKey {
             held: Held::Lent(name),
         }
+    }
+
+    // A key of bytes that are owned or lent.
+    pub(crate) fn held(held: Held<'a>) -> Self
+        ensures { result ≡ held_bytes held }
+    {
+        NameKey { held }
     }
 
     /// The bytes, lent.

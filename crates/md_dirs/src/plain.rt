@@ -101,7 +101,7 @@ impl PlainDirs {
             &mut self.names,
             &mut self.slots,
             self.alloc,
-            file.path,
+            &file.path,
             made,
         )?;
         Ok(())
@@ -120,12 +120,11 @@ impl Dirs for PlainDirs {
             self.calls.raise();
             return Err(DirError::Exists);
         }
-        let name = path.again(self.alloc)?;
         let file = File {
             bytes: Bytes::of(Vec::new(self.alloc)),
             stamp: now,
         };
-        add_file(&mut self.names, &mut self.slots, self.alloc, name, file)?;
+        add_file(&mut self.names, &mut self.slots, self.alloc, path, file)?;
         self.calls.raise();
         Ok(())
     }
@@ -153,8 +152,7 @@ impl Dirs for PlainDirs {
             self.calls.raise();
             return Err(DirError::Exists);
         }
-        let name = new.again(self.alloc)?;
-        add_name(&mut self.names, &mut self.slots, self.alloc, name, file)?;
+        add_name(&mut self.names, &mut self.slots, self.alloc, new, file)?;
         self.calls.raise();
         Ok(())
     }
@@ -173,8 +171,7 @@ impl Dirs for PlainDirs {
             self.calls.raise();
             return Ok(());
         }
-        let name = new.again(self.alloc)?;
-        self.names.put(self.alloc, name, file)?;
+        self.names.put(self.alloc, new, file)?;
         let _gone = self.names.take(old);
         release_one(&mut self.slots, there);
         self.calls.raise();

@@ -66,8 +66,8 @@ pub fn message_unique(name: &[u8]) -> Option<&[u8]>
     Some(unique)
 }
 
-/// What stands before the first colon, or all of a name without one.
-fn unique_part(name: &[u8]) -> &[u8]
+/// The unique part of any name: what stands before the first colon, or all of a name without one.
+pub fn unique_part(name: &[u8]) -> &[u8]
     ensures { result.now ≡ unique_of name.now }
 {
     match first_colon(name) {

@@ -1,5 +1,5 @@
 // The directories of all folders, side by side.
-ghost use Rattle.std.specs.Prelude.{◌≡◌, ◌<◌, ◌+◌, ◌^◌, ℕ, OnOk, OnErr, None, IfOk, IfSome, IsSome, IsTrue, All, length, map, slice_get, vec_len, find as first_with};
+ghost use Rattle.std.specs.Prelude.{◌≡◌, ◌<◌, ◌+◌, ◌^◌, ℕ, OnOk, OnErr, None, IfOk, IfSome, IsSome, IsTrue, All, length, map, slice_get, vec_len, is_none, if◌then◌else◌, find as first_with};
 ghost use Rattle.std.specs.Option.{option_map};
 ghost use Rattle.std.specs.FinMap as finmap;
 ghost use Rattle.md_dirs.specs.Path.{path_of};
@@ -11,9 +11,7 @@ ghost use Rattle.md_dirs.specs.Files.{files_of, name_row};
 ghost use Rattle.md_dirs.specs.Slots.{slots_of};
 
 use crate::changes::Paths;
-use crate::finding::InOrder;
 use crate::index::names::Names;
-use crate::name_key::NameKey;
 use crate::paths::{Path, Place, number_of};
 use crate::rows::{Row, RowRef};
 use crate::slots::Slots;
@@ -169,17 +167,17 @@ impl Tree {
     }
 
     /// Gives the file of a path another path, also in place of the file that this named: `is_free` says that it named none.
-    /// When out of memory, nothing has changed.
+    /// The name is copied. When out of memory, nothing has changed.
     pub fn rename(
         &mut self,
         alloc: Global,
         old: &Path,
-        new: Path,
+        new: &Path,
         file: usize,
         is_free: bool,
     ) -> Result<(), AllocError>
-        requires { IsTrue is_free → finmap.get self.old new ≡ None }
-        ensures ok { OnOk result (self.new ≡ finmap.remove (finmap.insert self.old new file) old.now) }
+        requires { IsTrue is_free → finmap.get self.old new.now ≡ None }
+        ensures ok { OnOk result (self.new ≡ finmap.remove (finmap.insert self.old new.now file) old.now) }
         ensures err { OnErr result (self.new ≡ self.old) }
     {
         let number = number_of(old.folder, old.place);
@@ -188,24 +186,45 @@ impl Tree {
             && number < self.directories.len()
         {
             let directory = &mut self.directories[number];
-            let name = NameKey::owned(new.name.into_vec());
-            directory.rename(old.name.as_slice(), name, file)?;
-            return Ok(());
+            return directory.rename(alloc, old.name.as_slice(), new.name.as_slice(), file);
         }
         self.put(alloc, new, file)?;
         let _gone = self.take(old);
         Ok(())
+    }
+
+    /// Gives a path to a file, unless it is there: whether it was not. The name is moved in. When out of memory, nothing has changed.
+    pub fn add(&mut self, alloc: Global, path: Path, file: usize) -> Result<bool, AllocError>
+        ensures new { IfOk result (λ is_new. is_new ≡ is_none (finmap.get self.old path)) }
+        ensures ok { IfOk result (λ is_new. self.new ≡ if is_new then finmap.insert self.old path file else self.old) }
+        ensures err { OnErr result (self.new ≡ self.old) }
+    {
+        let number = number_of(path.folder, path.place);
+        make_directory(&mut self.directories, alloc, number)?;
+        let directory = &mut self.directories[number];
+        directory.add(path.name.into_vec(), file)
+    }
+
+    /// Makes the order of a directory, unless it is made. It is refused only when out of memory.
+    pub fn arrange(&mut self, alloc: Global, folder: u32, place: Place) -> Result<(), AllocError>
+        ensures { self.new ≡ self.old }
+    {
+        let number = number_of(folder, place);
+        if number >= self.directories.len() {
+            return Ok(());
+        }
+        let directory = &mut self.directories[number];
+        directory.arrange(alloc)
     }
 }
 
 impl Paths for Tree {
     ghost names = { λ p. p };
 
-    fn put(&mut self, alloc: Global, path: Path, file: usize) -> Result<(), AllocError> {
+    fn put(&mut self, alloc: Global, path: &Path, file: usize) -> Result<(), AllocError> {
         let number = number_of(path.folder, path.place);
         make_directory(&mut self.directories, alloc, number)?;
         let directory = &mut self.directories[number];
-        directory.put(NameKey::owned(path.name.into_vec()), file)?;
-        Ok(())
+        directory.put(alloc, path.name.as_slice(), file)
     }
 }

@@ -137,10 +137,10 @@ impl PathList {
 impl Paths for PathList {
     ghost names = { λ p. p };
 
-    fn put(&mut self, _alloc: Global, path: Path, file: usize) -> Result<(), AllocError> {
-        match find_row(&self.rows, &path) {
+    fn put(&mut self, alloc: Global, path: &Path, file: usize) -> Result<(), AllocError> {
+        match find_row(&self.rows, path) {
             Ok(at) => self.rows[at].1 = file,
-            Err(at) => self.rows.insert(at, (path, file))?,
+            Err(at) => self.rows.insert(at, (path.again(alloc)?, file))?,
         }
         Ok(())
     }

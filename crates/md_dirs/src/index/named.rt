@@ -1,0 +1,141 @@
+// A name with the number of its file, as the table of a directory has it.
+ghost use Rattle.std.specs.Prelude.{◌≡◌, ◌∷◌, [], List, ℕ};
+ghost use Rattle.std.specs.Cmp.{partial_equiv_from_equiv};
+ghost use Rattle.std.specs.Cmp.Lexicographic.{bytes_decides};
+ghost use Rattle.std.specs.Str.{bytes_eq};
+ghost use Rattle.std.proofs.Common.{ap};
+ghost use Rattle.std.specs.List.{list_any};
+ghost use Rattle.md_name.specs.Names.{unique_of, is_colon};
+ghost use Rattle.md_dirs.specs.Named.{Row, is_alike, alike_equiv};
+
+use crate::name_key::{Held, NameKey};
+use md_name::unique_part;
+use std::hash::{Hash, Hasher};
+use std::marker::Model;
+
+/// A name, owned or lent, and the number of its file. Contracts see both.
+///
+/// Two are equal where their names have the same unique part, all before the first colon, whatever comes after it and whatever their files:
+/// so a table of them finds the one name of a message by its unique name. Its unique part goes to the hasher at once.
+#[derive(Drop)]
+pub struct Named<'a> {
+    name: Held<'a>,
+    // How many bytes the unique part has.
+    unique: usize,
+    file: usize,
+}
+
+impl<'a> Model for Named<'a> {
+    ghost use Rattle.std.specs.Prelude.{◌≡◌, length};
+    ghost use Rattle.md_name.specs.Names.{unique_of};
+    ghost use Rattle.md_dirs.specs.Named.{Row};
+    ghost use Rattle.md_dirs.specs.NameKey.{held_bytes};
+
+    ghost Value = { Row };
+
+    ghost view = { λ n. (held_bytes n.name, n.file) };
+
+    ghost invariant = { λ n. n.unique ≡ length (unique_of (held_bytes n.name)) };
+}
+
+impl<'a> Named<'a> {
+    /// A name that is moved in, with the number of its file. It takes no memory.
+    pub fn owned(name: Vec<u8>, file: usize) -> Self
+        ensures { result ≡ (name.items, file) }
+    {
+        let unique = unique_part(&name).len();
+        Named {
+            name: Held::Owned(name),
+            unique,
+            file,
+        }
+    }
+
+    /// A name that is lent, to look it up. It takes no memory.
+    pub fn lent(name: &'a [u8]) -> Self
+        ensures { result ≡ (name.now, 0) }
+    {
+        Named {
+            name: Held::Lent(name),
+            unique: unique_part(name).len(),
+            file: 0,
+        }
+    }
+
+    /// The name.
+    pub fn name(&self) -> &[u8]
+        ensures { result.now ≡ self.now.0 }
+    {
+        match &self.name {
+            Held::Owned(name) => name.as_slice(),
+            Held::Lent(name) => *name,
+        }
+    }
+
+    /// The unique part of the name.
+    pub fn unique(&self) -> &[u8]
+        ensures { result.now ≡ unique_of self.now.0 }
+    {
+        let name = self.name();
+        &name[..self.unique]
+    }
+
+    /// The number of the file.
+    pub fn file(&self) -> usize
+        ensures { result ≡ self.now.1 }
+    {
+        self.file
+    }
+
+    /// Whether the name is that.
+    pub fn is(&self, name: &[u8]) -> bool
+        ensures { result ≡ bytes_eq self.now.0 name.now }
+    {
+        self.name() == name
+    }
+
+    /// Whether the name goes on after its unique part, with a colon.
+    pub fn has_info(&self) -> bool
+        ensures { result ≡ list_any is_colon self.now.0 }
+    {
+        self.unique < self.name().len()
+    }
+
+    /// The name as a key of another table, moved out.
+    pub fn into_key(self) -> NameKey<'a>
+        ensures { result ≡ self.0 }
+    {
+        NameKey::held(self.name)
+    }
+
+    /// The name and the number of its file.
+    pub fn row(&self) -> (&[u8], usize)
+        ensures { (result.0.now, result.1) ≡ self.now }
+    {
+        (self.name(), self.file)
+    }
+}
+
+impl<'a> PartialEq for Named<'a> {
+    ghost eq = { is_alike };
+
+    ghost laws = { partial_equiv_from_equiv alike_equiv };
+
+    fn eq(&self, other: &Self) -> bool {
+        self.unique() == other.unique()
+    }
+}
+
+impl<'a> Eq for Named<'a> {
+    ghost laws = { alike_equiv };
+}
+
+impl<'a> Hash for Named<'a> {
+    ghost hash_input = { λ n. unique_of n.0 ∷ [] };
+
+    ghost respects_eq = { λ x y h. ap (λ unique. unique ∷ []) ((bytes_decides (unique_of x.0) (unique_of y.0)).0 h) };
+
+    fn hash<H: Hasher>(&self, state: &mut H) {
+        state.write(self.unique());
+    }
+}
