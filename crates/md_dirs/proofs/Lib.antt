@@ -13,14 +13,11 @@ pub mod NameRows
 pub mod Renamed
 pub mod Ordered
 pub mod Zones
-pub mod Edges
 pub mod Directories
 pub mod Sliced
 pub mod Looked
-pub mod Blocked
 pub mod Keys
 pub mod Lent
 pub mod Keyed
 pub mod Slotted
-pub mod Searched
 pub mod Sorting

@@ -1,13 +1,11 @@
 // What a directory shows of a name.
-ghost use Rattle.std.specs.Prelude.{◌≡◌, ◌++◌, ◌∷◌, [], IfOk, nat_lt};
+ghost use Rattle.std.specs.Prelude.{◌≡◌, IfOk, nat_lt};
 ghost use Rattle.std.specs.Option.{option_map};
 ghost use Rattle.md_dirs.specs.Find.{zone, before_colon};
-ghost use Rattle.md_dirs.specs.Index.{name_cmp};
 ghost use Rattle.md_dirs.specs.Rows.{row_shown, row_named, ends_unique, is_named as is_named_by};
 
 use md_name::Bytes;
 use std::alloc::{AllocError, Global};
-use std::cmp::Ordering;
 
 /// A name of a directory, with the stamp of its file in seconds and its size in bytes.
 #[derive(Debug, Drop)]
@@ -103,18 +101,6 @@ pub fn is_below_info(name: &[u8], unique: &[u8]) -> bool
         goes_before_colon(&name[unique.len()..])
     } else {
         name.cmp(unique).is_lt()
-    }
-}
-
-// How a name compares with a unique name with a colon.
-pub fn compare_info(name: &[u8], unique: &[u8]) -> Ordering
-    ensures { result ≡ name_cmp name.now (unique.now ++ 58 ∷ []) }
-{
-    let colon: &[u8] = b":";
-    if name.starts_with(unique) {
-        name[unique.len()..].cmp(colon)
-    } else {
-        name.cmp(unique)
     }
 }
 
