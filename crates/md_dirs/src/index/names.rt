@@ -1,5 +1,5 @@
 // The names of one directory, hashed, and their order, once it is asked for.
-ghost use Rattle.std.specs.Prelude.{◌≡◌, ◌⊎◌, ◌<◌, ◌+◌, ◌++◌, ◌∷◌, ◌^◌, [], None, Some, OnOk, OnErr, IfOk, IfSome, IfNone, IsSome, IsTrue, All, length, map, slice_get, take, drop, is_none, if◌then◌else◌, find as first_with};
+ghost use Rattle.std.specs.Prelude.{◌≡◌, ◌⊎◌, ◌<◌, ◌+◌, ◌++◌, ◌∷◌, ◌^◌, [], None, Some, OnOk, OnErr, IfOk, IfSome, IfNone, IsSome, IsTrue, All, true, false, length, map, slice_get, take, drop, is_none, if◌then◌else◌, find as first_with};
 ghost use Rattle.std.specs.Option.{option_map};
 ghost use Rattle.std.specs.List.{list_any, IsDistinct};
 ghost use Rattle.std.specs.Map.{keys_of};
@@ -134,10 +134,10 @@ fn add_row(
     row: Named<'static>,
 ) -> Result<Option<usize>, AllocError>
     requires { (order.old.items ≡ []) ⊎ IsOrderOf table.old.keys order.old.items }
-    ensures added { IfOk result (λ there. IfNone there ((table.new.keys ≡ table.old.keys ++ row ∷ [])
-        × (list_any (is_alike row) table.old.keys ≡ false))) }
+    ensures added { IfOk result (λ there. IfNone there ((table.new.keys ≡ table.old.keys ++ row.entry ∷ [])
+        × (list_any (is_alike row.entry) table.old.keys ≡ false))) }
     ensures there { IfOk result (λ there. IfSome there (λ at. (table.new.keys ≡ table.old.keys)
-        × ((found : _) × (slice_get table.old.keys at ≡ Some found) × (is_alike row found ≡ true)))) }
+        × ((found : _) × (slice_get table.old.keys at ≡ Some found) × (is_alike row.entry found ≡ true)))) }
     ensures err { OnErr result (table.new.keys ≡ table.old.keys) }
     ensures ordered { (order.new.items ≡ []) ⊎ IsOrderOf table.new.keys order.new.items }
 {

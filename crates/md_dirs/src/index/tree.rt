@@ -186,7 +186,8 @@ impl Tree {
             && number < self.directories.len()
         {
             let directory = &mut self.directories[number];
-            return directory.rename(alloc, old.name.as_slice(), new.name.as_slice(), file);
+            directory.rename(alloc, old.name.as_slice(), new.name.as_slice(), file)?;
+            return Ok(());
         }
         self.put(alloc, new, file)?;
         let _gone = self.take(old);
@@ -202,7 +203,8 @@ impl Tree {
         let number = number_of(path.folder, path.place);
         make_directory(&mut self.directories, alloc, number)?;
         let directory = &mut self.directories[number];
-        directory.add(path.name.into_vec(), file)
+        let is_new = directory.add(path.name.into_vec(), file)?;
+        Ok(is_new)
     }
 
     /// Makes the order of a directory, unless it is made. It is refused only when out of memory.
@@ -225,6 +227,7 @@ impl Paths for Tree {
         let number = number_of(path.folder, path.place);
         make_directory(&mut self.directories, alloc, number)?;
         let directory = &mut self.directories[number];
-        directory.put(alloc, path.name.as_slice(), file)
+        directory.put(alloc, path.name.as_slice(), file)?;
+        Ok(())
     }
 }

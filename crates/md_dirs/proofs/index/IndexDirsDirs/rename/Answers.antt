@@ -12,7 +12,7 @@ pub invariant_of-self-2 : goal.invariant_of-self-2
 invariant_of-self-2 c =
     let s = c.self.inside in
     let differ = sym c.is_same.ensures ∙ c.if-is_same.false in
-    rw (c.in_ok-rename.ensures.ok, c.release_one.ensures, c.in_ok-name.ensures)
+    rw (c.in_ok-rename.ensures.ok, c.release_one.ensures)
     (counted-moved s.folders s.names (slots_of s.slots) c.self.invariant c.args.old.now c.args.new.now c.in-Some.file c.file_at-there.result
     (sym c.file_at.ensures ∙ c.in-Some.is) c.if-new-self.false (sym c.file_at-there.ensures) differ)
 
@@ -21,7 +21,7 @@ returns c =
     let s = c.self.inside in
     let differ = sym c.is_same.ensures ∙ c.if-is_same.false in
     record {
-      meets = rw (← c.self.view_is, c.in_ok-rename.ensures.ok, c.release_one.ensures, c.in_ok-name.ensures)
+      meets = rw (← c.self.view_is, c.in_ok-rename.ensures.ok, c.release_one.ensures)
           (rename-done s.folders s.names (slots_of s.slots) c.self.invariant c.args.old.now c.args.new.now c.in-Some.file c.file_at-there.result _ _
           (sym c.file_at.ensures ∙ c.in-Some.is) c.if-new-self.false (sym c.file_at-there.ensures) differ c.raise-2.ensures);
     }

@@ -33,7 +33,7 @@ pub returns-clause-ok : goal.returns-clause-ok
 returns-clause-ok c =
     let t = c.self.inside.directories in
     let u = c.make_directory.new.directories in
-    let p = c.args.path in
+    let p = c.args.path.now in
     let n = c.number_of-number in
     let grown = c.in_ok-make_directory.ensures in
     let within : n.result < length u.items = omega (arith, u.ok.0) in
@@ -41,7 +41,7 @@ returns-clause-ok c =
     let written : d ≡ finmap.insert (directory_at t.items n.result) p.name c.args.file =
     c.in_ok-put.ensures.ok ∙
     (λ i. finmap.insert ((sym (read-directory u.items n.result c.index_mut-directory.result.now within c.index_mut-directory.ensures.value) ∙
-    grown.same n.result) i) ((c.owned.ensures ∙ c.into_vec.ensures) i) c.args.file) in
+    grown.same n.result) i) (c.as_slice.ensures i) c.args.file) in
     rw (← c.self.view_is)
     (put-names t.items _ p
     (λ k differ. beside-set u.items n.result k d (λ is. differ (is ∙ n.ensures.number)) ∙ grown.same k)
