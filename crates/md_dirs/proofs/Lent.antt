@@ -1,6 +1,7 @@
 -- Rows that are lent from a block: they are the next ones of their directory.
-use Rattle.std.proofs.Common.{ℕ, zero, suc, ◌≡◌, ◌<◌, ◌≤◌, List, [], ◌∷◌, Result, Ok, Err, IfOk, Option, Some, None, length, map, take, drop, get_or, slice_get, sym, ap, subst, ◌∙◌, arith}
-use Rattle.std.proofs.lemmas.List.{length-map, take-map, drop-map, drop_more}
+use Rattle.std.proofs.Common.{ℕ, zero, suc, ◌≡◌, ◌<◌, ◌≤◌, List, [], ◌∷◌, Result, Ok, Err, IfOk, Option, Some, None, length, map, take, drop, ◌+◌, ◌-◌, ◌++◌, get_or, slice_get, sym, ap, subst, ◌∙◌, arith}
+use Rattle.std.proofs.Math.Seq.{take-add}
+use Rattle.std.proofs.lemmas.List.{length-map, take-map, drop-map, drop_more, length-append, length-take, length-drop, take_all}
 use Rattle.std.proofs.lemmas.Option.{slice_get_within, get_or_from_slice_get}
 use Rattle.md_dirs.specs.Lent.{AreNext}
 use Rattle.md_dirs.specs.Files.{name_row}
@@ -35,6 +36,28 @@ one-next all shown from row is one =
       each = one ∙ ap (λ r. r ∷ []) this ∙ ap (take 1) (sym here) ∙ ap (λ (rows : List Row). take (length rows) (drop from all)) (sym one);
       some = λ _. subst (λ (rows : List Row). 0 < length rows) (sym one) (omega arith);
     }
+
+-- rows that are gathered, until none come next
+module _ (all shown rows : List Row) (next : AreNext all (length shown) rows) where
+  pub gathered : (more : List Row) → shown ≡ take (length shown) all → more ≡ shown ++ rows → more ≡ take (length more) all
+  gathered more before made =
+      let long : length more ≡ length shown + length rows = ap length made ∙ length-append shown rows in
+      made ∙ (λ i. before i ++ next.each i) ∙ sym (take-add (length shown) (length rows) all) ∙ ap (λ n. take n all) (sym long)
+
+  pub fewer-left : (more : List Row) → 0 < length rows → more ≡ shown ++ rows → length all - length more < length all - length shown
+  fewer-left more some made =
+      let long : length more ≡ length shown + length rows = ap length made ∙ length-append shown rows in
+      let cut = ap length next.each ∙ length-take (length rows) (drop (length shown) all) in
+      let rest = length-drop (length shown) all in
+      omega (arith, some, long, cut, rest)
+
+  pub all-gathered : shown ≡ take (length shown) all → length rows ≡ 0 → shown ≡ all
+  all-gathered before none = before ∙ take_all (length shown) all (ended all (length shown) next.some)
+    where
+      ended : (es : List Row) (at : ℕ) → (at < length es → 0 < length rows) → length es ≤ at
+      ended [] at some = omega arith
+      ended (e ∷ es) zero some = let here = some (omega arith) in absurd (omega (arith, here, none))
+      ended (e ∷ es) (suc at) some = let rest = ended es at (λ h. some (omega (arith, h))) in omega (arith, rest)
 
 module _ (es : List (List ℕ × ℕ)) (order ps : List ℕ) (from : ℕ) (is : ps ≡ take (length ps) (drop from order)) where
   -- the rows at positions that stand side by side

@@ -210,12 +210,23 @@ fn sorted_rows<'a>(
         ≡ drop from (map (name_row (files_of (slots_of slots.now))) (finmap.entries {R = name_cmp} (finmap.from_entries (map lent_row rows.now))))) }
 {
     let order = sorted_order(alloc, rows)?;
-    let mut lent = Vec::with_capacity(alloc, order.len().saturating_sub(from))?;
-    for at in from..order.len() {
-        let (name, file) = rows[order[at]];
+    let positions = &order[from.min(order.len())..];
+    let mut lent = Vec::with_capacity(alloc, positions.len())?;
+    for at in positions {
+        let (name, file) = rows[*at];
         lent.push(shown_row(slots, name, file))?;
     }
     Ok(lent)
+}
+
+// Adds copies of rows behind those that are there.
+fn push_copies(shown: &mut Vec<Row>, alloc: Global, rows: &[RowRef<'_>]) -> Result<(), AllocError>
+    ensures { OnOk result (shown.new.items ≡ shown.old.items ++ map row_shown rows.now) }
+{
+    for row in rows {
+        shown.push(row.copied(alloc)?)?;
+    }
+    Ok(())
 }
 
 impl Names {
@@ -379,9 +390,7 @@ impl Names {
             if lent.is_empty() {
                 return Ok(shown);
             }
-            for row in &lent {
-                shown.push(row.copied(alloc)?)?;
-            }
+            push_copies(&mut shown, alloc, &lent)?;
         }
     }
 
