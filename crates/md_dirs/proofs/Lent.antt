@@ -21,6 +21,15 @@ none-next all shown from past none = record {
   some = λ within. absurd (omega (arith, within, past));
 }
 
+-- all that are left are lent
+pub rest-next : (all shown : List Row) (from : ℕ) → shown ≡ drop from all → AreNext all from shown
+rest-next all shown from is =
+    let long : length shown ≡ length all - from = ap length is ∙ length-drop from all in
+    record {
+      each = is ∙ sym (take_all (length shown) (drop from all) (omega (arith, long, length-drop from all)));
+      some = λ within. omega (arith, within, long);
+    }
+
 -- where there is no row, all are before
 pub past : (all : List Row) (from : ℕ) → slice_get all from ≡ None → length all ≤ from
 past [] from none = omega arith
@@ -67,7 +76,7 @@ module _ (es : List (List ℕ × ℕ)) (order ps : List ℕ) (from : ℕ) (is : 
       ap (take (length ps)) (sym (drop-map (λ i. get_or es i ([], 0)) from order))
 
   -- what they show is what the directory shows there
-  pub next-rows : (files : List (Option File)) (shown : List Row) → 0 < length ps → shown ≡ map (name_row files) (rows_at es ps) →
+  pub next-rows : (files : List (Option File)) (shown : List Row) → (from < length order → 0 < length ps) → shown ≡ map (name_row files) (rows_at es ps) →
       AreNext (map (name_row files) (rows_at es order)) from shown
   next-rows files shown some made =
       let long : length shown ≡ length ps = ap length made ∙ length-map (rows_at es ps) (name_row files) ∙ length-map ps (λ i. get_or es i ([], 0)) in
@@ -75,5 +84,8 @@ module _ (es : List (List ℕ × ℕ)) (order ps : List ℕ) (from : ℕ) (is : 
         each = made ∙ ap (map (name_row files)) rows-part ∙ sym (take-map (name_row files) (length ps) (drop from (rows_at es order)))
             ∙ ap (take (length ps)) (sym (drop-map (name_row files) from (rows_at es order)))
             ∙ ap (λ n. take n (drop from (map (name_row files) (rows_at es order)))) (sym long);
-        some = λ _. subst (λ n. 0 < n) (sym long) some;
+        some = λ within.
+            let all : length (map (name_row files) (rows_at es order)) ≡ length order =
+            length-map (rows_at es order) (name_row files) ∙ length-map order (λ i. get_or es i ([], 0)) in
+            subst (λ n. 0 < n) (sym long) (some (omega (arith, within, all)));
       }

@@ -21,3 +21,5 @@ pub mod Lent
 pub mod Keyed
 pub mod Slotted
 pub mod Sorting
+pub mod Alike
+pub mod Arranged

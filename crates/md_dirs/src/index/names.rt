@@ -197,6 +197,14 @@ fn lent_rows<'a>(
     Ok(lent)
 }
 
+// The positions of an order from one on, all of them.
+fn rest_of(order: &[usize], from: usize) -> &[usize]
+    ensures { result.now ≡ drop from order.now }
+{
+    let from = from.min(order.len());
+    &order[from..]
+}
+
 // The rows from a position on of a directory whose order is not made, lent: by one sort.
 fn sorted_rows<'a>(
     alloc: Global,
@@ -205,12 +213,13 @@ fn sorted_rows<'a>(
     slots: &'a Slots,
 ) -> Result<Vec<RowRef<'a>>, AllocError>
     requires distinct { IsDistinct bytes_eq (keys_of (map lent_row rows.now)) }
-    requires filed { All (λ e. IsSome (file_by (files_of (slots_of slots.now)) e.1)) (map lent_row rows.now) }
+    requires filed { All (λ e. IsSome (file_by (files_of (slots_of slots.now)) e.1))
+        (finmap.entries {R = name_cmp} (finmap.from_entries (map lent_row rows.now))) }
     ensures { IfOk result (λ lent. map row_shown lent.items
         ≡ drop from (map (name_row (files_of (slots_of slots.now))) (finmap.entries {R = name_cmp} (finmap.from_entries (map lent_row rows.now))))) }
 {
     let order = sorted_order(alloc, rows)?;
-    let positions = &order[from.min(order.len())..];
+    let positions = rest_of(&order, from);
     let mut lent = Vec::with_capacity(alloc, positions.len())?;
     for at in positions {
         let (name, file) = rows[*at];
@@ -380,7 +389,7 @@ impl Names {
     }
 
     /// All rows, copied. It is refused only when out of memory.
-    pub fn rows(&self, alloc: Global, slots: &Slots) -> Result<Vec<Row>, AllocError>
+    pub fn rows<'a>(&'a self, alloc: Global, slots: &'a Slots) -> Result<Vec<Row>, AllocError>
         requires { All (λ e. IsSome (file_by (files_of (slots_of slots.now)) e.1)) (finmap.entries self.now) }
         ensures { IfOk result (λ shown. shown.items ≡ map (name_row (files_of (slots_of slots.now))) (finmap.entries self.now)) }
     {

@@ -1,5 +1,5 @@
 use Rattle.std.proofs.Common.{[], ◌≡◌, ◌+◌, ◌<◌, ◌++◌, ◌∷◌, ◌∙◌, sym, ap, arith, get_or, length, map, take}
-use Rattle.std.proofs.lemmas.List.{take_more, map_push, append-assoc}
+use Rattle.std.proofs.lemmas.List.{take_more, map_push, append_assoc}
 use Rattle.std.specs.Option.{option_map, option_copied}
 use Rattle.std.specs.Map.Iter.{deref_pair}
 use Rattle.md_dirs.specs.Least.{lent_row}
@@ -30,5 +30,5 @@ loop-at-2-preserved c =
     let row : (c.as_slice.result.now, pair.1.now) ≡ get_or fs at ([], 0) = ap (λ n. (n, pair.1.now)) c.as_slice.ensures ∙ sym here in
     ap (map lent_row) c.in_ok-push-2.ensures.items ∙ map_push lent_row c.loop-at-2.rows.items (c.as_slice.result, pair.1.now)
     ∙ (λ j. c.loop-at-2.invariant j ++ row j ∷ [])
-    ∙ append-assoc es (take at fs) (get_or fs at ([], 0) ∷ [])
+    ∙ append_assoc es (take at fs) (get_or fs at ([], 0) ∷ [])
     ∙ ap (λ x. es ++ x) (sym (take_more fs at ([], 0) within))

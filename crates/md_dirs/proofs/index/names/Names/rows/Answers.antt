@@ -1,0 +1,1 @@
+use Rattle.md_dirs.proofs.index.names.Names.rows.Goals as goal
