@@ -21,5 +21,4 @@ pub mod Lent
 pub mod Keyed
 pub mod Slotted
 pub mod Sorting
-pub mod Alike
 pub mod Arranged

@@ -10,5 +10,5 @@ pub sorted_order-requires : goal.sorted_order-requires
 sorted_order-requires c =
     let rows = c.self.inside.table.keys in
     let others = c.self.inside.others.entries in
-    subst (λ es. IsDistinct same (keys_of es)) (sym (ap (map lent_row) c.deref.ensures.value ∙ c.in_ok-rows.ensures))
+    subst (λ es. IsDistinct same (keys_of es)) (sym (ap (map lent_row) c.deref.ensures.value ∙ c.in_ok-rows.ensures.rows))
     (distinct-all rows others c.all_rows.ensures.unique.0 c.all_rows.ensures.unique.1 c.self.invariant.apart)
