@@ -1,24 +1,20 @@
 -- The positions of rows in order of their names, as rows come and go.
-use Rattle.std.proofs.Common.{ℕ, zero, suc, ◌≡◌, ◌≢◌, ◌+◌, ◌-◌, ◌<◌, ◌≤◌, ◌++◌, List, [], ◌∷◌, Some, None, Bool, true, false, cond, T, not, length, nat_eq, nat_lt, refl, sym, ap, subst, ◌∙◌, arith, get_or, slice_set, slice_get, insert, remove, swap_remove, take, drop, All}
+use Rattle.std.proofs.Common.{ℕ, zero, suc, ◌≡◌, ◌≢◌, ◌+◌, ◌-◌, ◌<◌, ◌≤◌, ◌++◌, List, [], ◌∷◌, Some, None, Bool, true, false, cond, T, not, length, nat_eq, nat_lt, refl, sym, ap, subst, ◌∙◌, arith, get_or, slice_set, slice_get, insert, take, drop, All}
 use Rattle.std.proofs.lemmas.Bool.Decides.{nat_tests}
-use Rattle.std.proofs.lemmas.List.{length-map, length-set, length-take-le, get_or-map, get_or-take, get_or-set_same, get_or-set_other, get_or_append_left, get_or_push, length_push, get_or_default, take-map, drop-map, map-append, ext_get_or}
-use Rattle.std.proofs.lemmas.List.Edits.{length-remove, get_or-remove_below, get_or-remove_above}
-use Rattle.std.proofs.lemmas.List.Elements.{All-from_get_or, All-append, All-cons, All-weaker, All-take, All-drop, All-tail}
+use Rattle.std.proofs.lemmas.List.{length-map, length-set, get_or-map, get_or-set_same, get_or-set_other, get_or_append_left, get_or_push, length_push, get_or_default, take-map, drop-map, map-append, ext_get_or}
+use Rattle.std.proofs.lemmas.List.Elements.{All-append, All-cons, All-weaker, All-take, All-drop, All-tail}
 use Rattle.std.proofs.lemmas.Cmp.{tied_itself}
 use Rattle.std.specs.declared.cmp.Ordering.{Ordering}
 use Rattle.std.specs.declared.cmp.Ordering.TheVariants.{Less, Equal, Greater}
 use Rattle.std.specs.Ordering.{is_eq, ordering_reverse}
-use Rattle.std.specs.List.{IsDistinct, AllByRecursion}
-use Rattle.std.specs.Map.{keys_of}
-use Rattle.indexmap.specs.IndexMap.{insert_entry}
 use Rattle.std.specs.FinMap as finmap
 use Rattle.std.specs.FinMap.{find, is_sorted, same_map, get-from_entries, get-from_sorted, get-entries, entries-from_sorted, entries-insert, entries_sorted, from_entries_push}
 use Rattle.std.specs.FinMap.Entries.{put, where_key, below_all, by_order}
 use Rattle.md_dirs.specs.Index.{name_cmp, rows_at, IsOrderOf, FitsAt}
 use Rattle.md_dirs.specs.Plain.{IsAt, IsGap}
-use Rattle.md_dirs.proofs.Sorted.{first, second, both, less, is_true, other, where-above, at-row}
+use Rattle.md_dirs.proofs.Sorted.{first, second, both, less, other, where-above}
 use Rattle.md_dirs.proofs.Renamed.{below-at, turned}
-use Rattle.md_dirs.proofs.NameRows.{Row, name_total, name_exact, same, ties, turned-test, get-within, below-trans, is_less}
+use Rattle.md_dirs.proofs.NameRows.{Row, name_total, name_exact, get-within, below-trans, is_less}
 use Rattle.lists.proofs.Maps.{entries-remove}
 use Rattle.md_dirs.proofs.Steps.{row-file, row-path}
 

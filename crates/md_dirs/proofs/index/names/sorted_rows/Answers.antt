@@ -1,4 +1,4 @@
-use Rattle.std.proofs.Common.{ℕ, List, [], ◌≡◌, ◌<◌, ◌++◌, ◌∷◌, ◌∙◌, sym, ap, subst, arith, get_or, length, map, take, drop, All, IsSome, Bor}
+use Rattle.std.proofs.Common.{[], ◌≡◌, ◌<◌, ◌++◌, ◌∷◌, ◌∙◌, sym, ap, subst, arith, get_or, length, map, take, All, IsSome}
 use Rattle.std.proofs.lemmas.List.{take_more, take_all, map_push, length-map, get_or-map, drop-map}
 use Rattle.std.proofs.lemmas.List.Elements.{All-get_or, All-drop}
 use Rattle.std.specs.FinMap as finmap

@@ -1,9 +1,8 @@
-use Rattle.std.proofs.Common.{[], ◌≡◌, ◌+◌, ◌<◌, ◌++◌, ◌∷◌, ◌∙◌, sym, ap, arith, get_or, length, map, take}
+use Rattle.std.proofs.Common.{[], ◌≡◌, ◌<◌, ◌++◌, ◌∷◌, ◌∙◌, sym, ap, arith, get_or, length, map, take}
 use Rattle.std.proofs.lemmas.List.{take_more, map_push, append_assoc}
 use Rattle.std.specs.Option.{option_map, option_copied}
 use Rattle.std.specs.Map.Iter.{deref_pair}
 use Rattle.md_dirs.specs.Least.{lent_row}
-use Rattle.md_dirs.specs.Named.{Row}
 use Rattle.md_dirs.proofs.Ordered.{read}
 use Rattle.md_dirs.proofs.index.sorting.all_rows.Goals as goal
 

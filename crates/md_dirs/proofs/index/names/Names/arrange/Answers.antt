@@ -3,7 +3,7 @@ use Rattle.std.specs.List.{IsDistinct}
 use Rattle.std.specs.Map.{keys_of}
 use Rattle.md_dirs.specs.Least.{lent_row}
 use Rattle.md_dirs.proofs.Alike.{distinct-all}
-use Rattle.md_dirs.proofs.NameRows.{Row, same}
+use Rattle.md_dirs.proofs.NameRows.{same}
 use Rattle.md_dirs.proofs.index.names.Names.arrange.Goals as goal
 
 pub sorted_order-requires : goal.sorted_order-requires
