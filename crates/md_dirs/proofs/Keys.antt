@@ -4,30 +4,19 @@ use Rattle.std.proofs.Math.Facts.{Fits-lt-pow}
 use Rattle.std.proofs.Math.Nat.{pow-suc, mul-le-mul_right, pow-le-pow_right}
 use Rattle.std.proofs.lemmas.Cmp.{ranked, nat_list_cmp_total}
 use Rattle.std.proofs.lemmas.List.{get_or_default}
-use Rattle.std.proofs.lemmas.List.Elements.{All-head, All-tail, All-append}
+use Rattle.std.proofs.lemmas.List.Elements.{All-head, All-tail}
 use Rattle.std.specs.declared.cmp.Ordering.{Ordering}
 use Rattle.std.specs.declared.cmp.Ordering.TheVariants.{Less, Equal, Greater}
 use Rattle.std.specs.Ordering.{nat_cmp, ordering_then, ordering_reverse}
 use Rattle.std.specs.Cmp.Lexicographic.{slice_cmp}
 use Rattle.std.specs.Int.{w128, byte_worth, sum_through, from_be_bytes}
-use Rattle.md_dirs.specs.Keys.{key_from, AreBytes, IsKeyOf, edge_name}
-use Rattle.md_dirs.specs.declared.finding.Edge.{Edge}
-use Rattle.md_dirs.specs.declared.finding.Edge.TheVariants.{Name, Info}
+use Rattle.md_dirs.specs.Keys.{key_from, AreBytes, IsKeyOf}
 
 pub are-bytes : (s : List ℕ) → ((k : ℕ) → Fits w8 (get_or s k 0)) → AreBytes s
 are-bytes s fits = λ k d h.
     let small : get_or s k 0 < 2 ^ 8 = Fits-lt-pow (fits k) in
     let e = get_or_default s k d 0 h in
     omega (arith, small, e)
-
--- a colon is a byte
-pub edge-bytes : (u : List ℕ) (edge : Edge) → AreBytes u → AreBytes (edge_name u edge)
-edge-bytes u Name are = are
-edge-bytes u Info are = All-append (λ b. b < 2 ^ 8) u (58 ∷ []) are colon
-  where
-    colon : AreBytes (58 ∷ [])
-    colon zero d h = omega arith
-    colon (suc k) d h = absurd (omega arith)
 
 pub some_power : (n : ℕ) → 0 < 256 ^ n
 some_power zero = omega arith

@@ -21,3 +21,4 @@ pub mod Lent
 pub mod Keyed
 pub mod Slotted
 pub mod Sorting
+pub mod Arranged

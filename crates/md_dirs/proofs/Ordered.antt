@@ -1,24 +1,20 @@
 -- The positions of rows in order of their names, as rows come and go.
-use Rattle.std.proofs.Common.{ℕ, zero, suc, ◌≡◌, ◌≢◌, ◌+◌, ◌-◌, ◌<◌, ◌≤◌, ◌++◌, List, [], ◌∷◌, Some, None, Bool, true, false, cond, T, not, length, nat_eq, nat_lt, refl, sym, ap, subst, ◌∙◌, arith, get_or, slice_set, slice_get, insert, remove, swap_remove, take, drop, All}
+use Rattle.std.proofs.Common.{ℕ, zero, suc, ◌≡◌, ◌≢◌, ◌+◌, ◌-◌, ◌<◌, ◌≤◌, ◌++◌, List, [], ◌∷◌, Some, None, Bool, true, false, cond, T, not, length, nat_eq, nat_lt, refl, sym, ap, subst, ◌∙◌, arith, get_or, slice_set, slice_get, insert, take, drop, All}
 use Rattle.std.proofs.lemmas.Bool.Decides.{nat_tests}
-use Rattle.std.proofs.lemmas.List.{length-map, length-set, length-take-le, get_or-map, get_or-take, get_or-set_same, get_or-set_other, get_or_append_left, get_or_push, length_push, get_or_default, take-map, drop-map, map-append, ext_get_or}
-use Rattle.std.proofs.lemmas.List.Edits.{length-remove, get_or-remove_below, get_or-remove_above}
-use Rattle.std.proofs.lemmas.List.Elements.{All-from_get_or, All-append, All-cons, All-weaker, All-take, All-drop, All-tail}
+use Rattle.std.proofs.lemmas.List.{length-map, length-set, get_or-map, get_or-set_same, get_or-set_other, get_or_append_left, get_or_push, length_push, get_or_default, take-map, drop-map, map-append, ext_get_or}
+use Rattle.std.proofs.lemmas.List.Elements.{All-append, All-cons, All-weaker, All-take, All-drop, All-tail}
 use Rattle.std.proofs.lemmas.Cmp.{tied_itself}
 use Rattle.std.specs.declared.cmp.Ordering.{Ordering}
 use Rattle.std.specs.declared.cmp.Ordering.TheVariants.{Less, Equal, Greater}
 use Rattle.std.specs.Ordering.{is_eq, ordering_reverse}
-use Rattle.std.specs.List.{IsDistinct, AllByRecursion}
-use Rattle.std.specs.Map.{keys_of}
-use Rattle.indexmap.specs.IndexMap.{insert_entry}
 use Rattle.std.specs.FinMap as finmap
 use Rattle.std.specs.FinMap.{find, is_sorted, same_map, get-from_entries, get-from_sorted, get-entries, entries-from_sorted, entries-insert, entries_sorted, from_entries_push}
 use Rattle.std.specs.FinMap.Entries.{put, where_key, below_all, by_order}
 use Rattle.md_dirs.specs.Index.{name_cmp, rows_at, IsOrderOf, FitsAt}
 use Rattle.md_dirs.specs.Plain.{IsAt, IsGap}
-use Rattle.md_dirs.proofs.Sorted.{first, second, both, less, is_true, other, where-above, at-row}
+use Rattle.md_dirs.proofs.Sorted.{first, second, both, less, other, where-above}
 use Rattle.md_dirs.proofs.Renamed.{below-at, turned}
-use Rattle.md_dirs.proofs.NameRows.{Row, name_total, name_exact, same, ties, turned-test, get-within, below-trans, is_less}
+use Rattle.md_dirs.proofs.NameRows.{Row, name_total, name_exact, get-within, below-trans, is_less}
 use Rattle.lists.proofs.Maps.{entries-remove}
 use Rattle.md_dirs.proofs.Steps.{row-file, row-path}
 
@@ -148,78 +144,6 @@ module _ (rows : Rows) (order : List ℕ) (is : IsOrderOf rows order) where
     lists = at-set at x within ∙ ap (λ es. slice_set es at x) is.lists ∙ lists;
   }
 
-  -- a row goes, and the last takes its position
-  module _ (at moved last : ℕ) (here : at < length order) (there : moved < length order) (end : get_or order moved 0 ≡ last)
-      (count : last + 1 ≡ length rows) where
-    abbrev left : Rows
-    left = take last (slice_set rows (get_or order at 0) (get_or rows last ([], 0)))
-
-    kept-row : (k : ℕ) → k < length order → k ≢ at →
-        (get_or (slice_set order moved (get_or order at 0)) k 0 < last) ×
-        (get_or left (get_or (slice_set order moved (get_or order at 0)) k 0) ([], 0) ≡ get_or (listed rows) k ([], 0))
-    kept-row k h beside = by_number k moved
-        (λ (m : k ≡ moved).
-        let value : get_or (slice_set order moved (get_or order at 0)) k 0 ≡ get_or order at 0 =
-        ap (λ i. get_or (slice_set order moved (get_or order at 0)) i 0) m ∙ get_or-set_same order moved (get_or order at 0) 0 there in
-        let differ : get_or order at 0 ≢ get_or order moved 0 = apart at moved here there (λ e. beside (m ∙ sym e)) in
-        let small = is.within at 0 here in
-        let below : get_or order at 0 < last = omega (arith, small, differ, end, count) in (
-          omega (arith, value, below),
-          ap (λ i. get_or left i ([], 0)) value
-              ∙ get_or-take last _ (get_or order at 0) ([], 0) below ∙ get_or-set_same rows (get_or order at 0) (get_or rows last ([], 0)) ([], 0) small
-              ∙ sym (ap (λ i. get_or (listed rows) i ([], 0)) m ∙ at-place moved there ∙ ap (λ i. get_or rows i ([], 0)) end),
-        ))
-        (λ n.
-        let value = get_or-set_other order moved k (get_or order at 0) 0 n in
-        let differ = apart k moved h there n in
-        let small = is.within k 0 h in
-        let below : get_or order k 0 < last = omega (arith, small, differ, end, count) in (
-          omega (arith, value, below),
-          ap (λ i. get_or left i ([], 0)) value
-              ∙ get_or-take last _ (get_or order k 0) ([], 0) below
-              ∙ get_or-set_other rows (get_or order at 0) (get_or order k 0) (get_or rows last ([], 0)) ([], 0) (apart k at h here beside)
-              ∙ sym (at-place k h),
-        ))
-
-    abbrev positions : List ℕ
-    positions = remove (slice_set order moved (get_or order at 0)) at
-
-    go : remove (listed rows) at ≡ listed left → IsOrderOf left positions
-    go lists =
-        let l = long in
-        let set-long = length-set order moved (get_or order at 0) in
-        let set-here : at < length (slice_set order moved (get_or order at 0)) = omega (arith, here, set-long) in
-        let fewer = length-remove (slice_set order moved (get_or order at 0)) at set-here in
-        let listed-here : at < length (listed rows) = omega (arith, here, l) in
-        let fewer' = length-remove (listed rows) at listed-here in
-        let all-rows = length-set rows (get_or order at 0) (get_or rows last ([], 0)) in
-        let most : length left ≡ last = length-take-le last _ (omega (arith, count, all-rows)) in
-        let row : (k : ℕ) → k < length positions → (get_or positions k 0 < last) × (get_or left (get_or positions k 0) ([], 0) ≡ get_or (remove
-        (listed rows) at) k ([], 0)) =
-        (λ k h. elim (nat_lt k at) as (λ b. nat_lt k at ≡ b →
-        (get_or positions k 0 < last) × (get_or left (get_or positions k 0) ([], 0) ≡ get_or (remove (listed rows) at) k ([], 0))) [
-          | true ↦ λ t.
-              let lt : k < at = grind (arith, nat_tests) in
-              let value = get_or-remove_below (slice_set order moved (get_or order at 0)) at 0 k lt set-here in
-              let kept = kept-row k (omega (arith, lt, here)) (λ e. omega (arith, lt, e)) in (
-                omega (arith, value, kept.0),
-                ap (λ i. get_or left i ([], 0)) value ∙ kept.1 ∙ sym (get_or-remove_below (listed rows) at ([], 0) k lt listed-here),
-              )
-          | false ↦ λ t.
-              let le : at ≤ k = grind (arith, nat_tests) in
-              let value = get_or-remove_above (slice_set order moved (get_or order at 0)) at 0 k le set-here in
-              let kept = kept-row (k + 1) (omega (arith, h, fewer, set-long)) (λ e. omega (arith, le, e)) in (
-                omega (arith, value, kept.0),
-                ap (λ i. get_or left i ([], 0)) value ∙ kept.1 ∙ sym (get_or-remove_above (listed rows) at ([], 0) k le listed-here),
-              )
-        ] refl) in
-        record {
-          within = All-from_get_or (λ i. i < length left) positions 0 (λ k h. omega (arith, (row k h).0, most));
-          lists = ext_get_or ([], 0) _ _ (length-at left positions ∙ omega (arith, fewer, fewer', set-long, l)) (λ k lt.
-              let h : k < length positions = omega (arith, lt, length-at left positions) in
-              at-order left positions k h ∙ (row k h).1) ∙ lists;
-        }
-
 -- rows that stand in order themselves
 pub listed-itself : (rows : Rows) → T (is_sorted name_cmp rows) → rows ≡ listed rows
 listed-itself rows sorted =
@@ -299,71 +223,6 @@ renamed (e ∷ es) (suc i) o n v within h here differ after before =
         subst (λ (j : ℕ). name_cmp (get_or fs j ([], 0)).0 n ≡ Less) (sym one-less)
         (subst (λ (j : ℕ). name_cmp (get_or (e ∷ fs) j ([], 0)).0 n ≡ Less) back up)
 
--- rows whose keys differ
-alike : (x y : List ℕ) → x ≡ y → same x y ≡ true
-alike x y is = subst (λ (w : List ℕ). same x w ≡ true) is (ties x x ∙ ap is_eq (tied_itself name_total x))
-
-abbrev pub Differ : List Row → Type 0
-Differ es = IsDistinct same (keys_of es)
-
-unlike : (e : List ℕ) (es : List Row) (j : ℕ) → AllByRecursion (λ (y : List ℕ). same e y ≡ false) (keys_of es) → j < length es →
-    same e (get_or es j ([], 0)).0 ≡ false
-unlike e [] j h within = absurd (omega arith)
-unlike e (f ∷ es) zero h within = h.0
-unlike e (f ∷ es) (suc j) h within = unlike e es j h.1 (omega arith)
-
-one-row : (es : List Row) (i j : ℕ) → Differ es → i < length es → j < length es →
-    (get_or es i ([], 0)).0 ≡ (get_or es j ([], 0)).0 → i ≡ j
-unfolding IsDistinct
-one-row [] i j d hi hj is = absurd (omega arith)
-one-row (e ∷ es) zero zero d hi hj is = refl
-one-row (e ∷ es) zero (suc j) d hi hj is = let differs = unlike e.0 es j d.0 (omega arith) in let equal =
-    alike e.0 (get_or es j ([], 0)).0 is in cc
-one-row (e ∷ es) (suc i) zero d hi hj is = let differs = unlike e.0 es i d.0 (omega arith) in let equal =
-    alike e.0 (get_or es i ([], 0)).0 (sym is) in cc
-one-row (e ∷ es) (suc i) (suc j) d hi hj is = ap suc (one-row es i j d.1 (omega arith) (omega arith) is)
-
--- a row's place has its position
-place-is : (es : List Row) (order : List ℕ) (is : IsOrderOf es order) (name : List ℕ) (at i : ℕ) → Differ es →
-    IsAt name_cmp (listed es) name at → i < length es → (get_or es i ([], 0)).0 ≡ name → get_or order at 0 ≡ i
-place-is es order is name at i differ there within key =
-    let h : at < length order = omega (arith, there.within, long es order is) in
-    one-row es (get_or order at 0) i differ (is.within at 0 h) within (key-at es order is name at there ∙
-    sym key)
-
--- a name that is there gets another number
-renumbered : (es : List Row) (k : List ℕ) (v g : ℕ) → Differ es → g < length es → (get_or es g ([], 0)).0 ≡ k →
-    insert_entry same es k v ≡ slice_set es g (k, v)
-unfolding IsDistinct
-renumbered [] k v g d within key = absurd (omega arith)
-renumbered (e ∷ es) k v zero d within key =
-    ap (λ b. cond b ((e.0, v) ∷ es) (e ∷ insert_entry same es k v)) (alike k e.0 (sym key))
-    ∙ (λ i. (key i, v) ∷ es)
-renumbered (e ∷ es) k v (suc g) d within key =
-    let differs : same k e.0 ≡ false = turned-test k e.0 ∙ sym (ties e.0 k)
-    ∙ ap (same e.0) (sym key) ∙ unlike e.0 es g d.0 (omega arith) in
-    ap (λ b. cond b ((e.0, v) ∷ es) (e ∷ insert_entry same es k v)) differs
-    ∙ ap (λ xs. e ∷ xs) (renumbered es k v g d.1 (omega arith) key)
-
--- the rows behind that
-pub renumbered-row : (es fs : List Row) (order : List ℕ) (k : List ℕ) (v at : ℕ) → IsOrderOf es order → Differ es →
-    IsAt name_cmp (listed es) k at → fs ≡ insert_entry same es k v → fs ≡ slice_set es (get_or order at 0) (k, v)
-renumbered-row es fs order k v at is differ there made =
-    let h : at < length order = omega (arith, there.within, long es order is) in
-    made ∙ renumbered es k v (get_or order at 0) differ (is.within at 0 h) (key-at es order is k at there)
-
-pub renumber : (es fs : List Row) (order : List ℕ) (k : List ℕ) (v at : ℕ) → IsOrderOf es order → Differ es →
-    IsAt name_cmp (listed es) k at → fs ≡ insert_entry same es k v
-    → finmap.from_entries {R = name_cmp} fs ≡ finmap.insert (finmap.from_entries es) k v →
-    IsOrderOf fs order
-renumber es fs order k v at is differ there made view =
-    let h : at < length order = omega (arith, there.within, long es order is) in
-    let rows = renumbered-row es fs order k v at is differ there made in
-    subst (λ xs. IsOrderOf xs order) (sym rows)
-    (replace es order is at (k, v) h
-    (sym (there.replaced v) ∙ sym (entries-insert name_total (finmap.from_entries es) k v) ∙ ap finmap.entries (sym view) ∙
-    ap listed rows))
-
 -- a new name in the place of the one that goes
 pub rename-row : (es fs : List Row) (order : List ℕ) (k : List ℕ) (v at : ℕ) (old : List ℕ) → IsOrderOf es order →
     IsAt name_cmp (listed es) old at → FitsAt (listed es) at k →
@@ -388,39 +247,3 @@ pub read : (es : List Row) (i : ℕ) (r : Row) → slice_get es i ≡ Some r →
 read es i r is =
     let at = get-within es i r is in
     get_or_default es i ([], 0) r at.0 ∙ at.1
-
--- one goes, and the last takes its position
-pub swapped : {X : Type 0} (xs : List X) (g : ℕ) (p d : X) → g < length xs →
-    swap_remove xs g p ≡ take (length xs - 1) (slice_set xs g (get_or xs (length xs - 1) d))
-swapped xs g p d within =
-    ap (λ x. take (length xs - 1) (slice_set xs g x)) (get_or_default xs (length xs - 1) p d (omega (arith, within)))
-
-pub go-row : (es fs : List Row) (order : List ℕ) (name end : List ℕ) (at moved : ℕ) (p : Row) → IsOrderOf es order → Differ es →
-    IsAt name_cmp (listed es) name at → IsAt name_cmp (listed es) end moved →
-    (get_or es (length es - 1) ([], 0)).0 ≡ end → fs ≡ swap_remove es (get_or order at 0) p →
-    finmap.from_entries {R = name_cmp} fs ≡ finmap.remove (finmap.from_entries es) name →
-    IsOrderOf fs (remove (slice_set order moved (get_or order at 0)) at)
-go-row es fs order name end at moved p is differ there there' key made view =
-    let m = finmap.from_entries {R = name_cmp} es in
-    let l = long es order is in
-    let here : at < length order = omega (arith, there.within, l) in
-    let here' : moved < length order = omega (arith, there'.within, l) in
-    let small : get_or order at 0 < length es = is.within at 0 here in
-    let rows = made ∙ swapped es (get_or order at 0) p ([], 0) small in
-    subst (λ xs. IsOrderOf xs (remove (slice_set order moved (get_or order at 0)) at)) (sym rows)
-    (go es order is at moved (length es - 1) here here' (place-is es order is end moved (length es - 1) differ there' (omega
-    (arith, small)) key)
-    (omega (arith, small))
-    (sym there.taken_out ∙ sym (entries-remove name_total name_exact m name) ∙ ap finmap.entries (sym view) ∙ ap listed rows))
-
--- a row that has its own position in the order
-pub at-itself : (es : List Row) (order : List ℕ) (name : List ℕ) (i : ℕ) (r : Row) → IsOrderOf es order → i < length order →
-    get_or order i 0 ≡ i → slice_get es i ≡ Some r → r.0 ≡ name → IsAt name_cmp (listed es) name i
-at-itself es order name i r is within own at key =
-    let rows = listed es in
-    let row : get_or rows i ([], 0) ≡ r =
-    at-place es order is i within ∙ ap (λ k. get_or es k ([], 0)) own ∙ read es i r at in
-    let h : i < length rows = omega (arith, within, long es order is) in
-    at-row name_total name_exact rows name i (get_or rows i ([], 0)) (is_true _ (entries_sorted {R = name_cmp} (finmap.from_entries es))) h
-    (get_or_default rows i ([], 0) (get_or rows i ([], 0)) h)
-    (ap (λ (e : List ℕ × ℕ). name_cmp e.0 name) row ∙ ap (λ w. name_cmp w name) key ∙ tied_itself name_total name)

@@ -197,6 +197,14 @@ fn lent_rows<'a>(
     Ok(lent)
 }
 
+// The positions of an order from one on, all of them.
+fn rest_of(order: &[usize], from: usize) -> &[usize]
+    ensures { result.now ≡ drop from order.now }
+{
+    let from = from.min(order.len());
+    &order[from..]
+}
+
 // The rows from a position on of a directory whose order is not made, lent: by one sort.
 fn sorted_rows<'a>(
     alloc: Global,
@@ -205,17 +213,29 @@ fn sorted_rows<'a>(
     slots: &'a Slots,
 ) -> Result<Vec<RowRef<'a>>, AllocError>
     requires distinct { IsDistinct bytes_eq (keys_of (map lent_row rows.now)) }
-    requires filed { All (λ e. IsSome (file_by (files_of (slots_of slots.now)) e.1)) (map lent_row rows.now) }
+    requires filed { All (λ e. IsSome (file_by (files_of (slots_of slots.now)) e.1))
+        (finmap.entries {R = name_cmp} (finmap.from_entries (map lent_row rows.now))) }
     ensures { IfOk result (λ lent. map row_shown lent.items
         ≡ drop from (map (name_row (files_of (slots_of slots.now))) (finmap.entries {R = name_cmp} (finmap.from_entries (map lent_row rows.now))))) }
 {
     let order = sorted_order(alloc, rows)?;
-    let mut lent = Vec::with_capacity(alloc, order.len().saturating_sub(from))?;
-    for at in from..order.len() {
-        let (name, file) = rows[order[at]];
+    let positions = rest_of(&order, from);
+    let mut lent = Vec::with_capacity(alloc, positions.len())?;
+    for at in positions {
+        let (name, file) = rows[*at];
         lent.push(shown_row(slots, name, file))?;
     }
     Ok(lent)
+}
+
+// Adds copies of rows behind those that are there.
+fn push_copies(shown: &mut Vec<Row>, alloc: Global, rows: &[RowRef<'_>]) -> Result<(), AllocError>
+    ensures { OnOk result (shown.new.items ≡ shown.old.items ++ map row_shown rows.now) }
+{
+    for row in rows {
+        shown.push(row.copied(alloc)?)?;
+    }
+    Ok(())
 }
 
 impl Names {
@@ -369,7 +389,7 @@ impl Names {
     }
 
     /// All rows, copied. It is refused only when out of memory.
-    pub fn rows(&self, alloc: Global, slots: &Slots) -> Result<Vec<Row>, AllocError>
+    pub fn rows<'a>(&'a self, alloc: Global, slots: &'a Slots) -> Result<Vec<Row>, AllocError>
         requires { All (λ e. IsSome (file_by (files_of (slots_of slots.now)) e.1)) (finmap.entries self.now) }
         ensures { IfOk result (λ shown. shown.items ≡ map (name_row (files_of (slots_of slots.now))) (finmap.entries self.now)) }
     {
@@ -379,9 +399,7 @@ impl Names {
             if lent.is_empty() {
                 return Ok(shown);
             }
-            for row in &lent {
-                shown.push(row.copied(alloc)?)?;
-            }
+            push_copies(&mut shown, alloc, &lent)?;
         }
     }
 

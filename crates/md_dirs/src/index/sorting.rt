@@ -5,6 +5,7 @@ ghost use Rattle.std.specs.Map.{keys_of};
 ghost use Rattle.std.specs.Str.{bytes_eq};
 ghost use Rattle.md_dirs.specs.Index.{IsOrderOf};
 ghost use Rattle.md_dirs.specs.Least.{lent_row};
+ghost use Rattle.md_dirs.specs.Named.{is_alike};
 ghost use Rattle.md_dirs.specs.Sortable.{AreSortable, row_number};
 
 use crate::index::key::key_of;
@@ -19,7 +20,8 @@ pub fn all_rows<'a>(
     table: &'a IndexSet<Named<'static>>,
     others: &'a IndexMap<NameKey<'static>, usize>,
 ) -> Result<Vec<(&'a [u8], usize)>, AllocError>
-    ensures { IfOk result (λ rows. map lent_row rows.items ≡ table.now.keys ++ others.now.entries) }
+    ensures rows { IfOk result (λ rows. map lent_row rows.items ≡ table.now.keys ++ others.now.entries) }
+    ensures unique { IsDistinct is_alike table.now.keys × IsDistinct bytes_eq (keys_of others.now.entries) }
 {
     let mut rows = Vec::new(alloc);
     rows.reserve(table.len() + others.len())?;

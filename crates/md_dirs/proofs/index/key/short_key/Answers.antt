@@ -1,7 +1,6 @@
 use Rattle.std.proofs.Common.{◌≡◌, arith, ◌<◌, ◌-◌, ◌+◌, ◌*◌, ◌^◌, get_or, add-one}
 use Rattle.std.proofs.Math.Facts.{Fits-of_lt}
-use Rattle.md_dirs.specs.Keys.{edge_name}
-use Rattle.md_dirs.proofs.Keys.{are-bytes, edge-bytes, rest-step, rest-done, key-grows, key-fits}
+use Rattle.md_dirs.proofs.Keys.{are-bytes, rest-step, rest-done, key-grows, key-fits}
 use Rattle.md_dirs.proofs.index.key.short_key.Goals as goal
 use Rattle.md_dirs.proofs.index.key.short_key.Goals.{After-byte_at-byte}
 
@@ -16,7 +15,7 @@ overflow_add-key c = Fits-of_lt (fits c)
 
 pub loop-at-preserved : goal.loop-at-preserved
 loop-at-preserved c =
-    let name = edge_name c.args.unique.now c.args.edge in
+    let name = c.args.name.now in
     let byte : c.byte_at-byte.result ≡ get_or name c.loop-at.at 0 = c.byte_at-byte.ensures in
     record {
       within = omega arith;
@@ -27,6 +26,6 @@ loop-at-preserved c =
 
 pub returns : goal.returns
 returns c = record {
-  key = rest-done c.loop-at.key c.loop-at.at _ (edge_name c.args.unique.now c.args.edge) (omega (arith, c.loop-at.invariant.within, c.loop-at-test.false)) c.loop-at.invariant.rest;
-  bytes = edge-bytes c.args.unique.now c.args.edge (are-bytes c.args.unique.now c.type_inv.unique);
+  key = rest-done c.loop-at.key c.loop-at.at _ c.args.name.now (omega (arith, c.loop-at.invariant.within, c.loop-at-test.false)) c.loop-at.invariant.rest;
+  bytes = are-bytes c.args.name.now c.type_inv.name;
 }
