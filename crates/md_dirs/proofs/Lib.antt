@@ -10,6 +10,7 @@ pub mod Lawful
 pub mod Counted
 pub mod Hashed
 pub mod NameRows
+pub mod Least
 pub mod Renamed
 pub mod Ordered
 pub mod Zones

@@ -1,5 +1,5 @@
 // The least of some names, found by a look at each.
-ghost use Rattle.std.specs.Prelude.{◌≡◌, ◌++◌, ◌<◌, length, slice_get, find as first_with};
+ghost use Rattle.std.specs.Prelude.{◌≡◌, ◌++◌, if◌then◌else◌, slice_get, find as first_with};
 ghost use Rattle.std.specs.Option.{option_map};
 ghost use Rattle.std.specs.FinMap as finmap;
 ghost use Rattle.std.specs.FinMap.{from_entries};
@@ -27,7 +27,7 @@ impl Wanted<'_> {
     {
         match self {
             Wanted::Named(unique) => is_named(name, unique),
-            Wanted::Behind(before) => before < name,
+            Wanted::Behind(before) => before.cmp(name).is_lt(),
             Wanted::Any => true,
         }
     }
@@ -37,9 +37,29 @@ impl Wanted<'_> {
 fn lesser<'a>(best: Option<(&'a [u8], usize)>, row: (&'a [u8], usize)) -> Option<(&'a [u8], usize)>
     ensures { option_map lent_row result ≡ lesser_of (option_map lent_row best.entry) (lent_row row.entry) }
 {
-    match best {
-        Some(before) if row.0 >= before.0 => best,
-        _ => Some(row),
+    let Some(before) = best else {
+        return Some(row);
+    };
+    if row.0.cmp(before.0).is_lt() {
+        Some(row)
+    } else {
+        best
+    }
+}
+
+// The least of the rows that are wanted, after a look at one more.
+fn looked<'a>(
+    wanted: Wanted<'_>,
+    best: Option<(&'a [u8], usize)>,
+    row: (&'a [u8], usize),
+) -> Option<(&'a [u8], usize)>
+    ensures { option_map lent_row result ≡ if takes wanted.entry (lent_row row.entry).0
+        then lesser_of (option_map lent_row best.entry) (lent_row row.entry) else option_map lent_row best.entry }
+{
+    if wanted.takes(row.0) {
+        lesser(best, row)
+    } else {
+        best
     }
 }
 
@@ -54,16 +74,11 @@ pub fn least<'a>(
 {
     let mut best: Option<(&'a [u8], usize)> = None;
     for at in 0..table.len() {
-        let row = table.get_index(at).unwrap();
-        if wanted.takes(row.name()) {
-            best = lesser(best, row.row());
-        }
+        best = looked(wanted, best, table.get_index(at).unwrap().row());
     }
     for at in 0..others.len() {
         let (name, file) = others.get_index(at).unwrap();
-        if wanted.takes(name.as_slice()) {
-            best = lesser(best, (name.as_slice(), *file));
-        }
+        best = looked(wanted, best, (name.as_slice(), *file));
     }
     best
 }
@@ -79,7 +94,7 @@ pub fn nth<'a>(
         ≡ slice_get (finmap.entries {R = name_cmp} (from_entries (table.now.keys ++ others.now.entries))) at }
 {
     let mut row = least(table, others, Wanted::Any)?;
-    for _ in 0..at {
+    for _place in 0..at {
         row = least(table, others, Wanted::Behind(row.0))?;
     }
     Some(row)

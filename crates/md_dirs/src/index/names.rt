@@ -352,7 +352,7 @@ impl Names {
             return least(&self.table, &self.others, Wanted::Named(unique));
         }
         let at = self.table.get_index_of(&key)?;
-        Some(self.table.get_index(at)?.row())
+        Some(self.table.as_slice()[at].row())
     }
 
     /// How many names there are.
