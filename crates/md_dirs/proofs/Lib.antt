@@ -13,6 +13,8 @@ pub mod NameRows
 pub mod Renamed
 pub mod Ordered
 pub mod Zones
+pub mod Uniques
+pub mod Alike
 pub mod Directories
 pub mod Sliced
 pub mod Looked
