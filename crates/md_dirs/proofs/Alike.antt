@@ -13,11 +13,12 @@ use Rattle.std.specs.Option.{option_or}
 use Rattle.std.specs.Map.{keys_of, lookup}
 use Rattle.std.specs.Set.{swap_key}
 use Rattle.std.specs.FinMap as finmap
-use Rattle.std.specs.FinMap.{from_entries}
+use Rattle.std.specs.Ordering.{eq_by_cmp}
+use Rattle.std.specs.FinMap.{from_entries, same_map, get-insert, get-remove}
 use Rattle.md_name.specs.Names.{unique_of}
 use Rattle.md_dirs.specs.Named.{Row, is_alike, alike_equiv}
 use Rattle.md_dirs.specs.Index.{name_cmp, get_name}
-use Rattle.md_dirs.proofs.NameRows.{same, get-loose, put-loose, taken-loose, get-within}
+use Rattle.md_dirs.proofs.NameRows.{same, name_total, name_exact, get-loose, put-loose, taken-loose, turned-test, get-within}
 
 -- tests
 pub equal : (x y : List ℕ) → same x y ≡ true → x ≡ y
@@ -277,10 +278,41 @@ swap-is x (e ∷ rows) row d h = elim (is_alike x e) as (λ b. is_alike x e ≡ 
       (λ i. cond (sym other i) x e ∷ swap-is x rows row d.1 is i)
 ] refl h
 
+-- other names than those two have what they had
+moved-else : (o k : List ℕ) (v : ℕ) (es : List Row) (q : List ℕ) → same q k ≡ false → get_name (map (moved o (k, v)) es) q ≡ cond (same o q) None (get_name es q)
+moved-else o k v [] q differs = elim (same o q) as (λ b. ◌≡◌ {A = Option ℕ} None (cond b None None)) [ true ↦ refl | false ↦ refl ]
+moved-else o k v (e ∷ es) q differs =
+    elim (same o e.0) as (λ b. same o e.0 ≡ b → get_name (cond b (k, v) e ∷ map (moved o (k, v)) es) q ≡ cond (same o q) None (get_name (e ∷ es) q)) [
+      | true ↦ λ t.
+          ap (λ b. cond b (Some v) (get_name (map (moved o (k, v)) es) q)) differs ∙ moved-else o k v es q differs
+          ∙ elim (same o q) as (λ b. same o q ≡ b → cond b None (get_name es q) ≡ cond b None (get_name (e ∷ es) q)) [
+            | true ↦ λ u. refl
+            | false ↦ λ u.
+                let other : same q e.0 ≡ false = ap (same q) (sym (equal o e.0 t)) ∙ turned q o ∙ u in
+                (λ i. cond (sym other i) (Some e.1) (get_name es q))
+          ] refl
+      | false ↦ λ t.
+          elim (same q e.0) as (λ b. same q e.0 ≡ b →
+          cond b (Some e.1) (get_name (map (moved o (k, v)) es) q) ≡ cond (same o q) None (cond b (Some e.1) (get_name es q))) [
+            | true ↦ λ u. let other : same o q ≡ false = ap (same o) (equal q e.0 u) ∙ t in (λ i. cond (sym other i) None (Some e.1))
+            | false ↦ λ u. moved-else o k v es q differs
+          ] refl
+    ] refl
+
+moved-there : (o : List ℕ) (v : ℕ) (es : List Row) (w : ℕ) → get_name es o ≡ Some w → get_name (map (moved o (o, v)) es) o ≡ Some v
+moved-there o v [] w some = cc
+moved-there o v (e ∷ es) w some =
+    elim (same o e.0) as (λ b. same o e.0 ≡ b → cond b (Some e.1) (get_name es o) ≡ Some w → get_name (cond b (o, v) e ∷ map (moved o (o, v)) es) o ≡ Some v) [
+      | true ↦ λ t is. ap (λ b. cond b (Some v) (get_name (map (moved o (o, v)) es) o)) (tested o o refl)
+      | false ↦ λ t is. ap (λ b. cond b (Some e.1) (get_name (map (moved o (o, v)) es) o)) t ∙ moved-there o v es w is
+    ] refl some
+
 -- another number for the name
 pub moved-same : (o : List ℕ) (v : ℕ) (es : List Row) (w : ℕ) → get_name es o ≡ Some w → Changed es (map (moved o (o, v)) es) o (Some v)
-moved-same o v [] w some q = cc
-moved-same o v (e ∷ es) w some q = ?
+moved-same o v es w some q = elim (same o q) as (λ b. same o q ≡ b → get_name (map (moved o (o, v)) es) q ≡ cond b (Some v) (get_name es q)) [
+  | true ↦ λ t. ap (get_name (map (moved o (o, v)) es)) (sym (equal o q t)) ∙ moved-there o v es w some
+  | false ↦ λ t. moved-else o o v es q (turned q o ∙ t) ∙ ap (λ b. cond b None (get_name es q)) t
+] refl
 
 -- the name and the number that take a name's place
 moved-new : (o k : List ℕ) (v : ℕ) (es : List Row) (w : ℕ) → get_name es o ≡ Some w → get_name es k ≡ None → get_name (map (moved o (k, v)) es) k ≡ Some v
@@ -292,5 +324,109 @@ moved-new o k v (e ∷ es) w some none =
       | false ↦ λ is. ap (λ b. cond b (Some e.1) (get_name (map (moved o (k, v)) es) k)) parts.0 ∙ moved-new o k v es w is parts.1
     ] some
 
-moved-else : (o k : List ℕ) (v : ℕ) (es : List Row) (q : List ℕ) → same q k ≡ false → get_name (map (moved o (k, v)) es) q ≡ cond (same o q) None (get_name es q)
-moved-else o k v es q differs = ?
+-- what look-ups find where one name has gone and another has come
+abbrev pub Renamed : List Row → List Row → List ℕ → List ℕ → ℕ → Type 0
+Renamed old new o k v = (q : List ℕ) → get_name new q ≡ cond (same o q) None (cond (same k q) (Some v) (get_name old q))
+
+pub moved-names : (o k : List ℕ) (v : ℕ) (es : List Row) (w : ℕ) → get_name es o ≡ Some w → get_name es k ≡ None → Renamed es (map (moved o (k, v)) es) o k v
+moved-names o k v es w some none q =
+    elim (same k q) as (λ b. same k q ≡ b → get_name (map (moved o (k, v)) es) q ≡ cond (same o q) None (cond b (Some v) (get_name es q))) [
+      | true ↦ λ t.
+          let name = equal k q t in
+          let other : same o q ≡ false = untrue _ (λ is. let one : get_name es o ≡ None = ap (get_name es) (equal o q is ∙ sym name) ∙ none in cc) in
+          ap (get_name (map (moved o (k, v)) es)) (sym name) ∙ moved-new o k v es w some none ∙ (λ i. cond (sym other i) None (Some v))
+      | false ↦ λ t. moved-else o k v es q (turned q k ∙ t)
+    ] refl
+
+pub renamed-rows : (rows others new : List Row) (o k : List ℕ) (v : ℕ) → get_name others o ≡ None → Renamed rows new o k v → Renamed (rows ++ others) (new ++ others) o k v
+renamed-rows rows others new o k v none is q =
+    lookup-two (same q) new others ∙ ap (λ a. option_or a (get_name others q)) (is q)
+    ∙ elim (same o q) as (λ b. same o q ≡ b →
+    option_or (cond b None (cond (same k q) (Some v) (get_name rows q))) (get_name others q) ≡ cond b None (cond (same k q) (Some v) (get_name (rows ++ others) q))) [
+      | true ↦ λ t. ap (get_name others) (sym (equal o q t)) ∙ none
+      | false ↦ λ t.
+          elim (same k q) as (λ b. option_or (cond b (Some v) (get_name rows q)) (get_name others q) ≡ cond b (Some v) (get_name (rows ++ others) q)) [
+            | true ↦ refl
+            | false ↦ sym (lookup-two (same q) rows others)
+          ]
+    ] refl
+
+pub renamed-apart : (rows others new : List Row) (o k : List ℕ) (v : ℕ) → get_name others k ≡ None → Renamed rows new o k v → AreApart rows others → AreApart new others
+renamed-apart rows others new o k v none is apart q some =
+    is q ∙ elim (same o q) as (λ b. cond b None (cond (same k q) (Some v) (get_name rows q)) ≡ None) [
+      | true ↦ refl
+      | false ↦ elim (same k q) as (λ b. same k q ≡ b → cond b (Some v) (get_name rows q) ≡ None) [
+          | true ↦ λ t. let gone : get_name others q ≡ None = ap (get_name others) (sym (equal k q t)) ∙ none in cc
+          | false ↦ λ t. apart q some
+        ] refl
+    ]
+
+pub renamed-view : (es fs : List Row) (o k : List ℕ) (v : ℕ) → Renamed es fs o k v
+    → from_entries {R = name_cmp} fs ≡ finmap.remove (finmap.insert (from_entries es) k v) o
+renamed-view es fs o k v is = same_map name_total name_exact _ _ (λ q.
+    get-loose fs q
+    ∙ is q
+    ∙ (λ j. cond (turned-test o q j) None (cond (turned-test k q j) (Some v) (sym (get-loose es q) j)))
+    ∙ sym (get-remove name_total (finmap.insert (from_entries es) k v) o q ∙
+    ap (λ x. cond (eq_by_cmp name_cmp q o) None x) (get-insert name_total (from_entries es) k v q)))
+
+-- the rows of other names are not alike to the row that is found
+pub unlike-rest : (x : Row) (rows : List Row) (row : Row) → IsDistinct is_alike rows → find (is_alike x) rows ≡ Some row →
+    AllByRecursion (λ (e : Row). same row.0 e.0 ≡ false → is_alike x e ≡ false) rows
+unfolding IsDistinct
+unlike-rest x [] row d h = tt
+unlike-rest x (e ∷ rows) row d h = elim (is_alike x e) as (λ b. is_alike x e ≡ b → cond b (Some e) (find (is_alike x) rows) ≡ Some row
+    → AllByRecursion (λ (y : Row). same row.0 y.0 ≡ false → is_alike x y ≡ false) (e ∷ rows)) [
+  | true ↦ λ t is.
+      let here : e ≡ row = cc in
+      ((λ differs. let one : same row.0 e.0 ≡ true = tested row.0 e.0 (ap (λ (r : Row). r.0) (sym here)) in cc), others x e rows t d.0)
+  | false ↦ λ t is. ((λ differs. t), unlike-rest x rows row d.1 is)
+] refl h
+  where
+    others : (x e : Row) (rows : List Row) → is_alike x e ≡ true → AllByRecursion (λ y. is_alike e y ≡ false) rows →
+        AllByRecursion (λ (y : Row). same row.0 y.0 ≡ false → is_alike x y ≡ false) rows
+    others x e [] t h = tt
+    others x e (y ∷ rows) t h = ((λ differs. alike_equiv.congr x e y t ∙ h.0), others x e rows t h.1)
+
+-- the row of a name is the one that is found for another name of its unique part
+pub found-row : (x : Row) (rows : List Row) (o : List ℕ) (w : ℕ) → IsDistinct is_alike rows → is_alike x (o, 0) ≡ true → get_name rows o ≡ Some w →
+    (row : Row) × (find (is_alike x) rows ≡ Some row) × (row.0 ≡ o)
+unfolding IsDistinct
+found-row x [] o w d like some = cc
+found-row x (e ∷ rows) o w d like some = elim (is_alike x e) as (λ b. is_alike x e ≡ b →
+    (row : Row) × (cond b (Some e) (find (is_alike x) rows) ≡ Some row) × (row.0 ≡ o)) [
+  | true ↦ λ t. (e, refl, sym (equal o e.0 (elim (same o e.0) as (λ b. cond b (Some e.1) (get_name rows o) ≡ Some w → b ≡ true) [
+      | true ↦ λ is. refl
+      | false ↦ λ is.
+          let beside : is_alike (o, 0) e ≡ true = sym (alike_equiv.congr x (o, 0) e like) ∙ t in
+          let none : get_name rows o ≡ None = none-beside (o, 0) e rows beside d.0 in cc
+    ] some)))
+  | false ↦ λ t.
+      let other : same o e.0 ≡ false = untrue _ (λ is.
+      let is_like : is_alike x e ≡ true = ap (λ u. same (unique_of x.0) (unique_of u)) (sym (equal o e.0 is)) ∙ like in cc) in
+      found-row x rows o w d.1 like (ap (λ b. cond b (Some e.1) (get_name rows o)) (sym other) ∙ some)
+] refl
+
+pub found-any : (x : Row) (rows : List Row) (row : Row) → find (is_alike x) rows ≡ Some row → list_any (is_alike x) rows ≡ true
+found-any x [] row h = cc
+found-any x (e ∷ rows) row h = elim (is_alike x e) as (λ b. cond b (Some e) (find (is_alike x) rows) ≡ Some row → (b || list_any (is_alike x) rows) ≡ true) [
+  | true ↦ λ is. refl
+  | false ↦ λ is. found-any x rows row is
+] h
+
+pub other-none : (rows others : List Row) (k : List ℕ) (v : ℕ) → AreApart rows others → get_name rows k ≡ Some v → get_name others k ≡ None
+other-none rows others k v apart some = elim (get_name others k) as (λ o. get_name others k ≡ o → o ≡ None) [
+  | None ↦ λ t. refl
+  | Some w ↦ λ t. let none : get_name rows k ≡ None = apart k (ap is_some t) in cc
+] refl
+
+-- a row that goes from the table
+pub taken-row : (rows others new : List Row) (i : ℕ) (k : List ℕ) (v : ℕ) → IsDistinct is_alike rows → slice_get rows i ≡ Some (k, v)
+    → get_name rows k ≡ Some v → new ≡ swap_remove rows i (k, v) → AreApart rows others →
+    (from_entries {R = name_cmp} (new ++ others) ≡ finmap.remove (from_entries (rows ++ others)) k) × AreApart new others
+taken-row rows others new i k v d at some made apart =
+    let none = other-none rows others k v apart some in
+    let changed : Changed rows new k None = (λ q. ap (λ es. get_name es q) made ∙ swapped-out rows i k v d at q) in (
+      taken-loose (rows ++ others) (new ++ others) k (changed-rows rows others new k None none changed),
+      apart-rows rows others new k None none changed apart,
+    )

@@ -15,6 +15,8 @@ pub mod Ordered
 pub mod Zones
 pub mod Uniques
 pub mod Alike
+pub mod Moved
+pub mod Behind
 pub mod Directories
 pub mod Sliced
 pub mod Looked

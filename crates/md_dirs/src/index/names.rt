@@ -1,5 +1,5 @@
 // The names of one directory, hashed, and their order, once it is asked for.
-ghost use Rattle.std.specs.Prelude.{◌≡◌, ◌⊎◌, ◌<◌, ◌+◌, ◌++◌, ◌∷◌, ◌^◌, [], None, Some, OnOk, OnErr, IfOk, IfSome, IfNone, IsSome, IsTrue, All, length, map, slice_get, take, drop, is_none, if◌then◌else◌, find as first_with};
+ghost use Rattle.std.specs.Prelude.{◌≡◌, ◌⊎◌, ◌<◌, ◌+◌, ◌++◌, ◌∷◌, ◌^◌, [], None, Some, OnOk, OnErr, IfOk, IfSome, IfNone, IsSome, IsTrue, All, true, false, length, map, slice_get, take, drop, is_none, if◌then◌else◌, find as first_with};
 ghost use Rattle.std.specs.Option.{option_map};
 ghost use Rattle.std.specs.List.{list_any, IsDistinct};
 ghost use Rattle.std.specs.Map.{keys_of};
