@@ -14,6 +14,10 @@ pub mod Least
 pub mod Renamed
 pub mod Ordered
 pub mod Zones
+pub mod Uniques
+pub mod Alike
+pub mod Moved
+pub mod Behind
 pub mod Directories
 pub mod Sliced
 pub mod Looked

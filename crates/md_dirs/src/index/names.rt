@@ -99,13 +99,29 @@ fn take_beside(others: &mut IndexMap<NameKey<'static>, usize>, name: &[u8]) -> O
     Some(file)
 }
 
+// Where the row of the table is that is alike to one, and that row. To count the rows says that no two are alike.
+fn row_like<'a>(
+    table: &'a IndexSet<Named<'a>>,
+    row: &'a Named<'a>,
+) -> Option<(usize, &'a Named<'a>)>
+    ensures there { IfSome result (λ r. slice_get table.now.keys r.0 ≡ Some r.1.now) }
+    ensures found { option_map (λ r. r.1.now) result ≡ first_with (is_alike row.now) table.now.keys }
+    ensures apart { IsDistinct is_alike table.now.keys }
+{
+    if table.len() == 0 {
+        return None;
+    }
+    table.get_full(row)
+}
+
 // Where a name is in the table, and the number of its file.
 fn place_in(table: &IndexSet<Named<'static>>, name: &[u8]) -> Option<(usize, usize)>
     ensures there { IfSome result (λ r. slice_get table.now.keys r.0 ≡ Some (name.now, r.1)) }
     ensures file { option_map (λ r. r.1) result ≡ get_name table.now.keys name.now }
+    ensures apart { IsDistinct is_alike table.now.keys }
 {
     let key = Named::lent(name);
-    let (at, row) = table.get_full(&key)?;
+    let (at, row) = row_like(table, &key)?;
     if row.is(name) {
         Some((at, row.file()))
     } else {

@@ -1,0 +1,13 @@
+use Rattle.std.proofs.Common.{◌∙◌, sym}
+use Rattle.md_dirs.proofs.Behind.{made, none-behind, last-behind}
+use Rattle.md_dirs.proofs.index.names.goes_last.Goals as goal
+
+pub returns-in-None : goal.returns-in-None
+returns-in-None c t =
+    let is = made c.args.table.now.keys c.args.order.now c.requires (c.if-order-len.false ∙ c.len.ensures.len) in
+    none-behind c.args.table.now.keys c.args.order.now c.args.name.now is (sym c.in-None.ensures.value)
+
+pub returns-in-Some : goal.returns-in-Some
+returns-in-Some c t =
+    let is = made c.args.table.now.keys c.args.order.now c.requires (c.if-order-len.false ∙ c.len.ensures.len) in
+    last-behind c.args.table.now.keys c.args.order.now c.args.name.now c.in-Some.last.now c.unwrap.result.now is (sym c.in-Some.ensures.value) ? ?
