@@ -1,13 +1,14 @@
 -- Rows that are told apart by the unique parts of their names: what look-ups find, and what is left as rows come, go and change.
-use Rattle.std.proofs.Common.{ℕ, zero, suc, ◌≡◌, ◌<◌, ◌++◌, List, [], ◌∷◌, Option, Some, None, Bool, true, false, cond, ◌||◌, length, map, find, refl, sym, ap, subst, ◌∙◌, arith, get_or, slice_get, is_some, IsSome, swap_remove}
+use Rattle.std.proofs.Common.{ℕ, zero, suc, ◌≡◌, ◌+◌, ◌<◌, ◌++◌, not, Result, Ok, Err, OnOk, OnErr, List, [], ◌∷◌, Option, Some, None, Bool, true, false, cond, ◌||◌, length, map, find, refl, sym, ap, subst, ◌∙◌, arith, get_or, slice_get, is_some, IsSome, swap_remove}
 use Rattle.std.proofs.lemmas.List.Elements.{recursion_from_All, All-from_recursion}
+use Rattle.std.proofs.lemmas.List.Folds.{find_at}
 use Rattle.std.proofs.lemmas.List.Sorted.{IsPermutation-swap_remove, IsPermutation-sym, IsPermutation-map, All-permutation, Contains-permutation}
 use Rattle.std.proofs.lemmas.Option.{slice_get-get_or}
 use Rattle.std.proofs.lemmas.Map.{lookup-none, none_passes_from_lookup}
 use Rattle.std.proofs.lemmas.Map.Entries.{place_from_lookup, lookup_from_place}
 use Rattle.std.proofs.lemmas.Map.Keys.{IsDistinct-IsPermutation}
 use Rattle.std.specs.Cmp.Lexicographic.{bytes_decides, nat_list_eq_equiv}
-use Rattle.std.specs.List.{IsDistinct, AllByRecursion, list_any}
+use Rattle.std.specs.List.{IsDistinct, AllByRecursion, list_any, position_or_len}
 use Rattle.std.specs.List.Sorted.{IsPermutation}
 use Rattle.std.specs.Option.{option_or}
 use Rattle.std.specs.Map.{keys_of, lookup}
@@ -430,3 +431,117 @@ taken-row rows others new i k v d at some made apart =
       taken-loose (rows ++ others) (new ++ others) k (changed-rows rows others new k None none changed),
       apart-rows rows others new k None none changed apart,
     )
+
+pub on-ok : {X E P Q : Type 0} (r : Result X E) → (P → Q) → OnOk r P → OnOk r Q
+on-ok (Ok x) f h = f h
+on-ok (Err e) f h = h
+
+pub none-from : (o : Option ℕ) → is_some o ≡ false → o ≡ None
+none-from None h = refl
+none-from (Some x) h = cc
+
+-- a name that is put among the others
+pub put-others : (rows others new : List Row) (k : List ℕ) (v : ℕ) → get_name rows k ≡ None → Changed others new k (Some v) → AreApart rows others →
+    (from_entries {R = name_cmp} (rows ++ new) ≡ finmap.insert (from_entries (rows ++ others)) k v) × AreApart rows new
+put-others rows others new k v none changed apart = (
+  put-loose (rows ++ others) (rows ++ new) k v (changed-others rows others new k (Some v) none changed),
+  apart-others rows others new k (Some v) none changed apart,
+)
+
+-- a row that comes last in the table
+pub put-new : (rows others new : List Row) (x : Row) → get_name others x.0 ≡ None → (new ≡ rows ++ x ∷ []) × (list_any (is_alike x) rows ≡ false) →
+    AreApart rows others → (from_entries {R = name_cmp} (new ++ others) ≡ finmap.insert (from_entries (rows ++ others)) x.0 x.1) × AreApart new others
+put-new rows others new x none added apart =
+    let changed : Changed rows new x.0 (Some x.1) = (λ q. ap (λ es. get_name es q) added.0 ∙ pushed rows x (none-listed x rows added.1) q) in (
+      put-loose (rows ++ others) (new ++ others) x.0 x.1 (changed-rows rows others new x.0 (Some x.1) refl changed),
+      apart-rows rows others new x.0 (Some x.1) none changed apart,
+    )
+
+-- the row that stands where one that is alike was found
+pub found-there : (x : Row) (rows new : List Row) (at : ℕ) (row : Row) → (new ≡ rows) × ((e : Row) × (slice_get rows at ≡ Some e) × (find (is_alike x) rows ≡ Some e))
+    → slice_get new at ≡ Some row → find (is_alike x) new ≡ Some row
+found-there x rows new at row there read = ap (find (is_alike x)) there.0 ∙ there.1.2 ∙ sym there.1.1 ∙ ap (λ es. slice_get es at) (sym there.0) ∙ read
+
+-- the rows with one in the place of one that is alike, or last
+abbrev pub replaced : List Row → Row → List Row
+replaced rows x = cond (list_any (is_alike x) rows) (swap_key (is_alike x) rows x) (rows ++ x ∷ [])
+
+pub replaced-is : (x : Row) (rows : List Row) (row : Row) → IsDistinct is_alike rows → find (is_alike x) rows ≡ Some row → replaced rows x ≡ map (moved row.0 x) rows
+replaced-is x rows row d found =
+    ap (λ b. cond b (swap_key (is_alike x) rows x) (rows ++ x ∷ [])) (found-any x rows row found) ∙ swap-is x rows row d found
+
+-- a row that takes the place of that of its name
+pub put-there : (rows others new : List Row) (x row : Row) → IsDistinct is_alike rows → find (is_alike x) rows ≡ Some row → same row.0 x.0 ≡ true
+    → new ≡ replaced rows x → AreApart rows others →
+    (from_entries {R = name_cmp} (new ++ others) ≡ finmap.insert (from_entries (rows ++ others)) x.0 x.1) × AreApart new others
+put-there rows others new x row d found key made apart =
+    let some = found-name x rows row found key in
+    let is : new ≡ map (moved x.0 x) rows = made ∙ replaced-is x rows row d found ∙ ap (λ o. map (moved o x) rows) (equal row.0 x.0 key) in
+    let changed : Changed rows new x.0 (Some x.1) = (λ q. ap (λ es. get_name es q) is ∙ moved-same x.0 x.1 rows row.1 some q) in (
+      put-loose (rows ++ others) (new ++ others) x.0 x.1 (changed-rows rows others new x.0 (Some x.1) refl changed),
+      apart-rows rows others new x.0 (Some x.1) (other-none rows others x.0 row.1 apart some) changed apart,
+    )
+
+-- what is inserted into a set of rows
+any-found : (x : Row) (rows : List Row) → list_any (is_alike x) rows ≡ true → (e : Row) × (find (is_alike x) rows ≡ Some e)
+any-found x [] h = cc
+any-found x (e ∷ rows) h = elim (is_alike x e) as (λ b. (b || list_any (is_alike x) rows) ≡ true → (y : Row) × (cond b (Some e) (find (is_alike x) rows) ≡ Some y)) [
+  | true ↦ λ is. (e, refl)
+  | false ↦ λ is. any-found x rows is
+] h
+
+all-passed : (x : Row) (rows : List Row) → list_any (is_alike x) rows ≡ false → position_or_len (is_alike x) rows ≡ length rows
+all-passed x [] h = refl
+all-passed x (e ∷ rows) h = elim (is_alike x e) as (λ b. (b || list_any (is_alike x) rows) ≡ false → cond (not b) (1 + position_or_len (is_alike x) rows) 0 ≡ length (e ∷ rows)) [
+  | true ↦ λ is. cc
+  | false ↦ λ is. let rest = all-passed x rows is in omega (arith, rest)
+] h
+
+abbrev pub inserted : List Row → Row → List Row
+inserted rows x = cond (list_any (is_alike x) rows) rows (rows ++ x ∷ [])
+
+pub insert-there : (x : Row) (rows new : List Row) (at : ℕ) (is_new : Bool) → is_new ≡ not (list_any (is_alike x) rows) → is_new ≡ false → new ≡ inserted rows x
+    → at ≡ position_or_len (is_alike x) rows → (new ≡ rows) × ((e : Row) × (slice_get rows at ≡ Some e) × (find (is_alike x) rows ≡ Some e))
+insert-there x rows new at is_new told old made place =
+    let any : list_any (is_alike x) rows ≡ true = not-false (list_any (is_alike x) rows) (sym told ∙ old) in
+    let e = any-found x rows any in (
+      made ∙ ap (λ b. cond b rows (rows ++ x ∷ [])) any,
+      (e.0, ap (slice_get rows) place ∙ sym (find_at (is_alike x) rows) ∙ e.1, e.1),
+    )
+  where
+    not-false : (b : Bool) → not b ≡ false → b ≡ true
+    not-false true h = refl
+    not-false false h = cc
+
+pub insert-new : (x : Row) (rows new : List Row) (at : ℕ) (is_new : Bool) → is_new ≡ not (list_any (is_alike x) rows) → is_new ≡ true → new ≡ inserted rows x
+    → at ≡ position_or_len (is_alike x) rows → (new ≡ rows ++ x ∷ []) × (at ≡ length rows)
+insert-new x rows new at is_new told old made place =
+    let none : list_any (is_alike x) rows ≡ false = not-true (list_any (is_alike x) rows) (sym told ∙ old) in
+    (made ∙ ap (λ b. cond b rows (rows ++ x ∷ [])) none, place ∙ all-passed x rows none)
+  where
+    not-true : (b : Bool) → not b ≡ true → b ≡ false
+    not-true true h = cc
+    not-true false h = refl
+
+-- neither has what both together lack
+pub neither : (a b : Option ℕ) → option_or a b ≡ None → (a ≡ None) × (b ≡ None)
+neither None b h = (refl, h)
+neither (Some x) b h = cc
+
+-- a row that gets another name of its unique part
+pub renamed-row : (rows new : List Row) (o k : List ℕ) (v w : ℕ) → IsDistinct is_alike rows → same (unique_of o) (unique_of k) ≡ true
+    → get_name rows o ≡ Some w → get_name rows k ≡ None → new ≡ replaced rows (k, v) →
+    (row : Row) × (find (is_alike (k, v)) rows ≡ Some row) × (row.0 ≡ o) × (new ≡ map (moved o (k, v)) rows) × Renamed rows new o k v
+renamed-row rows new o k v w d one some none made =
+    let found = found-row (k, v) rows o w d (turned (unique_of k) (unique_of o) ∙ one) some in
+    let is : new ≡ map (moved o (k, v)) rows = made ∙ replaced-is (k, v) rows found.0 d found.1 ∙ ap (λ n. map (moved n (k, v)) rows) found.2 in
+    (found.0, found.1, found.2, is, λ q. ap (λ es. get_name es q) is ∙ moved-names o k v rows w some none q)
+
+-- names that are told apart stay so, whether the name was put or not
+pub put-apart : {X E : Type 0} (r : Result X E) (rows others new : List Row) (k : List ℕ) (v : ℕ) → get_name rows k ≡ None → OnOk r (Changed others new k (Some v))
+    → OnErr r (new ≡ others) → AreApart rows others → AreApart rows new
+put-apart (Ok x) rows others new k v none changed same-others apart = apart-others rows others new k (Some v) none changed apart
+put-apart (Err e) rows others new k v none changed same-others apart = subst (AreApart rows) (sym same-others) apart
+
+pub other-missing : (rows others : List Row) (k : List ℕ) → AreApart rows others → IsSome (get_name rows k) → get_name others k ≡ None
+other-missing rows others k apart some = either-none (get_name rows k) (get_name others k) (apart k) some
