@@ -57,7 +57,7 @@ impl<'a> NameKey<'a> {
 
     // A key of bytes that are owned or lent.
     pub(crate) fn held(held: Held<'a>) -> Self
-        ensures { result ≡ held_bytes held }
+        ensures { result ≡ held_bytes held.entry }
     {
         NameKey { held }
     }

@@ -103,7 +103,7 @@ impl<'a> Named<'a> {
 
     /// The name as a key of another table, moved out.
     pub fn into_key(self) -> NameKey<'a>
-        ensures { result ≡ self.0 }
+        ensures { result ≡ self.entry.0 }
     {
         NameKey::held(self.name)
     }

@@ -1,4 +1,4 @@
-use Rattle.std.proofs.Common.{ℕ, List, Option, Some, None, Bool, true, false, not, is_none, ◌≡◌, ◌≢◌, ◌×◌, ◌∙◌, sym, ap, length, refl}
+use Rattle.std.proofs.Common.{ℕ, List, Option, Some, None, Bool, true, false, not, is_some, ◌≡◌, ◌∙◌, sym, ap, length, refl}
 use Rattle.std.specs.Option.{option_map}
 use Rattle.md_name.specs.Names.{unique_of}
 use Rattle.md_dirs.specs.Index.{get_name}
@@ -8,9 +8,9 @@ use Rattle.md_dirs.proofs.Uniques.{has-colon}
 use Rattle.md_dirs.proofs.Moved.{info-changes}
 use Rattle.md_dirs.proofs.index.names.rename_row.Goals as goal
 
-some-file : (r : Option (ℕ × ℕ)) (o : Option ℕ) (b : Bool) → b ≡ is_none r → b ≡ false → option_map (λ (p : ℕ × ℕ). p.1) r ≡ o → (w : ℕ) × (o ≡ Some w)
-some-file None o b is no file = cc
-some-file (Some p) o b is no file = (p.1, sym file)
+some-file : (r : Option (ℕ × ℕ)) (o : Option ℕ) (b : Bool) → is_some r ≡ not b → b ≡ false → option_map (λ (p : ℕ × ℕ). p.1) r ≡ o → (w : ℕ) × (o ≡ Some w)
+some-file None o b is there file = let wrong : false ≡ true = is ∙ ap not there in cc
+some-file (Some p) o b is there file = (p.1, sym file)
 
 not-false : (b : Bool) → not b ≡ false → b ≡ true
 not-false true h = refl
