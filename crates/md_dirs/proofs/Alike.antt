@@ -1,5 +1,5 @@
 -- Rows that are told apart by the unique parts of their names: what look-ups find, and what is left as rows come, go and change.
-use Rattle.std.proofs.Common.{ℕ, zero, suc, ◌≡◌, ◌+◌, ◌<◌, ◌++◌, not, Result, Ok, Err, OnOk, OnErr, List, [], ◌∷◌, Option, Some, None, Bool, true, false, cond, ◌||◌, length, map, find, refl, sym, ap, subst, ◌∙◌, arith, get_or, slice_get, is_some, IsSome, swap_remove}
+use Rattle.std.proofs.Common.{ℕ, zero, suc, ◌≡◌, ◌+◌, ◌<◌, ◌++◌, not, Result, Ok, Err, OnOk, OnErr, List, [], ◌∷◌, Option, Some, None, Bool, true, false, cond, ◌||◌, length, map, find, refl, sym, ap, subst, ◌∙◌, arith, get_or, slice_get, is_some, is_none, IsSome, IfNone, IfSome, swap_remove}
 use Rattle.std.proofs.lemmas.List.Elements.{recursion_from_All, All-from_recursion}
 use Rattle.std.proofs.lemmas.List.Folds.{find_at}
 use Rattle.std.proofs.lemmas.List.Sorted.{IsPermutation-swap_remove, IsPermutation-sym, IsPermutation-map, All-permutation, Contains-permutation}
@@ -545,3 +545,25 @@ put-apart (Err e) rows others new k v none changed same-others apart = subst (Ar
 
 pub other-missing : (rows others : List Row) (k : List ℕ) → AreApart rows others → IsSome (get_name rows k) → get_name others k ≡ None
 other-missing rows others k apart some = either-none (get_name rows k) (get_name others k) (apart k) some
+
+-- whether a name is there
+pub is-beside : (rows others : List Row) (k : List ℕ) → is_some (get_name others k) ≡ true → false ≡ is_none (finmap.get (from_entries {R = name_cmp} (rows ++ others)) k)
+is-beside rows others k some = sym (ap is_none (get-both rows others k) ∙ either (get_name rows k) (get_name others k) some)
+  where
+    either : (a b : Option ℕ) → is_some b ≡ true → is_none (option_or a b) ≡ false
+    either None None h = sym h
+    either None (Some y) h = refl
+    either (Some x) b h = refl
+
+pub is-in-table : (rows others : List Row) (k : List ℕ) (v : ℕ) → get_name rows k ≡ Some v → false ≡ is_none (finmap.get (from_entries {R = name_cmp} (rows ++ others)) k)
+is-in-table rows others k v some = sym (ap is_none (get-both rows others k) ∙ ap (λ o. is_none (option_or o (get_name others k))) some)
+
+pub is-nowhere : (rows others : List Row) (k : List ℕ) → get_name rows k ≡ None → get_name others k ≡ None → true ≡ is_none (finmap.get (from_entries {R = name_cmp} (rows ++ others)) k)
+is-nowhere rows others k none none' = sym (ap is_none (get-both rows others k) ∙ (λ i. is_none (option_or (none i) (none' i))))
+
+-- a row that is alike to none was added
+pub added-row : (there : Option ℕ) (x : Row) (rows new : List Row) → IfNone there ((new ≡ rows ++ x ∷ []) × (list_any (is_alike x) rows ≡ false))
+    → IfSome there (λ at. (new ≡ rows) × ((e : Row) × (slice_get rows at ≡ Some e) × (find (is_alike x) rows ≡ Some e))) → find (is_alike x) rows ≡ None →
+    (new ≡ rows ++ x ∷ []) × (list_any (is_alike x) rows ≡ false)
+added-row None x rows new added there none = added
+added-row (Some at) x rows new added there none = let found = there.1.2 in cc
