@@ -1,13 +1,14 @@
 -- Rows that are told apart by the unique parts of their names: what look-ups find, and what is left as rows come, go and change.
-use Rattle.std.proofs.Common.{ℕ, zero, suc, ◌≡◌, ◌<◌, ◌++◌, List, [], ◌∷◌, Option, Some, None, Bool, true, false, cond, ◌||◌, length, map, find, refl, sym, ap, subst, ◌∙◌, arith, get_or, slice_get, is_some, IsSome, swap_remove}
+use Rattle.std.proofs.Common.{ℕ, zero, suc, ◌≡◌, ◌+◌, ◌<◌, ◌++◌, not, Result, Ok, Err, OnOk, OnErr, List, [], ◌∷◌, Option, Some, None, Bool, true, false, cond, ◌||◌, length, map, find, refl, sym, ap, subst, ◌∙◌, arith, get_or, slice_get, is_some, is_none, IsSome, IfNone, IfSome, swap_remove}
 use Rattle.std.proofs.lemmas.List.Elements.{recursion_from_All, All-from_recursion}
+use Rattle.std.proofs.lemmas.List.Folds.{find_at}
 use Rattle.std.proofs.lemmas.List.Sorted.{IsPermutation-swap_remove, IsPermutation-sym, IsPermutation-map, All-permutation, Contains-permutation}
 use Rattle.std.proofs.lemmas.Option.{slice_get-get_or}
 use Rattle.std.proofs.lemmas.Map.{lookup-none, none_passes_from_lookup}
 use Rattle.std.proofs.lemmas.Map.Entries.{place_from_lookup, lookup_from_place}
 use Rattle.std.proofs.lemmas.Map.Keys.{IsDistinct-IsPermutation}
 use Rattle.std.specs.Cmp.Lexicographic.{bytes_decides, nat_list_eq_equiv}
-use Rattle.std.specs.List.{IsDistinct, AllByRecursion, list_any}
+use Rattle.std.specs.List.{IsDistinct, AllByRecursion, list_any, position_or_len}
 use Rattle.std.specs.List.Sorted.{IsPermutation}
 use Rattle.std.specs.Option.{option_or}
 use Rattle.std.specs.Map.{keys_of, lookup}
@@ -268,15 +269,15 @@ unfolding IsDistinct
 swap-is x [] row d h = refl
 swap-is x (e ∷ rows) row d h = elim (is_alike x e) as (λ b. is_alike x e ≡ b → cond b (Some e) (find (is_alike x) rows) ≡ Some row
     → cond b (x ∷ rows) (e ∷ swap_key (is_alike x) rows x) ≡ map (moved row.0 x) (e ∷ rows)) [
-  | true ↦ λ t is.
-      let here : e ≡ row = cc in
-      let name = ap (λ (r : Row). r.0) here in
-      (λ i. cond (sym (tested row.0 e.0 (sym name)) i) x e ∷ sym (unmoved row.0 x rows (unnamed row.0 e rows name d.0)) i)
-  | false ↦ λ t is.
-      let other : same row.0 e.0 ≡ false = untrue _ (λ named.
-      let is_like : is_alike x e ≡ true = ap (λ w. same (unique_of x.0) (unique_of w)) (sym (equal row.0 e.0 named)) ∙ found-alike x rows row is in cc) in
-      (λ i. cond (sym other i) x e ∷ swap-is x rows row d.1 is i)
-] refl h
+      | true ↦ λ t is.
+          let here : e ≡ row = cc in
+          let name = ap (λ (r : Row). r.0) here in
+          (λ i. cond (sym (tested row.0 e.0 (sym name)) i) x e ∷ sym (unmoved row.0 x rows (unnamed row.0 e rows name d.0)) i)
+      | false ↦ λ t is.
+          let other : same row.0 e.0 ≡ false = untrue _ (λ named.
+          let is_like : is_alike x e ≡ true = ap (λ w. same (unique_of x.0) (unique_of w)) (sym (equal row.0 e.0 named)) ∙ found-alike x rows row is in cc) in
+          (λ i. cond (sym other i) x e ∷ swap-is x rows row d.1 is i)
+    ] refl h
 
 -- other names than those two have what they had
 moved-else : (o k : List ℕ) (v : ℕ) (es : List Row) (q : List ℕ) → same q k ≡ false → get_name (map (moved o (k, v)) es) q ≡ cond (same o q) None (get_name es q)
@@ -356,9 +357,9 @@ renamed-apart rows others new o k v none is apart q some =
     is q ∙ elim (same o q) as (λ b. cond b None (cond (same k q) (Some v) (get_name rows q)) ≡ None) [
       | true ↦ refl
       | false ↦ elim (same k q) as (λ b. same k q ≡ b → cond b (Some v) (get_name rows q) ≡ None) [
-          | true ↦ λ t. let gone : get_name others q ≡ None = ap (get_name others) (sym (equal k q t)) ∙ none in cc
-          | false ↦ λ t. apart q some
-        ] refl
+        | true ↦ λ t. let gone : get_name others q ≡ None = ap (get_name others) (sym (equal k q t)) ∙ none in cc
+        | false ↦ λ t. apart q some
+      ] refl
     ]
 
 pub renamed-view : (es fs : List Row) (o k : List ℕ) (v : ℕ) → Renamed es fs o k v
@@ -377,11 +378,11 @@ unfolding IsDistinct
 unlike-rest x [] row d h = tt
 unlike-rest x (e ∷ rows) row d h = elim (is_alike x e) as (λ b. is_alike x e ≡ b → cond b (Some e) (find (is_alike x) rows) ≡ Some row
     → AllByRecursion (λ (y : Row). same row.0 y.0 ≡ false → is_alike x y ≡ false) (e ∷ rows)) [
-  | true ↦ λ t is.
-      let here : e ≡ row = cc in
-      ((λ differs. let one : same row.0 e.0 ≡ true = tested row.0 e.0 (ap (λ (r : Row). r.0) (sym here)) in cc), others x e rows t d.0)
-  | false ↦ λ t is. ((λ differs. t), unlike-rest x rows row d.1 is)
-] refl h
+      | true ↦ λ t is.
+          let here : e ≡ row = cc in
+          ((λ differs. let one : same row.0 e.0 ≡ true = tested row.0 e.0 (ap (λ (r : Row). r.0) (sym here)) in cc), others x e rows t d.0)
+      | false ↦ λ t is. ((λ differs. t), unlike-rest x rows row d.1 is)
+    ] refl h
   where
     others : (x e : Row) (rows : List Row) → is_alike x e ≡ true → AllByRecursion (λ y. is_alike e y ≡ false) rows →
         AllByRecursion (λ (y : Row). same row.0 y.0 ≡ false → is_alike x y ≡ false) rows
@@ -395,17 +396,21 @@ unfolding IsDistinct
 found-row x [] o w d like some = cc
 found-row x (e ∷ rows) o w d like some = elim (is_alike x e) as (λ b. is_alike x e ≡ b →
     (row : Row) × (cond b (Some e) (find (is_alike x) rows) ≡ Some row) × (row.0 ≡ o)) [
-  | true ↦ λ t. (e, refl, sym (equal o e.0 (elim (same o e.0) as (λ b. cond b (Some e.1) (get_name rows o) ≡ Some w → b ≡ true) [
-      | true ↦ λ is. refl
-      | false ↦ λ is.
-          let beside : is_alike (o, 0) e ≡ true = sym (alike_equiv.congr x (o, 0) e like) ∙ t in
-          let none : get_name rows o ≡ None = none-beside (o, 0) e rows beside d.0 in cc
-    ] some)))
-  | false ↦ λ t.
-      let other : same o e.0 ≡ false = untrue _ (λ is.
-      let is_like : is_alike x e ≡ true = ap (λ u. same (unique_of x.0) (unique_of u)) (sym (equal o e.0 is)) ∙ like in cc) in
-      found-row x rows o w d.1 like (ap (λ b. cond b (Some e.1) (get_name rows o)) (sym other) ∙ some)
-] refl
+      | true ↦ λ t. (
+        e,
+        refl,
+        sym (equal o e.0 (elim (same o e.0) as (λ b. cond b (Some e.1) (get_name rows o) ≡ Some w → b ≡ true) [
+          | true ↦ λ is. refl
+          | false ↦ λ is.
+              let beside : is_alike (o, 0) e ≡ true = sym (alike_equiv.congr x (o, 0) e like) ∙ t in
+              let none : get_name rows o ≡ None = none-beside (o, 0) e rows beside d.0 in cc
+        ] some)),
+      )
+      | false ↦ λ t.
+          let other : same o e.0 ≡ false = untrue _ (λ is.
+          let is_like : is_alike x e ≡ true = ap (λ u. same (unique_of x.0) (unique_of u)) (sym (equal o e.0 is)) ∙ like in cc) in
+          found-row x rows o w d.1 like (ap (λ b. cond b (Some e.1) (get_name rows o)) (sym other) ∙ some)
+    ] refl
 
 pub found-any : (x : Row) (rows : List Row) (row : Row) → find (is_alike x) rows ≡ Some row → list_any (is_alike x) rows ≡ true
 found-any x [] row h = cc
@@ -430,3 +435,139 @@ taken-row rows others new i k v d at some made apart =
       taken-loose (rows ++ others) (new ++ others) k (changed-rows rows others new k None none changed),
       apart-rows rows others new k None none changed apart,
     )
+
+pub on-ok : {X E P Q : Type 0} (r : Result X E) → (P → Q) → OnOk r P → OnOk r Q
+on-ok (Ok x) f h = f h
+on-ok (Err e) f h = h
+
+pub none-from : (o : Option ℕ) → is_some o ≡ false → o ≡ None
+none-from None h = refl
+none-from (Some x) h = cc
+
+-- a name that is put among the others
+pub put-others : (rows others new : List Row) (k : List ℕ) (v : ℕ) → get_name rows k ≡ None → Changed others new k (Some v) → AreApart rows others →
+    (from_entries {R = name_cmp} (rows ++ new) ≡ finmap.insert (from_entries (rows ++ others)) k v) × AreApart rows new
+put-others rows others new k v none changed apart = (
+  put-loose (rows ++ others) (rows ++ new) k v (changed-others rows others new k (Some v) none changed),
+  apart-others rows others new k (Some v) none changed apart,
+)
+
+-- a row that comes last in the table
+pub put-new : (rows others new : List Row) (x : Row) → get_name others x.0 ≡ None → (new ≡ rows ++ x ∷ []) × (list_any (is_alike x) rows ≡ false) →
+    AreApart rows others → (from_entries {R = name_cmp} (new ++ others) ≡ finmap.insert (from_entries (rows ++ others)) x.0 x.1) × AreApart new others
+put-new rows others new x none added apart =
+    let changed : Changed rows new x.0 (Some x.1) = (λ q. ap (λ es. get_name es q) added.0 ∙ pushed rows x (none-listed x rows added.1) q) in (
+      put-loose (rows ++ others) (new ++ others) x.0 x.1 (changed-rows rows others new x.0 (Some x.1) refl changed),
+      apart-rows rows others new x.0 (Some x.1) none changed apart,
+    )
+
+-- the row that stands where one that is alike was found
+pub found-there : (x : Row) (rows new : List Row) (at : ℕ) (row : Row) → (new ≡ rows) × ((e : Row) × (slice_get rows at ≡ Some e) × (find (is_alike x) rows ≡ Some e))
+    → slice_get new at ≡ Some row → find (is_alike x) new ≡ Some row
+found-there x rows new at row there read = ap (find (is_alike x)) there.0 ∙ there.1.2 ∙ sym there.1.1 ∙ ap (λ es. slice_get es at) (sym there.0) ∙ read
+
+-- the rows with one in the place of one that is alike, or last
+abbrev pub replaced : List Row → Row → List Row
+replaced rows x = cond (list_any (is_alike x) rows) (swap_key (is_alike x) rows x) (rows ++ x ∷ [])
+
+pub replaced-is : (x : Row) (rows : List Row) (row : Row) → IsDistinct is_alike rows → find (is_alike x) rows ≡ Some row → replaced rows x ≡ map (moved row.0 x) rows
+replaced-is x rows row d found =
+    ap (λ b. cond b (swap_key (is_alike x) rows x) (rows ++ x ∷ [])) (found-any x rows row found) ∙ swap-is x rows row d found
+
+-- a row that takes the place of that of its name
+pub put-there : (rows others new : List Row) (x row : Row) → IsDistinct is_alike rows → find (is_alike x) rows ≡ Some row → same row.0 x.0 ≡ true
+    → new ≡ replaced rows x → AreApart rows others →
+    (from_entries {R = name_cmp} (new ++ others) ≡ finmap.insert (from_entries (rows ++ others)) x.0 x.1) × AreApart new others
+put-there rows others new x row d found key made apart =
+    let some = found-name x rows row found key in
+    let is : new ≡ map (moved x.0 x) rows = made ∙ replaced-is x rows row d found ∙ ap (λ o. map (moved o x) rows) (equal row.0 x.0 key) in
+    let changed : Changed rows new x.0 (Some x.1) = (λ q. ap (λ es. get_name es q) is ∙ moved-same x.0 x.1 rows row.1 some q) in (
+      put-loose (rows ++ others) (new ++ others) x.0 x.1 (changed-rows rows others new x.0 (Some x.1) refl changed),
+      apart-rows rows others new x.0 (Some x.1) (other-none rows others x.0 row.1 apart some) changed apart,
+    )
+
+-- what is inserted into a set of rows
+any-found : (x : Row) (rows : List Row) → list_any (is_alike x) rows ≡ true → (e : Row) × (find (is_alike x) rows ≡ Some e)
+any-found x [] h = cc
+any-found x (e ∷ rows) h = elim (is_alike x e) as (λ b. (b || list_any (is_alike x) rows) ≡ true → (y : Row) × (cond b (Some e) (find (is_alike x) rows) ≡ Some y)) [
+  | true ↦ λ is. (e, refl)
+  | false ↦ λ is. any-found x rows is
+] h
+
+all-passed : (x : Row) (rows : List Row) → list_any (is_alike x) rows ≡ false → position_or_len (is_alike x) rows ≡ length rows
+all-passed x [] h = refl
+all-passed x (e ∷ rows) h = elim (is_alike x e) as (λ b. (b || list_any (is_alike x) rows) ≡ false → cond (not b) (1 + position_or_len (is_alike x) rows) 0 ≡ length (e ∷ rows)) [
+  | true ↦ λ is. cc
+  | false ↦ λ is. let rest = all-passed x rows is in omega (arith, rest)
+] h
+
+abbrev pub inserted : List Row → Row → List Row
+inserted rows x = cond (list_any (is_alike x) rows) rows (rows ++ x ∷ [])
+
+pub insert-there : (x : Row) (rows new : List Row) (at : ℕ) (is_new : Bool) → is_new ≡ not (list_any (is_alike x) rows) → is_new ≡ false → new ≡ inserted rows x
+    → at ≡ position_or_len (is_alike x) rows → (new ≡ rows) × ((e : Row) × (slice_get rows at ≡ Some e) × (find (is_alike x) rows ≡ Some e))
+insert-there x rows new at is_new told old made place =
+    let any : list_any (is_alike x) rows ≡ true = not-false (list_any (is_alike x) rows) (sym told ∙ old) in
+    let e = any-found x rows any in (
+      made ∙ ap (λ b. cond b rows (rows ++ x ∷ [])) any,
+      (e.0, ap (slice_get rows) place ∙ sym (find_at (is_alike x) rows) ∙ e.1, e.1),
+    )
+  where
+    not-false : (b : Bool) → not b ≡ false → b ≡ true
+    not-false true h = refl
+    not-false false h = cc
+
+pub insert-new : (x : Row) (rows new : List Row) (at : ℕ) (is_new : Bool) → is_new ≡ not (list_any (is_alike x) rows) → is_new ≡ true → new ≡ inserted rows x
+    → at ≡ position_or_len (is_alike x) rows → (new ≡ rows ++ x ∷ []) × (at ≡ length rows)
+insert-new x rows new at is_new told old made place =
+    let none : list_any (is_alike x) rows ≡ false = not-true (list_any (is_alike x) rows) (sym told ∙ old) in
+    (made ∙ ap (λ b. cond b rows (rows ++ x ∷ [])) none, place ∙ all-passed x rows none)
+  where
+    not-true : (b : Bool) → not b ≡ true → b ≡ false
+    not-true true h = cc
+    not-true false h = refl
+
+-- neither has what both together lack
+pub neither : (a b : Option ℕ) → option_or a b ≡ None → (a ≡ None) × (b ≡ None)
+neither None b h = (refl, h)
+neither (Some x) b h = cc
+
+-- a row that gets another name of its unique part
+pub renamed-row : (rows new : List Row) (o k : List ℕ) (v w : ℕ) → IsDistinct is_alike rows → same (unique_of o) (unique_of k) ≡ true
+    → get_name rows o ≡ Some w → get_name rows k ≡ None → new ≡ replaced rows (k, v) →
+    (row : Row) × (find (is_alike (k, v)) rows ≡ Some row) × (row.0 ≡ o) × (new ≡ map (moved o (k, v)) rows) × Renamed rows new o k v
+renamed-row rows new o k v w d one some none made =
+    let found = found-row (k, v) rows o w d (turned (unique_of k) (unique_of o) ∙ one) some in
+    let is : new ≡ map (moved o (k, v)) rows = made ∙ replaced-is (k, v) rows found.0 d found.1 ∙ ap (λ n. map (moved n (k, v)) rows) found.2 in
+    (found.0, found.1, found.2, is, λ q. ap (λ es. get_name es q) is ∙ moved-names o k v rows w some none q)
+
+-- names that are told apart stay so, whether the name was put or not
+pub put-apart : {X E : Type 0} (r : Result X E) (rows others new : List Row) (k : List ℕ) (v : ℕ) → get_name rows k ≡ None → OnOk r (Changed others new k (Some v))
+    → OnErr r (new ≡ others) → AreApart rows others → AreApart rows new
+put-apart (Ok x) rows others new k v none changed same-others apart = apart-others rows others new k (Some v) none changed apart
+put-apart (Err e) rows others new k v none changed same-others apart = subst (AreApart rows) (sym same-others) apart
+
+pub other-missing : (rows others : List Row) (k : List ℕ) → AreApart rows others → IsSome (get_name rows k) → get_name others k ≡ None
+other-missing rows others k apart some = either-none (get_name rows k) (get_name others k) (apart k) some
+
+-- whether a name is there
+pub is-beside : (rows others : List Row) (k : List ℕ) → is_some (get_name others k) ≡ true → false ≡ is_none (finmap.get (from_entries {R = name_cmp} (rows ++ others)) k)
+is-beside rows others k some = sym (ap is_none (get-both rows others k) ∙ either (get_name rows k) (get_name others k) some)
+  where
+    either : (a b : Option ℕ) → is_some b ≡ true → is_none (option_or a b) ≡ false
+    either None None h = sym h
+    either None (Some y) h = refl
+    either (Some x) b h = refl
+
+pub is-in-table : (rows others : List Row) (k : List ℕ) (v : ℕ) → get_name rows k ≡ Some v → false ≡ is_none (finmap.get (from_entries {R = name_cmp} (rows ++ others)) k)
+is-in-table rows others k v some = sym (ap is_none (get-both rows others k) ∙ ap (λ o. is_none (option_or o (get_name others k))) some)
+
+pub is-nowhere : (rows others : List Row) (k : List ℕ) → get_name rows k ≡ None → get_name others k ≡ None → true ≡ is_none (finmap.get (from_entries {R = name_cmp} (rows ++ others)) k)
+is-nowhere rows others k none none' = sym (ap is_none (get-both rows others k) ∙ (λ i. is_none (option_or (none i) (none' i))))
+
+-- a row that is alike to none was added
+pub added-row : (there : Option ℕ) (x : Row) (rows new : List Row) → IfNone there ((new ≡ rows ++ x ∷ []) × (list_any (is_alike x) rows ≡ false))
+    → IfSome there (λ at. (new ≡ rows) × ((e : Row) × (slice_get rows at ≡ Some e) × (find (is_alike x) rows ≡ Some e))) → find (is_alike x) rows ≡ None →
+    (new ≡ rows ++ x ∷ []) × (list_any (is_alike x) rows ≡ false)
+added-row None x rows new added there none = added
+added-row (Some at) x rows new added there none = let found = there.1.2 in cc

@@ -1,12 +1,11 @@
 -- A row whose info changes: the positions of the rows stay in order.
-use Rattle.std.proofs.Common.{ℕ, zero, suc, ◌≡◌, ◌≢◌, ◌<◌, List, [], ◌∷◌, Some, None, Bool, true, false, cond, T, length, map, find, refl, sym, ap, subst, ◌∙◌, arith, All}
+use Rattle.std.proofs.Common.{◌⊎◌, inl, inr, ℕ, zero, suc, ◌≡◌, ◌≢◌, ◌<◌, List, [], ◌∷◌, Some, None, Bool, true, false, cond, T, length, map, find, refl, sym, ap, subst, ◌∙◌, arith, All}
 use Rattle.std.proofs.lemmas.List.{length-map, get_or-map}
 use Rattle.std.proofs.lemmas.List.Elements.{All-tail, recursion_from_All, All-from_recursion}
 use Rattle.std.proofs.lemmas.Cmp.{tied_itself}
 use Rattle.std.specs.List.{IsDistinct, AllByRecursion, list_any}
 use Rattle.std.specs.declared.cmp.Ordering.{Ordering}
 use Rattle.std.specs.declared.cmp.Ordering.TheVariants.{Less}
-use Rattle.std.specs.Set.{swap_key}
 use Rattle.std.specs.FinMap as finmap
 use Rattle.std.specs.FinMap.{is_sorted, entries_sorted, get-from_entries, get-entries}
 use Rattle.std.specs.FinMap.Entries.{below_all}
@@ -17,7 +16,7 @@ use Rattle.md_dirs.proofs.Sorted.{first, second, both, less}
 use Rattle.md_dirs.proofs.NameRows.{same, name_total, is_less, get-loose, reordered-loose}
 use Rattle.md_dirs.proofs.Ordered.{Rows, listed, listed-itself}
 use Rattle.md_dirs.proofs.Uniques.{compared}
-use Rattle.md_dirs.proofs.Alike.{equal, tested, turned, moved, moved-names, swap-is, found-alike, found-name, unlike-rest}
+use Rattle.md_dirs.proofs.Alike.{equal, tested, moved, moved-names, moved-same, found-alike, found-name, unlike-rest, replaced, replaced-is, renamed-row}
 
 -- a row beside which two names stand alike, unless it has the first
 abbrev Beside : List ℕ → List ℕ → Row → Type 0
@@ -30,16 +29,16 @@ module _ (o k : List ℕ) (v : ℕ) where
   pair : (e f : Row) → Beside o k e → Beside o k f → name_cmp e.0 f.0 ≡ Less → name_cmp (change e).0 (change f).0 ≡ Less
   pair e f he hf is = elim (same o e.0) as (λ b. same o e.0 ≡ b → name_cmp (cond b (k, v) e).0 (change f).0 ≡ Less) [
     | true ↦ λ t. elim (same o f.0) as (λ b. same o f.0 ≡ b → name_cmp k (cond b (k, v) f).0 ≡ Less) [
-        | true ↦ λ u.
-            let tie = tied_itself name_total o in
-            let up : name_cmp o o ≡ Less = (λ i. name_cmp (equal o e.0 t i) (equal o f.0 u i)) ∙ is in
-            cc
-        | false ↦ λ u. (hf u).1 ∙ ap (λ w. name_cmp w f.0) (equal o e.0 t) ∙ is
-      ] refl
+      | true ↦ λ u.
+          let tie = tied_itself name_total o in
+          let up : name_cmp o o ≡ Less = (λ i. name_cmp (equal o e.0 t i) (equal o f.0 u i)) ∙ is in
+          cc
+      | false ↦ λ u. (hf u).1 ∙ ap (λ w. name_cmp w f.0) (equal o e.0 t) ∙ is
+    ] refl
     | false ↦ λ t. elim (same o f.0) as (λ b. same o f.0 ≡ b → name_cmp e.0 (cond b (k, v) f).0 ≡ Less) [
-        | true ↦ λ u. (he t).0 ∙ ap (name_cmp e.0) (equal o f.0 u) ∙ is
-        | false ↦ λ u. is
-      ] refl
+      | true ↦ λ u. (he t).0 ∙ ap (name_cmp e.0) (equal o f.0 u) ∙ is
+      | false ↦ λ u. is
+    ] refl
   ] refl
 
   below : (e : Row) (es : Rows) → Beside o k e → AllByRecursion (Beside o k) es → T (below_all name_cmp e.0 es) →
@@ -72,22 +71,38 @@ listed-names rows q =
     sym (get-loose (listed rows) q) ∙ get-from_entries name_total (listed rows) q
     ∙ sym (get-entries (finmap.from_entries {R = name_cmp} rows) q) ∙ get-loose rows q
 
-pub order-stays : (rows : Rows) (order : List ℕ) (o k : List ℕ) (v w : ℕ) → IsOrderOf rows order → All (Beside o k) rows →
-    get_name rows o ≡ Some w → get_name rows k ≡ None → IsOrderOf (map (moved o (k, v)) rows) order
-order-stays rows order o k v w is beside some none =
+-- a row that changes stays at its place, where other names stand beside both names alike
+order-moved : (rows : Rows) (order : List ℕ) (o k : List ℕ) (v : ℕ) → IsOrderOf rows order → All (Beside o k) rows →
+    ((q : List ℕ) → get_name (map (moved o (k, v)) (listed rows)) q ≡ get_name (map (moved o (k, v)) rows) q) → IsOrderOf (map (moved o (k, v)) rows) order
+order-moved rows order o k v is beside alike =
     let new = map (moved o (k, v)) rows in
     let es = map (moved o (k, v)) (listed rows) in
     let as-listed : rows_at new order ≡ es = at-map (moved o (k, v)) rows order is.within ∙ ap (map (moved o (k, v))) is.lists in
     let each = subst (AllByRecursion (Beside o k)) is.lists (all-at (Beside o k) rows order beside is.within) in
     let up = sorted o k v (listed rows) each (entries_sorted {R = name_cmp} (finmap.from_entries rows)) in
-    let alike : (q : List ℕ) → get_name es q ≡ get_name new q = (λ q.
-    moved-names o k v (listed rows) w (listed-names rows o ∙ some) (listed-names rows k ∙ none) q
-    ∙ (λ j. cond (same o q) None (cond (same k q) (Some v) (listed-names rows q j)))
-    ∙ sym (moved-names o k v rows w some none q)) in
     record {
       within = λ i d h. let small = is.within i d h in let long = length-map rows (moved o (k, v)) in omega (arith, small, long);
       lists = as-listed ∙ listed-itself es up ∙ ap finmap.entries (reordered-loose new es alike);
     }
+
+order-stays : (rows : Rows) (order : List ℕ) (o k : List ℕ) (v w : ℕ) → IsOrderOf rows order → All (Beside o k) rows →
+    get_name rows o ≡ Some w → get_name rows k ≡ None → IsOrderOf (map (moved o (k, v)) rows) order
+order-stays rows order o k v w is beside some none = order-moved rows order o k v is beside (λ q.
+    moved-names o k v (listed rows) w (listed-names rows o ∙ some) (listed-names rows k ∙ none) q
+    ∙ (λ j. cond (same o q) None (cond (same k q) (Some v) (listed-names rows q j)))
+    ∙ sym (moved-names o k v rows w some none q))
+
+-- a row gets another number
+pub renumbered : (rows new : Rows) (order : List ℕ) (x row : Row) → IsDistinct is_alike rows → find (is_alike x) rows ≡ Some row → same row.0 x.0 ≡ true
+    → new ≡ replaced rows x → (order ≡ []) ⊎ IsOrderOf rows order → (order ≡ []) ⊎ IsOrderOf new order
+renumbered rows new order x row d found key made (inl none) = inl none
+renumbered rows new order x row d found key made (inr is) =
+    let some = found-name x rows row found key in
+    let changed = made ∙ replaced-is x rows row d found ∙ ap (λ o. map (moved o x) rows) (equal row.0 x.0 key) in
+    inr (subst (λ (es : Rows). IsOrderOf es order) (sym changed) (order-moved rows order x.0 x.0 x.1 is (λ i e h differs. (refl, refl)) (λ q.
+    moved-same x.0 x.1 (listed rows) row.1 (listed-names rows x.0 ∙ some) q
+    ∙ (λ j. cond (same x.0 q) (Some x.1) (listed-names rows q j))
+    ∙ sym (moved-same x.0 x.1 rows row.1 some q))))
 
 -- where the names have one unique part, and a colon each
 beside-info : (rows : Rows) (row : Row) (k : List ℕ) (v : ℕ) → IsDistinct is_alike rows → find (is_alike (k, v)) rows ≡ Some row →
@@ -99,13 +114,18 @@ beside-info rows row k v d found has has' = All-from_recursion (Beside row.0 k) 
 
     go : (es : Rows) → AllByRecursion (λ (e : Row). same row.0 e.0 ≡ false → is_alike (k, v) e ≡ false) es → AllByRecursion (Beside row.0 k) es
     go [] h = tt
-    go (e ∷ es) h = ((λ differs. compared e.0 k row.0 alike has' has
-        (λ one. let like : is_alike (k, v) e ≡ true = tested (unique_of k) (unique_of e.0) (sym one) in
-        let unlike : is_alike (k, v) e ≡ false = h.0 differs in cc)), go es h.1)
+    go (e ∷ es) h = (
+      (λ differs. compared e.0 k row.0 alike has' has
+          (λ one. let like : is_alike (k, v) e ≡ true = tested (unique_of k) (unique_of e.0) (sym one) in
+          let unlike : is_alike (k, v) e ≡ false = h.0 differs in cc)),
+      go es h.1,
+    )
 
-pub info-changes : (rows : Rows) (order : List ℕ) (row : Row) (k : List ℕ) (v w : ℕ) → IsOrderOf rows order → IsDistinct is_alike rows
-    → find (is_alike (k, v)) rows ≡ Some row → get_name rows row.0 ≡ Some w → get_name rows k ≡ None → list_any is_colon row.0 ≡ true
-    → list_any is_colon k ≡ true → IsOrderOf (swap_key (is_alike (k, v)) rows (k, v)) order
-info-changes rows order row k v w is d found some none has has' =
-    subst (λ (es : Rows). IsOrderOf es order) (sym (swap-is (k, v) rows row d found))
-    (order-stays rows order row.0 k v w is (beside-info rows row k v d found has has') some none)
+pub info-changes : (rows new : Rows) (order : List ℕ) (o k : List ℕ) (v w : ℕ) → IsDistinct is_alike rows → same (unique_of o) (unique_of k) ≡ true
+    → get_name rows o ≡ Some w → get_name rows k ≡ None → new ≡ replaced rows (k, v) → list_any is_colon o ≡ true → list_any is_colon k ≡ true
+    → (order ≡ []) ⊎ IsOrderOf rows order → (order ≡ []) ⊎ IsOrderOf new order
+info-changes rows new order o k v w d one some none made has has' (inl empty) = inl empty
+info-changes rows new order o k v w d one some none made has has' (inr is) =
+    let r = renamed-row rows new o k v w d one some none made in
+    let beside = beside-info rows r.0 k v d r.1 (ap (list_any is_colon) r.2 ∙ has) has' in
+    inr (subst (λ (es : Rows). IsOrderOf es order) (sym r.3) (order-stays rows order o k v w is (subst (λ (n : List ℕ). All (Beside n k) rows) r.2 beside) some none))

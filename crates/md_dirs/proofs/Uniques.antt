@@ -1,6 +1,6 @@
 -- Unique parts of names, and that names of one unique part, each with a colon, compare alike with any other name.
-use Rattle.std.proofs.Common.{ℕ, zero, suc, ◌≡◌, ◌≢◌, ◌+◌, ◌==◌, ◌++◌, ◌||◌, List, [], ◌∷◌, Bool, true, false, cond, not, length, take, nat_lt, refl, sym, ap, ◌∙◌, arith}
-use Rattle.std.proofs.lemmas.Bool.Decides.{Decides-eqb}
+use Rattle.std.proofs.Common.{ℕ, zero, suc, ◌≡◌, ◌≢◌, ◌+◌, ◌==◌, ◌<◌, ◌++◌, ◌||◌, List, [], ◌∷◌, Bool, true, false, cond, not, length, take, nat_lt, refl, sym, ap, subst, ◌∙◌, arith}
+use Rattle.std.proofs.lemmas.Bool.Decides.{Decides-eqb, Decides-ltb}
 use Rattle.std.specs.List.{list_any, position_or_len}
 use Rattle.std.specs.declared.cmp.Ordering.{Ordering}
 use Rattle.std.specs.declared.cmp.Ordering.TheVariants.{Less, Equal, Greater}
@@ -100,3 +100,23 @@ compared w a b alike has has' differs =
     ap (name_cmp w) p.1 ∙ beside w (unique_of a) p.0 q.0 (colonless-unique_of a) differs
     ∙ sym (ap (name_cmp w) (q.1 ∙ ap (λ u. u ++ 58 ∷ q.0) (sym alike))) in
     (up, name_total.antisymm a w ∙ ap ordering_reverse up ∙ sym (name_total.antisymm b w))
+
+longer : (u r : List ℕ) → length u < length (u ++ 58 ∷ r)
+longer [] r = omega arith
+longer (x ∷ u) r = let rest = longer u r in omega (arith, rest)
+
+-- a name is longer than its unique part where it has a colon
+pub told : (name : List ℕ) → nat_lt (length (unique_of name)) (length name) ≡ list_any is_colon name
+told name = elim (list_any is_colon name) as (λ b. list_any is_colon name ≡ b → nat_lt (length (unique_of name)) (length name) ≡ b) [
+  | true ↦ λ t.
+      let p = parted name t in
+      (Decides-ltb (length (unique_of name)) (length name)).1
+      (subst (λ (ys : List ℕ). length (unique_of name) < length ys) (sym p.1) (longer (unique_of name) p.0))
+  | false ↦ λ t. ap (λ (ys : List ℕ). nat_lt (length ys) (length name)) (bare name t) ∙ itself (length name)
+] refl
+  where
+    itself : (n : ℕ) → nat_lt n n ≡ false
+    itself n = elim (nat_lt n n) as (λ b. nat_lt n n ≡ b → b ≡ false) [
+      | true ↦ λ t. absurd (let lt = (Decides-ltb n n).0 t in omega (arith, lt))
+      | false ↦ λ t. refl
+    ] refl

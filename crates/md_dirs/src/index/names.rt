@@ -139,7 +139,7 @@ fn goes_last(table: &IndexSet<Named<'static>>, order: &[usize], name: &[u8]) -> 
     }
     match order.last() {
         None => true,
-        Some(last) => table.get_index(*last).unwrap().name() < name,
+        Some(last) => table.get_index(*last).unwrap().name().cmp(name).is_lt(),
     }
 }
 
@@ -153,7 +153,8 @@ fn add_row(
     ensures added { IfOk result (λ there. IfNone there ((table.new.keys ≡ table.old.keys ++ row.entry ∷ [])
         × (list_any (is_alike row.entry) table.old.keys ≡ false))) }
     ensures there { IfOk result (λ there. IfSome there (λ at. (table.new.keys ≡ table.old.keys)
-        × ((found : _) × (slice_get table.old.keys at ≡ Some found) × (is_alike row.entry found ≡ true)))) }
+        × ((found : _) × (slice_get table.old.keys at ≡ Some found) × (first_with (is_alike row.entry) table.old.keys ≡ Some found)))) }
+    ensures apart { OnOk result (IsDistinct is_alike table.new.keys) }
     ensures err { OnErr result (table.new.keys ≡ table.old.keys) }
     ensures ordered { (order.new.items ≡ []) ⊎ IsOrderOf table.new.keys order.new.items }
 {
@@ -169,6 +170,37 @@ fn add_row(
         order.clear();
     }
     Ok(None)
+}
+
+// Gives the row of a name another name of the same unique part, which no row has: whether there is such a row. Where both names have info,
+// the order stays as it is.
+fn rename_row(
+    table: &mut IndexSet<Named<'static>>,
+    order: &mut Vec<usize>,
+    alloc: Global,
+    old: &[u8],
+    new: &[u8],
+    file: usize,
+) -> Result<bool, AllocError>
+    requires free { get_name table.old.keys new.now ≡ None }
+    requires ordered { (order.old.items ≡ []) ⊎ IsOrderOf table.old.keys order.old.items }
+    ensures there { IfOk result (λ is_done. IsTrue is_done → IsSome (get_name table.old.keys old.now)) }
+    ensures names { IfOk result (λ is_done. IsTrue is_done → ((q : _) → get_name table.new.keys q
+        ≡ if bytes_eq old.now q then None else (if bytes_eq new.now q then Some file else get_name table.old.keys q))) }
+    ensures kept { IfOk result (λ is_done. is_done ≡ false → table.new.keys ≡ table.old.keys) }
+    ensures err { OnErr result (table.new.keys ≡ table.old.keys) }
+    ensures ordered { (order.new.items ≡ []) ⊎ IsOrderOf table.new.keys order.new.items }
+{
+    let unique = unique_part(new);
+    if unique_part(old) != unique || place_in(table, old).is_none() {
+        return Ok(false);
+    }
+    let row = Named::owned(Vec::from_slice(alloc, new)?, file);
+    table.replace(row)?;
+    if old.len() == unique.len() || new.len() == unique.len() {
+        order.clear();
+    }
+    Ok(true)
 }
 
 // Whether the order shows all names.
@@ -306,7 +338,7 @@ impl Names {
         if file_beside(&self.others, row.name()).is_some() {
             return Ok(false);
         }
-        let Some(there) = self.table.get(&row) else {
+        let Some((_, there)) = row_like(&self.table, &row) else {
             add_row(&mut self.table, &mut self.order, row)?;
             return Ok(true);
         };
@@ -344,16 +376,9 @@ impl Names {
         ensures ok { OnOk result (self.new ≡ finmap.remove (finmap.insert self.old new.now file) old.now) }
         ensures err { OnErr result (self.new ≡ self.old) }
     {
-        let unique = unique_part(new);
-        if unique_part(old) != unique || place_in(&self.table, old).is_none() {
+        if !rename_row(&mut self.table, &mut self.order, alloc, old, new, file)? {
             self.put(alloc, new, file)?;
             let _gone = self.take(old);
-            return Ok(());
-        }
-        let row = Named::owned(Vec::from_slice(alloc, new)?, file);
-        self.table.replace(row)?;
-        if old.len() == unique.len() || new.len() == unique.len() {
-            self.order.clear();
         }
         Ok(())
     }

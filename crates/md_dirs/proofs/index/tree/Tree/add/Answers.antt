@@ -54,16 +54,16 @@ returns-clause-ok c =
     let before = sym (read-directory u.items n.result c.index_mut-directory.result.now within c.index_mut-directory.ensures.value) ∙ grown.same n.result in
     let beside : (k : ℕ) → k ≢ n.result → directory_at es k ≡ directory_at t.items k = λ k differ. beside-set u.items n.result k d differ ∙ grown.same k in
     let by : (b : Bool) → d ≡ (if b then finmap.insert c.index_mut-directory.result.now c.into_vec.result.items c.args.file else c.index_mut-directory.result.now)
-      → names_of es ≡ (if b then finmap.insert (names_of t.items) p c.args.file else names_of t.items) = λ b.
-      elim b as (λ b. d ≡ (if b then finmap.insert c.index_mut-directory.result.now c.into_vec.result.items c.args.file else c.index_mut-directory.result.now)
-      → names_of es ≡ (if b then finmap.insert (names_of t.items) p c.args.file else names_of t.items)) [
+    → names_of es ≡ (if b then finmap.insert (names_of t.items) p c.args.file else names_of t.items) = λ b.
+    elim b as (λ b. d ≡ (if b then finmap.insert c.index_mut-directory.result.now c.into_vec.result.items c.args.file else c.index_mut-directory.result.now)
+    → names_of es ≡ (if b then finmap.insert (names_of t.items) p c.args.file else names_of t.items)) [
       | true ↦ λ is.
-        let written : d ≡ finmap.insert (directory_at t.items n.result) p.name c.args.file =
-        is ∙ (λ i. finmap.insert (before i) (c.into_vec.ensures i) c.args.file) in
-        put-names t.items es p (λ k differ. beside k (λ is. differ (is ∙ n.ensures.number))) c.args.file
-        (subst (λ (j : ℕ). directory_at es j ≡ finmap.insert (directory_at t.items j) p.name c.args.file) n.ensures.number
-        (at-set u.items n.result d within ∙ written))
+          let written : d ≡ finmap.insert (directory_at t.items n.result) p.name c.args.file =
+          is ∙ (λ i. finmap.insert (before i) (c.into_vec.ensures i) c.args.file) in
+          put-names t.items es p (λ k differ. beside k (λ is. differ (is ∙ n.ensures.number))) c.args.file
+          (subst (λ (j : ℕ). directory_at es j ≡ finmap.insert (directory_at t.items j) p.name c.args.file) n.ensures.number
+          (at-set u.items n.result d within ∙ written))
       | false ↦ λ is. same-names t.items es (λ k. by_number k n.result
-        (λ here. ap (directory_at es) here ∙ at-set u.items n.result d within ∙ is ∙ before ∙ ap (directory_at t.items) (sym here)) (beside k))
+          (λ here. ap (directory_at es) here ∙ at-set u.items n.result d within ∙ is ∙ before ∙ ap (directory_at t.items) (sym here)) (beside k))
     ] in
     rw (← c.self.view_is) (by c.in_ok-is_new.is_new c.in_ok-is_new.ensures.ok)
