@@ -23,7 +23,7 @@ invariant_of-self c =
 pub invariant_of-self-in-Continue-1 : goal.invariant_of-self-in-Continue-1
 invariant_of-self-in-Continue-1 c =
     let gap = rw c.deref.ensures.value at c.in-Err.ensures.absent in
-    rw c.in_ok-insert-in-Err.ensures.items, c.in_ok-again.ensures (sorted-insert c.self.inside.rows.items c.args.path.now c.in-Err.at c.args.file c.self.invariant gap)
+    rw (c.in_ok-insert-in-Err.ensures.items, c.in_ok-again.ensures) (sorted-insert c.self.inside.rows.items c.args.path.now c.in-Err.at c.args.file c.self.invariant gap)
 
 pub returns-in-Ok-clause-ok : goal.returns-in-Ok-clause-ok
 returns-in-Ok-clause-ok c =
