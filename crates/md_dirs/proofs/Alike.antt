@@ -1,8 +1,8 @@
 -- Rows that are told apart by the unique parts of their names: what look-ups find, and what is left as rows come, go and change.
-use Rattle.std.proofs.Common.{ℕ, zero, suc, ◌≡◌, ◌+◌, ◌<◌, ◌++◌, not, Result, Ok, Err, OnOk, OnErr, List, [], ◌∷◌, Option, Some, None, Bool, true, false, cond, ◌||◌, length, map, find, refl, sym, ap, subst, ◌∙◌, arith, get_or, slice_get, is_some, is_none, IsSome, IfNone, IfSome, swap_remove}
+use Rattle.std.proofs.Common.{ℕ, ◌≡◌, ◌+◌, ◌++◌, not, Result, Ok, Err, OnOk, OnErr, List, [], ◌∷◌, Option, Some, None, Bool, true, false, cond, ◌||◌, length, map, find, refl, sym, ap, subst, ◌∙◌, arith, slice_get, is_some, is_none, IsSome, IfNone, IfSome, swap_remove}
 use Rattle.std.proofs.lemmas.List.Elements.{recursion_from_All, All-from_recursion}
 use Rattle.std.proofs.lemmas.List.Folds.{find_at}
-use Rattle.std.proofs.lemmas.List.Sorted.{IsPermutation-swap_remove, IsPermutation-sym, IsPermutation-map, All-permutation, Contains-permutation}
+use Rattle.std.proofs.lemmas.List.Sorted.{IsPermutation-swap_remove, IsPermutation-map, All-permutation, Contains-permutation}
 use Rattle.std.proofs.lemmas.Option.{slice_get-get_or}
 use Rattle.std.proofs.lemmas.Map.{lookup-none, none_passes_from_lookup}
 use Rattle.std.proofs.lemmas.Map.Entries.{place_from_lookup, lookup_from_place}
@@ -269,15 +269,15 @@ unfolding IsDistinct
 swap-is x [] row d h = refl
 swap-is x (e ∷ rows) row d h = elim (is_alike x e) as (λ b. is_alike x e ≡ b → cond b (Some e) (find (is_alike x) rows) ≡ Some row
     → cond b (x ∷ rows) (e ∷ swap_key (is_alike x) rows x) ≡ map (moved row.0 x) (e ∷ rows)) [
-  | true ↦ λ t is.
-      let here : e ≡ row = cc in
-      let name = ap (λ (r : Row). r.0) here in
-      (λ i. cond (sym (tested row.0 e.0 (sym name)) i) x e ∷ sym (unmoved row.0 x rows (unnamed row.0 e rows name d.0)) i)
-  | false ↦ λ t is.
-      let other : same row.0 e.0 ≡ false = untrue _ (λ named.
-      let is_like : is_alike x e ≡ true = ap (λ w. same (unique_of x.0) (unique_of w)) (sym (equal row.0 e.0 named)) ∙ found-alike x rows row is in cc) in
-      (λ i. cond (sym other i) x e ∷ swap-is x rows row d.1 is i)
-] refl h
+      | true ↦ λ t is.
+          let here : e ≡ row = cc in
+          let name = ap (λ (r : Row). r.0) here in
+          (λ i. cond (sym (tested row.0 e.0 (sym name)) i) x e ∷ sym (unmoved row.0 x rows (unnamed row.0 e rows name d.0)) i)
+      | false ↦ λ t is.
+          let other : same row.0 e.0 ≡ false = untrue _ (λ named.
+          let is_like : is_alike x e ≡ true = ap (λ w. same (unique_of x.0) (unique_of w)) (sym (equal row.0 e.0 named)) ∙ found-alike x rows row is in cc) in
+          (λ i. cond (sym other i) x e ∷ swap-is x rows row d.1 is i)
+    ] refl h
 
 -- other names than those two have what they had
 moved-else : (o k : List ℕ) (v : ℕ) (es : List Row) (q : List ℕ) → same q k ≡ false → get_name (map (moved o (k, v)) es) q ≡ cond (same o q) None (get_name es q)
@@ -357,9 +357,9 @@ renamed-apart rows others new o k v none is apart q some =
     is q ∙ elim (same o q) as (λ b. cond b None (cond (same k q) (Some v) (get_name rows q)) ≡ None) [
       | true ↦ refl
       | false ↦ elim (same k q) as (λ b. same k q ≡ b → cond b (Some v) (get_name rows q) ≡ None) [
-          | true ↦ λ t. let gone : get_name others q ≡ None = ap (get_name others) (sym (equal k q t)) ∙ none in cc
-          | false ↦ λ t. apart q some
-        ] refl
+        | true ↦ λ t. let gone : get_name others q ≡ None = ap (get_name others) (sym (equal k q t)) ∙ none in cc
+        | false ↦ λ t. apart q some
+      ] refl
     ]
 
 pub renamed-view : (es fs : List Row) (o k : List ℕ) (v : ℕ) → Renamed es fs o k v
@@ -378,11 +378,11 @@ unfolding IsDistinct
 unlike-rest x [] row d h = tt
 unlike-rest x (e ∷ rows) row d h = elim (is_alike x e) as (λ b. is_alike x e ≡ b → cond b (Some e) (find (is_alike x) rows) ≡ Some row
     → AllByRecursion (λ (y : Row). same row.0 y.0 ≡ false → is_alike x y ≡ false) (e ∷ rows)) [
-  | true ↦ λ t is.
-      let here : e ≡ row = cc in
-      ((λ differs. let one : same row.0 e.0 ≡ true = tested row.0 e.0 (ap (λ (r : Row). r.0) (sym here)) in cc), others x e rows t d.0)
-  | false ↦ λ t is. ((λ differs. t), unlike-rest x rows row d.1 is)
-] refl h
+      | true ↦ λ t is.
+          let here : e ≡ row = cc in
+          ((λ differs. let one : same row.0 e.0 ≡ true = tested row.0 e.0 (ap (λ (r : Row). r.0) (sym here)) in cc), others x e rows t d.0)
+      | false ↦ λ t is. ((λ differs. t), unlike-rest x rows row d.1 is)
+    ] refl h
   where
     others : (x e : Row) (rows : List Row) → is_alike x e ≡ true → AllByRecursion (λ y. is_alike e y ≡ false) rows →
         AllByRecursion (λ (y : Row). same row.0 y.0 ≡ false → is_alike x y ≡ false) rows
@@ -396,17 +396,21 @@ unfolding IsDistinct
 found-row x [] o w d like some = cc
 found-row x (e ∷ rows) o w d like some = elim (is_alike x e) as (λ b. is_alike x e ≡ b →
     (row : Row) × (cond b (Some e) (find (is_alike x) rows) ≡ Some row) × (row.0 ≡ o)) [
-  | true ↦ λ t. (e, refl, sym (equal o e.0 (elim (same o e.0) as (λ b. cond b (Some e.1) (get_name rows o) ≡ Some w → b ≡ true) [
-      | true ↦ λ is. refl
-      | false ↦ λ is.
-          let beside : is_alike (o, 0) e ≡ true = sym (alike_equiv.congr x (o, 0) e like) ∙ t in
-          let none : get_name rows o ≡ None = none-beside (o, 0) e rows beside d.0 in cc
-    ] some)))
-  | false ↦ λ t.
-      let other : same o e.0 ≡ false = untrue _ (λ is.
-      let is_like : is_alike x e ≡ true = ap (λ u. same (unique_of x.0) (unique_of u)) (sym (equal o e.0 is)) ∙ like in cc) in
-      found-row x rows o w d.1 like (ap (λ b. cond b (Some e.1) (get_name rows o)) (sym other) ∙ some)
-] refl
+      | true ↦ λ t. (
+        e,
+        refl,
+        sym (equal o e.0 (elim (same o e.0) as (λ b. cond b (Some e.1) (get_name rows o) ≡ Some w → b ≡ true) [
+          | true ↦ λ is. refl
+          | false ↦ λ is.
+              let beside : is_alike (o, 0) e ≡ true = sym (alike_equiv.congr x (o, 0) e like) ∙ t in
+              let none : get_name rows o ≡ None = none-beside (o, 0) e rows beside d.0 in cc
+        ] some)),
+      )
+      | false ↦ λ t.
+          let other : same o e.0 ≡ false = untrue _ (λ is.
+          let is_like : is_alike x e ≡ true = ap (λ u. same (unique_of x.0) (unique_of u)) (sym (equal o e.0 is)) ∙ like in cc) in
+          found-row x rows o w d.1 like (ap (λ b. cond b (Some e.1) (get_name rows o)) (sym other) ∙ some)
+    ] refl
 
 pub found-any : (x : Row) (rows : List Row) (row : Row) → find (is_alike x) rows ≡ Some row → list_any (is_alike x) rows ≡ true
 found-any x [] row h = cc

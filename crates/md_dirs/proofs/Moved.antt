@@ -1,10 +1,9 @@
 -- A row whose info changes: the positions of the rows stay in order.
-use Rattle.std.proofs.Common.{◌⊎◌, inl, inr, ℕ, zero, suc, ◌≡◌, ◌≢◌, ◌<◌, List, [], ◌∷◌, Some, None, Bool, true, false, cond, T, length, map, find, refl, sym, ap, subst, ◌∙◌, arith, All}
+use Rattle.std.proofs.Common.{◌⊎◌, inl, inr, ℕ, ◌≡◌, ◌<◌, List, [], ◌∷◌, Some, None, true, false, cond, T, length, map, find, refl, sym, ap, subst, ◌∙◌, arith, All}
 use Rattle.std.proofs.lemmas.List.{length-map, get_or-map}
-use Rattle.std.proofs.lemmas.List.Elements.{All-tail, recursion_from_All, All-from_recursion}
+use Rattle.std.proofs.lemmas.List.Elements.{All-tail, All-from_recursion}
 use Rattle.std.proofs.lemmas.Cmp.{tied_itself}
 use Rattle.std.specs.List.{IsDistinct, AllByRecursion, list_any}
-use Rattle.std.specs.declared.cmp.Ordering.{Ordering}
 use Rattle.std.specs.declared.cmp.Ordering.TheVariants.{Less}
 use Rattle.std.specs.FinMap as finmap
 use Rattle.std.specs.FinMap.{is_sorted, entries_sorted, get-from_entries, get-entries}
@@ -29,16 +28,16 @@ module _ (o k : List ℕ) (v : ℕ) where
   pair : (e f : Row) → Beside o k e → Beside o k f → name_cmp e.0 f.0 ≡ Less → name_cmp (change e).0 (change f).0 ≡ Less
   pair e f he hf is = elim (same o e.0) as (λ b. same o e.0 ≡ b → name_cmp (cond b (k, v) e).0 (change f).0 ≡ Less) [
     | true ↦ λ t. elim (same o f.0) as (λ b. same o f.0 ≡ b → name_cmp k (cond b (k, v) f).0 ≡ Less) [
-        | true ↦ λ u.
-            let tie = tied_itself name_total o in
-            let up : name_cmp o o ≡ Less = (λ i. name_cmp (equal o e.0 t i) (equal o f.0 u i)) ∙ is in
-            cc
-        | false ↦ λ u. (hf u).1 ∙ ap (λ w. name_cmp w f.0) (equal o e.0 t) ∙ is
-      ] refl
+      | true ↦ λ u.
+          let tie = tied_itself name_total o in
+          let up : name_cmp o o ≡ Less = (λ i. name_cmp (equal o e.0 t i) (equal o f.0 u i)) ∙ is in
+          cc
+      | false ↦ λ u. (hf u).1 ∙ ap (λ w. name_cmp w f.0) (equal o e.0 t) ∙ is
+    ] refl
     | false ↦ λ t. elim (same o f.0) as (λ b. same o f.0 ≡ b → name_cmp e.0 (cond b (k, v) f).0 ≡ Less) [
-        | true ↦ λ u. (he t).0 ∙ ap (name_cmp e.0) (equal o f.0 u) ∙ is
-        | false ↦ λ u. is
-      ] refl
+      | true ↦ λ u. (he t).0 ∙ ap (name_cmp e.0) (equal o f.0 u) ∙ is
+      | false ↦ λ u. is
+    ] refl
   ] refl
 
   below : (e : Row) (es : Rows) → Beside o k e → AllByRecursion (Beside o k) es → T (below_all name_cmp e.0 es) →
@@ -114,9 +113,12 @@ beside-info rows row k v d found has has' = All-from_recursion (Beside row.0 k) 
 
     go : (es : Rows) → AllByRecursion (λ (e : Row). same row.0 e.0 ≡ false → is_alike (k, v) e ≡ false) es → AllByRecursion (Beside row.0 k) es
     go [] h = tt
-    go (e ∷ es) h = ((λ differs. compared e.0 k row.0 alike has' has
-        (λ one. let like : is_alike (k, v) e ≡ true = tested (unique_of k) (unique_of e.0) (sym one) in
-        let unlike : is_alike (k, v) e ≡ false = h.0 differs in cc)), go es h.1)
+    go (e ∷ es) h = (
+      (λ differs. compared e.0 k row.0 alike has' has
+          (λ one. let like : is_alike (k, v) e ≡ true = tested (unique_of k) (unique_of e.0) (sym one) in
+          let unlike : is_alike (k, v) e ≡ false = h.0 differs in cc)),
+      go es h.1,
+    )
 
 pub info-changes : (rows new : Rows) (order : List ℕ) (o k : List ℕ) (v w : ℕ) → IsDistinct is_alike rows → same (unique_of o) (unique_of k) ≡ true
     → get_name rows o ≡ Some w → get_name rows k ≡ None → new ≡ replaced rows (k, v) → list_any is_colon o ≡ true → list_any is_colon k ≡ true

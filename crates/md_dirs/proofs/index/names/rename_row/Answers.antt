@@ -1,4 +1,4 @@
-use Rattle.std.proofs.Common.{ℕ, List, Option, Some, None, Bool, true, false, not, is_some, ◌≡◌, ◌∙◌, sym, ap, length, refl}
+use Rattle.std.proofs.Common.{ℕ, Option, Some, None, Bool, true, false, not, is_some, ◌≡◌, ◌∙◌, sym, ap, length, refl}
 use Rattle.std.specs.Option.{option_map}
 use Rattle.md_name.specs.Names.{unique_of}
 use Rattle.md_dirs.specs.Index.{get_name}
@@ -48,6 +48,6 @@ returns-else-new-unique-clause-ordered c =
     (λ i. same (sym c.unique_part.ensures i) (sym c.unique_part-unique.ensures i))
     ∙ not-false (same c.unique_part.result.now c.unique_part-unique.result.now) (sym c.ne.ensures ∙ c.if-ne.false) in
     info-changes rows c.replace.new.self.keys c.args.order.now.items c.args.old.now c.args.new.now c.args.file some.0 c.place_in.ensures.apart one some.1
-    c.requires.free keys 
+    c.requires.free keys
     (has-colon c.args.old.now (λ e. c.if-old-unique.false (e ∙ ap length (equal (unique_of c.args.old.now) (unique_of c.args.new.now) one ∙ sym c.unique_part-unique.ensures))))
     (has-colon c.args.new.now (λ e. c.if-new-unique.false (e ∙ ap length (sym c.unique_part-unique.ensures)))) c.requires.ordered
