@@ -1,5 +1,5 @@
 -- A name that is above that of the last row in order goes behind all rows.
-use Rattle.std.proofs.Common.{◌⊎◌, inl, inr, ℕ, zero, suc, ◌≡◌, ◌+◌, ◌-◌, ◌<◌, ◌≤◌, ◌++◌, List, [], ◌∷◌, Some, None, IsTrue, length, take, refl, sym, ap, subst, ◌∙◌, arith, get_or, slice_get, insert}
+use Rattle.std.proofs.Common.{◌⊎◌, inl, inr, ℕ, zero, suc, ◌≡◌, ◌+◌, ◌-◌, ◌<◌, ◌≤◌, ◌++◌, List, [], ◌∷◌, Some, None, length, refl, sym, ap, subst, ◌∙◌, arith, get_or, slice_get}
 use Rattle.std.proofs.lemmas.List.{get_or_default}
 use Rattle.std.proofs.lemmas.List.Edits.{insert_end}
 use Rattle.std.specs.declared.cmp.Ordering.TheVariants.{Less}

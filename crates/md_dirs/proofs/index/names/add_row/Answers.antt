@@ -1,4 +1,4 @@
-use Rattle.std.proofs.Common.{inr, ◌≡◌, ◌∙◌, ◌++◌, [], ◌∷◌, sym, length}
+use Rattle.std.proofs.Common.{inr, ◌≡◌, ◌∙◌, ◌++◌, [], ◌∷◌, length}
 use Rattle.md_dirs.proofs.Alike.{insert-there, insert-new}
 use Rattle.md_dirs.proofs.Behind.{comes-last}
 use Rattle.md_dirs.proofs.index.names.add_row.Goals as goal

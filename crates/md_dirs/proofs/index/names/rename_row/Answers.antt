@@ -1,4 +1,4 @@
-use Rattle.std.proofs.Common.{ℕ, List, Option, Some, None, Bool, true, false, not, is_some, ◌≡◌, ◌∙◌, sym, ap, length, refl}
+use Rattle.std.proofs.Common.{ℕ, Option, Some, None, Bool, true, false, not, is_some, ◌≡◌, ◌∙◌, sym, ap, length, refl}
 use Rattle.std.specs.Option.{option_map}
 use Rattle.md_name.specs.Names.{unique_of}
 use Rattle.md_dirs.specs.Index.{get_name}

@@ -1,4 +1,4 @@
-use Rattle.std.proofs.Common.{◌≡◌, Some, None, ◌∙◌, sym, ap, cond}
+use Rattle.std.proofs.Common.{◌≡◌, Some, None, ◌∙◌, ap, cond}
 use Rattle.md_dirs.specs.Named.{Row}
 use Rattle.md_dirs.specs.Index.{get_name}
 use Rattle.md_dirs.proofs.NameRows.{same}

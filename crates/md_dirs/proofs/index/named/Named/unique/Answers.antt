@@ -1,5 +1,4 @@
 use Rattle.std.proofs.Common.{◌≡◌, ◌∙◌, sym, ap, take, length}
-use Rattle.md_name.specs.Names.{unique_of}
 use Rattle.md_dirs.specs.Named.{Row}
 use Rattle.md_dirs.specs.NameKey.{held_bytes}
 use Rattle.md_dirs.proofs.Uniques.{take-unique}

@@ -1,6 +1,6 @@
-use Rattle.std.proofs.Common.{Some, None, Bool, true, false, ◌≡◌, ◌∙◌, sym, ap, cond, is_some, find}
+use Rattle.std.proofs.Common.{Some, true, false, ◌≡◌, ◌∙◌, sym, ap, cond, is_some}
 use Rattle.md_dirs.specs.Index.{get_name}
-use Rattle.md_dirs.specs.Named.{Row, is_alike}
+use Rattle.md_dirs.specs.Named.{Row}
 use Rattle.md_dirs.proofs.NameRows.{same}
 use Rattle.md_dirs.proofs.Alike.{Changed, none-from, none-found, found-name, found-other, put-others, put-new, is-beside, is-in-table, is-nowhere, added-row}
 use Rattle.md_dirs.proofs.index.names.Names.add.Goals as goal

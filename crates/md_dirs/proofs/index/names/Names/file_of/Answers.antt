@@ -1,5 +1,5 @@
-use Rattle.std.proofs.Common.{Some, None, ◌≡◌, ◌∙◌, sym, ap}
-use Rattle.std.specs.Option.{option_map, option_or}
+use Rattle.std.proofs.Common.{◌∙◌, sym, ap}
+use Rattle.std.specs.Option.{option_or}
 use Rattle.md_dirs.specs.Index.{get_name}
 use Rattle.md_dirs.proofs.Alike.{get-both}
 use Rattle.md_dirs.proofs.index.names.Names.file_of.Goals as goal

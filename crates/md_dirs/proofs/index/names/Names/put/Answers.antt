@@ -1,7 +1,7 @@
-use Rattle.std.proofs.Common.{◌≡◌, ◌∙◌, sym, ap, Some, is_some, slice_get, find}
+use Rattle.std.proofs.Common.{◌≡◌, ◌∙◌, sym, ap, Some, is_some, slice_get}
 use Rattle.std.specs.Option.{option_copied}
 use Rattle.md_dirs.specs.Index.{get_name}
-use Rattle.md_dirs.specs.Named.{Row, is_alike}
+use Rattle.md_dirs.specs.Named.{Row}
 use Rattle.md_dirs.proofs.Alike.{on-ok, none-from, put-apart, put-others, put-new, put-there, found-there, found-other}
 use Rattle.md_dirs.proofs.Moved.{renumbered}
 use Rattle.md_dirs.proofs.index.names.Names.put.Goals as goal

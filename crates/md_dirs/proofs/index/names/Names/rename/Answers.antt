@@ -1,6 +1,6 @@
-use Rattle.std.proofs.Common.{◌∙◌, sym, ap}
+use Rattle.std.proofs.Common.{◌∙◌, sym}
 use Rattle.md_dirs.specs.Index.{get_name}
-use Rattle.md_dirs.proofs.Alike.{get-both, neither, other-none, renamed-rows, renamed-apart, renamed-view, other-missing}
+use Rattle.md_dirs.proofs.Alike.{get-both, neither, renamed-rows, renamed-apart, renamed-view, other-missing}
 use Rattle.md_dirs.proofs.index.names.Names.rename.Goals as goal
 
 pub rename_row-requires-clause-free : goal.rename_row-requires-clause-free

@@ -1,4 +1,4 @@
-use Rattle.std.proofs.Common.{inl, None, ◌≡◌, ◌∙◌, sym, ap}
+use Rattle.std.proofs.Common.{inl, None, ◌∙◌, sym, ap}
 use Rattle.std.specs.Option.{option_or}
 use Rattle.md_dirs.specs.Index.{get_name}
 use Rattle.md_dirs.proofs.NameRows.{taken-loose}
