@@ -8,9 +8,10 @@ use Rattle.md_dirs.proofs.index.IndexDirs.from_image.Goals as goal
 
 pub loop-file-preserved : goal.loop-file-preserved
 loop-file-preserved c = record {
-  made = one-more (bare c.args.folders) c.loop-file.loading c.put_file.new.self c.loop-file.yielded c.in-Some.file c.loop-file.invariant.made
+  made = one-more (bare c.args.folders) c.loop-file.dirs.state c.put_file.new.self.state c.loop-file.yielded c.in-Some.file c.loop-file.invariant.made
       c.in_ok-put_file.ensures.made.1;
-  accepted = one-accepted (bare c.args.folders) c.loop-file.loading c.loop-file.yielded c.in-Some.file c.loop-file.invariant.made
+  calls = c.put_file.ensures.calls ∙ c.loop-file.invariant.calls;
+  accepted = one-accepted (bare c.args.folders) c.loop-file.dirs.state c.loop-file.yielded c.in-Some.file c.loop-file.invariant.made
       c.loop-file.invariant.accepted c.in_ok-put_file.ensures.made.0;
 }
 
@@ -22,5 +23,6 @@ returns-in_err-put_file-clause-refused c =
     let turn = YieldsList-turn vec c.loop-file.yielded c.loop-file.file-iterator c.loop-file.yielded_by c.next.result c.next.new.self c.in-Some.file
     c.in-Some.is c.next.ensures.steps in
     let p = err_from_is_err_and c.from_residual.result c.from_residual.ensures.1 in
-    rw (p.1, p.2) (refused-at (bare c.args.folders) c.loop-file.loading c.loop-file.yielded c.in-Some.file c.args.image.items
-    c.in_err-put_file.field-0.0 c.loop-file.invariant.made c.loop-file.invariant.accepted so_far turn c.in_err-put_file.ensures.refused)
+    rw (p.1, p.2) (refused-at (bare c.args.folders) c.loop-file.dirs.state c.loop-file.yielded c.in-Some.file
+    c.args.image.items c.in_err-put_file.field-0.0 c.loop-file.invariant.made c.loop-file.invariant.accepted so_far turn
+    c.in_err-put_file.ensures.refused)

@@ -20,10 +20,10 @@ invariant_of-self c =
     let path = row-path rows p c.in-Ok.at c.index_mut.result.now at c.index_mut.ensures.value in
     subst Sorted (put-is rows p c.index_mut.result.now.0 c.in-Ok.at c.args.file at path) (sorted-put rows p c.args.file c.self.invariant)
 
-pub invariant_of-self-in-Continue-1 : goal.invariant_of-self-in-Continue-1
-invariant_of-self-in-Continue-1 c =
+pub invariant_of-self-in_ok-insert-in-Err : goal.invariant_of-self-in_ok-insert-in-Err
+invariant_of-self-in_ok-insert-in-Err c =
     let gap = rw c.deref.ensures.value at c.in-Err.ensures.absent in
-    rw (c.in_ok-insert-in-Err.ensures.items, c.in_ok-again.ensures) (sorted-insert c.self.inside.rows.items c.args.path.now c.in-Err.at c.args.file c.self.invariant gap)
+    rw (c.in_ok-insert-in-Err.ensures.items, c.in_ok-again-in-Err.ensures) (sorted-insert c.self.inside.rows.items c.args.path.now c.in-Err.at c.args.file c.self.invariant gap)
 
 pub returns-in-Ok-clause-ok : goal.returns-in-Ok-clause-ok
 returns-in-Ok-clause-ok c =
@@ -37,4 +37,4 @@ returns-in-Ok-clause-ok c =
 pub returns-in_ok-insert-in-Err-clause-ok : goal.returns-in_ok-insert-in-Err-clause-ok
 returns-in_ok-insert-in-Err-clause-ok c =
     let gap = rw c.deref.ensures.value at c.in-Err.ensures.absent in
-    rw (← c.self.view_is, c.in_ok-insert-in-Err.ensures.items, c.in_ok-again.ensures) (names-insert c.self.inside.rows.items c.args.path.now c.in-Err.at c.args.file c.self.invariant gap)
+    rw (← c.self.view_is, c.in_ok-insert-in-Err.ensures.items, c.in_ok-again-in-Err.ensures) (names-insert c.self.inside.rows.items c.args.path.now c.in-Err.at c.args.file c.self.invariant gap)
