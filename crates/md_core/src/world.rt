@@ -7,6 +7,7 @@ use md_jobs::Image;
 use std::alloc::Global;
 use std::marker::Model;
 
+pub(crate) mod arranging;
 pub(crate) mod call;
 pub(crate) mod checks;
 pub(crate) mod into_dirs;

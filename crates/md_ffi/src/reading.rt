@@ -137,18 +137,21 @@ fn read(held: &Held, unique: &[u8], out: &mut [u8], length: &mut usize) -> Resul
 
 #[tactic(auto, unfolding(crate::specs::Reading::name_at))]
 fn name(
-    held: &Held,
+    held: &mut Held,
     folder: u32,
     place: u32,
     at: u64,
     out: &mut [u8],
     length: &mut usize,
 ) -> Result<(), Refusal>
-    ensures { Gives (name_at held.now.world folder place at) out.old out.new length.old length.new (status_number result) }
+    ensures same { held.new.world ≡ held.old.world }
+    ensures name { Gives (name_at held.old.world folder place at) out.old out.new length.old length.new (status_number result) }
 {
     let Some(place) = place_of(place) else {
         return Err(Refusal::NoPlace);
     };
+    // Where memory is refused to this, the name is the same, later.
+    let _arranged = held.world.arrange_directory(folder, place);
     match held.world.names(folder, place, at as usize) {
         Some(row) => lay(row.name, out, length),
         None => Err(Refusal::NotThere),
@@ -171,9 +174,11 @@ pub extern "C" fn md_ffi_list(
     ensures listed { OnHeld handle.old.slot.held handle.new.slot.held result ((out.new ≡ out.old) × (length.new ≡ length.old))
         (λ run _. Gives (listed run folder) out.old out.new length.old length.new result) }
 {
-    let Some(held) = handle.take(alloc) else {
+    let Some(mut held) = handle.take(alloc) else {
         return Refusal::Closed.number();
     };
+    // Where memory is refused to this, the listing is the same, later.
+    let _arranged = held.world.arrange(folder);
     let listed = list(alloc, &held, folder, out, length);
     handle.hold(held);
     status(listed)
@@ -217,10 +222,10 @@ pub extern "C" fn md_ffi_names(
     ensures name { OnHeld handle.old.slot.held handle.new.slot.held result ((out.new ≡ out.old) × (length.new ≡ length.old))
         (λ run _. Gives (name_at run folder place at) out.old out.new length.old length.new result) }
 {
-    let Some(held) = handle.take(alloc) else {
+    let Some(mut held) = handle.take(alloc) else {
         return Refusal::Closed.number();
     };
-    let named = name(&held, folder, place, at, out, length);
+    let named = name(&mut held, folder, place, at, out, length);
     handle.hold(held);
     status(named)
 }

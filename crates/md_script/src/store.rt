@@ -154,9 +154,10 @@ impl<D: Storage> StoreSession<D> {
         ensures { Steps (in_store self.old (λ t. on_run t (list_in t.run folder))) self.new out.old.items out.new.items result }
     {
         self.open()?;
-        let Some(store) = &self.store else {
+        let Some(store) = &mut self.store else {
             unreachable!()
         };
+        store.arrange(folder);
         store.list(folder, out)
     }
 
@@ -167,6 +168,7 @@ impl<D: Storage> StoreSession<D> {
         let Some(store) = &mut self.store else {
             unreachable!()
         };
+        store.arrange(folder);
         store.first(folder)
     }
 
@@ -177,6 +179,7 @@ impl<D: Storage> StoreSession<D> {
         let Some(store) = &mut self.store else {
             unreachable!()
         };
+        store.arrange(folder);
         store.second(folder, out)
     }
 

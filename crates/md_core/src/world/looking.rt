@@ -11,6 +11,7 @@ ghost use Rattle.md_core.specs.Submitting.{uses};
 ghost use Rattle.md_core.specs.Used.{is_among};
 
 use crate::used::{NameSet, UsedNames};
+use crate::world::arranging::arrange_all;
 use md_dirs::{Dirs, Place, RowRef};
 use md_jobs::CoreError;
 use md_name::{holds_terminator, split};
@@ -153,4 +154,17 @@ pub(crate) fn look<D: Dirs>(alloc: Global, dirs: &D) -> Result<Looked, CoreError
         used: UsedNames::of(seen.messages, seen.tmp),
         clock: seen.clock,
     })
+}
+
+/// Looks at all names of directories as `look` does, and first makes the directories ready for it, so that no look at a row has to find
+/// the order of the names anew. It makes no directory call, and changes nothing that a contract sees.
+pub(crate) fn arrange_and_look<D: Dirs>(alloc: Global, dirs: &mut D) -> Result<Looked, CoreError>
+    ensures device { D.device dirs.new ≡ D.device dirs.old }
+    ensures accepted { IfOk result (λ l. load_refusal (D.device dirs.old).state ≡ None) }
+    ensures clock { IfOk result (λ l. l.clock ≡ first_clock (D.device dirs.old).state) }
+    ensures used { IfOk result (λ l. (u : _) → is_among u l.used ≡ list_any (λ e. uses u e.0) (finmap.entries (D.device dirs.old).state.names)) }
+    ensures refused { IfErr result (IsFault (load_refusal (D.device dirs.old).state)) }
+{
+    arrange_all(dirs)?;
+    look(alloc, dirs)
 }

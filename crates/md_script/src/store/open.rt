@@ -73,6 +73,13 @@ impl<D: Storage> OpenStore<D> {
         acts::finish(&mut self.world, event, out)
     }
 
+    /// Makes a folder ready to be listed. Where memory is refused to that, a listing shows the same, later.
+    pub(super) fn arrange(&mut self, folder: u32)
+        ensures { self.new ≡ self.old }
+    {
+        let _arranged = self.world.arrange(folder);
+    }
+
     /// Prints the messages of a folder.
     pub(super) fn list(&self, folder: u32, out: &mut Vec<u8>) -> Result<(), PlayKind>
         ensures { Steps (on_run self.now (list_in self.now.run folder)) self.now out.old.items out.new.items result }

@@ -5,7 +5,7 @@ ghost use Rattle.md_script.specs.Sessions.{image_of, run_over};
 
 use crate::error::PlayKind;
 use crate::storage::Storage;
-use md_core::World;
+use md_core::{World, arrange_all};
 use md_dirs::{DirError, ImageFile};
 use std::alloc::Global;
 
@@ -19,7 +19,9 @@ pub fn open_store<D: Storage>(
 ) -> Result<World<D>, PlayKind>
     ensures { Gives (λ world. world) result (run_over folders files.items) }
 {
-    let dirs = directories::<D>(alloc, folders, files)?;
+    let mut dirs = directories::<D>(alloc, folders, files)?;
+    // A world that begins looks at each name in order.
+    arrange_all(&mut dirs)?;
     match World::load(alloc, dirs) {
         Ok(world) => Ok(world),
         Err(refused) => Err(PlayKind::from(refused.error)),
