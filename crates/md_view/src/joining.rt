@@ -3,6 +3,7 @@ ghost use Rattle.std.specs.Prelude.{◌≡◌, ◌++◌, IfOk, IfErr, OnOk};
 ghost use Rattle.md_view.specs.Readings.{join_of, IsInOrder};
 ghost use Rattle.md_view.specs.declared.error.ViewError.TheVariants.{NoMemory};
 
+use crate::comparing::compare;
 use crate::entry::{Entry, EntryRef, copied, lend};
 use crate::error::ViewError;
 use std::alloc::{AllocError, Global};
@@ -43,7 +44,7 @@ pub fn join_lent<'a>(
     while from_new < new.len() && from_cur < cur.len() {
         let entry = &new[from_new];
         let other = &cur[from_cur];
-        match entry.unique().cmp(other.unique()) {
+        match compare(entry.unique(), other.unique()) {
             Ordering::Less => {
                 all.push(entry.again())?;
                 from_new += 1;
