@@ -49,9 +49,9 @@ impl Entry {
 #[derive(Drop)]
 pub struct EntryRef<'a> {
     unique: &'a [u8],
-    place: Place,
     name: &'a [u8],
     size: u64,
+    place: Place,
     // The unique name is known to be that of the name, whose colon is found by it with no look.
     is_own: bool,
 }
