@@ -1,7 +1,7 @@
 // What a listing shows of a message.
-ghost use Rattle.std.specs.Prelude.{◌≡◌, ◌<◌, IfOk, IfSome, length, position};
+ghost use Rattle.std.specs.Prelude.{◌≡◌, ◌<◌, IfOk, IfSome, length, position, true};
 ghost use Rattle.md_dirs.specs.Rows.{row_shown};
-ghost use Rattle.md_name.specs.Names.{is_colon};
+ghost use Rattle.md_name.specs.Names.{is_colon, unique_of};
 ghost use Rattle.md_view.specs.Rows.{entry_of_row};
 
 use md_dirs::{Place, RowRef};
@@ -49,9 +49,9 @@ impl Entry {
 #[derive(Drop)]
 pub struct EntryRef<'a> {
     unique: &'a [u8],
-    place: Place,
     name: &'a [u8],
     size: u64,
+    place: Place,
     // The unique name is known to be that of the name, whose colon is found by it with no look.
     is_own: bool,
 }
@@ -73,13 +73,34 @@ impl<'a> EntryRef<'a> {
     pub fn new(unique: &'a [u8], place: Place, name: &'a [u8], size: u64) -> Self
         ensures { result ≡ record { unique = unique.now; place = place; name = name.now; size = size } }
     {
+        EntryRef::known(unique, place, name, size, false)
+    }
+
+    /// The same, where it may be known that the unique name is that of the name.
+    pub(crate) fn known(
+        unique: &'a [u8],
+        place: Place,
+        name: &'a [u8],
+        size: u64,
+        is_own: bool,
+    ) -> Self
+        requires { is_own ≡ true → unique.now ≡ unique_of name.now }
+        ensures { result ≡ record { unique = unique.now; place = place; name = name.now; size = size } }
+    {
         EntryRef {
             unique,
-            place,
             name,
             size,
-            is_own: false,
+            place,
+            is_own,
         }
+    }
+
+    /// Whether the unique name is known to be that of the name.
+    pub(crate) fn is_own(&self) -> bool
+        ensures { result ≡ true → self.now.unique ≡ unique_of self.now.name }
+    {
+        self.is_own
     }
 
     /// The unique name of the message.

@@ -1,8 +1,9 @@
 // One list of what new and cur show.
-ghost use Rattle.std.specs.Prelude.{◌≡◌, ◌++◌, IfOk, IfErr, OnOk};
+ghost use Rattle.std.specs.Prelude.{◌≡◌, ◌≤◌, ◌+◌, ◌++◌, IfOk, IfErr, length, vec_len, vec_capacity};
 ghost use Rattle.md_view.specs.Readings.{join_of, IsInOrder};
 ghost use Rattle.md_view.specs.declared.error.ViewError.TheVariants.{NoMemory};
 
+use crate::comparing::compare;
 use crate::entry::{Entry, EntryRef, copied, lend};
 use crate::error::ViewError;
 use std::alloc::{AllocError, Global};
@@ -37,26 +38,26 @@ pub fn join_lent<'a>(
     ensures order { IfOk result (λ all. IsInOrder all.items) }
 {
     let mut all = Vec::new(alloc);
-    all.reserve(new.len().saturating_add(cur.len()))?;
+    all.reserve(new.len() + cur.len())?;
     let mut from_new = 0;
     let mut from_cur = 0;
     while from_new < new.len() && from_cur < cur.len() {
         let entry = &new[from_new];
         let other = &cur[from_cur];
-        match entry.unique().cmp(other.unique()) {
+        match compare(entry.unique(), other.unique()) {
             Ordering::Less => {
-                all.push(entry.again())?;
+                all.push_reserved(entry.again());
                 from_new += 1;
             }
             Ordering::Equal => from_new += 1,
             Ordering::Greater => {
-                all.push(other.again())?;
+                all.push_reserved(other.again());
                 from_cur += 1;
             }
         }
     }
-    push_all(&mut all, &new[from_new..])?;
-    push_all(&mut all, &cur[from_cur..])?;
+    push_all(&mut all, &new[from_new..]);
+    push_all(&mut all, &cur[from_cur..]);
     Ok(all)
 }
 
@@ -79,12 +80,14 @@ pub(crate) fn join_owned<'a>(
     join_lent(alloc, &new, &cur)
 }
 
-// Adds entries at the end.
-fn push_all<'a>(all: &mut Vec<EntryRef<'a>>, entries: &[EntryRef<'a>]) -> Result<(), AllocError>
-    ensures { OnOk result (all.new.items ≡ all.old.items ++ entries.now) }
+// Adds entries at the end, where there is room for them.
+fn push_all<'a>(all: &mut Vec<EntryRef<'a>>, entries: &[EntryRef<'a>])
+    requires { vec_len all.old + length entries.now ≤ vec_capacity all.old }
+    ensures items { all.new.items ≡ all.old.items ++ entries.now }
+    ensures len { vec_len all.new ≡ vec_len all.old + length entries.now }
+    ensures capacity { vec_capacity all.new ≡ vec_capacity all.old }
 {
     for entry in entries {
-        all.push(entry.again())?;
+        all.push_reserved(entry.again());
     }
-    Ok(())
 }

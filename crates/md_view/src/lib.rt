@@ -3,6 +3,7 @@
 //! A listing reads new first and cur after it, and jobs may take steps between the two. `laws` says what such a listing is good for.
 #![tactic(auto)]
 
+mod comparing;
 mod entry;
 mod error;
 mod joining;

@@ -1,5 +1,5 @@
 // Entries that own their names together.
-ghost use Rattle.std.specs.Prelude.{◌≡◌, ◌++◌, IfOk, OnOk};
+ghost use Rattle.std.specs.Prelude.{◌≡◌, IfOk, OnOk, take, length};
 ghost use Rattle.md_view.specs.Owned.{entry_of, IsWithin};
 
 use crate::entry::EntryRef;
@@ -7,33 +7,49 @@ use md_dirs::Place;
 use std::alloc::{AllocError, Global};
 use std::marker::Model;
 
-/// Where the names of an entry stand in a text: the whole name, and behind it the unique one.
+/// Where the names of an entry stand in a text: the whole name, and the unique one, which is the beginning of the name where it is known
+/// to be that of the name, and else stands behind it.
 #[derive(Debug, Clone, Copy)]
 struct Piece {
     start: usize,
     middle: usize,
+    unique: usize,
     end: usize,
-    place: Place,
     size: u64,
+    place: Place,
+    is_own: bool,
 }
 
 impl Piece {
-    // Appends the names of an entry.
+    // Appends the name of an entry, and its unique name where the name doesn't begin with it.
     fn put(text: &mut Vec<u8>, entry: &EntryRef<'_>) -> Result<Piece, AllocError>
-        ensures text { OnOk result (text.new.items ≡ (text.old.items ++ entry.now.name) ++ entry.now.unique) }
+        ensures text { OnOk result (take (length text.old.items) text.new.items ≡ text.old.items) }
         ensures within { IfOk result (IsWithin text.new.items) }
         ensures entry { IfOk result (λ piece. entry_of text.new.items piece ≡ entry.now) }
     {
         let start = text.len();
         text.extend_from_slice(entry.name())?;
         let middle = text.len();
+        if entry.is_own() {
+            return Ok(Piece {
+                start,
+                middle,
+                unique: start,
+                end: start + entry.unique().len(),
+                size: entry.size(),
+                place: entry.place(),
+                is_own: true,
+            });
+        }
         text.extend_from_slice(entry.unique())?;
         Ok(Piece {
             start,
             middle,
+            unique: middle,
             end: text.len(),
-            place: entry.place(),
             size: entry.size(),
+            place: entry.place(),
+            is_own: false,
         })
     }
 
@@ -42,14 +58,13 @@ impl Piece {
         requires { IsWithin text.now self }
         ensures { result ≡ entry_of text.now self }
     {
-        let Piece {
-            start,
-            middle,
-            end,
-            place,
-            size,
-        } = self;
-        EntryRef::new(&text[middle..end], place, &text[start..middle], size)
+        EntryRef::known(
+            &text[self.unique..self.end],
+            self.place,
+            &text[self.start..self.middle],
+            self.size,
+            self.is_own,
+        )
     }
 }
 
@@ -98,11 +113,16 @@ impl Owned {
     }
 }
 
-// How many bytes the names of entries have.
+// How many bytes the names of entries take in a text.
 fn length_of(entries: &[EntryRef<'_>]) -> usize {
     let mut bytes: usize = 0;
     for entry in entries {
-        bytes = bytes.saturating_add(entry.name().len() + entry.unique().len());
+        let behind = if entry.is_own() {
+            0
+        } else {
+            entry.unique().len()
+        };
+        bytes = bytes.saturating_add(entry.name().len() + behind);
     }
     bytes
 }

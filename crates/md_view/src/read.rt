@@ -7,6 +7,7 @@ ghost use Rattle.md_core.specs.Runs.{dirs_of};
 ghost use Rattle.md_view.specs.Readings.{reading_of, IsInOrder, reading_refusal};
 ghost use Rattle.md_view.specs.Rows.{entries_of, IsBehind};
 
+use crate::comparing::compare;
 use crate::entry::{Entry, EntryRef, copied};
 use crate::error::ViewError;
 use md_core::World;
@@ -117,7 +118,7 @@ fn is_behind(all: &[EntryRef<'_>], entry: &EntryRef<'_>) -> bool
     ensures { IsTrue result → IsBehind all.now entry.now }
 {
     match all.last() {
-        Some(last) => last.unique().cmp(entry.unique()).is_lt(),
+        Some(last) => compare(last.unique(), entry.unique()).is_lt(),
         None => true,
     }
 }

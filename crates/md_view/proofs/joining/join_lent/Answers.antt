@@ -16,7 +16,7 @@ returns-clause-entries c =
       | else-loop-from_new-test w ↦ ended-new new cur i j (omega (arith, w.loop-from_new-test.false))
     ] in
     whole-join new cur c.loop-from_new.all.items c.push_all.new.all.items c.push_all-2.new.all.items i j (ordered _ c.requires.new) (ordered _ c.requires.cur)
-    c.loop-from_new.invariant.merges ended c.in_ok-push_all.ensures c.in_ok-push_all-2.ensures
+    c.loop-from_new.invariant.merges ended c.push_all.ensures.items c.push_all-2.ensures.items
 
 pub returns-clause-order : goal.returns-clause-order
 returns-clause-order c =
