@@ -2,6 +2,7 @@
 ghost use Rattle.std.specs.Prelude.{◌≡◌, ◌++◌, ◌∷◌, [], OnOk};
 ghost use Rattle.std.specs.Fmt.{decimal, signed_decimal};
 
+use crate::few::push_two;
 use itoa::{Buffer, write_digits};
 use std::alloc::AllocError;
 
@@ -27,10 +28,9 @@ pub(crate) fn push_number(out: &mut Vec<u8>, number: u64) -> Result<(), AllocErr
 pub(crate) fn push_number_and(out: &mut Vec<u8>, number: u64, behind: u8) -> Result<(), AllocError>
     ensures { OnOk result (out.new.items ≡ out.old.items ++ decimal number ++ behind ∷ []) }
 {
-    // One digit and the byte are pushed, with no buffer to print in.
+    // One digit and the byte are two bytes, with no buffer to print in.
     if number < 10 {
-        push_number(out, number)?;
-        return Ok(out.push(behind)?);
+        return push_two(out, b'0' + number as u8, behind);
     }
     // The digits come in front of the last byte.
     let mut digits = [behind; MOST_DIGITS + 1];

@@ -1,5 +1,5 @@
 //! Few bytes, appended.
-ghost use Rattle.std.specs.Prelude.{◌≡◌, ◌++◌, OnOk};
+ghost use Rattle.std.specs.Prelude.{◌≡◌, ◌++◌, ◌∷◌, [], OnOk, codes};
 
 use std::alloc::AllocError;
 
@@ -10,5 +10,43 @@ pub(crate) fn push_few(out: &mut Vec<u8>, bytes: &[u8]) -> Result<(), AllocError
     for byte in bytes {
         out.push(*byte)?;
     }
+    Ok(())
+}
+
+/// Appends two bytes, with one look for room.
+pub(crate) fn push_two(out: &mut Vec<u8>, first: u8, second: u8) -> Result<(), AllocError>
+    ensures { OnOk result (out.new.items ≡ out.old.items ++ first ∷ second ∷ []) }
+{
+    out.reserve(2)?;
+    out.push_reserved(first);
+    out.push_reserved(second);
+    Ok(())
+}
+
+/// Appends a byte between two spaces, with one look for room.
+pub(crate) fn push_spaced_byte(out: &mut Vec<u8>, byte: u8) -> Result<(), AllocError>
+    ensures { OnOk result (out.new.items ≡ out.old.items ++ codes " " ++ byte ∷ codes " ") }
+{
+    out.reserve(3)?;
+    out.push_reserved(b' ');
+    out.push_reserved(byte);
+    out.push_reserved(b' ');
+    Ok(())
+}
+
+/// Appends a word of three letters and a space, with one look for room.
+pub(crate) fn push_word(
+    out: &mut Vec<u8>,
+    first: u8,
+    second: u8,
+    third: u8,
+) -> Result<(), AllocError>
+    ensures { OnOk result (out.new.items ≡ out.old.items ++ first ∷ second ∷ third ∷ codes " ") }
+{
+    out.reserve(4)?;
+    out.push_reserved(first);
+    out.push_reserved(second);
+    out.push_reserved(third);
+    out.push_reserved(b' ');
     Ok(())
 }

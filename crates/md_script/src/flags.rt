@@ -1,11 +1,11 @@
 //! The flags of a message, as they print.
-ghost use Rattle.std.specs.Prelude.{ℕ, suc, ◌≡◌, ◌<◌, ◌++◌, length, position, slice_index, IfSome, IsTrue, OnOk};
+ghost use Rattle.std.specs.Prelude.{ℕ, suc, ◌≡◌, ◌<◌, ◌++◌, length, position, slice_index, IfSome, IsTrue, OnOk, codes};
 ghost use Rattle.std.specs.List.{list_all};
 ghost use Rattle.md_name.specs.Letters.{is_letter, spelling};
 ghost use Rattle.md_name.specs.Names.{is_colon, split_of, flags_of, info_by};
 ghost use Rattle.md_script.specs.Texts.{letters_text, flags_by, flags_text};
 
-use crate::few::push_few;
+use crate::few::{push_few, push_spaced_byte};
 use md_name::{Flags, Info, split};
 use std::alloc::AllocError;
 
@@ -15,19 +15,24 @@ const NO_FLAGS: u8 = b'-';
 /// What other info than flags prints as.
 const OTHER_INFO: u8 = b'?';
 
-/// Appends the flags of a message by its name, whose first colon is there, or that its info is other than flags.
-pub(crate) fn push_flags(
+/// Appends the flags of a message by its name, whose first colon is there, or that its info is other than flags: between two spaces, which
+/// are appended with them at once where there is one flag or none.
+pub(crate) fn push_spaced_flags(
     out: &mut Vec<u8>,
     name: &[u8],
     colon: Option<usize>,
 ) -> Result<(), AllocError>
     requires colon { colon ≡ position is_colon name.now }
     requires within { IfSome colon (λ at. at < length name.now) }
-    ensures { OnOk result (out.new.items ≡ out.old.items ++ flags_text (flags_by (split_of name.now))) }
+    ensures { OnOk result (out.new.items ≡ out.old.items ++ codes " " ++ flags_text (flags_by (split_of name.now)) ++ codes " ") }
 {
     match written_flags(name, colon) {
-        Some(letters) => push_spelled(out, letters),
-        None => push_read_flags(out, name),
+        Some(letters) => push_spaced(out, letters),
+        None => {
+            out.push(b' ')?;
+            push_read_flags(out, name)?;
+            Ok(out.push(b' ')?)
+        }
     }
 }
 
@@ -59,14 +64,19 @@ pub(crate) fn push_letters(out: &mut Vec<u8>, flags: Flags) -> Result<(), AllocE
     Ok(())
 }
 
-/// Appends letters, and a hyphen where there are none.
-fn push_spelled(out: &mut Vec<u8>, letters: &[u8]) -> Result<(), AllocError>
-    ensures { OnOk result (out.new.items ≡ out.old.items ++ letters_text letters.now) }
+/// Appends letters, and a hyphen where there are none, between two spaces.
+fn push_spaced(out: &mut Vec<u8>, letters: &[u8]) -> Result<(), AllocError>
+    ensures { OnOk result (out.new.items ≡ out.old.items ++ codes " " ++ letters_text letters.now ++ codes " ") }
 {
-    if letters.is_empty() {
-        out.push(NO_FLAGS)?;
+    match letters {
+        [] => push_spaced_byte(out, NO_FLAGS),
+        [letter] => push_spaced_byte(out, *letter),
+        _ => {
+            out.push(b' ')?;
+            push_few(out, letters)?;
+            Ok(out.push(b' ')?)
+        }
     }
-    push_few(out, letters)
 }
 
 /// The letters of a message's flags where they stand in its name as they print: in ASCII order, each once. They nearly always do, and

@@ -3,7 +3,8 @@ ghost use Rattle.std.specs.Prelude.{◌≡◌, ◌++◌, OnOk, codes};
 ghost use Rattle.md_script.specs.Texts.{place_text, entry_line, entries_text};
 
 use crate::digits::push_number_and;
-use crate::flags::push_flags;
+use crate::few::push_word;
+use crate::flags::push_spaced_flags;
 use md_dirs::Place;
 use md_view::{Entry, EntryRef};
 use std::alloc::AllocError;
@@ -40,20 +41,18 @@ fn push_entry(out: &mut Vec<u8>, entry: &EntryRef<'_>) -> Result<(), AllocError>
 {
     push_place(out, entry.place())?;
     out.extend_from_slice(entry.unique())?;
-    out.push(b' ')?;
-    push_flags(out, entry.name(), entry.colon())?;
-    out.push(b' ')?;
+    push_spaced_flags(out, entry.name(), entry.colon())?;
     push_number_and(out, entry.size(), b'\n')
 }
 
-/// Appends the name of a directory of a maildir, and a space. Four bytes whose number is known are copied at once.
+/// Appends the name of a directory of a maildir, and a space.
 fn push_place(out: &mut Vec<u8>, place: Place) -> Result<(), AllocError>
     ensures { OnOk result (out.new.items ≡ out.old.items ++ place_text place ++ codes " ") }
 {
     match place {
-        Place::Tmp => out.extend_from_slice(b"tmp "),
-        Place::New => out.extend_from_slice(b"new "),
-        Place::Cur => out.extend_from_slice(b"cur "),
+        Place::Tmp => push_word(out, b't', b'm', b'p'),
+        Place::New => push_word(out, b'n', b'e', b'w'),
+        Place::Cur => push_word(out, b'c', b'u', b'r'),
     }
 }
 
