@@ -93,7 +93,14 @@ fn position(names: &[Vec<u8>], name: &[u8]) -> Option<usize>
     ensures value { result ≡ position (λ other. bytes_eq other.items name.now) names.now }
     ensures within { IfSome result (λ at. at < length names.now) }
 {
-    names.iter().position(|other| other.as_slice() == name)
+    names.iter().position(|other| is_same(other, name))
+}
+
+/// Whether two names are the same. Those of a script mostly differ in their last byte, which is looked at first.
+fn is_same(first: &[u8], second: &[u8]) -> bool
+    ensures { result ≡ bytes_eq first.now second.now }
+{
+    first.last() == second.last() && first == second
 }
 
 fn has_barred(name: &[u8]) -> bool

@@ -58,7 +58,7 @@ fn lends_from<D: Dirs>(
     Ok(())
 }
 
-/// Fills directories, lists them, and looks from positions about the ends of blocks.
+/// Fills directories, and looks at their rows before a listing and after it, from positions about those that are lent at once.
 pub fn lend_all<D: Dirs>(
     rt: &impl Abort,
     model: &mut Model,
@@ -67,6 +67,7 @@ pub fn lend_all<D: Dirs>(
     most: usize,
 ) -> Result<(), DirError> {
     fill(rt, model, dirs, count)?;
+    lends_from(rt, model, dirs, 0, most)?;
     let path = numbered(model.alloc, b"", 0, 0, b"")?;
     play_call(rt, model, dirs, Kind::List, &path, &path);
     assert!(rt;

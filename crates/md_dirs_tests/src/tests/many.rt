@@ -1,4 +1,4 @@
-// Many names in one directory of hashed directories: blocks of its order fill, are halved and are emptied.
+// Many names in one directory of hashed directories, whose order is made now and then.
 use super::cases::{Case, Ends, play};
 use super::model::Model;
 use super::numbers::random;
@@ -6,6 +6,9 @@ use super::{Call, Kind, numbered};
 use md_dirs::{DirError, Dirs, IndexDirs, Path, Place};
 use std::alloc::{AllocError, Global};
 use std::process::Abort;
+
+// So many names at most are looked at by their positions also where their order isn't made.
+const FEW: u32 = 40;
 
 // The path of a number. There are four shapes: alike in more than 16 bytes, shorter than that, and with bytes 0 or 255 in front; and each
 // comes with a byte 0 behind it too, so that a short name and a longer one have one sort key.
@@ -101,8 +104,6 @@ fn change<D: Dirs>(
         number
     };
     play_call(rt, model, dirs, kind, &path, &path_of(model.alloc, other)?);
-    let at = (random(state) % names) as usize;
-    assert!(rt; model.shows(dirs, 0, Place::Cur, at));
     Ok(())
 }
 
@@ -116,7 +117,13 @@ pub fn changes<D: Dirs>(
     let mut state = 20261125u64;
     for step in 1..=steps {
         change(rt, model, dirs, &mut state, names)?;
-        assert!(rt; step % 1000 != 1 && step != steps || model.is_alike_in(dirs, 0, Place::Cur));
+        let at = (random(&mut state) % names.max(1)) as usize;
+        assert!(rt; names > FEW || model.shows(dirs, 0, Place::Cur, at));
+        let is_few = names <= FEW && step % 3 == 0;
+        if is_few || step % 1000 == 1 || step == steps {
+            dirs.arrange(0, Place::Cur)?;
+            assert!(rt; model.is_alike_in(dirs, 0, Place::Cur));
+        }
     }
     Ok(())
 }
@@ -134,6 +141,9 @@ fn take<D: Dirs>(
     let path = numbered(model.alloc, row.name, 0, 0, b"")?;
     let third = model.plain.count(0, Place::Cur) / 3;
     play_call(rt, model, dirs, Kind::Unlink, &path, &path);
+    if third > FEW as usize {
+        dirs.arrange(0, Place::Cur)?;
+    }
     assert!(rt; model.shows(dirs, 0, Place::Cur, at) && model.shows(dirs, 0, Place::Cur, third));
     Ok(())
 }
@@ -178,6 +188,7 @@ pub fn find_all<D: Dirs>(
         let path = message_of(model.alloc, number, random(&mut state))?;
         play_call(rt, model, dirs, Kind::Create, &path, &path);
     }
+    dirs.arrange(0, Place::Cur)?;
     assert!(rt; model.is_alike_in(dirs, 0, Place::Cur));
     for number in 0..count {
         let path = unique_of(model.alloc, number)?;
@@ -203,9 +214,9 @@ fn random_changes_keep_the_order(rt: HostRuntime) {
     }
 }
 
-// As many names as a block holds, one more or less, and the like of two and three blocks.
+// As many names as are lent at once, one more or less, and the like of two and three times as many.
 #[test]
-fn blocks_are_filled_and_emptied(rt: HostRuntime) {
+fn directories_are_filled_and_emptied(rt: HostRuntime) {
     for count in [1, 2, 127, 128, 129, 255, 256, 257, 384, 511, 512, 513, 769] {
         for ends in [Ends::First, Ends::Last, Ends::Middle] {
             play_hashed(&rt, rt.alloc(), Case::Emptied(count, ends));
