@@ -26,7 +26,7 @@ impl<D: Dirs> World<D> {
 }
 
 /// Makes the directories of all folders ready for a look at each of their names, tmp among them, as `World::arrange` makes a folder ready
-/// to be listed. `World::load` looks at them so: directories that changed since are to be arranged before it.
+/// to be listed: called before `World::load`, it makes the order that the look of a beginning world and the first listing go by.
 pub fn arrange_all<D: Dirs>(dirs: &mut D) -> Result<(), AllocError>
     ensures { D.device dirs.new ≡ D.device dirs.old }
 {

@@ -23,8 +23,8 @@ impl<D: Dirs> World<D> {
     /// A world over directories. Its clock begins at the greatest stamp of their files, in seconds, or at 0.
     ///
     /// Every name is looked at, by folder, then tmp, new and cur, then name. The first fault is the refusal: `BadName`, `LongUnique` and
-    /// `DuplicateUnique`, in this order at one name. `NoMemory` may come in place of any of these. The directories come back, just as they
-    /// were: so `load` doesn't arrange them. Directories that changed since they were arranged are looked at slowly (`arrange_all`).
+    /// `DuplicateUnique`, in this order at one name. `NoMemory` may come in place of any of these. The directories come back.
+    /// Names whose order isn't made are sorted once for the look, and once more at the first listing: `arrange_all` makes it for both.
     pub fn load(alloc: Global, dirs: D) -> Result<World<D>, LoadRefused<D>>
         ensures ok { IfOk result (λ w. w ≡ new_run (D.device dirs)) }
         ensures accepted { OnOk result (load_refusal (D.device dirs).state ≡ None) }

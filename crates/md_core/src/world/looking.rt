@@ -11,7 +11,6 @@ ghost use Rattle.md_core.specs.Submitting.{uses};
 ghost use Rattle.md_core.specs.Used.{is_among};
 
 use crate::used::{NameSet, UsedNames};
-use crate::world::arranging::arrange_all;
 use md_dirs::{Dirs, Place, RowRef};
 use md_jobs::CoreError;
 use md_name::{holds_terminator, split};
@@ -119,20 +118,30 @@ fn is_bad(name: &[u8]) -> bool
     name.is_empty() || name.len() > MOST_NAME_BYTES || holds_separator(name)
 }
 
-// Looks at all names of a directory.
-fn look_in<D: Dirs>(dirs: &D, folder: u32, place: Place, seen: &mut Seen) -> Result<(), CoreError>
+// Looks at all names of a directory, some at a time, as it lends them: so one whose order isn't made is sorted once.
+fn look_in<D: Dirs>(
+    alloc: Global,
+    dirs: &D,
+    folder: u32,
+    place: Place,
+    seen: &mut Seen,
+) -> Result<(), CoreError>
     requires { IsLookOf (D.device dirs.now).state (entries_before (D.device dirs.now).state folder (place_index place)) seen.old }
     ensures ok { OnOk result (IsLookOf (D.device dirs.now).state (entries_before (D.device dirs.now).state folder (place_index place + 1)) seen.new) }
     ensures refused { IfErr result (IsFault (load_refusal (D.device dirs.now).state)) }
 {
-    for at in 0..usize::MAX {
-        let Some(row) = dirs.row_at(folder, place, at) else {
+    let mut at = 0usize;
+    loop {
+        let rows = dirs.rows_from(alloc, folder, place, at)?;
+        if rows.is_empty() {
             return Ok(());
-        };
-        seen.add(place, row)?;
+        }
+        for row in 0..rows.len() {
+            seen.add(place, rows[row])?;
+        }
+        // No memory holds more names than can be counted.
+        at = at.checked_add(rows.len()).ok_or(CoreError::NoMemory)?;
     }
-    // No memory holds so many names.
-    Err(CoreError::NoMemory)
 }
 
 /// Looks at all names of directories, by folder, then tmp, new and cur, then by the order of names. It makes no directory call.
@@ -146,25 +155,12 @@ pub(crate) fn look<D: Dirs>(alloc: Global, dirs: &D) -> Result<Looked, CoreError
 {
     let mut seen = Seen::for_names(alloc, dirs)?;
     for folder in 0..dirs.folders() {
-        look_in(dirs, folder, Place::Tmp, &mut seen)?;
-        look_in(dirs, folder, Place::New, &mut seen)?;
-        look_in(dirs, folder, Place::Cur, &mut seen)?;
+        look_in(alloc, dirs, folder, Place::Tmp, &mut seen)?;
+        look_in(alloc, dirs, folder, Place::New, &mut seen)?;
+        look_in(alloc, dirs, folder, Place::Cur, &mut seen)?;
     }
     Ok(Looked {
         used: UsedNames::of(seen.messages, seen.tmp),
         clock: seen.clock,
     })
-}
-
-/// Looks at all names of directories as `look` does, and first makes the directories ready for it, so that no look at a row has to find
-/// the order of the names anew. It makes no directory call, and changes nothing that a contract sees.
-pub(crate) fn arrange_and_look<D: Dirs>(alloc: Global, dirs: &mut D) -> Result<Looked, CoreError>
-    ensures device { D.device dirs.new ≡ D.device dirs.old }
-    ensures accepted { IfOk result (λ l. load_refusal (D.device dirs.old).state ≡ None) }
-    ensures clock { IfOk result (λ l. l.clock ≡ first_clock (D.device dirs.old).state) }
-    ensures used { IfOk result (λ l. (u : _) → is_among u l.used ≡ list_any (λ e. uses u e.0) (finmap.entries (D.device dirs.old).state.names)) }
-    ensures refused { IfErr result (IsFault (load_refusal (D.device dirs.old).state)) }
-{
-    arrange_all(dirs)?;
-    look(alloc, dirs)
 }

@@ -8,7 +8,7 @@ ghost use Rattle.md_core.specs.Tracing.{trace_of};
 use crate::jobs::job::Job;
 use crate::world::World;
 use crate::world::log::Log;
-use crate::world::looking::arrange_and_look;
+use crate::world::looking::look;
 use md_dirs::Dirs;
 use md_jobs::{CoreError, Image, JobId};
 use thiserror::Error;
@@ -45,7 +45,7 @@ impl<D: Dirs> World<D> {
     ///
     /// It is refused as `Unanswered`, with the first such job, where a job has no answer; else only as `NoMemory`, where a growth is
     /// refused. The world then comes back as it was. Every name is looked at once, as in `load`, and no directory call is made.
-    pub fn settle(mut self) -> Result<World<D>, SettleRefused<D>>
+    pub fn settle(self) -> Result<World<D>, SettleRefused<D>>
         ensures ok { IfOk result (λ w. w ≡ settled self) }
         ensures answered { OnOk result (first_unanswered self ≡ None) }
         ensures theorem { IfOk result (λ w. Interleaves (trace_of w)) }
@@ -58,7 +58,7 @@ impl<D: Dirs> World<D> {
                 world: self,
             });
         }
-        match arrange_and_look(self.alloc, &mut self.dirs) {
+        match look(self.alloc, &self.dirs) {
             Ok(looked) => {
                 let World {
                     alloc,

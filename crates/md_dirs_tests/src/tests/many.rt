@@ -10,6 +10,9 @@ use std::process::Abort;
 // So many names at most are looked at by their positions also where their order isn't made.
 const FEW: u32 = 40;
 
+// So many at most, each time that one goes.
+const FEWEST: usize = 12;
+
 // The path of a number. There are four shapes: alike in more than 16 bytes, shorter than that, and with bytes 0 or 255 in front; and each
 // comes with a byte 0 behind it too, so that a short name and a longer one have one sort key.
 fn path_of(alloc: Global, number: u32) -> Result<Path, AllocError> {
@@ -128,7 +131,8 @@ pub fn changes<D: Dirs>(
     Ok(())
 }
 
-// Takes the name at a position away. The rows there, and at a third, are right.
+// Takes the name at a position away. The rows there, and at a third, are right: looked at now and then, once the order is made, and always
+// where few are left.
 fn take<D: Dirs>(
     rt: &impl Abort,
     model: &mut Model,
@@ -139,12 +143,15 @@ fn take<D: Dirs>(
         return Err(DirError::NotFound);
     };
     let path = numbered(model.alloc, row.name, 0, 0, b"")?;
-    let third = model.plain.count(0, Place::Cur) / 3;
+    let left = model.plain.count(0, Place::Cur);
     play_call(rt, model, dirs, Kind::Unlink, &path, &path);
-    if third > FEW as usize {
+    if left > FEWEST && left % FEWEST != 0 {
+        return Ok(());
+    }
+    if left > FEWEST {
         dirs.arrange(0, Place::Cur)?;
     }
-    assert!(rt; model.shows(dirs, 0, Place::Cur, at) && model.shows(dirs, 0, Place::Cur, third));
+    assert!(rt; model.shows(dirs, 0, Place::Cur, at) && model.shows(dirs, 0, Place::Cur, left / 3));
     Ok(())
 }
 

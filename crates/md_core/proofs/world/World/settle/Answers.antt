@@ -8,7 +8,7 @@ invariant_of-result g c =
     let s = c.self.inside in
     let first = g.D.Dirs.device s.image.value in
     let held = g.D.Dirs.device s.dirs in
-    rw (c.of.ensures, c.in-Ok.ensures.device, c.new.ensures.items, c.new-in-Ok.ensures.0, c.new-in-Ok.ensures.1, c.new-in-Ok.ensures.2)
+    rw (c.of.ensures, c.new.ensures.items, c.new-in-Ok.ensures.0, c.new-in-Ok.ensures.1, c.new-in-Ok.ensures.2)
     (settled-world first s.began s.jobs.items s.log.events.items s.log.marks.items held s.clock s.log.effects.items s.used c.self.invariant
     c.in-Ok.looked.used c.in-Ok.ensures.used)
 
@@ -17,7 +17,7 @@ returns-in-Ok-clause-theorem g c =
     let s = c.self.inside in
     let first = g.D.Dirs.device s.image.value in
     let held = g.D.Dirs.device s.dirs in
-    rw (c.of.ensures, c.in-Ok.ensures.device, c.new.ensures.items, c.new-in-Ok.ensures.0)
+    rw (c.of.ensures, c.new.ensures.items, c.new-in-Ok.ensures.0)
     (interleaves _ (settled-world first s.began s.jobs.items s.log.events.items s.log.marks.items held s.clock s.log.effects.items s.used c.self.invariant
     c.in-Ok.looked.used c.in-Ok.ensures.used).run)
 
