@@ -38,6 +38,14 @@ impl<D: Dirs> NotedDirs<D> {
     {
         self.noted.as_ref()
     }
+
+    /// The directory that was listed, where the call that was made last is a listing.
+    pub fn listed(&self) -> Option<(u32, Place)> {
+        match &self.noted {
+            Some(Asked::List { folder, place }) => Some((*folder, *place)),
+            _ => None,
+        }
+    }
 }
 
 // Keeps a note in the place of the last, or none where memory was refused to it. The last is let go here alone, since that is proved anew
@@ -172,6 +180,11 @@ impl<D: Dirs> Dirs for NotedDirs<D> {
         from: usize,
     ) -> Result<Vec<RowRef<'_>>, AllocError> {
         self.dirs.rows_from(alloc, folder, place, from)
+    }
+
+    // No line of a log tells of it: it is no call.
+    fn arrange(&mut self, folder: u32, place: Place) -> Result<(), AllocError> {
+        self.dirs.arrange(folder, place)
     }
 
     fn count(&self, folder: u32, place: Place) -> usize {

@@ -11,9 +11,20 @@ use crate::noted::NotedDirs;
 use crate::rows::{Form, push_rows, push_states};
 use crate::steps::{push_begin, push_call};
 use md_core::{Answer, Call, Event, StepOut, World};
-use md_dirs::IndexDirs;
+use md_dirs::{Dirs, IndexDirs, Place};
 use md_script::{Command, PlayKind};
 use std::alloc::Global;
+
+// Makes all directories of a world ready to show their rows in order.
+fn arrange_all<D: Dirs>(world: &mut World<D>)
+    ensures { world.new ≡ world.old }
+{
+    let folders = world.folders();
+    for folder in 0..folders {
+        let _tmp = world.arrange_directory(folder, Place::Tmp);
+        let _others = world.arrange(folder);
+    }
+}
 
 /// A world whose directories note their calls, what the answer of each job is about, and the folders of which a first reading is kept.
 #[derive(Drop)]
@@ -88,8 +99,21 @@ impl Store {
             Ok(shown) => shown,
             Err(error) => return Err(PlayKind::from(error)),
         };
+        self.arrange();
         self.log_step(event, shown, log);
         log.taken()
+    }
+
+    // Makes ready what the log of a step shows in order: the directory that was listed, or all, where each step shows them. Where memory is
+    // refused to that, the log is the same, later.
+    fn arrange(&mut self)
+        ensures { self.new.world ≡ self.old.world }
+    {
+        if self.with_states {
+            arrange_all(&mut self.world);
+        } else if let Some((folder, place)) = self.world.dirs().listed() {
+            let _arranged = self.world.arrange_directory(folder, place);
+        }
     }
 
     /// Takes steps of a job until it is answered, and logs them.

@@ -2,7 +2,7 @@
 use super::fixtures::lists;
 use md_dirs::{DirError, Dirs, Path, Place, PlainDirs, Row, RowRef};
 use md_store::{Naming, Pass, Store};
-use std::alloc::Global;
+use std::alloc::{AllocError, Global};
 use std::sync::Arc;
 use std::sync::atomic::{AtomicBool, Ordering};
 use std::thread;
@@ -93,6 +93,10 @@ impl Dirs for Gated {
 
     fn row_at(&self, folder: u32, place: Place, at: usize) -> Option<RowRef<'_>> {
         self.dirs.row_at(folder, place, at)
+    }
+
+    fn arrange(&mut self, folder: u32, place: Place) -> Result<(), AllocError> {
+        self.dirs.arrange(folder, place)
     }
 
     fn read(&self, folder: u32, place: Place, name: &[u8]) -> Option<&[u8]> {
