@@ -46,5 +46,7 @@ pub fn deliver(
     if world.answer(job) != Some(Answer::Delivered) {
         bail!("not delivered");
     }
+    // A refusal only makes the listing slower.
+    let _arranged = world.arrange(0);
     Ok(list(alloc, world, 0)?)
 }
