@@ -1,5 +1,5 @@
-// Rows that are lent many at once, in directories about as big as a block of positions. No clause says that hashed directories lend those of a
-// whole block, also behind a call that may fail.
+// Rows that are lent many at once, in directories about as big as what is lent at once. No clause says that hashed directories lend so many,
+// also behind a call that may fail.
 use super::cases::{Case, play};
 use super::many::play_call;
 use super::model::{Model, is_same};
@@ -85,12 +85,12 @@ pub fn lend_all<D: Dirs>(
 fn rows_are_lent_as_they_are_listed(rt: HostRuntime) {
     for count in [0, 1, 255, 256, 257, 1000] {
         let one_each = Case::Lent(count, count as usize);
-        let blocks = Case::Lent(count, count as usize / 128 + 1);
+        let many_each = Case::Lent(count, count as usize / 128 + 1);
         let mut plain = PlainDirs::new(rt.alloc(), 2);
         play(&rt, rt.alloc(), &mut plain, one_each, 0);
         let mut hashed = IndexDirs::new(rt.alloc(), 2);
-        play(&rt, rt.alloc(), &mut hashed, blocks, 0);
+        play(&rt, rt.alloc(), &mut hashed, many_each, 0);
         let mut hashed = FailAt::new(IndexDirs::new(rt.alloc(), 2), 0);
-        play(&rt, rt.alloc(), &mut hashed, blocks, 0);
+        play(&rt, rt.alloc(), &mut hashed, many_each, 0);
     }
 }
