@@ -1,14 +1,14 @@
 -- What the code's steps on a word do to the set of its letters.
 use Rattle.std.proofs.Common.{◌≡◌, ◌≤◌, ◌≢◌, ◌++◌, List, [], ◌∷◌, ℕ, zero, suc, cond, length, get_or, take, ◌+◌, ◌-◌, ◌*◌, ◌/◌, ◌%◌, ◌^◌, ◌<◌, Bool, true, false, ◌&&◌, ◌||◌, not, refl, sym, ap, subst, ◌∙◌, arith, ⊎_elim}
-use Rattle.std.specs.Prelude.{◌==◌, nat_eq, min, bit_or, bit_and, filter}
+use Rattle.std.specs.Prelude.{◌==◌, nat_eq, nat_lt, min, bit_or, bit_and, filter}
 use Rattle.std.proofs.lemmas.List.{append_assoc, append-nil, take_all, take_more}
 use Rattle.std.proofs.lemmas.List.Elements.{filter-append}
 use Rattle.std.proofs.lemmas.Bool.Decides.{nat_tests, eqb_tells}
-use Rattle.std.proofs.lemmas.Nat.Bits.{bit_at-zero, bit_at-lt, bit_at_or, bit_at_and, bit_at_not, shr_and_one, bit_at_above, bit_at_set_same, bit_at_set_other}
-use Rattle.std.proofs.lemmas.Nat.{pow_below}
+use Rattle.std.proofs.lemmas.Nat.Bits.{bit_at-zero, bit_at-lt, bit_at_or, bit_at_and, bit_at_not, shr_and_one, bit_at_above, bit_at-trailing_zeros, bit_at_set_same, bit_at_set_other}
+use Rattle.std.proofs.lemmas.Nat.{pow_below, shr-shr, shr_le}
 use Rattle.std.proofs.Math.Nat.{mod-le, lt-mul-div-succ}
 use Rattle.std.proofs.lemmas.Nat.{pow_pos}
-use Rattle.std.specs.Int.{bit_at, bit_not, w64}
+use Rattle.std.specs.Int.{bit_at, bit_not, trailing_zeros, w64}
 use Rattle.std.specs.Ordering.{nat_cmp}
 use Rattle.std.specs.Cmp.{nat_cmp_total, unsigned_tied}
 use Rattle.std.specs.FinSet as set
@@ -160,20 +160,49 @@ module _ (s : Set) (w i : ℕ) (seen : letters_in w ≡ s) (within : i < 52) whe
       ∙ append_assoc before (filter among (take i letters)) (cond (bit_at w i == 1) (letter_at i ∷ []) [])
       ∙ ap (λ cs. before ++ cs) (sym spelled)
 
--- where no bit is set from a place on, no letter from there on is in the set
-spelled-rest : (s : Set) (w i k : ℕ) → letters_in w ≡ s → w < 2 ^ i → i + k ≤ 52
+-- where the bits of some places are clear, their letters are not in the set
+spelled-skip : (s : Set) (w i k : ℕ) → letters_in w ≡ s → ((j : ℕ) → j < k → bit_at w (i + j) ≡ 0) → i + k ≤ 52
     → filter (λ c. set.contains s c) (take (i + k) letters) ≡ filter (λ c. set.contains s c) (take i letters)
-spelled-rest s w i zero seen small within = ap (λ n. filter (λ c. set.contains s c) (take n letters)) (omega arith)
-spelled-rest s w i (suc k) seen small within =
+spelled-skip s w i zero seen clear within = ap (λ n. filter (λ c. set.contains s c) (take n letters)) (omega arith)
+spelled-skip s w i (suc k) seen clear within =
     ap (λ n. filter (λ c. set.contains s c) (take n letters)) (omega arith)
-    ∙ spelled-no_more s w (i + k) seen (omega arith) (bit_at_above w i (i + k) small (omega arith))
-    ∙ spelled-rest s w i k seen small (omega arith)
+    ∙ spelled-no_more s w (i + k) seen (omega arith) (clear k (omega arith))
+    ∙ spelled-skip s w i k seen (λ j below. clear j (omega (arith, below))) (omega arith)
+
+-- the next letter of the set from a place on is that of the lowest bit
+module _ (s : Set) (w i : ℕ) (seen : letters_in w ≡ s) (small : w < 2 ^ 52) (some : 0 < w / 2 ^ i) where
+  next : ℕ
+  next = i + trailing_zeros w64 (w / 2 ^ i)
+
+  found : (bit_at w next ≡ 1) × ((j : ℕ) → j < trailing_zeros w64 (w / 2 ^ i) → bit_at w (i + j) ≡ 0)
+  unfolding next
+  found =
+      let part = shr_le w i in
+      let facts = bit_at-trailing_zeros w64 (w / 2 ^ i) some (omega (arith, part, small)) in
+      (ap (λ n. n % 2) (sym (shr-shr w i (trailing_zeros w64 (w / 2 ^ i)))) ∙ facts.1,
+        λ j below. ap (λ n. n % 2) (sym (shr-shr w i j)) ∙ facts.2 j below)
+
+  pub next-within : i + trailing_zeros w64 (w / 2 ^ i) < 52
+  unfolding next
+  next-within = by (nat_lt next 52) refl
+    where
+      by : (b : Bool) → nat_lt next 52 ≡ b → next < 52
+      by true is = grind (arith, nat_tests)
+      by false is = let none = bit_at_above w 52 next small (grind (arith, nat_tests)) in let one = found.0 in cc
+
+  pub next-spelled : (before text : List ℕ) → text ≡ before ++ filter (λ c. set.contains s c) (take i letters)
+      → text ++ letter_at (i + trailing_zeros w64 (w / 2 ^ i)) ∷ [] ≡ before ++ filter (λ c. set.contains s c) (take (i + trailing_zeros w64 (w / 2 ^ i) + 1) letters)
+  unfolding next
+  next-spelled before text is =
+      let same = spelled-skip s w i (trailing_zeros w64 (w / 2 ^ i)) seen found.1 (omega (arith, next-within)) in
+      ap (λ b. text ++ cond (b == 1) (letter_at next ∷ []) []) (sym found.0)
+      ∙ spelled-more s w next seen next-within before text (is ∙ ap (λ cs. before ++ cs) (sym same))
 
 below_by_quotient : (w b : ℕ) → 0 < b → w / b ≡ 0 → w < b
 below_by_quotient w b some none = let small = subst (λ n. w < b * (n + 1)) none (lt-mul-div-succ w some) in omega arith
 
 -- so they are those of all letters
-pub spelled-whole : (s : Set) (w i : ℕ) → letters_in w ≡ s → w / 2 ^ i ≡ 0 → i < 52
+pub spelled-whole : (s : Set) (w i : ℕ) → letters_in w ≡ s → w / 2 ^ i ≡ 0 → i ≤ 52
     → filter (λ c. set.contains s c) letters ≡ filter (λ c. set.contains s c) (take i letters)
 unfolding listed
 spelled-whole s w i seen none within =
@@ -181,4 +210,5 @@ spelled-whole s w i seen none within =
     let end : 52 ≡ i + (52 - i) = omega arith in
     sym (ap (filter (λ c. set.contains s c)) (take_all 52 letters (omega (arith, long))))
     ∙ ap (λ n. filter (λ c. set.contains s c) (take n letters)) end
-    ∙ spelled-rest s w i (52 - i) seen (below_by_quotient w (2 ^ i) (pow_pos i) none) (omega arith)
+    ∙ spelled-skip s w i (52 - i) seen
+    (λ j below. bit_at_above w i (i + j) (below_by_quotient w (2 ^ i) (pow_pos i) none) (omega arith)) (omega (arith, within))

@@ -131,17 +131,17 @@ impl Flags {
         ensures ok { OnOk result (text.new.items ≡ text.old.items ++ spelling self) }
         ensures err { OnErr result (take (length text.old.items) text.new.items ≡ text.old.items) }
     {
-        for (place, letter) in LETTERS.iter().enumerate() {
+        let mut place = 0usize;
+        loop {
             let left = self.word >> place;
-            // Most flags are among the first letters.
             if left == 0 {
                 return Ok(());
             }
-            if left & 1 == 1 {
-                text.push(*letter)?;
-            }
+            // The letters that are no flags are passed over at once.
+            let next = place + left.trailing_zeros() as usize;
+            text.push(LETTERS[next])?;
+            place = next + 1;
         }
-        Ok(())
     }
 
     /// How many flags there are.
