@@ -1,5 +1,5 @@
 -- Rows that are told apart by the unique parts of their names: what look-ups find, and what is left as rows come, go and change.
-use Rattle.std.proofs.Common.{ℕ, ◌≡◌, ◌+◌, ◌++◌, not, Result, Ok, Err, OnOk, OnErr, List, [], ◌∷◌, Option, Some, None, Bool, true, false, cond, ◌||◌, length, map, find, refl, sym, ap, subst, ◌∙◌, arith, slice_get, is_some, is_none, IsSome, IfNone, IfSome, swap_remove}
+use Rattle.std.proofs.Common.{ℕ, ◌≡◌, ◌+◌, ◌++◌, not, List, [], ◌∷◌, Option, Some, None, Bool, true, false, cond, ◌||◌, length, map, find, refl, sym, ap, subst, ◌∙◌, arith, slice_get, is_some, is_none, IsSome, swap_remove}
 use Rattle.std.proofs.lemmas.List.Elements.{recursion_from_All, All-from_recursion}
 use Rattle.std.proofs.lemmas.List.Folds.{find_at}
 use Rattle.std.proofs.lemmas.List.Sorted.{IsPermutation-swap_remove, IsPermutation-map, All-permutation, Contains-permutation}
@@ -352,16 +352,6 @@ renamed-rows rows others new o k v none is q =
           ]
     ] refl
 
-pub renamed-apart : (rows others new : List Row) (o k : List ℕ) (v : ℕ) → get_name others k ≡ None → Renamed rows new o k v → AreApart rows others → AreApart new others
-renamed-apart rows others new o k v none is apart q some =
-    is q ∙ elim (same o q) as (λ b. cond b None (cond (same k q) (Some v) (get_name rows q)) ≡ None) [
-      | true ↦ refl
-      | false ↦ elim (same k q) as (λ b. same k q ≡ b → cond b (Some v) (get_name rows q) ≡ None) [
-        | true ↦ λ t. let gone : get_name others q ≡ None = ap (get_name others) (sym (equal k q t)) ∙ none in cc
-        | false ↦ λ t. apart q some
-      ] refl
-    ]
-
 pub renamed-view : (es fs : List Row) (o k : List ℕ) (v : ℕ) → Renamed es fs o k v
     → from_entries {R = name_cmp} fs ≡ finmap.remove (finmap.insert (from_entries es) k v) o
 renamed-view es fs o k v is = same_map name_total name_exact _ _ (λ q.
@@ -435,10 +425,6 @@ taken-row rows others new i k v d at some made apart =
       taken-loose (rows ++ others) (new ++ others) k (changed-rows rows others new k None none changed),
       apart-rows rows others new k None none changed apart,
     )
-
-pub on-ok : {X E P Q : Type 0} (r : Result X E) → (P → Q) → OnOk r P → OnOk r Q
-on-ok (Ok x) f h = f h
-on-ok (Err e) f h = h
 
 pub none-from : (o : Option ℕ) → is_some o ≡ false → o ≡ None
 none-from None h = refl
@@ -541,11 +527,25 @@ renamed-row rows new o k v w d one some none made =
     let is : new ≡ map (moved o (k, v)) rows = made ∙ replaced-is (k, v) rows found.0 d found.1 ∙ ap (λ n. map (moved n (k, v)) rows) found.2 in
     (found.0, found.1, found.2, is, λ q. ap (λ es. get_name es q) is ∙ moved-names o k v rows w some none q)
 
--- names that are told apart stay so, whether the name was put or not
-pub put-apart : {X E : Type 0} (r : Result X E) (rows others new : List Row) (k : List ℕ) (v : ℕ) → get_name rows k ≡ None → OnOk r (Changed others new k (Some v))
-    → OnErr r (new ≡ others) → AreApart rows others → AreApart rows new
-put-apart (Ok x) rows others new k v none changed same-others apart = apart-others rows others new k (Some v) none changed apart
-put-apart (Err e) rows others new k v none changed same-others apart = subst (AreApart rows) (sym same-others) apart
+-- what a row at a position says of its name
+pub at-place : (rows : List Row) (i : ℕ) (k : List ℕ) (v : ℕ) → IsDistinct is_alike rows → slice_get rows i ≡ Some (k, v) → get_name rows k ≡ Some v
+at-place rows i k v d at = lookup_from_place nat_list_eq_equiv rows i k v (differ rows d) at
+
+-- where a name is in the table, no other name of its unique part is
+pub none-other : (rows : List Row) (o k : List ℕ) (w : ℕ) → IsDistinct is_alike rows → same (unique_of o) (unique_of k) ≡ true → get_name rows o ≡ Some w
+    → same o k ≡ false → get_name rows k ≡ None
+none-other rows o k w d one some differs =
+    let found = found-row (k, 0) rows o w d (turned (unique_of k) (unique_of o) ∙ one) some in
+    found-other (k, 0) rows found.0 d found.1 (ap (λ n. same n k) found.2 ∙ differs)
+
+-- a row at a position that gets another name of its unique part
+pub renamed-at : (rows new : List Row) (i : ℕ) (o k : List ℕ) (v w : ℕ) → IsDistinct is_alike rows → slice_get rows i ≡ Some (o, w)
+    → same (unique_of o) (unique_of k) ≡ true → same o k ≡ false → new ≡ replaced rows (k, v) →
+    (get_name rows o ≡ Some w) × (get_name rows k ≡ None) × Renamed rows new o k v
+renamed-at rows new i o k v w d at one differs made =
+    let some = at-place rows i o w d at in
+    let none = none-other rows o k w d one some differs in
+    (some, none, (renamed-row rows new o k v w d one some none made).4)
 
 pub other-missing : (rows others : List Row) (k : List ℕ) → AreApart rows others → IsSome (get_name rows k) → get_name others k ≡ None
 other-missing rows others k apart some = either-none (get_name rows k) (get_name others k) (apart k) some
@@ -564,10 +564,3 @@ is-in-table rows others k v some = sym (ap is_none (get-both rows others k) ∙ 
 
 pub is-nowhere : (rows others : List Row) (k : List ℕ) → get_name rows k ≡ None → get_name others k ≡ None → true ≡ is_none (finmap.get (from_entries {R = name_cmp} (rows ++ others)) k)
 is-nowhere rows others k none none' = sym (ap is_none (get-both rows others k) ∙ (λ i. is_none (option_or (none i) (none' i))))
-
--- a row that is alike to none was added
-pub added-row : (there : Option ℕ) (x : Row) (rows new : List Row) → IfNone there ((new ≡ rows ++ x ∷ []) × (list_any (is_alike x) rows ≡ false))
-    → IfSome there (λ at. (new ≡ rows) × ((e : Row) × (slice_get rows at ≡ Some e) × (find (is_alike x) rows ≡ Some e))) → find (is_alike x) rows ≡ None →
-    (new ≡ rows ++ x ∷ []) × (list_any (is_alike x) rows ≡ false)
-added-row None x rows new added there none = added
-added-row (Some at) x rows new added there none = let found = there.1.2 in cc

@@ -1,5 +1,5 @@
 -- What each call answers and leaves, of paths as a finite map and files with the counts of their names.
-use Rattle.std.proofs.Common.{ℕ, zero, suc, ◌≡◌, ◌≢◌, ◌+◌, ◌<◌, ◌++◌, ◌==◌, inl, inr, List, [], ◌∷◌, Option, Some, None, Bool, true, false, cond, Ok, Err, refl, sym, ap, subst, ◌∙◌, arith, length, map, slice_set, get_or, IsSome, is_some, MatchOption, filter, slice_get}
+use Rattle.std.proofs.Common.{ℕ, zero, suc, ◌≡◌, ◌≢◌, ◌+◌, ◌<◌, ◌++◌, ◌==◌, inl, inr, List, [], ◌∷◌, Option, Some, None, Bool, true, false, cond, Ok, Err, refl, sym, ap, subst, ◌∙◌, arith, length, map, slice_set, get_or, IsSome, is_some, is_none, MatchOption, filter, slice_get}
 use Rattle.std.proofs.lemmas.Bool.Decides.{nat_tests}
 use Rattle.std.proofs.lemmas.List.{map-append}
 use Rattle.std.proofs.lemmas.Option.{slice_get-get_or}
@@ -34,7 +34,7 @@ no-hit : (n m : ℕ) → n ≢ m → hits n (Some m) ≡ 0
 no-hit n m differ = let t : (m == n) ≡ false = grind (arith, nat_tests) in ap (λ b. cond b 1 0) t
 
 -- nothing there
-pub absent : (o : Option ℕ) → is_some o ≡ false → o ≡ None
+pub absent : (o : Option ℕ) → is_none o ≡ true → o ≡ None
 absent None is = refl
 absent (Some n) is = cc
 

@@ -106,13 +106,6 @@ set-places : (xs : List (Option Kept)) (i : ℕ) (f : Option Kept → Option Kep
 unfolding places
 set-places xs i f none = set-padded 64 xs i f none
 
--- where there is no file, nothing changes
-pub set-absent : (f : Option Kept → Option Kept) → f None ≡ None → (xs : List (Option Kept)) (i : ℕ) → slot_at xs i ≡ None →
-    slice_set xs i (f (slot_at xs i)) ≡ xs
-set-absent f none [] i is = refl
-set-absent f none (x ∷ xs) zero is = ap (λ y. y ∷ xs) (ap f is ∙ none ∙ sym is)
-set-absent f none (x ∷ xs) (suc i) is = ap (λ ys. x ∷ ys) (set-absent f none xs i is)
-
 module _ {Z : Type 0} where
   pub length-blocks : (bs : List (Vec (Option Kept) Z)) → length (in_blocks bs) ≡ 64 * length bs
   length-blocks [] = refl

@@ -45,13 +45,6 @@ bare (c ∷ a) h = elim (is_colon c) as (λ b. is_colon c ≡ b → (b || list_a
   | false ↦ λ t is. unique-cons c a t ∙ ap (λ ys. c ∷ ys) (bare a is)
 ] refl h
 
--- a name that is longer than its unique part has a colon
-pub has-colon : (a : List ℕ) → length a ≢ length (unique_of a) → list_any is_colon a ≡ true
-has-colon a differs = elim (list_any is_colon a) as (λ b. list_any is_colon a ≡ b → b ≡ true) [
-  | true ↦ λ t. refl
-  | false ↦ λ t. absurd (differs (ap length (sym (bare a t))))
-] refl
-
 -- a name with a colon is its unique part, the colon and more
 parted : (a : List ℕ) → list_any is_colon a ≡ true → (r : List ℕ) × (a ≡ unique_of a ++ 58 ∷ r)
 parted [] h = cc

@@ -7,9 +7,9 @@ mod sorting;
 mod tree;
 
 use crate::calls::{DirError, Dirs};
-use crate::changes::{add_file, add_name};
+use crate::changes::{Paths, add_file, add_name};
 use crate::count::Count;
-use crate::files::{Kept, is_same, release_one, shown_row};
+use crate::files::{is_same, release_one, shown_row};
 use crate::image::ImageFile;
 use crate::paths::{File, Path, Place};
 use crate::rows::{Row, RowRef, copied_row};
@@ -67,7 +67,7 @@ impl IndexDirs {
         }
     }
 
-    /// Folders with files, which are made in their order; their names and their bytes are moved in. No directory is in order yet.
+    /// Folders with files, which are made in their order; their bytes are moved in. No directory is in order yet.
     /// `NotFound` or `Exists` at the first file whose folder is not there or whose path was met before. `NoMemory` may come in
     /// place of either.
     pub fn from_image(
@@ -95,18 +95,19 @@ impl IndexDirs {
         if file.path.folder >= self.folders {
             return Err(DirError::NotFound);
         }
-        let number = self.slots.make_room()?;
-        if !self.names.add(self.alloc, file.path, number)? {
-            return Err(DirError::Exists);
-        }
         let made = File {
             bytes: file.bytes,
             stamp: file.stamp,
         };
-        self.slots.push(Kept {
-            file: made,
-            names: 1,
-        });
+        if !add_file(
+            &mut self.names,
+            &mut self.slots,
+            self.alloc,
+            &file.path,
+            made,
+        )? {
+            return Err(DirError::Exists);
+        }
         Ok(())
     }
 }
@@ -119,15 +120,14 @@ impl Dirs for IndexDirs {
             self.calls.raise();
             return Err(DirError::NotFound);
         }
-        if self.names.file_at(path).is_some() {
-            self.calls.raise();
-            return Err(DirError::Exists);
-        }
         let file = File {
             bytes: Bytes::of(Vec::new(self.alloc)),
             stamp: now,
         };
-        add_file(&mut self.names, &mut self.slots, self.alloc, path, file)?;
+        if !add_file(&mut self.names, &mut self.slots, self.alloc, path, file)? {
+            self.calls.raise();
+            return Err(DirError::Exists);
+        }
         self.calls.raise();
         Ok(())
     }
@@ -161,17 +161,16 @@ impl Dirs for IndexDirs {
             self.calls.raise();
             return Err(DirError::NotFound);
         }
-        if self.names.file_at(new).is_some() {
+        if !add_name(&mut self.names, &mut self.slots, self.alloc, new, file)? {
             self.calls.raise();
             return Err(DirError::Exists);
         }
-        add_name(&mut self.names, &mut self.slots, self.alloc, new, file)?;
         self.calls.raise();
         Ok(())
     }
 
     fn rename(&mut self, old: &Path, new: &Path) -> Result<(), DirError> {
-        let Some(file) = self.names.file_at(old) else {
+        let Some((at, file)) = self.names.place_at(old) else {
             self.calls.raise();
             return Err(DirError::NotFound);
         };
@@ -179,20 +178,23 @@ impl Dirs for IndexDirs {
             self.calls.raise();
             return Err(DirError::NotFound);
         }
+        if self.names.rename_free(self.alloc, old, new, at, file)? {
+            self.calls.raise();
+            return Ok(());
+        }
         let there = self.names.file_at(new);
         if is_same(there, file) {
             self.calls.raise();
             return Ok(());
         }
-        self.names
-            .rename(self.alloc, old, new, file, there.is_none())?;
+        self.names.replace(self.alloc, old, new, file)?;
         release_one(&mut self.slots, there);
         self.calls.raise();
         Ok(())
     }
 
     fn unlink(&mut self, path: &Path) -> Result<(), DirError> {
-        let Some(file) = self.names.take(path) else {
+        let Some(file) = self.names.take(path, usize::MAX) else {
             self.calls.raise();
             return Err(DirError::NotFound);
         };

@@ -90,20 +90,19 @@ impl PlainDirs {
         if file.path.folder >= self.folders {
             return Err(DirError::NotFound);
         }
-        if self.names.file_at(&file.path).is_some() {
-            return Err(DirError::Exists);
-        }
         let made = File {
             bytes: file.bytes,
             stamp: file.stamp,
         };
-        add_file(
+        if !add_file(
             &mut self.names,
             &mut self.slots,
             self.alloc,
             &file.path,
             made,
-        )?;
+        )? {
+            return Err(DirError::Exists);
+        }
         Ok(())
     }
 }
@@ -116,15 +115,14 @@ impl Dirs for PlainDirs {
             self.calls.raise();
             return Err(DirError::NotFound);
         }
-        if self.names.file_at(path).is_some() {
-            self.calls.raise();
-            return Err(DirError::Exists);
-        }
         let file = File {
             bytes: Bytes::of(Vec::new(self.alloc)),
             stamp: now,
         };
-        add_file(&mut self.names, &mut self.slots, self.alloc, path, file)?;
+        if !add_file(&mut self.names, &mut self.slots, self.alloc, path, file)? {
+            self.calls.raise();
+            return Err(DirError::Exists);
+        }
         self.calls.raise();
         Ok(())
     }
@@ -148,11 +146,10 @@ impl Dirs for PlainDirs {
             self.calls.raise();
             return Err(DirError::NotFound);
         }
-        if self.names.file_at(new).is_some() {
+        if !add_name(&mut self.names, &mut self.slots, self.alloc, new, file)? {
             self.calls.raise();
             return Err(DirError::Exists);
         }
-        add_name(&mut self.names, &mut self.slots, self.alloc, new, file)?;
         self.calls.raise();
         Ok(())
     }

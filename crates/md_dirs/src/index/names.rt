@@ -129,6 +129,35 @@ fn place_in(table: &IndexSet<Named<'static>>, name: &[u8]) -> Option<(usize, usi
     }
 }
 
+// The row of a name, where it is at a position. To count the rows says that no two are alike.
+fn row_of<'a>(
+    table: &'a IndexSet<Named<'static>>,
+    at: usize,
+    name: &[u8],
+) -> Option<&'a Named<'static>>
+    ensures there { IfSome result (λ row. slice_get table.now.keys at ≡ Some (name.now, row.now.1)) }
+    ensures name { IfSome result (λ row. row.now.0 ≡ name.now) }
+    ensures apart { IsDistinct is_alike table.now.keys }
+{
+    if at >= table.len() {
+        return None;
+    }
+    let row = table.get_index(at)?;
+    if row.is(name) { Some(row) } else { None }
+}
+
+// Where a name is in the table, and the number of its file. It is looked for at a position first.
+fn place_near(table: &IndexSet<Named<'static>>, name: &[u8], near: usize) -> Option<(usize, usize)>
+    ensures there { IfSome result (λ r. slice_get table.now.keys r.0 ≡ Some (name.now, r.1)) }
+    ensures file { option_map (λ r. r.1) result ≡ get_name table.now.keys name.now }
+    ensures apart { IsDistinct is_alike table.now.keys }
+{
+    match row_of(table, near, name) {
+        Some(row) => Some((near, row.file())),
+        None => place_in(table, name),
+    }
+}
+
 // Whether a name goes behind all rows of a table whose order is made. Names mostly come in the order of time.
 fn goes_last(table: &IndexSet<Named<'static>>, order: &[usize], name: &[u8]) -> bool
     requires { (order.now ≡ []) ⊎ IsOrderOf table.now.keys order.now }
@@ -172,32 +201,37 @@ fn add_row(
     Ok(None)
 }
 
-// Gives the row of a name another name of the same unique part, which no row has: whether there is such a row. Where both names have info,
-// the order stays as it is.
+// Gives the row at a position another name of the same unique part, where it is the row of a name: whether it did. Where both names have
+// info, the order stays as it is.
 fn rename_row(
     table: &mut IndexSet<Named<'static>>,
     order: &mut Vec<usize>,
     alloc: Global,
+    at: usize,
     old: &[u8],
     new: &[u8],
     file: usize,
 ) -> Result<bool, AllocError>
-    requires free { get_name table.old.keys new.now ≡ None }
     requires ordered { (order.old.items ≡ []) ⊎ IsOrderOf table.old.keys order.old.items }
     ensures there { IfOk result (λ is_done. IsTrue is_done → IsSome (get_name table.old.keys old.now)) }
+    ensures free { IfOk result (λ is_done. IsTrue is_done → get_name table.old.keys new.now ≡ None) }
     ensures names { IfOk result (λ is_done. IsTrue is_done → ((q : _) → get_name table.new.keys q
         ≡ if bytes_eq old.now q then None else (if bytes_eq new.now q then Some file else get_name table.old.keys q))) }
     ensures kept { IfOk result (λ is_done. is_done ≡ false → table.new.keys ≡ table.old.keys) }
     ensures err { OnErr result (table.new.keys ≡ table.old.keys) }
     ensures ordered { (order.new.items ≡ []) ⊎ IsOrderOf table.new.keys order.new.items }
 {
-    let unique = unique_part(new);
-    if unique_part(old) != unique || place_in(table, old).is_none() {
+    let Some(row) = row_of(table, at, old) else {
+        return Ok(false);
+    };
+    let renamed = Named::owned(Vec::from_slice(alloc, new)?, file);
+    if row.is(new) || row.unique() != renamed.unique() {
         return Ok(false);
     }
-    let row = Named::owned(Vec::from_slice(alloc, new)?, file);
-    table.replace(row)?;
-    if old.len() == unique.len() || new.len() == unique.len() {
+    let had_info = row.has_info();
+    let has_info = renamed.has_info();
+    table.replace(renamed)?;
+    if !had_info || !has_info {
         order.clear();
     }
     Ok(true)
@@ -298,14 +332,43 @@ impl Names {
         }
     }
 
+    /// Where the row of a name may be in the table, and the number of its file.
+    #[inline(always)]
+    pub fn place_of(&self, name: &[u8]) -> Option<(usize, usize)>
+        ensures { option_map (λ r. r.1) result ≡ finmap.get self.now name.now }
+    {
+        match place_in(&self.table, name) {
+            Some(place) => Some(place),
+            None => Some((usize::MAX, file_beside(&self.others, name)?)),
+        }
+    }
+
     /// The number of the file of a name.
     pub fn file_of(&self, name: &[u8]) -> Option<usize>
         ensures { result ≡ finmap.get self.now name.now }
     {
-        match place_in(&self.table, name) {
-            Some((_, file)) => Some(file),
-            None => file_beside(&self.others, name),
+        let (_, file) = self.place_of(name)?;
+        Some(file)
+    }
+
+    /// Gives a name to a file, unless it is there: whether it was not. The name is copied. When out of memory, nothing has changed.
+    pub fn add(&mut self, alloc: Global, name: &[u8], file: usize) -> Result<bool, AllocError>
+        ensures new { IfOk result (λ is_new. is_new ≡ is_none (finmap.get self.old name.now)) }
+        ensures ok { IfOk result (λ is_new. self.new ≡ if is_new then finmap.insert self.old name.now file else self.old) }
+        ensures err { OnErr result (self.new ≡ self.old) }
+    {
+        if file_beside(&self.others, name).is_some() {
+            return Ok(false);
         }
+        let row = Named::owned(Vec::from_slice(alloc, name)?, file);
+        let Some(at) = add_row(&mut self.table, &mut self.order, row)? else {
+            return Ok(true);
+        };
+        if self.table.get_index(at).unwrap().is(name) {
+            return Ok(false);
+        }
+        put_beside(&mut self.others, alloc, name, file)?;
+        Ok(true)
     }
 
     /// Gives a name to a file, also in place of the one that it named. The name is copied. When out of memory, nothing has changed.
@@ -313,49 +376,25 @@ impl Names {
         ensures ok { OnOk result (self.new ≡ finmap.insert self.old name.now file) }
         ensures err { OnErr result (self.new ≡ self.old) }
     {
-        if file_beside(&self.others, name).is_some() {
-            return put_beside(&mut self.others, alloc, name, file);
-        }
-        let row = Named::owned(Vec::from_slice(alloc, name)?, file);
-        let Some(at) = add_row(&mut self.table, &mut self.order, row)? else {
+        if self.add(alloc, name, file)? {
             return Ok(());
-        };
-        if !self.table.get_index(at).unwrap().is(name) {
-            return put_beside(&mut self.others, alloc, name, file);
+        }
+        if place_in(&self.table, name).is_none() {
+            put_beside(&mut self.others, alloc, name, file)?;
+            return Ok(());
         }
         let row = Named::owned(Vec::from_slice(alloc, name)?, file);
         self.table.replace(row)?;
         Ok(())
     }
 
-    /// Gives a name to a file, unless it is there: whether it was not. The name is moved in. When out of memory, nothing has changed.
-    pub fn add(&mut self, name: Vec<u8>, file: usize) -> Result<bool, AllocError>
-        ensures new { IfOk result (λ is_new. is_new ≡ is_none (finmap.get self.old name.items)) }
-        ensures ok { IfOk result (λ is_new. self.new ≡ if is_new then finmap.insert self.old name.items file else self.old) }
-        ensures err { OnErr result (self.new ≡ self.old) }
-    {
-        let row = Named::owned(name, file);
-        if file_beside(&self.others, row.name()).is_some() {
-            return Ok(false);
-        }
-        let Some((_, there)) = row_like(&self.table, &row) else {
-            add_row(&mut self.table, &mut self.order, row)?;
-            return Ok(true);
-        };
-        if there.is(row.name()) {
-            return Ok(false);
-        }
-        self.others.insert(row.into_key(), file)?;
-        Ok(true)
-    }
-
-    /// Takes a name away, and gives the number of its file. It takes no memory. In the table the last row takes the place that comes free,
-    /// and the order is to be made again.
-    pub fn take(&mut self, name: &[u8]) -> Option<usize>
+    /// Takes a name away, and gives the number of its file. Its row is looked for at a position first. It takes no memory. In the table the
+    /// last row takes the place that comes free, and the order is to be made again.
+    pub fn take(&mut self, name: &[u8], near: usize) -> Option<usize>
         ensures file { result ≡ finmap.get self.old name.now }
         ensures gone { self.new ≡ finmap.remove self.old name.now }
     {
-        let Some((at, file)) = place_in(&self.table, name) else {
+        let Some((at, file)) = place_near(&self.table, name, near) else {
             return take_beside(&mut self.others, name);
         };
         self.order.clear();
@@ -363,24 +402,28 @@ impl Names {
         Some(file)
     }
 
-    /// Gives the file of a name another name, which is not there yet and is copied. Where the unique part stays and both have info, the order
-    /// stays as it is. When out of memory, nothing has changed.
+    /// Gives the file of a name another name of the same unique part, where the old one's row is at a position and no name stands beside the
+    /// table: whether it did. The name is copied. Where both have info, the order stays as it is. When out of memory, nothing has changed.
     pub fn rename(
         &mut self,
         alloc: Global,
         old: &[u8],
         new: &[u8],
+        at: usize,
         file: usize,
-    ) -> Result<(), AllocError>
-        requires { finmap.get self.old new.now ≡ None }
-        ensures ok { OnOk result (self.new ≡ finmap.remove (finmap.insert self.old new.now file) old.now) }
+    ) -> Result<bool, AllocError>
+        ensures free { IfOk result (λ is_done. IsTrue is_done → finmap.get self.old new.now ≡ None) }
+        ensures done { IfOk result (λ is_done. IsTrue is_done → self.new ≡ finmap.remove (finmap.insert self.old new.now file) old.now) }
+        ensures kept { IfOk result (λ is_done. is_done ≡ false → self.new ≡ self.old) }
         ensures err { OnErr result (self.new ≡ self.old) }
     {
-        if !rename_row(&mut self.table, &mut self.order, alloc, old, new, file)? {
-            self.put(alloc, new, file)?;
-            let _gone = self.take(old);
+        if !self.others.is_empty() {
+            return Ok(false);
         }
-        Ok(())
+        if !rename_row(&mut self.table, &mut self.order, alloc, at, old, new, file)? {
+            return Ok(false);
+        }
+        Ok(true)
     }
 
     /// The first name that is a unique name, or a unique name, a colon and more (maildir(5)), and the number of its file: by hash, unless some

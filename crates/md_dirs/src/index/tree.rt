@@ -1,5 +1,5 @@
 // The directories of all folders, side by side.
-ghost use Rattle.std.specs.Prelude.{◌≡◌, ◌<◌, ◌+◌, ◌^◌, ℕ, OnOk, OnErr, None, IfOk, IfSome, IsSome, IsTrue, All, length, map, slice_get, vec_len, is_none, if◌then◌else◌, find as first_with};
+ghost use Rattle.std.specs.Prelude.{◌≡◌, ◌<◌, ◌≤◌, ◌+◌, ◌^◌, ℕ, false, OnOk, OnErr, None, IfOk, IfSome, IsSome, IsTrue, All, length, map, slice_get, vec_len, is_none, if◌then◌else◌, find as first_with};
 ghost use Rattle.std.specs.Option.{option_map};
 ghost use Rattle.std.specs.FinMap as finmap;
 ghost use Rattle.md_dirs.specs.Path.{path_of};
@@ -34,7 +34,28 @@ impl Model for Tree {
     ghost view = { λ t. names_of t.directories.items };
 }
 
-// Makes empty directories up to one. Where memory is wanting, there may be more of them.
+// Makes empty directories up to one behind the last. Where memory is wanting, there may be more of them. It is a function of its own, so that
+// a call that finds its directory there costs little.
+#[inline(never)]
+fn make_directories(
+    directories: &mut Vec<Names>,
+    alloc: Global,
+    number: usize,
+) -> Result<(), AllocError>
+    requires small { number < 2 ^ 40 }
+    requires past { vec_len directories.old ≤ number }
+    ensures there { OnOk result (number < vec_len directories.new) }
+    ensures same { (k : ℕ) → directory_at directories.new.items k ≡ directory_at directories.old.items k }
+{
+    directories.reserve(number - directories.len() + 1)?;
+    while directories.len() <= number {
+        directories.push(Names::new(alloc))?;
+    }
+    Ok(())
+}
+
+// Makes a directory where there is none yet, as `make_directories` does.
+#[inline(always)]
 fn make_directory(
     directories: &mut Vec<Names>,
     alloc: Global,
@@ -44,13 +65,10 @@ fn make_directory(
     ensures there { OnOk result (number < vec_len directories.new) }
     ensures same { (k : ℕ) → directory_at directories.new.items k ≡ directory_at directories.old.items k }
 {
-    if number >= directories.len() {
-        directories.reserve(number - directories.len() + 1)?;
+    if number < directories.len() {
+        return Ok(());
     }
-    while directories.len() <= number {
-        directories.push(Names::new(alloc))?;
-    }
-    Ok(())
+    make_directories(directories, alloc, number)
 }
 
 impl Tree {
@@ -63,19 +81,35 @@ impl Tree {
         }
     }
 
-    /// The number of the file of a name in a directory.
-    pub fn file_of(&self, folder: u32, place: Place, name: &[u8]) -> Option<usize>
-        ensures { result ≡ finmap.get self.now (path_of folder place name.now) }
+    /// Where the row of a name may be in its directory, and the number of its file.
+    #[inline(always)]
+    pub fn place_of(&self, folder: u32, place: Place, name: &[u8]) -> Option<(usize, usize)>
+        ensures { option_map (λ r. r.1) result ≡ finmap.get self.now (path_of folder place name.now) }
     {
         let number = number_of(folder, place);
         if number >= self.directories.len() {
             return None;
         }
-        self.directories[number].file_of(name)
+        self.directories[number].place_of(name)
     }
 
-    /// Takes a path away, and gives the number of its file. It takes no memory.
-    pub fn take(&mut self, path: &Path) -> Option<usize>
+    /// The number of the file of a name in a directory.
+    pub fn file_of(&self, folder: u32, place: Place, name: &[u8]) -> Option<usize>
+        ensures { result ≡ finmap.get self.now (path_of folder place name.now) }
+    {
+        let (_, file) = self.place_of(folder, place, name)?;
+        Some(file)
+    }
+
+    /// Where the row of a path may be in its directory, and the number of its file.
+    pub fn place_at(&self, path: &Path) -> Option<(usize, usize)>
+        ensures { option_map (λ r. r.1) result ≡ finmap.get self.now path.now }
+    {
+        self.place_of(path.folder, path.place, path.name.as_slice())
+    }
+
+    /// Takes a path away, and gives the number of its file. Its row is looked for at a position first. It takes no memory.
+    pub fn take(&mut self, path: &Path, near: usize) -> Option<usize>
         ensures file { result ≡ finmap.get self.old path.now }
         ensures gone { self.new ≡ finmap.remove self.old path.now }
     {
@@ -84,14 +118,7 @@ impl Tree {
             return None;
         }
         let directory = &mut self.directories[number];
-        directory.take(path.name.as_slice())
-    }
-
-    /// The number of the file of a path.
-    pub fn file_at(&self, path: &Path) -> Option<usize>
-        ensures { result ≡ finmap.get self.now path.now }
-    {
-        self.file_of(path.folder, path.place, path.name.as_slice())
+        directory.take(path.name.as_slice(), near)
     }
 
     /// The name at a position of a directory, in order of the names, and the number of its file.
@@ -166,45 +193,62 @@ impl Tree {
         self.directories[number].rows_from(alloc, from, slots)
     }
 
-    /// Gives the file of a path another path, also in place of the file that this named: `is_free` says that it named none.
-    /// The name is copied. When out of memory, nothing has changed.
-    pub fn rename(
+    /// Gives the file of a path another path, unless that is there: whether it did. The old name's row is looked for at a position first. The
+    /// new name is copied. When out of memory, nothing has changed.
+    pub fn rename_free(
+        &mut self,
+        alloc: Global,
+        old: &Path,
+        new: &Path,
+        at: usize,
+        file: usize,
+    ) -> Result<bool, AllocError>
+        ensures free { IfOk result (λ is_done. IsTrue is_done → finmap.get self.old new.now ≡ None) }
+        ensures done { IfOk result (λ is_done. IsTrue is_done → self.new ≡ finmap.remove (finmap.insert self.old new.now file) old.now) }
+        ensures kept { IfOk result (λ is_done. is_done ≡ false → self.new ≡ self.old) }
+        ensures err { OnErr result (self.new ≡ self.old) }
+    {
+        let number = number_of(old.folder, old.place);
+        if number == number_of(new.folder, new.place) && number < self.directories.len() {
+            let directory = &mut self.directories[number];
+            if directory.rename(alloc, old.name.as_slice(), new.name.as_slice(), at, file)? {
+                return Ok(true);
+            }
+        }
+        let is_new = self.add(alloc, new, file)?;
+        if is_new {
+            let _gone = self.take(old, at);
+        }
+        Ok(is_new)
+    }
+
+    /// Gives the file of a path another path, in place of the file that this named. The name is copied. When out of memory, nothing has
+    /// changed.
+    pub fn replace(
         &mut self,
         alloc: Global,
         old: &Path,
         new: &Path,
         file: usize,
-        is_free: bool,
     ) -> Result<(), AllocError>
-        requires { IsTrue is_free → finmap.get self.old new.now ≡ None }
         ensures ok { OnOk result (self.new ≡ finmap.remove (finmap.insert self.old new.now file) old.now) }
         ensures err { OnErr result (self.new ≡ self.old) }
     {
-        let number = number_of(old.folder, old.place);
-        if is_free
-            && number == number_of(new.folder, new.place)
-            && number < self.directories.len()
-        {
-            let directory = &mut self.directories[number];
-            directory.rename(alloc, old.name.as_slice(), new.name.as_slice(), file)?;
-            return Ok(());
-        }
         self.put(alloc, new, file)?;
-        let _gone = self.take(old);
+        let _gone = self.take(old, usize::MAX);
         Ok(())
     }
 
-    /// Gives a path to a file, unless it is there: whether it was not. The name is moved in. When out of memory, nothing has changed.
-    pub fn add(&mut self, alloc: Global, path: Path, file: usize) -> Result<bool, AllocError>
-        ensures new { IfOk result (λ is_new. is_new ≡ is_none (finmap.get self.old path)) }
-        ensures ok { IfOk result (λ is_new. self.new ≡ if is_new then finmap.insert self.old path file else self.old) }
+    // Gives a path to a file, also in place of the one that it named. The name is copied. When out of memory, nothing has changed.
+    fn put(&mut self, alloc: Global, path: &Path, file: usize) -> Result<(), AllocError>
+        ensures ok { OnOk result (self.new ≡ finmap.insert self.old path.now file) }
         ensures err { OnErr result (self.new ≡ self.old) }
     {
         let number = number_of(path.folder, path.place);
         make_directory(&mut self.directories, alloc, number)?;
         let directory = &mut self.directories[number];
-        let is_new = directory.add(path.name.into_vec(), file)?;
-        Ok(is_new)
+        directory.put(alloc, path.name.as_slice(), file)?;
+        Ok(())
     }
 
     /// Makes the order of a directory, unless it is made. It is refused only when out of memory.
@@ -223,11 +267,15 @@ impl Tree {
 impl Paths for Tree {
     ghost names = { λ p. p };
 
-    fn put(&mut self, alloc: Global, path: &Path, file: usize) -> Result<(), AllocError> {
+    fn file_at(&self, path: &Path) -> Option<usize> {
+        self.file_of(path.folder, path.place, path.name.as_slice())
+    }
+
+    fn add(&mut self, alloc: Global, path: &Path, file: usize) -> Result<bool, AllocError> {
         let number = number_of(path.folder, path.place);
         make_directory(&mut self.directories, alloc, number)?;
         let directory = &mut self.directories[number];
-        directory.put(alloc, path.name.as_slice(), file)?;
-        Ok(())
+        let is_new = directory.add(alloc, path.name.as_slice(), file)?;
+        Ok(is_new)
     }
 }

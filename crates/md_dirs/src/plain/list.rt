@@ -72,11 +72,16 @@ impl PathList {
         }
     }
 
-    /// The number of the file of a path.
-    pub fn file_at(&self, path: &Path) -> Option<usize>
-        ensures { result ≡ finmap.get self.now path.now }
+    /// Gives a path to a file, also in place of the one that it named. The path is copied. When out of memory, nothing has changed.
+    pub fn put(&mut self, alloc: Global, path: &Path, file: usize) -> Result<(), AllocError>
+        ensures ok { OnOk result (self.new ≡ finmap.insert self.old path.now file) }
+        ensures err { OnErr result (self.new ≡ self.old) }
     {
-        self.file_of(path.folder, path.place, path.name.as_slice())
+        match find_row(&self.rows, path) {
+            Ok(at) => self.rows[at].1 = file,
+            Err(at) => self.rows.insert(at, (path.again(alloc)?, file))?,
+        }
+        Ok(())
     }
 
     /// Takes a path away, and gives the number of its file. It takes no memory.
@@ -137,11 +142,15 @@ impl PathList {
 impl Paths for PathList {
     ghost names = { λ p. p };
 
-    fn put(&mut self, alloc: Global, path: &Path, file: usize) -> Result<(), AllocError> {
-        match find_row(&self.rows, path) {
-            Ok(at) => self.rows[at].1 = file,
-            Err(at) => self.rows.insert(at, (path.again(alloc)?, file))?,
-        }
-        Ok(())
+    fn file_at(&self, path: &Path) -> Option<usize> {
+        self.file_of(path.folder, path.place, path.name.as_slice())
+    }
+
+    fn add(&mut self, alloc: Global, path: &Path, file: usize) -> Result<bool, AllocError> {
+        let Err(at) = find_row(&self.rows, path) else {
+            return Ok(false);
+        };
+        self.rows.insert(at, (path.again(alloc)?, file))?;
+        Ok(true)
     }
 }

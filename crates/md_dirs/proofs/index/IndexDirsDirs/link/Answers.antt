@@ -11,17 +11,21 @@ add_name-requires c =
 pub invariant_of-self-2 : goal.invariant_of-self-2
 invariant_of-self-2 c =
     let s = c.self.inside in
-    let none = sym c.file_at-2.ensures ∙ absent c.file_at-2.result (sym c.is_some.ensures ∙ c.if-is_some.false) in
-    rw (c.in_ok-add_name.ensures.names, c.in_ok-add_name.ensures.slots)
+    let names = rw c.if-not-branch.false at c.in_ok-add_name.ensures.names in
+    let slots = rw c.if-not-branch.false at c.in_ok-add_name.ensures.slots in
+    let none = absent _ (sym c.in_ok-add_name.ensures.new ∙ c.if-not-branch.false) in
+    rw (names, slots)
     (counted-linked s.folders s.names (slots_of s.slots) c.self.invariant c.args.old.now c.args.new.now c.in-Some.file (sym c.file_at.ensures ∙
     c.in-Some.is) c.if-new-self.false none)
 
 pub returns : goal.returns
 returns c =
     let s = c.self.inside in
-    let none = sym c.file_at-2.ensures ∙ absent c.file_at-2.result (sym c.is_some.ensures ∙ c.if-is_some.false) in
+    let names = rw c.if-not-branch.false at c.in_ok-add_name.ensures.names in
+    let slots = rw c.if-not-branch.false at c.in_ok-add_name.ensures.slots in
+    let none = absent _ (sym c.in_ok-add_name.ensures.new ∙ c.if-not-branch.false) in
     record {
-      meets = rw (← c.self.view_is, c.in_ok-add_name.ensures.names, c.in_ok-add_name.ensures.slots)
+      meets = rw (← c.self.view_is, names, slots)
           (link-done s.folders s.names (slots_of s.slots) c.self.invariant c.args.old.now c.args.new.now c.in-Some.file _ _ (sym c.file_at.ensures ∙
           c.in-Some.is) c.if-new-self.false none c.raise-2.ensures);
     }

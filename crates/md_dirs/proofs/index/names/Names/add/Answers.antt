@@ -1,95 +1,99 @@
-use Rattle.std.proofs.Common.{Some, true, false, ◌≡◌, ◌∙◌, sym, ap, cond, is_some}
+use Rattle.std.proofs.Common.{◌≡◌, ◌∙◌, sym, ap, Some, is_some, slice_get}
+use Rattle.std.specs.Option.{option_copied}
 use Rattle.md_dirs.specs.Index.{get_name}
 use Rattle.md_dirs.specs.Named.{Row}
-use Rattle.md_dirs.proofs.NameRows.{same}
-use Rattle.md_dirs.proofs.Alike.{Changed, none-from, none-found, found-name, found-other, put-others, put-new, is-beside, is-in-table, is-nowhere, added-row}
+use Rattle.md_dirs.proofs.Alike.{none-from, none-listed, found-name, found-other, found-there, put-others, put-new, is-beside, is-in-table, is-nowhere}
 use Rattle.md_dirs.proofs.index.names.Names.add.Goals as goal
 
 pub returns-then-is_some-clause-new : goal.returns-then-is_some-clause-new
 returns-then-is_some-clause-new c =
     let rows = c.self.inside.table.keys in
     let others = c.self.inside.others.entries in
-    let name : c.name.result.now ≡ c.args.name.items = c.name.ensures ∙ ap (λ (r : Row). r.0) c.owned-row.ensures in
-    let beside = c.file_beside.ensures ∙ ap (get_name others) name in
-    rw (← c.self.view_is) (is-beside rows others c.args.name.items (ap is_some (sym beside) ∙ sym c.is_some.ensures ∙ c.if-is_some.true))
+    rw (← c.self.view_is) (is-beside rows others c.args.name.now (ap is_some (sym c.file_beside.ensures) ∙ sym c.is_some.ensures ∙ c.if-is_some.true))
 
 pub invariant_of-self-in_default : goal.invariant_of-self-in_default
 invariant_of-self-in_default c =
     let rows = c.self.inside.table.keys in
     let others = c.self.inside.others.entries in
-    let x = c.owned-row.result in
-    let beside = c.file_beside.ensures ∙ ap (get_name others) c.name.ensures in
-    let none = none-from (get_name others x.0) (ap is_some (sym beside) ∙ sym c.is_some.ensures ∙ c.if-is_some.false) in
-    let added = added-row c.in_ok-add_row.field-0 x rows c.add_row.new.table.keys c.in_ok-add_row.ensures.added c.in_ok-add_row.ensures.there
-    (sym c.in_default.ensures.found) in
-    record { apart = (put-new rows others c.add_row.new.table.keys x none added c.self.invariant.apart).1; ordered = c.in_ok-add_row.ensures.ordered }
+    let x : c.owned-row.result ≡ (c.args.name.now, c.args.file) = c.owned-row.ensures ∙ (λ i. (c.in_ok-from_slice.ensures.items i, c.args.file)) in
+    let added = rw (c.in_default.is, x) at c.in_ok-at.ensures.added in
+    let none = none-from (get_name others c.args.name.now) (ap is_some (sym c.file_beside.ensures) ∙ sym c.is_some.ensures ∙ c.if-is_some.false) in
+    record {
+      apart = (put-new rows others c.add_row.new.table.keys (c.args.name.now, c.args.file) none added c.self.invariant.apart).1;
+      ordered = c.in_ok-at.ensures.ordered;
+    }
 
 pub returns-in_default-clause-new : goal.returns-in_default-clause-new
 returns-in_default-clause-new c =
     let rows = c.self.inside.table.keys in
     let others = c.self.inside.others.entries in
-    let x = c.owned-row.result in
-    let name : x.0 ≡ c.args.name.items = ap (λ (r : Row). r.0) c.owned-row.ensures in
-    let beside = c.file_beside.ensures ∙ ap (get_name others) (c.name.ensures ∙ name) in
-    let none = none-from (get_name others c.args.name.items) (ap is_some (sym beside) ∙ sym c.is_some.ensures ∙ c.if-is_some.false) in
-    rw (← c.self.view_is) (is-nowhere rows others c.args.name.items (ap (get_name rows) (sym name) ∙ none-found x rows (sym c.in_default.ensures.found)) none)
+    let x : c.owned-row.result ≡ (c.args.name.now, c.args.file) = c.owned-row.ensures ∙ (λ i. (c.in_ok-from_slice.ensures.items i, c.args.file)) in
+    let added = rw (c.in_default.is, x) at c.in_ok-at.ensures.added in
+    let none = none-from (get_name others c.args.name.now) (ap is_some (sym c.file_beside.ensures) ∙ sym c.is_some.ensures ∙ c.if-is_some.false) in
+    rw (← c.self.view_is) (is-nowhere rows others c.args.name.now (none-listed (c.args.name.now, c.args.file) rows added.1) none)
 
 pub returns-in_default-clause-ok : goal.returns-in_default-clause-ok
 returns-in_default-clause-ok c =
     let rows = c.self.inside.table.keys in
     let others = c.self.inside.others.entries in
-    let x = c.owned-row.result in
-    let beside = c.file_beside.ensures ∙ ap (get_name others) c.name.ensures in
-    let none = none-from (get_name others x.0) (ap is_some (sym beside) ∙ sym c.is_some.ensures ∙ c.if-is_some.false) in
-    let added = added-row c.in_ok-add_row.field-0 x rows c.add_row.new.table.keys c.in_ok-add_row.ensures.added c.in_ok-add_row.ensures.there
-    (sym c.in_default.ensures.found) in
-    let view = (put-new rows others c.add_row.new.table.keys x none added c.self.invariant.apart).0 in
-    rw (← c.self.view_is) (rw c.owned-row.ensures at view)
+    let x : c.owned-row.result ≡ (c.args.name.now, c.args.file) = c.owned-row.ensures ∙ (λ i. (c.in_ok-from_slice.ensures.items i, c.args.file)) in
+    let added = rw (c.in_default.is, x) at c.in_ok-at.ensures.added in
+    let none = none-from (get_name others c.args.name.now) (ap is_some (sym c.file_beside.ensures) ∙ sym c.is_some.ensures ∙ c.if-is_some.false) in
+    rw (← c.self.view_is) (put-new rows others c.add_row.new.table.keys (c.args.name.now, c.args.file) none added c.self.invariant.apart).0
 
 pub returns-then-is-clause-new : goal.returns-then-is-clause-new
 returns-then-is-clause-new c =
     let rows = c.self.inside.table.keys in
     let others = c.self.inside.others.entries in
-    let x = c.owned-row.result in
-    let name : x.0 ≡ c.args.name.items = ap (λ (r : Row). r.0) c.owned-row.ensures in
-    let key : same c.in-Some.there.now.0 x.0 ≡ true = ap (same c.in-Some.there.now.0) (sym c.name-2.ensures) ∙ sym c.is.ensures ∙ c.if-is.true in
-    let some = found-name x rows c.in-Some.there.now (sym c.in-Some.ensures.found) key in
-    rw (← c.self.view_is) (is-in-table rows others c.args.name.items c.in-Some.there.now.1 (ap (get_name rows) (sym name) ∙ some))
+    let y : Row = (c.args.name.now, c.args.file) in
+    let x : c.owned-row.result ≡ (c.args.name.now, c.args.file) = c.owned-row.ensures ∙ (λ i. (c.in_ok-from_slice.ensures.items i, c.args.file)) in
+    let there = rw (c.in-Some.is, x) at c.in_ok-at.ensures.there in
+    let row = c.unwrap.result.now in
+    let read : slice_get c.add_row.new.table.keys c.in-Some.at ≡ Some row = sym c.get_index.ensures.key ∙ ap option_copied c.unwrap.ensures in
+    let found = rw there.0 at (found-there y rows c.add_row.new.table.keys c.in-Some.at row there read) in
+    rw (← c.self.view_is) (is-in-table rows others c.args.name.now row.1 (found-name y rows row found (sym c.is.ensures ∙ c.if-is.true)))
 
 pub invariant_of-self-2 : goal.invariant_of-self-2
 invariant_of-self-2 c =
     let rows = c.self.inside.table.keys in
+    let new = c.add_row.new.table.keys in
     let others = c.self.inside.others.entries in
-    let x = c.owned-row.result in
-    let key : same c.in-Some.there.now.0 x.0 ≡ false = ap (same c.in-Some.there.now.0) (sym c.name-2.ensures) ∙ sym c.is.ensures ∙ c.if-is.false in
-    let none = found-other x rows c.in-Some.there.now c.row_like.ensures.apart (sym c.in-Some.ensures.found) key in
-    let names : Changed others c.insert.new.self.entries x.0 (Some c.args.file) = (λ q.
-    c.in_ok-insert.ensures.updates.0 q ∙ ap (λ n. cond (same n q) (Some c.args.file) (get_name others q)) c.into_key.ensures) in
+    let x : c.owned-row.result ≡ (c.args.name.now, c.args.file) = c.owned-row.ensures ∙ (λ i. (c.in_ok-from_slice.ensures.items i, c.args.file)) in
+    let there = rw (c.in-Some.is, x) at c.in_ok-at.ensures.there in
+    let row = c.unwrap.result.now in
+    let read : slice_get new c.in-Some.at ≡ Some row = sym c.get_index.ensures.key ∙ ap option_copied c.unwrap.ensures in
+    let found = found-there (c.args.name.now, c.args.file) rows new c.in-Some.at row there read in
+    let none = found-other (c.args.name.now, c.args.file) new row c.in_ok-at.ensures.apart found (sym c.is.ensures ∙ c.if-is.false) in
+    let apart = rw (← there.0) at c.self.invariant.apart in
     record {
-      apart = (put-others rows others c.insert.new.self.entries x.0 c.args.file none names c.self.invariant.apart).1;
-      ordered = c.self.invariant.ordered;
+      apart = (put-others new others c.put_beside.new.others.entries c.args.name.now c.args.file none c.in_ok-put_beside.ensures.names apart).1;
+      ordered = c.in_ok-at.ensures.ordered;
     }
 
 pub returns-clause-new : goal.returns-clause-new
 returns-clause-new c =
     let rows = c.self.inside.table.keys in
+    let new = c.add_row.new.table.keys in
     let others = c.self.inside.others.entries in
-    let x = c.owned-row.result in
-    let name : x.0 ≡ c.args.name.items = ap (λ (r : Row). r.0) c.owned-row.ensures in
-    let key : same c.in-Some.there.now.0 x.0 ≡ false = ap (same c.in-Some.there.now.0) (sym c.name-2.ensures) ∙ sym c.is.ensures ∙ c.if-is.false in
-    let none = found-other x rows c.in-Some.there.now c.row_like.ensures.apart (sym c.in-Some.ensures.found) key in
-    let beside = c.file_beside.ensures ∙ ap (get_name others) (c.name.ensures ∙ name) in
-    let none' = none-from (get_name others c.args.name.items) (ap is_some (sym beside) ∙ sym c.is_some.ensures ∙ c.if-is_some.false) in
-    rw (← c.self.view_is) (is-nowhere rows others c.args.name.items (ap (get_name rows) (sym name) ∙ none) none')
+    let x : c.owned-row.result ≡ (c.args.name.now, c.args.file) = c.owned-row.ensures ∙ (λ i. (c.in_ok-from_slice.ensures.items i, c.args.file)) in
+    let there = rw (c.in-Some.is, x) at c.in_ok-at.ensures.there in
+    let row = c.unwrap.result.now in
+    let read : slice_get new c.in-Some.at ≡ Some row = sym c.get_index.ensures.key ∙ ap option_copied c.unwrap.ensures in
+    let found = found-there (c.args.name.now, c.args.file) rows new c.in-Some.at row there read in
+    let none = found-other (c.args.name.now, c.args.file) new row c.in_ok-at.ensures.apart found (sym c.is.ensures ∙ c.if-is.false) in
+    let none' = none-from (get_name others c.args.name.now) (ap is_some (sym c.file_beside.ensures) ∙ sym c.is_some.ensures ∙ c.if-is_some.false) in
+    rw (← c.self.view_is, ← there.0) (is-nowhere new others c.args.name.now none none')
 
 pub returns-clause-ok : goal.returns-clause-ok
 returns-clause-ok c =
     let rows = c.self.inside.table.keys in
+    let new = c.add_row.new.table.keys in
     let others = c.self.inside.others.entries in
-    let x = c.owned-row.result in
-    let key : same c.in-Some.there.now.0 x.0 ≡ false = ap (same c.in-Some.there.now.0) (sym c.name-2.ensures) ∙ sym c.is.ensures ∙ c.if-is.false in
-    let none = found-other x rows c.in-Some.there.now c.row_like.ensures.apart (sym c.in-Some.ensures.found) key in
-    let names : Changed others c.insert.new.self.entries x.0 (Some c.args.file) = (λ q.
-    c.in_ok-insert.ensures.updates.0 q ∙ ap (λ n. cond (same n q) (Some c.args.file) (get_name others q)) c.into_key.ensures) in
-    let view = (put-others rows others c.insert.new.self.entries x.0 c.args.file none names c.self.invariant.apart).0 in
-    rw (← c.self.view_is) (rw c.owned-row.ensures at view)
+    let x : c.owned-row.result ≡ (c.args.name.now, c.args.file) = c.owned-row.ensures ∙ (λ i. (c.in_ok-from_slice.ensures.items i, c.args.file)) in
+    let there = rw (c.in-Some.is, x) at c.in_ok-at.ensures.there in
+    let row = c.unwrap.result.now in
+    let read : slice_get new c.in-Some.at ≡ Some row = sym c.get_index.ensures.key ∙ ap option_copied c.unwrap.ensures in
+    let found = found-there (c.args.name.now, c.args.file) rows new c.in-Some.at row there read in
+    let none = found-other (c.args.name.now, c.args.file) new row c.in_ok-at.ensures.apart found (sym c.is.ensures ∙ c.if-is.false) in
+    let apart = rw (← there.0) at c.self.invariant.apart in
+    rw (← c.self.view_is, ← there.0) (put-others new others c.put_beside.new.others.entries c.args.name.now c.args.file none c.in_ok-put_beside.ensures.names apart).0

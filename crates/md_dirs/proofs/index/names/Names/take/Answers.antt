@@ -24,7 +24,7 @@ invariant_of-self-2 c =
     let rows = c.self.inside.table.keys in
     let others = c.self.inside.others.entries in
     let keys = rw (c.swap_remove_index-gone.ensures.key ∙ c.in-Some.ensures.there) at c.swap_remove_index-gone.ensures.keys in
-    let taken = taken-row rows others c.swap_remove_index-gone.new.self.keys c.in-Some.at c.args.name.now c.in-Some.file c.place_in.ensures.apart
+    let taken = taken-row rows others c.swap_remove_index-gone.new.self.keys c.in-Some.at c.args.name.now c.in-Some.file c.place_near.ensures.apart
     c.in-Some.ensures.there (sym c.in-Some.ensures.file) keys c.self.invariant.apart in
     record { apart = taken.1; ordered = inl c.clear.ensures.items }
 
@@ -39,6 +39,6 @@ returns-clause-gone c =
     let rows = c.self.inside.table.keys in
     let others = c.self.inside.others.entries in
     let keys = rw (c.swap_remove_index-gone.ensures.key ∙ c.in-Some.ensures.there) at c.swap_remove_index-gone.ensures.keys in
-    let taken = taken-row rows others c.swap_remove_index-gone.new.self.keys c.in-Some.at c.args.name.now c.in-Some.file c.place_in.ensures.apart
+    let taken = taken-row rows others c.swap_remove_index-gone.new.self.keys c.in-Some.at c.args.name.now c.in-Some.file c.place_near.ensures.apart
     c.in-Some.ensures.there (sym c.in-Some.ensures.file) keys c.self.invariant.apart in
     rw (← c.self.view_is) taken.0

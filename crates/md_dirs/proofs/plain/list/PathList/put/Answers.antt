@@ -6,7 +6,7 @@ use Rattle.md_dirs.specs.Plain.{IsAt}
 use Rattle.md_dirs.specs.declared.paths.Path.{Path}
 use Rattle.md_dirs.proofs.Kept.{Sorted, sorted-put, sorted-insert, names-put, names-insert}
 use Rattle.md_dirs.proofs.Steps.{row-path}
-use Rattle.md_dirs.proofs.plain.list.PathListPaths.put.Goals as goal
+use Rattle.md_dirs.proofs.plain.list.PathList.put.Goals as goal
 
 -- the row of a path with another file
 put-is : (rows : List (Path × ℕ)) (p q : Path) (i n : ℕ) → IsAt path_cmp rows p i → q ≡ p → put path_cmp p n rows ≡ slice_set rows i (q, n)

@@ -4,7 +4,7 @@ use Rattle.std.specs.FinMap as finmap
 use Rattle.md_dirs.specs.Index.{directory_at}
 use Rattle.md_dirs.proofs.Directories.{same-names, read-directory, put-names, at-set, beside-set}
 use Rattle.md_dirs.proofs.Sound.{by_number}
-use Rattle.md_dirs.proofs.index.tree.TreePaths.put.Goals as goal
+use Rattle.md_dirs.proofs.index.tree.Tree.put.Goals as goal
 
 pub returns-in_err-make_directory-clause-err : goal.returns-in_err-make_directory-clause-err
 returns-in_err-make_directory-clause-err c =
